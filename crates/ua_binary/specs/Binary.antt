@@ -1,0 +1,220 @@
+-- The formats of the binary encoding, and what a reader and a writer do.
+use Rattle.std.specs.Prelude.{◌≡◌, ℕ, zero, suc, ◌+◌, ◌*◌, ◌<◌, ◌^◌, ℤ, pos, negsuc, List, [], ◌∷◌, ◌++◌, length, take, Option, Some, None, Bool, true, false, not, Result, Ok, Err, nat_lt, ◌==◌, if◌then◌else◌, IfSome, unwrap_or, is_some, option_map, ◌&&◌, bit_and}
+use Rattle.std.specs.Option.{option_copied, option_flatten}
+use Rattle.std.specs.Int.{Width, w8, w16, w32, w64, byte_len, from_le_bytes, to_le_bytes, cast_signed, cast_unsigned}
+use Rattle.std.specs.Int.RustNames.{FitsSigned}
+use Rattle.std.specs.Str.{IsUtf8, is_utf8}
+use Rattle.ua_binary.specs.declared.fault.BinaryFault.{BinaryFault}
+use Rattle.ua_binary.specs.declared.fault.BinaryFault.TheVariants.{Short, BadLength, BadUtf8, BadEncodingByte}
+use Rattle.ua_binary.specs.declared.values.Guid.{Guid}
+use Rattle.ua_binary.specs.declared.values.NodeId.{NodeId}
+use Rattle.ua_binary.specs.declared.values.NodeId.TheVariants.{Numeric, Named, Global, Opaque}
+use Rattle.ua_binary.specs.declared.values.NodeIdRef.{NodeIdRef}
+use Rattle.ua_binary.specs.declared.values.NodeIdRef.TheVariants as lent
+use Rattle.ua_binary.specs.declared.values.LocalizedText.{LocalizedText}
+use Rattle.ua_binary.specs.declared.values.LocalizedRef.{LocalizedRef}
+use Rattle.ua_binary.specs.declared.values.QualifiedName.{QualifiedName}
+use Rattle.ua_binary.specs.declared.values.QualifiedRef.{QualifiedRef}
+use Rattle.ua_binary.specs.declared.values.Body.{Body}
+use Rattle.ua_binary.specs.declared.values.Body.TheVariants.{Absent, Binary, Xml}
+use Rattle.ua_binary.specs.declared.values.BodyRef.{BodyRef}
+use Rattle.ua_binary.specs.declared.values.BodyRef.TheVariants as held
+use Rattle.ua_binary.specs.declared.values.ExtensionObject.{ExtensionObject}
+use Rattle.ua_binary.specs.declared.values.ExtensionRef.{ExtensionRef}
+use Rattle.ua_binary.specs.Format.{◌>>=◌, Reading, Format, nothing, refused, byte, block, ◌▸◌, chosen, headed, standing_for, passing, flagged, fitting, with_fault, raised, items, items_at, at_least}
+
+-- numbers, the low byte first
+unfoldable pub unsigned : Width → Format BinaryFault ℕ
+unsigned w = fitting (λ n. n < 2 ^ (8 * byte_len w)) (standing_for (from_le_bytes w) (to_le_bytes w) (block (byte_len w)))
+
+unfoldable pub signed : Width → Format BinaryFault ℤ
+signed w = fitting (λ z. FitsSigned w z) (standing_for (cast_signed w) (cast_unsigned w) (unsigned w))
+
+unfoldable pub sbyte : Format BinaryFault ℤ
+sbyte = fitting (λ z. FitsSigned w8 z) (standing_for (cast_signed w8) (cast_unsigned w8) byte)
+
+-- 0 is false, another byte true
+unfoldable pub boolean : Format BinaryFault Bool
+boolean = fitting (λ _. Unit {0}) (standing_for (λ b. not (b == 0)) (λ v. if v then 1 else 0) byte)
+
+-- what follows a count: as many bytes, none for -1
+abbrev pub counted : ℤ → Format BinaryFault (Option (List ℕ))
+counted (pos n) = flagged true (block n)
+counted (negsuc zero) = nothing None
+counted (negsuc (suc n)) = refused BadLength
+
+-- the count that is written
+abbrev pub count_of : Option (List ℕ) → ℤ
+count_of None = negsuc 0
+count_of (Some bytes) = pos (length bytes)
+
+-- few enough to be counted
+abbrev pub IsCounted : Option (List ℕ) → Type 0
+IsCounted v = IfSome v (λ bytes. length bytes < 2 ^ 31)
+
+unfoldable pub byte_string : Format BinaryFault (Option (List ℕ))
+byte_string = fitting IsCounted (headed count_of (signed w32) counted)
+
+abbrev pub is_text : Option (List ℕ) → Bool
+is_text None = true
+is_text (Some bytes) = is_utf8 bytes
+
+unfoldable pub text : Format BinaryFault (Option (List ℕ))
+text = passing is_text BadUtf8 byte_string
+
+-- ---- Guid
+
+abbrev pub guid_of : ℕ × (ℕ × (ℕ × List ℕ)) → Guid
+guid_of p = record { first = p.0; second = p.1.0; third = p.1.1.0; last = p.1.1.1 }
+
+abbrev pub guid_fields : Guid → ℕ × (ℕ × (ℕ × List ℕ))
+guid_fields g = (g.first, (g.second, (g.third, g.last)))
+
+unfoldable pub guid : Format BinaryFault Guid
+guid = standing_for guid_of guid_fields (unsigned w32 ▸ unsigned w16 ▸ unsigned w16 ▸ block 8)
+
+-- ---- node ids
+
+-- a borrowed node id as one that owns its bytes
+abbrev pub node_of : NodeIdRef → NodeId
+node_of (lent.Numeric ns id) = Numeric ns id
+node_of (lent.Named ns name) = Named ns name.now
+node_of (lent.Global ns id) = Global ns id
+node_of (lent.Opaque ns id) = Opaque ns id.now
+
+-- what each first byte calls for
+abbrev pub node_form : ℕ → Format BinaryFault NodeId
+node_form form =
+    chosen (form == 0) (standing_for (λ id. Numeric 0 id) (λ v. elim v [ Numeric ns id ↦ id | _ ↦ 0 ]) byte) (
+    chosen (form == 1) (standing_for (λ p. Numeric p.0 p.1) (λ v. elim v [ Numeric ns id ↦ (ns, id) | _ ↦ (0, 0) ]) (byte ▸ unsigned w16)) (
+    chosen (form == 2) (standing_for (λ p. Numeric p.0 p.1) (λ v. elim v [ Numeric ns id ↦ (ns, id) | _ ↦ (0, 0) ]) (unsigned w16 ▸ unsigned w32)) (
+    chosen (form == 3) (standing_for (λ p. Named p.0 (unwrap_or p.1 [])) (λ v. elim v [ Named ns name ↦ (ns, Some name) | _ ↦ (0, None) ]) (unsigned w16 ▸ text)) (
+    chosen (form == 4) (standing_for (λ p. Global p.0 p.1) (λ v. elim v [ Global ns id ↦ (ns, id) | _ ↦ (0, guid_of (0, (0, (0, [])))) ]) (unsigned w16 ▸ guid)) (
+    chosen (form == 5) (standing_for (λ p. Opaque p.0 (unwrap_or p.1 [])) (λ v. elim v [ Opaque ns id ↦ (ns, Some id) | _ ↦ (0, None) ]) (unsigned w16 ▸ byte_string)) (
+    refused BadEncodingByte))))))
+
+-- the first byte that is written: of the shortest form
+abbrev pub node_form_of : NodeId → ℕ
+node_form_of (Numeric ns id) = if ns == 0 && nat_lt id 256 then 0 else if nat_lt ns 256 && nat_lt id 65536 then 1 else 2
+node_form_of (Named ns name) = 3
+node_form_of (Global ns id) = 4
+node_form_of (Opaque ns id) = 5
+
+abbrev pub IsGuid : Guid → Type 0
+IsGuid g = (g.first < 2 ^ 32) × (g.second < 2 ^ 16) × (g.third < 2 ^ 16) × (length g.last ≡ 8)
+
+-- the numbers are those of their types, and the bytes few enough to be counted
+abbrev pub IsNodeId : NodeId → Type 0
+IsNodeId (Numeric ns id) = (ns < 2 ^ 16) × (id < 2 ^ 32)
+IsNodeId (Named ns name) = (ns < 2 ^ 16) × (length name < 2 ^ 31) × (is_utf8 name ≡ true)
+IsNodeId (Global ns id) = (ns < 2 ^ 16) × IsGuid id
+IsNodeId (Opaque ns id) = (ns < 2 ^ 16) × (length id < 2 ^ 31)
+
+unfoldable pub node_id : Format BinaryFault NodeId
+node_id = fitting IsNodeId (headed node_form_of byte node_form)
+
+-- ---- a structure behind a mask
+
+abbrev pub localized_of : LocalizedRef → LocalizedText
+localized_of r = record { locale = option_copied r.locale; text = option_copied r.text }
+
+abbrev pub localized_mask : LocalizedText → ℕ
+localized_mask v = (if is_some v.locale then 1 else 0) + (if is_some v.text then 2 else 0)
+
+-- the bits above the second have no meaning; a null text reads as an absent one
+abbrev pub localized_fields : ℕ → Format BinaryFault LocalizedText
+localized_fields mask =
+    chosen (nat_lt 3 mask) (refused BadEncodingByte) (
+    standing_for (λ p. record { locale = option_flatten p.0; text = option_flatten p.1 }) (λ v. (option_map Some v.locale, option_map Some v.text))
+    (flagged (not (bit_and mask 1 == 0)) text ▸ flagged (not (bit_and mask 2 == 0)) text))
+
+abbrev pub IsText : Option (List ℕ) → Type 0
+IsText v = IfSome v (λ t. (length t < 2 ^ 31) × (is_utf8 t ≡ true))
+
+abbrev pub IsLocalized : LocalizedText → Type 0
+IsLocalized v = IsText v.locale × IsText v.text
+
+unfoldable pub localized : Format BinaryFault LocalizedText
+localized = fitting IsLocalized (headed localized_mask byte localized_fields)
+
+-- ---- names in namespaces
+
+abbrev pub qualified_of : QualifiedRef → QualifiedName
+qualified_of r = record { namespace = r.namespace; name = option_copied r.name }
+
+unfoldable pub qualified : Format BinaryFault QualifiedName
+qualified = standing_for (λ p. record { namespace = p.0; name = p.1 }) (λ v. (v.namespace, v.name)) (unsigned w16 ▸ text)
+
+-- ---- extension objects
+
+abbrev pub body_of : BodyRef → Body
+body_of held.Absent = Absent
+body_of (held.Binary b) = Binary b.now
+body_of (held.Xml b) = Xml b.now
+
+abbrev pub extension_of : ExtensionRef → ExtensionObject
+extension_of r = record { kind = node_of r.kind; body = body_of r.body }
+
+abbrev pub body_form : ℕ → Format BinaryFault Body
+body_form kind =
+    chosen (kind == 0) (nothing Absent) (
+    chosen (kind == 1) (standing_for (λ b. Binary (unwrap_or b [])) (λ v. elim v [ Binary b ↦ Some b | _ ↦ None ]) byte_string) (
+    chosen (kind == 2) (standing_for (λ b. Xml (unwrap_or b [])) (λ v. elim v [ Xml b ↦ Some b | _ ↦ None ]) byte_string) (
+    refused BadEncodingByte)))
+
+abbrev pub body_kind : Body → ℕ
+body_kind Absent = 0
+body_kind (Binary b) = 1
+body_kind (Xml b) = 2
+
+abbrev pub IsBody : Body → Type 0
+IsBody Absent = Unit {0}
+IsBody (Binary b) = length b < 2 ^ 31
+IsBody (Xml b) = length b < 2 ^ 31
+
+abbrev pub body : Format BinaryFault Body
+body = fitting IsBody (headed body_kind byte body_form)
+
+unfoldable pub extension : Format BinaryFault ExtensionObject
+extension = standing_for (λ p. record { kind = p.0; body = p.1 }) (λ v. (v.kind, v.body)) (node_id ▸ body)
+
+-- ---- arrays
+
+-- the count that a number tells, where as many bytes are left
+abbrev pub counted_number : ℤ → List ℕ → Reading BinaryFault ℕ
+counted_number (pos n) rest = if nat_lt (length rest) n then Err Short else Ok (n, rest)
+counted_number (negsuc zero) rest = Ok (0, rest)
+counted_number (negsuc (suc n)) rest = Err BadLength
+
+-- the count of an array, none for -1
+unfoldable pub count_at : List ℕ → Reading BinaryFault ℕ
+count_at bytes = (signed w32).read bytes >>= λ n. counted_number n.0 n.1
+
+-- told says how a fault of the encoding is told
+abbrev pub counted_items : {E A : Type 0} → (BinaryFault → E) → Format E A → ℤ → Format E (List A)
+counted_items told f (pos n) = at_least n (told Short) (items n f)
+counted_items told f (negsuc zero) = nothing []
+counted_items told f (negsuc (suc n)) = refused (told BadLength)
+
+abbrev pub array_spelled : {E A : Type 0} → (BinaryFault → E) → Format E A → Format E (List A)
+array_spelled told f = headed (λ vs. pos (length vs)) (raised told (signed w32)) (counted_items told f)
+
+unfoldable pub array : {E A : Type 0} → (BinaryFault → E) → Format E A → Format E (List A)
+array told f = record {
+  Spells = (array_spelled told f).Spells;
+  read = λ bytes. with_fault told (count_at bytes) >>= λ n. items_at f.read n.0 n.1;
+  canon = (array_spelled told f).canon;
+  Fits = (array_spelled told f).Fits;
+}
+
+-- ---- what a writer asks
+
+-- each text and byte string has few enough bytes to be counted
+abbrev pub IsShortNode : NodeId → Type 0
+IsShortNode (Numeric ns id) = Unit {0}
+IsShortNode (Named ns name) = length name < 2 ^ 31
+IsShortNode (Global ns id) = Unit {0}
+IsShortNode (Opaque ns id) = length id < 2 ^ 31
+
+abbrev pub IsShortLocalized : LocalizedText → Type 0
+IsShortLocalized v = IsCounted v.locale × IsCounted v.text

@@ -1,0 +1,324 @@
+//! Reading from the front of a slice.
+
+ghost use Rattle.std.specs.Prelude.{◌≡◌, List, ℕ, option_map, length, MatchOption, true, false};
+ghost use Rattle.std.specs.Option.{option_copied};
+ghost use Rattle.std.specs.Int.{w16, w32, w64};
+ghost use Rattle.ua_binary.specs.Format.{Reads, byte, block};
+ghost use Rattle.ua_binary.specs.Binary.{unsigned, signed, sbyte, boolean, byte_string, count_at, text, guid, node_id, node_of, localized, localized_of, is_text, qualified, qualified_of, extension, extension_of};
+
+use crate::fault::BinaryFault;
+use crate::values::{BodyRef, ExtensionRef, Guid, LocalizedRef, NodeIdRef, QualifiedRef};
+use std::marker::Model;
+use std::str;
+
+/// The bytes that are left to read.
+#[derive(Drop)]
+pub struct Cursor<'a> {
+    bytes: &'a [u8],
+}
+
+impl<'a> Model for Cursor<'a> {
+    ghost Value = { List ℕ };
+
+    ghost view = { λ c. c.bytes.now };
+}
+
+impl<'a> Cursor<'a> {
+    pub fn new(bytes: &'a [u8]) -> Cursor<'a>
+        ensures { result ≡ bytes.entry.now }
+    {
+        Cursor { bytes }
+    }
+
+    /// The bytes left.
+    pub fn rest(&self) -> &'a [u8]
+        ensures { result.now ≡ self.now }
+    {
+        self.bytes
+    }
+
+    /// A second cursor at the same place.
+    pub fn fork(&self) -> Cursor<'a>
+        ensures { result ≡ self.now }
+    {
+        Cursor { bytes: self.bytes }
+    }
+
+    pub fn u8(&mut self) -> Result<u8, BinaryFault>
+        ensures { Reads (λ x. x) result self.old self.new byte.read }
+    {
+        match self.bytes {
+            [] => Err(BinaryFault::Short),
+            [first, rest @ ..] => {
+                self.bytes = rest;
+                Ok(*first)
+            }
+        }
+    }
+
+    /// The next bytes, as they are.
+    pub fn block(&mut self, len: usize) -> Result<&'a [u8], BinaryFault>
+        ensures { Reads (λ x. x.now) result self.old self.new (block len).read }
+    {
+        if self.bytes.len() < len {
+            return Err(BinaryFault::Short);
+        }
+        let (front, rest) = self.bytes.split_at(len);
+        self.bytes = rest;
+        Ok(front)
+    }
+
+    #[tactic(auto, unfolding(crate::specs::Binary::unsigned))]
+    pub fn u16(&mut self) -> Result<u16, BinaryFault>
+        ensures { Reads (λ x. x) result self.old self.new (unsigned w16).read }
+    {
+        if self.bytes.len() < 2 {
+            return Err(BinaryFault::Short);
+        }
+        let (b, rest) = self.bytes.split_at(2);
+        self.bytes = rest;
+        Ok(u16::from_le_bytes([b[0], b[1]]))
+    }
+
+    #[tactic(auto, unfolding(crate::specs::Binary::unsigned))]
+    pub fn u32(&mut self) -> Result<u32, BinaryFault>
+        ensures { Reads (λ x. x) result self.old self.new (unsigned w32).read }
+    {
+        if self.bytes.len() < 4 {
+            return Err(BinaryFault::Short);
+        }
+        let (b, rest) = self.bytes.split_at(4);
+        self.bytes = rest;
+        Ok(u32::from_le_bytes([b[0], b[1], b[2], b[3]]))
+    }
+
+    #[tactic(auto, unfolding(crate::specs::Binary::signed, crate::specs::Binary::unsigned))]
+    pub fn i32(&mut self) -> Result<i32, BinaryFault>
+        ensures { Reads (λ x. x) result self.old self.new (signed w32).read }
+    {
+        let n = self.u32()?;
+        Ok(n.cast_signed())
+    }
+
+    #[tactic(auto, unfolding(crate::specs::Binary::boolean))]
+    pub fn boolean(&mut self) -> Result<bool, BinaryFault>
+        ensures { Reads (λ x. x) result self.old self.new boolean.read }
+    {
+        let b = self.u8()?;
+        Ok(b != 0)
+    }
+
+    #[tactic(auto, unfolding(crate::specs::Binary::byte_string))]
+    pub fn bytes(&mut self) -> Result<Option<&'a [u8]>, BinaryFault>
+        ensures { Reads (λ x. option_copied x) result self.old self.new byte_string.read }
+    {
+        let mut next = self.fork();
+        let count = next.i32()?;
+        if count == -1 {
+            *self = next;
+            return Ok(None);
+        }
+        if count < 0 {
+            return Err(BinaryFault::BadLength);
+        }
+        let found = next.block(count as usize)?;
+        *self = next;
+        Ok(Some(found))
+    }
+
+    /// The count of an array: at most as many as there are bytes left.
+    #[tactic(auto, unfolding(crate::specs::Binary::count_at))]
+    pub fn count(&mut self) -> Result<usize, BinaryFault>
+        ensures { Reads (λ x. x) result self.old self.new count_at }
+    {
+        let mut next = self.fork();
+        let count = next.i32()?;
+        if count == -1 {
+            *self = next;
+            return Ok(0);
+        }
+        if count < 0 {
+            return Err(BinaryFault::BadLength);
+        }
+        let count = count as usize;
+        if next.rest().len() < count {
+            return Err(BinaryFault::Short);
+        }
+        *self = next;
+        Ok(count)
+    }
+
+    #[tactic(auto, unfolding(crate::specs::Binary::text))]
+    pub fn text(&mut self) -> Result<Option<&'a str>, BinaryFault>
+        ensures { Reads (λ x. option_copied x) result self.old self.new text.read }
+    {
+        let mut next = self.fork();
+        let Some(bytes) = next.bytes()? else {
+            *self = next;
+            return Ok(None);
+        };
+        let Some(found) = utf8(bytes) else {
+            return Err(BinaryFault::BadUtf8);
+        };
+        *self = next;
+        Ok(Some(found))
+    }
+
+    #[tactic(auto, unfolding(crate::specs::Binary::guid))]
+    pub fn guid(&mut self) -> Result<Guid, BinaryFault>
+        ensures { Reads (λ x. x) result self.old self.new guid.read }
+    {
+        let mut next = self.fork();
+        let first = next.u32()?;
+        let second = next.u16()?;
+        let third = next.u16()?;
+        let b = next.block(8)?;
+        let last = [b[0], b[1], b[2], b[3], b[4], b[5], b[6], b[7]];
+        *self = next;
+        Ok(Guid {
+            first,
+            second,
+            third,
+            last,
+        })
+    }
+
+    #[tactic(auto, unfolding(crate::specs::Binary::localized))]
+    pub fn localized(&mut self) -> Result<LocalizedRef<'a>, BinaryFault>
+        ensures { Reads localized_of result self.old self.new localized.read }
+    {
+        let mut next = self.fork();
+        let mask = next.u8()?;
+        if mask > 3 {
+            return Err(BinaryFault::BadEncodingByte);
+        }
+        let locale = if mask & 1 != 0 { next.text()? } else { None };
+        let text = if mask & 2 != 0 { next.text()? } else { None };
+        *self = next;
+        Ok(LocalizedRef { locale, text })
+    }
+
+    #[tactic(auto, unfolding(crate::specs::Binary::unsigned))]
+    pub fn u64(&mut self) -> Result<u64, BinaryFault>
+        ensures { Reads (λ x. x) result self.old self.new (unsigned w64).read }
+    {
+        if self.bytes.len() < 8 {
+            return Err(BinaryFault::Short);
+        }
+        let (b, rest) = self.bytes.split_at(8);
+        self.bytes = rest;
+        Ok(u64::from_le_bytes([
+            b[0], b[1], b[2], b[3], b[4], b[5], b[6], b[7],
+        ]))
+    }
+
+    #[tactic(auto, unfolding(crate::specs::Binary::signed, crate::specs::Binary::unsigned))]
+    pub fn i64(&mut self) -> Result<i64, BinaryFault>
+        ensures { Reads (λ x. x) result self.old self.new (signed w64).read }
+    {
+        let n = self.u64()?;
+        Ok(n.cast_signed())
+    }
+
+    #[tactic(auto, unfolding(crate::specs::Binary::sbyte))]
+    pub fn i8(&mut self) -> Result<i8, BinaryFault>
+        ensures { Reads (λ x. x) result self.old self.new sbyte.read }
+    {
+        let n = self.u8()?;
+        Ok(n.cast_signed())
+    }
+
+    #[tactic(auto, unfolding(crate::specs::Binary::signed, crate::specs::Binary::unsigned))]
+    pub fn i16(&mut self) -> Result<i16, BinaryFault>
+        ensures { Reads (λ x. x) result self.old self.new (signed w16).read }
+    {
+        let n = self.u16()?;
+        Ok(n.cast_signed())
+    }
+
+    /// Four bytes, as they are.
+    pub fn four(&mut self) -> Result<[u8; 4], BinaryFault>
+        ensures { Reads (λ x. x) result self.old self.new (block 4).read }
+    {
+        let b = self.block(4)?;
+        Ok([b[0], b[1], b[2], b[3]])
+    }
+
+    /// Eight bytes, as they are.
+    pub fn eight(&mut self) -> Result<[u8; 8], BinaryFault>
+        ensures { Reads (λ x. x) result self.old self.new (block 8).read }
+    {
+        let b = self.block(8)?;
+        Ok([b[0], b[1], b[2], b[3], b[4], b[5], b[6], b[7]])
+    }
+
+    #[tactic(auto, unfolding(crate::specs::Binary::qualified))]
+    pub fn qualified(&mut self) -> Result<QualifiedRef<'a>, BinaryFault>
+        ensures { Reads qualified_of result self.old self.new qualified.read }
+    {
+        let mut next = self.fork();
+        let namespace = next.u16()?;
+        let name = next.text()?;
+        *self = next;
+        Ok(QualifiedRef { namespace, name })
+    }
+
+    #[tactic(auto, unfolding(crate::specs::Binary::extension))]
+    pub fn extension(&mut self) -> Result<ExtensionRef<'a>, BinaryFault>
+        ensures { Reads extension_of result self.old self.new extension.read }
+    {
+        let mut next = self.fork();
+        let kind = next.node_id()?;
+        let body = match next.u8()? {
+            0 => BodyRef::Absent,
+            1 => BodyRef::Binary(next.bytes()?.unwrap_or(&[])),
+            2 => BodyRef::Xml(next.bytes()?.unwrap_or(&[])),
+            _ => return Err(BinaryFault::BadEncodingByte),
+        };
+        *self = next;
+        Ok(ExtensionRef { kind, body })
+    }
+
+    #[tactic(auto, unfolding(crate::specs::Binary::node_id))]
+    pub fn node_id(&mut self) -> Result<NodeIdRef<'a>, BinaryFault>
+        ensures { Reads node_of result self.old self.new node_id.read }
+    {
+        let mut next = self.fork();
+        let node = match next.u8()? {
+            0 => NodeIdRef::Numeric(0, next.u8()? as u32),
+            1 => {
+                let namespace = next.u8()? as u16;
+                NodeIdRef::Numeric(namespace, next.u16()? as u32)
+            }
+            2 => {
+                let namespace = next.u16()?;
+                NodeIdRef::Numeric(namespace, next.u32()?)
+            }
+            3 => {
+                let namespace = next.u16()?;
+                NodeIdRef::Named(namespace, next.text()?.unwrap_or(""))
+            }
+            4 => {
+                let namespace = next.u16()?;
+                NodeIdRef::Global(namespace, next.guid()?)
+            }
+            5 => {
+                let namespace = next.u16()?;
+                NodeIdRef::Opaque(namespace, next.bytes()?.unwrap_or(&[]))
+            }
+            _ => return Err(BinaryFault::BadEncodingByte),
+        };
+        *self = next;
+        Ok(node)
+    }
+}
+
+#[tactic(auto, using(crate::proofs::Text::tested))]
+fn utf8(bytes: &[u8]) -> Option<&str>
+    ensures { MatchOption result (is_text (Some bytes.now) ≡ false) (λ s. (s.now ≡ bytes.now) × (is_text (Some s.now) ≡ true)) }
+{
+    match str::from_utf8(bytes) {
+        Ok(found) => Some(found),
+        Err(_) => None,
+    }
+}

@@ -1,0 +1,296 @@
+//! Writing at the end of a vector.
+
+ghost use Rattle.std.specs.Prelude.{◌≡◌, ◌<◌, ◌^◌, List, ℕ, option_map, length, take, IfSome, MatchResult};
+ghost use Rattle.std.specs.Option.{option_copied};
+ghost use Rattle.std.specs.Int.{w16, w32, w64};
+ghost use Rattle.ua_binary.specs.Format.{Puts, PutsPart, byte, block};
+ghost use Rattle.ua_binary.specs.Binary.{unsigned, signed, sbyte, boolean, byte_string, text, guid, node_id, localized, qualified, extension, IsCounted, IsBody, IsShortNode, IsShortLocalized};
+
+use crate::fault::BinaryFault;
+use crate::values::{Body, Bytes, ExtensionObject, Guid, LocalizedText, NodeId, QualifiedName, Text};
+
+pub fn put_u8(out: &mut Vec<u8>, v: u8) -> Result<(), BinaryFault>
+    ensures { Puts BinaryFault.OutOfMemory result out.old.items out.new.items (byte.canon v) }
+{
+    out.push(v)?;
+    Ok(())
+}
+
+#[tactic(auto, unfolding(crate::specs::Binary::unsigned))]
+pub fn put_u16(out: &mut Vec<u8>, v: u16) -> Result<(), BinaryFault>
+    ensures { Puts BinaryFault.OutOfMemory result out.old.items out.new.items ((unsigned w16).canon v) }
+{
+    out.extend_from_slice(&v.to_le_bytes())?;
+    Ok(())
+}
+
+#[tactic(auto, unfolding(crate::specs::Binary::unsigned))]
+pub fn put_u32(out: &mut Vec<u8>, v: u32) -> Result<(), BinaryFault>
+    ensures { Puts BinaryFault.OutOfMemory result out.old.items out.new.items ((unsigned w32).canon v) }
+{
+    out.extend_from_slice(&v.to_le_bytes())?;
+    Ok(())
+}
+
+#[tactic(auto, unfolding(crate::specs::Binary::signed, crate::specs::Binary::unsigned))]
+pub fn put_i32(out: &mut Vec<u8>, v: i32) -> Result<(), BinaryFault>
+    ensures { Puts BinaryFault.OutOfMemory result out.old.items out.new.items ((signed w32).canon v) }
+{
+    out.extend_from_slice(&v.to_le_bytes())?;
+    Ok(())
+}
+
+#[tactic(auto, unfolding(crate::specs::Binary::unsigned))]
+pub fn put_u64(out: &mut Vec<u8>, v: u64) -> Result<(), BinaryFault>
+    ensures { Puts BinaryFault.OutOfMemory result out.old.items out.new.items ((unsigned w64).canon v) }
+{
+    out.extend_from_slice(&v.to_le_bytes())?;
+    Ok(())
+}
+
+#[tactic(auto, unfolding(crate::specs::Binary::signed, crate::specs::Binary::unsigned))]
+pub fn put_i64(out: &mut Vec<u8>, v: i64) -> Result<(), BinaryFault>
+    ensures { Puts BinaryFault.OutOfMemory result out.old.items out.new.items ((signed w64).canon v) }
+{
+    out.extend_from_slice(&v.to_le_bytes())?;
+    Ok(())
+}
+
+#[tactic(auto, unfolding(crate::specs::Binary::sbyte))]
+pub fn put_i8(out: &mut Vec<u8>, v: i8) -> Result<(), BinaryFault>
+    ensures { Puts BinaryFault.OutOfMemory result out.old.items out.new.items (sbyte.canon v) }
+{
+    put_u8(out, v.cast_unsigned())
+}
+
+#[tactic(auto, unfolding(crate::specs::Binary::signed, crate::specs::Binary::unsigned))]
+pub fn put_i16(out: &mut Vec<u8>, v: i16) -> Result<(), BinaryFault>
+    ensures { Puts BinaryFault.OutOfMemory result out.old.items out.new.items ((signed w16).canon v) }
+{
+    out.extend_from_slice(&v.to_le_bytes())?;
+    Ok(())
+}
+
+/// Bytes of their own memory.
+pub fn put_owned_bytes(out: &mut Vec<u8>, v: &Option<Bytes>) -> Result<(), BinaryFault>
+    requires { IsCounted v.now }
+    ensures { Puts BinaryFault.OutOfMemory result out.old.items out.new.items (byte_string.canon v.now) }
+{
+    match v {
+        None => put_bytes(out, None),
+        Some(bytes) => put_bytes(out, Some(bytes.as_slice())),
+    }
+}
+
+pub fn put_localized(out: &mut Vec<u8>, v: &LocalizedText) -> Result<(), BinaryFault>
+    requires { IsShortLocalized v.now }
+    ensures { Puts BinaryFault.OutOfMemory result out.old.items out.new.items (localized.canon v.now) }
+{
+    let len = out.len();
+    let put = put_localized_parts(out, v);
+    or_undone(put, out, len)
+}
+
+/// Bytes as they are.
+pub fn put_block(out: &mut Vec<u8>, v: &[u8]) -> Result<(), BinaryFault>
+    ensures { Puts BinaryFault.OutOfMemory result out.old.items out.new.items v.now }
+{
+    out.extend_from_slice(v)?;
+    Ok(())
+}
+
+#[tactic(auto, unfolding(crate::specs::Binary::boolean))]
+pub fn put_boolean(out: &mut Vec<u8>, v: bool) -> Result<(), BinaryFault>
+    ensures { Puts BinaryFault.OutOfMemory result out.old.items out.new.items (boolean.canon v) }
+{
+    put_u8(out, if v { 1 } else { 0 })
+}
+
+/// Takes back what a part of a writer put, where it failed.
+pub fn or_undone<E>(put: Result<(), E>, out: &mut Vec<u8>, len: usize) -> Result<(), E>
+    ensures same { result ≡ put }
+    ensures items { MatchResult put (λ _. out.new.items ≡ out.old.items) (λ _. out.new.items ≡ take len out.old.items) }
+{
+    if put.is_err() {
+        out.truncate(len);
+    }
+    put
+}
+
+#[tactic(auto, using(crate::proofs::Kept::kept), unfolding(crate::specs::Binary::byte_string))]
+fn put_bytes_parts(out: &mut Vec<u8>, v: Option<&[u8]>) -> Result<(), BinaryFault>
+    requires { IsCounted (option_copied v) }
+    ensures { PutsPart BinaryFault.OutOfMemory result out.old.items out.new.items (byte_string.canon (option_copied v.entry)) }
+{
+    match v {
+        None => put_i32(out, -1)?,
+        Some(bytes) => {
+            put_i32(out, bytes.len() as i32)?;
+            out.extend_from_slice(bytes)?;
+        }
+    }
+    Ok(())
+}
+
+pub fn put_bytes(out: &mut Vec<u8>, v: Option<&[u8]>) -> Result<(), BinaryFault>
+    requires { IsCounted (option_copied v) }
+    ensures { Puts BinaryFault.OutOfMemory result out.old.items out.new.items (byte_string.canon (option_copied v.entry)) }
+{
+    let len = out.len();
+    let put = put_bytes_parts(out, v);
+    or_undone(put, out, len)
+}
+
+#[tactic(auto, unfolding(crate::specs::Binary::text))]
+pub fn put_text(out: &mut Vec<u8>, v: Option<&str>) -> Result<(), BinaryFault>
+    requires { IsCounted (option_copied v) }
+    ensures { Puts BinaryFault.OutOfMemory result out.old.items out.new.items (text.canon (option_copied v.entry)) }
+{
+    match v {
+        None => put_bytes(out, None),
+        Some(text) => put_bytes(out, Some(text.as_bytes())),
+    }
+}
+
+#[tactic(auto, using(crate::proofs::Kept::kept), unfolding(crate::specs::Binary::guid))]
+fn put_guid_parts(out: &mut Vec<u8>, v: &Guid) -> Result<(), BinaryFault>
+    ensures { PutsPart BinaryFault.OutOfMemory result out.old.items out.new.items (guid.canon v.now) }
+{
+    put_u32(out, v.first)?;
+    put_u16(out, v.second)?;
+    put_u16(out, v.third)?;
+    out.extend_from_slice(&v.last)?;
+    Ok(())
+}
+
+pub fn put_guid(out: &mut Vec<u8>, v: &Guid) -> Result<(), BinaryFault>
+    ensures { Puts BinaryFault.OutOfMemory result out.old.items out.new.items (guid.canon v.now) }
+{
+    let len = out.len();
+    let put = put_guid_parts(out, v);
+    or_undone(put, out, len)
+}
+
+#[tactic(auto, using(crate::proofs::Kept::kept), unfolding(crate::specs::Binary::node_id))]
+fn put_node_id_parts(out: &mut Vec<u8>, v: &NodeId) -> Result<(), BinaryFault>
+    requires { IsShortNode v.now }
+    ensures { PutsPart BinaryFault.OutOfMemory result out.old.items out.new.items (node_id.canon v.now) }
+{
+    match v {
+        NodeId::Numeric(namespace, id) => {
+            if *namespace == 0 && *id < 256 {
+                put_u8(out, 0)?;
+                put_u8(out, *id as u8)?;
+            } else if *namespace < 256 && *id < 65536 {
+                put_u8(out, 1)?;
+                put_u8(out, *namespace as u8)?;
+                put_u16(out, *id as u16)?;
+            } else {
+                put_u8(out, 2)?;
+                put_u16(out, *namespace)?;
+                put_u32(out, *id)?;
+            }
+        }
+        NodeId::Named(namespace, name) => {
+            put_u8(out, 3)?;
+            put_u16(out, *namespace)?;
+            put_text(out, Some(name.as_str()))?;
+        }
+        NodeId::Global(namespace, id) => {
+            put_u8(out, 4)?;
+            put_u16(out, *namespace)?;
+            put_guid(out, id)?;
+        }
+        NodeId::Opaque(namespace, id) => {
+            put_u8(out, 5)?;
+            put_u16(out, *namespace)?;
+            put_bytes(out, Some(id.as_slice()))?;
+        }
+    }
+    Ok(())
+}
+
+pub fn put_node_id(out: &mut Vec<u8>, v: &NodeId) -> Result<(), BinaryFault>
+    requires { IsShortNode v.now }
+    ensures { Puts BinaryFault.OutOfMemory result out.old.items out.new.items (node_id.canon v.now) }
+{
+    let len = out.len();
+    let put = put_node_id_parts(out, v);
+    or_undone(put, out, len)
+}
+
+#[tactic(auto, using(crate::proofs::Kept::kept), unfolding(crate::specs::Binary::localized))]
+fn put_localized_parts(out: &mut Vec<u8>, v: &LocalizedText) -> Result<(), BinaryFault>
+    requires { IsShortLocalized v.now }
+    ensures { PutsPart BinaryFault.OutOfMemory result out.old.items out.new.items (localized.canon v.now) }
+{
+    let locale_bit = if v.locale.is_some() { 1 } else { 0 };
+    let text_bit = if v.text.is_some() { 2 } else { 0 };
+    put_u8(out, locale_bit + text_bit)?;
+    if let Some(locale) = &v.locale {
+        put_text(out, Some(locale.as_str()))?;
+    }
+    if let Some(text) = &v.text {
+        put_text(out, Some(text.as_str()))?;
+    }
+    Ok(())
+}
+
+/// A text that owns its bytes.
+pub fn put_owned_text(out: &mut Vec<u8>, v: &Option<Text>) -> Result<(), BinaryFault>
+    requires { IsCounted v.now }
+    ensures { Puts BinaryFault.OutOfMemory result out.old.items out.new.items (text.canon v.now) }
+{
+    match v {
+        None => put_text(out, None),
+        Some(text) => put_text(out, Some(text.as_str())),
+    }
+}
+
+#[tactic(auto, using(crate::proofs::Kept::kept), unfolding(crate::specs::Binary::qualified))]
+fn put_qualified_parts(out: &mut Vec<u8>, v: &QualifiedName) -> Result<(), BinaryFault>
+    requires { IsCounted v.now.name }
+    ensures { PutsPart BinaryFault.OutOfMemory result out.old.items out.new.items (qualified.canon v.now) }
+{
+    put_u16(out, v.namespace)?;
+    put_owned_text(out, &v.name)?;
+    Ok(())
+}
+
+pub fn put_qualified(out: &mut Vec<u8>, v: &QualifiedName) -> Result<(), BinaryFault>
+    requires { IsCounted v.now.name }
+    ensures { Puts BinaryFault.OutOfMemory result out.old.items out.new.items (qualified.canon v.now) }
+{
+    let len = out.len();
+    let put = put_qualified_parts(out, v);
+    or_undone(put, out, len)
+}
+
+#[tactic(auto, using(crate::proofs::Kept::kept), unfolding(crate::specs::Binary::extension))]
+fn put_extension_parts(out: &mut Vec<u8>, v: &ExtensionObject) -> Result<(), BinaryFault>
+    requires { IsShortNode v.now.kind × IsBody v.now.body }
+    ensures { PutsPart BinaryFault.OutOfMemory result out.old.items out.new.items (extension.canon v.now) }
+{
+    put_node_id(out, &v.kind)?;
+    match &v.body {
+        Body::Absent => put_u8(out, 0)?,
+        Body::Binary(bytes) => {
+            put_u8(out, 1)?;
+            put_bytes(out, Some(bytes.as_slice()))?;
+        }
+        Body::Xml(bytes) => {
+            put_u8(out, 2)?;
+            put_bytes(out, Some(bytes.as_slice()))?;
+        }
+    }
+    Ok(())
+}
+
+pub fn put_extension(out: &mut Vec<u8>, v: &ExtensionObject) -> Result<(), BinaryFault>
+    requires { IsShortNode v.now.kind × IsBody v.now.body }
+    ensures { Puts BinaryFault.OutOfMemory result out.old.items out.new.items (extension.canon v.now) }
+{
+    let len = out.len();
+    let put = put_extension_parts(out, v);
+    or_undone(put, out, len)
+}
