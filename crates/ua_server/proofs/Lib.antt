@@ -1,0 +1,4 @@
+pub mod Runs
+pub mod Cutting
+pub mod Steps
+pub mod Flow

@@ -1,0 +1,11 @@
+-- What goes out, and how failed calls are counted.
+use Rattle.std.specs.Prelude.{◌≡◌, ◌+◌, ◌^◌, ◌-◌, ℕ, List, ◌++◌, Option, min}
+use Rattle.std.specs.Io.KnownBytes.{Appends}
+
+-- known contents grew by a first part of these bytes
+abbrev pub AppendsPart : Option (List ℕ) → Option (List ℕ) → List ℕ → Type 0
+AppendsPart old new bytes = (sent : List ℕ) × (unsent : List ℕ) × (bytes ≡ sent ++ unsent) × Appends old new sent
+
+-- one failed call more; the count stops at 2^64 - 1
+abbrev pub counted : ℕ → ℕ
+counted faults = min (faults + 1) (2 ^ 64 - 1)

@@ -1,0 +1,12 @@
+//! The server, as it stands between connections.
+
+/// What the server keeps from one connection to the next: nothing, as yet.
+#[derive(Clone, Copy, Debug, Default)]
+pub struct Server;
+
+impl Server {
+    /// A server that knows nothing.
+    pub fn new() -> Server {
+        Server
+    }
+}

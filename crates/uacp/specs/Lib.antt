@@ -1,0 +1,4 @@
+pub mod Chunks
+pub mod Held
+pub mod Greeting
+pub mod Stream
