@@ -46,8 +46,8 @@ chunk-stands standing bytes more header cuts =
     let again = cut-append standing.greeted standing.limit bytes more settled ∙ cuts in
     let piece_of = λ (front : List ℕ). let p : Piece = record { kind = header.kind; letter = header.letter; body = drop 8 front } in p in (
       next-some standing (bytes ++ more) (some_more bytes more (omega (arith, within.0, within.1)))
-      ∙ ap (λ o. Some (found (bytes ++ more) o)) again
-      ∙ ap (λ front. Some (whole (piece_of front), header.size)) (take-append-le header.size bytes more within.1),
+          ∙ ap (λ o. Some (found (bytes ++ more) o)) again
+          ∙ ap (λ front. Some (whole (piece_of front), header.size)) (take-append-le header.size bytes more within.1),
       drop-append-le header.size bytes more within.1,
     )
 

@@ -42,10 +42,13 @@ ends-then a b bytes middle r s x y ending first second = λ more.
 
 begins-then : (a b : Standing) (bytes middle : List ℕ) (r s : List ℤ) (x y : List ℕ) → AnswersSo a bytes r x b middle → BeginsSo b middle s y → BeginsSo a bytes (r ++ s) (x ++ y)
 begins-then a b bytes middle r s x y first second = λ more.
-    let part = second more in
-    (record { out = x ++ part.0.out; ending = part.0.ending; state = part.0.state }, part.1, part.2,
+    let part = second more in (
+      record { out = x ++ part.0.out; ending = part.0.ending; state = part.0.state },
+      part.1,
+      part.2,
       answers-then chunks a (bytes ++ more) r x b (middle ++ more) s part.0 part.1 (first more) part.3,
-      ap (λ o. x ++ o) part.4 ∙ sym (append_assoc x y part.2))
+      ap (λ o. x ++ o) part.4 ∙ sym (append_assoc x y part.2),
+    )
 
 begins-so : (a b : Standing) (bytes rest : List ℕ) (r : List ℤ) (out sent unsent : List ℕ) → AnswersSo a bytes r out b rest → out ≡ sent ++ unsent → BeginsSo a bytes r sent
 begins-so a b bytes rest r out sent unsent so parts = λ more. (reply_with b out None, rest ++ more, unsent, so more, parts)
@@ -151,10 +154,13 @@ serves-end (Some input) (Some rest) (Some last) old written readings held connec
     let P : List ℕ → Type 0 = λ w. Answers chunks greeting input readings (reply_with (sees held connection) so.0 None) w in
     let ends = ends-waiting (sees held connection) held.waiting short in
     let Q : List ℤ → Type 0 = λ r. IsWhole input r (so.0 ++ []) (Ok EndOfInput) in
-    let R : List ℕ → Type 0 = λ o. IsWhole input readings o (Ok EndOfInput) in
-    (so.0, so.1, subst R (append-nil so.0) (subst Q (append-nil readings)
-      (whole-of input (readings ++ []) (so.0 ++ []) (Ok EndOfInput) ends.0 ends.1
-      (answers-then chunks greeting input readings so.0 (sees held connection) held.waiting [] (reply_with ends.0 [] (Some (Ok EndOfInput))) ends.1 (subst P all so.2) ends.2))))
+    let R : List ℕ → Type 0 = λ o. IsWhole input readings o (Ok EndOfInput) in (
+      so.0,
+      so.1,
+      subst R (append-nil so.0) (subst Q (append-nil readings)
+          (whole-of input (readings ++ []) (so.0 ++ []) (Ok EndOfInput) ends.0 ends.1
+          (answers-then chunks greeting input readings so.0 (sees held connection) held.waiting [] (reply_with ends.0 [] (Some (Ok EndOfInput))) ends.1 (subst P all so.2) ends.2))),
+    )
 
 -- more bytes came
 pub serves-fed : (known left after old written : Option (List ℕ)) (readings : List ℤ) (held new : Held) (connection : Connection) (bytes : List ℕ)

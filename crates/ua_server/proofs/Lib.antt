@@ -2,3 +2,5 @@ pub mod Runs
 pub mod Cutting
 pub mod Steps
 pub mod Flow
+pub mod Printing
+pub mod Counting

@@ -122,9 +122,12 @@ pub refused-ends : (held : Held) (connection : Connection) (chunk : Chunk) (read
     → Does (granted chunk.kind chunk.body.now) readings (Err fault) → EndsRefused (sees held connection) held.waiting readings (code_of fault)
 refused-ends held connection chunk readings fault unfailed gives few grants = λ out ending refuses more.
     let standing = sees held connection in
-    let reply = reply_with standing out (Some ending) in
-    (standing, _, chunk-answers held connection chunk readings reply unfailed gives
-    (does-piece standing (piece_of chunk) readings (Err fault) reply (few_test connection.taken few) grants (does-refuse standing (code_of fault) out ending refuses)) more)
+    let reply = reply_with standing out (Some ending) in (
+      standing,
+      _,
+      chunk-answers held connection chunk readings reply unfailed gives
+          (does-piece standing (piece_of chunk) readings (Err fault) reply (few_test connection.taken few) grants (does-refuse standing (code_of fault) out ending refuses)) more,
+    )
 
 -- a chunk too many
 pub many-ends : (held : Held) (connection : Connection) (chunk : Chunk) → held.failed ≡ None → Gives held (Ok (Some chunk)) → (connection.taken == 1000000) ≡ true
@@ -137,16 +140,22 @@ many-ends held connection chunk unfailed gives many = λ more.
 pub fault-ends : (held : Held) (connection : Connection) (fault : UacpFault) → held.failed ≡ None → Gives held (Err fault) → EndsRefused (sees held connection) held.waiting [] (code_of fault)
 fault-ends held connection fault unfailed gives = λ out ending refuses more.
     let standing = sees held connection in
-    let stands = fault-stands standing held.waiting more fault (sym (whole_next held unfailed) ∙ gives) in
-    (standing, _, answers-item chunks falls standing (held.waiting ++ more) (ill fault, length (held.waiting ++ more)) [] (reply_with standing out (Some ending)) stands
-    (does-fine standing (ill fault) [] _ (does-refuse standing (code_of fault) out ending refuses)))
+    let stands = fault-stands standing held.waiting more fault (sym (whole_next held unfailed) ∙ gives) in (
+      standing,
+      _,
+      answers-item chunks falls standing (held.waiting ++ more) (ill fault, length (held.waiting ++ more)) [] (reply_with standing out (Some ending)) stands
+          (does-fine standing (ill fault) [] _ (does-refuse standing (code_of fault) out ending refuses)),
+    )
 
 -- memory for bytes that came is wanting
 pub starved-ends : (standing : Standing) (bytes : List ℕ) → 0 < length bytes → EndsRefused standing bytes [] (code_of OutOfMemory)
 starved-ends standing bytes some = λ out ending refuses more.
-    let item = found (bytes ++ more) (cut standing.greeted standing.limit (bytes ++ more)) in
-    (standing, _, answers-item chunks falls standing (bytes ++ more) item [] (reply_with standing out (Some ending)) (next-some standing (bytes ++ more) (some_more bytes more some))
-    (does-starved standing item.0 _ (does-refuse standing (code_of OutOfMemory) out ending refuses)))
+    let item = found (bytes ++ more) (cut standing.greeted standing.limit (bytes ++ more)) in (
+      standing,
+      _,
+      answers-item chunks falls standing (bytes ++ more) item [] (reply_with standing out (Some ending)) (next-some standing (bytes ++ more) (some_more bytes more some))
+          (does-starved standing item.0 _ (does-refuse standing (code_of OutOfMemory) out ending refuses)),
+    )
 
 max-below : (limit : ℕ) → limit ≤ 65536 → max limit 4128 ≤ 65536
 max-below limit small = omega arith

@@ -5,3 +5,6 @@ pub mod Run
 pub mod Replies
 pub mod Turns
 pub mod Serving
+pub mod Hexed
+pub mod Line
+pub mod Program

@@ -72,11 +72,7 @@ fn greet(body: &[u8], out: &mut Vec<u8>) -> Result<Ack, UacpFault>
 }
 
 /// Grants what a chunk asks for; nothing but a Hello is served yet, and so no reading of the clock is taken.
-fn grant<C: Clock>(
-    _clock: &mut C,
-    chunk: Chunk<'_>,
-    out: &mut Vec<u8>,
-) -> Result<Ack, UacpFault>
+fn grant<C: Clock>(_clock: &mut C, chunk: Chunk<'_>, out: &mut Vec<u8>) -> Result<Ack, UacpFault>
     requires { out.old.items ≡ [] }
     ensures granted { (readings : List ℤ) × C.gave _clock.old readings _clock.new × Does (granted chunk.entry.kind chunk.entry.body.now) readings result }
     ensures made { Makes out.new.items result }

@@ -4,13 +4,24 @@
 mod clock;
 mod connection;
 mod counted;
+mod hexed;
+mod laws;
+mod line;
 mod outcome;
+mod program;
 mod server;
 mod serving;
 
 pub use clock::{Clock, Constant};
 pub use connection::{Connection, MOST_CHUNKS};
 pub use counted::Counted;
+pub use hexed::{HexFault, answer_hex};
+pub use laws::chunks_are_counted;
+pub use line::{Line, LineFault, read_line};
 pub use outcome::{ServeFault, Served};
+pub use program::{ProgramFault, report, run};
 pub use server::Server;
 pub use serving::serve;
+
+#[cfg(test)]
+mod tests;

@@ -13,9 +13,12 @@ returns-then-connection-eq-MOST_CHUNKS-clause-takes g c =
 pub returns-in-Ok-clause-takes : goal.returns-in-Ok-clause-takes
 returns-in-Ok-clause-takes g c =
     let gives = rw c.in-Ok-Some.field-0-is at c.in-Ok-Some.ensures.value in
-    let grants = c.in-Ok.ensures.granted in
-    (grants.0, grants.1, granted-answers c.args.intake.now c.args.connection.now c.in-Ok-Some.chunk grants.0 c.in-Ok.ack c.grant.new.out.items _ c.requires.whole gives c.if-connection-eq-MOST_CHUNKS.false
-    grants.2 c.in-Ok.ensures.made (left-waiting c.args.intake.now c.next_chunk.follows.lender-at-none c.in-Ok-Some.chunk gives c.next_chunk.follows.holds-at-none))
+    let grants = c.in-Ok.ensures.granted in (
+      grants.0,
+      grants.1,
+      granted-answers c.args.intake.now c.args.connection.now c.in-Ok-Some.chunk grants.0 c.in-Ok.ack c.grant.new.out.items _ c.requires.whole gives c.if-connection-eq-MOST_CHUNKS.false
+          grants.2 c.in-Ok.ensures.made (left-waiting c.args.intake.now c.next_chunk.follows.lender-at-none c.in-Ok-Some.chunk gives c.next_chunk.follows.holds-at-none),
+    )
 
 pub returns-in-Err-grant-clause-takes : goal.returns-in-Err-grant-clause-takes
 returns-in-Err-grant-clause-takes g c =

@@ -30,9 +30,12 @@ pub returns-then-n-eq0-clause-serves : goal.returns-then-n-eq0-clause-serves
 returns-then-n-eq0-clause-serves g c =
     let so = c.reads.invariant.so_far in
     let n = c.in_ok-n.n in
-    let none : n ≡ 0 = omega arith in
-    (so.0, so.1, serves-end (g.R.Read.remaining c.args.reader.now.inner) (g.R.Read.remaining c.reads.reader.inner) (g.R.Read.remaining c.read_piece.new.self.inner) (g.W.Write.contents c.args.writer.now.inner) (g.W.Write.contents c.reads.writer.inner) so.0
-    c.reads.intake c.reads.connection (take n c.read_piece.new.piece) so.2 c.in_ok-n.ensures.bytes (ap (λ k. take k c.read_piece.new.piece) none) (c.in_ok-n.ensures.end none) c.reads.invariant.short)
+    let none : n ≡ 0 = omega arith in (
+      so.0,
+      so.1,
+      serves-end (g.R.Read.remaining c.args.reader.now.inner) (g.R.Read.remaining c.reads.reader.inner) (g.R.Read.remaining c.read_piece.new.self.inner) (g.W.Write.contents c.args.writer.now.inner) (g.W.Write.contents c.reads.writer.inner) so.0
+          c.reads.intake c.reads.connection (take n c.read_piece.new.piece) so.2 c.in_ok-n.ensures.bytes (ap (λ k. take k c.read_piece.new.piece) none) (c.in_ok-n.ensures.end none) c.reads.invariant.short,
+    )
 
 pub reads-smaller : goal.reads-smaller
 reads-smaller g c =
@@ -61,9 +64,12 @@ reads-preserved g c =
       short = drained.2.2.0;
       read_faults = c.in_ok-n.ensures.faults ∙ c.reads.invariant.read_faults;
       write_faults = c.in-Ok-None.ensures.faults ∙ c.reads.invariant.write_faults;
-      so_far = (so.0 ++ drained.0, g.met.C.Clock.gave_more _ _ _ _ _ so.1 drained.1,
-          serves-drained (g.R.Read.remaining c.args.reader.now.inner) (g.R.Read.remaining c.read_piece.new.self.inner) (g.W.Write.contents c.args.writer.now.inner) (g.W.Write.contents c.reads.writer.inner) (g.W.Write.contents c.answer_waiting.new.writer.inner) so.0 drained.0
-          c.feed.new.self c.answer_waiting.new.intake c.reads.connection c.answer_waiting.new.connection fed drained.2);
+      so_far = (
+        so.0 ++ drained.0,
+        g.met.C.Clock.gave_more _ _ _ _ _ so.1 drained.1,
+        serves-drained (g.R.Read.remaining c.args.reader.now.inner) (g.R.Read.remaining c.read_piece.new.self.inner) (g.W.Write.contents c.args.writer.now.inner) (g.W.Write.contents c.reads.writer.inner) (g.W.Write.contents c.answer_waiting.new.writer.inner) so.0 drained.0
+            c.feed.new.self c.answer_waiting.new.intake c.reads.connection c.answer_waiting.new.connection fed drained.2,
+      );
     }
 
 pub returns-in-Err-clause-serves : goal.returns-in-Err-clause-serves
@@ -71,26 +77,33 @@ returns-in-Err-clause-serves g c =
     let so = c.reads.invariant.so_far in
     let n = c.in_ok-n.n in
     let within = c.in_ok-n.ensures.within in
-    let P : ℕ → Type 0 = λ code. SendsRefusal (g.W.Write.contents c.reads.writer.inner) (g.W.Write.contents c.send_refusal.new.writer.inner) code c.send_refusal.result in
-    (so.0, so.1, serves-starved (g.R.Read.remaining c.args.reader.now.inner) (g.R.Read.remaining c.reads.reader.inner) (g.R.Read.remaining c.read_piece.new.self.inner) (g.W.Write.contents c.args.writer.now.inner) (g.W.Write.contents c.reads.writer.inner) (g.W.Write.contents c.send_refusal.new.writer.inner) so.0
-    c.reads.intake c.reads.connection (take n c.read_piece.new.piece) c.send_refusal.result so.2 c.in_ok-n.ensures.bytes (omega (arith, length-take n c.read_piece.new.piece)) (subst P c.code.ensures c.send_refusal.ensures.sends))
+    let P : ℕ → Type 0 = λ code. SendsRefusal (g.W.Write.contents c.reads.writer.inner) (g.W.Write.contents c.send_refusal.new.writer.inner) code c.send_refusal.result in (
+      so.0,
+      so.1,
+      serves-starved (g.R.Read.remaining c.args.reader.now.inner) (g.R.Read.remaining c.reads.reader.inner) (g.R.Read.remaining c.read_piece.new.self.inner) (g.W.Write.contents c.args.writer.now.inner) (g.W.Write.contents c.reads.writer.inner) (g.W.Write.contents c.send_refusal.new.writer.inner) so.0
+          c.reads.intake c.reads.connection (take n c.read_piece.new.piece) c.send_refusal.result so.2 c.in_ok-n.ensures.bytes (omega (arith, length-take n c.read_piece.new.piece)) (subst P c.code.ensures c.send_refusal.ensures.sends),
+    )
 
 pub returns-in-Ok-Some-clause-serves : goal.returns-in-Ok-Some-clause-serves
 returns-in-Ok-Some-clause-serves g c =
     let so = c.reads.invariant.so_far in
     let fed = serves-fed (g.R.Read.remaining c.args.reader.now.inner) (g.R.Read.remaining c.reads.reader.inner) (g.R.Read.remaining c.read_piece.new.self.inner) (g.W.Write.contents c.args.writer.now.inner) (g.W.Write.contents c.reads.writer.inner) so.0
     c.reads.intake c.feed.new.self c.reads.connection (take c.in_ok-n.n c.read_piece.new.piece) so.2 c.in_ok-n.ensures.bytes c.in-Ok.ensures.ok in
-    let drained = rw c.in-Ok-Some.field-0-is at c.in-Ok-Some.ensures.drained in
-    (so.0 ++ drained.0, g.met.C.Clock.gave_more _ _ _ _ _ so.1 drained.1,
-    serves-ended (g.R.Read.remaining c.args.reader.now.inner) (g.R.Read.remaining c.read_piece.new.self.inner) (g.W.Write.contents c.args.writer.now.inner) (g.W.Write.contents c.reads.writer.inner) (g.W.Write.contents c.answer_waiting.new.writer.inner) so.0 drained.0
-    c.feed.new.self c.reads.connection c.in-Ok-Some.served (sees c.answer_waiting.new.intake c.answer_waiting.new.connection) c.answer_waiting.new.intake.waiting fed drained.2)
+    let drained = rw c.in-Ok-Some.field-0-is at c.in-Ok-Some.ensures.drained in (
+      so.0 ++ drained.0,
+      g.met.C.Clock.gave_more _ _ _ _ _ so.1 drained.1,
+      serves-ended (g.R.Read.remaining c.args.reader.now.inner) (g.R.Read.remaining c.read_piece.new.self.inner) (g.W.Write.contents c.args.writer.now.inner) (g.W.Write.contents c.reads.writer.inner) (g.W.Write.contents c.answer_waiting.new.writer.inner) so.0 drained.0
+          c.feed.new.self c.reads.connection c.in-Ok-Some.served (sees c.answer_waiting.new.intake c.answer_waiting.new.connection) c.answer_waiting.new.intake.waiting fed drained.2,
+    )
 
 pub returns-in-Err-answer_waiting-clause-serves : goal.returns-in-Err-answer_waiting-clause-serves
 returns-in-Err-answer_waiting-clause-serves g c =
     let so = c.reads.invariant.so_far in
     let fed = serves-fed (g.R.Read.remaining c.args.reader.now.inner) (g.R.Read.remaining c.reads.reader.inner) (g.R.Read.remaining c.read_piece.new.self.inner) (g.W.Write.contents c.args.writer.now.inner) (g.W.Write.contents c.reads.writer.inner) so.0
     c.reads.intake c.feed.new.self c.reads.connection (take c.in_ok-n.n c.read_piece.new.piece) so.2 c.in_ok-n.ensures.bytes c.in-Ok.ensures.ok in
-    let drained = c.in-Err-answer_waiting.ensures.drained in
-    (so.0 ++ drained.0, g.met.C.Clock.gave_more _ _ _ _ _ so.1 drained.1,
-    serves-failed (g.R.Read.remaining c.args.reader.now.inner) (g.R.Read.remaining c.read_piece.new.self.inner) (g.W.Write.contents c.args.writer.now.inner) (g.W.Write.contents c.reads.writer.inner) (g.W.Write.contents c.answer_waiting.new.writer.inner) so.0 drained.0
-    c.feed.new.self c.reads.connection c.in-Err-answer_waiting.fault (sees c.answer_waiting.new.intake c.answer_waiting.new.connection) c.answer_waiting.new.intake.waiting fed drained.2)
+    let drained = c.in-Err-answer_waiting.ensures.drained in (
+      so.0 ++ drained.0,
+      g.met.C.Clock.gave_more _ _ _ _ _ so.1 drained.1,
+      serves-failed (g.R.Read.remaining c.args.reader.now.inner) (g.R.Read.remaining c.read_piece.new.self.inner) (g.W.Write.contents c.args.writer.now.inner) (g.W.Write.contents c.reads.writer.inner) (g.W.Write.contents c.answer_waiting.new.writer.inner) so.0 drained.0
+          c.feed.new.self c.reads.connection c.in-Err-answer_waiting.fault (sees c.answer_waiting.new.intake c.answer_waiting.new.connection) c.answer_waiting.new.intake.waiting fed drained.2,
+    )

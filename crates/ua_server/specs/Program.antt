@@ -1,0 +1,73 @@
+-- What a run of the program prints, and its exit status.
+use Rattle.std.specs.Prelude.{◌≡◌, ℕ, ℤ, List, [], ◌∷◌, ◌++◌, Option, None, Some, Result, Ok, Err, true, false}
+use Rattle.std.specs.Io.KnownBytes.{Appends}
+use Rattle.hex.specs.Hex.{encode_upper}
+use Rattle.ua_server.specs.declared.outcome.Served.{Served}
+use Rattle.ua_server.specs.declared.outcome.ServeFault.{ServeFault}
+use Rattle.ua_server.specs.declared.outcome.ServeFault.TheVariants.{Read, Write, TooLong, OutOfMemory}
+use Rattle.ua_server.specs.declared.program.ProgramFault.{ProgramFault}
+use Rattle.ua_server.specs.declared.program.ProgramFault.TheVariants.{Line, BadHex, Connection}
+use Rattle.ua_server.specs.Bytes.{AppendsPart}
+use Rattle.ua_server.specs.Replies.{Ending}
+use Rattle.ua_server.specs.Hexed.{AnswersText}
+use Rattle.ua_server.specs.Serving.{Serves}
+use Rattle.clap.specs.Words.{Row, Text}
+use Rattle.ua_server.specs.declared.line.Line.{Line as CommandLine}
+use Rattle.ua_server.specs.declared.line.Line.TheVariants.{Answer}
+use Rattle.ua_server.specs.Line.{IsLine}
+
+abbrev pub fault_status : ProgramFault → ℕ
+fault_status (Line fault) = 2
+fault_status BadHex = 2
+fault_status (Connection fault) = 1
+
+abbrev pub status_of : Result (Unit {0}) ProgramFault → ℕ
+status_of (Ok done) = 0
+status_of (Err fault) = fault_status fault
+
+-- a connection ended so
+abbrev pub EndsAs : (Ending → Type 0) → Result (Unit {0}) ProgramFault → Type 0
+EndsAs P (Ok done) = (served : Served) × P (Ok served)
+EndsAs P (Err (Line fault)) = ⊥
+EndsAs P (Err BadHex) = ⊥
+EndsAs P (Err (Connection fault)) = P (Err fault)
+
+-- where the input is known, these are the digits of the whole answer to the connection that it spells
+abbrev pub AnswersDigits : Option (List ℕ) → List ℤ → List ℕ → Type 0
+AnswersDigits None readings digits = Unit {0}
+AnswersDigits (Some text) readings digits = (out : List ℕ) × (served : Served) × AnswersText text readings out (Ok served) × (digits ≡ encode_upper out)
+
+-- a fault before anything is printed
+abbrev pub IsUnprinted : ProgramFault → Type 0
+IsUnprinted (Line fault) = ⊥
+IsUnprinted BadHex = Unit {0}
+IsUnprinted (Connection Read) = Unit {0}
+IsUnprinted (Connection Write) = ⊥
+IsUnprinted (Connection TooLong) = Unit {0}
+IsUnprinted (Connection OutOfMemory) = Unit {0}
+
+-- the digits of the whole answer and a line end were printed, a first part of them where the writer failed, else nothing
+abbrev pub PrintsHex : Option (List ℕ) → Option (List ℕ) → Option (List ℕ) → List ℤ → Result (Unit {0}) ProgramFault → Type 0
+PrintsHex input old written readings (Ok done) = (digits : List ℕ) × AnswersDigits input readings digits × Appends old written (digits ++ 10 ∷ [])
+PrintsHex input old written readings (Err (Line fault)) = ⊥
+PrintsHex input old written readings (Err BadHex) = written ≡ old
+PrintsHex input old written readings (Err (Connection Read)) = written ≡ old
+PrintsHex input old written readings (Err (Connection Write)) = (digits : List ℕ) × AnswersDigits input readings digits × AppendsPart old written (digits ++ 10 ∷ [])
+PrintsHex input old written readings (Err (Connection TooLong)) = written ≡ old
+PrintsHex input old written readings (Err (Connection OutOfMemory)) = written ≡ old
+
+-- what each command does
+abbrev pub DoesLine : CommandLine → Option (List ℕ) → Option (List ℕ) → Option (List ℕ) → List ℤ → Result (Unit {0}) ProgramFault → Type 0
+DoesLine (Answer false) input old written readings result = EndsAs (Serves input old written readings) result
+DoesLine (Answer true) input old written readings result = PrintsHex input old written readings result
+
+-- what the command does that the matches name
+abbrev pub DoesMatches : Option (Text × List Row) → Option (List ℕ) → Option (List ℕ) → Option (List ℕ) → List ℤ → Result (Unit {0}) ProgramFault → Type 0
+DoesMatches matches input old written readings result = (line : CommandLine) × IsLine matches line × DoesLine line input old written readings result
+
+-- a run by the matches of a command line, which prints nothing where that is refused
+abbrev pub Runs : Option (Text × List Row) → Option (List ℕ) → Option (List ℕ) → Option (List ℕ) → List ℤ → Result (Unit {0}) ProgramFault → Type 0
+Runs matches input old written readings (Ok done) = DoesMatches matches input old written readings (Ok done)
+Runs matches input old written readings (Err (Line fault)) = written ≡ old
+Runs matches input old written readings (Err BadHex) = DoesMatches matches input old written readings (Err BadHex)
+Runs matches input old written readings (Err (Connection fault)) = DoesMatches matches input old written readings (Err (Connection fault))

@@ -1,0 +1,68 @@
+//! The command line.
+
+ghost use Rattle.std.specs.Prelude.{◌≡◌, map, IfOk};
+ghost use Rattle.clap.specs.Words.{app_of, subcommand_of};
+ghost use Rattle.ua_server.specs.Line.{IsLine, uahist};
+
+use clap::error::ErrorKind;
+use clap::{Arg, ArgAction, Command};
+use std::alloc::{AllocError, Global};
+use std::convert::AsStr;
+use thiserror::Error;
+
+/// What the program is asked to do.
+#[derive(Clone, Copy, Debug, PartialEq, Eq)]
+pub enum Line {
+    /// Answer one connection from standard input to standard output, both in hex digits where `hex` is set.
+    Answer { hex: bool },
+}
+
+/// Why a command line is no command.
+#[derive(Clone, Copy, Debug, PartialEq, Eq, Error)]
+pub enum LineFault {
+    /// The words are no command of the program's, or ask for help.
+    #[error("usage: uahist answer [--hex]")]
+    Words,
+    /// Memory ran out.
+    #[error("memory ran out before the command began")]
+    OutOfMemory,
+}
+
+/// The program's commands and their options.
+fn command<'a>(alloc: Global) -> Result<Command<'a>, AllocError>
+    ensures { IfOk result (λ command. app_of command ≡ uahist) }
+{
+    let hex = Arg::new(alloc, "hex")
+        .long("hex")
+        .action(ArgAction::SetTrue);
+    let answer = Command::new(alloc, "answer").arg(hex)?;
+    let whole = Command::new(alloc, "uahist").subcommand(answer)?;
+    Ok(whole)
+}
+
+/// Reads a command line, the program's name first, as `clap` reads it.
+///
+/// `Ok` has the command that `clap`'s matches name and the values that they give for it. Errors: `Words` where `clap`
+/// refuses the words or they name no command, `OutOfMemory` where memory ran out.
+pub fn read_line<'a, S: AsStr>(alloc: Global, words: &'a [S]) -> Result<Line, LineFault>
+    ensures { IfOk result (IsLine (subcommand_of uahist (map S.text words.now))) }
+{
+    let Ok(command) = command(alloc) else {
+        return Err(LineFault::OutOfMemory);
+    };
+    let matches = match command.try_get_matches_from(words) {
+        Ok(matches) => matches,
+        Err(error) => {
+            return Err(match error.kind() {
+                ErrorKind::OutOfMemory => LineFault::OutOfMemory,
+                _ => LineFault::Words,
+            });
+        }
+    };
+    match matches.subcommand_matches("answer") {
+        None => Err(LineFault::Words),
+        Some(answer) => Ok(Line::Answer {
+            hex: answer.get_flag("hex"),
+        }),
+    }
+}

@@ -1,0 +1,166 @@
+//! The program, over any reader and writers.
+
+ghost use Rattle.std.specs.Prelude.{◌≡◌, ◌+◌, ℕ, ℤ, List, [], ◌∷◌, ◌++◌, IfOk, IfErr, OnOk, IsErrOf, map};
+ghost use Rattle.std.specs.Io.KnownBytes.{Appends, Consumes, IsAtEnd};
+ghost use Rattle.ua_server.specs.Bytes.{counted, AppendsPart};
+ghost use Rattle.ua_server.specs.Serving.{Serves};
+ghost use Rattle.ua_server.specs.Program.{status_of, EndsAs, AnswersDigits, IsUnprinted, PrintsHex, Runs};
+ghost use Rattle.clap.specs.Words.{subcommand_of};
+ghost use Rattle.ua_server.specs.Line.{uahist};
+
+use crate::clock::Clock;
+use crate::counted::Counted;
+use crate::hexed::{HexFault, answer_hex};
+use crate::line::{Line, LineFault, read_line};
+use crate::outcome::ServeFault;
+use crate::server::Server;
+use crate::serving::serve;
+use std::alloc::Global;
+use std::convert::AsStr;
+use std::io::{Read, Write};
+use thiserror::Error;
+
+/// What went wrong in a run of the program.
+#[derive(Clone, Copy, Debug, PartialEq, Eq, Error)]
+pub enum ProgramFault {
+    /// The command line is no command.
+    #[error("{0}")]
+    Line(LineFault),
+    /// The input isn't hex.
+    #[error("bad hex")]
+    BadHex,
+    /// A connection met a fault.
+    #[error("connection ended ({})", .0.number())]
+    Connection(ServeFault),
+}
+
+/// The bytes that one read of a text asks for.
+const PIECE: usize = 4096;
+
+/// All bytes that the reader has.
+fn read_all<R: Read>(alloc: Global, input: &mut Counted<R>) -> Result<Vec<u8>, ServeFault>
+    ensures bytes { IfOk result (λ bytes. Consumes (R.remaining input.old.inner) (R.remaining input.new.inner) bytes.items × IsAtEnd (R.remaining input.new.inner)) }
+    ensures read { IsErrOf result ServeFault.Read → input.new.faults ≡ counted input.old.faults }
+    ensures no_write { IsErrOf result ServeFault.Write → ⊥ }
+{
+    let mut bytes = Vec::new(alloc);
+    let mut piece = [0u8; PIECE];
+    'pieces: loop {
+        let n = input.read_piece(&mut piece)?;
+        if n == 0 {
+            return Ok(bytes);
+        }
+        if bytes.extend_from_slice(&piece[..n]).is_err() {
+            return Err(ServeFault::OutOfMemory);
+        }
+    }
+}
+
+/// Answers one connection.
+fn answer<R: Read, W: Write, C: Clock>(
+    alloc: Global,
+    input: &mut Counted<R>,
+    output: &mut Counted<W>,
+    clock: &mut C,
+) -> Result<(), ProgramFault>
+    ensures { (readings : List ℤ) × C.gave clock.old readings clock.new × EndsAs (Serves (R.remaining input.old.inner) (W.contents output.old.inner) (W.contents output.new.inner) readings) result }
+{
+    let mut server = Server::new();
+    match serve(alloc, input, output, &mut server, clock) {
+        Ok(_) => Ok(()),
+        Err(fault) => Err(ProgramFault::Connection(fault)),
+    }
+}
+
+/// The answer in hex digits to the connection in hex digits that the reader has.
+fn hex_answer<R: Read, C: Clock>(
+    alloc: Global,
+    input: &mut Counted<R>,
+    clock: &mut C,
+) -> Result<Vec<u8>, ProgramFault>
+    ensures digits { (readings : List ℤ) × C.gave clock.old readings clock.new × IfOk result (λ digits. AnswersDigits (R.remaining input.old.inner) readings digits.items) }
+    ensures fault { IfErr result IsUnprinted }
+{
+    let bytes = match read_all(alloc, input) {
+        Ok(bytes) => bytes,
+        Err(fault) => return Err(ProgramFault::Connection(fault)),
+    };
+    let Ok(text) = std::str::from_utf8(bytes.as_slice()) else {
+        return Err(ProgramFault::BadHex);
+    };
+    let mut digits = Vec::new(alloc);
+    let mut server = Server::new();
+    match answer_hex(alloc, text, &mut digits, &mut server, clock) {
+        Ok(_) => Ok(digits),
+        Err(HexFault::BadHex) => Err(ProgramFault::BadHex),
+        Err(HexFault::Serve(fault)) => Err(ProgramFault::Connection(fault)),
+    }
+}
+
+/// Writes a line.
+fn print_line<W: Write>(line: &[u8], output: &mut Counted<W>) -> Result<(), ServeFault>
+    ensures ok { OnOk result (Appends (W.contents output.old.inner) (W.contents output.new.inner) (line.now ++ 10 ∷ [])) }
+    ensures part { IfErr result (λ fault. (fault ≡ ServeFault.Write) × AppendsPart (W.contents output.old.inner) (W.contents output.new.inner) (line.now ++ 10 ∷ [])) }
+{
+    match output.send(line) {
+        Ok(()) => {}
+        Err(fault) => return Err(fault),
+    }
+    match output.send(b"\n") {
+        Ok(()) => Ok(()),
+        Err(fault) => Err(fault),
+    }
+}
+
+/// Answers one connection in hex digits, and ends the line.
+fn answer_in_hex<R: Read, W: Write, C: Clock>(
+    alloc: Global,
+    input: &mut Counted<R>,
+    output: &mut Counted<W>,
+    clock: &mut C,
+) -> Result<(), ProgramFault>
+    ensures { (readings : List ℤ) × C.gave clock.old readings clock.new × PrintsHex (R.remaining input.old.inner) (W.contents output.old.inner) (W.contents output.new.inner) readings result }
+{
+    let digits = hex_answer(alloc, input, clock)?;
+    match print_line(digits.as_slice(), output) {
+        Ok(()) => Ok(()),
+        Err(fault) => Err(ProgramFault::Connection(fault)),
+    }
+}
+
+/// Does what a command line asks for.
+///
+/// Errors: `Line` where the words are no command, `BadHex` where the input is to be hex and isn't, `Connection` where the
+/// connection met a fault; what went out before it stands.
+pub fn run<S: AsStr, R: Read, W: Write, C: Clock>(
+    alloc: Global,
+    words: &[S],
+    input: &mut Counted<R>,
+    output: &mut Counted<W>,
+    clock: &mut C,
+) -> Result<(), ProgramFault>
+    ensures { (readings : List ℤ) × C.gave clock.old readings clock.new
+        × Runs (subcommand_of uahist (map S.text words.now)) (R.remaining input.old.inner) (W.contents output.old.inner) (W.contents output.new.inner) readings result }
+{
+    match read_line(alloc, words) {
+        Ok(Line::Answer { hex: false }) => answer(alloc, input, output, clock),
+        Ok(Line::Answer { hex: true }) => answer_in_hex(alloc, input, output, clock),
+        Err(fault) => Err(ProgramFault::Line(fault)),
+    }
+}
+
+/// Tells on `errors` what went wrong, in a line that begins with `uahist: `, and answers the exit status: 0 where nothing
+/// did, 1 where a connection ended by a fault, 2 where the command line or the input was refused. A line that can't be
+/// written is left out.
+pub fn report<W: Write>(ending: Result<(), ProgramFault>, errors: &mut W) -> u8
+    ensures { result ≡ status_of ending }
+{
+    let Err(fault) = ending else {
+        return 0;
+    };
+    let _ = writeln!(errors, "uahist: {fault}");
+    match fault {
+        ProgramFault::Line(_) | ProgramFault::BadHex => 2,
+        ProgramFault::Connection(_) => 1,
+    }
+}
