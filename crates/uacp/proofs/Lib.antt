@@ -1,0 +1,3 @@
+pub mod Cuts
+pub mod Streams
+pub mod Greetings

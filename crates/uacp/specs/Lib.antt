@@ -1,0 +1,5 @@
+pub mod Fault
+pub mod Greeting
+pub mod Chunks
+pub mod Held
+pub mod Stream
