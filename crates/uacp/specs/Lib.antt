@@ -1,5 +1,6 @@
 pub mod Fault
 pub mod Greeting
 pub mod Chunks
-pub mod Held
 pub mod Stream
+pub mod Held
+pub mod Run
