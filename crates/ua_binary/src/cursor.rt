@@ -207,9 +207,7 @@ impl<'a> Cursor<'a> {
         }
         let (b, rest) = self.bytes.split_at(8);
         self.bytes = rest;
-        Ok(u64::from_le_bytes([
-            b[0], b[1], b[2], b[3], b[4], b[5], b[6], b[7],
-        ]))
+        Ok(u64::from_le_bytes([b[0], b[1], b[2], b[3], b[4], b[5], b[6], b[7]]))
     }
 
     #[tactic(auto, unfolding(crate::specs::Binary::signed, crate::specs::Binary::unsigned))]
@@ -313,7 +311,7 @@ impl<'a> Cursor<'a> {
     }
 }
 
-#[tactic(auto, using(crate::proofs::Text::tested))]
+#[tactic(auto, using(crate::proofs::Utf8::tested))]
 fn utf8(bytes: &[u8]) -> Option<&str>
     ensures { MatchOption result (is_text (Some bytes.now) ≡ false) (λ s. (s.now ≡ bytes.now) × (is_text (Some s.now) ≡ true)) }
 {

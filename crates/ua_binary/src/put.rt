@@ -7,7 +7,9 @@ ghost use Rattle.ua_binary.specs.Format.{Puts, PutsPart, byte, block};
 ghost use Rattle.ua_binary.specs.Binary.{unsigned, signed, sbyte, boolean, byte_string, text, guid, node_id, localized, qualified, extension, IsCounted, IsBody, IsShortNode, IsShortLocalized};
 
 use crate::fault::BinaryFault;
-use crate::values::{Body, Bytes, ExtensionObject, Guid, LocalizedText, NodeId, QualifiedName, Text};
+use crate::values::{
+    Body, Bytes, ExtensionObject, Guid, LocalizedText, NodeId, QualifiedName, Text,
+};
 
 pub fn put_u8(out: &mut Vec<u8>, v: u8) -> Result<(), BinaryFault>
     ensures { Puts BinaryFault.OutOfMemory result out.old.items out.new.items (byte.canon v) }
