@@ -266,7 +266,7 @@ impl<'a> Cursor<'a> {
         ensures { Reads extension_of result self.old self.new extension.read }
     {
         let mut next = self.fork();
-        let kind = next.node_id()?;
+        let type_id = next.node_id()?;
         let body = match next.u8()? {
             0 => BodyRef::Absent,
             1 => BodyRef::Binary(next.bytes()?.unwrap_or(&[])),
@@ -274,7 +274,7 @@ impl<'a> Cursor<'a> {
             _ => return Err(BinaryFault::BadEncodingByte),
         };
         *self = next;
-        Ok(ExtensionRef { kind, body })
+        Ok(ExtensionRef { type_id, body })
     }
 
     #[tactic(auto, unfolding(crate::specs::Binary::node_id))]
