@@ -1,23 +1,15 @@
 -- The greeting's formats are lawful, and a Hello is read where it is spelled.
-use Rattle.std.proofs.Common.{◌≡◌, ℕ, List, length, codes, Bool, true, false, cond, eqb, Result, Ok, Err, refl, ap}
+use Rattle.std.proofs.Common.{◌≡◌, ℕ, List, length, Bool, true, false, cond, eqb, Result, Ok, Err, refl, ap}
 use Rattle.std.specs.Prelude.{◌↔◌}
-use Rattle.std.specs.Int.{w32}
 use Rattle.ua_binary.specs.Format.{Reading, IsLawful, IsPrefixFree, raised, with_fault, ◌>>=◌}
-use Rattle.ua_binary.specs.Binary.{unsigned}
-use Rattle.ua_binary.proofs.Combined.{block_lawful, then_lawful, standing_lawful, passing_lawful, raised_lawful}
+use Rattle.ua_binary.proofs.Combined.{exactly_lawful, then_lawful, standing_lawful, raised_lawful}
 use Rattle.ua_binary.proofs.Lawful.{u32_lawful, text_lawful}
 use Rattle.ua_binary.proofs.Spelled.{prefix_free, whole_found, whole_only}
 use Rattle.ua_binary.specs.declared.fault.BinaryFault.{BinaryFault}
 use Rattle.uacp.specs.declared.types.UacpFault.{UacpFault}
 use Rattle.uacp.specs.declared.types.UacpFault.TheVariants.{HelloInvalid}
 use Rattle.uacp.specs.declared.greeting.Hello.{Hello}
-use Rattle.uacp.specs.Greeting.{hello, hello_at, acknowledge, error, exactly, number}
-
-exactly_lawful : (word : List ℕ) → IsLawful (exactly word)
-exactly_lawful word = standing_lawful _ _ (passing_lawful _ _ (block_lawful (length word)))
-
-number_lawful : (n : ℕ) → IsLawful (number n)
-number_lawful n = exactly_lawful ((unsigned w32).canon n)
+use Rattle.uacp.specs.Greeting.{hello, hello_at, acknowledge, error}
 
 pub hello_lawful : IsLawful hello
 unfolding hello
@@ -25,12 +17,12 @@ hello_lawful = standing_lawful _ _ (then_lawful u32_lawful (then_lawful u32_lawf
 
 pub acknowledge_lawful : IsLawful acknowledge
 unfolding acknowledge
-acknowledge_lawful = standing_lawful _ _ (then_lawful (exactly_lawful (codes "ACKF")) (then_lawful (number_lawful 28) (then_lawful (number_lawful 0)
-    (then_lawful u32_lawful (then_lawful u32_lawful (then_lawful (number_lawful 4194304) (number_lawful 64)))))))
+acknowledge_lawful = standing_lawful _ _ (then_lawful (exactly_lawful _ _) (then_lawful (exactly_lawful _ _) (then_lawful (exactly_lawful _ _)
+    (then_lawful u32_lawful (then_lawful u32_lawful (then_lawful (exactly_lawful _ _) (exactly_lawful _ _)))))))
 
 pub error_lawful : IsLawful error
 unfolding error
-error_lawful = standing_lawful _ _ (then_lawful (exactly_lawful (codes "ERRF")) (then_lawful (number_lawful 16) (then_lawful u32_lawful (number_lawful 4294967295))))
+error_lawful = standing_lawful _ _ (then_lawful (exactly_lawful _ _) (then_lawful (exactly_lawful _ _) (then_lawful u32_lawful (exactly_lawful _ _))))
 
 pub hello_alone : IsPrefixFree hello
 hello_alone = prefix_free hello_lawful

@@ -1,5 +1,5 @@
 -- Whole runs of an intake's calls keep the stream.
-use Rattle.std.proofs.Common.{◌≡◌, ◌≢◌, ℕ, zero, suc, ◌+◌, ◌≤◌, Bool, true, false, List, [], ◌∷◌, ◌++◌, length, take, drop, Some, None, Ok, Err, refl, sym, ◌∙◌, ap, subst, arith, append_assoc}
+use Rattle.std.proofs.Common.{◌≡◌, ◌≢◌, ℕ, ◌+◌, ◌≤◌, Bool, true, false, List, [], ◌∷◌, ◌++◌, length, take, drop, Some, None, Ok, Err, refl, sym, ◌∙◌, ap, subst, append_assoc}
 use Rattle.std.specs.Prelude.{Option, Result}
 use Rattle.std.proofs.lemmas.List.{take-append-drop, append-nil}
 use Rattle.uacp.specs.declared.types.Header.{Header}
@@ -138,7 +138,7 @@ story (Gave piece ∷ events) held held' none run =
     let P : Held → Type 0 = λ h. Runs h events held' in
     let later = story events now held' none (subst P between run.2) in
     let apart : held.waiting ++ fed_of events ≡ take header.size held.waiting ++ (drop header.size held.waiting ++ fed_of events) =
-        ap (λ bytes. bytes ++ fed_of events) (sym (take-append-drop header.size held.waiting)) ∙ append_assoc (take header.size held.waiting) (drop header.size held.waiting) (fed_of events) in
+    ap (λ bytes. bytes ++ fed_of events) (sym (take-append-drop header.size held.waiting)) ∙ append_assoc (take header.size held.waiting) (drop header.size held.waiting) (fed_of events) in
     record {
       chunks = (take header.size held.waiting, drop header.size held.waiting ++ fed_of events, apart, given_chunk held piece none run.1.0, later.chunks);
       greeted = later.greeted;

@@ -5,8 +5,7 @@ ghost use Rattle.ua_binary.specs.Format.{Reads, Puts, PutsPart};
 ghost use Rattle.uacp.specs.Greeting.{hello, hello_at, ack_of, acknowledge, error};
 
 use crate::types::UacpFault;
-use ua_binary::put::{or_undone, put_block, put_u32};
-use ua_binary::{BinaryFault, Cursor};
+use ua_binary::{BinaryFault, Cursor, or_undone, put_block, put_u32};
 
 /// What a client asks for (Part 6, 7.1.2.3). Its URL is not kept.
 #[derive(Clone, Copy, Debug, PartialEq, Eq)]

@@ -4,7 +4,6 @@ ghost use Rattle.std.specs.Prelude.{◌≡◌, ◌↔◌, List, ℕ};
 ghost use Rattle.ua_binary.specs.Format.{IsLawful, IsPrefixFree};
 ghost use Rattle.uacp.specs.declared.greeting.Hello.{Hello};
 ghost use Rattle.uacp.specs.Greeting.{hello, hello_at, acknowledge, error};
-
 ghost use Rattle.std.specs.Prelude.{◌≤◌, ◌++◌, [], ◌∷◌, Option, false, length};
 ghost use Rattle.uacp.specs.declared.types.UacpFault.{UacpFault as Fault};
 ghost use Rattle.uacp.specs.Stream.{Piece, AreChunks, Splits};
