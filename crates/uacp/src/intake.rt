@@ -1,6 +1,6 @@
 //! A byte stream, fed in pieces and given out in chunks.
 
-ghost use Rattle.std.specs.Prelude.{◌≡◌, ◌++◌, [], None, false, OnOk, IfErr};
+ghost use Rattle.std.specs.Prelude.{◌≡◌, OnOk, IfErr};
 
 use crate::cutting::first_header;
 use crate::types::{Chunk, UacpFault};
@@ -34,14 +34,15 @@ impl Model for Intake {
 }
 
 impl Intake {
-    ghost use Rattle.uacp.specs.Held.{Held, next_of, after_next, Gives};
+    ghost use Rattle.uacp.specs.Held.{fresh, next_of, after_next, Gives};
+    ghost use Rattle.uacp.specs.Run.{Fed, Limited, Does};
     ghost use Rattle.uacp.specs.contracts.intake.Intake.{the_row};
     ghost use Rattle.std.specs.Borrow.{sem};
     ghost use Rattle.std.specs.Io.BufRead.{Rests};
 
     /// Nothing fed yet, and 65,536 bytes as the limit. It takes no memory.
     pub fn new(alloc: Global) -> Self
-        ensures { result ≡ record { waiting = []; greeted = false; limit = 65536; failed = None } }
+        ensures { result ≡ fresh }
     {
         Intake {
             bytes: Vec::new(alloc),
@@ -55,14 +56,14 @@ impl Intake {
     /// Sets the greatest size of the chunks that are judged from now on, a Hello aside: the receive size of the
     /// Acknowledge, in bytes with the header.
     pub fn set_limit(&mut self, receive_size: u32)
-        ensures { self.new ≡ record self.old { limit = receive_size } }
+        ensures { Does self.old (Limited receive_size) self.new }
     {
         self.limit = receive_size;
     }
 
     /// Takes the next piece of the stream. The one error is `OutOfMemory`, which changes nothing.
     pub fn feed(&mut self, piece: &[u8]) -> Result<(), UacpFault>
-        ensures ok { OnOk result (self.new ≡ record self.old { waiting = self.old.waiting ++ piece.now }) }
+        ensures ok { OnOk result (Does self.old (Fed piece.now) self.new) }
         ensures err { IfErr result (λ fault. (fault ≡ UacpFault.OutOfMemory) × (self.new ≡ self.old)) }
     {
         // What was given out goes once it is half of the bytes, so that each byte is moved a bounded number of times.
