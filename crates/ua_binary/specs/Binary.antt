@@ -153,7 +153,7 @@ body_of (held.Binary b) = Binary b.now
 body_of (held.Xml b) = Xml b.now
 
 abbrev pub extension_of : ExtensionRef → ExtensionObject
-extension_of r = record { kind = node_of r.kind; body = body_of r.body }
+extension_of r = record { type_id = node_of r.type_id; body = body_of r.body }
 
 abbrev pub body_form : ℕ → Format BinaryFault Body
 body_form kind =
@@ -176,7 +176,7 @@ abbrev pub body : Format BinaryFault Body
 body = fitting IsBody (headed body_kind byte body_form)
 
 unfoldable pub extension : Format BinaryFault ExtensionObject
-extension = standing_for (λ p. record { kind = p.0; body = p.1 }) (λ v. (v.kind, v.body)) (node_id ▸ body)
+extension = standing_for (λ p. record { type_id = p.0; body = p.1 }) (λ v. (v.type_id, v.body)) (node_id ▸ body)
 
 -- ---- arrays
 

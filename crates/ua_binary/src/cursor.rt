@@ -207,9 +207,7 @@ impl<'a> Cursor<'a> {
         }
         let (b, rest) = self.bytes.split_at(8);
         self.bytes = rest;
-        Ok(u64::from_le_bytes([
-            b[0], b[1], b[2], b[3], b[4], b[5], b[6], b[7],
-        ]))
+        Ok(u64::from_le_bytes([b[0], b[1], b[2], b[3], b[4], b[5], b[6], b[7]]))
     }
 
     #[tactic(auto, unfolding(crate::specs::Binary::signed, crate::specs::Binary::unsigned))]
@@ -268,7 +266,7 @@ impl<'a> Cursor<'a> {
         ensures { Reads extension_of result self.old self.new extension.read }
     {
         let mut next = self.fork();
-        let kind = next.node_id()?;
+        let type_id = next.node_id()?;
         let body = match next.u8()? {
             0 => BodyRef::Absent,
             1 => BodyRef::Binary(next.bytes()?.unwrap_or(&[])),
@@ -276,7 +274,7 @@ impl<'a> Cursor<'a> {
             _ => return Err(BinaryFault::BadEncodingByte),
         };
         *self = next;
-        Ok(ExtensionRef { kind, body })
+        Ok(ExtensionRef { type_id, body })
     }
 
     #[tactic(auto, unfolding(crate::specs::Binary::node_id))]
@@ -313,7 +311,7 @@ impl<'a> Cursor<'a> {
     }
 }
 
-#[tactic(auto, using(crate::proofs::Text::tested))]
+#[tactic(auto, using(crate::proofs::Utf8::tested))]
 fn utf8(bytes: &[u8]) -> Option<&str>
     ensures { MatchOption result (is_text (Some bytes.now) ≡ false) (λ s. (s.now ≡ bytes.now) × (is_text (Some s.now) ≡ true)) }
 {

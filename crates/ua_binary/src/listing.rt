@@ -28,7 +28,9 @@ impl<T> Listing<T> {
     pub fn new(alloc: Global) -> Listing<T>
         ensures { result ≡ [] }
     {
-        Listing { inner: Vec::new(alloc) }
+        Listing {
+            inner: Vec::new(alloc),
+        }
     }
 
     pub fn of(inner: Vec<T>) -> Listing<T>
@@ -61,6 +63,8 @@ impl<T: Clone> Listing<T> {
     pub fn try_clone(&self) -> Result<Listing<T>, AllocError>
         ensures { IfOk result (λ l. AllZip T.is_clone self.now l) }
     {
-        Ok(Listing { inner: self.inner.clone()? })
+        Ok(Listing {
+            inner: self.inner.clone()?,
+        })
     }
 }

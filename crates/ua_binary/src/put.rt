@@ -7,7 +7,9 @@ ghost use Rattle.ua_binary.specs.Format.{Puts, PutsPart, byte, block};
 ghost use Rattle.ua_binary.specs.Binary.{unsigned, signed, sbyte, boolean, byte_string, text, guid, node_id, localized, qualified, extension, IsCounted, IsBody, IsShortNode, IsShortLocalized};
 
 use crate::fault::BinaryFault;
-use crate::values::{Body, Bytes, ExtensionObject, Guid, LocalizedText, NodeId, QualifiedName, Text};
+use crate::values::{
+    Body, Bytes, ExtensionObject, Guid, LocalizedText, NodeId, QualifiedName, Text,
+};
 
 pub fn put_u8(out: &mut Vec<u8>, v: u8) -> Result<(), BinaryFault>
     ensures { Puts BinaryFault.OutOfMemory result out.old.items out.new.items (byte.canon v) }
@@ -268,10 +270,10 @@ pub fn put_qualified(out: &mut Vec<u8>, v: &QualifiedName) -> Result<(), BinaryF
 
 #[tactic(auto, using(crate::proofs::Kept::kept), unfolding(crate::specs::Binary::extension))]
 fn put_extension_parts(out: &mut Vec<u8>, v: &ExtensionObject) -> Result<(), BinaryFault>
-    requires { IsShortNode v.now.kind × IsBody v.now.body }
+    requires { IsShortNode v.now.type_id × IsBody v.now.body }
     ensures { PutsPart BinaryFault.OutOfMemory result out.old.items out.new.items (extension.canon v.now) }
 {
-    put_node_id(out, &v.kind)?;
+    put_node_id(out, &v.type_id)?;
     match &v.body {
         Body::Absent => put_u8(out, 0)?,
         Body::Binary(bytes) => {
@@ -287,7 +289,7 @@ fn put_extension_parts(out: &mut Vec<u8>, v: &ExtensionObject) -> Result<(), Bin
 }
 
 pub fn put_extension(out: &mut Vec<u8>, v: &ExtensionObject) -> Result<(), BinaryFault>
-    requires { IsShortNode v.now.kind × IsBody v.now.body }
+    requires { IsShortNode v.now.type_id × IsBody v.now.body }
     ensures { Puts BinaryFault.OutOfMemory result out.old.items out.new.items (extension.canon v.now) }
 {
     let len = out.len();

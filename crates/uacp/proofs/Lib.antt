@@ -1,2 +1,4 @@
 pub mod Cuts
 pub mod Streams
+pub mod Greetings
+pub mod Running

@@ -1,4 +1,6 @@
-pub mod Chunks
-pub mod Held
+pub mod Fault
 pub mod Greeting
+pub mod Chunks
 pub mod Stream
+pub mod Held
+pub mod Run

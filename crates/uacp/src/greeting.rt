@@ -1,64 +1,72 @@
-ghost use Rattle.std.specs.Prelude.{◌≡◌, ◌≤◌, ◌<◌, ◌+◌, ◌^◌, ◌++◌, IsTrue, length, take, OnOk, OnErr, vec_len};
-ghost use Rattle.ua_binary.specs.Format.{Puts};
-ghost use Rattle.uacp.specs.Greeting.{number, number_at, is_string, hello_at, ack_of, ack_bytes, code_of, error_bytes};
+//! The greeting: what a client asks for, and what the server answers.
+
+ghost use Rattle.std.specs.Prelude.{◌≡◌, MatchResult, List, ℕ};
+ghost use Rattle.ua_binary.specs.Format.{Reads, Puts, PutsPart};
+ghost use Rattle.uacp.specs.Greeting.{hello, hello_at, ack_of, acknowledge, error};
 
 use crate::types::UacpFault;
-use std::alloc::AllocError;
+use ua_binary::{BinaryFault, Cursor, or_undone, put_block, put_u32};
 
-/// What a client asks for; its version and URL aren't looked at.
-#[derive(Clone, Copy, Debug)]
+/// What a client asks for (Part 6, 7.1.2.3). Its URL is not kept.
+#[derive(Clone, Copy, Debug, PartialEq, Eq)]
 pub struct Hello {
+    /// The newest version of the protocol that the client speaks.
     pub version: u32,
+    /// The greatest chunk that the client takes, in bytes.
     pub receive_size: u32,
+    /// The greatest chunk that the client sends, in bytes.
     pub send_size: u32,
+    /// The greatest message that the client takes, in bytes; 0 is no limit.
     pub max_message: u32,
+    /// The most chunks of one message that the client takes; 0 is no limit.
     pub max_chunks: u32,
 }
 
-/// The sizes that the server grants.
-#[derive(Clone, Copy, Debug)]
+/// The sizes that the server grants (Part 6, 7.1.2.4).
+#[derive(Clone, Copy, Debug, PartialEq, Eq)]
 pub struct Ack {
+    /// The greatest chunk that the server takes, in bytes.
     pub receive_size: u32,
+    /// The greatest chunk that the server sends, in bytes.
     pub send_size: u32,
 }
 
-fn number_of(bytes: &[u8], at: usize) -> u32
-    requires { at + 4 ≤ length bytes.now }
-    ensures { result ≡ number_at at bytes.now }
+#[tactic(auto, unfolding(crate::specs::Greeting::hello))]
+fn read_fields(cursor: &mut Cursor<'_>) -> Result<Hello, BinaryFault>
+    ensures { Reads (λ v. v) result cursor.old cursor.new hello.read }
 {
-    u32::from_le_bytes([bytes[at], bytes[at + 1], bytes[at + 2], bytes[at + 3]])
-}
-
-fn is_whole_string(bytes: &[u8]) -> bool
-    requires { 4 ≤ length bytes.now }
-    ensures { result ≡ is_string bytes.now }
-{
-    let count = number_of(bytes, 0);
-    if count == u32::MAX {
-        bytes.len() == 4
-    } else {
-        bytes.len() == 4 + count as usize
-    }
-}
-
-pub fn read_hello(body: &[u8]) -> Result<Hello, UacpFault>
-    ensures { result ≡ hello_at body.now }
-{
-    if body.len() < 24 {
-        return Err(UacpFault::HelloInvalid);
-    }
-    if !is_whole_string(&body[20..]) {
-        return Err(UacpFault::HelloInvalid);
-    }
+    let mut next = cursor.fork();
+    let version = next.u32()?;
+    let receive_size = next.u32()?;
+    let send_size = next.u32()?;
+    let max_message = next.u32()?;
+    let max_chunks = next.u32()?;
+    let _url = next.text()?;
+    *cursor = next;
     Ok(Hello {
-        version: number_of(body, 0),
-        receive_size: number_of(body, 4),
-        send_size: number_of(body, 8),
-        max_message: number_of(body, 12),
-        max_chunks: number_of(body, 16),
+        version,
+        receive_size,
+        send_size,
+        max_message,
+        max_chunks,
     })
 }
 
+/// The Hello that all of a chunk's body spells: five numbers and a String (Part 6, 7.1.2.3).
+/// Bytes too few or too many, a length below -1 and a URL that is not UTF-8 are `HelloInvalid`.
+/// It takes no memory.
+pub fn read_hello(body: &[u8]) -> Result<Hello, UacpFault>
+    ensures { result ≡ hello_at body.now }
+{
+    let mut cursor = Cursor::new(body);
+    match read_fields(&mut cursor) {
+        Ok(hello) if cursor.rest().is_empty() => Ok(hello),
+        _ => Err(UacpFault::HelloInvalid),
+    }
+}
+
+/// What the server grants: at most 65,536 bytes a chunk, either way (Part 6, 7.1.2.4).
+/// A receive or send size below 8,192 is `BuffersTooSmall`.
 pub fn answer_hello(hello: &Hello) -> Result<Ack, UacpFault>
     ensures { result ≡ ack_of hello.now }
 {
@@ -71,77 +79,51 @@ pub fn answer_hello(hello: &Hello) -> Result<Ack, UacpFault>
     })
 }
 
-#[tactic(auto, unfolding(crate::specs::Greeting::number))]
-fn put_number(out: &mut Vec<u8>, n: u32) -> Result<(), AllocError>
-    ensures ok { OnOk result (out.new.items ≡ out.old.items ++ number n) }
-    ensures err { OnErr result (out.new.items ≡ out.old.items) }
+/// An error leaves a part.
+#[tactic(auto, using(ua_binary::proofs::Kept::kept), unfolding(crate::specs::Greeting::acknowledge))]
+fn put_ack_parts(out: &mut Vec<u8>, ack: &Ack) -> Result<(), BinaryFault>
+    ensures { PutsPart BinaryFault.OutOfMemory result out.old.items out.new.items (acknowledge.canon ack.now) }
 {
-    out.extend_from_slice(&n.to_le_bytes())
+    put_block(out, b"ACKF")?;
+    put_u32(out, 28)?;
+    put_u32(out, 0)?;
+    put_u32(out, ack.receive_size)?;
+    put_u32(out, ack.send_size)?;
+    put_u32(out, 4_194_304)?;
+    put_u32(out, 64)?;
+    Ok(())
 }
 
-/// Four letters and these numbers. An `Err` leaves a part of them.
-fn put_ack_parts(out: &mut Vec<u8>, ack: &Ack) -> Result<(), AllocError>
-    ensures ok { OnOk result (out.new.items ≡ out.old.items ++ ack_bytes ack.now) }
-    ensures front { take (vec_len out.old) out.new.items ≡ out.old.items }
-{
-    out.extend_from_slice(b"ACKF")?;
-    put_number(out, 28)?;
-    put_number(out, 0)?;
-    put_number(out, ack.receive_size)?;
-    put_number(out, ack.send_size)?;
-    put_number(out, 4_194_304)?;
-    put_number(out, 64)
-}
-
-/// Appends the Acknowledge. An `Err` changes nothing.
+/// Appends an Acknowledge of version 0 that allows messages of 4,194,304 bytes and 64 chunks (Part 6, 7.1.2.4):
+/// 28 bytes, the header among them. The one error is `OutOfMemory`, which leaves the vector as it was.
 pub fn put_ack(out: &mut Vec<u8>, ack: &Ack) -> Result<(), UacpFault>
-    ensures { Puts UacpFault.OutOfMemory result out.old.items out.new.items (ack_bytes ack.now) }
+    ensures { Puts UacpFault.OutOfMemory result out.old.items out.new.items (acknowledge.canon ack.now) }
 {
-    let start = out.len();
-    match put_ack_parts(out, ack) {
-        Ok(()) => Ok(()),
-        Err(_) => {
-            out.truncate(start);
-            Err(UacpFault::OutOfMemory)
-        }
-    }
+    let len = out.len();
+    let put = put_ack_parts(out, ack);
+    or_undone(put, out, len)?;
+    Ok(())
 }
 
-impl UacpFault {
-/// The status code that an ERR tells.
-pub fn code(self) -> u32
-    ensures { result ≡ code_of self }
+/// An error leaves a part.
+#[tactic(auto, using(ua_binary::proofs::Kept::kept), unfolding(crate::specs::Greeting::error))]
+fn put_error_parts(out: &mut Vec<u8>, code: u32) -> Result<(), BinaryFault>
+    ensures { PutsPart BinaryFault.OutOfMemory result out.old.items out.new.items (error.canon code) }
 {
-    match self {
-        UacpFault::TypeInvalid => 0x807E_0000,
-        UacpFault::TooLarge => 0x8080_0000,
-        UacpFault::SizeTooSmall | UacpFault::HelloInvalid => 0x8007_0000,
-        UacpFault::BuffersTooSmall => 0x80AC_0000,
-        UacpFault::OutOfMemory => 0x8003_0000,
-    }
-}
+    put_block(out, b"ERRF")?;
+    put_u32(out, 16)?;
+    put_u32(out, code)?;
+    put_u32(out, u32::MAX)?;
+    Ok(())
 }
 
-fn put_error_parts(out: &mut Vec<u8>, code: u32) -> Result<(), AllocError>
-    ensures ok { OnOk result (out.new.items ≡ out.old.items ++ error_bytes code) }
-    ensures front { take (vec_len out.old) out.new.items ≡ out.old.items }
-{
-    out.extend_from_slice(b"ERRF")?;
-    put_number(out, 16)?;
-    put_number(out, code)?;
-    put_number(out, u32::MAX)
-}
-
-/// Appends an ERR with no reason. An `Err` changes nothing.
+/// Appends an Error with this status code and a null reason (Part 6, 7.1.2.5): 16 bytes, the header among them.
+/// The one error is `OutOfMemory`, which leaves the vector as it was.
 pub fn put_error(out: &mut Vec<u8>, code: u32) -> Result<(), UacpFault>
-    ensures { Puts UacpFault.OutOfMemory result out.old.items out.new.items (error_bytes code) }
+    ensures { Puts UacpFault.OutOfMemory result out.old.items out.new.items (error.canon code) }
 {
-    let start = out.len();
-    match put_error_parts(out, code) {
-        Ok(()) => Ok(()),
-        Err(_) => {
-            out.truncate(start);
-            Err(UacpFault::OutOfMemory)
-        }
-    }
+    let len = out.len();
+    let put = put_error_parts(out, code);
+    or_undone(put, out, len)?;
+    Ok(())
 }

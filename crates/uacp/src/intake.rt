@@ -1,14 +1,21 @@
-ghost use Rattle.std.specs.Prelude.{◌≡◌, ◌≤◌, ◌++◌, [], None, true, false, length, take, drop, OnOk, OnErr, vec_len};
+//! A byte stream, fed in pieces and given out in chunks.
+
+ghost use Rattle.std.specs.Prelude.{◌≡◌, OnOk, IfErr};
 
 use crate::cutting::first_header;
 use crate::types::{Chunk, UacpFault};
 use std::alloc::Global;
 use std::marker::Model;
 
-/// Cuts what it is fed into chunks.
+/// Cuts the bytes of a connection into chunks (Part 6, 7.1.2.2), whatever pieces they come in.
+///
+/// A chunk is judged once eight bytes of it are there: its letters, its least size, its greatest size, in this order.
+/// The first one is a Hello of 32 to 4,128 bytes; later ones are no Hello, have 32 bytes at least where they open a channel
+/// and 24 otherwise, and at most as many as the limit says. Feeding costs time linear in the bytes, whatever the pieces.
 #[derive(Drop)]
 pub struct Intake {
     bytes: Vec<u8>,
+    // how many of the bytes, from the front, were given out
     given: usize,
     is_greeted: bool,
     limit: u32,
@@ -27,13 +34,15 @@ impl Model for Intake {
 }
 
 impl Intake {
-    ghost use Rattle.uacp.specs.Held.{Held, next_of, after_next, Gives};
+    ghost use Rattle.uacp.specs.Held.{fresh, next_of, after_next, Gives};
+    ghost use Rattle.uacp.specs.Run.{Fed, Limited, Does};
     ghost use Rattle.uacp.specs.contracts.intake.Intake.{the_row};
     ghost use Rattle.std.specs.Borrow.{sem};
     ghost use Rattle.std.specs.Io.BufRead.{Rests};
 
+    /// Nothing fed yet, and 65,536 bytes as the limit. It takes no memory.
     pub fn new(alloc: Global) -> Self
-        ensures { result ≡ record { waiting = []; greeted = false; limit = 65536; failed = None } }
+        ensures { result ≡ fresh }
     {
         Intake {
             bytes: Vec::new(alloc),
@@ -44,27 +53,31 @@ impl Intake {
         }
     }
 
+    /// Sets the greatest size of the chunks that are judged from now on, a Hello aside: the receive size of the
+    /// Acknowledge, in bytes with the header.
     pub fn set_limit(&mut self, receive_size: u32)
-        ensures { self.new ≡ record self.old { limit = receive_size } }
+        ensures { Does self.old (Limited receive_size) self.new }
     {
         self.limit = receive_size;
     }
 
-    /// Takes the next piece of the stream. An `Err` changes nothing.
+    /// Takes the next piece of the stream. The one error is `OutOfMemory`, which changes nothing.
     pub fn feed(&mut self, piece: &[u8]) -> Result<(), UacpFault>
-        ensures ok { OnOk result (self.new ≡ record self.old { waiting = self.old.waiting ++ piece.now }) }
-        ensures err { OnErr result (self.new ≡ self.old) }
+        ensures ok { OnOk result (Does self.old (Fed piece.now) self.new) }
+        ensures err { IfErr result (λ fault. (fault ≡ UacpFault.OutOfMemory) × (self.new ≡ self.old)) }
     {
+        // What was given out goes once it is half of the bytes, so that each byte is moved a bounded number of times.
         let given = self.given;
-        let _ = self.bytes.drain(..given);
-        self.given = 0;
-        match self.bytes.extend_from_slice(piece) {
-            Ok(()) => Ok(()),
-            Err(_) => Err(UacpFault::OutOfMemory),
+        if self.bytes.len() - given <= given {
+            let _ = self.bytes.drain(..given);
+            self.given = 0;
         }
+        self.bytes.extend_from_slice(piece)?;
+        Ok(())
     }
 
-    /// The next chunk, if it is whole. After a fault every later call gives it again.
+    /// The next chunk, where it is whole, and `None` where less is there. It takes no memory.
+    /// After `TypeInvalid`, `TooLarge` or `SizeTooSmall` every later call gives the same fault.
     pub fn next_chunk(&mut self) -> Result<Option<Chunk<'_>>, UacpFault>
         ensures value { Gives self.old result }
         ensures* after_borrow { sem 𝓛 (Rests the_row self.entry (λ new. new ≡ after_next self.old (next_of self.old))) }
