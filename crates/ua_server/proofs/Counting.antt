@@ -8,7 +8,8 @@ use Rattle.uacp.specs.declared.types.UacpFault.{UacpFault}
 use Rattle.uacp.specs.declared.types.UacpFault.TheVariants.{TypeInvalid, OutOfMemory}
 use Rattle.uacp.specs.declared.greeting.Ack.{Ack}
 use Rattle.uacp.specs.Stream.{Piece}
-use Rattle.uacp.specs.Greeting.{hello_at, code_of}
+use Rattle.uacp.specs.Greeting.{hello_at}
+use Rattle.uacp.specs.Fault.{code_of}
 use Rattle.ua_server.specs.declared.outcome.ServeFault.{ServeFault}
 use Rattle.ua_server.specs.declared.outcome.ServeFault.TheVariants.{TooLong}
 use Rattle.ua_server.specs.Run.{Outside, Reply}

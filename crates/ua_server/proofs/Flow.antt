@@ -12,7 +12,8 @@ use Rattle.uacp.specs.declared.types.Kind.{Kind}
 use Rattle.uacp.specs.declared.types.Kind.TheVariants.{Hello, Open, Close, Message}
 use Rattle.uacp.specs.declared.types.UacpFault.{UacpFault}
 use Rattle.uacp.proofs.Streams.{Cuts, cuts}
-use Rattle.uacp.specs.Greeting.{error_bytes, code_of}
+use Rattle.uacp.specs.Greeting.{error}
+use Rattle.uacp.specs.Fault.{code_of}
 use Rattle.uacp.specs.declared.types.UacpFault.TheVariants.{OutOfMemory as NoMemory}
 use Rattle.ua_server.specs.declared.outcome.Served.{Served}
 use Rattle.ua_server.specs.declared.outcome.Served.TheVariants.{EndOfInput, Refused}
@@ -229,13 +230,13 @@ serves-failed (Some input) (Some rest) old written sent readings more held conne
 
 starved-drained : (written sent : Option (List ℕ)) (standing : Standing) (bytes : List ℕ) (code : ℕ) (served : Served) → EndsRefused standing bytes [] code → SendsRefusal written sent code (Ok served)
     → (new : Standing) (left : List ℕ) → Drained written sent standing bytes [] (Ok (Some served)) new left
-starved-drained written sent standing bytes code served ends sends new left = (error_bytes code, sends.1, ends (error_bytes code) (Ok served) (sends.0, refl))
+starved-drained written sent standing bytes code served ends sends new left = (error.canon code, sends.1, ends (error.canon code) (Ok served) (sends.0, refl))
 
 starved-failed : (written sent : Option (List ℕ)) (standing : Standing) (bytes : List ℕ) (code : ℕ) (fault : ServeFault) → EndsRefused standing bytes [] code → SendsRefusal written sent code (Err fault)
     → (new : Standing) (left : List ℕ) → Drained written sent standing bytes [] (Err fault) new left
 starved-failed written sent standing bytes code Read ends sends new left = absurd sends
 starved-failed written sent standing bytes code Write ends sends new left =
-    (sends.0, sends.3, begins-end standing bytes [] (error_bytes code) sends.0 sends.1 (Ok (Refused code)) (ends (error_bytes code) (Ok (Refused code)) (refl, refl)) sends.2)
+    (sends.0, sends.3, begins-end standing bytes [] (error.canon code) sends.0 sends.1 (Ok (Refused code)) (ends (error.canon code) (Ok (Refused code)) (refl, refl)) sends.2)
 starved-failed written sent standing bytes code TooLong ends sends new left = absurd sends
 starved-failed written sent standing bytes code OutOfMemory ends sends new left = ([], sends, ends [] (Err OutOfMemory) (refl, refl))
 

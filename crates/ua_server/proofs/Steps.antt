@@ -13,7 +13,8 @@ use Rattle.uacp.specs.declared.greeting.Ack.{Ack}
 use Rattle.uacp.specs.Stream.{Piece}
 use Rattle.uacp.specs.Chunks.{cut}
 use Rattle.uacp.specs.Held.{Held, Gives, next_of, next_or, after_next}
-use Rattle.uacp.specs.Greeting.{ack_bytes, error_bytes, code_of}
+use Rattle.uacp.specs.Greeting.{acknowledge, error}
+use Rattle.uacp.specs.Fault.{code_of}
 use Rattle.ua_server.specs.declared.outcome.Served.{Served}
 use Rattle.ua_server.specs.declared.outcome.Served.TheVariants.{Refused}
 use Rattle.ua_server.specs.declared.outcome.ServeFault.{ServeFault}
@@ -62,7 +63,7 @@ refuses-same standing later out o a b e f =
 
 -- a refusal is made, or memory for it is wanting
 pub does-refuse : (standing : Standing) (code : ℕ) (out : List ℕ) (ending : Ending) → Refuses code out ending → Does (refuse standing code) [] (reply_with standing out (Some ending))
-does-refuse standing code out (Ok served) so = record { used = fine ∷ []; does = λ later. refuses-same standing later out (error_bytes code) (Ok (Refused code)) (Ok served) (sym so.1) (ap Ok (sym so.0)) }
+does-refuse standing code out (Ok served) so = record { used = fine ∷ []; does = λ later. refuses-same standing later out (error.canon code) (Ok (Refused code)) (Ok served) (sym so.1) (ap Ok (sym so.0)) }
 does-refuse standing code out (Err fault) so = record { used = no_memory ∷ []; does = λ later. refuses-same standing later out [] (Err Starved) (Err fault) (sym so.1) (ap Err (sym so.0)) }
 
 -- memory for what stands first is there
@@ -108,7 +109,7 @@ few_test taken few = grind (arith, nat_tests)
 
 -- an acknowledged Hello
 pub granted-answers : (held : Held) (connection : Connection) (chunk : Chunk) (readings : List ℤ) (ack : Ack) (out rest : List ℕ) → held.failed ≡ None → Gives held (Ok (Some chunk)) → connection.taken ≢ 1000000
-    → Does (granted chunk.kind chunk.body.now) readings (Ok ack) → out ≡ ack_bytes ack → rest ≡ drop (8 + length chunk.body.now) held.waiting
+    → Does (granted chunk.kind chunk.body.now) readings (Ok ack) → out ≡ acknowledge.canon ack → rest ≡ drop (8 + length chunk.body.now) held.waiting
     → AnswersSo (sees held connection) held.waiting readings out (greeted_with (sees held connection) ack) rest
 granted-answers held connection chunk readings ack out rest unfailed gives few grants made left = λ more.
     let standing = sees held connection in

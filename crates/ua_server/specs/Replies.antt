@@ -9,7 +9,8 @@ use Rattle.uacp.specs.declared.greeting.Hello.{Hello as HelloNumbers}
 use Rattle.uacp.specs.declared.greeting.Ack.{Ack}
 use Rattle.uacp.specs.Stream.{Piece}
 use Rattle.uacp.specs.Chunks.{cut}
-use Rattle.uacp.specs.Greeting.{hello_at, ack_of, ack_bytes, error_bytes, code_of}
+use Rattle.uacp.specs.Greeting.{hello_at, ack_of, acknowledge, error}
+use Rattle.uacp.specs.Fault.{code_of}
 use Rattle.ua_server.specs.declared.outcome.Served.{Served}
 use Rattle.ua_server.specs.declared.outcome.Served.TheVariants.{EndOfInput, Refused}
 use Rattle.ua_server.specs.declared.outcome.ServeFault.{ServeFault}
@@ -64,7 +65,7 @@ reply_with standing out ending = record { out = out; ending = ending; state = st
 -- an ERR with this code ends the connection; where memory for it is wanting too, nothing is written
 abbrev pub refuse : Standing → ℕ → Answering
 refuse standing code = made
-    (give (reply_with standing (error_bytes code) (Some (Ok (Refused code)))))
+    (give (reply_with standing (error.canon code) (Some (Ok (Refused code)))))
     (give (reply_with standing [] (Some (Err Starved))))
 
 -- ---- chunks
@@ -90,7 +91,7 @@ abbrev pub greeted_with : Standing → Ack → Standing
 greeted_with standing ack = record { greeted = true; limit = ack.receive_size; connection = record { ack = Some ack; taken = standing.connection.taken + 1 } }
 
 abbrev pub concluded : Standing → Result Ack UacpFault → Answering
-concluded standing (Ok ack) = give (reply_with (greeted_with standing ack) (ack_bytes ack) None)
+concluded standing (Ok ack) = give (reply_with (greeted_with standing ack) (acknowledge.canon ack) None)
 concluded standing (Err fault) = refuse standing (code_of fault)
 
 abbrev pub answer_piece : Standing → Piece → Answering

@@ -5,7 +5,8 @@ use Rattle.ua_server.specs.Bytes.{AppendsPart}
 use Rattle.uacp.specs.Held.{Held}
 use Rattle.uacp.specs.declared.types.UacpFault.{UacpFault}
 use Rattle.uacp.specs.declared.greeting.Ack.{Ack}
-use Rattle.uacp.specs.Greeting.{ack_bytes, error_bytes, code_of}
+use Rattle.uacp.specs.Greeting.{acknowledge, error}
+use Rattle.uacp.specs.Fault.{code_of}
 use Rattle.uacp.specs.Chunks.{cut}
 use Rattle.ua_server.specs.declared.outcome.Served.{Served}
 use Rattle.ua_server.specs.declared.outcome.Served.TheVariants.{Refused}
@@ -41,7 +42,7 @@ BeginsSo standing bytes readings sent = (more : List ℕ) → (reply : Reply Sta
 
 -- an ERR with this code was made, or memory for it was wanting
 abbrev pub Refuses : ℕ → List ℕ → Ending → Type 0
-Refuses code out (Ok served) = (served ≡ Refused code) × (out ≡ error_bytes code)
+Refuses code out (Ok served) = (served ≡ Refused code) × (out ≡ error.canon code)
 Refuses code out (Err fault) = (fault ≡ OutOfMemory) × (out ≡ [])
 
 -- the stream ends by an ERR with this code, or where memory for that is wanting
@@ -50,7 +51,7 @@ EndsRefused standing bytes readings code = (out : List ℕ) (ending : Ending) �
 
 -- an Acknowledge was made, or nothing
 abbrev pub Makes : List ℕ → Result Ack UacpFault → Type 0
-Makes out (Ok ack) = out ≡ ack_bytes ack
+Makes out (Ok ack) = out ≡ acknowledge.canon ack
 Makes out (Err fault) = out ≡ []
 
 -- what stands first was taken and granted something, or not
@@ -136,8 +137,8 @@ Shortens (Ends served) old new = Unit {0}
 
 -- known contents grew by an ERR with this code, or a first part of it where the writer failed, or nothing where memory is wanting
 abbrev pub SendsRefusal : Option (List ℕ) → Option (List ℕ) → ℕ → Ending → Type 0
-SendsRefusal old written code (Ok served) = (served ≡ Refused code) × Appends old written (error_bytes code)
+SendsRefusal old written code (Ok served) = (served ≡ Refused code) × Appends old written (error.canon code)
 SendsRefusal old written code (Err Read) = ⊥
-SendsRefusal old written code (Err Write) = AppendsPart old written (error_bytes code)
+SendsRefusal old written code (Err Write) = AppendsPart old written (error.canon code)
 SendsRefusal old written code (Err TooLong) = ⊥
 SendsRefusal old written code (Err OutOfMemory) = Appends old written []
