@@ -1,6 +1,6 @@
 -- How many chunks a connection has.
-use Rattle.std.proofs.Common.{◌≡◌, ◌==◌, ℕ, ℤ, ◌+◌, Bool, true, false, cond, List, [], ◌∷◌, Some, None, Ok, Err, refl, eq-eqb}
-use Rattle.std.specs.Prelude.{Option, Result}
+use Rattle.std.proofs.Common.{◌≡◌, ◌==◌, ℕ, ℤ, ◌+◌, Bool, true, false, List, [], ◌∷◌, Some, None, Ok, Err, refl, eq-eqb}
+use Rattle.std.specs.Prelude.{Result}
 use Rattle.std.proofs.lemmas.Bool.{eqb-true}
 use Rattle.uacp.specs.declared.types.Kind.{Kind}
 use Rattle.uacp.specs.declared.types.Kind.TheVariants.{Hello, Open, Close, Message}
@@ -10,10 +10,9 @@ use Rattle.uacp.specs.declared.greeting.Ack.{Ack}
 use Rattle.uacp.specs.Stream.{Piece}
 use Rattle.uacp.specs.Greeting.{hello_at}
 use Rattle.uacp.specs.Fault.{code_of}
-use Rattle.ua_server.specs.declared.outcome.ServeFault.{ServeFault}
 use Rattle.ua_server.specs.declared.outcome.ServeFault.TheVariants.{TooLong}
 use Rattle.ua_server.specs.Run.{Outside, Reply}
-use Rattle.ua_server.specs.Replies.{Mark, fine, no_memory, Standing, Item, whole, ill, partial, Ending, refuse, made_by, make_ack, ack_or, granted, concluded, answer_piece, answer_taken, answer, reply_with}
+use Rattle.ua_server.specs.Replies.{Mark, fine, no_memory, Standing, Item, whole, ill, partial, Ending, refuse, make_ack, ack_or, granted, concluded, answer_taken, answer, reply_with}
 
 pub one_too_many : (standing : Standing) (piece : Piece) (later : Outside Mark) → standing.connection.taken ≡ 1000000
     → answer_taken standing (whole piece) later ≡ (reply_with standing [] (Some (Err TooLong)), later)

@@ -1,5 +1,5 @@
 -- What stands first in some bytes stands there whatever follows.
-use Rattle.std.proofs.Common.{◌≡◌, ◌≢◌, ℕ, ◌+◌, ◌<◌, ◌≤◌, List, [], ◌∷◌, ◌++◌, length, take, drop, Some, None, Ok, Err, refl, sym, ◌∙◌, ap, subst, arith}
+use Rattle.std.proofs.Common.{◌≡◌, ◌≢◌, ℕ, ◌<◌, ◌≤◌, List, [], ◌∷◌, ◌++◌, length, take, drop, Some, None, Ok, Err, refl, ◌∙◌, ap, subst, arith}
 use Rattle.std.specs.Prelude.{Option, Result}
 use Rattle.std.proofs.lemmas.List.{take-append-le, drop-append-le, length-append}
 use Rattle.uacp.specs.declared.types.Header.{Header}
@@ -7,7 +7,7 @@ use Rattle.uacp.specs.declared.types.UacpFault.{UacpFault}
 use Rattle.uacp.specs.Stream.{Piece}
 use Rattle.uacp.specs.Chunks.{cut}
 use Rattle.uacp.proofs.Cuts.{cut-append, cut-within, cut-fault}
-use Rattle.ua_server.specs.Replies.{Standing, Item, whole, ill, partial, found, next, chunks}
+use Rattle.ua_server.specs.Replies.{Standing, Item, whole, ill, found, next, chunks}
 use Rattle.ua_server.proofs.Runs.{Falls}
 
 found-falls : (standing : Standing) (bytes : List ℕ) (o : Result (Option Header) UacpFault) → cut standing.greeted standing.limit bytes ≡ o

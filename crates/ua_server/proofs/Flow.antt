@@ -1,9 +1,9 @@
 -- How the answers to chunk after chunk make the answer to a connection.
-use Rattle.std.proofs.Common.{◌≡◌, ◌≢◌, ◌≤◌, ◌<◌, ◌+◌, ◌*◌, length, take, arith, Bool, false, inl, inr, ℕ, ℤ, List, [], ◌∷◌, ◌++◌, drop, Some, None, Ok, Err, refl, sym, ◌∙◌, ap, subst, append_assoc}
+use Rattle.std.proofs.Common.{◌≡◌, ◌≢◌, ◌≤◌, ◌<◌, length, arith, Bool, false, inl, inr, ℕ, ℤ, List, [], ◌∷◌, ◌++◌, Some, None, Ok, Err, refl, sym, ◌∙◌, ap, subst, append_assoc}
 use Rattle.std.specs.Prelude.{Option, Result}
 use Rattle.std.specs.Io.KnownBytes.{Appends, Consumes, IsAtEnd}
 use Rattle.std.proofs.KnownBytes.{Appends-trans, Appends-nil}
-use Rattle.std.proofs.lemmas.List.{append-nil, length-drop, length-append}
+use Rattle.std.proofs.lemmas.List.{append-nil, length-append}
 use Rattle.uacp.specs.Held.{Held}
 use Rattle.uacp.specs.Chunks.{cut, greatest}
 use Rattle.uacp.specs.Stream.{IsPartial}
@@ -23,8 +23,8 @@ use Rattle.ua_server.specs.declared.connection.Connection.{Connection}
 use Rattle.ua_server.specs.declared.connection.Turn.{Turn}
 use Rattle.ua_server.specs.declared.connection.Turn.TheVariants.{Waits, Goes, Ends}
 use Rattle.ua_server.specs.Bytes.{AppendsPart}
-use Rattle.ua_server.specs.Run.{Outside, Reply, Answer, Does, Answers}
-use Rattle.ua_server.specs.Replies.{Mark, fine, Standing, Item, partial, Ending, chunks, greeting, reply_with, found, next, answer}
+use Rattle.ua_server.specs.Run.{Reply, Answers}
+use Rattle.ua_server.specs.Replies.{fine, Standing, partial, Ending, chunks, greeting, reply_with, found}
 use Rattle.ua_server.specs.Turns.{sees, IsShort, AnswersSo, EndsSo, BeginsSo, EndsRefused, SendsRefusal, Turned, FailsSo, Drained, DrainsSoFar}
 use Rattle.ua_server.specs.Serving.{IsWhole, IsFirstPart, Serves, ServesSoFar}
 use Rattle.ua_server.proofs.Runs.{answers-start, answers-item, answers-end, answers-then, answers-whole, answers-part}

@@ -1,8 +1,8 @@
 -- How answers to streams are put together.
-use Rattle.std.proofs.Common.{◌≡◌, ℕ, ℤ, zero, suc, ◌+◌, ◌<◌, ◌≤◌, List, [], ◌∷◌, ◌++◌, length, drop, Some, None, refl, sym, ◌∙◌, ap, arith, append_assoc, add-one}
+use Rattle.std.proofs.Common.{◌≡◌, ℕ, ℤ, zero, suc, ◌+◌, ◌<◌, ◌≤◌, List, [], ◌++◌, length, drop, Some, None, refl, sym, ◌∙◌, ap, arith, append_assoc, add-one}
 use Rattle.std.specs.Prelude.{Option}
 use Rattle.std.proofs.lemmas.List.{length-drop, append-nil}
-use Rattle.ua_server.specs.Run.{Outside, before, Reply, Answer, Marked, Does, Protocol, joined_by, joined, stepped, run, answered, Answers}
+use Rattle.ua_server.specs.Run.{Outside, before, Reply, Answer, Does, Protocol, joined_by, joined, stepped, run, answered, Answers}
 
 -- an item has a byte at least, and its bytes are all there
 pub record Falls {C X E M : Type 0} (p : Protocol C X E M) : Type 0 where

@@ -1,12 +1,10 @@
 -- What the steps of answering one chunk do.
-use Rattle.std.proofs.Common.{◌≡◌, ◌≢◌, ◌==◌, ℕ, ℤ, ◌+◌, ◌<◌, ◌≤◌, Bool, true, false, cond, List, [], ◌∷◌, ◌++◌, length, take, drop, Some, None, Ok, Err, refl, sym, ◌∙◌, ap, subst, arith, append_assoc}
-use Rattle.std.specs.Prelude.{Option, Result, max}
+use Rattle.std.proofs.Common.{◌≡◌, ◌≢◌, ◌==◌, ℕ, ℤ, ◌+◌, ◌<◌, ◌≤◌, Bool, true, false, List, [], ◌∷◌, ◌++◌, length, take, drop, Some, None, Ok, Err, refl, sym, ◌∙◌, ap, subst, arith}
+use Rattle.std.specs.Prelude.{Result, max}
 use Rattle.std.proofs.lemmas.List.{append-nil, length-drop}
 use Rattle.std.proofs.lemmas.Bool.Decides.{nat_tests}
-use Rattle.std.proofs.lemmas.Bool.{eqb-true}
 use Rattle.uacp.specs.declared.types.Header.{Header}
 use Rattle.uacp.specs.declared.types.Chunk.{Chunk}
-use Rattle.uacp.specs.declared.types.Kind.{Kind}
 use Rattle.uacp.specs.declared.types.UacpFault.{UacpFault}
 use Rattle.uacp.specs.declared.types.UacpFault.TheVariants.{OutOfMemory}
 use Rattle.uacp.specs.declared.greeting.Ack.{Ack}
@@ -15,14 +13,12 @@ use Rattle.uacp.specs.Chunks.{cut}
 use Rattle.uacp.specs.Held.{Held, Gives, next_of, next_or, after_next}
 use Rattle.uacp.specs.Greeting.{acknowledge, error}
 use Rattle.uacp.specs.Fault.{code_of}
-use Rattle.ua_server.specs.declared.outcome.Served.{Served}
 use Rattle.ua_server.specs.declared.outcome.Served.TheVariants.{Refused}
-use Rattle.ua_server.specs.declared.outcome.ServeFault.{ServeFault}
 use Rattle.ua_server.specs.declared.outcome.ServeFault.TheVariants.{TooLong, OutOfMemory as Starved}
 use Rattle.ua_server.specs.declared.connection.Connection.{Connection}
 use Rattle.ua_server.specs.Run.{Outside, before, Reply, Marked, Does, Answers}
-use Rattle.ua_server.specs.Replies.{Mark, fine, no_memory, Standing, Item, whole, ill, partial, Ending, then, make_ack, granted, concluded, greeted_with, refuse, reply_with, answer_piece, answer_taken, answer, next, found, chunks}
-use Rattle.ua_server.specs.Turns.{sees, AnswersSo, EndsSo, EndsRefused, Refuses, Makes, GivesOne}
+use Rattle.ua_server.specs.Replies.{Mark, fine, no_memory, Standing, Item, whole, ill, Ending, then, make_ack, granted, concluded, greeted_with, refuse, reply_with, answer_taken, answer, found, chunks}
+use Rattle.ua_server.specs.Turns.{sees, AnswersSo, EndsSo, EndsRefused, Refuses, GivesOne}
 use Rattle.ua_server.proofs.Runs.{before-before, answers-item}
 use Rattle.ua_server.proofs.Cutting.{falls, next-some, some_more, chunk-stands, fault-stands}
 

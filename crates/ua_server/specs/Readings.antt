@@ -1,6 +1,5 @@
 -- The readings of a clock.
-use Rattle.std.specs.Prelude.{◌≡◌, List, [], ◌∷◌, ◌++◌, ℤ, refl}
-use Rattle.std.proofs.Common.{sym, ◌∙◌}
+use Rattle.std.specs.Prelude.{◌≡◌, List, [], ◌∷◌, ◌++◌, ℤ}
 
 -- each reading is n
 abbrev pub AllAre : ℤ → List ℤ → Type 0

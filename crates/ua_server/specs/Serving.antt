@@ -1,9 +1,7 @@
 -- What goes out on a connection, by what came in.
-use Rattle.std.specs.Prelude.{◌≡◌, ℕ, ℤ, List, [], ◌++◌, Option, None, Some, Result, Ok, Err}
+use Rattle.std.specs.Prelude.{◌≡◌, ℕ, ℤ, List, ◌++◌, Option, None, Some, Ok, Err}
 use Rattle.std.specs.Io.KnownBytes.{Appends}
 use Rattle.uacp.specs.Held.{Held}
-use Rattle.ua_server.specs.declared.outcome.Served.{Served}
-use Rattle.ua_server.specs.declared.outcome.ServeFault.{ServeFault}
 use Rattle.ua_server.specs.declared.outcome.ServeFault.TheVariants.{Read, Write, TooLong, OutOfMemory}
 use Rattle.ua_server.specs.declared.connection.Connection.{Connection}
 use Rattle.ua_server.specs.Run.{Answers}

@@ -275,7 +275,9 @@ fn runs_and_reports(rt: HostRuntime) -> Result<(), Fail> {
         HELLO.as_bytes(),
         1000,
     )?;
-    assert!(rt; out.as_slice() == b"41434B461C0000000000000000000100000001000000400040000000\n".as_slice());
+    assert!(rt;
+        out.as_slice() == b"41434B461C0000000000000000000100000001000000400040000000\n".as_slice()
+    );
     assert!(rt; errors.is_empty() && status == 0);
     let (out, errors, status) = told(
         alloc,
@@ -284,7 +286,9 @@ fn runs_and_reports(rt: HostRuntime) -> Result<(), Fail> {
         1000,
     )?;
     assert!(rt;
-        out.as_slice() == b"455252461000000000007E80FFFFFFFF\n".as_slice() && errors.is_empty() && status == 0
+        out.as_slice() == b"455252461000000000007E80FFFFFFFF\n".as_slice()
+            && errors.is_empty()
+            && status == 0
     );
     let (out, _, status) = told(alloc, &["uahist", "answer", "--hex"], b" \n", 1000)?;
     assert!(rt; out.as_slice() == b"\n".as_slice() && status == 0);

@@ -1,4 +1,4 @@
-use Rattle.std.proofs.Common.{◌≡◌, [], sym, subst}
+use Rattle.std.proofs.Common.{[], sym, subst}
 use Rattle.uacp.specs.declared.types.Kind.{Kind}
 use Rattle.ua_server.specs.Run.{Does}
 use Rattle.ua_server.specs.Replies.{granted}

@@ -1,4 +1,4 @@
-use Rattle.std.proofs.Common.{◌≡◌, Ok, sym, ap, ◌∙◌}
+use Rattle.std.proofs.Common.{sym, ap, ◌∙◌}
 use Rattle.ua_server.specs.Replies.{ack_or}
 use Rattle.ua_server.proofs.Steps.{makes_ack, lacks_ack}
 use Rattle.ua_server.proofs.connection.greet.Goals as goal

@@ -1,5 +1,4 @@
-use Rattle.std.proofs.Common.{[], ◌≡◌, ◌≢◌, ◌==◌, true, ℕ, eq-eqb, arith, sym, ap, ◌∙◌, refl}
-use Rattle.ua_server.specs.Turns.{sees}
+use Rattle.std.proofs.Common.{[], ◌≡◌, ◌==◌, true, eq-eqb, arith}
 use Rattle.ua_server.proofs.Steps.{granted-answers, refused-ends, many-ends, fault-ends, left-waiting, gives-one}
 use Rattle.ua_server.proofs.connection.take_next.Goals as goal
 

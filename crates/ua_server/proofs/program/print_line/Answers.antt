@@ -1,5 +1,4 @@
-use Rattle.std.proofs.Common.{◌≡◌, [], ◌∷◌, Err}
-use Rattle.ua_server.specs.declared.outcome.ServeFault.{ServeFault}
+use Rattle.std.proofs.Common.{◌≡◌, [], ◌∷◌}
 use Rattle.ua_server.specs.declared.outcome.ServeFault.TheVariants.{Write}
 use Rattle.ua_server.proofs.Printing.{part-first, part-second}
 use Rattle.ua_server.proofs.program.print_line.Goals as goal

@@ -1,6 +1,6 @@
-use Rattle.std.proofs.Common.{[], ◌≡◌, ◌≤◌, ◌+◌, ◌++◌, None, Some, Ok, Err, sym, ◌∙◌, arith, refl}
+use Rattle.std.proofs.Common.{[], ◌≡◌, ◌++◌, Err, ◌∙◌, arith, refl}
 use Rattle.std.proofs.lemmas.Result.{err_from_is_err_and}
-use Rattle.ua_server.specs.declared.connection.Turn.TheVariants.{Waits, Goes, Ends}
+use Rattle.ua_server.specs.declared.connection.Turn.TheVariants.{Goes, Ends}
 use Rattle.ua_server.specs.declared.outcome.ServeFault.TheVariants.{Write}
 use Rattle.ua_server.specs.Turns.{sees}
 use Rattle.ua_server.proofs.Flow.{drains-start, drains-goes, drains-waits, drains-ends, drains-fails, drains-part}

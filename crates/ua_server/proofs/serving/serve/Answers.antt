@@ -1,4 +1,4 @@
-use Rattle.std.proofs.Common.{[], ◌≡◌, ◌≤◌, ◌<◌, ◌+◌, ◌++◌, None, Ok, Err, Some, sym, ◌∙◌, arith, take, refl, ap, length, ℕ, subst}
+use Rattle.std.proofs.Common.{[], ◌≡◌, ◌<◌, ◌++◌, Err, ◌∙◌, arith, take, refl, ap, length, ℕ, subst}
 use Rattle.std.proofs.lemmas.Result.{err_from_is_err_and}
 use Rattle.std.proofs.lemmas.List.{length-append, length-take}
 use Rattle.ua_server.specs.declared.outcome.ServeFault.TheVariants.{Read}
