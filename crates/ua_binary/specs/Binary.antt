@@ -7,6 +7,8 @@ use Rattle.std.specs.Str.{IsUtf8, is_utf8}
 use Rattle.ua_binary.specs.declared.fault.BinaryFault.{BinaryFault}
 use Rattle.ua_binary.specs.declared.fault.BinaryFault.TheVariants.{Short, BadLength, BadUtf8, BadEncodingByte}
 use Rattle.ua_binary.specs.declared.values.Guid.{Guid}
+use Rattle.ua_binary.specs.declared.values.Ticks.{Ticks}
+use Rattle.ua_binary.specs.declared.values.Status.{Status}
 use Rattle.ua_binary.specs.declared.values.NodeId.{NodeId}
 use Rattle.ua_binary.specs.declared.values.NodeId.TheVariants.{Numeric, Named, Global, Opaque}
 use Rattle.ua_binary.specs.declared.values.NodeIdRef.{NodeIdRef}
@@ -32,6 +34,14 @@ signed w = fitting (λ z. FitsSigned w z) (standing_for (cast_signed w) (cast_un
 
 unfoldable pub sbyte : Format BinaryFault ℤ
 sbyte = fitting (λ z. FitsSigned w8 z) (standing_for (cast_signed w8) (cast_unsigned w8) byte)
+
+-- a moment: its steps of 100 ns since 1601
+unfoldable pub ticks : Format BinaryFault Ticks
+ticks = fitting (λ t. FitsSigned w64 t.0) (standing_for (λ z. record { 0 = z }) (λ t. t.0) (signed w64))
+
+-- a status code: its 32 bits
+unfoldable pub status : Format BinaryFault Status
+status = fitting (λ c. c.0 < 2 ^ 32) (standing_for (λ n. record { 0 = n }) (λ c. c.0) (unsigned w32))
 
 -- 0 is false, another byte true
 unfoldable pub boolean : Format BinaryFault Bool

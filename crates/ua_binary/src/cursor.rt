@@ -4,10 +4,12 @@ ghost use Rattle.std.specs.Prelude.{◌≡◌, List, ℕ, option_map, length, Ma
 ghost use Rattle.std.specs.Option.{option_copied};
 ghost use Rattle.std.specs.Int.{w16, w32, w64};
 ghost use Rattle.ua_binary.specs.Format.{Reads, byte, block};
-ghost use Rattle.ua_binary.specs.Binary.{unsigned, signed, sbyte, boolean, byte_string, count_at, text, guid, node_id, node_of, localized, localized_of, is_text, qualified, qualified_of, extension, extension_of};
+ghost use Rattle.ua_binary.specs.Binary.{unsigned, signed, sbyte, boolean, byte_string, count_at, text, guid, ticks, status, node_id, node_of, localized, localized_of, is_text, qualified, qualified_of, extension, extension_of};
 
 use crate::fault::BinaryFault;
-use crate::values::{BodyRef, ExtensionRef, Guid, LocalizedRef, NodeIdRef, QualifiedRef};
+use crate::values::{
+    BodyRef, ExtensionRef, Guid, LocalizedRef, NodeIdRef, QualifiedRef, Status, Ticks,
+};
 use std::marker::Model;
 use std::str;
 
@@ -232,6 +234,20 @@ impl<'a> Cursor<'a> {
     {
         let n = self.u16()?;
         Ok(n.cast_signed())
+    }
+
+    #[tactic(auto, unfolding(crate::specs::Binary::ticks))]
+    pub fn ticks(&mut self) -> Result<Ticks, BinaryFault>
+        ensures { Reads (λ x. x) result self.old self.new ticks.read }
+    {
+        Ok(Ticks(self.i64()?))
+    }
+
+    #[tactic(auto, unfolding(crate::specs::Binary::status))]
+    pub fn status(&mut self) -> Result<Status, BinaryFault>
+        ensures { Reads (λ x. x) result self.old self.new status.read }
+    {
+        Ok(Status(self.u32()?))
     }
 
     /// Four bytes, as they are.

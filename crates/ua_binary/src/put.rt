@@ -4,11 +4,11 @@ ghost use Rattle.std.specs.Prelude.{◌≡◌, ◌<◌, ◌^◌, List, ℕ, opti
 ghost use Rattle.std.specs.Option.{option_copied};
 ghost use Rattle.std.specs.Int.{w16, w32, w64};
 ghost use Rattle.ua_binary.specs.Format.{Puts, PutsPart, byte, block};
-ghost use Rattle.ua_binary.specs.Binary.{unsigned, signed, sbyte, boolean, byte_string, text, guid, node_id, localized, qualified, extension, IsCounted, IsBody, IsShortNode, IsShortLocalized};
+ghost use Rattle.ua_binary.specs.Binary.{unsigned, signed, sbyte, boolean, byte_string, text, guid, ticks, status, node_id, localized, qualified, extension, IsCounted, IsBody, IsShortNode, IsShortLocalized};
 
 use crate::fault::BinaryFault;
 use crate::values::{
-    Body, Bytes, ExtensionObject, Guid, LocalizedText, NodeId, QualifiedName, Text,
+    Body, Bytes, ExtensionObject, Guid, LocalizedText, NodeId, QualifiedName, Status, Text, Ticks,
 };
 
 pub fn put_u8(out: &mut Vec<u8>, v: u8) -> Result<(), BinaryFault>
@@ -71,6 +71,20 @@ pub fn put_i16(out: &mut Vec<u8>, v: i16) -> Result<(), BinaryFault>
 {
     out.extend_from_slice(&v.to_le_bytes())?;
     Ok(())
+}
+
+#[tactic(auto, unfolding(crate::specs::Binary::ticks))]
+pub fn put_ticks(out: &mut Vec<u8>, v: Ticks) -> Result<(), BinaryFault>
+    ensures { Puts BinaryFault.OutOfMemory result out.old.items out.new.items (ticks.canon v) }
+{
+    put_i64(out, v.0)
+}
+
+#[tactic(auto, unfolding(crate::specs::Binary::status))]
+pub fn put_status(out: &mut Vec<u8>, v: Status) -> Result<(), BinaryFault>
+    ensures { Puts BinaryFault.OutOfMemory result out.old.items out.new.items (status.canon v) }
+{
+    put_u32(out, v.0)
 }
 
 /// Bytes of their own memory.
