@@ -15,7 +15,8 @@ use Rattle.ua_binary.specs.declared.values.Body.{Body}
 use Rattle.ua_binary.specs.declared.values.Body.TheVariants.{Absent, Binary, Xml}
 use Rattle.ua_binary.specs.declared.values.LocalizedText.{LocalizedText}
 use Rattle.ua_binary.specs.Format.{◌>>=◌, Reading, Format, IsLawful, nothing, refused, byte, block, ◌▸◌, chosen, headed, standing_for, passing, flagged, fitting, with_fault, raised, items, items_at, at_least}
-use Rattle.ua_binary.specs.Binary.{unsigned, signed, sbyte, boolean, counted, count_of, IsCounted, byte_string, is_text, text, IsText, guid, guid_of, guid_fields, IsGuid, node_form, node_form_of, IsNodeId, node_id, localized, localized_fields, localized_mask, IsLocalized, counted_number, count_at, counted_items, array_spelled, array, qualified, body_form, body_kind, IsBody, body, extension}
+use Rattle.ua_binary.specs.Binary.{unsigned, signed, sbyte, ticks, status, boolean, counted, count_of, IsCounted, byte_string, is_text, text, IsText, guid, guid_of, guid_fields, IsGuid, node_form, node_form_of, IsNodeId, node_id, localized, localized_fields, localized_mask, IsLocalized, counted_number, count_at, counted_items, array_spelled, array, qualified, body_form, body_kind, IsBody, body, extension}
+use Rattle.ua_binary.proofs.Elements.{IsItemLawful, item}
 use Rattle.ua_binary.proofs.Combined.{nothing_lawful, refused_lawful, byte_lawful, block_lawful, then_lawful, chosen_lawful, headed_lawful, standing_lawful, passing_lawful, flagged_lawful, fitting_lawful, raised_lawful, IsNonEmpty, counted_items_lawful}
 
 -- numbers: what is written is read again
@@ -40,6 +41,14 @@ unsigned_lawful w wide = fitting_lawful _ (λ n lt. (wide.len n, sym (wide.again
 pub signed_lawful : (w : Width) → IsWide w → IsLawful (signed w)
 unfolding signed unsigned
 signed_lawful w wide = fitting_lawful _ (λ z fits. (wide.below z fits, sym (to_z-of_z w z fits))) (standing_lawful _ _ (unsigned_lawful w wide))
+
+pub ticks_lawful : IsLawful ticks
+unfolding ticks signed
+ticks_lawful = fitting_lawful _ (λ v fits. (fits, refl)) (standing_lawful _ _ (signed_lawful w64 wide64))
+
+pub status_lawful : IsLawful status
+unfolding status unsigned
+status_lawful = fitting_lawful _ (λ v fits. (fits, refl)) (standing_lawful _ _ (unsigned_lawful w32 wide32))
 
 pub sbyte_lawful : IsLawful sbyte
 unfolding sbyte
@@ -209,11 +218,95 @@ u32_lawful = unsigned_lawful w32 wide32
 pub i32_lawful : IsLawful (signed w32)
 i32_lawful = signed_lawful w32 wide32
 
-i32_some : IsNonEmpty (signed w32)
-unfolding signed unsigned
-i32_some = record { some = λ bytes v s. omega (arith, ap length s.1.1.0, s.1.1.1) }
+-- ---- what may stand in an array
 
-pub i32_array_lawful : IsLawful (array (λ e. e) (signed w32))
-i32_array_lawful = array_lawful (λ e. e) i32_some i32_lawful
+pub boolean_item : IsItemLawful boolean
+unfolding unsigned signed sbyte ticks status boolean byte_string text guid node_id qualified localized extension
+boolean_item = item boolean_lawful refl
 
-pub ruleset lawful = (sbyte_lawful, i16_lawful, u64_lawful, i64_lawful, qualified_lawful, extension_lawful, byte_lawful, u16_lawful, u32_lawful, i32_lawful, boolean_lawful, byte_string_lawful, text_lawful, guid_lawful, node_id_lawful, localized_lawful, i32_array_lawful)
+pub sbyte_item : IsItemLawful sbyte
+unfolding unsigned signed sbyte ticks status boolean byte_string text guid node_id qualified localized extension
+sbyte_item = item sbyte_lawful refl
+
+pub byte_item : IsItemLawful byte
+byte_item = item byte_lawful refl
+
+pub i16_item : IsItemLawful (signed w16)
+unfolding unsigned signed sbyte ticks status boolean byte_string text guid node_id qualified localized extension
+i16_item = item i16_lawful refl
+
+pub u16_item : IsItemLawful (unsigned w16)
+unfolding unsigned signed sbyte ticks status boolean byte_string text guid node_id qualified localized extension
+u16_item = item u16_lawful refl
+
+pub i32_item : IsItemLawful (signed w32)
+unfolding unsigned signed sbyte ticks status boolean byte_string text guid node_id qualified localized extension
+i32_item = item i32_lawful refl
+
+pub u32_item : IsItemLawful (unsigned w32)
+unfolding unsigned signed sbyte ticks status boolean byte_string text guid node_id qualified localized extension
+u32_item = item u32_lawful refl
+
+pub i64_item : IsItemLawful (signed w64)
+unfolding unsigned signed sbyte ticks status boolean byte_string text guid node_id qualified localized extension
+i64_item = item i64_lawful refl
+
+pub u64_item : IsItemLawful (unsigned w64)
+unfolding unsigned signed sbyte ticks status boolean byte_string text guid node_id qualified localized extension
+u64_item = item u64_lawful refl
+
+pub four_item : IsItemLawful (block 4)
+four_item = item (block_lawful 4) refl
+
+pub eight_item : IsItemLawful (block 8)
+eight_item = item (block_lawful 8) refl
+
+pub ticks_item : IsItemLawful ticks
+unfolding unsigned signed sbyte ticks status boolean byte_string text guid node_id qualified localized extension
+ticks_item = item ticks_lawful refl
+
+pub status_item : IsItemLawful status
+unfolding unsigned signed sbyte ticks status boolean byte_string text guid node_id qualified localized extension
+status_item = item status_lawful refl
+
+pub text_item : IsItemLawful text
+unfolding unsigned signed sbyte ticks status boolean byte_string text guid node_id qualified localized extension
+text_item = item text_lawful refl
+
+pub byte_string_item : IsItemLawful byte_string
+unfolding unsigned signed sbyte ticks status boolean byte_string text guid node_id qualified localized extension
+byte_string_item = item byte_string_lawful refl
+
+pub guid_item : IsItemLawful guid
+unfolding unsigned signed sbyte ticks status boolean byte_string text guid node_id qualified localized extension
+guid_item = item guid_lawful refl
+
+pub node_id_item : IsItemLawful node_id
+unfolding unsigned signed sbyte ticks status boolean byte_string text guid node_id qualified localized extension
+node_id_item = item node_id_lawful refl
+
+pub qualified_item : IsItemLawful qualified
+unfolding unsigned signed sbyte ticks status boolean byte_string text guid node_id qualified localized extension
+qualified_item = item qualified_lawful refl
+
+pub localized_item : IsItemLawful localized
+unfolding unsigned signed sbyte ticks status boolean byte_string text guid node_id qualified localized extension
+localized_item = item localized_lawful refl
+
+pub extension_item : IsItemLawful extension
+unfolding unsigned signed sbyte ticks status boolean byte_string text guid node_id qualified localized extension
+extension_item = item extension_lawful refl
+
+-- an array of items is lawful
+pub array_of_items : {E A : Type 0} (told : BinaryFault → E) {f : Format E A} → IsItemLawful f → IsLawful (array told f)
+array_of_items told p = array_lawful told p.some p.lawful
+
+pub four_lawful : IsLawful (block 4)
+four_lawful = block_lawful 4
+
+pub eight_lawful : IsLawful (block 8)
+eight_lawful = block_lawful 8
+
+pub ruleset lawful = (boolean_lawful, sbyte_lawful, byte_lawful, i16_lawful, u16_lawful, i32_lawful, u32_lawful, i64_lawful, u64_lawful, four_lawful, eight_lawful, ticks_lawful, status_lawful, text_lawful, byte_string_lawful, guid_lawful, node_id_lawful, qualified_lawful, localized_lawful, extension_lawful)
+
+pub ruleset item_lawful = (boolean_item, sbyte_item, byte_item, i16_item, u16_item, i32_item, u32_item, i64_item, u64_item, four_item, eight_item, ticks_item, status_item, text_item, byte_string_item, guid_item, node_id_item, qualified_item, localized_item, extension_item)
