@@ -92,15 +92,56 @@ node_of (lent.Named ns name) = Named ns name.now
 node_of (lent.Global ns id) = Global ns id
 node_of (lent.Opaque ns id) = Opaque ns id.now
 
--- what each first byte calls for
+-- the namespace and the id of a numeric node; any other has no number
+abbrev pub numbers_of : NodeId → ℕ × ℕ
+numbers_of (Numeric ns id) = (ns, id)
+numbers_of _ = (0, 0)
+
+abbrev pub named_parts : NodeId → ℕ × Option (List ℕ)
+named_parts (Named ns name) = (ns, Some name)
+named_parts _ = (0, None)
+
+abbrev pub global_parts : NodeId → ℕ × Guid
+global_parts (Global ns id) = (ns, id)
+global_parts _ = (0, guid_of (0, (0, (0, []))))
+
+abbrev pub opaque_parts : NodeId → ℕ × Option (List ℕ)
+opaque_parts (Opaque ns id) = (ns, Some id)
+opaque_parts _ = (0, None)
+
+-- a Byte is the id, in namespace 0
+abbrev pub two_byte_node : Format BinaryFault NodeId
+two_byte_node = standing_for (λ id. Numeric 0 id) (λ v. (numbers_of v).1) byte
+
+-- a Byte is the namespace, and a UInt16 the id
+abbrev pub four_byte_node : Format BinaryFault NodeId
+four_byte_node = standing_for (λ p. Numeric p.0 p.1) numbers_of (byte ▸ unsigned w16)
+
+-- a UInt16 is the namespace, and a UInt32 the id
+abbrev pub numeric_node : Format BinaryFault NodeId
+numeric_node = standing_for (λ p. Numeric p.0 p.1) numbers_of (unsigned w16 ▸ unsigned w32)
+
+-- a UInt16 is the namespace, and a String the id; a null one is empty
+abbrev pub named_node : Format BinaryFault NodeId
+named_node = standing_for (λ p. Named p.0 (unwrap_or p.1 [])) named_parts (unsigned w16 ▸ text)
+
+-- a UInt16 is the namespace, and a Guid the id
+abbrev pub global_node : Format BinaryFault NodeId
+global_node = standing_for (λ p. Global p.0 p.1) global_parts (unsigned w16 ▸ guid)
+
+-- a UInt16 is the namespace, and a ByteString the id; a null one is empty
+abbrev pub opaque_node : Format BinaryFault NodeId
+opaque_node = standing_for (λ p. Opaque p.0 (unwrap_or p.1 [])) opaque_parts (unsigned w16 ▸ byte_string)
+
+-- the form that the first byte tells
 abbrev pub node_form : ℕ → Format BinaryFault NodeId
 node_form form =
-    chosen (form == 0) (standing_for (λ id. Numeric 0 id) (λ v. elim v [ Numeric ns id ↦ id | _ ↦ 0 ]) byte) (
-    chosen (form == 1) (standing_for (λ p. Numeric p.0 p.1) (λ v. elim v [ Numeric ns id ↦ (ns, id) | _ ↦ (0, 0) ]) (byte ▸ unsigned w16)) (
-    chosen (form == 2) (standing_for (λ p. Numeric p.0 p.1) (λ v. elim v [ Numeric ns id ↦ (ns, id) | _ ↦ (0, 0) ]) (unsigned w16 ▸ unsigned w32)) (
-    chosen (form == 3) (standing_for (λ p. Named p.0 (unwrap_or p.1 [])) (λ v. elim v [ Named ns name ↦ (ns, Some name) | _ ↦ (0, None) ]) (unsigned w16 ▸ text)) (
-    chosen (form == 4) (standing_for (λ p. Global p.0 p.1) (λ v. elim v [ Global ns id ↦ (ns, id) | _ ↦ (0, guid_of (0, (0, (0, [])))) ]) (unsigned w16 ▸ guid)) (
-    chosen (form == 5) (standing_for (λ p. Opaque p.0 (unwrap_or p.1 [])) (λ v. elim v [ Opaque ns id ↦ (ns, Some id) | _ ↦ (0, None) ]) (unsigned w16 ▸ byte_string)) (
+    chosen (form == 0) two_byte_node (
+    chosen (form == 1) four_byte_node (
+    chosen (form == 2) numeric_node (
+    chosen (form == 3) named_node (
+    chosen (form == 4) global_node (
+    chosen (form == 5) opaque_node (
     refused BadEncodingByte))))))
 
 -- the first byte that is written: of the shortest form
