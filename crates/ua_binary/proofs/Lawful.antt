@@ -15,7 +15,7 @@ use Rattle.ua_binary.specs.declared.values.Body.{Body}
 use Rattle.ua_binary.specs.declared.values.Body.TheVariants.{Absent, Binary, Xml}
 use Rattle.ua_binary.specs.declared.values.LocalizedText.{LocalizedText}
 use Rattle.ua_binary.specs.Format.{◌>>=◌, Reading, Format, IsLawful, nothing, refused, byte, block, ◌▸◌, chosen, headed, standing_for, passing, flagged, fitting, with_fault, raised, items, items_at, at_least}
-use Rattle.ua_binary.specs.Binary.{unsigned, signed, sbyte, ticks, status, boolean, counted, count_of, IsCounted, byte_string, is_text, text, IsText, guid, guid_of, guid_fields, IsGuid, node_form, node_form_of, IsNodeId, node_id, localized, localized_fields, localized_mask, IsLocalized, counted_number, count_at, counted_items, array_spelled, array, qualified, body_form, body_kind, IsBody, body, extension}
+use Rattle.ua_binary.specs.Binary.{unsigned, signed, sbyte, ticks, status, boolean, counted, count_of, IsCounted, byte_string, is_text, text, IsText, guid, guid_of, guid_fields, IsGuid, node_form, node_form_of, IsNodeId, node_id, localized, localized_fields, localized_mask, IsLocalized, counted_number, count_at, counted_items, array_spelled, array, qualified, IsQualified, IsExtension, body_form, body_kind, IsBody, body, extension}
 use Rattle.ua_binary.proofs.Elements.{IsItemLawful, item}
 use Rattle.ua_binary.proofs.Combined.{nothing_lawful, refused_lawful, byte_lawful, block_lawful, then_lawful, chosen_lawful, headed_lawful, standing_lawful, passing_lawful, flagged_lawful, fitting_lawful, raised_lawful, IsNonEmpty, counted_items_lawful}
 
@@ -77,13 +77,18 @@ pub byte_string_lawful : IsLawful byte_string
 unfolding byte_string signed
 byte_string_lawful = fitting_lawful _ counted_fits (headed_lawful count_of counted (signed_lawful w32 wide32) counted_lawful)
 
+text_fits : (v : Option (List ℕ)) → IsText v → (passing is_text BadUtf8 byte_string).Fits v
+unfolding byte_string
+text_fits None h = (h, refl)
+text_fits (Some bytes) h = h
+
 pub text_lawful : IsLawful text
 unfolding text
-text_lawful = passing_lawful is_text BadUtf8 byte_string_lawful
+text_lawful = fitting_lawful IsText text_fits (passing_lawful is_text BadUtf8 byte_string_lawful)
 
 pub guid_lawful : IsLawful guid
-unfolding guid
-guid_lawful = standing_lawful guid_of guid_fields (then_lawful (unsigned_lawful w32 wide32) (then_lawful (unsigned_lawful w16 wide16) (then_lawful (unsigned_lawful w16 wide16) (block_lawful 8))))
+unfolding guid unsigned
+guid_lawful = fitting_lawful IsGuid (λ v h. ((h.0, (h.1, (h.2, h.3))), refl)) (standing_lawful guid_of guid_fields (then_lawful (unsigned_lawful w32 wide32) (then_lawful (unsigned_lawful w16 wide16) (then_lawful (unsigned_lawful w16 wide16) (block_lawful 8)))))
 
 -- ---- node ids
 
@@ -124,7 +129,7 @@ node_fits : (v : NodeId) → IsNodeId v → (node_form_of v < 2 ^ 8) × (node_fo
 unfolding unsigned text byte_string guid
 node_fits (Numeric ns id) h = numeric_fits ns id h.0 h.1
 node_fits (Named ns name) h = (omega arith, ((h.0, (h.1, h.2)), refl))
-node_fits (Global ns id) h = (omega arith, ((h.0, ((h.1.0, (h.1.1, (h.1.2, h.1.3))), refl)), refl))
+node_fits (Global ns id) h = (omega arith, ((h.0, h.1), refl))
 node_fits (Opaque ns id) h = (omega arith, ((h.0, h.1), refl))
 
 pub node_id_lawful : IsLawful node_id
@@ -148,8 +153,8 @@ unfolding localized
 localized_lawful = fitting_lawful IsLocalized (λ v h. localized_fits v.locale v.text h.0 h.1) (headed_lawful localized_mask localized_fields byte_lawful localized_fields_lawful)
 
 pub qualified_lawful : IsLawful qualified
-unfolding qualified
-qualified_lawful = standing_lawful _ _ (then_lawful (unsigned_lawful w16 wide16) text_lawful)
+unfolding qualified unsigned text
+qualified_lawful = fitting_lawful IsQualified (λ v h. (h, refl)) (standing_lawful _ _ (then_lawful (unsigned_lawful w16 wide16) text_lawful))
 
 body_form_lawful : (kind : ℕ) → IsLawful (body_form kind)
 body_form_lawful kind =
@@ -165,8 +170,8 @@ body_fits (Binary b) h = (omega arith, (h, refl))
 body_fits (Xml b) h = (omega arith, (h, refl))
 
 pub extension_lawful : IsLawful extension
-unfolding extension
-extension_lawful = standing_lawful _ _ (then_lawful node_id_lawful (fitting_lawful IsBody body_fits (headed_lawful body_kind body_form byte_lawful body_form_lawful)))
+unfolding extension node_id
+extension_lawful = fitting_lawful IsExtension (λ v h. (h, refl)) (standing_lawful _ _ (then_lawful node_id_lawful (fitting_lawful IsBody body_fits (headed_lawful body_kind body_form byte_lawful body_form_lawful))))
 
 counted_items_are_lawful : {E A : Type 0} (told : BinaryFault → E) (f : Format E A) → IsNonEmpty f → IsLawful f → (n : ℤ) → IsLawful (counted_items told f n)
 counted_items_are_lawful told f some p (pos n) = counted_items_lawful n (told Short) some p

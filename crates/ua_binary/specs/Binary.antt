@@ -77,9 +77,13 @@ abbrev pub is_text : Option (List ℕ) → Bool
 is_text None = true
 is_text (Some bytes) = is_utf8 bytes
 
+-- few enough bytes to be counted, and UTF-8
+abbrev pub IsText : Option (List ℕ) → Type 0
+IsText v = IfSome v (λ t. (length t < 2 ^ 31) × (is_utf8 t ≡ true))
+
 -- a byte string of UTF-8
 unfoldable pub text : Format BinaryFault (Option (List ℕ))
-text = passing is_text BadUtf8 byte_string
+text = fitting IsText (passing is_text BadUtf8 byte_string)
 
 -- ---- Guid (5.2.2.6)
 
@@ -89,9 +93,13 @@ guid_of p = record { first = p.0; second = p.1.0; third = p.1.1.0; last = p.1.1.
 abbrev pub guid_fields : Guid → ℕ × (ℕ × (ℕ × List ℕ))
 guid_fields g = (g.first, (g.second, (g.third, g.last)))
 
+-- each part has its size
+abbrev pub IsGuid : Guid → Type 0
+IsGuid g = (g.first < 2 ^ 32) × (g.second < 2 ^ 16) × (g.third < 2 ^ 16) × (length g.last ≡ 8)
+
 -- a UInt32, two UInt16 and eight bytes
 unfoldable pub guid : Format BinaryFault Guid
-guid = standing_for guid_of guid_fields (unsigned w32 ▸ unsigned w16 ▸ unsigned w16 ▸ block 8)
+guid = fitting IsGuid (standing_for guid_of guid_fields (unsigned w32 ▸ unsigned w16 ▸ unsigned w16 ▸ block 8))
 
 -- ---- node ids (5.2.2.9)
 
@@ -161,10 +169,6 @@ node_form_of (Named ns name) = 3
 node_form_of (Global ns id) = 4
 node_form_of (Opaque ns id) = 5
 
--- each part has its size
-abbrev pub IsGuid : Guid → Type 0
-IsGuid g = (g.first < 2 ^ 32) × (g.second < 2 ^ 16) × (g.third < 2 ^ 16) × (length g.last ≡ 8)
-
 -- the numbers are those of their types, and the bytes few enough to be counted
 abbrev pub IsNodeId : NodeId → Type 0
 IsNodeId (Numeric ns id) = (ns < 2 ^ 16) × (id < 2 ^ 32)
@@ -193,10 +197,6 @@ localized_fields mask =
     standing_for (λ p. record { locale = option_flatten p.0; text = option_flatten p.1 }) (λ v. (option_map Some v.locale, option_map Some v.text))
     (flagged (not (bit_and mask 1 == 0)) text ▸ flagged (not (bit_and mask 2 == 0)) text))
 
--- few enough bytes to be counted, and UTF-8
-abbrev pub IsText : Option (List ℕ) → Type 0
-IsText v = IfSome v (λ t. (length t < 2 ^ 31) × (is_utf8 t ≡ true))
-
 abbrev pub IsLocalized : LocalizedText → Type 0
 IsLocalized v = IsText v.locale × IsText v.text
 
@@ -210,9 +210,12 @@ localized = fitting IsLocalized (headed localized_mask byte localized_fields)
 abbrev pub qualified_of : QualifiedRef → QualifiedName
 qualified_of r = record { namespace = r.namespace; name = option_copied r.name }
 
+abbrev pub IsQualified : QualifiedName → Type 0
+IsQualified v = (v.namespace < 2 ^ 16) × IsText v.name
+
 -- a UInt16 and a String
 unfoldable pub qualified : Format BinaryFault QualifiedName
-qualified = standing_for (λ p. record { namespace = p.0; name = p.1 }) (λ v. (v.namespace, v.name)) (unsigned w16 ▸ text)
+qualified = fitting IsQualified (standing_for (λ p. record { namespace = p.0; name = p.1 }) (λ v. (v.namespace, v.name)) (unsigned w16 ▸ text))
 
 -- ---- extension objects (5.2.2.15)
 
@@ -257,9 +260,12 @@ IsBody (Xml b) = length b < 2 ^ 31
 abbrev pub body : Format BinaryFault Body
 body = fitting IsBody (headed body_kind byte body_form)
 
+abbrev pub IsExtension : ExtensionObject → Type 0
+IsExtension v = IsNodeId v.type_id × IsBody v.body
+
 -- the id of a type, and a body
 unfoldable pub extension : Format BinaryFault ExtensionObject
-extension = standing_for (λ p. record { type_id = p.0; body = p.1 }) (λ v. (v.type_id, v.body)) (node_id ▸ body)
+extension = fitting IsExtension (standing_for (λ p. record { type_id = p.0; body = p.1 }) (λ v. (v.type_id, v.body)) (node_id ▸ body))
 
 -- ---- arrays (5.2.5)
 
