@@ -15,7 +15,8 @@ use Rattle.ua_binary.specs.declared.values.Body.{Body}
 use Rattle.ua_binary.specs.declared.values.Body.TheVariants.{Absent, Binary, Xml}
 use Rattle.ua_binary.specs.declared.values.LocalizedText.{LocalizedText}
 use Rattle.ua_binary.specs.Format.{◌>>=◌, Reading, Format, IsLawful, nothing, refused, byte, block, ◌▸◌, chosen, headed, standing_for, passing, flagged, fitting, with_fault, raised, items, items_at, at_least}
-use Rattle.ua_binary.specs.Binary.{unsigned, signed, sbyte, boolean, counted, count_of, IsCounted, byte_string, is_text, text, IsText, guid, guid_of, guid_fields, IsGuid, node_form, node_form_of, IsNodeId, node_id, localized, localized_fields, localized_mask, IsLocalized, counted_number, count_at, counted_items, array_spelled, array, qualified, body_form, body_kind, IsBody, body, extension}
+use Rattle.ua_binary.specs.Binary.{unsigned, signed, sbyte, ticks, status, boolean, counted, count_of, IsCounted, byte_string, is_text, text, IsText, guid, guid_of, guid_fields, IsGuid, node_form, node_form_of, IsNodeId, node_id, localized, localized_fields, localized_mask, IsLocalized, counted_number, count_at, counted_items, array_spelled, array, qualified, IsQualified, IsExtension, body_form, body_kind, IsBody, body, extension}
+use Rattle.ua_binary.proofs.Elements.{IsItemLawful, item}
 use Rattle.ua_binary.proofs.Combined.{nothing_lawful, refused_lawful, byte_lawful, block_lawful, then_lawful, chosen_lawful, headed_lawful, standing_lawful, passing_lawful, flagged_lawful, fitting_lawful, raised_lawful, IsNonEmpty, counted_items_lawful}
 
 -- numbers: what is written is read again
@@ -40,6 +41,14 @@ unsigned_lawful w wide = fitting_lawful _ (λ n lt. (wide.len n, sym (wide.again
 pub signed_lawful : (w : Width) → IsWide w → IsLawful (signed w)
 unfolding signed unsigned
 signed_lawful w wide = fitting_lawful _ (λ z fits. (wide.below z fits, sym (to_z-of_z w z fits))) (standing_lawful _ _ (unsigned_lawful w wide))
+
+pub ticks_lawful : IsLawful ticks
+unfolding ticks signed
+ticks_lawful = fitting_lawful _ (λ v fits. (fits, refl)) (standing_lawful _ _ (signed_lawful w64 wide64))
+
+pub status_lawful : IsLawful status
+unfolding status unsigned
+status_lawful = fitting_lawful _ (λ v fits. (fits, refl)) (standing_lawful _ _ (unsigned_lawful w32 wide32))
 
 pub sbyte_lawful : IsLawful sbyte
 unfolding sbyte
@@ -68,13 +77,18 @@ pub byte_string_lawful : IsLawful byte_string
 unfolding byte_string signed
 byte_string_lawful = fitting_lawful _ counted_fits (headed_lawful count_of counted (signed_lawful w32 wide32) counted_lawful)
 
+text_fits : (v : Option (List ℕ)) → IsText v → (passing is_text BadUtf8 byte_string).Fits v
+unfolding byte_string
+text_fits None h = (h, refl)
+text_fits (Some bytes) h = h
+
 pub text_lawful : IsLawful text
 unfolding text
-text_lawful = passing_lawful is_text BadUtf8 byte_string_lawful
+text_lawful = fitting_lawful IsText text_fits (passing_lawful is_text BadUtf8 byte_string_lawful)
 
 pub guid_lawful : IsLawful guid
-unfolding guid
-guid_lawful = standing_lawful guid_of guid_fields (then_lawful (unsigned_lawful w32 wide32) (then_lawful (unsigned_lawful w16 wide16) (then_lawful (unsigned_lawful w16 wide16) (block_lawful 8))))
+unfolding guid unsigned
+guid_lawful = fitting_lawful IsGuid (λ v h. ((h.0, (h.1, (h.2, h.3))), refl)) (standing_lawful guid_of guid_fields (then_lawful (unsigned_lawful w32 wide32) (then_lawful (unsigned_lawful w16 wide16) (then_lawful (unsigned_lawful w16 wide16) (block_lawful 8)))))
 
 -- ---- node ids
 
@@ -115,7 +129,7 @@ node_fits : (v : NodeId) → IsNodeId v → (node_form_of v < 2 ^ 8) × (node_fo
 unfolding unsigned text byte_string guid
 node_fits (Numeric ns id) h = numeric_fits ns id h.0 h.1
 node_fits (Named ns name) h = (omega arith, ((h.0, (h.1, h.2)), refl))
-node_fits (Global ns id) h = (omega arith, ((h.0, ((h.1.0, (h.1.1, (h.1.2, h.1.3))), refl)), refl))
+node_fits (Global ns id) h = (omega arith, ((h.0, h.1), refl))
 node_fits (Opaque ns id) h = (omega arith, ((h.0, h.1), refl))
 
 pub node_id_lawful : IsLawful node_id
@@ -139,8 +153,8 @@ unfolding localized
 localized_lawful = fitting_lawful IsLocalized (λ v h. localized_fits v.locale v.text h.0 h.1) (headed_lawful localized_mask localized_fields byte_lawful localized_fields_lawful)
 
 pub qualified_lawful : IsLawful qualified
-unfolding qualified
-qualified_lawful = standing_lawful _ _ (then_lawful (unsigned_lawful w16 wide16) text_lawful)
+unfolding qualified unsigned text
+qualified_lawful = fitting_lawful IsQualified (λ v h. (h, refl)) (standing_lawful _ _ (then_lawful (unsigned_lawful w16 wide16) text_lawful))
 
 body_form_lawful : (kind : ℕ) → IsLawful (body_form kind)
 body_form_lawful kind =
@@ -156,8 +170,8 @@ body_fits (Binary b) h = (omega arith, (h, refl))
 body_fits (Xml b) h = (omega arith, (h, refl))
 
 pub extension_lawful : IsLawful extension
-unfolding extension
-extension_lawful = standing_lawful _ _ (then_lawful node_id_lawful (fitting_lawful IsBody body_fits (headed_lawful body_kind body_form byte_lawful body_form_lawful)))
+unfolding extension node_id
+extension_lawful = fitting_lawful IsExtension (λ v h. (h, refl)) (standing_lawful _ _ (then_lawful node_id_lawful (fitting_lawful IsBody body_fits (headed_lawful body_kind body_form byte_lawful body_form_lawful))))
 
 counted_items_are_lawful : {E A : Type 0} (told : BinaryFault → E) (f : Format E A) → IsNonEmpty f → IsLawful f → (n : ℤ) → IsLawful (counted_items told f n)
 counted_items_are_lawful told f some p (pos n) = counted_items_lawful n (told Short) some p
@@ -209,11 +223,95 @@ u32_lawful = unsigned_lawful w32 wide32
 pub i32_lawful : IsLawful (signed w32)
 i32_lawful = signed_lawful w32 wide32
 
-i32_some : IsNonEmpty (signed w32)
-unfolding signed unsigned
-i32_some = record { some = λ bytes v s. omega (arith, ap length s.1.1.0, s.1.1.1) }
+-- ---- what may stand in an array
 
-pub i32_array_lawful : IsLawful (array (λ e. e) (signed w32))
-i32_array_lawful = array_lawful (λ e. e) i32_some i32_lawful
+pub boolean_item : IsItemLawful boolean
+unfolding unsigned signed sbyte ticks status boolean byte_string text guid node_id qualified localized extension
+boolean_item = item boolean_lawful refl
 
-pub ruleset lawful = (sbyte_lawful, i16_lawful, u64_lawful, i64_lawful, qualified_lawful, extension_lawful, byte_lawful, u16_lawful, u32_lawful, i32_lawful, boolean_lawful, byte_string_lawful, text_lawful, guid_lawful, node_id_lawful, localized_lawful, i32_array_lawful)
+pub sbyte_item : IsItemLawful sbyte
+unfolding unsigned signed sbyte ticks status boolean byte_string text guid node_id qualified localized extension
+sbyte_item = item sbyte_lawful refl
+
+pub byte_item : IsItemLawful byte
+byte_item = item byte_lawful refl
+
+pub i16_item : IsItemLawful (signed w16)
+unfolding unsigned signed sbyte ticks status boolean byte_string text guid node_id qualified localized extension
+i16_item = item i16_lawful refl
+
+pub u16_item : IsItemLawful (unsigned w16)
+unfolding unsigned signed sbyte ticks status boolean byte_string text guid node_id qualified localized extension
+u16_item = item u16_lawful refl
+
+pub i32_item : IsItemLawful (signed w32)
+unfolding unsigned signed sbyte ticks status boolean byte_string text guid node_id qualified localized extension
+i32_item = item i32_lawful refl
+
+pub u32_item : IsItemLawful (unsigned w32)
+unfolding unsigned signed sbyte ticks status boolean byte_string text guid node_id qualified localized extension
+u32_item = item u32_lawful refl
+
+pub i64_item : IsItemLawful (signed w64)
+unfolding unsigned signed sbyte ticks status boolean byte_string text guid node_id qualified localized extension
+i64_item = item i64_lawful refl
+
+pub u64_item : IsItemLawful (unsigned w64)
+unfolding unsigned signed sbyte ticks status boolean byte_string text guid node_id qualified localized extension
+u64_item = item u64_lawful refl
+
+pub four_item : IsItemLawful (block 4)
+four_item = item (block_lawful 4) refl
+
+pub eight_item : IsItemLawful (block 8)
+eight_item = item (block_lawful 8) refl
+
+pub ticks_item : IsItemLawful ticks
+unfolding unsigned signed sbyte ticks status boolean byte_string text guid node_id qualified localized extension
+ticks_item = item ticks_lawful refl
+
+pub status_item : IsItemLawful status
+unfolding unsigned signed sbyte ticks status boolean byte_string text guid node_id qualified localized extension
+status_item = item status_lawful refl
+
+pub text_item : IsItemLawful text
+unfolding unsigned signed sbyte ticks status boolean byte_string text guid node_id qualified localized extension
+text_item = item text_lawful refl
+
+pub byte_string_item : IsItemLawful byte_string
+unfolding unsigned signed sbyte ticks status boolean byte_string text guid node_id qualified localized extension
+byte_string_item = item byte_string_lawful refl
+
+pub guid_item : IsItemLawful guid
+unfolding unsigned signed sbyte ticks status boolean byte_string text guid node_id qualified localized extension
+guid_item = item guid_lawful refl
+
+pub node_id_item : IsItemLawful node_id
+unfolding unsigned signed sbyte ticks status boolean byte_string text guid node_id qualified localized extension
+node_id_item = item node_id_lawful refl
+
+pub qualified_item : IsItemLawful qualified
+unfolding unsigned signed sbyte ticks status boolean byte_string text guid node_id qualified localized extension
+qualified_item = item qualified_lawful refl
+
+pub localized_item : IsItemLawful localized
+unfolding unsigned signed sbyte ticks status boolean byte_string text guid node_id qualified localized extension
+localized_item = item localized_lawful refl
+
+pub extension_item : IsItemLawful extension
+unfolding unsigned signed sbyte ticks status boolean byte_string text guid node_id qualified localized extension
+extension_item = item extension_lawful refl
+
+-- an array of items is lawful
+pub array_of_items : {E A : Type 0} (told : BinaryFault → E) {f : Format E A} → IsItemLawful f → IsLawful (array told f)
+array_of_items told p = array_lawful told p.some p.lawful
+
+pub four_lawful : IsLawful (block 4)
+four_lawful = block_lawful 4
+
+pub eight_lawful : IsLawful (block 8)
+eight_lawful = block_lawful 8
+
+pub ruleset lawful = (boolean_lawful, sbyte_lawful, byte_lawful, i16_lawful, u16_lawful, i32_lawful, u32_lawful, i64_lawful, u64_lawful, four_lawful, eight_lawful, ticks_lawful, status_lawful, text_lawful, byte_string_lawful, guid_lawful, node_id_lawful, qualified_lawful, localized_lawful, extension_lawful)
+
+pub ruleset item_lawful = (boolean_item, sbyte_item, byte_item, i16_item, u16_item, i32_item, u32_item, i64_item, u64_item, four_item, eight_item, ticks_item, status_item, text_item, byte_string_item, guid_item, node_id_item, qualified_item, localized_item, extension_item)

@@ -1,4 +1,4 @@
--- The formats of the binary encoding, and what a reader and a writer do.
+-- The formats of the binary encoding (Part 6, 5.2), one for each built-in type that is spelled.
 use Rattle.std.specs.Prelude.{◌≡◌, ℕ, zero, suc, ◌+◌, ◌*◌, ◌<◌, ◌^◌, ℤ, pos, negsuc, List, [], ◌∷◌, ◌++◌, length, take, Option, Some, None, Bool, true, false, not, Result, Ok, Err, nat_lt, ◌==◌, if◌then◌else◌, IfSome, unwrap_or, is_some, option_map, ◌&&◌, bit_and}
 use Rattle.std.specs.Option.{option_copied, option_flatten}
 use Rattle.std.specs.Int.{Width, w8, w16, w32, w64, byte_len, from_le_bytes, to_le_bytes, cast_signed, cast_unsigned}
@@ -7,6 +7,8 @@ use Rattle.std.specs.Str.{IsUtf8, is_utf8}
 use Rattle.ua_binary.specs.declared.fault.BinaryFault.{BinaryFault}
 use Rattle.ua_binary.specs.declared.fault.BinaryFault.TheVariants.{Short, BadLength, BadUtf8, BadEncodingByte}
 use Rattle.ua_binary.specs.declared.values.Guid.{Guid}
+use Rattle.ua_binary.specs.declared.values.Ticks.{Ticks}
+use Rattle.ua_binary.specs.declared.values.Status.{Status}
 use Rattle.ua_binary.specs.declared.values.NodeId.{NodeId}
 use Rattle.ua_binary.specs.declared.values.NodeId.TheVariants.{Numeric, Named, Global, Opaque}
 use Rattle.ua_binary.specs.declared.values.NodeIdRef.{NodeIdRef}
@@ -23,21 +25,35 @@ use Rattle.ua_binary.specs.declared.values.ExtensionObject.{ExtensionObject}
 use Rattle.ua_binary.specs.declared.values.ExtensionRef.{ExtensionRef}
 use Rattle.ua_binary.specs.Format.{◌>>=◌, Reading, Format, nothing, refused, byte, block, ◌▸◌, chosen, headed, standing_for, passing, flagged, fitting, with_fault, raised, items, items_at, at_least}
 
--- numbers, the low byte first
+-- ---- numbers (5.2.2.1, 5.2.2.2, 5.2.2.5, 5.2.2.11)
+
+-- an unsigned number: its bytes, the low one first
 unfoldable pub unsigned : Width → Format BinaryFault ℕ
 unsigned w = fitting (λ n. n < 2 ^ (8 * byte_len w)) (standing_for (from_le_bytes w) (to_le_bytes w) (block (byte_len w)))
 
+-- a signed number: its two's complement, the low byte first
 unfoldable pub signed : Width → Format BinaryFault ℤ
 signed w = fitting (λ z. FitsSigned w z) (standing_for (cast_signed w) (cast_unsigned w) (unsigned w))
 
+-- a signed number of one byte
 unfoldable pub sbyte : Format BinaryFault ℤ
 sbyte = fitting (λ z. FitsSigned w8 z) (standing_for (cast_signed w8) (cast_unsigned w8) byte)
 
--- 0 is false, another byte true
+-- a moment: its steps of 100 ns since 1601
+unfoldable pub ticks : Format BinaryFault Ticks
+ticks = fitting (λ t. FitsSigned w64 t.0) (standing_for (λ z. record { 0 = z }) (λ t. t.0) (signed w64))
+
+-- a status code: its 32 bits
+unfoldable pub status : Format BinaryFault Status
+status = fitting (λ c. c.0 < 2 ^ 32) (standing_for (λ n. record { 0 = n }) (λ c. c.0) (unsigned w32))
+
+-- one byte: 0 is false, another true; 1 is written
 unfoldable pub boolean : Format BinaryFault Bool
 boolean = fitting (λ _. Unit {0}) (standing_for (λ b. not (b == 0)) (λ v. if v then 1 else 0) byte)
 
--- what follows a count: as many bytes, none for -1
+-- ---- bytes and texts (5.2.2.4, 5.2.2.7)
+
+-- what follows a count: as many bytes; nothing after -1, which is null; below -1 it is no count
 abbrev pub counted : ℤ → Format BinaryFault (Option (List ℕ))
 counted (pos n) = flagged true (block n)
 counted (negsuc zero) = nothing None
@@ -52,17 +68,24 @@ count_of (Some bytes) = pos (length bytes)
 abbrev pub IsCounted : Option (List ℕ) → Type 0
 IsCounted v = IfSome v (λ bytes. length bytes < 2 ^ 31)
 
+-- a count of 32 bits, and then what it calls for
 unfoldable pub byte_string : Format BinaryFault (Option (List ℕ))
 byte_string = fitting IsCounted (headed count_of (signed w32) counted)
 
+-- the bytes, where there are any, are UTF-8
 abbrev pub is_text : Option (List ℕ) → Bool
 is_text None = true
 is_text (Some bytes) = is_utf8 bytes
 
-unfoldable pub text : Format BinaryFault (Option (List ℕ))
-text = passing is_text BadUtf8 byte_string
+-- few enough bytes to be counted, and UTF-8
+abbrev pub IsText : Option (List ℕ) → Type 0
+IsText v = IfSome v (λ t. (length t < 2 ^ 31) × (is_utf8 t ≡ true))
 
--- ---- Guid
+-- a byte string of UTF-8
+unfoldable pub text : Format BinaryFault (Option (List ℕ))
+text = fitting IsText (passing is_text BadUtf8 byte_string)
+
+-- ---- Guid (5.2.2.6)
 
 abbrev pub guid_of : ℕ × (ℕ × (ℕ × List ℕ)) → Guid
 guid_of p = record { first = p.0; second = p.1.0; third = p.1.1.0; last = p.1.1.1 }
@@ -70,10 +93,15 @@ guid_of p = record { first = p.0; second = p.1.0; third = p.1.1.0; last = p.1.1.
 abbrev pub guid_fields : Guid → ℕ × (ℕ × (ℕ × List ℕ))
 guid_fields g = (g.first, (g.second, (g.third, g.last)))
 
-unfoldable pub guid : Format BinaryFault Guid
-guid = standing_for guid_of guid_fields (unsigned w32 ▸ unsigned w16 ▸ unsigned w16 ▸ block 8)
+-- each part has its size
+abbrev pub IsGuid : Guid → Type 0
+IsGuid g = (g.first < 2 ^ 32) × (g.second < 2 ^ 16) × (g.third < 2 ^ 16) × (length g.last ≡ 8)
 
--- ---- node ids
+-- a UInt32, two UInt16 and eight bytes
+unfoldable pub guid : Format BinaryFault Guid
+guid = fitting IsGuid (standing_for guid_of guid_fields (unsigned w32 ▸ unsigned w16 ▸ unsigned w16 ▸ block 8))
+
+-- ---- node ids (5.2.2.9)
 
 -- a borrowed node id as one that owns its bytes
 abbrev pub node_of : NodeIdRef → NodeId
@@ -82,15 +110,56 @@ node_of (lent.Named ns name) = Named ns name.now
 node_of (lent.Global ns id) = Global ns id
 node_of (lent.Opaque ns id) = Opaque ns id.now
 
--- what each first byte calls for
+-- the namespace and the id of a numeric node; any other has no number
+abbrev pub numbers_of : NodeId → ℕ × ℕ
+numbers_of (Numeric ns id) = (ns, id)
+numbers_of _ = (0, 0)
+
+abbrev pub named_parts : NodeId → ℕ × Option (List ℕ)
+named_parts (Named ns name) = (ns, Some name)
+named_parts _ = (0, None)
+
+abbrev pub global_parts : NodeId → ℕ × Guid
+global_parts (Global ns id) = (ns, id)
+global_parts _ = (0, guid_of (0, (0, (0, []))))
+
+abbrev pub opaque_parts : NodeId → ℕ × Option (List ℕ)
+opaque_parts (Opaque ns id) = (ns, Some id)
+opaque_parts _ = (0, None)
+
+-- a Byte is the id, in namespace 0
+abbrev pub two_byte_node : Format BinaryFault NodeId
+two_byte_node = standing_for (λ id. Numeric 0 id) (λ v. (numbers_of v).1) byte
+
+-- a Byte is the namespace, and a UInt16 the id
+abbrev pub four_byte_node : Format BinaryFault NodeId
+four_byte_node = standing_for (λ p. Numeric p.0 p.1) numbers_of (byte ▸ unsigned w16)
+
+-- a UInt16 is the namespace, and a UInt32 the id
+abbrev pub numeric_node : Format BinaryFault NodeId
+numeric_node = standing_for (λ p. Numeric p.0 p.1) numbers_of (unsigned w16 ▸ unsigned w32)
+
+-- a UInt16 is the namespace, and a String the id; a null one is empty
+abbrev pub named_node : Format BinaryFault NodeId
+named_node = standing_for (λ p. Named p.0 (unwrap_or p.1 [])) named_parts (unsigned w16 ▸ text)
+
+-- a UInt16 is the namespace, and a Guid the id
+abbrev pub global_node : Format BinaryFault NodeId
+global_node = standing_for (λ p. Global p.0 p.1) global_parts (unsigned w16 ▸ guid)
+
+-- a UInt16 is the namespace, and a ByteString the id; a null one is empty
+abbrev pub opaque_node : Format BinaryFault NodeId
+opaque_node = standing_for (λ p. Opaque p.0 (unwrap_or p.1 [])) opaque_parts (unsigned w16 ▸ byte_string)
+
+-- the form that the first byte tells
 abbrev pub node_form : ℕ → Format BinaryFault NodeId
 node_form form =
-    chosen (form == 0) (standing_for (λ id. Numeric 0 id) (λ v. elim v [ Numeric ns id ↦ id | _ ↦ 0 ]) byte) (
-    chosen (form == 1) (standing_for (λ p. Numeric p.0 p.1) (λ v. elim v [ Numeric ns id ↦ (ns, id) | _ ↦ (0, 0) ]) (byte ▸ unsigned w16)) (
-    chosen (form == 2) (standing_for (λ p. Numeric p.0 p.1) (λ v. elim v [ Numeric ns id ↦ (ns, id) | _ ↦ (0, 0) ]) (unsigned w16 ▸ unsigned w32)) (
-    chosen (form == 3) (standing_for (λ p. Named p.0 (unwrap_or p.1 [])) (λ v. elim v [ Named ns name ↦ (ns, Some name) | _ ↦ (0, None) ]) (unsigned w16 ▸ text)) (
-    chosen (form == 4) (standing_for (λ p. Global p.0 p.1) (λ v. elim v [ Global ns id ↦ (ns, id) | _ ↦ (0, guid_of (0, (0, (0, [])))) ]) (unsigned w16 ▸ guid)) (
-    chosen (form == 5) (standing_for (λ p. Opaque p.0 (unwrap_or p.1 [])) (λ v. elim v [ Opaque ns id ↦ (ns, Some id) | _ ↦ (0, None) ]) (unsigned w16 ▸ byte_string)) (
+    chosen (form == 0) two_byte_node (
+    chosen (form == 1) four_byte_node (
+    chosen (form == 2) numeric_node (
+    chosen (form == 3) named_node (
+    chosen (form == 4) global_node (
+    chosen (form == 5) opaque_node (
     refused BadEncodingByte))))))
 
 -- the first byte that is written: of the shortest form
@@ -100,9 +169,6 @@ node_form_of (Named ns name) = 3
 node_form_of (Global ns id) = 4
 node_form_of (Opaque ns id) = 5
 
-abbrev pub IsGuid : Guid → Type 0
-IsGuid g = (g.first < 2 ^ 32) × (g.second < 2 ^ 16) × (g.third < 2 ^ 16) × (length g.last ≡ 8)
-
 -- the numbers are those of their types, and the bytes few enough to be counted
 abbrev pub IsNodeId : NodeId → Type 0
 IsNodeId (Numeric ns id) = (ns < 2 ^ 16) × (id < 2 ^ 32)
@@ -110,58 +176,76 @@ IsNodeId (Named ns name) = (ns < 2 ^ 16) × (length name < 2 ^ 31) × (is_utf8 n
 IsNodeId (Global ns id) = (ns < 2 ^ 16) × IsGuid id
 IsNodeId (Opaque ns id) = (ns < 2 ^ 16) × (length id < 2 ^ 31)
 
+-- a first byte, and the form that it tells; numeric ids of any form are one node
 unfoldable pub node_id : Format BinaryFault NodeId
 node_id = fitting IsNodeId (headed node_form_of byte node_form)
 
--- ---- a structure behind a mask
+-- ---- localized texts (5.2.2.14)
 
+-- a borrowed text as one that owns its bytes
 abbrev pub localized_of : LocalizedRef → LocalizedText
 localized_of r = record { locale = option_copied r.locale; text = option_copied r.text }
 
+-- 1 for a locale and 2 for a text
 abbrev pub localized_mask : LocalizedText → ℕ
 localized_mask v = (if is_some v.locale then 1 else 0) + (if is_some v.text then 2 else 0)
 
--- the bits above the second have no meaning; a null text reads as an absent one
+-- those that the mask names, the locale first; a null one is absent; another bit has no meaning
 abbrev pub localized_fields : ℕ → Format BinaryFault LocalizedText
 localized_fields mask =
     chosen (nat_lt 3 mask) (refused BadEncodingByte) (
     standing_for (λ p. record { locale = option_flatten p.0; text = option_flatten p.1 }) (λ v. (option_map Some v.locale, option_map Some v.text))
     (flagged (not (bit_and mask 1 == 0)) text ▸ flagged (not (bit_and mask 2 == 0)) text))
 
-abbrev pub IsText : Option (List ℕ) → Type 0
-IsText v = IfSome v (λ t. (length t < 2 ^ 31) × (is_utf8 t ≡ true))
-
 abbrev pub IsLocalized : LocalizedText → Type 0
 IsLocalized v = IsText v.locale × IsText v.text
 
+-- a mask, and what it names
 unfoldable pub localized : Format BinaryFault LocalizedText
 localized = fitting IsLocalized (headed localized_mask byte localized_fields)
 
--- ---- names in namespaces
+-- ---- qualified names (5.2.2.13)
 
+-- a borrowed name as one that owns its bytes
 abbrev pub qualified_of : QualifiedRef → QualifiedName
 qualified_of r = record { namespace = r.namespace; name = option_copied r.name }
 
+abbrev pub IsQualified : QualifiedName → Type 0
+IsQualified v = (v.namespace < 2 ^ 16) × IsText v.name
+
+-- a UInt16 and a String
 unfoldable pub qualified : Format BinaryFault QualifiedName
-qualified = standing_for (λ p. record { namespace = p.0; name = p.1 }) (λ v. (v.namespace, v.name)) (unsigned w16 ▸ text)
+qualified = fitting IsQualified (standing_for (λ p. record { namespace = p.0; name = p.1 }) (λ v. (v.namespace, v.name)) (unsigned w16 ▸ text))
 
--- ---- extension objects
+-- ---- extension objects (5.2.2.15)
 
+-- a borrowed body as one that owns its bytes
 abbrev pub body_of : BodyRef → Body
 body_of held.Absent = Absent
 body_of (held.Binary b) = Binary b.now
 body_of (held.Xml b) = Xml b.now
 
+-- a borrowed structure as one that owns its bytes
 abbrev pub extension_of : ExtensionRef → ExtensionObject
 extension_of r = record { type_id = node_of r.type_id; body = body_of r.body }
 
+-- a ByteString in the binary encoding; a null one is empty
+abbrev pub binary_body : Format BinaryFault Body
+binary_body = standing_for (λ b. Binary (unwrap_or b [])) (λ v. elim v [ Binary b ↦ Some b | _ ↦ None ]) byte_string
+
+-- the bytes of an XML text; a null one is empty
+abbrev pub xml_body : Format BinaryFault Body
+xml_body = standing_for (λ b. Xml (unwrap_or b [])) (λ v. elim v [ Xml b ↦ Some b | _ ↦ None ]) byte_string
+
+-- what the kind of a body calls for
 abbrev pub body_form : ℕ → Format BinaryFault Body
 body_form kind =
     chosen (kind == 0) (nothing Absent) (
-    chosen (kind == 1) (standing_for (λ b. Binary (unwrap_or b [])) (λ v. elim v [ Binary b ↦ Some b | _ ↦ None ]) byte_string) (
-    chosen (kind == 2) (standing_for (λ b. Xml (unwrap_or b [])) (λ v. elim v [ Xml b ↦ Some b | _ ↦ None ]) byte_string) (
+    chosen (kind == 1) binary_body (
+    chosen (kind == 2) xml_body (
     refused BadEncodingByte)))
 
+-- the kind that is written
 abbrev pub body_kind : Body → ℕ
 body_kind Absent = 0
 body_kind (Binary b) = 1
@@ -172,33 +256,40 @@ IsBody Absent = Unit {0}
 IsBody (Binary b) = length b < 2 ^ 31
 IsBody (Xml b) = length b < 2 ^ 31
 
+-- a kind, and the body that it calls for
 abbrev pub body : Format BinaryFault Body
 body = fitting IsBody (headed body_kind byte body_form)
 
+abbrev pub IsExtension : ExtensionObject → Type 0
+IsExtension v = IsNodeId v.type_id × IsBody v.body
+
+-- the id of a type, and a body
 unfoldable pub extension : Format BinaryFault ExtensionObject
-extension = standing_for (λ p. record { type_id = p.0; body = p.1 }) (λ v. (v.type_id, v.body)) (node_id ▸ body)
+extension = fitting IsExtension (standing_for (λ p. record { type_id = p.0; body = p.1 }) (λ v. (v.type_id, v.body)) (node_id ▸ body))
 
--- ---- arrays
+-- ---- arrays (5.2.5)
 
--- the count that a number tells, where as many bytes are left
+-- the count that a number tells: 0 for -1, and at most as many as there are bytes left
 abbrev pub counted_number : ℤ → List ℕ → Reading BinaryFault ℕ
 counted_number (pos n) rest = if nat_lt (length rest) n then Err Short else Ok (n, rest)
 counted_number (negsuc zero) rest = Ok (0, rest)
 counted_number (negsuc (suc n)) rest = Err BadLength
 
--- the count of an array, none for -1
+-- the count of an array: a number of 32 bits, and what it tells
 unfoldable pub count_at : List ℕ → Reading BinaryFault ℕ
 count_at bytes = (signed w32).read bytes >>= λ n. counted_number n.0 n.1
 
--- told says how a fault of the encoding is told
+-- as many items as a number tells; told says how a fault of the encoding is told
 abbrev pub counted_items : {E A : Type 0} → (BinaryFault → E) → Format E A → ℤ → Format E (List A)
 counted_items told f (pos n) = at_least n (told Short) (items n f)
 counted_items told f (negsuc zero) = nothing []
 counted_items told f (negsuc (suc n)) = refused (told BadLength)
 
+-- a number of 32 bits, and as many items
 abbrev pub array_spelled : {E A : Type 0} → (BinaryFault → E) → Format E A → Format E (List A)
 array_spelled told f = headed (λ vs. pos (length vs)) (raised told (signed w32)) (counted_items told f)
 
+-- the same, read by the count first and then by the items
 unfoldable pub array : {E A : Type 0} → (BinaryFault → E) → Format E A → Format E (List A)
 array told f = record {
   Spells = (array_spelled told f).Spells;

@@ -1,17 +1,22 @@
-//! Reading from the front of a slice.
+//! Reading from the front of a slice (Part 6, 5.2).
 
 ghost use Rattle.std.specs.Prelude.{◌≡◌, List, ℕ, option_map, length, MatchOption, true, false};
 ghost use Rattle.std.specs.Option.{option_copied};
 ghost use Rattle.std.specs.Int.{w16, w32, w64};
 ghost use Rattle.ua_binary.specs.Format.{Reads, byte, block};
-ghost use Rattle.ua_binary.specs.Binary.{unsigned, signed, sbyte, boolean, byte_string, count_at, text, guid, node_id, node_of, localized, localized_of, is_text, qualified, qualified_of, extension, extension_of};
+ghost use Rattle.ua_binary.specs.Binary.{unsigned, signed, sbyte, boolean, byte_string, count_at, text, guid, ticks, status, node_id, node_of, localized, localized_of, is_text, qualified, qualified_of, extension, extension_of};
 
 use crate::fault::BinaryFault;
-use crate::values::{BodyRef, ExtensionRef, Guid, LocalizedRef, NodeIdRef, QualifiedRef};
+use crate::values::{
+    BodyRef, ExtensionRef, Guid, LocalizedRef, NodeIdRef, QualifiedRef, Status, Ticks,
+};
 use std::marker::Model;
 use std::str;
 
-/// The bytes that are left to read.
+/// The bytes that are left to read, which contracts see as their list. Each read takes a value from
+/// the front. A read that is refused leaves the cursor where it was, and tells the fault of the
+/// leftmost field that the bytes don't spell: `Short`, `BadLength`, `BadUtf8` or `BadEncodingByte`.
+/// No read takes memory: what it gives lies in the bytes.
 #[derive(Drop)]
 pub struct Cursor<'a> {
     bytes: &'a [u8],
@@ -24,26 +29,38 @@ impl<'a> Model for Cursor<'a> {
 }
 
 impl<'a> Cursor<'a> {
+    /// A cursor at the front of these bytes.
     pub fn new(bytes: &'a [u8]) -> Cursor<'a>
         ensures { result ≡ bytes.entry.now }
     {
         Cursor { bytes }
     }
 
-    /// The bytes left.
+    /// The bytes that are left to read.
     pub fn rest(&self) -> &'a [u8]
         ensures { result.now ≡ self.now }
     {
         self.bytes
     }
 
-    /// A second cursor at the same place.
+    /// A second cursor at the same place. A reader of several fields reads by it and then puts it in
+    /// the first one's place, so that a refusal leaves the first where it stood.
     pub fn fork(&self) -> Cursor<'a>
         ensures { result ≡ self.now }
     {
         Cursor { bytes: self.bytes }
     }
 
+    /// A Boolean (Part 6, 5.2.2.1): one byte, 0 for false and any other for true.
+    #[tactic(auto, unfolding(crate::specs::Binary::boolean))]
+    pub fn boolean(&mut self) -> Result<bool, BinaryFault>
+        ensures { Reads (λ x. x) result self.old self.new boolean.read }
+    {
+        let b = self.u8()?;
+        Ok(b != 0)
+    }
+
+    /// A Byte (Part 6, 5.2.2.2).
     pub fn u8(&mut self) -> Result<u8, BinaryFault>
         ensures { Reads (λ x. x) result self.old self.new byte.read }
     {
@@ -56,18 +73,7 @@ impl<'a> Cursor<'a> {
         }
     }
 
-    /// The next bytes, as they are.
-    pub fn block(&mut self, len: usize) -> Result<&'a [u8], BinaryFault>
-        ensures { Reads (λ x. x.now) result self.old self.new (block len).read }
-    {
-        if self.bytes.len() < len {
-            return Err(BinaryFault::Short);
-        }
-        let (front, rest) = self.bytes.split_at(len);
-        self.bytes = rest;
-        Ok(front)
-    }
-
+    /// A UInt16, two bytes, the low one first.
     #[tactic(auto, unfolding(crate::specs::Binary::unsigned))]
     pub fn u16(&mut self) -> Result<u16, BinaryFault>
         ensures { Reads (λ x. x) result self.old self.new (unsigned w16).read }
@@ -80,6 +86,7 @@ impl<'a> Cursor<'a> {
         Ok(u16::from_le_bytes([b[0], b[1]]))
     }
 
+    /// A UInt32, four bytes, the low one first.
     #[tactic(auto, unfolding(crate::specs::Binary::unsigned))]
     pub fn u32(&mut self) -> Result<u32, BinaryFault>
         ensures { Reads (λ x. x) result self.old self.new (unsigned w32).read }
@@ -92,6 +99,38 @@ impl<'a> Cursor<'a> {
         Ok(u32::from_le_bytes([b[0], b[1], b[2], b[3]]))
     }
 
+    /// A UInt64, eight bytes, the low one first.
+    #[tactic(auto, unfolding(crate::specs::Binary::unsigned))]
+    pub fn u64(&mut self) -> Result<u64, BinaryFault>
+        ensures { Reads (λ x. x) result self.old self.new (unsigned w64).read }
+    {
+        if self.bytes.len() < 8 {
+            return Err(BinaryFault::Short);
+        }
+        let (b, rest) = self.bytes.split_at(8);
+        self.bytes = rest;
+        Ok(u64::from_le_bytes([b[0], b[1], b[2], b[3], b[4], b[5], b[6], b[7]]))
+    }
+
+    /// An SByte.
+    #[tactic(auto, unfolding(crate::specs::Binary::sbyte))]
+    pub fn i8(&mut self) -> Result<i8, BinaryFault>
+        ensures { Reads (λ x. x) result self.old self.new sbyte.read }
+    {
+        let n = self.u8()?;
+        Ok(n.cast_signed())
+    }
+
+    /// An Int16, two bytes, the low one first.
+    #[tactic(auto, unfolding(crate::specs::Binary::signed, crate::specs::Binary::unsigned))]
+    pub fn i16(&mut self) -> Result<i16, BinaryFault>
+        ensures { Reads (λ x. x) result self.old self.new (signed w16).read }
+    {
+        let n = self.u16()?;
+        Ok(n.cast_signed())
+    }
+
+    /// An Int32, four bytes, the low one first.
     #[tactic(auto, unfolding(crate::specs::Binary::signed, crate::specs::Binary::unsigned))]
     pub fn i32(&mut self) -> Result<i32, BinaryFault>
         ensures { Reads (λ x. x) result self.old self.new (signed w32).read }
@@ -100,33 +139,62 @@ impl<'a> Cursor<'a> {
         Ok(n.cast_signed())
     }
 
-    #[tactic(auto, unfolding(crate::specs::Binary::boolean))]
-    pub fn boolean(&mut self) -> Result<bool, BinaryFault>
-        ensures { Reads (λ x. x) result self.old self.new boolean.read }
+    /// An Int64, eight bytes, the low one first.
+    #[tactic(auto, unfolding(crate::specs::Binary::signed, crate::specs::Binary::unsigned))]
+    pub fn i64(&mut self) -> Result<i64, BinaryFault>
+        ensures { Reads (λ x. x) result self.old self.new (signed w64).read }
     {
-        let b = self.u8()?;
-        Ok(b != 0)
+        let n = self.u64()?;
+        Ok(n.cast_signed())
     }
 
-    #[tactic(auto, unfolding(crate::specs::Binary::byte_string))]
-    pub fn bytes(&mut self) -> Result<Option<&'a [u8]>, BinaryFault>
-        ensures { Reads (λ x. option_copied x) result self.old self.new byte_string.read }
+    /// Four bytes as they are: a Float (Part 6, 5.2.2.3), whose value isn't looked into.
+    pub fn four(&mut self) -> Result<[u8; 4], BinaryFault>
+        ensures { Reads (λ x. x) result self.old self.new (block 4).read }
     {
-        let mut next = self.fork();
-        let count = next.i32()?;
-        if count == -1 {
-            *self = next;
-            return Ok(None);
-        }
-        if count < 0 {
-            return Err(BinaryFault::BadLength);
-        }
-        let found = next.block(count as usize)?;
-        *self = next;
-        Ok(Some(found))
+        let b = self.block(4)?;
+        Ok([b[0], b[1], b[2], b[3]])
     }
 
-    /// The count of an array: at most as many as there are bytes left.
+    /// Eight bytes as they are: a Double or a Duration, whose value isn't looked into.
+    pub fn eight(&mut self) -> Result<[u8; 8], BinaryFault>
+        ensures { Reads (λ x. x) result self.old self.new (block 8).read }
+    {
+        let b = self.block(8)?;
+        Ok([b[0], b[1], b[2], b[3], b[4], b[5], b[6], b[7]])
+    }
+
+    /// The next `len` bytes as they are, or `Short`.
+    pub fn block(&mut self, len: usize) -> Result<&'a [u8], BinaryFault>
+        ensures { Reads (λ x. x.now) result self.old self.new (block len).read }
+    {
+        if self.bytes.len() < len {
+            return Err(BinaryFault::Short);
+        }
+        let (front, rest) = self.bytes.split_at(len);
+        self.bytes = rest;
+        Ok(front)
+    }
+
+    /// A DateTime (Part 6, 5.2.2.5): an Int64 of steps of 100 ns since 1601-01-01 00:00 UTC.
+    #[tactic(auto, unfolding(crate::specs::Binary::ticks))]
+    pub fn ticks(&mut self) -> Result<Ticks, BinaryFault>
+        ensures { Reads (λ x. x) result self.old self.new ticks.read }
+    {
+        Ok(Ticks(self.i64()?))
+    }
+
+    /// A StatusCode (Part 6, 5.2.2.11): a UInt32.
+    #[tactic(auto, unfolding(crate::specs::Binary::status))]
+    pub fn status(&mut self) -> Result<Status, BinaryFault>
+        ensures { Reads (λ x. x) result self.old self.new status.read }
+    {
+        Ok(Status(self.u32()?))
+    }
+
+    /// The count of an array (Part 6, 5.2.5): an Int32, where -1, the null array, reads as 0. Another
+    /// negative count is `BadLength`, and one above the number of bytes left is `Short`, since each
+    /// item takes a byte at least.
     #[tactic(auto, unfolding(crate::specs::Binary::count_at))]
     pub fn count(&mut self) -> Result<usize, BinaryFault>
         ensures { Reads (λ x. x) result self.old self.new count_at }
@@ -148,6 +216,27 @@ impl<'a> Cursor<'a> {
         Ok(count)
     }
 
+    /// A ByteString (Part 6, 5.2.2.7): an Int32 count and as many bytes, none where the count is -1.
+    /// Another negative count is `BadLength`, and one past the end is `Short`.
+    #[tactic(auto, unfolding(crate::specs::Binary::byte_string))]
+    pub fn bytes(&mut self) -> Result<Option<&'a [u8]>, BinaryFault>
+        ensures { Reads (λ x. option_copied x) result self.old self.new byte_string.read }
+    {
+        let mut next = self.fork();
+        let count = next.i32()?;
+        if count == -1 {
+            *self = next;
+            return Ok(None);
+        }
+        if count < 0 {
+            return Err(BinaryFault::BadLength);
+        }
+        let found = next.block(count as usize)?;
+        *self = next;
+        Ok(Some(found))
+    }
+
+    /// A String (Part 6, 5.2.2.4): as a ByteString, and then `BadUtf8` where the bytes aren't UTF-8.
     #[tactic(auto, unfolding(crate::specs::Binary::text))]
     pub fn text(&mut self) -> Result<Option<&'a str>, BinaryFault>
         ensures { Reads (λ x. option_copied x) result self.old self.new text.read }
@@ -164,6 +253,7 @@ impl<'a> Cursor<'a> {
         Ok(Some(found))
     }
 
+    /// A Guid (Part 6, 5.2.2.6): a UInt32, two UInt16 and eight bytes.
     #[tactic(auto, unfolding(crate::specs::Binary::guid))]
     pub fn guid(&mut self) -> Result<Guid, BinaryFault>
         ensures { Reads (λ x. x) result self.old self.new guid.read }
@@ -183,100 +273,8 @@ impl<'a> Cursor<'a> {
         })
     }
 
-    #[tactic(auto, unfolding(crate::specs::Binary::localized))]
-    pub fn localized(&mut self) -> Result<LocalizedRef<'a>, BinaryFault>
-        ensures { Reads localized_of result self.old self.new localized.read }
-    {
-        let mut next = self.fork();
-        let mask = next.u8()?;
-        if mask > 3 {
-            return Err(BinaryFault::BadEncodingByte);
-        }
-        let locale = if mask & 1 != 0 { next.text()? } else { None };
-        let text = if mask & 2 != 0 { next.text()? } else { None };
-        *self = next;
-        Ok(LocalizedRef { locale, text })
-    }
-
-    #[tactic(auto, unfolding(crate::specs::Binary::unsigned))]
-    pub fn u64(&mut self) -> Result<u64, BinaryFault>
-        ensures { Reads (λ x. x) result self.old self.new (unsigned w64).read }
-    {
-        if self.bytes.len() < 8 {
-            return Err(BinaryFault::Short);
-        }
-        let (b, rest) = self.bytes.split_at(8);
-        self.bytes = rest;
-        Ok(u64::from_le_bytes([b[0], b[1], b[2], b[3], b[4], b[5], b[6], b[7]]))
-    }
-
-    #[tactic(auto, unfolding(crate::specs::Binary::signed, crate::specs::Binary::unsigned))]
-    pub fn i64(&mut self) -> Result<i64, BinaryFault>
-        ensures { Reads (λ x. x) result self.old self.new (signed w64).read }
-    {
-        let n = self.u64()?;
-        Ok(n.cast_signed())
-    }
-
-    #[tactic(auto, unfolding(crate::specs::Binary::sbyte))]
-    pub fn i8(&mut self) -> Result<i8, BinaryFault>
-        ensures { Reads (λ x. x) result self.old self.new sbyte.read }
-    {
-        let n = self.u8()?;
-        Ok(n.cast_signed())
-    }
-
-    #[tactic(auto, unfolding(crate::specs::Binary::signed, crate::specs::Binary::unsigned))]
-    pub fn i16(&mut self) -> Result<i16, BinaryFault>
-        ensures { Reads (λ x. x) result self.old self.new (signed w16).read }
-    {
-        let n = self.u16()?;
-        Ok(n.cast_signed())
-    }
-
-    /// Four bytes, as they are.
-    pub fn four(&mut self) -> Result<[u8; 4], BinaryFault>
-        ensures { Reads (λ x. x) result self.old self.new (block 4).read }
-    {
-        let b = self.block(4)?;
-        Ok([b[0], b[1], b[2], b[3]])
-    }
-
-    /// Eight bytes, as they are.
-    pub fn eight(&mut self) -> Result<[u8; 8], BinaryFault>
-        ensures { Reads (λ x. x) result self.old self.new (block 8).read }
-    {
-        let b = self.block(8)?;
-        Ok([b[0], b[1], b[2], b[3], b[4], b[5], b[6], b[7]])
-    }
-
-    #[tactic(auto, unfolding(crate::specs::Binary::qualified))]
-    pub fn qualified(&mut self) -> Result<QualifiedRef<'a>, BinaryFault>
-        ensures { Reads qualified_of result self.old self.new qualified.read }
-    {
-        let mut next = self.fork();
-        let namespace = next.u16()?;
-        let name = next.text()?;
-        *self = next;
-        Ok(QualifiedRef { namespace, name })
-    }
-
-    #[tactic(auto, unfolding(crate::specs::Binary::extension))]
-    pub fn extension(&mut self) -> Result<ExtensionRef<'a>, BinaryFault>
-        ensures { Reads extension_of result self.old self.new extension.read }
-    {
-        let mut next = self.fork();
-        let type_id = next.node_id()?;
-        let body = match next.u8()? {
-            0 => BodyRef::Absent,
-            1 => BodyRef::Binary(next.bytes()?.unwrap_or(&[])),
-            2 => BodyRef::Xml(next.bytes()?.unwrap_or(&[])),
-            _ => return Err(BinaryFault::BadEncodingByte),
-        };
-        *self = next;
-        Ok(ExtensionRef { type_id, body })
-    }
-
+    /// A NodeId (Part 6, 5.2.2.9) in any of its six forms, which the first byte tells; another first
+    /// byte is `BadEncodingByte`. A null text or byte id reads as an empty one.
     #[tactic(auto, unfolding(crate::specs::Binary::node_id))]
     pub fn node_id(&mut self) -> Result<NodeIdRef<'a>, BinaryFault>
         ensures { Reads node_of result self.old self.new node_id.read }
@@ -309,8 +307,57 @@ impl<'a> Cursor<'a> {
         *self = next;
         Ok(node)
     }
+
+    /// A QualifiedName (Part 6, 5.2.2.13): a UInt16 and a String.
+    #[tactic(auto, unfolding(crate::specs::Binary::qualified))]
+    pub fn qualified(&mut self) -> Result<QualifiedRef<'a>, BinaryFault>
+        ensures { Reads qualified_of result self.old self.new qualified.read }
+    {
+        let mut next = self.fork();
+        let namespace = next.u16()?;
+        let name = next.text()?;
+        *self = next;
+        Ok(QualifiedRef { namespace, name })
+    }
+
+    /// A LocalizedText (Part 6, 5.2.2.14): a mask, 1 for a locale and 2 for a text, and then those
+    /// that are there. Another bit of the mask is `BadEncodingByte`; a null text reads as absent.
+    #[tactic(auto, unfolding(crate::specs::Binary::localized))]
+    pub fn localized(&mut self) -> Result<LocalizedRef<'a>, BinaryFault>
+        ensures { Reads localized_of result self.old self.new localized.read }
+    {
+        let mut next = self.fork();
+        let mask = next.u8()?;
+        if mask > 3 {
+            return Err(BinaryFault::BadEncodingByte);
+        }
+        let locale = if mask & 1 != 0 { next.text()? } else { None };
+        let text = if mask & 2 != 0 { next.text()? } else { None };
+        *self = next;
+        Ok(LocalizedRef { locale, text })
+    }
+
+    /// An ExtensionObject (Part 6, 5.2.2.15): the NodeId of its type, a byte for the kind of its body,
+    /// and the body: 0 for none, 1 for bytes, 2 for XML. Another kind is `BadEncodingByte`; a body of
+    /// length -1 reads as an empty one.
+    #[tactic(auto, unfolding(crate::specs::Binary::extension))]
+    pub fn extension(&mut self) -> Result<ExtensionRef<'a>, BinaryFault>
+        ensures { Reads extension_of result self.old self.new extension.read }
+    {
+        let mut next = self.fork();
+        let type_id = next.node_id()?;
+        let body = match next.u8()? {
+            0 => BodyRef::Absent,
+            1 => BodyRef::Binary(next.bytes()?.unwrap_or(&[])),
+            2 => BodyRef::Xml(next.bytes()?.unwrap_or(&[])),
+            _ => return Err(BinaryFault::BadEncodingByte),
+        };
+        *self = next;
+        Ok(ExtensionRef { type_id, body })
+    }
 }
 
+/// The bytes as a text, where they are UTF-8.
 #[tactic(auto, using(crate::proofs::Utf8::tested))]
 fn utf8(bytes: &[u8]) -> Option<&str>
     ensures { MatchOption result (is_text (Some bytes.now) ≡ false) (λ s. (s.now ≡ bytes.now) × (is_text (Some s.now) ≡ true)) }

@@ -1,114 +1,20 @@
-//! Writing at the end of a vector.
+//! Writing at the end of a vector (Part 6, 5.2).
+//!
+//! Each `put_` appends the one spelling that is written of a value. Its one error is `OutOfMemory`,
+//! and then the vector is as it was.
 
-ghost use Rattle.std.specs.Prelude.{◌≡◌, ◌<◌, ◌^◌, List, ℕ, option_map, length, take, IfSome, MatchResult};
+ghost use Rattle.std.specs.Prelude.{◌≡◌, ◌<◌, ◌^◌, List, ℕ, length, take, pos, MatchResult};
 ghost use Rattle.std.specs.Option.{option_copied};
 ghost use Rattle.std.specs.Int.{w16, w32, w64};
 ghost use Rattle.ua_binary.specs.Format.{Puts, PutsPart, byte, block};
-ghost use Rattle.ua_binary.specs.Binary.{unsigned, signed, sbyte, boolean, byte_string, text, guid, node_id, localized, qualified, extension, IsCounted, IsBody, IsShortNode, IsShortLocalized};
+ghost use Rattle.ua_binary.specs.Binary.{unsigned, signed, sbyte, boolean, byte_string, text, guid, ticks, status, node_id, localized, qualified, extension, IsCounted, IsBody, IsShortNode, IsShortLocalized};
 
 use crate::fault::BinaryFault;
 use crate::values::{
-    Body, Bytes, ExtensionObject, Guid, LocalizedText, NodeId, QualifiedName, Text,
+    Body, Bytes, ExtensionObject, Guid, LocalizedText, NodeId, QualifiedName, Status, Text, Ticks,
 };
 
-pub fn put_u8(out: &mut Vec<u8>, v: u8) -> Result<(), BinaryFault>
-    ensures { Puts BinaryFault.OutOfMemory result out.old.items out.new.items (byte.canon v) }
-{
-    out.push(v)?;
-    Ok(())
-}
-
-#[tactic(auto, unfolding(crate::specs::Binary::unsigned))]
-pub fn put_u16(out: &mut Vec<u8>, v: u16) -> Result<(), BinaryFault>
-    ensures { Puts BinaryFault.OutOfMemory result out.old.items out.new.items ((unsigned w16).canon v) }
-{
-    out.extend_from_slice(&v.to_le_bytes())?;
-    Ok(())
-}
-
-#[tactic(auto, unfolding(crate::specs::Binary::unsigned))]
-pub fn put_u32(out: &mut Vec<u8>, v: u32) -> Result<(), BinaryFault>
-    ensures { Puts BinaryFault.OutOfMemory result out.old.items out.new.items ((unsigned w32).canon v) }
-{
-    out.extend_from_slice(&v.to_le_bytes())?;
-    Ok(())
-}
-
-#[tactic(auto, unfolding(crate::specs::Binary::signed, crate::specs::Binary::unsigned))]
-pub fn put_i32(out: &mut Vec<u8>, v: i32) -> Result<(), BinaryFault>
-    ensures { Puts BinaryFault.OutOfMemory result out.old.items out.new.items ((signed w32).canon v) }
-{
-    out.extend_from_slice(&v.to_le_bytes())?;
-    Ok(())
-}
-
-#[tactic(auto, unfolding(crate::specs::Binary::unsigned))]
-pub fn put_u64(out: &mut Vec<u8>, v: u64) -> Result<(), BinaryFault>
-    ensures { Puts BinaryFault.OutOfMemory result out.old.items out.new.items ((unsigned w64).canon v) }
-{
-    out.extend_from_slice(&v.to_le_bytes())?;
-    Ok(())
-}
-
-#[tactic(auto, unfolding(crate::specs::Binary::signed, crate::specs::Binary::unsigned))]
-pub fn put_i64(out: &mut Vec<u8>, v: i64) -> Result<(), BinaryFault>
-    ensures { Puts BinaryFault.OutOfMemory result out.old.items out.new.items ((signed w64).canon v) }
-{
-    out.extend_from_slice(&v.to_le_bytes())?;
-    Ok(())
-}
-
-#[tactic(auto, unfolding(crate::specs::Binary::sbyte))]
-pub fn put_i8(out: &mut Vec<u8>, v: i8) -> Result<(), BinaryFault>
-    ensures { Puts BinaryFault.OutOfMemory result out.old.items out.new.items (sbyte.canon v) }
-{
-    put_u8(out, v.cast_unsigned())
-}
-
-#[tactic(auto, unfolding(crate::specs::Binary::signed, crate::specs::Binary::unsigned))]
-pub fn put_i16(out: &mut Vec<u8>, v: i16) -> Result<(), BinaryFault>
-    ensures { Puts BinaryFault.OutOfMemory result out.old.items out.new.items ((signed w16).canon v) }
-{
-    out.extend_from_slice(&v.to_le_bytes())?;
-    Ok(())
-}
-
-/// Bytes of their own memory.
-pub fn put_owned_bytes(out: &mut Vec<u8>, v: &Option<Bytes>) -> Result<(), BinaryFault>
-    requires { IsCounted v.now }
-    ensures { Puts BinaryFault.OutOfMemory result out.old.items out.new.items (byte_string.canon v.now) }
-{
-    match v {
-        None => put_bytes(out, None),
-        Some(bytes) => put_bytes(out, Some(bytes.as_slice())),
-    }
-}
-
-pub fn put_localized(out: &mut Vec<u8>, v: &LocalizedText) -> Result<(), BinaryFault>
-    requires { IsShortLocalized v.now }
-    ensures { Puts BinaryFault.OutOfMemory result out.old.items out.new.items (localized.canon v.now) }
-{
-    let len = out.len();
-    let put = put_localized_parts(out, v);
-    or_undone(put, out, len)
-}
-
-/// Bytes as they are.
-pub fn put_block(out: &mut Vec<u8>, v: &[u8]) -> Result<(), BinaryFault>
-    ensures { Puts BinaryFault.OutOfMemory result out.old.items out.new.items v.now }
-{
-    out.extend_from_slice(v)?;
-    Ok(())
-}
-
-#[tactic(auto, unfolding(crate::specs::Binary::boolean))]
-pub fn put_boolean(out: &mut Vec<u8>, v: bool) -> Result<(), BinaryFault>
-    ensures { Puts BinaryFault.OutOfMemory result out.old.items out.new.items (boolean.canon v) }
-{
-    put_u8(out, if v { 1 } else { 0 })
-}
-
-/// Takes back what a part of a writer put, where it failed.
+/// Takes back what a part of a writer put, where it failed: `len` is how long the vector was before.
 pub fn or_undone<E>(put: Result<(), E>, out: &mut Vec<u8>, len: usize) -> Result<(), E>
     ensures same { result ≡ put }
     ensures items { MatchResult put (λ _. out.new.items ≡ out.old.items) (λ _. out.new.items ≡ take len out.old.items) }
@@ -117,6 +23,117 @@ pub fn or_undone<E>(put: Result<(), E>, out: &mut Vec<u8>, len: usize) -> Result
         out.truncate(len);
     }
     put
+}
+
+/// A Boolean (Part 6, 5.2.2.1): 00 or 01.
+#[tactic(auto, unfolding(crate::specs::Binary::boolean))]
+pub fn put_boolean(out: &mut Vec<u8>, v: bool) -> Result<(), BinaryFault>
+    ensures { Puts BinaryFault.OutOfMemory result out.old.items out.new.items (boolean.canon v) }
+{
+    put_u8(out, if v { 1 } else { 0 })
+}
+
+/// A Byte (Part 6, 5.2.2.2).
+pub fn put_u8(out: &mut Vec<u8>, v: u8) -> Result<(), BinaryFault>
+    ensures { Puts BinaryFault.OutOfMemory result out.old.items out.new.items (byte.canon v) }
+{
+    out.push(v)?;
+    Ok(())
+}
+
+/// A UInt16, the low byte first.
+#[tactic(auto, unfolding(crate::specs::Binary::unsigned))]
+pub fn put_u16(out: &mut Vec<u8>, v: u16) -> Result<(), BinaryFault>
+    ensures { Puts BinaryFault.OutOfMemory result out.old.items out.new.items ((unsigned w16).canon v) }
+{
+    out.extend_from_slice(&v.to_le_bytes())?;
+    Ok(())
+}
+
+/// A UInt32, the low byte first.
+#[tactic(auto, unfolding(crate::specs::Binary::unsigned))]
+pub fn put_u32(out: &mut Vec<u8>, v: u32) -> Result<(), BinaryFault>
+    ensures { Puts BinaryFault.OutOfMemory result out.old.items out.new.items ((unsigned w32).canon v) }
+{
+    out.extend_from_slice(&v.to_le_bytes())?;
+    Ok(())
+}
+
+/// A UInt64, the low byte first.
+#[tactic(auto, unfolding(crate::specs::Binary::unsigned))]
+pub fn put_u64(out: &mut Vec<u8>, v: u64) -> Result<(), BinaryFault>
+    ensures { Puts BinaryFault.OutOfMemory result out.old.items out.new.items ((unsigned w64).canon v) }
+{
+    out.extend_from_slice(&v.to_le_bytes())?;
+    Ok(())
+}
+
+/// An SByte.
+#[tactic(auto, unfolding(crate::specs::Binary::sbyte))]
+pub fn put_i8(out: &mut Vec<u8>, v: i8) -> Result<(), BinaryFault>
+    ensures { Puts BinaryFault.OutOfMemory result out.old.items out.new.items (sbyte.canon v) }
+{
+    put_u8(out, v.cast_unsigned())
+}
+
+/// An Int16, the low byte first.
+#[tactic(auto, unfolding(crate::specs::Binary::signed, crate::specs::Binary::unsigned))]
+pub fn put_i16(out: &mut Vec<u8>, v: i16) -> Result<(), BinaryFault>
+    ensures { Puts BinaryFault.OutOfMemory result out.old.items out.new.items ((signed w16).canon v) }
+{
+    out.extend_from_slice(&v.to_le_bytes())?;
+    Ok(())
+}
+
+/// An Int32, the low byte first.
+#[tactic(auto, unfolding(crate::specs::Binary::signed, crate::specs::Binary::unsigned))]
+pub fn put_i32(out: &mut Vec<u8>, v: i32) -> Result<(), BinaryFault>
+    ensures { Puts BinaryFault.OutOfMemory result out.old.items out.new.items ((signed w32).canon v) }
+{
+    out.extend_from_slice(&v.to_le_bytes())?;
+    Ok(())
+}
+
+/// An Int64, the low byte first.
+#[tactic(auto, unfolding(crate::specs::Binary::signed, crate::specs::Binary::unsigned))]
+pub fn put_i64(out: &mut Vec<u8>, v: i64) -> Result<(), BinaryFault>
+    ensures { Puts BinaryFault.OutOfMemory result out.old.items out.new.items ((signed w64).canon v) }
+{
+    out.extend_from_slice(&v.to_le_bytes())?;
+    Ok(())
+}
+
+/// Bytes as they are, with no count: a Float (Part 6, 5.2.2.3) or a Double as its bytes.
+pub fn put_block(out: &mut Vec<u8>, v: &[u8]) -> Result<(), BinaryFault>
+    ensures { Puts BinaryFault.OutOfMemory result out.old.items out.new.items v.now }
+{
+    out.extend_from_slice(v)?;
+    Ok(())
+}
+
+/// A DateTime (Part 6, 5.2.2.5).
+#[tactic(auto, unfolding(crate::specs::Binary::ticks))]
+pub fn put_ticks(out: &mut Vec<u8>, v: Ticks) -> Result<(), BinaryFault>
+    ensures { Puts BinaryFault.OutOfMemory result out.old.items out.new.items (ticks.canon v) }
+{
+    put_i64(out, v.0)
+}
+
+/// A StatusCode (Part 6, 5.2.2.11).
+#[tactic(auto, unfolding(crate::specs::Binary::status))]
+pub fn put_status(out: &mut Vec<u8>, v: Status) -> Result<(), BinaryFault>
+    ensures { Puts BinaryFault.OutOfMemory result out.old.items out.new.items (status.canon v) }
+{
+    put_u32(out, v.0)
+}
+
+/// The count of an array (Part 6, 5.2.5), of at most 2^31 - 1 items.
+#[tactic(auto, unfolding(crate::specs::Binary::signed, crate::specs::Binary::unsigned))]
+pub fn put_count(out: &mut Vec<u8>, count: usize) -> Result<(), BinaryFault>
+    requires { count < 2 ^ 31 }
+    ensures { Puts BinaryFault.OutOfMemory result out.old.items out.new.items ((signed w32).canon (pos count)) }
+{
+    put_i32(out, count as i32)
 }
 
 #[tactic(auto, using(crate::proofs::Kept::kept), unfolding(crate::specs::Binary::byte_string))]
@@ -134,6 +151,8 @@ fn put_bytes_parts(out: &mut Vec<u8>, v: Option<&[u8]>) -> Result<(), BinaryFaul
     Ok(())
 }
 
+/// A ByteString (Part 6, 5.2.2.7) of at most 2^31 - 1 bytes: its count and its bytes, or the count
+/// -1 for a null one.
 pub fn put_bytes(out: &mut Vec<u8>, v: Option<&[u8]>) -> Result<(), BinaryFault>
     requires { IsCounted (option_copied v) }
     ensures { Puts BinaryFault.OutOfMemory result out.old.items out.new.items (byte_string.canon (option_copied v.entry)) }
@@ -143,6 +162,19 @@ pub fn put_bytes(out: &mut Vec<u8>, v: Option<&[u8]>) -> Result<(), BinaryFault>
     or_undone(put, out, len)
 }
 
+/// The same of bytes that own their memory.
+pub fn put_owned_bytes(out: &mut Vec<u8>, v: &Option<Bytes>) -> Result<(), BinaryFault>
+    requires { IsCounted v.now }
+    ensures { Puts BinaryFault.OutOfMemory result out.old.items out.new.items (byte_string.canon v.now) }
+{
+    match v {
+        None => put_bytes(out, None),
+        Some(bytes) => put_bytes(out, Some(bytes.as_slice())),
+    }
+}
+
+/// A String (Part 6, 5.2.2.4) of at most 2^31 - 1 bytes: its count and its bytes, or the count -1 for
+/// a null one.
 #[tactic(auto, unfolding(crate::specs::Binary::text))]
 pub fn put_text(out: &mut Vec<u8>, v: Option<&str>) -> Result<(), BinaryFault>
     requires { IsCounted (option_copied v) }
@@ -151,6 +183,17 @@ pub fn put_text(out: &mut Vec<u8>, v: Option<&str>) -> Result<(), BinaryFault>
     match v {
         None => put_bytes(out, None),
         Some(text) => put_bytes(out, Some(text.as_bytes())),
+    }
+}
+
+/// The same of a text that owns its memory.
+pub fn put_owned_text(out: &mut Vec<u8>, v: &Option<Text>) -> Result<(), BinaryFault>
+    requires { IsCounted v.now }
+    ensures { Puts BinaryFault.OutOfMemory result out.old.items out.new.items (text.canon v.now) }
+{
+    match v {
+        None => put_text(out, None),
+        Some(text) => put_text(out, Some(text.as_str())),
     }
 }
 
@@ -165,6 +208,7 @@ fn put_guid_parts(out: &mut Vec<u8>, v: &Guid) -> Result<(), BinaryFault>
     Ok(())
 }
 
+/// A Guid (Part 6, 5.2.2.6).
 pub fn put_guid(out: &mut Vec<u8>, v: &Guid) -> Result<(), BinaryFault>
     ensures { Puts BinaryFault.OutOfMemory result out.old.items out.new.items (guid.canon v.now) }
 {
@@ -212,12 +256,33 @@ fn put_node_id_parts(out: &mut Vec<u8>, v: &NodeId) -> Result<(), BinaryFault>
     Ok(())
 }
 
+/// A NodeId (Part 6, 5.2.2.9) in its shortest form. A text or byte id has at most 2^31 - 1 bytes.
 pub fn put_node_id(out: &mut Vec<u8>, v: &NodeId) -> Result<(), BinaryFault>
     requires { IsShortNode v.now }
     ensures { Puts BinaryFault.OutOfMemory result out.old.items out.new.items (node_id.canon v.now) }
 {
     let len = out.len();
     let put = put_node_id_parts(out, v);
+    or_undone(put, out, len)
+}
+
+#[tactic(auto, using(crate::proofs::Kept::kept), unfolding(crate::specs::Binary::qualified))]
+fn put_qualified_parts(out: &mut Vec<u8>, v: &QualifiedName) -> Result<(), BinaryFault>
+    requires { IsCounted v.now.name }
+    ensures { PutsPart BinaryFault.OutOfMemory result out.old.items out.new.items (qualified.canon v.now) }
+{
+    put_u16(out, v.namespace)?;
+    put_owned_text(out, &v.name)?;
+    Ok(())
+}
+
+/// A QualifiedName (Part 6, 5.2.2.13), whose name has at most 2^31 - 1 bytes.
+pub fn put_qualified(out: &mut Vec<u8>, v: &QualifiedName) -> Result<(), BinaryFault>
+    requires { IsCounted v.now.name }
+    ensures { Puts BinaryFault.OutOfMemory result out.old.items out.new.items (qualified.canon v.now) }
+{
+    let len = out.len();
+    let put = put_qualified_parts(out, v);
     or_undone(put, out, len)
 }
 
@@ -238,33 +303,13 @@ fn put_localized_parts(out: &mut Vec<u8>, v: &LocalizedText) -> Result<(), Binar
     Ok(())
 }
 
-/// A text that owns its bytes.
-pub fn put_owned_text(out: &mut Vec<u8>, v: &Option<Text>) -> Result<(), BinaryFault>
-    requires { IsCounted v.now }
-    ensures { Puts BinaryFault.OutOfMemory result out.old.items out.new.items (text.canon v.now) }
-{
-    match v {
-        None => put_text(out, None),
-        Some(text) => put_text(out, Some(text.as_str())),
-    }
-}
-
-#[tactic(auto, using(crate::proofs::Kept::kept), unfolding(crate::specs::Binary::qualified))]
-fn put_qualified_parts(out: &mut Vec<u8>, v: &QualifiedName) -> Result<(), BinaryFault>
-    requires { IsCounted v.now.name }
-    ensures { PutsPart BinaryFault.OutOfMemory result out.old.items out.new.items (qualified.canon v.now) }
-{
-    put_u16(out, v.namespace)?;
-    put_owned_text(out, &v.name)?;
-    Ok(())
-}
-
-pub fn put_qualified(out: &mut Vec<u8>, v: &QualifiedName) -> Result<(), BinaryFault>
-    requires { IsCounted v.now.name }
-    ensures { Puts BinaryFault.OutOfMemory result out.old.items out.new.items (qualified.canon v.now) }
+/// A LocalizedText (Part 6, 5.2.2.14), whose parts have at most 2^31 - 1 bytes each.
+pub fn put_localized(out: &mut Vec<u8>, v: &LocalizedText) -> Result<(), BinaryFault>
+    requires { IsShortLocalized v.now }
+    ensures { Puts BinaryFault.OutOfMemory result out.old.items out.new.items (localized.canon v.now) }
 {
     let len = out.len();
-    let put = put_qualified_parts(out, v);
+    let put = put_localized_parts(out, v);
     or_undone(put, out, len)
 }
 
@@ -288,6 +333,7 @@ fn put_extension_parts(out: &mut Vec<u8>, v: &ExtensionObject) -> Result<(), Bin
     Ok(())
 }
 
+/// An ExtensionObject (Part 6, 5.2.2.15), whose body and id have at most 2^31 - 1 bytes each.
 pub fn put_extension(out: &mut Vec<u8>, v: &ExtensionObject) -> Result<(), BinaryFault>
     requires { IsShortNode v.now.type_id × IsBody v.now.body }
     ensures { Puts BinaryFault.OutOfMemory result out.old.items out.new.items (extension.canon v.now) }

@@ -23,6 +23,60 @@ impl TryClone for u8 {
     }
 }
 
+impl TryClone for i8 {
+    fn try_clone(&self) -> Result<i8, AllocError> {
+        Ok(*self)
+    }
+}
+
+impl TryClone for i16 {
+    fn try_clone(&self) -> Result<i16, AllocError> {
+        Ok(*self)
+    }
+}
+
+impl TryClone for u16 {
+    fn try_clone(&self) -> Result<u16, AllocError> {
+        Ok(*self)
+    }
+}
+
+impl TryClone for i32 {
+    fn try_clone(&self) -> Result<i32, AllocError> {
+        Ok(*self)
+    }
+}
+
+impl TryClone for u32 {
+    fn try_clone(&self) -> Result<u32, AllocError> {
+        Ok(*self)
+    }
+}
+
+impl TryClone for i64 {
+    fn try_clone(&self) -> Result<i64, AllocError> {
+        Ok(*self)
+    }
+}
+
+impl TryClone for u64 {
+    fn try_clone(&self) -> Result<u64, AllocError> {
+        Ok(*self)
+    }
+}
+
+impl TryClone for [u8; 4] {
+    fn try_clone(&self) -> Result<[u8; 4], AllocError> {
+        Ok(*self)
+    }
+}
+
+impl TryClone for [u8; 8] {
+    fn try_clone(&self) -> Result<[u8; 8], AllocError> {
+        Ok(*self)
+    }
+}
+
 impl<T: TryClone> TryClone for Option<T> {
     fn try_clone(&self) -> Result<Option<T>, AllocError> {
         match self {

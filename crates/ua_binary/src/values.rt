@@ -1,8 +1,9 @@
 //! The values that the encoding spells: those that own their memory, and, with `Ref` in their
 //! names, those that are read in place.
 
-ghost use Rattle.std.specs.Prelude.{◌≡◌, ◌↔◌, List, [], ℕ, length, string_bytes, IfOk, IsTrue, MatchResult, nat_eq};
+ghost use Rattle.std.specs.Prelude.{◌≡◌, ◌↔◌, List, [], ℕ, length, string_bytes, IfOk, IsTrue, MatchResult, nat_eq, true};
 ghost use Rattle.std.specs.Option.{option_copied};
+ghost use Rattle.std.specs.Str.{is_utf8};
 ghost use Rattle.std.specs.Cmp.{partial_equiv_from_equiv};
 ghost use Rattle.std.specs.Cmp.Lexicographic.{pointwise, nat_list_eq_equiv};
 
@@ -41,8 +42,10 @@ impl Text {
         Ok(Text { inner })
     }
 
+    #[tactic(auto, using(crate::proofs::Utf8::tested))]
     pub fn as_str(&self) -> &str
-        ensures { result.now ≡ self.now }
+        ensures same { result.now ≡ self.now }
+        ensures utf8 { is_utf8 self.now ≡ true }
     {
         self.inner.as_str()
     }
@@ -65,6 +68,21 @@ impl Text {
         ensures { IsTrue result ↔ (self.now ≡ []) }
     {
         self.as_str().is_empty()
+    }
+}
+
+impl Text {
+    ghost use Rattle.ua_binary.specs.Binary.{IsCounted, IsText};
+
+    /// A text, where there is one, read in place.
+    fn lent(text: &Option<Text>) -> Option<&str>
+        ensures same { option_copied result ≡ text.now }
+        ensures spelled { IsCounted text.now → IsText text.now }
+    {
+        match text {
+            None => None,
+            Some(text) => Some(text.as_str()),
+        }
     }
 }
 
@@ -198,6 +216,22 @@ pub struct Guid {
     pub last: [u8; 8],
 }
 
+impl Guid {
+    ghost use Rattle.ua_binary.specs.Binary.{guid_of, IsGuid};
+
+    pub fn new(first: u32, second: u16, third: u16, last: [u8; 8]) -> Guid
+        ensures parts { result ≡ guid_of (first, (second, (third, last))) }
+        ensures spelled { IsGuid result }
+    {
+        Guid {
+            first,
+            second,
+            third,
+            last,
+        }
+    }
+}
+
 impl TryClone for Guid {
     fn try_clone(&self) -> Result<Guid, AllocError> {
         Ok(*self)
@@ -234,16 +268,20 @@ pub enum NodeId {
 }
 
 impl NodeId {
-    ghost use Rattle.ua_binary.specs.Binary.{node_of};
+    ghost use Rattle.ua_binary.specs.Binary.{node_of, IsNodeId, IsShortNode};
 
-    /// The same node, read in place.
+    /// The same node, read in place. Each node whose id can be counted has a spelling.
     pub fn as_ref(&self) -> NodeIdRef<'_>
-        ensures { node_of result ≡ self.now }
+        ensures same { node_of result ≡ self.now }
+        ensures spelled { IsShortNode self.now → IsNodeId self.now }
     {
         match self {
             NodeId::Numeric(namespace, id) => NodeIdRef::Numeric(*namespace, *id),
             NodeId::Named(namespace, name) => NodeIdRef::Named(*namespace, name.as_str()),
-            NodeId::Global(namespace, id) => NodeIdRef::Global(*namespace, *id),
+            NodeId::Global(namespace, id) => {
+                let id = Guid::new(id.first, id.second, id.third, id.last);
+                NodeIdRef::Global(*namespace, id)
+            }
             NodeId::Opaque(namespace, id) => NodeIdRef::Opaque(*namespace, id.as_slice()),
         }
     }
@@ -296,6 +334,22 @@ pub struct QualifiedName {
     pub name: Option<Text>,
 }
 
+impl QualifiedName {
+    ghost use Rattle.ua_binary.specs.Binary.{qualified_of, IsCounted, IsQualified};
+
+    /// The same name, read in place. Each that can be counted has a spelling.
+    pub fn as_ref(&self) -> QualifiedRef<'_>
+        ensures same { qualified_of result ≡ self.now }
+        ensures spelled { IsCounted self.now.name → IsQualified self.now }
+    {
+        let QualifiedName { namespace, name } = self;
+        QualifiedRef {
+            namespace: *namespace,
+            name: Text::lent(name),
+        }
+    }
+}
+
 impl TryClone for QualifiedName {
     fn try_clone(&self) -> Result<QualifiedName, AllocError> {
         let name = self.name.try_clone()?;
@@ -335,6 +389,21 @@ pub struct LocalizedText {
     pub text: Option<Text>,
 }
 
+impl LocalizedText {
+    ghost use Rattle.ua_binary.specs.Binary.{localized_of, IsLocalized, IsShortLocalized};
+
+    /// The same text, read in place. Each whose parts can be counted has a spelling.
+    pub fn as_ref(&self) -> LocalizedRef<'_>
+        ensures same { localized_of result ≡ self.now }
+        ensures spelled { IsShortLocalized self.now → IsLocalized self.now }
+    {
+        LocalizedRef {
+            locale: Text::lent(&self.locale),
+            text: Text::lent(&self.text),
+        }
+    }
+}
+
 impl TryClone for LocalizedText {
     fn try_clone(&self) -> Result<LocalizedText, AllocError> {
         let locale = self.locale.try_clone()?;
@@ -371,6 +440,21 @@ pub enum Body {
     Xml(Bytes),
 }
 
+impl Body {
+    ghost use Rattle.ua_binary.specs.Binary.{body_of};
+
+    /// The same body, read in place.
+    pub fn as_ref(&self) -> BodyRef<'_>
+        ensures { body_of result ≡ self.now }
+    {
+        match self {
+            Body::Absent => BodyRef::Absent,
+            Body::Binary(bytes) => BodyRef::Binary(bytes.as_slice()),
+            Body::Xml(bytes) => BodyRef::Xml(bytes.as_slice()),
+        }
+    }
+}
+
 impl TryClone for Body {
     fn try_clone(&self) -> Result<Body, AllocError> {
         Ok(match self {
@@ -394,6 +478,21 @@ pub enum BodyRef<'a> {
 pub struct ExtensionObject {
     pub type_id: NodeId,
     pub body: Body,
+}
+
+impl ExtensionObject {
+    ghost use Rattle.ua_binary.specs.Binary.{extension_of, IsBody, IsExtension, IsShortNode};
+
+    /// The same structure, read in place. Each whose id and body can be counted has a spelling.
+    pub fn as_ref(&self) -> ExtensionRef<'_>
+        ensures same { extension_of result ≡ self.now }
+        ensures spelled { IsShortNode self.now.type_id × IsBody self.now.body → IsExtension self.now }
+    {
+        ExtensionRef {
+            type_id: self.type_id.as_ref(),
+            body: self.body.as_ref(),
+        }
+    }
 }
 
 impl TryClone for ExtensionObject {
