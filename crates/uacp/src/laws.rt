@@ -1,11 +1,10 @@
 //! What holds of the greeting's formats and of every stream, whatever is fed and in whatever pieces.
 
-ghost use Rattle.std.specs.Prelude.{◌≡◌, ◌↔◌, List, ℕ};
+ghost use Rattle.std.specs.Prelude.{◌≡◌, ◌↔◌, ◌≤◌, ◌++◌, [], ◌∷◌, List, Option, ℕ, false, length};
 ghost use Rattle.ua_binary.specs.Format.{IsLawful, IsPrefixFree};
 ghost use Rattle.uacp.specs.declared.greeting.Hello.{Hello};
-ghost use Rattle.uacp.specs.Greeting.{hello, hello_at, acknowledge, error};
-ghost use Rattle.std.specs.Prelude.{◌≤◌, ◌++◌, [], ◌∷◌, Option, false, length};
 ghost use Rattle.uacp.specs.declared.types.UacpFault.{UacpFault as Fault};
+ghost use Rattle.uacp.specs.Greeting.{hello, hello_at, acknowledge, error};
 ghost use Rattle.uacp.specs.Stream.{Piece, AreChunks, Splits};
 ghost use Rattle.uacp.specs.Held.{Held, fresh};
 ghost use Rattle.uacp.specs.Run.{Event, Refused, Runs, fed_of, given_of, limits_of, ended, OnlyRefuses};

@@ -4,11 +4,15 @@
 mod cutting;
 mod greeting;
 mod intake;
-pub mod laws;
+mod laws;
 mod types;
 
 pub use greeting::{Ack, Hello, answer_hello, put_ack, put_error, read_hello};
 pub use intake::Intake;
+pub use laws::{
+    fault_stays, formats_are_lawful, hello_is_what_is_spelled, pieces_do_not_matter,
+    stream_ends_so, stream_has_one_reading, stream_is_kept,
+};
 pub use types::{Chunk, Header, Kind, Letter, UacpFault};
 
 #[cfg(test)]
