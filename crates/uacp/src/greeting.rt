@@ -1,6 +1,6 @@
 //! The greeting: what a client asks for, and what the server answers.
 
-ghost use Rattle.std.specs.Prelude.{◌≡◌, MatchResult, List, ℕ};
+ghost use Rattle.std.specs.Prelude.{◌≡◌};
 ghost use Rattle.ua_binary.specs.Format.{Reads, Puts, PutsPart};
 ghost use Rattle.uacp.specs.Greeting.{hello, hello_at, ack_of, acknowledge, error};
 
@@ -94,8 +94,9 @@ fn put_ack_parts(out: &mut Vec<u8>, ack: &Ack) -> Result<(), BinaryFault>
     Ok(())
 }
 
-/// Appends an Acknowledge of version 0 that allows messages of 4,194,304 bytes and 64 chunks (Part 6, 7.1.2.4):
-/// 28 bytes, the header among them. The one error is `OutOfMemory`, which leaves the vector as it was.
+/// Appends an Acknowledge (Part 6, 7.1.2.4): 28 bytes, the header among them, of version 0, which
+/// allows messages of 4,194,304 bytes and 64 chunks. The one error is `OutOfMemory`, which leaves
+/// the vector as it was.
 pub fn put_ack(out: &mut Vec<u8>, ack: &Ack) -> Result<(), UacpFault>
     ensures { Puts UacpFault.OutOfMemory result out.old.items out.new.items (acknowledge.canon ack.now) }
 {
@@ -117,8 +118,8 @@ fn put_error_parts(out: &mut Vec<u8>, code: u32) -> Result<(), BinaryFault>
     Ok(())
 }
 
-/// Appends an Error with this status code and a null reason (Part 6, 7.1.2.5): 16 bytes, the header among them.
-/// The one error is `OutOfMemory`, which leaves the vector as it was.
+/// Appends an Error with this status code and a null reason (Part 6, 7.1.2.5): 16 bytes, the header
+/// among them. The one error is `OutOfMemory`, which leaves the vector as it was.
 pub fn put_error(out: &mut Vec<u8>, code: u32) -> Result<(), UacpFault>
     ensures { Puts UacpFault.OutOfMemory result out.old.items out.new.items (error.canon code) }
 {

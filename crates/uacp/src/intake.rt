@@ -9,9 +9,10 @@ use std::marker::Model;
 
 /// Cuts the bytes of a connection into chunks (Part 6, 7.1.2.2), whatever pieces they come in.
 ///
-/// A chunk is judged once eight bytes of it are there: its letters, its least size, its greatest size, in this order.
-/// The first one is a Hello of 32 to 4,128 bytes; later ones are no Hello, have 32 bytes at least where they open a channel
-/// and 24 otherwise, and at most as many as the limit says. Feeding costs time linear in the bytes, whatever the pieces.
+/// A chunk is judged once eight bytes of it are there: its letters, its least size, its greatest
+/// size, in this order. The first one is a Hello of 32 to 4,128 bytes; later ones are no Hello,
+/// have 32 bytes at least where they open a channel and 24 otherwise, and at most as many as the
+/// limit says. Feeding costs time linear in the bytes, whatever the pieces.
 #[derive(Drop)]
 pub struct Intake {
     bytes: Vec<u8>,
@@ -53,8 +54,8 @@ impl Intake {
         }
     }
 
-    /// Sets the greatest size of the chunks that are judged from now on, a Hello aside: the receive size of the
-    /// Acknowledge, in bytes with the header.
+    /// Sets the greatest size of the chunks that are judged from now on, a Hello aside: the receive
+    /// size of the Acknowledge, in bytes with the header.
     pub fn set_limit(&mut self, receive_size: u32)
         ensures { Does self.old (Limited receive_size) self.new }
     {
@@ -66,7 +67,8 @@ impl Intake {
         ensures ok { OnOk result (Does self.old (Fed piece.now) self.new) }
         ensures err { IfErr result (λ fault. (fault ≡ UacpFault.OutOfMemory) × (self.new ≡ self.old)) }
     {
-        // What was given out goes once it is half of the bytes, so that each byte is moved a bounded number of times.
+        // What was given out goes once it is half of the bytes, so that each byte is moved a
+        // bounded number of times.
         let given = self.given;
         if self.bytes.len() - given <= given {
             let _ = self.bytes.drain(..given);
