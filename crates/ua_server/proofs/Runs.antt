@@ -24,11 +24,11 @@ nothing_more = record { marks = []; readings = [] }
 pub before-nothing : {M : Type 0} (m : List M) (r : List ℤ) → before m r (nothing_more {M = M}) ≡ record { marks = m; readings = r }
 before-nothing m r = outside_same _ _ _ _ (append-nil m) (append-nil r)
 
-pub joined-same : {C E : Type 0} (reply : Reply C E) (a b : Answer C E) → a ≡ b → joined reply a ≡ joined reply b
-joined-same {C} {E} reply a b same = ap (λ (x : Answer C E). joined reply x) same
+pub joined-same : {C E M : Type 0} (reply : Reply C E) (left : Outside M) (a b : Answer C E M) → a ≡ b → joined reply left a ≡ joined reply left b
+joined-same {C} {E} {M} reply left a b same = ap (λ (x : Answer C E M). joined reply left x) same
 
 -- steps are one where what comes later is one on fewer bytes
-stepped-same : {C X E M : Type 0} (f h : C → List ℕ → Outside M → Answer C E) (p : Protocol C X E M) (state : C) (bytes : List ℕ) (outside : Outside M) (o : Option (X × ℕ))
+stepped-same : {C X E M : Type 0} (f h : C → List ℕ → Outside M → Answer C E M) (p : Protocol C X E M) (state : C) (bytes : List ℕ) (outside : Outside M) (o : Option (X × ℕ))
     → ((item : X × ℕ) → o ≡ Some item → (0 < item.1) × (item.1 ≤ length bytes))
     → ((s : C) (b : List ℕ) (later : Outside M) → length b < length bytes → f s b later ≡ h s b later)
     → stepped f p state bytes outside o ≡ stepped h p state bytes outside o
@@ -37,7 +37,7 @@ stepped-same f h p state bytes outside (Some item) falls same =
     let reply = p.answer state item.0 outside in
     let less : (0 < item.1) × (item.1 ≤ length bytes) = falls item refl in
     let fewer : length (drop item.1 bytes) < length bytes = omega (arith, length-drop item.1 bytes) in
-    joined-same reply.0 _ _ (same reply.0.state (drop item.1 bytes) reply.1 fewer)
+    joined-same reply.0 reply.1 _ _ (same reply.0.state (drop item.1 bytes) reply.1 fewer)
 
 enough : {C X E M : Type 0} (p : Protocol C X E M) → Falls p → (n m : ℕ) (state : C) (bytes : List ℕ) (outside : Outside M)
     → length bytes < n → length bytes < m → run p n state bytes outside ≡ run p m state bytes outside
@@ -69,7 +69,7 @@ answers-item {C} {X} {E} {M} p falls state bytes item readings reply stands does
   goes = λ later.
       answered-step p falls state bytes (before does.used readings later)
       ∙ ap (λ (o : Option (X × ℕ)). stepped (answered p) p state bytes (before does.used readings later) o) stands
-      ∙ ap (λ (r : Reply C E × Outside M). joined r.0 (answered p r.0.state (drop item.1 bytes) r.1)) (does.does later);
+      ∙ ap (λ (r : Reply C E × Outside M). joined r.0 r.1 (answered p r.0.state (drop item.1 bytes) r.1)) (does.does later);
 }
 
 -- no item stands there
@@ -80,10 +80,10 @@ answers-end p falls state bytes rest over = record {
   goes = λ later. answered-step p falls state bytes later ∙ ap (λ o. stepped (answered p) p state bytes later o) over;
 }
 
-joined-after : {C E : Type 0} (written : List ℕ) (reply : Reply C E) (o : Option E) (state : C) (later : Answer C E)
-    → joined (record { out = written; ending = None; state = state }) (joined_by reply.out reply.state later o) ≡ joined_by (written ++ reply.out) reply.state later o
-joined-after {C} {E} written reply (Some e) state later = refl
-joined-after {C} {E} written reply None state later = ap (λ o. let a : Answer C E = record { out = o; ending = later.ending; state = later.state } in a) (sym (append_assoc written reply.out later.out))
+joined-after : {C E M : Type 0} (written : List ℕ) (reply : Reply C E) (o : Option E) (state : C) (left later_left : Outside M) (later : Answer C E M)
+    → joined (record { out = written; ending = None; state = state }) left (joined_by reply.out reply.state later_left later o) ≡ joined_by (written ++ reply.out) reply.state later_left later o
+joined-after {C} {E} {M} written reply (Some e) state left later_left later = refl
+joined-after {C} {E} {M} written reply None state left later_left later = ap (λ o. let a : Answer C E M = record { out = o; ending = later.ending; state = later.state; left = later.left } in a) (sym (append_assoc written reply.out later.out))
 
 -- one stretch after another
 pub answers-then : {C X E M : Type 0} (p : Protocol C X E M) (start : C) (input : List ℕ) (readings : List ℤ) (written : List ℕ) (state : C) (rest : List ℕ)
@@ -95,25 +95,25 @@ answers-then {C} {X} {E} {M} p start input readings written state rest more repl
   goes = λ later.
       ap (λ o. answered p start input o) (before-before first.used second.used readings more later)
       ∙ first.goes (before second.used more later)
-      ∙ joined-same (record { out = written; ending = None; state = state }) _ _ (second.goes later)
-      ∙ joined-after written reply reply.ending state (answered p reply.state left later);
+      ∙ joined-same (record { out = written; ending = None; state = state }) (before second.used more later) _ _ (second.goes later)
+      ∙ joined-after written reply reply.ending state (before second.used more later) later (answered p reply.state left later);
 }
 
 -- where a reply ends the stream, it is the whole answer
 pub answers-whole : {C X E M : Type 0} (p : Protocol C X E M) (start : C) (input : List ℕ) (readings : List ℤ) (out : List ℕ) (ending : E) (state : C) (rest : List ℕ)
     (so : Answers p start input readings (record { out = out; ending = Some ending; state = state }) rest)
-    → answered p start input (record { marks = so.used; readings = readings }) ≡ record { out = out; ending = ending; state = state }
+    → answered p start input (record { marks = so.used; readings = readings }) ≡ record { out = out; ending = ending; state = state; left = nothing_more }
 answers-whole p start input readings out ending state rest so = ap (λ o. answered p start input o) (sym (before-nothing so.used readings)) ∙ so.goes nothing_more
 
-rest_of : {C E : Type 0} (out sent unsent : List ℕ) (o : Option E) (state : C) (later : Answer C E) → out ≡ sent ++ unsent → (left : List ℕ) × ((joined_by out state later o).out ≡ sent ++ left)
-rest_of out sent unsent (Some e) state later cut = (unsent, cut)
-rest_of out sent unsent None state later cut = (unsent ++ later.out, ap (λ b. b ++ later.out) cut ∙ append_assoc sent unsent later.out)
+rest_of : {C E M : Type 0} (out sent unsent : List ℕ) (o : Option E) (state : C) (outside : Outside M) (later : Answer C E M) → out ≡ sent ++ unsent → (left : List ℕ) × ((joined_by out state outside later o).out ≡ sent ++ left)
+rest_of out sent unsent (Some e) state outside later cut = (unsent, cut)
+rest_of out sent unsent None state outside later cut = (unsent ++ later.out, ap (λ b. b ++ later.out) cut ∙ append_assoc sent unsent later.out)
 
 -- a first part of a reply is a first part of the whole answer
 pub answers-part : {C X E M : Type 0} (p : Protocol C X E M) (start : C) (input : List ℕ) (readings : List ℤ) (reply : Reply C E) (rest sent unsent : List ℕ)
     (so : Answers p start input readings reply rest) → reply.out ≡ sent ++ unsent
     → (left : List ℕ) × ((answered p start input (record { marks = so.used; readings = readings })).out ≡ sent ++ left)
 answers-part {C} {X} {E} {M} p start input readings reply rest sent unsent so cut =
-    let part = rest_of reply.out sent unsent reply.ending reply.state (answered p reply.state rest nothing_more) cut in
+    let part = rest_of reply.out sent unsent reply.ending reply.state nothing_more (answered p reply.state rest nothing_more) cut in
     let now = ap (λ o. answered p start input o) (sym (before-nothing so.used readings)) ∙ so.goes nothing_more in
-    (part.0, ap (λ (a : Answer C E). a.out) now ∙ part.1)
+    (part.0, ap (λ (a : Answer C E M). a.out) now ∙ part.1)

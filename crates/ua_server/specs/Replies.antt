@@ -127,5 +127,5 @@ abbrev pub greeting : Standing
 greeting = record { greeted = false; limit = 65536; connection = record { ack = None; taken = 0 } }
 
 -- the whole answer to a connection's bytes, by the clock's readings and the marks of the steps
-abbrev pub replies : List ℕ → List ℤ → List Mark → Answer Standing Ending
+abbrev pub replies : List ℕ → List ℤ → List Mark → Answer Standing Ending Mark
 replies bytes readings marks = answered chunks greeting bytes (record { marks = marks; readings = readings })

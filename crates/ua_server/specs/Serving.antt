@@ -1,5 +1,5 @@
 -- What goes out on a connection, by what came in.
-use Rattle.std.specs.Prelude.{◌≡◌, ℕ, ℤ, List, ◌++◌, Option, None, Some, Ok, Err}
+use Rattle.std.specs.Prelude.{[], ◌≡◌, ℕ, ℤ, List, ◌++◌, Option, None, Some, Ok, Err}
 use Rattle.std.specs.Io.KnownBytes.{Appends}
 use Rattle.uacp.specs.Held.{Held}
 use Rattle.ua_server.specs.declared.outcome.ServeFault.TheVariants.{Read, Write, TooLong, OutOfMemory}
@@ -8,9 +8,9 @@ use Rattle.ua_server.specs.Run.{Answers}
 use Rattle.ua_server.specs.Replies.{Standing, Ending, Mark, chunks, greeting, replies, reply_with}
 use Rattle.ua_server.specs.Turns.{sees}
 
--- by these readings and some marks, this is the whole answer to the input
+-- by these readings and some marks, and no more of them, this is the whole answer to the input
 abbrev pub IsWhole : List ℕ → List ℤ → List ℕ → Ending → Type 0
-IsWhole input readings out ending = (marks : List Mark) × (last : Standing) × (replies input readings marks ≡ record { out = out; ending = ending; state = last })
+IsWhole input readings out ending = (marks : List Mark) × (last : Standing) × (replies input readings marks ≡ record { out = out; ending = ending; state = last; left = record { marks = []; readings = [] } })
 
 -- by these readings and some marks, the answer to the input begins with this
 abbrev pub IsFirstPart : List ℕ → List ℤ → List ℕ → Type 0

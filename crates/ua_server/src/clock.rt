@@ -20,9 +20,9 @@ pub trait Clock {
 
 /// A clock that stands still: each reading is this one.
 #[derive(Clone, Copy, Debug, PartialEq, Eq)]
-pub struct Constant(pub i64);
+pub struct ConstantClock(pub i64);
 
-impl Clock for Constant {
+impl Clock for ConstantClock {
     ghost gave = { λ a xs b. (b.0 ≡ a.0) × AllAre a.0 xs };
 
     ghost gave_none = { λ a. (refl, tt) };

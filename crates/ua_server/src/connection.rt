@@ -13,7 +13,7 @@ use uacp::{Ack, Chunk, Intake, Kind, UacpFault, answer_hello, put_ack, put_error
 pub const MOST_CHUNKS: u32 = 1_000_000;
 
 /// What is known of the client between two chunks.
-#[derive(Clone, Copy)]
+#[derive(Clone, Copy, Debug, PartialEq, Eq)]
 pub struct Connection {
     /// The sizes that were granted, after the Hello.
     pub ack: Option<Ack>,

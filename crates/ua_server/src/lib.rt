@@ -12,7 +12,7 @@ mod program;
 mod server;
 mod serving;
 
-pub use clock::{Clock, Constant};
+pub use clock::{Clock, ConstantClock};
 pub use connection::{Connection, MOST_CHUNKS};
 pub use counted::Counted;
 pub use hexed::{HexFault, answer_hex};

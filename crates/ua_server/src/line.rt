@@ -1,8 +1,9 @@
 //! The command line.
 
-ghost use Rattle.std.specs.Prelude.{◌≡◌, map, IfOk};
+ghost use Rattle.std.specs.Prelude.{◌≡◌, map, IfOk, IsErrOf, true};
 ghost use Rattle.clap.specs.Words.{app_of, subcommand_of};
-ghost use Rattle.ua_server.specs.Line.{IsLine, uahist};
+ghost use Rattle.clap.specs.Takes.{takes};
+ghost use Rattle.ua_server.specs.Line.{IsLine, IsNoCommand, uahist};
 
 use clap::error::ErrorKind;
 use clap::{Arg, ArgAction, Command};
@@ -40,24 +41,30 @@ fn command<'a>(alloc: Global) -> Result<Command<'a>, AllocError>
     Ok(whole)
 }
 
+/// What a refusal of `clap`'s is called here.
+fn fault_of(kind: ErrorKind) -> LineFault
+    ensures { result ≡ LineFault.Words → kind ≡ ErrorKind.OutOfMemory → ⊥ }
+{
+    match kind {
+        ErrorKind::OutOfMemory => LineFault::OutOfMemory,
+        _ => LineFault::Words,
+    }
+}
+
 /// Reads a command line, the program's name first, as `clap` reads it.
 ///
 /// `Ok` has the command that `clap`'s matches name and the values that they give for it. Errors: `Words` where `clap`
 /// refuses the words or they name no command, `OutOfMemory` where memory ran out.
 pub fn read_line<'a, S: AsStr>(alloc: Global, words: &'a [S]) -> Result<Line, LineFault>
-    ensures { IfOk result (IsLine (subcommand_of uahist (map S.text words.now))) }
+    ensures ok { IfOk result (IsLine (subcommand_of uahist (map S.text words.now))) }
+    ensures words { IsErrOf result LineFault.Words → takes uahist (map S.text words.now) ≡ true → IsNoCommand (subcommand_of uahist (map S.text words.now)) }
 {
     let Ok(command) = command(alloc) else {
         return Err(LineFault::OutOfMemory);
     };
     let matches = match command.try_get_matches_from(words) {
         Ok(matches) => matches,
-        Err(error) => {
-            return Err(match error.kind() {
-                ErrorKind::OutOfMemory => LineFault::OutOfMemory,
-                _ => LineFault::Words,
-            });
-        }
+        Err(error) => return Err(fault_of(error.kind())),
     };
     match matches.subcommand_matches("answer") {
         None => Err(LineFault::Words),

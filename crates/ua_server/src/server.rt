@@ -1,7 +1,7 @@
 //! The server, as it stands between connections.
 
 /// What the server keeps from one connection to the next: nothing, as yet.
-#[derive(Clone, Copy, Debug, Default)]
+#[derive(Debug, Drop)]
 pub struct Server;
 
 impl Server {

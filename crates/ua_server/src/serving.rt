@@ -37,7 +37,7 @@ fn answer_waiting<W: Write, C: Clock>(
     ensures no_less { IfOk result (λ end. end ≡ None → IsNoLess (sees intake.old connection.old) intake.old.waiting (sees intake.new connection.new) intake.new.waiting) }
     ensures write { IsErrOf result ServeFault.Write → writer.new.faults ≡ counted writer.old.faults }
     ensures read { IsErrOf result ServeFault.Read → ⊥ }
-    ensures faults { OnOk result (writer.new.faults ≡ writer.old.faults) }
+    ensures kept { (IsErrOf result ServeFault.Write → ⊥) → writer.new.faults ≡ writer.old.faults }
 {
     'chunks: loop {
         let mut out = Vec::new(alloc);
@@ -63,6 +63,7 @@ fn send_refusal<W: Write>(
     ensures write { IsErrOf result ServeFault.Write → writer.new.faults ≡ counted writer.old.faults }
     ensures read { IsErrOf result ServeFault.Read → ⊥ }
     ensures long { IsErrOf result ServeFault.TooLong → ⊥ }
+    ensures kept { (IsErrOf result ServeFault.Write → ⊥) → writer.new.faults ≡ writer.old.faults }
 {
     let mut out = Vec::new(alloc);
     let served = refuse_with(code, &mut out)?;
@@ -76,7 +77,7 @@ fn send_refusal<W: Write>(
 /// reader's bytes, by the readings that the clock gave, and after a fault of the reader or the writer a first part of it.
 /// Each answer is sent before the next chunk is looked at; the writer is not flushed.
 ///
-/// Errors: `Read` and `Write` where a call of the reader or the writer failed (its `faults` rose), `TooLong` where a
+/// Errors: `Read` and `Write` where a call of the reader or the writer failed (its `faults` rose, and it rises nowhere else), `TooLong` where a
 /// chunk comes after 1,000,000 of them, `OutOfMemory` where memory was wanting and the Error message that tells it could
 /// not be made either.
 pub fn serve<R: Read, W: Write, C: Clock>(
@@ -90,6 +91,8 @@ pub fn serve<R: Read, W: Write, C: Clock>(
         × Serves (R.remaining reader.old.inner) (W.contents writer.old.inner) (W.contents writer.new.inner) readings result }
     ensures read { IsErrOf result ServeFault.Read → reader.new.faults ≡ counted reader.old.faults }
     ensures write { IsErrOf result ServeFault.Write → writer.new.faults ≡ counted writer.old.faults }
+    ensures read_kept { (IsErrOf result ServeFault.Read → ⊥) → reader.new.faults ≡ reader.old.faults }
+    ensures write_kept { (IsErrOf result ServeFault.Write → ⊥) → writer.new.faults ≡ writer.old.faults }
 {
     let mut intake = Intake::new(alloc);
     let mut connection = Connection {

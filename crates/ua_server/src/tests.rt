@@ -52,8 +52,8 @@ impl Read for Broken<'_> {
     }
 }
 
-fn clock() -> Constant {
-    Constant(116_444_736_000_000_000)
+fn clock() -> ConstantClock {
+    ConstantClock(116_444_736_000_000_000)
 }
 
 fn answered(alloc: Global, text: &str) -> Result<(Served, Vec<u8>), HexFault> {

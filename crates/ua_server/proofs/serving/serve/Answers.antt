@@ -63,7 +63,7 @@ reads-preserved g c =
       whole = whole refl;
       short = drained.2.2.0;
       read_faults = c.in_ok-n.ensures.faults ∙ c.reads.invariant.read_faults;
-      write_faults = c.in-Ok-None.ensures.faults ∙ c.reads.invariant.write_faults;
+      write_faults = (rw c.in-Ok-None.field-0-is at c.in-Ok-None.ensures.kept) (λ e. cc) ∙ c.reads.invariant.write_faults;
       so_far = (
         so.0 ++ drained.0,
         g.met.C.Clock.gave_more _ _ _ _ _ so.1 drained.1,
