@@ -1,19 +1,22 @@
 -- What a run of the program prints, and its exit status.
-use Rattle.std.specs.Prelude.{◌≡◌, ℕ, ℤ, List, [], ◌∷◌, ◌++◌, Option, None, Some, Result, Ok, Err, true, false}
+use Rattle.std.specs.Prelude.{◌≡◌, ℕ, ℤ, List, [], ◌∷◌, ◌++◌, Option, None, Some, Result, Ok, Err, IsErr, Bool, true, false, ◌⊎◌}
 use Rattle.std.specs.Io.KnownBytes.{Appends}
-use Rattle.hex.specs.Hex.{encode_upper}
+use Rattle.std.specs.Str.{IsUtf8}
+use Rattle.hex.specs.Hex.{encode_upper, decode_of}
 use Rattle.ua_server.specs.declared.outcome.Served.{Served}
 use Rattle.ua_server.specs.declared.outcome.ServeFault.TheVariants.{Read, Write, TooLong, OutOfMemory}
 use Rattle.ua_server.specs.declared.program.ProgramFault.{ProgramFault}
 use Rattle.ua_server.specs.declared.program.ProgramFault.TheVariants.{Line, BadHex, Connection}
 use Rattle.ua_server.specs.Bytes.{AppendsPart}
 use Rattle.ua_server.specs.Replies.{Ending}
-use Rattle.ua_server.specs.Hexed.{AnswersText}
+use Rattle.ua_server.specs.Hexed.{AnswersText, digits_of}
 use Rattle.ua_server.specs.Serving.{Serves}
 use Rattle.clap.specs.Words.{Row, Text}
 use Rattle.ua_server.specs.declared.line.Line.{Line as CommandLine}
 use Rattle.ua_server.specs.declared.line.Line.TheVariants.{Answer}
-use Rattle.ua_server.specs.Line.{IsLine}
+use Rattle.ua_server.specs.declared.line.LineFault.{LineFault}
+use Rattle.ua_server.specs.declared.line.LineFault.TheVariants.{Words, OutOfMemory as NoMemory}
+use Rattle.ua_server.specs.Line.{IsLine, IsNoCommand}
 
 abbrev pub fault_status : ProgramFault → ℕ
 fault_status (Line fault) = 2
@@ -36,23 +39,38 @@ abbrev pub AnswersDigits : Option (List ℕ) → List ℤ → List ℕ → Type 
 AnswersDigits None readings digits = Unit {0}
 AnswersDigits (Some text) readings digits = (out : List ℕ) × (served : Served) × AnswersText text readings out (Ok served) × (digits ≡ encode_upper out)
 
--- a fault before anything is printed
-abbrev pub IsUnprinted : ProgramFault → Type 0
-IsUnprinted (Line fault) = ⊥
-IsUnprinted BadHex = Unit {0}
-IsUnprinted (Connection Read) = Unit {0}
-IsUnprinted (Connection Write) = ⊥
-IsUnprinted (Connection TooLong) = Unit {0}
-IsUnprinted (Connection OutOfMemory) = Unit {0}
+-- a known input spells no connection in hex
+abbrev pub IsBadText : Option (List ℕ) → Type 0
+IsBadText None = Unit {0}
+IsBadText (Some text) = ¬ (IsUtf8 text) ⊎ IsErr (decode_of (digits_of text))
+
+-- a known input spells a connection of too many chunks
+abbrev pub IsTooLong : Option (List ℕ) → List ℤ → Type 0
+IsTooLong None readings = Unit {0}
+IsTooLong (Some text) readings = (out : List ℕ) × AnswersText text readings out (Err TooLong)
+
+-- why no digits were made
+abbrev pub IsUnmade : Option (List ℕ) → List ℤ → ProgramFault → Type 0
+IsUnmade input readings (Line fault) = ⊥
+IsUnmade input readings BadHex = IsBadText input
+IsUnmade input readings (Connection Read) = Unit {0}
+IsUnmade input readings (Connection Write) = ⊥
+IsUnmade input readings (Connection TooLong) = IsTooLong input readings
+IsUnmade input readings (Connection OutOfMemory) = Unit {0}
+
+-- the digits of the answer were made, or it is said why not
+abbrev pub MakesDigits : {T : Type 0} → (T → List ℕ) → Option (List ℕ) → List ℤ → Result T ProgramFault → Type 0
+MakesDigits items_of input readings (Ok made) = AnswersDigits input readings (items_of made)
+MakesDigits items_of input readings (Err fault) = IsUnmade input readings fault
 
 -- the digits of the whole answer and a line end were printed, a first part of them where the writer failed, else nothing
 abbrev pub PrintsHex : Option (List ℕ) → Option (List ℕ) → Option (List ℕ) → List ℤ → Result (Unit {0}) ProgramFault → Type 0
 PrintsHex input old written readings (Ok done) = (digits : List ℕ) × AnswersDigits input readings digits × Appends old written (digits ++ 10 ∷ [])
 PrintsHex input old written readings (Err (Line fault)) = ⊥
-PrintsHex input old written readings (Err BadHex) = written ≡ old
+PrintsHex input old written readings (Err BadHex) = IsBadText input × (written ≡ old)
 PrintsHex input old written readings (Err (Connection Read)) = written ≡ old
 PrintsHex input old written readings (Err (Connection Write)) = (digits : List ℕ) × AnswersDigits input readings digits × AppendsPart old written (digits ++ 10 ∷ [])
-PrintsHex input old written readings (Err (Connection TooLong)) = written ≡ old
+PrintsHex input old written readings (Err (Connection TooLong)) = IsTooLong input readings × (written ≡ old)
 PrintsHex input old written readings (Err (Connection OutOfMemory)) = written ≡ old
 
 -- what each command does
@@ -64,9 +82,14 @@ DoesLine (Answer true) input old written readings result = PrintsHex input old w
 abbrev pub DoesMatches : Option (Text × List Row) → Option (List ℕ) → Option (List ℕ) → Option (List ℕ) → List ℤ → Result (Unit {0}) ProgramFault → Type 0
 DoesMatches matches input old written readings result = (line : CommandLine) × IsLine matches line × DoesLine line input old written readings result
 
--- a run by the matches of a command line, which prints nothing where that is refused
-abbrev pub Runs : Option (Text × List Row) → Option (List ℕ) → Option (List ℕ) → Option (List ℕ) → List ℤ → Result (Unit {0}) ProgramFault → Type 0
-Runs matches input old written readings (Ok done) = DoesMatches matches input old written readings (Ok done)
-Runs matches input old written readings (Err (Line fault)) = written ≡ old
-Runs matches input old written readings (Err BadHex) = DoesMatches matches input old written readings (Err BadHex)
-Runs matches input old written readings (Err (Connection fault)) = DoesMatches matches input old written readings (Err (Connection fault))
+-- a line is refused for want of memory, or where clap refuses it or its matches name no command
+abbrev pub IsRefused : Bool → Option (Text × List Row) → LineFault → Type 0
+IsRefused taken matches Words = taken ≡ true → IsNoCommand matches
+IsRefused taken matches NoMemory = Unit {0}
+
+-- a run by whether clap takes a command line, and by its matches; where the line is refused nothing is printed
+abbrev pub Runs : Bool → Option (Text × List Row) → Option (List ℕ) → Option (List ℕ) → Option (List ℕ) → List ℤ → Result (Unit {0}) ProgramFault → Type 0
+Runs taken matches input old written readings (Ok done) = DoesMatches matches input old written readings (Ok done)
+Runs taken matches input old written readings (Err (Line fault)) = IsRefused taken matches fault × (written ≡ old)
+Runs taken matches input old written readings (Err BadHex) = DoesMatches matches input old written readings (Err BadHex)
+Runs taken matches input old written readings (Err (Connection fault)) = DoesMatches matches input old written readings (Err (Connection fault))

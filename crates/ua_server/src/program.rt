@@ -1,11 +1,12 @@
 //! The program, over any reader and writers.
 
-ghost use Rattle.std.specs.Prelude.{◌≡◌, ◌+◌, ℕ, ℤ, List, [], ◌∷◌, ◌++◌, IfOk, IfErr, OnOk, IsErrOf, map};
+ghost use Rattle.std.specs.Prelude.{◌≡◌, ◌+◌, ℕ, ℤ, List, [], ◌∷◌, ◌++◌, IfOk, IfErr, OnOk, OnErr, IsErrOf, map};
 ghost use Rattle.std.specs.Io.KnownBytes.{Appends, Consumes, IsAtEnd};
 ghost use Rattle.ua_server.specs.Bytes.{counted, AppendsPart};
 ghost use Rattle.ua_server.specs.Serving.{Serves};
-ghost use Rattle.ua_server.specs.Program.{status_of, EndsAs, AnswersDigits, IsUnprinted, PrintsHex, Runs};
+ghost use Rattle.ua_server.specs.Program.{status_of, EndsAs, AnswersDigits, MakesDigits, PrintsHex, Runs};
 ghost use Rattle.clap.specs.Words.{subcommand_of};
+ghost use Rattle.clap.specs.Takes.{takes};
 ghost use Rattle.ua_server.specs.Line.{uahist};
 
 use crate::clock::Clock;
@@ -42,6 +43,7 @@ fn read_all<R: Read>(alloc: Global, input: &mut Counted<R>) -> Result<Vec<u8>, S
     ensures bytes { IfOk result (λ bytes. Consumes (R.remaining input.old.inner) (R.remaining input.new.inner) bytes.items × IsAtEnd (R.remaining input.new.inner)) }
     ensures read { IsErrOf result ServeFault.Read → input.new.faults ≡ counted input.old.faults }
     ensures no_write { IsErrOf result ServeFault.Write → ⊥ }
+    ensures no_long { IsErrOf result ServeFault.TooLong → ⊥ }
 {
     let mut bytes = Vec::new(alloc);
     let mut piece = [0u8; PIECE];
@@ -63,7 +65,9 @@ fn answer<R: Read, W: Write, C: Clock>(
     output: &mut Counted<W>,
     clock: &mut C,
 ) -> Result<(), ProgramFault>
-    ensures { (readings : List ℤ) × C.gave clock.old readings clock.new × EndsAs (Serves (R.remaining input.old.inner) (W.contents output.old.inner) (W.contents output.new.inner) readings) result }
+    ensures read { IsErrOf result (ProgramFault.Connection ServeFault.Read) → input.new.faults ≡ counted input.old.faults }
+    ensures write { IsErrOf result (ProgramFault.Connection ServeFault.Write) → output.new.faults ≡ counted output.old.faults }
+    ensures ends { (readings : List ℤ) × C.gave clock.old readings clock.new × EndsAs (Serves (R.remaining input.old.inner) (W.contents output.old.inner) (W.contents output.new.inner) readings) result }
 {
     let mut server = Server::new();
     match serve(alloc, input, output, &mut server, clock) {
@@ -78,8 +82,8 @@ fn hex_answer<R: Read, C: Clock>(
     input: &mut Counted<R>,
     clock: &mut C,
 ) -> Result<Vec<u8>, ProgramFault>
-    ensures digits { (readings : List ℤ) × C.gave clock.old readings clock.new × IfOk result (λ digits. AnswersDigits (R.remaining input.old.inner) readings digits.items) }
-    ensures fault { IfErr result IsUnprinted }
+    ensures digits { (readings : List ℤ) × C.gave clock.old readings clock.new × MakesDigits (λ digits. digits.items) (R.remaining input.old.inner) readings result }
+    ensures read { IsErrOf result (ProgramFault.Connection ServeFault.Read) → input.new.faults ≡ counted input.old.faults }
 {
     let bytes = match read_all(alloc, input) {
         Ok(bytes) => bytes,
@@ -100,6 +104,7 @@ fn hex_answer<R: Read, C: Clock>(
 /// Writes a line.
 fn print_line<W: Write>(line: &[u8], output: &mut Counted<W>) -> Result<(), ServeFault>
     ensures ok { OnOk result (Appends (W.contents output.old.inner) (W.contents output.new.inner) (line.now ++ 10 ∷ [])) }
+    ensures write { OnErr result (output.new.faults ≡ counted output.old.faults) }
     ensures part { IfErr result (λ fault. (fault ≡ ServeFault.Write) × AppendsPart (W.contents output.old.inner) (W.contents output.new.inner) (line.now ++ 10 ∷ [])) }
 {
     match output.send(line) {
@@ -119,7 +124,9 @@ fn answer_in_hex<R: Read, W: Write, C: Clock>(
     output: &mut Counted<W>,
     clock: &mut C,
 ) -> Result<(), ProgramFault>
-    ensures { (readings : List ℤ) × C.gave clock.old readings clock.new × PrintsHex (R.remaining input.old.inner) (W.contents output.old.inner) (W.contents output.new.inner) readings result }
+    ensures read { IsErrOf result (ProgramFault.Connection ServeFault.Read) → input.new.faults ≡ counted input.old.faults }
+    ensures write { IsErrOf result (ProgramFault.Connection ServeFault.Write) → output.new.faults ≡ counted output.old.faults }
+    ensures prints { (readings : List ℤ) × C.gave clock.old readings clock.new × PrintsHex (R.remaining input.old.inner) (W.contents output.old.inner) (W.contents output.new.inner) readings result }
 {
     let digits = hex_answer(alloc, input, clock)?;
     match print_line(digits.as_slice(), output) {
@@ -139,8 +146,10 @@ pub fn run<S: AsStr, R: Read, W: Write, C: Clock>(
     output: &mut Counted<W>,
     clock: &mut C,
 ) -> Result<(), ProgramFault>
-    ensures { (readings : List ℤ) × C.gave clock.old readings clock.new
-        × Runs (subcommand_of uahist (map S.text words.now)) (R.remaining input.old.inner) (W.contents output.old.inner) (W.contents output.new.inner) readings result }
+    ensures read { IsErrOf result (ProgramFault.Connection ServeFault.Read) → input.new.faults ≡ counted input.old.faults }
+    ensures write { IsErrOf result (ProgramFault.Connection ServeFault.Write) → output.new.faults ≡ counted output.old.faults }
+    ensures runs { (readings : List ℤ) × C.gave clock.old readings clock.new
+        × Runs (takes uahist (map S.text words.now)) (subcommand_of uahist (map S.text words.now)) (R.remaining input.old.inner) (W.contents output.old.inner) (W.contents output.new.inner) readings result }
 {
     match read_line(alloc, words) {
         Ok(Line::Answer { hex: false }) => answer(alloc, input, output, clock),
@@ -153,7 +162,8 @@ pub fn run<S: AsStr, R: Read, W: Write, C: Clock>(
 /// did, 1 where a connection ended by a fault, 2 where the command line or the input was refused. A line that can't be
 /// written is left out.
 pub fn report<W: Write>(ending: Result<(), ProgramFault>, errors: &mut W) -> u8
-    ensures { result ≡ status_of ending }
+    ensures status { result ≡ status_of ending }
+    ensures silent { OnOk ending (errors.new ≡ errors.old) }
 {
     let Err(fault) = ending else {
         return 0;
