@@ -32,19 +32,23 @@ impl Write for Narrow {
     }
 }
 
-/// Gives one byte a call, and an error once they are over.
+/// Gives one byte a call, and once they are over an error, or the end.
 #[derive(Drop)]
-struct Broken<'a>(&'a [u8]);
+struct Slow<'a> {
+    bytes: &'a [u8],
+    fails: bool,
+}
 
-impl Read for Broken<'_> {
+impl Read for Slow<'_> {
     fn read(&mut self, buf: &mut [u8]) -> io::Result<usize> {
-        match self.0.split_first() {
-            None => Err(io::Error::from(io::ErrorKind::BrokenPipe)),
+        match self.bytes.split_first() {
+            None if self.fails => Err(io::Error::from(io::ErrorKind::BrokenPipe)),
+            None => Ok(0),
             Some((first, rest)) => {
                 if buf.is_empty() {
                     return Ok(0);
                 }
-                self.0 = rest;
+                self.bytes = rest;
                 buf[0] = *first;
                 Ok(1)
             }
@@ -109,6 +113,21 @@ fn answers_in_hex(rt: HostRuntime) -> Result<(), Fail> {
         ),
         ("48454C46 38000000", "", Served::EndOfInput),
         (" \r\n", "", Served::EndOfInput),
+        (
+            "48454c46380000000000000000000100ff1f0000000000000000000018000000 6f70632e7463703a2f2f6c6f63616c686f73743a34383430",
+            "45525246100000000000AC80FFFFFFFF",
+            refused(0x80AC_0000),
+        ),
+        (
+            "48454C46 21000000 00000000 00000100 00000100 00000000 00000000 FFFFFFFF 00",
+            "45525246100000000000 0780FFFFFFFF",
+            refused(0x8007_0000),
+        ),
+        (
+            "48454C46 20000000 00000000 00200000 00000100 00000000 00000000 FFFFFFFF",
+            "41434B461C0000000000000000000100002000000000400040000000",
+            Served::EndOfInput,
+        ),
     ];
     for (input, want, ending) in rows {
         let (served, out) = answered(rt.alloc(), input)?;
@@ -156,6 +175,8 @@ fn refuses_what_follows(rt: HostRuntime) -> Result<(), Fail> {
         ("4D534746 17000000", "0780"),
         ("4D534746 01000100", "8080"),
         ("4D534746 00000100", ""),
+        ("4D534743 18000000 00000000000000000000000000000000", "7E80"),
+        ("4D534741 18000000 00000000000000000000000000000000", "7E80"),
     ] {
         let mut text = String::from_str(alloc, HELLO)?;
         text.push_str(more)?;
@@ -178,20 +199,28 @@ fn serves_in_pieces(rt: HostRuntime) -> Result<(), Fail> {
     let ack = bytes_of(alloc, ACK)?;
     assert_eq!(rt; (hello.len(), ack.len()), (56, 28));
     for count in 0..57 {
-        let front = hello.get(..count).ok_or("a front")?;
-        let mut reader = Counted::new(Broken(front));
-        let mut writer = Counted::new(Vec::new(alloc));
-        let result = serve(
-            alloc,
-            &mut reader,
-            &mut writer,
-            &mut Server::new(),
-            &mut clock(),
-        );
-        assert!(rt; result == Err(ServeFault::Read), "{count}");
-        assert_eq!(rt; (reader.faults, writer.faults), (1, 0));
-        let want = if count < 56 { 0 } else { 28 };
-        assert!(rt; Some(writer.inner.as_slice()) == ack.get(..want), "{count}");
+        let bytes = hello.get(..count).ok_or("a front")?;
+        let want = ack.get(..if count < 56 { 0 } else { 28 });
+        for (fails, ending) in [
+            (true, Err(ServeFault::Read)),
+            (false, Ok(Served::EndOfInput)),
+        ] {
+            let mut reader = Counted::new(Slow { bytes, fails });
+            let mut writer = Counted::new(Vec::new(alloc));
+            let result = serve(
+                alloc,
+                &mut reader,
+                &mut writer,
+                &mut Server::new(),
+                &mut clock(),
+            );
+            assert!(rt; result == ending, "{count}");
+            assert_eq!(rt;
+                (reader.faults, writer.faults),
+                (if fails { 1 } else { 0 }, 0)
+            );
+            assert!(rt; Some(writer.inner.as_slice()) == want, "{count}");
+        }
     }
     for room in 0..29 {
         let mut reader = Counted::new(hello.as_slice());
@@ -242,6 +271,8 @@ fn reads_lines(rt: HostRuntime) {
     assert!(rt; read_line(alloc, &["uahist", "answer", "--hex=1"]) == Err(LineFault::Words));
     assert!(rt; read_line(alloc, &["uahist", "answer", "--now", "5"]) == Err(LineFault::Words));
     assert!(rt; read_line(alloc, &["uahist", "answer", "more"]) == Err(LineFault::Words));
+    assert!(rt; read_line(alloc, &["uahist", "answer", "--hex", "--hex"]) == Err(LineFault::Words));
+    assert!(rt; read_line(alloc, &["uahist", "sync"]) == Err(LineFault::Words));
 }
 
 /// What a run prints, what it says went wrong, and its status.
@@ -290,7 +321,13 @@ fn runs_and_reports(rt: HostRuntime) -> Result<(), Fail> {
             && errors.is_empty()
             && status == 0
     );
-    let (out, _, status) = told(alloc, &["uahist", "answer", "--hex"], b" \n", 1000)?;
+    let blanks = vec![in alloc; b' '; 5000]?;
+    let (out, _, status) = told(
+        alloc,
+        &["uahist", "answer", "--hex"],
+        blanks.as_slice(),
+        1000,
+    )?;
     assert!(rt; out.as_slice() == b"\n".as_slice() && status == 0);
     for (words, input, room, text, want) in [
         (
@@ -338,7 +375,10 @@ fn runs_and_reports(rt: HostRuntime) -> Result<(), Fail> {
 
 #[test]
 fn tells_each_fault(rt: HostRuntime) -> Result<(), Fail> {
-    let mut reader = Counted::new(Broken(b""));
+    let mut reader = Counted::new(Slow {
+        bytes: b"",
+        fails: true,
+    });
     let mut writer = Counted::new(Vec::new(rt.alloc()));
     let mut errors = Vec::new(rt.alloc());
     let ending = run(
@@ -359,6 +399,7 @@ fn tells_each_fault(rt: HostRuntime) -> Result<(), Fail> {
     let want =
         "uahist: connection ended (1)\nuahist: connection ended (3)\nuahist: connection ended (4)\nuahist: memory ran out before the command began\n";
     assert!(rt; errors.as_slice() == want.as_bytes());
+    chunks_are_counted();
     assert_eq!(rt; clock().now(), 116_444_736_000_000_000);
     assert_eq!(rt;
         [

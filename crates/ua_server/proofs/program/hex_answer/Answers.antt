@@ -9,12 +9,18 @@ returns-in-Err-clause-digits g c =
 
 pub returns-in_default-clause-digits : goal.returns-in_default-clause-digits
 returns-in_default-clause-digits g c =
-    let P : List ℕ → Type 0 = λ b. IsUtf8 b → ⊥ in
-    ([], g.met.C.Clock.gave_none c.args.clock.now, made-bad (g.R.Read.remaining c.args.input.now.inner) (g.R.Read.remaining c.read_all.new.input.inner) c.in-Ok.bytes.items c.in-Ok.ensures.bytes.0 c.in-Ok.ensures.bytes.1
-      (subst P c.as_slice.ensures.value c.in_default.ensures.cases.0))
+    let P : List ℕ → Type 0 = λ b. IsUtf8 b → ⊥ in (
+      [],
+      g.met.C.Clock.gave_none c.args.clock.now,
+      made-bad (g.R.Read.remaining c.args.input.now.inner) (g.R.Read.remaining c.read_all.new.input.inner) c.in-Ok.bytes.items c.in-Ok.ensures.bytes.0 c.in-Ok.ensures.bytes.1
+          (subst P c.as_slice.ensures.value c.in_default.ensures.cases.0),
+    )
 
 pub returns-clause-digits : goal.returns-clause-digits
 returns-clause-digits g c =
-    let answers = c.answer_hex.ensures in
-    (answers.0, answers.1, made-connection (g.R.Read.remaining c.args.input.now.inner) (g.R.Read.remaining c.read_all.new.input.inner) c.in-Ok-from_utf8.text.now c.in-Ok.bytes.items answers.0 c.new-digits.result.items c.answer_hex.new.out.items c.answer_hex.result c.in-Err-Serve.fault
-      c.in-Ok.ensures.bytes.0 c.in-Ok.ensures.bytes.1 (c.in-Ok-from_utf8.ensures.cases.0 ∙ c.as_slice.ensures.value) (c.in-Err-Serve.is ∙ ap Err c.in-Err-Serve.field-0-is) answers.2)
+    let answers = c.answer_hex.ensures in (
+      answers.0,
+      answers.1,
+      made-connection (g.R.Read.remaining c.args.input.now.inner) (g.R.Read.remaining c.read_all.new.input.inner) c.in-Ok-from_utf8.text.now c.in-Ok.bytes.items answers.0 c.new-digits.result.items c.answer_hex.new.out.items c.answer_hex.result c.in-Err-Serve.fault
+          c.in-Ok.ensures.bytes.0 c.in-Ok.ensures.bytes.1 (c.in-Ok-from_utf8.ensures.cases.0 ∙ c.as_slice.ensures.value) (c.in-Err-Serve.is ∙ ap Err c.in-Err-Serve.field-0-is) answers.2,
+    )
