@@ -4,3 +4,4 @@ pub mod Steps
 pub mod Flow
 pub mod Printing
 pub mod Counting
+pub mod Plain

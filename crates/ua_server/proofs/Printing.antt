@@ -1,5 +1,5 @@
 -- A line is printed in two writes.
-use Rattle.std.proofs.Common.{◌≡◌, ℕ, ℤ, Bool, true, List, [], ◌∷◌, ◌++◌, Some, None, Ok, Err, refl, sym, ◌∙◌, ap, subst, inl, append_assoc, IsUtf8}
+use Rattle.std.proofs.Common.{◌≡◌, ℕ, ℤ, Bool, true, List, [], ◌++◌, Some, None, Err, refl, sym, ◌∙◌, ap, subst, inl, append_assoc, IsUtf8}
 use Rattle.std.proofs.lemmas.List.{append-nil}
 use Rattle.clap.specs.Words.{Row, Text}
 use Rattle.std.specs.Prelude.{Option, Result}

@@ -2,6 +2,7 @@
 use Rattle.std.specs.Prelude.{[], ◌≡◌, ℕ, ℤ, List, ◌++◌, Option, None, Some, Ok, Err}
 use Rattle.std.specs.Io.KnownBytes.{Appends}
 use Rattle.uacp.specs.Held.{Held}
+use Rattle.ua_server.specs.declared.outcome.Served.{Served}
 use Rattle.ua_server.specs.declared.outcome.ServeFault.TheVariants.{Read, Write, TooLong, OutOfMemory}
 use Rattle.ua_server.specs.declared.connection.Connection.{Connection}
 use Rattle.ua_server.specs.Run.{Answers}
@@ -35,3 +36,8 @@ ServesSoFar None remaining old written readings held connection = Unit {0}
 ServesSoFar (Some input) None old written readings held connection = ⊥
 ServesSoFar (Some input) (Some rest) old written readings held connection =
     (out : List ℕ) × Appends old written out × Answers chunks greeting input readings (reply_with (sees held connection) out None) (held.waiting ++ rest)
+
+-- with memory there, the whole answer to the bytes
+pub record Plainly (bytes written : List ℕ) (served : Served) : Type 0 where
+  pub out : (replies bytes [] []).out ≡ written
+  pub ending : (replies bytes [] []).ending ≡ Ok served

@@ -1,5 +1,4 @@
-use Rattle.std.proofs.Common.{◌≡◌, [], ℕ, List, Err, IsUtf8, ap, subst, ◌∙◌}
-use Rattle.ua_server.specs.declared.outcome.ServeFault.TheVariants.{Write, TooLong}
+use Rattle.std.proofs.Common.{[], ℕ, List, Err, IsUtf8, ap, subst, ◌∙◌}
 use Rattle.ua_server.proofs.Printing.{made-read, made-bad, made-connection}
 use Rattle.ua_server.proofs.program.hex_answer.Goals as goal
 

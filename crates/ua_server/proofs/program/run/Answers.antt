@@ -1,4 +1,4 @@
-use Rattle.std.proofs.Common.{[], ◌≡◌, Err, ap, refl}
+use Rattle.std.proofs.Common.{[], Err, ap, refl}
 use Rattle.ua_server.proofs.Printing.{line-refused}
 use Rattle.ua_server.proofs.program.run.Goals as goal
 
