@@ -1,8 +1,8 @@
 -- What may stand in an array: an item takes a byte at least, so that no count passes the bytes left.
-use Rattle.std.proofs.Common.{◌≡◌, ℕ, ◌+◌, ◌<◌, ◌≤◌, Bool, true, false, List, [], ◌∷◌, ◌++◌, length, Result, Ok, Err, refl, sym, ap, subst, ◌∙◌, arith}
+use Rattle.std.proofs.Common.{◌≡◌, ℕ, ◌<◌, Bool, true, false, List, [], ◌∷◌, length, Err, sym, ◌∙◌, arith}
 use Rattle.std.proofs.lemmas.List.{length-append}
 use Rattle.ua_binary.specs.Format.{Format, IsLawful, refused, ◌▸◌, chosen, headed, standing_for, passing, fitting, raised}
-use Rattle.ua_binary.proofs.Combined.{IsNonEmpty, refused_lawful, then_lawful, chosen_lawful, headed_lawful, standing_lawful, passing_lawful, fitting_lawful, raised_lawful}
+use Rattle.ua_binary.proofs.Combined.{IsNonEmpty, refused_lawful, then_lawful, headed_lawful, standing_lawful, passing_lawful, fitting_lawful, raised_lawful}
 
 -- a lawful format of items
 pub record IsItemLawful {E A : Type 0} (f : Format E A) : Type 0 where

@@ -1,21 +1,19 @@
 -- Each format of the binary encoding is lawful.
-use Rattle.std.proofs.Common.{◌≡◌, ℕ, zero, suc, ◌+◌, ◌*◌, ◌<◌, ◌≤◌, ◌^◌, ℤ, pos, negsuc, Bool, true, false, cond, ltb, List, [], ◌∷◌, ◌++◌, length, Option, Some, None, Result, Ok, Err, refl, sym, ap, subst, ◌∙◌, arith, IfSome, not, ◌&&◌, ◌==◌, inl, inr}
+use Rattle.std.proofs.Common.{◌≡◌, ℕ, zero, suc, ◌*◌, ◌<◌, ◌^◌, ℤ, pos, negsuc, Bool, true, false, cond, ltb, List, [], ◌++◌, length, Option, Some, None, Ok, Err, refl, sym, ap, ◌∙◌, arith, not, ◌&&◌, ◌==◌, inl, inr}
 use Rattle.std.proofs.lemmas.Bool.{cases_Bool, eqb-true, ltb-true}
-use Rattle.std.specs.Int.{Width, w8, w16, w32, w64, byte_len, from_le_bytes, to_le_bytes, cast_signed, cast_unsigned}
+use Rattle.std.specs.Int.{Width, w8, w16, w32, w64, byte_len, from_le_bytes, to_le_bytes, cast_unsigned}
 use Rattle.std.specs.Int.RustNames.{FitsSigned}
-use Rattle.std.specs.Str.{is_utf8}
 use Rattle.std.proofs.lemmas.Int.{to_z-of_z, ints}
 use Rattle.std.proofs.lemmas.Nat.{from_le_bytes-to_le_bytes_2, from_le_bytes-to_le_bytes_4, from_le_bytes-to_le_bytes_8}
 use Rattle.ua_binary.specs.declared.fault.BinaryFault.{BinaryFault}
 use Rattle.ua_binary.specs.declared.fault.BinaryFault.TheVariants.{Short, BadLength, BadUtf8, BadEncodingByte}
-use Rattle.ua_binary.specs.declared.values.Guid.{Guid}
 use Rattle.ua_binary.specs.declared.values.NodeId.{NodeId}
 use Rattle.ua_binary.specs.declared.values.NodeId.TheVariants.{Numeric, Named, Global, Opaque}
 use Rattle.ua_binary.specs.declared.values.Body.{Body}
 use Rattle.ua_binary.specs.declared.values.Body.TheVariants.{Absent, Binary, Xml}
 use Rattle.ua_binary.specs.declared.values.LocalizedText.{LocalizedText}
-use Rattle.ua_binary.specs.Format.{◌>>=◌, Reading, Format, IsLawful, nothing, refused, byte, block, ◌▸◌, chosen, headed, standing_for, passing, flagged, fitting, with_fault, raised, items, items_at, at_least}
-use Rattle.ua_binary.specs.Binary.{unsigned, signed, sbyte, ticks, status, boolean, counted, count_of, IsCounted, byte_string, is_text, text, IsText, guid, guid_of, guid_fields, IsGuid, node_form, node_form_of, IsNodeId, node_id, localized, localized_fields, localized_mask, IsLocalized, counted_number, count_at, counted_items, array_spelled, array, qualified, IsQualified, IsExtension, body_form, body_kind, IsBody, body, extension}
+use Rattle.ua_binary.specs.Format.{◌>>=◌, Reading, Format, IsLawful, byte, block, passing, with_fault, items_at}
+use Rattle.ua_binary.specs.Binary.{unsigned, signed, sbyte, ticks, status, boolean, counted, count_of, IsCounted, byte_string, is_text, text, IsText, guid, guid_of, guid_fields, IsGuid, node_form, node_form_of, IsNodeId, node_id, localized, localized_fields, localized_mask, IsLocalized, counted_number, count_at, counted_items, array_spelled, array, qualified, IsQualified, IsExtension, body_form, body_kind, IsBody, extension}
 use Rattle.ua_binary.proofs.Elements.{IsItemLawful, item}
 use Rattle.ua_binary.proofs.Combined.{nothing_lawful, refused_lawful, byte_lawful, block_lawful, then_lawful, chosen_lawful, headed_lawful, standing_lawful, passing_lawful, flagged_lawful, fitting_lawful, raised_lawful, IsNonEmpty, counted_items_lawful}
 

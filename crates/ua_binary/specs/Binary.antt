@@ -1,9 +1,9 @@
 -- The formats of the binary encoding (Part 6, 5.2), one for each built-in type that is spelled.
-use Rattle.std.specs.Prelude.{◌≡◌, ℕ, zero, suc, ◌+◌, ◌*◌, ◌<◌, ◌^◌, ℤ, pos, negsuc, List, [], ◌∷◌, ◌++◌, length, take, Option, Some, None, Bool, true, false, not, Result, Ok, Err, nat_lt, ◌==◌, if◌then◌else◌, IfSome, unwrap_or, is_some, option_map, ◌&&◌, bit_and}
+use Rattle.std.specs.Prelude.{◌≡◌, ℕ, zero, suc, ◌+◌, ◌*◌, ◌<◌, ◌^◌, ℤ, pos, negsuc, List, [], length, Option, Some, None, Bool, true, not, Ok, Err, nat_lt, ◌==◌, if◌then◌else◌, IfSome, unwrap_or, is_some, option_map, ◌&&◌, bit_and}
 use Rattle.std.specs.Option.{option_copied, option_flatten}
 use Rattle.std.specs.Int.{Width, w8, w16, w32, w64, byte_len, from_le_bytes, to_le_bytes, cast_signed, cast_unsigned}
 use Rattle.std.specs.Int.RustNames.{FitsSigned}
-use Rattle.std.specs.Str.{IsUtf8, is_utf8}
+use Rattle.std.specs.Str.{is_utf8}
 use Rattle.ua_binary.specs.declared.fault.BinaryFault.{BinaryFault}
 use Rattle.ua_binary.specs.declared.fault.BinaryFault.TheVariants.{Short, BadLength, BadUtf8, BadEncodingByte}
 use Rattle.ua_binary.specs.declared.values.Guid.{Guid}
