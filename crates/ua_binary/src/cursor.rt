@@ -200,15 +200,15 @@ impl<'a> Cursor<'a> {
         ensures { Reads (λ x. x) result self.old self.new count_at }
     {
         let mut next = self.fork();
-        let count = next.i32()?;
-        if count == -1 {
+        let told = next.i32()?;
+        if told == -1 {
             *self = next;
             return Ok(0);
         }
-        if count < 0 {
+        if told < 0 {
             return Err(BinaryFault::BadLength);
         }
-        let count = count as usize;
+        let count = told as usize;
         if next.rest().len() < count {
             return Err(BinaryFault::Short);
         }
