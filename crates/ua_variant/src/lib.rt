@@ -1,0 +1,14 @@
+//! Values of any type (Part 6, 5.2.2.16), with moments and status codes.
+#![tactic(auto)]
+
+mod fault;
+mod laws;
+mod put;
+mod read;
+mod value;
+
+pub use fault::VariantFault;
+pub use laws::{formats_are_lawful, formats_are_prefix_free};
+pub use put::put_variant;
+pub use read::read_variant;
+pub use value::{Array, Scalar, ValueType, Variant, same_type};
