@@ -17,7 +17,7 @@ use ua_binary::{
 
 /// A value with its status and the moments at which its source and its server had it (Part 6,
 /// 5.2.2.17), each where it is there. Picoseconds are steps of 10 ps that a moment is later.
-#[derive(Debug, Drop)]
+#[derive(Debug, Drop, PartialEq, Eq)]
 pub struct DataValue {
     pub value: Option<Variant>,
     pub status: Option<Status>,

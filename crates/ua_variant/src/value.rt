@@ -8,7 +8,7 @@ ghost use Rattle.ua_variant.specs.Variant.{has_type};
 use ua_binary::{Bytes, Guid, Listing, LocalizedText, NodeId, QualifiedName, Status, Text, Ticks};
 
 /// One value (Part 6, 5.2.2). A Float and a Double are kept as their bytes.
-#[derive(Debug, Drop)]
+#[derive(Debug, Drop, PartialEq, Eq)]
 pub enum Scalar {
     Boolean(bool),
     SByte(i8),
@@ -32,7 +32,7 @@ pub enum Scalar {
 }
 
 /// Values of one type (Part 6, 5.2.5).
-#[derive(Debug, Drop)]
+#[derive(Debug, Drop, PartialEq, Eq)]
 pub enum Array {
     Boolean(Listing<bool>),
     SByte(Listing<i8>),
@@ -56,7 +56,7 @@ pub enum Array {
 }
 
 /// A value that may be of any type: none, one, or an array (Part 6, 5.2.2.16).
-#[derive(Debug, Drop)]
+#[derive(Debug, Drop, PartialEq, Eq)]
 pub enum Variant {
     Null,
     Scalar(Scalar),
