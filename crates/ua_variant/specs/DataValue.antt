@@ -1,0 +1,82 @@
+-- Data values: a value with its status and its moments (Part 6, 5.2.2.17).
+use Rattle.std.specs.Prelude.{◌≡◌, ℕ, ◌+◌, ◌<◌, ◌≤◌, ◌^◌, Bool, not, nat_lt, min, ◌==◌, Option, IfSome, is_some, bit_and, if◌then◌else◌}
+use Rattle.std.specs.Int.{w16, w64}
+use Rattle.std.specs.Int.RustNames.{FitsSigned}
+use Rattle.ua_binary.specs.Format.{Format, refused, byte, ◌▸◌, chosen, headed, standing_for, flagged, fitting}
+use Rattle.ua_binary.specs.Binary.{unsigned, ticks, status}
+use Rattle.ua_binary.specs.declared.fault.BinaryFault.{BinaryFault}
+use Rattle.ua_binary.specs.declared.values.Ticks.{Ticks}
+use Rattle.ua_binary.specs.declared.values.Status.{Status}
+use Rattle.ua_variant.specs.declared.fault.VariantFault.{VariantFault}
+use Rattle.ua_variant.specs.declared.fault.VariantFault.TheVariants.{BadEncodingByte}
+use Rattle.ua_variant.specs.Variant.{raise, variant, IsVariant, IsShortVariant}
+use Rattle.ua_variant.specs.declared.value.Variant.{Variant}
+use Rattle.ua_variant.specs.declared.data.DataValue.{DataValue}
+use Rattle.ua_variant.specs.declared.data.Stamps.{Stamps}
+
+abbrev pub IsPicoseconds : ℕ → Type 0
+IsPicoseconds n = n ≤ 9999
+
+-- steps of 10 ps, less than 100 ns in all; of more, the most is meant
+unfoldable pub picoseconds : Format BinaryFault ℕ
+picoseconds = fitting IsPicoseconds (standing_for (λ n. min n 9999) (λ n. n) (unsigned w16))
+
+-- all but the value
+abbrev pub StampParts : Type 0
+StampParts = Option Status × (Option Ticks × (Option ℕ × (Option Ticks × Option ℕ)))
+
+abbrev pub stamps_of : Stamps → StampParts
+stamps_of s = (s.status, (s.source_time, (s.source_pico, (s.server_time, s.server_pico))))
+
+abbrev pub Parts : Type 0
+Parts = Option Variant × StampParts
+
+abbrev pub data_of : Parts → DataValue
+data_of p = record { value = p.0; status = p.1.0; source_time = p.1.1.0; source_pico = p.1.1.1.0; server_time = p.1.1.1.1.0; server_pico = p.1.1.1.1.1 }
+
+abbrev pub parts_of : DataValue → Parts
+parts_of v = (v.value, (v.status, (v.source_time, (v.source_pico, (v.server_time, v.server_pico)))))
+
+-- a bit of a mask
+abbrev pub has : ℕ → ℕ → Bool
+has mask bit = not (bit_and mask bit == 0)
+
+-- what a bit adds to a mask
+abbrev pub flag : Bool → ℕ → ℕ
+flag there bit = if there then bit else 0
+
+abbrev pub mask_of : Bool → Bool → Bool → Bool → Bool → Bool → ℕ
+mask_of value status source_time source_pico server_time server_pico =
+    flag value 1 + flag status 2 + flag source_time 4 + flag source_pico 16 + flag server_time 8 + flag server_pico 32
+
+-- the mask that is written
+abbrev pub data_mask : DataValue → ℕ
+data_mask v = mask_of (is_some v.value) (is_some v.status) (is_some v.source_time) (is_some v.source_pico) (is_some v.server_time) (is_some v.server_pico)
+
+-- those behind the value that a mask names, in this order
+abbrev pub stamps : ℕ → Format BinaryFault StampParts
+stamps mask = flagged (has mask 2) status ▸ flagged (has mask 4) ticks ▸ flagged (has mask 16) picoseconds ▸ flagged (has mask 8) ticks ▸ flagged (has mask 32) picoseconds
+
+-- those that the mask names, the value first; another bit has no meaning
+abbrev pub data_fields : ℕ → Format VariantFault DataValue
+data_fields mask =
+    chosen (nat_lt 63 mask) (refused BadEncodingByte) (
+    standing_for data_of parts_of (flagged (has mask 1) variant ▸ raise (stamps mask)))
+
+-- what has a spelling
+abbrev pub IsDataValue : DataValue → Type 0
+IsDataValue v =
+    IfSome v.value IsVariant
+    × IfSome v.status (λ c. c.0 < 2 ^ 32)
+    × IfSome v.source_time (λ t. FitsSigned w64 t.0)
+    × IfSome v.source_pico IsPicoseconds
+    × IfSome v.server_time (λ t. FitsSigned w64 t.0)
+    × IfSome v.server_pico IsPicoseconds
+
+-- a mask, and what it names
+unfoldable pub data_value : Format VariantFault DataValue
+data_value = fitting IsDataValue (headed data_mask (raise byte) data_fields)
+
+-- what a writer asks
+abbrev pub IsShortData : DataValue → Type 0
+IsShortData v = IfSome v.value IsShortVariant × IfSome v.source_pico IsPicoseconds × IfSome v.server_pico IsPicoseconds

@@ -1,0 +1,23 @@
+-- The faults of this crate, and those of the binary encoding as such.
+use Rattle.std.specs.Prelude.{ℕ}
+use Rattle.ua_binary.specs.declared.fault.BinaryFault.{BinaryFault}
+use Rattle.ua_binary.specs.declared.fault.BinaryFault.TheVariants as binary
+use Rattle.ua_variant.specs.declared.fault.VariantFault.{VariantFault}
+use Rattle.ua_variant.specs.declared.fault.VariantFault.TheVariants.{Short, BadLength, BadUtf8, BadEncodingByte, OutOfMemory, TypeUnsupported}
+
+-- a fault of the binary encoding as one of this crate
+abbrev pub variant_fault : BinaryFault → VariantFault
+variant_fault binary.Short = Short
+variant_fault binary.BadLength = BadLength
+variant_fault binary.BadUtf8 = BadUtf8
+variant_fault binary.BadEncodingByte = BadEncodingByte
+variant_fault binary.OutOfMemory = OutOfMemory
+
+-- the number that scripts and logs show
+abbrev pub number_of : VariantFault → ℕ
+number_of Short = 1
+number_of BadLength = 2
+number_of BadUtf8 = 3
+number_of BadEncodingByte = 4
+number_of OutOfMemory = 5
+number_of TypeUnsupported = 6

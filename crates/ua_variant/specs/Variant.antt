@@ -1,0 +1,54 @@
+-- Values: null, one of a type, or an array of one type (Part 6, 5.2.2.16).
+use Rattle.std.specs.Prelude.{ℕ, ◌+◌, ◌-◌, [], Bool, true, false, not, nat_lt, ◌==◌, ◌&&◌}
+use Rattle.ua_binary.specs.Format.{Format, nothing, refused, byte, chosen, headed, standing_for, fitting, raised}
+use Rattle.ua_binary.specs.declared.fault.BinaryFault.{BinaryFault}
+use Rattle.ua_variant.specs.Raise.{variant_fault}
+use Rattle.ua_variant.specs.Scalar.{scalar, scalar_number, IsScalar, IsShortScalar, is_type}
+use Rattle.ua_variant.specs.declared.fault.VariantFault.{VariantFault}
+use Rattle.ua_variant.specs.declared.fault.VariantFault.TheVariants.{TypeUnsupported}
+use Rattle.ua_variant.specs.declared.value.Scalar.TheVariants.{Boolean}
+use Rattle.ua_variant.specs.declared.value.Array.TheVariants.{Boolean as ManyBoolean}
+use Rattle.ua_variant.specs.Values.{values, array_number, IsValues, IsShortValues}
+use Rattle.ua_variant.specs.declared.value.Variant.{Variant}
+use Rattle.ua_variant.specs.declared.value.Variant.TheVariants.{Null, Scalar, Array}
+use Rattle.ua_variant.specs.declared.value.ValueType.{ValueType}
+
+-- a format of the binary encoding, with this crate's faults
+abbrev pub raise : {A : Type 0} → Format BinaryFault A → Format VariantFault A
+raise f = raised variant_fault f
+
+-- what each first byte calls for: the low bits are a type, 128 is the flag of an array; 64, the flag of a matrix, is left out
+abbrev pub variant_form : ℕ → Format VariantFault Variant
+variant_form first =
+    chosen (first == 0) (nothing Null) (
+    chosen (nat_lt first 128)
+    (chosen (is_type first) (standing_for Scalar (λ v. elim v [ Scalar s ↦ s | _ ↦ Boolean false ]) (raise (scalar first))) (refused TypeUnsupported))
+    (chosen (is_type (first - 128)) (standing_for Array (λ v. elim v [ Array a ↦ a | _ ↦ ManyBoolean [] ]) (raise (values (first - 128)))) (refused TypeUnsupported)))
+
+-- the first byte that is written
+abbrev pub variant_number : Variant → ℕ
+variant_number Null = 0
+variant_number (Scalar s) = scalar_number s
+variant_number (Array a) = 128 + array_number a
+
+-- what has a spelling
+abbrev pub IsVariant : Variant → Type 0
+IsVariant Null = Unit {0}
+IsVariant (Scalar s) = IsScalar s
+IsVariant (Array a) = IsValues a
+
+-- a first byte, and what it calls for
+unfoldable pub variant : Format VariantFault Variant
+variant = fitting IsVariant (headed variant_number (raise byte) variant_form)
+
+-- what a writer asks
+abbrev pub IsShortVariant : Variant → Type 0
+IsShortVariant Null = Unit {0}
+IsShortVariant (Scalar s) = IsShortScalar s
+IsShortVariant (Array a) = IsShortValues a
+
+-- a null value fits each type
+abbrev pub has_type : Variant → ValueType → Bool
+has_type Null t = true
+has_type (Scalar s) t = not t.array && scalar_number s == t.number
+has_type (Array a) t = t.array && array_number a == t.number

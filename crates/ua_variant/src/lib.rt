@@ -1,0 +1,17 @@
+//! Values of any type (Part 6, 5.2.2.16), with moments and status codes.
+#![tactic(auto)]
+
+mod data;
+mod fault;
+mod laws;
+mod put;
+mod read;
+mod try_clone;
+mod value;
+
+pub use data::{DataValue, put_data_value, read_data_value};
+pub use fault::VariantFault;
+pub use laws::{formats_are_lawful, formats_are_prefix_free};
+pub use put::put_variant;
+pub use read::read_variant;
+pub use value::{Array, Scalar, ValueType, Variant, same_type};
