@@ -1,7 +1,6 @@
 -- Data values: the mask that is written names what is there, and the format is lawful.
-use Rattle.std.proofs.Common.{◌≡◌, ℕ, ◌+◌, ◌<◌, ◌≤◌, ◌^◌, min, Bool, true, false, not, ltb, ◌==◌, ◌&&◌, List, ◌++◌, ◌∷◌, Option, Some, None, IfSome, is_some, ◌∙◌, refl, sym, arith}
+use Rattle.std.proofs.Common.{◌≡◌, ℕ, ◌<◌, ◌≤◌, ◌^◌, min, Bool, true, false, not, ltb, ◌&&◌, ◌++◌, Option, Some, None, IfSome, is_some, refl, arith}
 use Rattle.std.proofs.lemmas.Bool.{ltb-true, le-ltb}
-use Rattle.std.specs.Int.{w16, w64}
 use Rattle.ua_binary.specs.Format.{Format, IsLawful, byte, flagged}
 use Rattle.ua_binary.specs.Binary.{unsigned, ticks, status}
 use Rattle.ua_binary.proofs.Combined.{refused_lawful, byte_lawful, then_lawful, chosen_lawful, headed_lawful, standing_lawful, flagged_lawful, fitting_lawful, raised_lawful}
@@ -10,7 +9,7 @@ use Rattle.ua_variant.specs.declared.data.DataValue.{DataValue}
 use Rattle.ua_variant.specs.declared.fault.VariantFault.TheVariants.{BadEncodingByte}
 use Rattle.ua_variant.specs.Raise.{variant_fault}
 use Rattle.ua_variant.specs.Variant.{variant}
-use Rattle.ua_variant.specs.DataValue.{IsPicoseconds, picoseconds, has, flag, mask_of, data_mask, data_of, parts_of, stamps, data_fields, IsDataValue, data_value}
+use Rattle.ua_variant.specs.DataValue.{IsPicoseconds, picoseconds, has, mask_of, data_mask, data_of, parts_of, stamps, data_fields, IsDataValue, data_value}
 use Rattle.ua_variant.proofs.Lawful.{variant_lawful}
 
 -- ---- masks, all of them tried

@@ -1,5 +1,5 @@
 -- Data values: a value with its status and its moments (Part 6, 5.2.2.17).
-use Rattle.std.specs.Prelude.{◌≡◌, ℕ, ◌+◌, ◌<◌, ◌≤◌, ◌^◌, Bool, not, nat_lt, min, ◌==◌, Option, IfSome, is_some, bit_and, if◌then◌else◌}
+use Rattle.std.specs.Prelude.{ℕ, ◌+◌, ◌<◌, ◌≤◌, ◌^◌, Bool, not, nat_lt, min, ◌==◌, Option, IfSome, is_some, bit_and, if◌then◌else◌}
 use Rattle.std.specs.Int.{w16, w64}
 use Rattle.std.specs.Int.RustNames.{FitsSigned}
 use Rattle.ua_binary.specs.Format.{Format, refused, byte, ◌▸◌, chosen, headed, standing_for, flagged, fitting}

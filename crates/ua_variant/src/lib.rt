@@ -15,3 +15,6 @@ pub use laws::{formats_are_lawful, formats_are_prefix_free};
 pub use put::put_variant;
 pub use read::read_variant;
 pub use value::{Array, Scalar, ValueType, Variant, same_type};
+
+#[cfg(test)]
+mod tests;
