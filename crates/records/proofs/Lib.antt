@@ -1,0 +1,11 @@
+pub mod Sorting
+pub mod Orders
+pub mod Same
+pub mod RecordLemmas
+pub mod ContentLemmas
+pub mod PutLemmas
+pub mod LearnLemmas
+pub mod MissingLemmas
+pub mod FoundLemmas
+pub mod CutLemmas
+pub mod CloseLemmas

@@ -1,0 +1,141 @@
+-- Contents: what an archive holds, its merging, and where each record is found.
+use Rattle.std.specs.Prelude.{◌≡◌, ℕ, ◌+◌, ◌≤◌, ◌<◌, ◌==◌, nat_lt, nat_le, max, ℤ, pos, ◌+ℤ◌, ◌≤ℤ◌, ◌<ℤ◌, int_lt, int_le, Bool, true, false, not, if◌then◌else◌, List, [], ◌∷◌, ◌++◌, filter, slice_get, Option, Some, None, option_and_then, ◌⊎◌}
+use Rattle.std.specs.List.{list_any}
+use Rattle.std.specs.Ordering.{is_eq}
+use Rattle.std.specs.Option.{option_map_or}
+use Rattle.std.specs.Int.{int_max}
+use Rattle.stamp.specs.Stamp.{greatest}
+use Rattle.records.specs.Lists.{insert_sorted, sort_by, Has, Rises}
+use Rattle.records.specs.Same.{same_record}
+use Rattle.records.specs.Records.{name_cmp, is_beyond, is_delete, story, current, entries}
+use Rattle.records.specs.declared.record.Record.{Record}
+use Rattle.records.specs.declared.record.HistoryUpdateType.TheVariants.{Delete}
+use Rattle.records.specs.declared.shown.Held.{Held}
+use Rattle.records.specs.declared.shown.Entry.{Entry}
+
+-- a finite map from names to records: its records, by name
+abbrev pub Content : Type 0
+Content = List Record
+
+-- ---- the numbers and ticks of a content
+
+abbrev pub number_from : ℕ → Record → ℕ
+number_from origin r = if r.origin == origin then r.number else 0
+
+-- an origin's greatest number, 0 where it has none
+abbrev pub vec : Content → ℕ → ℕ
+vec [] origin = 0
+vec (r ∷ R) origin = max (number_from origin r) (vec R origin)
+
+-- the greatest tick, 0 where there is none
+abbrev pub top : Content → ℤ
+top [] = pos 0
+top (r ∷ R) = int_max r.tick (top R)
+
+-- an origin's greatest tick
+abbrev pub last_tick : Content → ℕ → ℤ
+last_tick R origin = top (filter (λ r. r.origin == origin) R)
+
+pub record IsNamed (origin number : ℕ) (r : Record) : Type 0 where
+  pub from : r.origin ≡ origin
+  pub numbered : r.number ≡ number
+
+-- the content has a record of this name
+abbrev pub HasName : Content → ℕ → ℕ → Type 0
+HasName R origin number = (r : Record) × Has R r × IsNamed origin number r
+
+-- a content is closed where each origin's numbers are 1 to its last, and its ticks, each in its limits, rise with them
+pub record IsClosed (R : Content) : Type 0 where
+  pub ordered : Rises name_cmp R
+  pub numbers : (r : Record) → Has R r → 1 ≤ r.number
+  pub whole : (origin number : ℕ) → 1 ≤ number → number ≤ vec R origin → HasName R origin number
+  pub ticks : (r : Record) → Has R r → (pos 1 ≤ℤ r.tick) × (r.tick ≤ℤ pos greatest)
+  pub rising : (r s : Record) → Has R r → Has R s → r.origin ≡ s.origin → r.number < s.number → r.tick <ℤ s.tick
+
+-- ---- merging
+
+-- no name has two records
+abbrev pub AreCompatible : Content → Content → Type 0
+AreCompatible R S = (r s : Record) → Has R r → Has S s → r.origin ≡ s.origin → r.number ≡ s.number → r ≡ s
+
+-- each record of the one is in the other
+abbrev pub IsWithin : Content → Content → Type 0
+IsWithin R S = (r : Record) → Has R r → Has S r
+
+-- a record of this one's name is there
+abbrev pub names : Content → Record → Bool
+names R s = list_any (λ r. is_eq (name_cmp r s)) R
+
+-- the union: the records of the one, and those of the other whose names the one lacks
+abbrev pub join : Content → Content → Content
+join R S = sort_by name_cmp (R ++ filter (λ s. not (names R s)) S)
+
+-- the content with one more record
+abbrev pub put : Record → Content → Content
+put = insert_sorted name_cmp
+
+-- the part that a vector covers
+abbrev pub cut : Content → (ℕ → ℕ) → Content
+cut R v = filter (λ r. not (is_beyond v r)) R
+
+-- ---- learning
+
+-- the record is its origin's next, and its tick is in the limits and above the origin's last
+pub record IsNext (R : Content) (r : Record) : Type 0 where
+  pub number : r.number ≡ vec R r.origin + 1
+  pub rises : last_tick R r.origin <ℤ r.tick
+  pub within : r.tick ≤ℤ pos greatest
+
+-- what a record that is to be learned meets in a content
+pub data Finding : Type 0 where
+  Adds : Finding
+  Holds : Finding
+  Clash : Finding
+  Gap : (held got : ℕ) → Finding
+  TickTooFar : Finding
+  TickNotRising : Finding
+
+-- a number that is reached is held already, or clashes; else it has to be the next, and its tick in the limits and above the origin's last
+abbrev pub finding : Content → Record → Finding
+finding R r =
+    if nat_le r.number (vec R r.origin) then (if list_any (same_record r) R then Holds else Clash)
+    else if nat_lt (vec R r.origin + 1) r.number then Gap (vec R r.origin) r.number
+    else if int_lt (pos greatest) r.tick then TickTooFar
+    else if int_le r.tick (last_tick R r.origin) then TickNotRising
+    else Adds
+
+abbrev pub after_finding : Content → Record → Finding → Option Content
+after_finding R r Adds = Some (put r R)
+after_finding R r Holds = Some R
+after_finding R r refusal = None
+
+-- the content after a record is learned; none where it is refused
+abbrev pub learned : Content → Record → Option Content
+learned R r = after_finding R r (finding R r)
+
+-- the content after these are learned in order, up to the first that is refused
+abbrev pub merged : List Record → Content → Content
+merged [] R = R
+merged (r ∷ rs) R = option_map_or (merged rs) (learned R r) R
+
+-- ---- where a record is found
+
+-- a record of a story is shown by the entry of the record behind it
+pub record IsShownAt (rs : List Record) (es : List Entry) (k : ℕ) (r : Record) : Type 0 where
+  pub place : slice_get rs k ≡ Some r
+  pub next : Entry
+  pub after : slice_get es (k + 1) ≡ Some next
+  pub shows : next.value ≡ Some r.value
+
+-- a write is the live value, or the next record's entry shows it
+abbrev pub IsWriteFound : Content → Record → Type 0
+IsWriteFound R r =
+    ((h : Held) × (current R r.node r.time ≡ Some h) × (h.value ≡ r.value))
+    ⊎ ((k : ℕ) × IsShownAt (story R r.node r.time) (entries R r.node r.time) k r)
+
+-- a delete is an entry of its kind, with its tick, origin and user
+abbrev pub IsDeleteFound : Content → Record → Type 0
+IsDeleteFound R r = (e : Entry) × Has (entries R r.node r.time) e × (e.kind ≡ Delete) × (e.tick ≡ r.tick) × (e.origin ≡ r.origin) × (e.user ≡ r.user)
+
+abbrev pub IsFound : Content → Record → Type 0
+IsFound R r = (is_delete r.asked ≡ true → IsDeleteFound R r) × (is_delete r.asked ≡ false → IsWriteFound R r)

@@ -1,0 +1,4 @@
+pub mod Lists
+pub mod Same
+pub mod Records
+pub mod Contents

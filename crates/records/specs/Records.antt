@@ -1,0 +1,90 @@
+-- Records of writes and deletes, and what a list of them says of a node and a source time (Part 11, 4.4 and 6.4.3.3).
+-- The list's order is free; no two of its records have one name or one stamp.
+use Rattle.std.specs.Prelude.{◌≡◌, ℕ, nat_lt, ℤ, Bool, true, false, not, ◌&&◌, if◌then◌else◌, List, [], ◌∷◌, filter, take, length, Option, Some, None}
+use Rattle.std.specs.declared.cmp.Ordering.{Ordering}
+use Rattle.std.specs.Ordering.{nat_cmp, int_cmp, int_eq, on, then_cmp}
+use Rattle.ua_binary.specs.declared.values.NodeId.{NodeId}
+use Rattle.ua_variant.specs.declared.data.DataValue.{DataValue}
+use Rattle.records.specs.declared.record.Record.{Record}
+use Rattle.records.specs.declared.record.HistoryUpdateType.{HistoryUpdateType}
+use Rattle.records.specs.declared.record.HistoryUpdateType.TheVariants.{Insert, Replace, Update, Delete}
+use Rattle.records.specs.declared.shown.Held.{Held}
+use Rattle.records.specs.declared.shown.Entry.{Entry}
+use Rattle.records.specs.Lists.{sort_by, last}
+use Rattle.records.specs.Same.{same_node}
+
+-- by name: origin, then number
+abbrev pub name_cmp : Record → Record → Ordering
+name_cmp = then_cmp (on (λ r. r.origin) nat_cmp) (on (λ r. r.number) nat_cmp)
+
+-- by stamp: tick, then origin
+abbrev pub stamp_cmp : Record → Record → Ordering
+stamp_cmp = then_cmp (on (λ r. r.tick) int_cmp) (on (λ r. r.origin) nat_cmp)
+
+abbrev pub is_delete : HistoryUpdateType → Bool
+is_delete Delete = true
+is_delete asked = false
+
+abbrev pub is_at : NodeId → ℤ → Record → Bool
+is_at node time r = same_node r.node node && int_eq r.time time
+
+-- the records of a node and source time, in the order of their stamps
+abbrev pub story : List Record → NodeId → ℤ → List Record
+story records node time = sort_by stamp_cmp (filter (is_at node time) records)
+
+-- the record, where it is a write
+abbrev pub write : Option Record → Option Record
+write None = None
+write (Some r) = if is_delete r.asked then None else Some r
+
+-- ---- the live value
+
+-- the record's value as the live one; extra where it isn't the only record of its story
+abbrev pub held_of : Bool → Option Record → Option Held
+held_of extra None = None
+held_of extra (Some r) = Some (record { time = r.time; value = r.value; extra = extra })
+
+-- what a story leaves: the value of its last record, where that is a write
+abbrev pub held : List Record → Option Held
+held records = held_of (nat_lt 1 (length records)) (write (last records))
+
+-- the live value at a node and source time
+abbrev pub current : List Record → NodeId → ℤ → Option Held
+current records node time = held (story records node time)
+
+-- ---- the modifications
+
+-- what a record did, behind the write right before it
+abbrev pub kind : Option Record → HistoryUpdateType → HistoryUpdateType
+kind before Delete = Delete
+kind None asked = Insert
+kind (Some w) Update = Update
+kind (Some w) asked = Replace
+
+-- the value that it shows: the one that it took the place of; else its own; a delete of nothing shows none
+abbrev pub value_shown : Option Record → Record → Option DataValue
+value_shown (Some w) r = Some w.value
+value_shown None r = if is_delete r.asked then None else Some r.value
+
+-- a record as it is shown, behind the write right before it
+abbrev pub entry : Option Record → Record → Entry
+entry before r = record { time = r.time; value = value_shown before r; kind = kind before r.asked; tick = r.tick; origin = r.origin; user = r.user }
+
+-- each record of a story, behind the record before it
+abbrev pub entries_after : Option Record → List Record → List Entry
+entries_after before [] = []
+entries_after before (r ∷ rs) = entry (write before) r ∷ entries_after (Some r) rs
+
+-- the modifications at a node and source time, the oldest first
+abbrev pub entries : List Record → NodeId → ℤ → List Entry
+entries records node time = entries_after None (story records node time)
+
+-- ---- what a vector lacks
+
+-- the record is beyond what the vector has of its origin
+abbrev pub is_beyond : (ℕ → ℕ) → Record → Bool
+is_beyond vector r = nat_lt (vector r.origin) r.number
+
+-- the first records beyond a vector, by origin and number
+abbrev pub missing : List Record → (ℕ → ℕ) → ℕ → List Record
+missing records vector limit = take limit (sort_by name_cmp (filter (is_beyond vector) records))
