@@ -3,11 +3,12 @@
 //! Each `put_` appends the one spelling that is written of a value. Its one error is `OutOfMemory`,
 //! and then the vector is as it was.
 
-ghost use Rattle.std.specs.Prelude.{◌≡◌, ◌<◌, ◌^◌, List, ℕ, length, take, pos, MatchResult};
+ghost use Rattle.std.specs.Prelude.{◌≡◌, ◌<◌, ◌^◌, List, ℕ, length, take, pos, IfOk, MatchResult};
 ghost use Rattle.std.specs.Option.{option_copied};
 ghost use Rattle.std.specs.Int.{w16, w32, w64};
+ghost use Rattle.std.specs.Int.RustNames.{FitsSigned};
 ghost use Rattle.ua_binary.specs.Format.{Puts, PutsPart, byte, block};
-ghost use Rattle.ua_binary.specs.Binary.{unsigned, signed, sbyte, boolean, byte_string, text, guid, ticks, status, node_id, localized, qualified, extension, IsCounted, IsBody, IsShortNode, IsShortLocalized};
+ghost use Rattle.ua_binary.specs.Binary.{unsigned, signed, sbyte, boolean, byte_string, text, guid, ticks, status, node_id, localized, qualified, extension, IsCounted, IsText, IsGuid, IsBody, IsShortNode, IsNodeId, IsShortLocalized, IsLocalized, IsQualified, IsExtension};
 
 use crate::fault::BinaryFault;
 use crate::values::{
@@ -114,7 +115,8 @@ pub fn put_block(out: &mut Vec<u8>, v: &[u8]) -> Result<(), BinaryFault>
 /// A DateTime (Part 6, 5.2.2.5).
 #[tactic(auto, unfolding(crate::specs::Binary::ticks))]
 pub fn put_ticks(out: &mut Vec<u8>, v: Ticks) -> Result<(), BinaryFault>
-    ensures { Puts BinaryFault.OutOfMemory result out.old.items out.new.items (ticks.canon v) }
+    ensures puts { Puts BinaryFault.OutOfMemory result out.old.items out.new.items (ticks.canon v) }
+    ensures spelled { IfOk result (λ _. FitsSigned w64 v.0) }
 {
     put_i64(out, v.0)
 }
@@ -122,7 +124,8 @@ pub fn put_ticks(out: &mut Vec<u8>, v: Ticks) -> Result<(), BinaryFault>
 /// A StatusCode (Part 6, 5.2.2.11).
 #[tactic(auto, unfolding(crate::specs::Binary::status))]
 pub fn put_status(out: &mut Vec<u8>, v: Status) -> Result<(), BinaryFault>
-    ensures { Puts BinaryFault.OutOfMemory result out.old.items out.new.items (status.canon v) }
+    ensures puts { Puts BinaryFault.OutOfMemory result out.old.items out.new.items (status.canon v) }
+    ensures spelled { IfOk result (λ _. v.0 < 2 ^ 32) }
 {
     put_u32(out, v.0)
 }
@@ -189,7 +192,8 @@ pub fn put_text(out: &mut Vec<u8>, v: Option<&str>) -> Result<(), BinaryFault>
 /// The same of a text that owns its memory.
 pub fn put_owned_text(out: &mut Vec<u8>, v: &Option<Text>) -> Result<(), BinaryFault>
     requires { IsCounted v.now }
-    ensures { Puts BinaryFault.OutOfMemory result out.old.items out.new.items (text.canon v.now) }
+    ensures puts { Puts BinaryFault.OutOfMemory result out.old.items out.new.items (text.canon v.now) }
+    ensures spelled { IfOk result (λ _. IsText v.now) }
 {
     match v {
         None => put_text(out, None),
@@ -199,18 +203,26 @@ pub fn put_owned_text(out: &mut Vec<u8>, v: &Option<Text>) -> Result<(), BinaryF
 
 #[tactic(auto, using(crate::proofs::Kept::kept), unfolding(crate::specs::Binary::guid))]
 fn put_guid_parts(out: &mut Vec<u8>, v: &Guid) -> Result<(), BinaryFault>
-    ensures { PutsPart BinaryFault.OutOfMemory result out.old.items out.new.items (guid.canon v.now) }
+    ensures puts { PutsPart BinaryFault.OutOfMemory result out.old.items out.new.items (guid.canon v.now) }
+    ensures spelled { IfOk result (λ _. IsGuid v.now) }
 {
-    put_u32(out, v.first)?;
-    put_u16(out, v.second)?;
-    put_u16(out, v.third)?;
-    out.extend_from_slice(&v.last)?;
+    let Guid {
+        first,
+        second,
+        third,
+        last,
+    } = v;
+    put_u32(out, *first)?;
+    put_u16(out, *second)?;
+    put_u16(out, *third)?;
+    out.extend_from_slice(last)?;
     Ok(())
 }
 
 /// A Guid (Part 6, 5.2.2.6).
 pub fn put_guid(out: &mut Vec<u8>, v: &Guid) -> Result<(), BinaryFault>
-    ensures { Puts BinaryFault.OutOfMemory result out.old.items out.new.items (guid.canon v.now) }
+    ensures puts { Puts BinaryFault.OutOfMemory result out.old.items out.new.items (guid.canon v.now) }
+    ensures spelled { IfOk result (λ _. IsGuid v.now) }
 {
     let len = out.len();
     let put = put_guid_parts(out, v);
@@ -220,7 +232,8 @@ pub fn put_guid(out: &mut Vec<u8>, v: &Guid) -> Result<(), BinaryFault>
 #[tactic(auto, using(crate::proofs::Kept::kept), unfolding(crate::specs::Binary::node_id))]
 fn put_node_id_parts(out: &mut Vec<u8>, v: &NodeId) -> Result<(), BinaryFault>
     requires { IsShortNode v.now }
-    ensures { PutsPart BinaryFault.OutOfMemory result out.old.items out.new.items (node_id.canon v.now) }
+    ensures puts { PutsPart BinaryFault.OutOfMemory result out.old.items out.new.items (node_id.canon v.now) }
+    ensures spelled { IfOk result (λ _. IsNodeId v.now) }
 {
     match v {
         NodeId::Numeric(namespace, id) => {
@@ -259,7 +272,8 @@ fn put_node_id_parts(out: &mut Vec<u8>, v: &NodeId) -> Result<(), BinaryFault>
 /// A NodeId (Part 6, 5.2.2.9) in its shortest form. A text or byte id has at most 2^31 - 1 bytes.
 pub fn put_node_id(out: &mut Vec<u8>, v: &NodeId) -> Result<(), BinaryFault>
     requires { IsShortNode v.now }
-    ensures { Puts BinaryFault.OutOfMemory result out.old.items out.new.items (node_id.canon v.now) }
+    ensures puts { Puts BinaryFault.OutOfMemory result out.old.items out.new.items (node_id.canon v.now) }
+    ensures spelled { IfOk result (λ _. IsNodeId v.now) }
 {
     let len = out.len();
     let put = put_node_id_parts(out, v);
@@ -269,17 +283,20 @@ pub fn put_node_id(out: &mut Vec<u8>, v: &NodeId) -> Result<(), BinaryFault>
 #[tactic(auto, using(crate::proofs::Kept::kept), unfolding(crate::specs::Binary::qualified))]
 fn put_qualified_parts(out: &mut Vec<u8>, v: &QualifiedName) -> Result<(), BinaryFault>
     requires { IsCounted v.now.name }
-    ensures { PutsPart BinaryFault.OutOfMemory result out.old.items out.new.items (qualified.canon v.now) }
+    ensures puts { PutsPart BinaryFault.OutOfMemory result out.old.items out.new.items (qualified.canon v.now) }
+    ensures spelled { IfOk result (λ _. IsQualified v.now) }
 {
-    put_u16(out, v.namespace)?;
-    put_owned_text(out, &v.name)?;
+    let QualifiedName { namespace, name } = v;
+    put_u16(out, *namespace)?;
+    put_owned_text(out, name)?;
     Ok(())
 }
 
 /// A QualifiedName (Part 6, 5.2.2.13), whose name has at most 2^31 - 1 bytes.
 pub fn put_qualified(out: &mut Vec<u8>, v: &QualifiedName) -> Result<(), BinaryFault>
     requires { IsCounted v.now.name }
-    ensures { Puts BinaryFault.OutOfMemory result out.old.items out.new.items (qualified.canon v.now) }
+    ensures puts { Puts BinaryFault.OutOfMemory result out.old.items out.new.items (qualified.canon v.now) }
+    ensures spelled { IfOk result (λ _. IsQualified v.now) }
 {
     let len = out.len();
     let put = put_qualified_parts(out, v);
@@ -289,7 +306,8 @@ pub fn put_qualified(out: &mut Vec<u8>, v: &QualifiedName) -> Result<(), BinaryF
 #[tactic(auto, using(crate::proofs::Kept::kept), unfolding(crate::specs::Binary::localized))]
 fn put_localized_parts(out: &mut Vec<u8>, v: &LocalizedText) -> Result<(), BinaryFault>
     requires { IsShortLocalized v.now }
-    ensures { PutsPart BinaryFault.OutOfMemory result out.old.items out.new.items (localized.canon v.now) }
+    ensures puts { PutsPart BinaryFault.OutOfMemory result out.old.items out.new.items (localized.canon v.now) }
+    ensures spelled { IfOk result (λ _. IsLocalized v.now) }
 {
     let locale_bit = if v.locale.is_some() { 1 } else { 0 };
     let text_bit = if v.text.is_some() { 2 } else { 0 };
@@ -306,7 +324,8 @@ fn put_localized_parts(out: &mut Vec<u8>, v: &LocalizedText) -> Result<(), Binar
 /// A LocalizedText (Part 6, 5.2.2.14), whose parts have at most 2^31 - 1 bytes each.
 pub fn put_localized(out: &mut Vec<u8>, v: &LocalizedText) -> Result<(), BinaryFault>
     requires { IsShortLocalized v.now }
-    ensures { Puts BinaryFault.OutOfMemory result out.old.items out.new.items (localized.canon v.now) }
+    ensures puts { Puts BinaryFault.OutOfMemory result out.old.items out.new.items (localized.canon v.now) }
+    ensures spelled { IfOk result (λ _. IsLocalized v.now) }
 {
     let len = out.len();
     let put = put_localized_parts(out, v);
@@ -316,7 +335,8 @@ pub fn put_localized(out: &mut Vec<u8>, v: &LocalizedText) -> Result<(), BinaryF
 #[tactic(auto, using(crate::proofs::Kept::kept), unfolding(crate::specs::Binary::extension))]
 fn put_extension_parts(out: &mut Vec<u8>, v: &ExtensionObject) -> Result<(), BinaryFault>
     requires { IsShortNode v.now.type_id × IsBody v.now.body }
-    ensures { PutsPart BinaryFault.OutOfMemory result out.old.items out.new.items (extension.canon v.now) }
+    ensures puts { PutsPart BinaryFault.OutOfMemory result out.old.items out.new.items (extension.canon v.now) }
+    ensures spelled { IfOk result (λ _. IsExtension v.now) }
 {
     put_node_id(out, &v.type_id)?;
     match &v.body {
@@ -336,7 +356,8 @@ fn put_extension_parts(out: &mut Vec<u8>, v: &ExtensionObject) -> Result<(), Bin
 /// An ExtensionObject (Part 6, 5.2.2.15), whose body and id have at most 2^31 - 1 bytes each.
 pub fn put_extension(out: &mut Vec<u8>, v: &ExtensionObject) -> Result<(), BinaryFault>
     requires { IsShortNode v.now.type_id × IsBody v.now.body }
-    ensures { Puts BinaryFault.OutOfMemory result out.old.items out.new.items (extension.canon v.now) }
+    ensures puts { Puts BinaryFault.OutOfMemory result out.old.items out.new.items (extension.canon v.now) }
+    ensures spelled { IfOk result (λ _. IsExtension v.now) }
 {
     let len = out.len();
     let put = put_extension_parts(out, v);

@@ -1,5 +1,7 @@
--- What is known of the number of a type.
-use Rattle.std.proofs.Common.{◌≡◌, ℕ, true, false, ltb, ◌==◌, refl, ◌<◌}
+-- What is known of the number of a type, and of arrays that were written.
+use Rattle.std.proofs.Common.{◌≡◌, ℕ, true, false, ltb, ◌==◌, refl, ◌<◌, ◌^◌, List, length, Result, Ok, Err, IfOk}
+use Rattle.std.specs.List.{All, AllByRecursion}
+use Rattle.std.proofs.lemmas.List.Elements.{recursion_from_All}
 use Rattle.std.proofs.lemmas.Bool.{ltb-true}
 use Rattle.ua_variant.specs.Scalar.{scalar_number, is_type}
 use Rattle.ua_variant.specs.declared.value.Scalar.{Scalar as One}
@@ -72,5 +74,10 @@ some_type v = (type_of v).some
 
 pub small_type : (v : One) → ltb (scalar_number v) 128 ≡ true
 small_type v = (type_of v).small
+
+-- an array that was written
+pub many_spelled : {A E T : Type 0} (P : A → Type 0) (l : List A) (result : Result T E) → length l < 2 ^ 31 → IfOk result (λ _. All P l) → IfOk result (λ _. (length l < 2 ^ 31) × AllByRecursion P l)
+many_spelled P l (Ok x) few h = (few, recursion_from_All P l h)
+many_spelled P l (Err e) few h = tt
 
 pub ruleset types = (known_values, small_values, known_type, some_type, small_type)

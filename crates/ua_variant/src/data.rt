@@ -1,10 +1,12 @@
 //! Data values: a value with its status and its moments.
 
-ghost use Rattle.std.specs.Prelude.{◌≡◌, ◌≤◌, List, ℕ, IfSome, is_some, if◌then◌else◌};
+ghost use Rattle.std.specs.Prelude.{◌≡◌, ◌≤◌, ◌<◌, ◌^◌, List, ℕ, IfOk, IfSome, is_some, if◌then◌else◌};
+ghost use Rattle.std.specs.Int.{w64};
+ghost use Rattle.std.specs.Int.RustNames.{FitsSigned};
 ghost use Rattle.ua_binary.specs.Format.{Puts, PutsPart, Reads, ReadsPart, ReadsUnless, flagged};
 ghost use Rattle.ua_binary.specs.Binary.{ticks, status, unsigned};
-ghost use Rattle.ua_variant.specs.Variant.{variant, IsShortVariant};
-ghost use Rattle.ua_variant.specs.DataValue.{stamps, stamps_of, picoseconds, IsPicoseconds, flag, data_mask, data_value, IsShortData};
+ghost use Rattle.ua_variant.specs.Variant.{variant, IsVariant, IsShortVariant};
+ghost use Rattle.ua_variant.specs.DataValue.{stamps, stamps_of, picoseconds, IsPicoseconds, flag, data_mask, data_value, IsDataValue, IsShortData};
 
 use crate::fault::VariantFault;
 use crate::put::put_variant;
@@ -98,10 +100,11 @@ fn read_stamps(cursor: &mut Cursor, mask: u8) -> Result<Stamps, BinaryFault>
 
 /// Reads a data value (Part 6, 5.2.2.17): a mask, and what it names, each kept as present or absent.
 /// Picoseconds of 10,000 or more read as 9,999; a bit of the mask without a meaning is
-/// `BadEncodingByte`. An error leaves the cursor where it was.
+/// `BadEncodingByte`. An error leaves the cursor where it was. What is read may be written.
 #[tactic(auto, unfolding(crate::specs::DataValue::data_value))]
 pub fn read_data_value(alloc: Global, cursor: &mut Cursor) -> Result<DataValue, VariantFault>
-    ensures { ReadsUnless VariantFault.OutOfMemory (λ v. v) result cursor.old cursor.new data_value.read }
+    ensures reads { ReadsUnless VariantFault.OutOfMemory (λ v. v) result cursor.old cursor.new data_value.read }
+    ensures short { IfOk result IsShortData }
 {
     let mut next = cursor.fork();
     let mask = next.u8()?;
@@ -123,7 +126,8 @@ pub fn read_data_value(alloc: Global, cursor: &mut Cursor) -> Result<DataValue, 
 
 fn put_value(out: &mut Vec<u8>, v: &Option<Variant>) -> Result<(), BinaryFault>
     requires { IfSome v.now IsShortVariant }
-    ensures { Puts BinaryFault.OutOfMemory result out.old.items out.new.items ((flagged (is_some v.now) variant).canon v.now) }
+    ensures puts { Puts BinaryFault.OutOfMemory result out.old.items out.new.items ((flagged (is_some v.now) variant).canon v.now) }
+    ensures spelled { IfOk result (λ _. IfSome v.now IsVariant) }
 {
     match v {
         None => Ok(()),
@@ -132,7 +136,8 @@ fn put_value(out: &mut Vec<u8>, v: &Option<Variant>) -> Result<(), BinaryFault>
 }
 
 fn put_some_status(out: &mut Vec<u8>, v: Option<Status>) -> Result<(), BinaryFault>
-    ensures { Puts BinaryFault.OutOfMemory result out.old.items out.new.items ((flagged (is_some v) status).canon v) }
+    ensures puts { Puts BinaryFault.OutOfMemory result out.old.items out.new.items ((flagged (is_some v) status).canon v) }
+    ensures spelled { IfOk result (λ _. IfSome v (λ c. c.0 < 2 ^ 32)) }
 {
     match v {
         None => Ok(()),
@@ -141,7 +146,8 @@ fn put_some_status(out: &mut Vec<u8>, v: Option<Status>) -> Result<(), BinaryFau
 }
 
 fn put_time(out: &mut Vec<u8>, v: Option<Ticks>) -> Result<(), BinaryFault>
-    ensures { Puts BinaryFault.OutOfMemory result out.old.items out.new.items ((flagged (is_some v) ticks).canon v) }
+    ensures puts { Puts BinaryFault.OutOfMemory result out.old.items out.new.items ((flagged (is_some v) ticks).canon v) }
+    ensures spelled { IfOk result (λ _. IfSome v (λ t. FitsSigned w64 t.0)) }
 {
     match v {
         None => Ok(()),
@@ -186,7 +192,8 @@ impl DataValue {
 #[tactic(auto, using(ua_binary::proofs::Kept::kept, crate::proofs::Masks::canon_data))]
 fn put_data_value_parts(out: &mut Vec<u8>, v: &DataValue) -> Result<(), BinaryFault>
     requires { IsShortData v.now }
-    ensures { PutsPart BinaryFault.OutOfMemory result out.old.items out.new.items (data_value.canon v.now) }
+    ensures puts { PutsPart BinaryFault.OutOfMemory result out.old.items out.new.items (data_value.canon v.now) }
+    ensures spelled { IfOk result (λ _. IsDataValue v.now) }
 {
     put_u8(out, v.mask())?;
     put_value(out, &v.value)?;
@@ -199,10 +206,12 @@ fn put_data_value_parts(out: &mut Vec<u8>, v: &DataValue) -> Result<(), BinaryFa
 }
 
 /// Writes a data value (Part 6, 5.2.2.17), whose picoseconds are at most 9,999. Its one error is
-/// `OutOfMemory`, and then the vector is as it was.
+/// `OutOfMemory`, and then the vector is as it was. What was written has a spelling, so it is read
+/// again.
 pub fn put_data_value(out: &mut Vec<u8>, v: &DataValue) -> Result<(), BinaryFault>
     requires { IsShortData v.now }
-    ensures { Puts BinaryFault.OutOfMemory result out.old.items out.new.items (data_value.canon v.now) }
+    ensures puts { Puts BinaryFault.OutOfMemory result out.old.items out.new.items (data_value.canon v.now) }
+    ensures spelled { IfOk result (λ _. IsDataValue v.now) }
 {
     let len = out.len();
     let put = put_data_value_parts(out, v);

@@ -1,11 +1,11 @@
 //! Writing values.
 
-ghost use Rattle.std.specs.Prelude.{◌≡◌, ◌<◌, ◌^◌, List, ℕ, All, length};
+ghost use Rattle.std.specs.Prelude.{◌≡◌, ◌<◌, ◌^◌, List, ℕ, All, IfOk, length};
 ghost use Rattle.ua_binary.specs.Format.{Puts, PutsPart};
 ghost use Rattle.ua_binary.specs.Binary.{array};
-ghost use Rattle.ua_variant.specs.Scalar.{scalar, scalar_number, IsShortScalar};
-ghost use Rattle.ua_variant.specs.Variant.{variant, IsShortVariant};
-ghost use Rattle.ua_variant.specs.Values.{values, array_number, IsShortValues};
+ghost use Rattle.ua_variant.specs.Scalar.{scalar, scalar_number, IsScalar, IsShortScalar};
+ghost use Rattle.ua_variant.specs.Variant.{variant, IsVariant, IsShortVariant};
+ghost use Rattle.ua_variant.specs.Values.{values, array_number, IsValues, IsShortValues};
 
 use crate::value::{Array, Scalar, Variant};
 use ua_binary::{
@@ -17,7 +17,8 @@ use ua_binary::{
 #[tactic(auto, unfolding(crate::specs::Scalar::scalar))]
 fn put_scalar(out: &mut Vec<u8>, v: &Scalar) -> Result<(), BinaryFault>
     requires { IsShortScalar v.now }
-    ensures { Puts BinaryFault.OutOfMemory result out.old.items out.new.items ((scalar (scalar_number v.now)).canon v.now) }
+    ensures puts { Puts BinaryFault.OutOfMemory result out.old.items out.new.items ((scalar (scalar_number v.now)).canon v.now) }
+    ensures spelled { IfOk result (λ _. IsScalar v.now) }
 {
     match v {
         Scalar::Boolean(v) => put_boolean(out, *v),
@@ -42,10 +43,11 @@ fn put_scalar(out: &mut Vec<u8>, v: &Scalar) -> Result<(), BinaryFault>
     }
 }
 
-#[tactic(auto, unfolding(crate::specs::Values::values))]
+#[tactic(auto, using(crate::proofs::Types::many_spelled), unfolding(crate::specs::Values::values))]
 fn put_values(out: &mut Vec<u8>, v: &Array) -> Result<(), BinaryFault>
     requires { IsShortValues v.now }
-    ensures { Puts BinaryFault.OutOfMemory result out.old.items out.new.items ((values (array_number v.now)).canon v.now) }
+    ensures puts { Puts BinaryFault.OutOfMemory result out.old.items out.new.items ((values (array_number v.now)).canon v.now) }
+    ensures spelled { IfOk result (λ _. IsValues v.now) }
 {
     match v {
         Array::Boolean(v) => put_array(out, v.as_slice()),
@@ -73,7 +75,8 @@ fn put_values(out: &mut Vec<u8>, v: &Array) -> Result<(), BinaryFault>
 #[tactic(auto, using(ua_binary::proofs::Kept::kept, crate::proofs::Types::types, crate::proofs::Canons::canons))]
 fn put_variant_parts(out: &mut Vec<u8>, v: &Variant) -> Result<(), BinaryFault>
     requires { IsShortVariant v.now }
-    ensures { PutsPart BinaryFault.OutOfMemory result out.old.items out.new.items (variant.canon v.now) }
+    ensures puts { PutsPart BinaryFault.OutOfMemory result out.old.items out.new.items (variant.canon v.now) }
+    ensures spelled { IfOk result (λ _. IsVariant v.now) }
 {
     match v {
         Variant::Null => put_u8(out, 0)?,
@@ -90,10 +93,12 @@ fn put_variant_parts(out: &mut Vec<u8>, v: &Variant) -> Result<(), BinaryFault>
 }
 
 /// Writes a value (Part 6, 5.2.2.16): its first byte, and then the value or the array. Its one error
-/// is `OutOfMemory`, and then the vector is as it was.
+/// is `OutOfMemory`, and then the vector is as it was. What was written has a spelling, so it is read
+/// again.
 pub fn put_variant(out: &mut Vec<u8>, v: &Variant) -> Result<(), BinaryFault>
     requires { IsShortVariant v.now }
-    ensures { Puts BinaryFault.OutOfMemory result out.old.items out.new.items (variant.canon v.now) }
+    ensures puts { Puts BinaryFault.OutOfMemory result out.old.items out.new.items (variant.canon v.now) }
+    ensures spelled { IfOk result (λ _. IsVariant v.now) }
 {
     let len = out.len();
     let put = put_variant_parts(out, v);

@@ -1,11 +1,11 @@
 //! Reading values.
 
-ghost use Rattle.std.specs.Prelude.{◌≡◌, List, ℕ};
+ghost use Rattle.std.specs.Prelude.{◌≡◌, List, ℕ, IfOk};
 ghost use Rattle.ua_binary.specs.Format.{ReadsPart, ReadsUnless, items_at};
 ghost use Rattle.ua_binary.specs.Binary.{array};
 ghost use Rattle.ua_variant.specs.Scalar.{scalar};
 ghost use Rattle.ua_variant.specs.Values.{values};
-ghost use Rattle.ua_variant.specs.Variant.{variant};
+ghost use Rattle.ua_variant.specs.Variant.{variant, IsShortVariant};
 
 use crate::fault::VariantFault;
 use crate::value::{Array, Scalar, Variant, is_type};
@@ -72,10 +72,12 @@ fn read_values(alloc: Global, cursor: &mut Cursor, number: u8) -> Result<Array, 
 }
 
 /// Reads a value (Part 6, 5.2.2.16). A matrix, an array of null and a type that is left out are
-/// `TypeUnsupported` by the first byte alone. An error leaves the cursor where it was.
+/// `TypeUnsupported` by the first byte alone. An error leaves the cursor where it was. What is read may
+/// be written.
 #[tactic(auto, unfolding(crate::specs::Variant::variant))]
 pub fn read_variant(alloc: Global, cursor: &mut Cursor) -> Result<Variant, VariantFault>
-    ensures { ReadsUnless VariantFault.OutOfMemory (λ v. v) result cursor.old cursor.new variant.read }
+    ensures reads { ReadsUnless VariantFault.OutOfMemory (λ v. v) result cursor.old cursor.new variant.read }
+    ensures short { IfOk result IsShortVariant }
 {
     let mut next = cursor.fork();
     let first = next.u8()?;
