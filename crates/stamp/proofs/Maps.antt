@@ -51,6 +51,10 @@ set_vector numbers place n p lt small = record {
   ];
 }
 
+-- one number raised
+pub raised_vector : (numbers : List ℕ) (place n more : ℕ) → IsVector numbers → place < 64 → more ≤ greatest → n ≡ max (get_or numbers place 0) more → IsVector (slice_set numbers place n)
+raised_vector numbers place n more p lt small e = set_vector numbers place n p lt (omega (arith, p.within (suc place)))
+
 -- ---- two vectors, place by place
 
 pub at_each : (a b : List ℕ) → IsVector a → IsVector b → ((k : ℕ) → k < 64 → get_or b k 0 ≤ get_or a k 0) → (replica : ℕ) → number_of b replica ≤ number_of a replica
@@ -96,4 +100,4 @@ joined_vector old other now i p q j le = record {
 pub below_at : (a b : List ℕ) (k : ℕ) → get_or a k 0 < get_or b k 0 → ((replica : ℕ) → number_of b replica ≤ number_of a replica) → ⊥
 below_at a b k lt h = omega (arith, h (k + 1), number_at a k (k + 1) refl, number_at b k (k + 1) refl)
 
-pub ruleset vectors = (number_at, number_of-zeros, zeros_vector, number_of-set_same, number_of-set_other, set_vector, at_each, joined_none, joined_more, joined_all, joined_vector)
+pub ruleset vectors = (number_at, number_of-zeros, zeros_vector, number_of-set_same, number_of-set_other, raised_vector, at_each, joined_none, joined_more, joined_all, joined_vector, below_at)

@@ -68,3 +68,7 @@ put_more old out after ns i lt some so_far put =
 -- one place further, where none was
 pub put_none : (old out ns : List ℕ) (i : ℕ) → i < length ns → get_or ns i 0 ≡ 0 → out ≡ old ++ entry_bytes (entries (take i ns)) → out ≡ old ++ entry_bytes (entries (take (i + 1) ns))
 put_none old out ns i lt none so_far = so_far ∙ ap (λ z. old ++ entry_bytes z) (sym (none_more ns i lt none))
+
+pub ruleset counts = (count_more, count_none)
+
+pub ruleset puts = (put_more, put_none)

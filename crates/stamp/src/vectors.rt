@@ -74,7 +74,8 @@ impl Vector {
 
     /// Whether the record of this number of a replica is held.
     pub fn covers(&self, replica: ReplicaNo, number: u64) -> bool
-        ensures { IsTrue result ↔ (number ≤ number_of self.now replica) }
+        ensures covers { IsTrue result ↔ (number ≤ number_of self.now replica) }
+        ensures vector { IsVector self.now }
     {
         number <= self.get(replica)
     }
@@ -230,6 +231,7 @@ fn read_entries(cursor: &mut Cursor, count: u8) -> Result<[u64; 64], VectorFault
 }
 
 /// How many replicas have a number above 0.
+#[tactic(auto, using(crate::proofs::Putting::counts))]
 fn count_entries(numbers: &[u64; 64]) -> u8
     ensures { result ≡ length (entries numbers.now) }
 {
@@ -252,6 +254,7 @@ fn put_entry(out: &mut Vec<u8>, replica: u8, number: u64) -> Result<(), BinaryFa
 }
 
 /// The replicas with a number above 0, each with its number.
+#[tactic(auto, using(crate::proofs::Putting::puts))]
 fn put_entries(out: &mut Vec<u8>, numbers: &[u64; 64]) -> Result<(), BinaryFault>
     ensures { PutsPart BinaryFault.OutOfMemory result out.old.items out.new.items (flat_map (entry_above 0).canon (entries numbers.now)) }
 {
