@@ -1,0 +1,5 @@
+pub mod Maps
+pub mod Orders
+pub mod Lawful
+pub mod Filling
+pub mod Putting

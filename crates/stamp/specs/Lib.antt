@@ -1,0 +1,5 @@
+pub mod Limits
+pub mod Fault
+pub mod Stamp
+pub mod Numbers
+pub mod Vector

@@ -1,0 +1,44 @@
+-- A vector as bytes: how many replicas have a number above 0, and then each of them with its
+-- number, ascending.
+use Rattle.std.specs.Prelude.{ℕ, zero, suc, nat_lt, nat_le, Bool, ◌&&◌, List, [], ◌∷◌, length}
+use Rattle.std.specs.Int.{w64}
+use Rattle.ua_binary.specs.Format.{Format, nothing, byte, ◌▸◌, headed, standing_for, passing, fitting, raised}
+use Rattle.ua_binary.specs.Binary.{unsigned}
+use Rattle.stamp.specs.declared.fault.VectorFault.{VectorFault}
+use Rattle.stamp.specs.declared.fault.VectorFault.TheVariants.{NotAscending, BadNumber}
+use Rattle.stamp.specs.Limits.{greatest}
+use Rattle.stamp.specs.Fault.{vector_fault}
+use Rattle.stamp.specs.Numbers.{IsVector, zeros, entries, filled}
+
+-- a byte that names a replica, above the one before it
+abbrev pub replica_above : ℕ → Format VectorFault ℕ
+replica_above last = passing (λ r. nat_lt last r) NotAscending (passing (λ r. nat_le 1 r && nat_le r 64) BadNumber (raised vector_fault byte))
+
+-- a number above 0
+abbrev pub number : Format VectorFault ℕ
+number = passing (λ n. nat_le 1 n && nat_le n greatest) BadNumber (raised vector_fault (unsigned w64))
+
+-- a replica above this one, and its number
+abbrev pub entry_above : ℕ → Format VectorFault (ℕ × ℕ)
+entry_above last = replica_above last ▸ number
+
+abbrev pub first_of : List (ℕ × ℕ) → ℕ × ℕ
+first_of [] = (0, 0)
+first_of (e ∷ es) = e
+
+abbrev pub rest_of : List (ℕ × ℕ) → List (ℕ × ℕ)
+rest_of [] = []
+rest_of (e ∷ es) = es
+
+-- so many entries, each above the one before it, the first above this replica
+abbrev pub entries_above : ℕ → ℕ → Format VectorFault (List (ℕ × ℕ))
+entries_above last zero = nothing []
+entries_above last (suc n) = headed first_of (entry_above last) (λ e. standing_for (λ es. e ∷ es) rest_of (entries_above e.0 n))
+
+-- how many entries there are: at most one for each replica
+abbrev pub entry_count : Format VectorFault ℕ
+entry_count = passing (λ n. nat_le n 64) BadNumber (raised vector_fault byte)
+
+-- the count and the entries; a replica that isn't named has the number 0
+unfoldable pub vector : Format VectorFault (List ℕ)
+vector = fitting IsVector (standing_for (filled zeros) entries (headed length entry_count (entries_above 0)))
