@@ -6,7 +6,7 @@ use Rattle.std.proofs.lemmas.Bool.{true≢false, cases_lt, cases_eq}
 use Rattle.std.proofs.lemmas.Bool.Decides.{nat_tests}
 use Rattle.std.proofs.lemmas.List.{drop_more, take_more, append_assoc}
 use Rattle.std.proofs.lemmas.Int.{ints, clamps}
-use Rattle.stamp.specs.Stamp.{greatest}
+use Rattle.stamp.specs.Limits.{greatest}
 use Rattle.records.specs.declared.record.Record.{Record}
 use Rattle.records.specs.Lists.{Has, Rises, IsPairwise, IsApart}
 use Rattle.records.specs.Records.{name_cmp, stamp_cmp}
@@ -17,20 +17,20 @@ use Rattle.records.proofs.ContentLemmas.{apart_from_rises, vec_attained}
 number_below_tick : (R : Content) → IsClosed R → (n : ℕ) (r : Record) → Has R r → r.number ≡ n → pos n ≤ℤ r.tick
 number_below_tick R closed zero r h e = absurd (omega (arith, closed.numbers r h))
 number_below_tick R closed (suc m) r h e = elim (cases_eq m 0) [
-    | inl z ↦ let t = (closed.ticks r h).0 in omega (arith, ints, t)
-    | inr more ↦
+  | inl z ↦ let t = (closed.ticks r h).0 in omega (arith, ints, t)
+  | inr more ↦
       let bound : r.number ≤ vec R r.origin = Rattle.records.proofs.ContentLemmas.vec_bounds R r h in
       let s = closed.whole r.origin m (omega arith) (omega arith) in
       let below = number_below_tick R closed m s.0 s.1 s.2.numbered in
       let rise = closed.rising s.0 r s.1 h s.2.from (omega (arith, s.2.numbered)) in
       omega (arith, ints)
-  ]
+]
 
 pub vec_small : (R : Content) (origin : ℕ) → IsClosed R → vec R origin < 2 ^ 62
 vec_small R origin closed = elim (vec_attained R origin) [
-    | inl z ↦ omega arith
-    | inr h ↦ let below = number_below_tick R closed h.0.number h.0 h.1 refl in let t = (closed.ticks h.0 h.1).1 in omega (arith, ints, h.2.numbered)
-  ]
+  | inl z ↦ omega arith
+  | inr h ↦ let below = number_below_tick R closed h.0.number h.0 h.1 refl in let t = (closed.ticks h.0 h.1).1 in omega (arith, ints, h.2.numbered)
+]
 
 tied_stamps : (x y : Record) → is_eq (stamp_cmp x y) ≡ true → (x.tick ≡ y.tick) × (x.origin ≡ y.origin)
 tied_stamps x y e = grind (arith, nat_tests, ints)
@@ -40,9 +40,10 @@ less_names x y e o = grind (arith, nat_tests)
 
 stamps_apart : (xs : Content) → Rises name_cmp xs → ((r s : Record) → Has xs r → Has xs s → r.origin ≡ s.origin → r.number < s.number → r.tick <ℤ s.tick) → IsApart stamp_cmp xs
 stamps_apart [] up rising = tt
-stamps_apart (x ∷ xs) up rising =
-    (all_from_has (λ y. is_eq (stamp_cmp x y) ≡ false) xs (λ y h. go y h (is_eq (stamp_cmp x y)) refl),
-      stamps_apart xs up.1 (λ r s h k e lt. rising r s (inr h) (inr k) e lt))
+stamps_apart (x ∷ xs) up rising = (
+  all_from_has (λ y. is_eq (stamp_cmp x y) ≡ false) xs (λ y h. go y h (is_eq (stamp_cmp x y)) refl),
+  stamps_apart xs up.1 (λ r s h k e lt. rising r s (inr h) (inr k) e lt),
+)
   where
     go : (y : Record) → Has xs y → (b : Bool) → is_eq (stamp_cmp x y) ≡ b → b ≡ false
     go y h true e =
@@ -58,23 +59,7 @@ closed_stamps R closed = stamps_apart R closed.ordered closed.rising
 pub closed_names : (R : Content) → IsClosed R → IsApart name_cmp R
 closed_names R closed = apart_from_rises R closed.ordered
 
--- a loop's steps
-pub vec_push : (R : Content) (r : Record) (origin : ℕ) → vec (R ++ r ∷ []) origin ≡ max (vec R origin) (number_from origin r)
-vec_push [] r origin = omega arith
-vec_push (s ∷ R) r origin = let more = vec_push R r origin in omega arith
+pub numbers_small : (R : Content) (origin : ℕ) → IsClosed R → vec R origin ≤ greatest
+numbers_small R origin closed = let below = vec_small R origin closed in omega arith
 
-pub top_push : (R : Content) (r : Record) → top (R ++ r ∷ []) ≡ int_max (top R) r.tick
-top_push [] r = omega (arith, ints, clamps)
-top_push (s ∷ R) r = let more = top_push R r in omega (arith, ints, clamps)
-
-pub insert_here : (xs : Content) (i : ℕ) (r : Record) (d : Record) → i < length xs → put r xs ≡ take i xs ++ put r (drop i xs) → is_gt (name_cmp r (get_or xs i d)) ≡ false → insert xs i r ≡ put r xs
-insert_here xs i r d h inv e =
-    let more = drop_more xs i d h in
-    let here : put r (drop i xs) ≡ r ∷ drop i xs = ap (put r) more ∙ (ap (λ b. cond b (get_or xs i d ∷ put r (drop (i + 1) xs)) (r ∷ get_or xs i d ∷ drop (i + 1) xs)) e ∙ ap (λ l. r ∷ l) (sym more)) in
-    sym (inv ∙ ap (λ l. take i xs ++ l) here)
-
-pub insert_on : (xs : Content) (i : ℕ) (r : Record) (d : Record) → i < length xs → put r xs ≡ take i xs ++ put r (drop i xs) → is_gt (name_cmp r (get_or xs i d)) ≡ true → put r xs ≡ take (i + 1) xs ++ put r (drop (i + 1) xs)
-insert_on xs i r d h inv e =
-    let more = drop_more xs i d h in
-    let here : put r (drop i xs) ≡ get_or xs i d ∷ put r (drop (i + 1) xs) = ap (put r) more ∙ ap (λ b. cond b (get_or xs i d ∷ put r (drop (i + 1) xs)) (r ∷ get_or xs i d ∷ drop (i + 1) xs)) e in
-    inv ∙ (ap (λ l. take i xs ++ l) here ∙ (sym (append_assoc (take i xs) (get_or xs i d ∷ []) _) ∙ ap (λ l. l ++ put r (drop (i + 1) xs)) (sym (take_more xs i d h))))
+pub ruleset closeness = (closed_names, closed_stamps, numbers_small)

@@ -26,9 +26,9 @@ same_named r s p q = grind (arith, nat_tests)
 pub vec_bounds : (R : Content) (r : Record) → Has R r → r.number ≤ vec R r.origin
 vec_bounds [] r h = absurd h
 vec_bounds (s ∷ R) r h = elim h [
-    | inl e ↦ let here : s.number ≤ vec (s ∷ R) s.origin = rw (eq-eqb s.origin s.origin refl) (omega arith) in subst (λ (x : Record). x.number ≤ vec (s ∷ R) x.origin) e here
-    | inr k ↦ let more = vec_bounds R r k in omega arith
-  ]
+  | inl e ↦ let here : s.number ≤ vec (s ∷ R) s.origin = rw (eq-eqb s.origin s.origin refl) (omega arith) in subst (λ (x : Record). x.number ≤ vec (s ∷ R) x.origin) e here
+  | inr k ↦ let more = vec_bounds R r k in omega arith
+]
 
 pub vec_attained : (R : Content) (origin : ℕ) → (vec R origin ≡ 0) ⊎ HasName R origin (vec R origin)
 vec_attained [] origin = inl refl
@@ -39,15 +39,15 @@ vec_attained (s ∷ R) origin = go (eqb s.origin origin) refl (vec_attained R or
     go false e (inr h) = inr (h.0, inr h.1, record { from = h.2.from; numbered = omega (arith, h.2.numbered) })
     go true e (inl z) = inr (s, inl refl, record { from = eqb-true _ _ e; numbered = omega arith })
     go true e (inr h) = elim (cases_lt s.number (vec R origin)) [
-        | inl lt ↦ inr (h.0, inr h.1, record { from = h.2.from; numbered = omega (arith, h.2.numbered) })
-        | inr ge ↦ inr (s, inl refl, record { from = eqb-true _ _ e; numbered = omega arith })
-      ]
+      | inl lt ↦ inr (h.0, inr h.1, record { from = h.2.from; numbered = omega (arith, h.2.numbered) })
+      | inr ge ↦ inr (s, inl refl, record { from = eqb-true _ _ e; numbered = omega arith })
+    ]
 
 pub vec_least : (R : Content) (origin n : ℕ) → ((r : Record) → Has R r → r.origin ≡ origin → r.number ≤ n) → vec R origin ≤ n
 vec_least R origin n f = elim (vec_attained R origin) [
-    | inl e ↦ omega arith
-    | inr h ↦ let bound = f h.0 h.1 h.2.from in omega (arith, h.2.numbered)
-  ]
+  | inl e ↦ omega arith
+  | inr h ↦ let bound = f h.0 h.1 h.2.from in omega (arith, h.2.numbered)
+]
 
 pub vec_is : (R : Content) (origin n : ℕ) → ((r : Record) → Has R r → r.origin ≡ origin → r.number ≤ n) → (n ≡ 0) ⊎ HasName R origin n → vec R origin ≡ n
 vec_is R origin n above (inl e) = let h = vec_least R origin n above in omega arith
@@ -71,15 +71,16 @@ module _ {X : Type 0} where
   pub has_from_append : (xs ys : List X) (z : X) → Has (xs ++ ys) z → Has xs z ⊎ Has ys z
   has_from_append [] ys z h = inr h
   has_from_append (x ∷ xs) ys z h = elim h [
-      | inl e ↦ inl (inl e)
-      | inr k ↦ elim (has_from_append xs ys z k) [ inl m ↦ inl (inr m) | inr m ↦ inr m ]
-    ]
+    | inl e ↦ inl (inl e)
+    | inr k ↦ elim (has_from_append xs ys z k) [ inl m ↦ inl (inr m) | inr m ↦ inr m ]
+  ]
 
   pub pairwise-append : (R : X → X → Type 0) (xs ys : List X) → IsPairwise R xs → IsPairwise R ys → ((x y : X) → Has xs x → Has ys y → R x y) → IsPairwise R (xs ++ ys)
   pairwise-append R [] ys h k f = k
-  pairwise-append R (x ∷ xs) ys h k f =
-      (all_from_has (R x) (xs ++ ys) (λ z m. elim (has_from_append xs ys z m) [ inl a ↦ all-has (R x) xs z h.0 a | inr b ↦ f x z (inl refl) b ]),
-        pairwise-append R xs ys h.1 k (λ a b p q. f a b (inr p) q))
+  pairwise-append R (x ∷ xs) ys h k f = (
+    all_from_has (R x) (xs ++ ys) (λ z m. elim (has_from_append xs ys z m) [ inl a ↦ all-has (R x) xs z h.0 a | inr b ↦ f x z (inl refl) b ]),
+    pairwise-append R xs ys h.1 k (λ a b p q. f a b (inr p) q),
+  )
 
 less_apart : (o : Ordering) → o ≡ Less → is_eq o ≡ false
 less_apart o e = ap is_eq e
@@ -106,22 +107,22 @@ pub rises-join : (R S : Content) → Rises name_cmp R → Rises name_cmp S → R
 rises-join R S up up' =
     rises-sort_by name_cmp name_total _
     (pairwise-append _ R _ (apart_from_rises R up) (pairwise-filter _ (λ s. not (names R s)) S (apart_from_rises S up'))
-      (λ r s h k. let kept = has_from_filter (λ z. not (names R z)) S s k in not_named R s r (not-true _ kept.1) h))
+    (λ r s h k. let kept = has_from_filter (λ z. not (names R z)) S s k in not_named R s r (not-true _ kept.1) h))
 
 pub has_from_join : (R S : Content) (z : Record) → Has (join R S) z → Has R z ⊎ Has S z
 has_from_join R S z h = elim (has_from_append R _ z (has_from_sort_by name_cmp name_total _ z h)) [
-    | inl k ↦ inl k
-    | inr k ↦ inr (has_from_filter (λ s. not (names R s)) S z k).0
-  ]
+  | inl k ↦ inl k
+  | inr k ↦ inr (has_from_filter (λ s. not (names R s)) S z k).0
+]
 
 pub has-join_left : (R S : Content) (z : Record) → Has R z → Has (join R S) z
 has-join_left R S z h = has-sort_by name_cmp name_total _ z (has-append R _ z (inl h))
 
 pub has-join_right : (R S : Content) → AreCompatible R S → (z : Record) → Has S z → Has (join R S) z
 has-join_right R S same z h = elim (cases_Bool (names R z)) [
-    | inl e ↦ let r = named_by R z e in has-join_left R S z (subst (Has R) (same r.0 z r.1 h r.2 r.3) r.1)
-    | inr e ↦ has-sort_by name_cmp name_total _ z (has-append R _ z (inr (has-filter (λ s. not (names R s)) S z h (ap not e))))
-  ]
+  | inl e ↦ let r = named_by R z e in has-join_left R S z (subst (Has R) (same r.0 z r.1 h r.2 r.3) r.1)
+  | inr e ↦ has-sort_by name_cmp name_total _ z (has-append R _ z (inr (has-filter (λ s. not (names R s)) S z h (ap not e))))
+]
 
 pub join_comm : (R S : Content) → Rises name_cmp R → Rises name_cmp S → AreCompatible R S → join R S ≡ join S R
 join_comm R S up up' same =
@@ -154,15 +155,15 @@ join_assoc R S T ur us ut rs rt st =
 pub named_once : (R : Content) → Rises name_cmp R → AreCompatible R R
 named_once [] up r s h k p q = absurd h
 named_once (x ∷ R) up r s h k p q = elim h [
-    | inl e ↦ elim k [
-      | inl e' ↦ sym e ∙ e'
-      | inr m ↦ absurd (true≢false (sym (same_named r s p q) ∙ ap is_eq (subst (λ (z : Record). name_cmp z s ≡ Less) e (all-has (λ z. name_cmp x z ≡ Less) R s up.0 m))))
-    ]
-    | inr m ↦ elim k [
-      | inl e ↦ absurd (true≢false (sym (same_named s r (sym p) (sym q)) ∙ ap is_eq (subst (λ (z : Record). name_cmp z r ≡ Less) e (all-has (λ z. name_cmp x z ≡ Less) R r up.0 m))))
-      | inr n ↦ named_once R up.1 r s m n p q
-    ]
+  | inl e ↦ elim k [
+    | inl e' ↦ sym e ∙ e'
+    | inr m ↦ absurd (true≢false (sym (same_named r s p q) ∙ ap is_eq (subst (λ (z : Record). name_cmp z s ≡ Less) e (all-has (λ z. name_cmp x z ≡ Less) R s up.0 m))))
   ]
+  | inr m ↦ elim k [
+    | inl e ↦ absurd (true≢false (sym (same_named s r (sym p) (sym q)) ∙ ap is_eq (subst (λ (z : Record). name_cmp z r ≡ Less) e (all-has (λ z. name_cmp x z ≡ Less) R r up.0 m))))
+    | inr n ↦ named_once R up.1 r s m n p q
+  ]
+]
 
 pub join_idem : (R : Content) → Rises name_cmp R → join R R ≡ R
 join_idem R up = same_members name_cmp name_total _ _ (rises-join R R up up) up

@@ -17,7 +17,7 @@ use Rattle.records.proofs.Sorting.{has-filter, has-sort_by}
 use Rattle.records.proofs.Orders.{stamp_total}
 use Rattle.records.proofs.Same.{Decides-is_same}
 
-last_more : (a b : Record) (rs : List Record) → last (a ∷ b ∷ rs) ≡ last (b ∷ rs)
+pub last_more : (a b : Record) (rs : List Record) → last (a ∷ b ∷ rs) ≡ last (b ∷ rs)
 last_more a b rs =
     let p : suc (suc (length rs)) - 1 ≡ suc (length rs) = omega arith in
     let q : suc (length rs) - 1 ≡ length rs = omega arith in
@@ -32,9 +32,9 @@ kind_of_delete before Update e = absurd (true≢false (sym e))
 delete_in : (before : Option Record) (rs : List Record) (r : Record) → Has rs r → is_delete r.asked ≡ true → (e : Entry) × Has (entries_after before rs) e × (e.kind ≡ Delete) × (e.tick ≡ r.tick) × (e.origin ≡ r.origin) × (e.user ≡ r.user)
 delete_in before [] r h d = absurd h
 delete_in before (a ∷ rs) r h d = elim h [
-    | inl e ↦ (entry (write before) r, inl (ap (entry (write before)) e), kind_of_delete (write before) r.asked d, refl, refl, refl)
-    | inr k ↦ let m = delete_in (Some a) rs r k d in (m.0, inr m.1, m.2, m.3, m.4, m.5)
-  ]
+  | inl e ↦ (entry (write before) r, inl (ap (entry (write before)) e), kind_of_delete (write before) r.asked d, refl, refl, refl)
+  | inr k ↦ let m = delete_in (Some a) rs r k d in (m.0, inr m.1, m.2, m.3, m.4, m.5)
+]
 
 after_live : (r s : Record) → is_delete r.asked ≡ false → (entry (write (Some r)) s).value ≡ Some r.value
 after_live r s d = rw d
@@ -46,12 +46,12 @@ write_in : (before : Option Record) (rs : List Record) (r : Record) → Has rs r
 write_in before [] r h d = absurd h
 write_in before (a ∷ []) r h d = elim h [ inl e ↦ inl (ap Some e) | inr k ↦ absurd k ]
 write_in before (a ∷ b ∷ rs) r h d = elim h [
-    | inl e ↦ inr (0, record { place = ap Some e; next = entry (write (Some a)) b; after = refl; shows = after_live a b (ap (λ (x : Record). is_delete x.asked) e ∙ d) ∙ ap (λ (x : Record). Some x.value) e })
-    | inr k ↦ elim (write_in (Some a) (b ∷ rs) r k d) [
-      | inl e ↦ inl (last_more a b rs ∙ e)
-      | inr m ↦ inr (suc m.0, record { place = m.1.place; next = m.1.next; after = one_on m.0 (entry (write before) a) (entries_after (Some a) (b ∷ rs)) _ m.1.after; shows = m.1.shows })
-    ]
+  | inl e ↦ inr (0, record { place = ap Some e; next = entry (write (Some a)) b; after = refl; shows = after_live a b (ap (λ (x : Record). is_delete x.asked) e ∙ d) ∙ ap (λ (x : Record). Some x.value) e })
+  | inr k ↦ elim (write_in (Some a) (b ∷ rs) r k d) [
+    | inl e ↦ inl (last_more a b rs ∙ e)
+    | inr m ↦ inr (suc m.0, record { place = m.1.place; next = m.1.next; after = one_on m.0 (entry (write before) a) (entries_after (Some a) (b ∷ rs)) _ m.1.after; shows = m.1.shows })
   ]
+]
 
 held_write : (extra : Bool) (o : Option Record) (r : Record) → o ≡ Some r → is_delete r.asked ≡ false → (h : Held) × (held_of extra (write o) ≡ Some h) × (h.value ≡ r.value)
 held_write extra o r e d = (record { time = r.time; value = r.value; extra = extra }, rw (e, d), refl)
@@ -59,11 +59,12 @@ held_write extra o r e d = (record { time = r.time; value = r.value; extra = ext
 at_its_place : (r : Record) → is_at r.node r.time r ≡ true
 at_its_place r = and_from _ _ ((Decides-is_same node_code r.node r.node).1 refl) (ap is_eq (tied_itself int_cmp_total r.time))
 
-in_story : (R : Content) (r : Record) → Has R r → Has (story R r.node r.time) r
+pub in_story : (R : Content) (r : Record) → Has R r → Has (story R r.node r.time) r
 in_story R r h = has-sort_by stamp_cmp stamp_total _ r (has-filter (is_at r.node r.time) R r h (at_its_place r))
 
 pub found : (R : Content) (r : Record) → Has R r → IsFound R r
 found R r h =
-    let there = in_story R r h in
-    (λ d. delete_in None (story R r.node r.time) r there d,
-      λ d. elim (write_in None (story R r.node r.time) r there d) [ inl e ↦ inl (held_write _ _ r e d) | inr m ↦ inr m ])
+    let there = in_story R r h in (
+      λ d. delete_in None (story R r.node r.time) r there d,
+      λ d. elim (write_in None (story R r.node r.time) r there d) [ inl e ↦ inl (held_write _ _ r e d) | inr m ↦ inr m ],
+    )

@@ -1,18 +1,19 @@
 -- What learning leaves.
 use Rattle.std.proofs.Common.{◌≡◌, ℕ, ◌+◌, ◌≤◌, ◌<◌, eqb, leb, nat_le, nat_lt, ℤ, pos, ◌≤ℤ◌, ◌<ℤ◌, ◌+ℤ◌, Bool, true, false, not, ◌&&◌, ◌||◌, cond, List, [], ◌∷◌, filter, Option, Some, None, refl, sym, ap, ◌∙◌, subst, arith, inl, inr, ◌⊎◌, int_lt}
-use Rattle.std.specs.Prelude.{int_le}
+use Rattle.std.specs.Prelude.{int_le, ◌↔◌}
 use Rattle.std.specs.Option.{option_map_or}
 use Rattle.std.specs.List.{list_any}
 use Rattle.std.specs.Int.{int_max, int_min}
-use Rattle.std.proofs.lemmas.Bool.{true≢false, lt-leb, leb-false, ltb-false, le-ltb, eq-eqb, eqb-true, and_parts, cases_Bool}
+use Rattle.std.proofs.lemmas.Bool.{true≢false, lt-leb, le-leb, leb-false, ltb-false, le-ltb, eq-eqb, eqb-true, and_parts, cases_Bool}
 use Rattle.std.proofs.lemmas.Option.{none-some, same_Some}
 use Rattle.std.proofs.lemmas.Int.{ints, clamps}
-use Rattle.stamp.specs.Stamp.{greatest}
+use Rattle.stamp.specs.Limits.{greatest}
 use Rattle.records.specs.declared.record.Record.{Record}
 use Rattle.records.specs.Lists.{Has}
-use Rattle.records.specs.Contents.{Content, vec, top, last_tick, IsClosed, put, IsNext, Finding, Adds, Holds, Clash, Gap, TickTooFar, TickNotRising, finding, after_finding, learned, merged}
+use Rattle.records.specs.Contents.{Content, IsWithin, vec, top, last_tick, IsClosed, put, IsNext, Finding, Adds, Holds, Clash, Gap, TickTooFar, TickNotRising, finding, after_finding, learned, merged}
 use Rattle.records.specs.Same.{same_record, record_code}
 use Rattle.records.proofs.Same.{Decides-is_same}
+use Rattle.records.proofs.ContentLemmas.{vec_bounds}
 use Rattle.records.proofs.PutLemmas.{closed_put, has-put, has_from_put}
 
 held_from_test : (R : Content) (r : Record) → list_any (same_record r) R ≡ true → Has R r
@@ -56,7 +57,7 @@ pub next_found : (R : Content) (r : Record) → finding R r ≡ Adds → IsNext 
 next_found R r e = go _ _ _ _ _ refl refl refl refl e
   where
     go : (a b g f t : Bool) → nat_le r.number (vec R r.origin) ≡ a → nat_lt (vec R r.origin + 1) r.number ≡ g → int_lt (pos greatest) r.tick ≡ f → int_le r.tick (last_tick R r.origin) ≡ t
-      → finding_by a b g f t (vec R r.origin) r.number ≡ Adds → IsNext R r
+        → finding_by a b g f t (vec R r.origin) r.number ≡ Adds → IsNext R r
     go true true g f t p q u v h = absurd (true≢false (sym (ap adds h)))
     go true false g f t p q u v h = absurd (true≢false (sym (ap adds h)))
     go false b true f t p q u v h = absurd (true≢false (sym (ap adds h)))
@@ -108,9 +109,9 @@ merged_keeps P (r ∷ rs) R here step = go (learned R r) refl (λ S p. merged_ke
     go : (o : Option Content) → learned R r ≡ o → ((S : Content) → P S → P (merged rs S)) → P (option_map_or (merged rs) o R)
     go None e more = here
     go (Some S) e more = elim (learned_cases R r S e) [
-        | inl same ↦ more S (subst P same here)
-        | inr next ↦ more S (subst P next.1 (step R r (inl refl) here next.0))
-      ]
+      | inl same ↦ more S (subst P same here)
+      | inr next ↦ more S (subst P next.1 (step R r (inl refl) here next.0))
+    ]
 
 pub closed-merged : (rs : List Record) (R : Content) → IsClosed R → IsClosed (merged rs R)
 closed-merged rs R closed = merged_keeps IsClosed rs R closed (λ S r h p e. closed-next S r p e)
@@ -130,3 +131,41 @@ learned_next R r next = ap (after_finding R r) (finding_next R r next)
 
 pub closed-learned : (R : Content) (r : Record) (S : Content) → IsClosed R → learned R r ≡ Some S → IsClosed S
 closed-learned R r S closed e = elim (learned_cases R r S e) [ inl same ↦ subst IsClosed same closed | inr next ↦ subst IsClosed next.1 (closed-next R r closed next.0) ]
+
+or_true : (b : Bool) → (b || true) ≡ true
+or_true true = refl
+or_true false = refl
+
+held_test : (R : Content) (r : Record) → Has R r → list_any (same_record r) R ≡ true
+held_test [] r h = absurd h
+held_test (s ∷ R) r h = elim h [
+  | inl e ↦ rw ((Decides-is_same record_code r s).1 (sym e)) refl
+  | inr k ↦ rw (held_test R r k) (or_true (same_record r s))
+]
+
+pub found_held : (R : Content) (r : Record) → Has R r → finding R r ≡ Holds
+found_held R r h =
+    let reached : nat_le r.number (vec R r.origin) ≡ true = le-leb _ _ (vec_bounds R r h) in
+    rw (reached, held_test R r h) refl
+
+pub adds_next : (R : Content) (r : Record) → (finding R r ≡ Adds) ↔ IsNext R r
+adds_next R r = (next_found R r, finding_next R r)
+
+pub learned_within : (R : Content) (r : Record) (S : Content) → learned R r ≡ Some S → IsWithin R S × Has S r
+learned_within R r S e = go (finding R r) refl e
+  where
+    go : (f : Finding) → finding R r ≡ f → after_finding R r f ≡ Some S → IsWithin R S × Has S r
+    go Adds p h = subst (λ T. IsWithin R T × Has T r) (same_Some _ _ h) (λ z k. has-put r R z (inr k), has-put r R r (inl refl))
+    go Holds p h = subst (λ T. IsWithin R T × Has T r) (same_Some _ _ h) (λ z k. k, holds_found R r p)
+    go Clash p h = absurd (none-some _ h)
+    go (Gap m n) p h = absurd (none-some _ h)
+    go TickTooFar p h = absurd (none-some _ h)
+    go TickNotRising p h = absurd (none-some _ h)
+
+pub learned_only : (R : Content) (r : Record) (S : Content) (z : Record) → learned R r ≡ Some S → Has S z → Has R z ⊎ (r ≡ z)
+learned_only R r S z e k = elim (learned_cases R r S e) [
+  | inl same ↦ inl (subst (λ T. Has T z) (sym same) k)
+  | inr next ↦ elim (has_from_put r R z (subst (λ T. Has T z) (sym next.1) k)) [ inl here ↦ inr here | inr there ↦ inl there ]
+]
+
+pub ruleset learning = (adds_next, holds_found, found_held, closed-learned, learned_within, learned_only)

@@ -8,4 +8,6 @@ pub mod LearnLemmas
 pub mod MissingLemmas
 pub mod FoundLemmas
 pub mod CutLemmas
+pub mod LatestLemmas
+pub mod Spelled
 pub mod CloseLemmas

@@ -5,7 +5,7 @@ use Rattle.std.proofs.lemmas.Bool.{true≢false, lt-ltb, ltb-true, ltb-false, eq
 use Rattle.std.proofs.lemmas.Bool.Decides.{nat_tests}
 use Rattle.std.proofs.lemmas.List.{take_all}
 use Rattle.std.proofs.lemmas.Int.{ints}
-use Rattle.stamp.specs.Stamp.{greatest}
+use Rattle.stamp.specs.Limits.{greatest}
 use Rattle.records.specs.declared.record.Record.{Record}
 use Rattle.records.specs.Lists.{sort_by, Has, Rises}
 use Rattle.records.specs.Records.{name_cmp, missing, is_beyond}
@@ -54,11 +54,11 @@ module _ (R S : Content) (x : Record) (xs : List Record) (closed : IsClosed R) (
       let reach : x.number ≤ vec S x.origin = vec_bounds S x here.0 in
       let positive = (closed'.ticks x here.0).0 in
       top_below (filter (λ s. eqb s.origin x.origin) R) x.tick (omega (arith, ints, positive)) (λ s h.
-        let k = has_from_filter (λ r. eqb r.origin x.origin) R s h in
-        let o : s.origin ≡ x.origin = eqb-true _ _ k.1 in
-        let le : s.number ≤ vec R x.origin = subst (λ p. s.number ≤ vec R p) o (vec_bounds R s k.0) in
-        let within : s.number ≤ vec S s.origin = subst (λ p. s.number ≤ vec S p) (sym o) (omega (arith, here.1)) in
-        closed'.rising s x (reached S R closed' closed (compatible_back _ _ same) s k.0 within) here.0 o (omega (arith, here.1)))
+      let k = has_from_filter (λ r. eqb r.origin x.origin) R s h in
+      let o : s.origin ≡ x.origin = eqb-true _ _ k.1 in
+      let le : s.number ≤ vec R x.origin = subst (λ p. s.number ≤ vec R p) o (vec_bounds R s k.0) in
+      let within : s.number ≤ vec S s.origin = subst (λ p. s.number ≤ vec S p) (sym o) (omega (arith, here.1)) in
+      closed'.rising s x (reached S R closed' closed (compatible_back _ _ same) s k.0 within) here.0 o (omega (arith, here.1)))
 
   small_tick : x.tick ≤ℤ (pos greatest)
   small_tick = (closed'.ticks x (in_beyond x (inl refl)).0).1
@@ -68,24 +68,24 @@ module _ (R S : Content) (x : Record) (xs : List Record) (closed : IsClosed R) (
 
   next_compatible : AreCompatible (put x R) S
   next_compatible q s h k e f = elim (has_from_put x R q h) [
-      | inl here ↦ subst (λ (r : Record). r ≡ s) here (named_once S closed'.ordered x s (in_beyond x (inl refl)).0 k (ap (λ (r : Record). r.origin) here ∙ e) (ap (λ (r : Record). r.number) here ∙ f))
-      | inr m ↦ same q s m k e f
-    ]
+    | inl here ↦ subst (λ (r : Record). r ≡ s) here (named_once S closed'.ordered x s (in_beyond x (inl refl)).0 k (ap (λ (r : Record). r.origin) here ∙ e) (ap (λ (r : Record). r.number) here ∙ f))
+    | inr m ↦ same q s m k e f
+  ]
 
   grown : (z : Record) → vec R z.origin ≤ vec (put x R) z.origin
   grown z = elim (cases_eq x.origin z.origin) [
-      | inl e ↦ let h = vec_put_same x R (omega (arith, first_number)) in subst (λ o. vec R o ≤ vec (put x R) o) e (omega (arith, first_number))
-      | inr other ↦ omega (arith, vec_put_other x R z.origin other)
-    ]
+    | inl e ↦ let h = vec_put_same x R (omega (arith, first_number)) in subst (λ o. vec R o ≤ vec (put x R) o) e (omega (arith, first_number))
+    | inr other ↦ omega (arith, vec_put_other x R z.origin other)
+  ]
 
   next_beyond : (z : Record) → Has xs z → vec (put x R) z.origin < z.number
   next_beyond z h =
       let further = (in_beyond z (inr h)).1 in
       elim (cases_eq x.origin z.origin) [
         | inl e ↦
-          let lt = name_less x z (all-has (λ y. name_cmp x y ≡ Less) xs z up.0 h) e in
-          let here = vec_put_same x R (omega (arith, first_number)) in
-          omega (arith, ap (vec (put x R)) e)
+            let lt = name_less x z (all-has (λ y. name_cmp x y ≡ Less) xs z up.0 h) e in
+            let here = vec_put_same x R (omega (arith, first_number)) in
+            omega (arith, ap (vec (put x R)) e)
         | inr other ↦ omega (arith, vec_put_other x R z.origin other)
       ]
 
@@ -94,15 +94,15 @@ module _ (R S : Content) (x : Record) (xs : List Record) (closed : IsClosed R) (
       same_members name_cmp name_total _ _ up.1 (pairwise-filter _ (is_beyond (vec (put x R))) S closed'.ordered)
       (λ z h. has-filter (is_beyond (vec (put x R))) S z (in_beyond z (inr h)).0 (lt-ltb _ _ (next_beyond z h)))
       (λ z h.
-        let k = has_from_filter (is_beyond (vec (put x R))) S z h in
-        let far = ltb-true _ _ k.1 in
-        elim (beyond_in z k.0 (omega (arith, grown z, far))) [
-          | inl e ↦
+      let k = has_from_filter (is_beyond (vec (put x R))) S z h in
+      let far = ltb-true _ _ k.1 in
+      elim (beyond_in z k.0 (omega (arith, grown z, far))) [
+        | inl e ↦
             let here : vec (put x R) x.origin ≡ x.number = vec_put_same x R (omega (arith, first_number)) in
             let there : vec (put x R) z.origin ≡ z.number = subst (λ (r : Record). vec (put x R) r.origin ≡ r.number) e here in
             absurd (omega (arith, far))
-          | inr m ↦ m
-        ])
+        | inr m ↦ m
+      ])
 
   next_join : join (put x R) S ≡ join R S
   next_join =
@@ -136,7 +136,7 @@ merged_beyond S [] R closed closed' same is = nothing_beyond R S closed closed' 
 merged_beyond S (x ∷ xs) R closed closed' same is =
     ap (λ o. option_map_or (merged xs) o R) (next_learned R S x xs closed closed' same is)
     ∙ (merged_beyond S xs (put x R) (next_closed R S x xs closed closed' same is) closed' (next_compatible R S x xs closed closed' same is) (next_rest R S x xs closed closed' same is)
-      ∙ next_join R S x xs closed closed' same is)
+    ∙ next_join R S x xs closed closed' same is)
 
 -- merging all that a peer has beyond the vector
 pub merged_missing : (R S : Content) (k : ℕ) → IsClosed R → IsClosed S → AreCompatible R S → length (filter (is_beyond (vec R)) S) ≤ k → merged (missing S (vec R) k) R ≡ join R S

@@ -3,7 +3,7 @@ use Rattle.std.proofs.Common.{◌≡◌, ℕ, ◌+◌, ◌≤◌, ◌<◌, eqb, 
 use Rattle.std.specs.Int.{int_max}
 use Rattle.std.proofs.lemmas.Bool.{true≢false, eq-eqb, eqb-true, ne_eqb, cases_eq, cases_lt, cases_Bool}
 use Rattle.std.proofs.lemmas.Int.{ints, clamps}
-use Rattle.stamp.specs.Stamp.{greatest}
+use Rattle.stamp.specs.Limits.{greatest}
 use Rattle.records.specs.declared.record.Record.{Record}
 use Rattle.records.specs.Lists.{Has, Rises}
 use Rattle.records.specs.Records.{name_cmp}
@@ -21,9 +21,9 @@ has_from_put r R z h = has_from_insert_sorted name_cmp name_total r R z h
 pub top_bounds : (R : Content) (r : Record) → Has R r → r.tick ≤ℤ top R
 top_bounds [] r h = absurd h
 top_bounds (s ∷ R) r h = elim h [
-    | inl e ↦ subst (λ (x : Record). x.tick ≤ℤ top (s ∷ R)) e (omega (arith, ints, clamps))
-    | inr k ↦ let more = top_bounds R r k in omega (arith, ints, clamps)
-  ]
+  | inl e ↦ subst (λ (x : Record). x.tick ≤ℤ top (s ∷ R)) e (omega (arith, ints, clamps))
+  | inr k ↦ let more = top_bounds R r k in omega (arith, ints, clamps)
+]
 
 pub top_positive : (R : Content) → pos 0 ≤ℤ top R
 top_positive [] = omega (arith, ints)
@@ -77,11 +77,11 @@ closed_put r R closed next rises within =
       numbers = λ z h. elim (has_from_put r R z h) [ inl e ↦ subst (λ (x : Record). 1 ≤ x.number) e (omega arith) | inr k ↦ closed.numbers z k ];
       whole = λ o n one le. elim (cases_eq r.origin o) [
         | inl e ↦
-          let bound : n ≤ r.number = omega (arith, subst (λ p. n ≤ vec (put r R) p) (sym e) le) in
-          elim (cases_eq n r.number) [
-            | inl same ↦ (r, has-put r R r (inl refl), record { from = e; numbered = sym same })
-            | inr apart ↦ let z = closed.whole o n one (subst (λ p. n ≤ vec R p) e (omega arith)) in (z.0, has-put r R z.0 (inr z.1), z.2)
-          ]
+            let bound : n ≤ r.number = omega (arith, subst (λ p. n ≤ vec (put r R) p) (sym e) le) in
+            elim (cases_eq n r.number) [
+              | inl same ↦ (r, has-put r R r (inl refl), record { from = e; numbered = sym same })
+              | inr apart ↦ let z = closed.whole o n one (subst (λ p. n ≤ vec R p) e (omega arith)) in (z.0, has-put r R z.0 (inr z.1), z.2)
+            ]
         | inr other ↦ let z = closed.whole o n one (omega (arith, vec_put_other r R o other)) in (z.0, has-put r R z.0 (inr z.1), z.2)
       ];
       ticks = λ z h. elim (has_from_put r R z h) [ inl e ↦ subst (λ (x : Record). (pos 1 ≤ℤ x.tick) × (x.tick ≤ℤ (pos greatest))) e (positive, within) | inr k ↦ closed.ticks z k ];
@@ -89,13 +89,13 @@ closed_put r R closed next rises within =
         | inl a ↦ elim (has_from_put r R z k) [
           | inl b ↦ absurd (omega (arith, ap (λ (x : Record). x.number) (sym a ∙ b)))
           | inr n ↦
-            let le : z.number ≤ vec R r.origin = subst (λ o. z.number ≤ vec R o) (sym (ap (λ (x : Record). x.origin) a ∙ e)) (vec_bounds R z n) in
-            absurd (omega (arith, ap (λ (x : Record). x.number) a))
+              let le : z.number ≤ vec R r.origin = subst (λ o. z.number ≤ vec R o) (sym (ap (λ (x : Record). x.origin) a ∙ e)) (vec_bounds R z n) in
+              absurd (omega (arith, ap (λ (x : Record). x.number) a))
         ]
         | inr m ↦ elim (has_from_put r R z k) [
           | inl b ↦
-            let le : y.tick ≤ℤ last_tick R r.origin = last_tick_bounds R y r.origin m (e ∙ sym (ap (λ (x : Record). x.origin) b)) in
-            subst (λ (x : Record). y.tick <ℤ x.tick) b (omega (arith, ints))
+              let le : y.tick ≤ℤ last_tick R r.origin = last_tick_bounds R y r.origin m (e ∙ sym (ap (λ (x : Record). x.origin) b)) in
+              subst (λ (x : Record). y.tick <ℤ x.tick) b (omega (arith, ints))
           | inr n ↦ closed.rising y z m n e lt
         ]
       ];

@@ -1,13 +1,14 @@
 -- Contents: what an archive holds, its merging, and where each record is found.
 use Rattle.std.specs.Prelude.{◌≡◌, ℕ, ◌+◌, ◌≤◌, ◌<◌, ◌==◌, nat_lt, nat_le, max, ℤ, pos, ◌+ℤ◌, ◌≤ℤ◌, ◌<ℤ◌, int_lt, int_le, Bool, true, false, not, if◌then◌else◌, List, [], ◌∷◌, ◌++◌, filter, slice_get, Option, Some, None, option_and_then, ◌⊎◌}
 use Rattle.std.specs.List.{list_any}
+use Rattle.std.specs.declared.cmp.Ordering.TheVariants.{Less}
 use Rattle.std.specs.Ordering.{is_eq}
 use Rattle.std.specs.Option.{option_map_or}
 use Rattle.std.specs.Int.{int_max}
-use Rattle.stamp.specs.Stamp.{greatest}
+use Rattle.stamp.specs.Limits.{greatest}
 use Rattle.records.specs.Lists.{insert_sorted, sort_by, Has, Rises}
 use Rattle.records.specs.Same.{same_record}
-use Rattle.records.specs.Records.{name_cmp, is_beyond, is_delete, story, current, entries}
+use Rattle.records.specs.Records.{name_cmp, stamp_cmp, is_beyond, is_delete, story, current, entries}
 use Rattle.records.specs.declared.record.Record.{Record}
 use Rattle.records.specs.declared.record.HistoryUpdateType.TheVariants.{Delete}
 use Rattle.records.specs.declared.shown.Held.{Held}
@@ -119,6 +120,15 @@ merged [] R = R
 merged (r ∷ rs) R = option_map_or (merged rs) (learned R r) R
 
 -- ---- where a record is found
+
+-- at its node and source time, no record has a greater stamp
+pub record IsLatest (R : Content) (r : Record) : Type 0 where
+  pub there : Has R r
+  pub above : (s : Record) → Has R s → s.node ≡ r.node → s.time ≡ r.time → (s ≡ r) ⊎ (stamp_cmp s r ≡ Less)
+
+-- another record stands at its node and source time
+abbrev pub HasOther : Content → Record → Type 0
+HasOther R r = (s : Record) × Has R s × (s.node ≡ r.node) × (s.time ≡ r.time) × (s ≡ r → ⊥)
 
 -- a record of a story is shown by the entry of the record behind it
 pub record IsShownAt (rs : List Record) (es : List Entry) (k : ℕ) (r : Record) : Type 0 where

@@ -2,3 +2,5 @@ pub mod Lists
 pub mod Same
 pub mod Records
 pub mod Contents
+pub mod Fault
+pub mod Spelling

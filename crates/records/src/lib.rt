@@ -4,16 +4,24 @@
 #![tactic(auto)]
 
 mod fault;
+mod fields;
 mod laws;
 mod record;
 mod shown;
+mod spelling;
 mod story;
 
 pub use fault::RecordFault;
 pub use laws::{
-    each_record_is_found, equal_vectors_mean_equal_contents, learning_what_is_missing_joins,
-    merging_is_a_join,
+    closed_contents_are_told_apart, current_is_the_latest, each_record_is_found,
+    equal_vectors_mean_equal_contents, formats_are_lawful, formats_are_prefix_free,
+    learning_keeps_contents_closed, learning_what_is_missing_joins, merging_is_a_join,
+    vectors_cut_contents,
 };
 pub use record::{HistoryUpdateType, Record};
 pub use shown::{Entry, Held};
+pub use spelling::{put_record, read_record};
 pub use story::{current_of, entries_of, missing_of};
+
+#[cfg(test)]
+mod tests;

@@ -2,12 +2,11 @@
 //! order is free.
 
 ghost use Rattle.std.specs.Prelude.{◌≡◌, ℕ, List, [], ◌∷◌, ◌++◌, length, filter, MatchResult, IfSome, IfOk, IsTrue, ◌↔◌};
-ghost use Rattle.stamp.specs.Stamp.{number_of};
+ghost use Rattle.stamp.specs.Numbers.{number_of};
 ghost use Rattle.records.specs.Lists.{IsApart};
 ghost use Rattle.records.specs.Records.{stamp_cmp, name_cmp, is_at, story, current, held, entries, entries_after, missing, is_beyond, is_delete, write, kind, entry, value_shown};
 ghost use Rattle.std.specs.Prelude.{None};
 ghost use Rattle.std.specs.Option.{option_copied};
-
 ghost use Rattle.records.specs.Same.{same_node};
 ghost use Rattle.records.specs.declared.fault.RecordFault.TheVariants as fault;
 
@@ -198,11 +197,7 @@ impl Record {
 }
 
 /// The records beyond a vector, in the order of the list.
-fn beyond(
-    alloc: Global,
-    records: &[Record],
-    vector: &Vector,
-) -> Result<Vec<Record>, AllocError>
+fn beyond(alloc: Global, records: &[Record], vector: &Vector) -> Result<Vec<Record>, AllocError>
     ensures { IfOk result (λ v. v.items ≡ filter (is_beyond (number_of vector.now)) records.now) }
 {
     let mut found = Vec::new(alloc);

@@ -1,5 +1,5 @@
 use Rattle.std.proofs.Common.{◌≡◌, take, filter}
-use Rattle.stamp.specs.Stamp.{number_of}
+use Rattle.stamp.specs.Numbers.{number_of}
 use Rattle.records.specs.Records.{is_beyond}
 use Rattle.records.proofs.story.beyond.Given as goal
 

@@ -1,5 +1,5 @@
 use Rattle.std.proofs.Common.{rules, take, ap, ◌∙◌}
-use Rattle.stamp.specs.Stamp.{number_of}
+use Rattle.stamp.specs.Numbers.{number_of}
 use Rattle.std.proofs.lemmas.List.Sorted.{answers_always}
 use Rattle.records.specs.Records.{name_cmp, is_beyond}
 use Rattle.records.proofs.Orders.{name_total}

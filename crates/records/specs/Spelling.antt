@@ -1,0 +1,160 @@
+-- A record as bytes, format 1: the byte 1, and its fields one after the other. Only the spelling that is written is one.
+use Rattle.std.specs.Prelude.{◌≡◌, ℕ, ◌+◌, ◌^◌, ◌<◌, ◌≤◌, nat_lt, nat_le, ◌==◌, ℤ, pos, ◌≤ℤ◌, int_le, Bool, true, not, ◌&&◌, ◌||◌, List, [], ◌++◌, length, Option, Some, None, is_some, unwrap_or, Result, Ok, Err, if◌then◌else◌}
+use Rattle.std.specs.Int.{w64}
+use Rattle.std.specs.Int.RustNames.{FitsSigned}
+use Rattle.std.specs.Str.{is_utf8, bytes_eq}
+use Rattle.stamp.specs.Limits.{greatest, IsReplica}
+use Rattle.ua_binary.specs.Format.{Format, byte, ◌▸◌, standing_for, passing, fitting, raised, whole, ◌>>=◌}
+use Rattle.ua_binary.specs.Binary.{unsigned, signed, text, node_id, IsNodeId, IsShortNode}
+use Rattle.ua_binary.specs.declared.values.NodeId.{NodeId}
+use Rattle.ua_variant.specs.declared.data.DataValue.{DataValue}
+use Rattle.ua_variant.specs.DataValue.{data_value, IsDataValue, IsShortData}
+use Rattle.records.specs.declared.fault.RecordFault.{RecordFault}
+use Rattle.records.specs.declared.fault.RecordFault.TheVariants.{Binary, BadField, NotCanonical}
+use Rattle.records.specs.declared.record.Record.{Record}
+use Rattle.records.specs.declared.record.HistoryUpdateType.{HistoryUpdateType}
+use Rattle.records.specs.declared.record.HistoryUpdateType.TheVariants.{Insert, Replace, Update, Delete}
+use Rattle.records.specs.Fault.{binary_fault, value_fault}
+use Rattle.records.specs.Records.{is_delete}
+
+-- ---- two formats of formats
+
+-- the spellings of at most so many bytes; a longer one is this fault
+abbrev pub at_most : {E A : Type 0} → ℕ → E → Format E A → Format E A
+at_most n e f = record {
+  Spells = λ bytes v. f.Spells bytes v × (length bytes ≤ n);
+  read = λ bytes. f.read bytes >>= λ a. if nat_lt (n + length a.1) (length bytes) then Err e else Ok a;
+  canon = f.canon;
+  Fits = λ v. f.Fits v × (length (f.canon v) ≤ n);
+}
+
+-- the spelling that is written, and no other; another is this fault
+abbrev pub canonical : {E A : Type 0} → E → Format E A → Format E A
+canonical e f = record {
+  Spells = λ bytes v. f.Spells bytes v × (bytes ≡ f.canon v);
+  read = λ bytes. f.read bytes >>= λ a. if bytes_eq bytes (f.canon a.0 ++ a.1) then Ok a else Err e;
+  canon = f.canon;
+  Fits = f.Fits;
+}
+
+-- ---- the fields
+
+-- the format's number
+abbrev pub version : Format RecordFault ℕ
+version = passing (λ n. n == 1) BadField (raised binary_fault byte)
+
+abbrev pub origin : Format RecordFault ℕ
+origin = passing (λ n. nat_le 1 n && nat_le n 64) BadField (raised binary_fault byte)
+
+abbrev pub number : Format RecordFault ℕ
+number = passing (λ n. nat_le 1 n && nat_le n greatest) BadField (raised binary_fault (unsigned w64))
+
+abbrev pub tick : Format RecordFault ℤ
+tick = passing (λ t. int_le (pos 1) t && int_le t (pos greatest)) BadField (raised binary_fault (signed w64))
+
+abbrev pub node : Format RecordFault NodeId
+node = raised binary_fault node_id
+
+abbrev pub time : Format RecordFault ℤ
+time = passing (λ t. int_le (pos 1) t) BadField (raised binary_fault (signed w64))
+
+abbrev pub number_of_asked : HistoryUpdateType → ℕ
+number_of_asked Insert = 1
+number_of_asked Replace = 2
+number_of_asked Update = 3
+number_of_asked Delete = 4
+
+abbrev pub asked_of_number : ℕ → HistoryUpdateType
+asked_of_number n = if n == 1 then Insert else if n == 2 then Replace else if n == 3 then Update else Delete
+
+abbrev pub asked : Format RecordFault HistoryUpdateType
+asked = standing_for asked_of_number number_of_asked (passing (λ n. nat_le 1 n && nat_le n 4) BadField (raised binary_fault byte))
+
+abbrev pub is_user : Option (List ℕ) → Bool
+is_user None = not true
+is_user (Some name) = nat_le (length name) 256
+
+-- a text that isn't null, of at most 256 bytes
+abbrev pub user : Format RecordFault (List ℕ)
+user = standing_for (λ name. unwrap_or name []) Some (passing is_user BadField (raised binary_fault text))
+
+-- a delete has the empty value; a write has one without source time, which is the record's
+abbrev pub is_value_for : HistoryUpdateType → DataValue → Bool
+is_value_for asked v = if is_delete asked then not (is_some v.value || is_some v.status || is_some v.source_time || is_some v.source_pico || is_some v.server_time || is_some v.server_pico) else not (is_some v.source_time)
+
+abbrev pub value : Format RecordFault DataValue
+value = raised value_fault data_value
+
+-- what stands before the value
+abbrev pub Front : Type 0
+Front = ℕ × (ℕ × (ℕ × (ℤ × (NodeId × (ℤ × (HistoryUpdateType × List ℕ))))))
+
+abbrev pub front : Format RecordFault Front
+front = version ▸ origin ▸ number ▸ tick ▸ node ▸ time ▸ asked ▸ user
+
+abbrev pub record_of : Front × DataValue → Record
+record_of p = record { origin = p.0.1.0; number = p.0.1.1.0; tick = p.0.1.1.1.0; node = p.0.1.1.1.1.0; time = p.0.1.1.1.1.1.0; asked = p.0.1.1.1.1.1.1.0; user = p.0.1.1.1.1.1.1.1; value = p.1 }
+
+-- a value with nothing in it, that of a delete
+abbrev pub empty : DataValue
+empty = record { value = None; status = None; source_time = None; source_pico = None; server_time = None; server_pico = None }
+
+abbrev pub parts_of : Record → Front × DataValue
+parts_of r = ((1, (r.origin, (r.number, (r.tick, (r.node, (r.time, (r.asked, r.user))))))), r.value)
+
+-- the fields one after the other, in any of their spellings
+unfoldable pub fields : Format RecordFault Record
+fields = passing (λ r. is_value_for r.asked r.value) BadField (standing_for record_of parts_of (front ▸ value))
+
+-- ---- the record
+
+-- the most bytes of a record
+abbrev pub longest : ℕ
+longest = 1048576
+
+-- what a record has to be, its tick aside, to have a spelling
+pub record IsLawfulRecord (r : Record) : Type 0 where
+  pub origin : IsReplica r.origin
+  pub number : (1 ≤ r.number) × (r.number ≤ greatest)
+  pub node : IsNodeId r.node
+  pub time : (pos 1 ≤ℤ r.time) × FitsSigned w64 r.time
+  pub user : (length r.user ≤ 256) × (is_utf8 r.user ≡ true)
+  pub value : IsDataValue r.value
+  pub suits : is_value_for r.asked r.value ≡ true
+  pub size : length (fields.canon r) ≤ longest
+
+-- its parts have spellings: so have those of each record in memory that is short enough
+pub record HasSpelledParts (r : Record) : Type 0 where
+  pub origin : IsReplica r.origin
+  pub node : IsNodeId r.node
+  pub time : FitsSigned w64 r.time
+  pub user : is_utf8 r.user ≡ true
+  pub value : IsDataValue r.value
+
+abbrev pub IsTick : ℤ → Type 0
+IsTick t = (pos 1 ≤ℤ t) × (t ≤ℤ pos greatest)
+
+-- what has a spelling
+abbrev pub IsRecord : Record → Type 0
+IsRecord r = IsLawfulRecord r × IsTick r.tick
+
+-- the fields as they are written, and at most so many bytes of them
+unfoldable pub record_form : Format RecordFault Record
+record_form = fitting IsRecord (canonical NotCanonical (at_most longest BadField fields))
+
+-- the record that all of the bytes spell: the fields are judged first, then that nothing follows, then the size, and that they are spelled as they are written comes last
+abbrev pub record_at : List ℕ → Result Record RecordFault
+record_at bytes =
+    whole Binary fields bytes >>= λ r.
+    if nat_lt longest (length bytes) then Err BadField
+    else if bytes_eq bytes (fields.canon r) then Ok r
+    else Err NotCanonical
+
+-- a call gave this answer, or met this fault, of its own making
+abbrev pub GivesUnless : {E A : Type 0} → E → Result A E → Result A E → Type 0
+GivesUnless memory (Ok v) given = given ≡ Ok v
+GivesUnless memory (Err e) given = (e ≡ memory → ⊥) → given ≡ Err e
+
+-- its texts, byte strings and arrays are few enough to be counted
+abbrev pub IsShortRecord : Record → Type 0
+IsShortRecord r = IsShortNode r.node × (length r.user < 2 ^ 31) × IsShortData r.value

@@ -1,0 +1,146 @@
+//! The fields of a record.
+
+ghost use Rattle.std.specs.Prelude.{◌≡◌};
+ghost use Rattle.ua_binary.specs.Format.{Reads, ReadsPart};
+ghost use Rattle.records.specs.declared.fault.RecordFault.TheVariants as fault;
+ghost use Rattle.records.specs.Spelling.{version, origin, number, tick, time, asked, user, front, empty};
+
+use crate::fault::RecordFault;
+use crate::record::{HistoryUpdateType, Record};
+use stamp::{GREATEST_NUMBER, GREATEST_TICK, ReplicaNo};
+use std::alloc::Global;
+use ua_binary::{Cursor, Text};
+use ua_variant::DataValue;
+
+fn read_version(cursor: &mut Cursor<'_>) -> Result<u8, RecordFault>
+    ensures { Reads (λ v. v) result cursor.old cursor.new version.read }
+{
+    let mut next = cursor.fork();
+    let version = next.u8()?;
+    if version != 1 {
+        return Err(RecordFault::BadField);
+    }
+    *cursor = next;
+    Ok(version)
+}
+
+fn read_origin(cursor: &mut Cursor<'_>) -> Result<ReplicaNo, RecordFault>
+    ensures { Reads (λ v. v) result cursor.old cursor.new origin.read }
+{
+    let mut next = cursor.fork();
+    let number = next.u8()?;
+    let Some(origin) = ReplicaNo::new(number) else {
+        return Err(RecordFault::BadField);
+    };
+    *cursor = next;
+    Ok(origin)
+}
+
+fn read_number(cursor: &mut Cursor<'_>) -> Result<u64, RecordFault>
+    ensures { Reads (λ v. v) result cursor.old cursor.new number.read }
+{
+    let mut next = cursor.fork();
+    let number = next.u64()?;
+    if number < 1 || number > GREATEST_NUMBER {
+        return Err(RecordFault::BadField);
+    }
+    *cursor = next;
+    Ok(number)
+}
+
+fn read_tick(cursor: &mut Cursor<'_>) -> Result<i64, RecordFault>
+    ensures { Reads (λ v. v) result cursor.old cursor.new tick.read }
+{
+    let mut next = cursor.fork();
+    let tick = next.i64()?;
+    if tick < 1 || tick > GREATEST_TICK {
+        return Err(RecordFault::BadField);
+    }
+    *cursor = next;
+    Ok(tick)
+}
+
+fn read_time(cursor: &mut Cursor<'_>) -> Result<i64, RecordFault>
+    ensures { Reads (λ v. v) result cursor.old cursor.new time.read }
+{
+    let mut next = cursor.fork();
+    let time = next.i64()?;
+    if time < 1 {
+        return Err(RecordFault::BadField);
+    }
+    *cursor = next;
+    Ok(time)
+}
+
+fn read_asked(cursor: &mut Cursor<'_>) -> Result<HistoryUpdateType, RecordFault>
+    ensures { Reads (λ v. v) result cursor.old cursor.new asked.read }
+{
+    let mut next = cursor.fork();
+    let asked = match next.u8()? {
+        1 => HistoryUpdateType::Insert,
+        2 => HistoryUpdateType::Replace,
+        3 => HistoryUpdateType::Update,
+        4 => HistoryUpdateType::Delete,
+        _ => return Err(RecordFault::BadField),
+    };
+    *cursor = next;
+    Ok(asked)
+}
+
+fn read_user<'a>(cursor: &mut Cursor<'a>) -> Result<&'a str, RecordFault>
+    ensures { Reads (λ v. v.now) result cursor.old cursor.new user.read }
+{
+    let mut next = cursor.fork();
+    let Some(user) = next.text()? else {
+        return Err(RecordFault::BadField);
+    };
+    if user.len() > 256 {
+        return Err(RecordFault::BadField);
+    }
+    *cursor = next;
+    Ok(user)
+}
+
+/// The value of a delete, with nothing in it.
+fn no_value() -> DataValue
+    ensures { result ≡ empty }
+{
+    DataValue {
+        value: None,
+        status: None,
+        source_time: None,
+        source_pico: None,
+        server_time: None,
+        server_pico: None,
+    }
+}
+
+impl Record {
+    ghost use Rattle.records.specs.Spelling.{parts_of, empty};
+
+    /// Reads the fields before the value, which is left empty. An error leaves the cursor anywhere.
+    pub fn read_front(alloc: Global, cursor: &mut Cursor<'_>) -> Result<Record, RecordFault>
+        ensures { ReadsPart fault.OutOfMemory (λ r. (parts_of r).0) result cursor.old cursor.new front.read }
+    {
+        read_version(cursor)?;
+        let origin = read_origin(cursor)?;
+        let number = read_number(cursor)?;
+        let tick = read_tick(cursor)?;
+        let node = cursor.node_id()?;
+        let time = read_time(cursor)?;
+        let asked = read_asked(cursor)?;
+        let user = read_user(cursor)?;
+        let node = node.to_owned(alloc)?;
+        let user = Text::from_str(alloc, user)?;
+        Ok(Record {
+            origin,
+            number,
+            tick,
+            node,
+            time,
+            asked,
+            user,
+            value: no_value(),
+        })
+    }
+}

@@ -1,0 +1,142 @@
+//! Records as bytes, format 1: the byte 1, the fields, and nothing that is spelled in another way
+//! than it is written.
+
+ghost use Rattle.std.specs.Prelude.{◌≡◌, ◌<◌, ◌^◌, ℕ, List, length, IfOk, MatchResult, true};
+ghost use Rattle.std.specs.Str.{bytes_eq};
+ghost use Rattle.ua_binary.specs.Format.{Puts, PutsPart, ReadsUnless};
+ghost use Rattle.records.specs.declared.fault.RecordFault.TheVariants as fault;
+ghost use Rattle.records.specs.Spelling.{is_value_for, fields, record_form, record_at, front, parts_of, IsRecord, IsShortRecord, GivesUnless, HasSpelledParts};
+ghost use Rattle.std.specs.Int.{w64};
+ghost use Rattle.std.specs.Int.RustNames.{FitsSigned};
+ghost use Rattle.std.specs.Str.{is_utf8};
+ghost use Rattle.stamp.specs.Limits.{IsReplica};
+ghost use Rattle.ua_binary.specs.Binary.{IsNodeId, IsShortNode};
+
+use crate::fault::RecordFault;
+use crate::record::{HistoryUpdateType, Record};
+use std::alloc::Global;
+use ua_binary::{BinaryFault, Cursor, or_undone, put_i64, put_node_id, put_text, put_u8, put_u64};
+use ua_variant::{DataValue, put_data_value, read_data_value};
+
+/// The most bytes of a record.
+const LONGEST: usize = 1_048_576;
+
+/// Whether a delete's value is the empty one, and a write's has no source time.
+fn is_value_for(asked: HistoryUpdateType, v: &DataValue) -> bool
+    ensures { result ≡ is_value_for asked v.now }
+{
+    if asked != HistoryUpdateType::Delete {
+        return v.source_time.is_none();
+    }
+    let values = v.value.is_some() || v.status.is_some();
+    let source = v.source_time.is_some() || v.source_pico.is_some();
+    let server = v.server_time.is_some() || v.server_pico.is_some();
+    !(values || source || server)
+}
+
+/// Reads the fields, in any of their spellings. An error leaves the cursor where it was.
+#[tactic(auto, unfolding(crate::specs::Spelling::fields))]
+fn read_fields(alloc: Global, cursor: &mut Cursor<'_>) -> Result<Record, RecordFault>
+    ensures reads { ReadsUnless fault.OutOfMemory (λ r. r) result cursor.old cursor.new fields.read }
+    ensures short { IfOk result IsShortRecord }
+{
+    let mut next = cursor.fork();
+    let mut record = Record::read_front(alloc, &mut next)?;
+    record.value = read_data_value(alloc, &mut next)?;
+    if !is_value_for(record.asked, &record.value) {
+        return Err(RecordFault::BadField);
+    }
+    *cursor = next;
+    Ok(record)
+}
+
+impl HistoryUpdateType {
+    ghost use Rattle.records.specs.Spelling.{number_of_asked};
+
+    /// Its number, from 1 to 4 (Part 11, HistoryUpdateType).
+    pub fn number(self) -> u8
+        ensures { result ≡ number_of_asked self }
+    {
+        match self {
+            HistoryUpdateType::Insert => 1,
+            HistoryUpdateType::Replace => 2,
+            HistoryUpdateType::Update => 3,
+            HistoryUpdateType::Delete => 4,
+        }
+    }
+}
+
+#[tactic(auto, using(ua_binary::proofs::Kept::kept))]
+fn put_front(out: &mut Vec<u8>, r: &Record) -> Result<(), BinaryFault>
+    requires node { IsShortNode r.now.node }
+    requires user { length r.now.user < 2 ^ 31 }
+    ensures puts { PutsPart BinaryFault.OutOfMemory result out.old.items out.new.items (front.canon (parts_of r.now).0) }
+    ensures spelled { IfOk result (λ _. IsReplica r.now.origin × IsNodeId r.now.node × FitsSigned w64 r.now.time × (is_utf8 r.now.user ≡ true)) }
+{
+    put_u8(out, 1)?;
+    put_u8(out, r.origin.get())?;
+    put_u64(out, r.number)?;
+    put_i64(out, r.tick)?;
+    put_node_id(out, &r.node)?;
+    let time = &r.time;
+    put_i64(out, *time)?;
+    put_u8(out, r.asked.number())?;
+    put_text(out, Some(r.user.as_str()))?;
+    Ok(())
+}
+
+#[tactic(auto, using(ua_binary::proofs::Kept::kept), unfolding(crate::specs::Spelling::fields))]
+fn put_fields(out: &mut Vec<u8>, r: &Record) -> Result<(), BinaryFault>
+    requires { IsShortRecord r.now }
+    ensures puts { PutsPart BinaryFault.OutOfMemory result out.old.items out.new.items (fields.canon r.now) }
+    ensures spelled { IfOk result (λ _. HasSpelledParts r.now) }
+{
+    put_front(out, r)?;
+    put_data_value(out, &r.value)?;
+    Ok(())
+}
+
+/// Whether a record is written as these bytes.
+fn is_written_so(alloc: Global, r: &Record, bytes: &[u8]) -> Result<bool, RecordFault>
+    requires { IsShortRecord r.now }
+    ensures same { MatchResult result (λ same. same ≡ bytes_eq bytes.now (fields.canon r.now)) (λ e. e ≡ fault.OutOfMemory) }
+    ensures spelled { IfOk result (λ _. HasSpelledParts r.now) }
+{
+    let mut out = Vec::new(alloc);
+    put_fields(&mut out, r)?;
+    Ok(bytes == out.as_slice())
+}
+
+/// Reads the record that all of the bytes spell. The fields are judged one after the other: one that
+/// isn't spelled is `Binary`, one outside its limits `BadField`. Then bytes behind the record are
+/// `Binary`, more than 1,048,576 of them `BadField`, and another spelling than the one that is written
+/// is `NotCanonical`. `OutOfMemory` may come at any of these. What is read may be written.
+pub fn read_record(alloc: Global, bytes: &[u8]) -> Result<Record, RecordFault>
+    ensures reads { GivesUnless fault.OutOfMemory result (record_at bytes.now) }
+    ensures lawful { IfOk result IsRecord }
+{
+    let mut cursor = Cursor::new(bytes);
+    let r = read_fields(alloc, &mut cursor)?;
+    if !cursor.rest().is_empty() {
+        return Err(RecordFault::Binary);
+    }
+    if bytes.len() > LONGEST {
+        return Err(RecordFault::BadField);
+    }
+    if !is_written_so(alloc, &r, bytes)? {
+        return Err(RecordFault::NotCanonical);
+    }
+    Ok(r)
+}
+
+/// Writes a record, format 1. Its one error is `OutOfMemory`, and then the vector is as it was.
+#[tactic(auto, using(crate::proofs::Spelled::record_short), unfolding(crate::specs::Spelling::record_form))]
+pub fn put_record(out: &mut Vec<u8>, r: &Record) -> Result<(), RecordFault>
+    requires { IsRecord r.now }
+    ensures { Puts fault.OutOfMemory result out.old.items out.new.items (record_form.canon r.now) }
+{
+    let len = out.len();
+    let put = put_fields(out, r);
+    or_undone(put, out, len)?;
+    Ok(())
+}
