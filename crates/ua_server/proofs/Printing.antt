@@ -1,5 +1,5 @@
 -- A line is printed in two writes.
-use Rattle.std.proofs.Common.{◌≡◌, ℕ, ℤ, Bool, true, List, [], ◌++◌, Some, None, Err, refl, sym, ◌∙◌, ap, subst, inl, append_assoc, IsUtf8}
+use Rattle.std.proofs.Common.{◌≡◌, ℕ, ℤ, Bool, true, List, [], ◌++◌, Some, None, Ok, Err, IfErr, OnErr, refl, sym, ◌∙◌, ap, subst, inl, append_assoc, IsUtf8}
 use Rattle.std.proofs.lemmas.List.{append-nil}
 use Rattle.clap.specs.Words.{Row, Text}
 use Rattle.std.specs.Prelude.{Option, Result}
@@ -26,6 +26,11 @@ part-first old written first second part = (part.0, part.1 ++ second, ap (λ b. 
 pub part-second : (old middle written : Option (List ℕ)) (first second : List ℕ) → Appends old middle first → AppendsPart middle written second → AppendsPart old written (first ++ second)
 part-second old middle written first second whole part =
     (first ++ part.0, part.1, ap (λ b. first ++ b) part.2 ∙ sym (append_assoc first part.0 part.1), Appends-trans old middle written first part.0 whole part.3)
+
+-- the second part failed, which was written in parts itself
+pub part-rest : {T : Type 0} (result : Result T ServeFault) (old middle written : Option (List ℕ)) (first second : List ℕ) → Appends old middle first → IfErr result (λ fault. (fault ≡ Write) × AppendsPart middle written second) → OnErr result (AppendsPart old written (first ++ second))
+part-rest (Ok done) old middle written first second whole part = tt
+part-rest (Err fault) old middle written first second whole part = part-second old middle written first second whole part.1
 
 -- ---- why no digits were made
 

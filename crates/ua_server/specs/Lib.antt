@@ -1,3 +1,4 @@
+pub mod Tally
 pub mod Bytes
 pub mod Outcome
 pub mod Readings

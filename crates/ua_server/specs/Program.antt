@@ -1,5 +1,5 @@
 -- What a run of the program prints, and its exit status.
-use Rattle.std.specs.Prelude.{◌≡◌, ℕ, ℤ, List, [], ◌∷◌, ◌++◌, Option, None, Some, Result, Ok, Err, IsErr, Bool, true, false, ◌⊎◌}
+use Rattle.std.specs.Prelude.{◌≡◌, ℕ, ℤ, List, [], ◌∷◌, ◌++◌, Option, None, Some, Result, Ok, Err, IsErr, Bool, true, false, ◌⊎◌, codes}
 use Rattle.std.specs.Io.KnownBytes.{Appends}
 use Rattle.std.specs.Str.{IsUtf8}
 use Rattle.hex.specs.Hex.{encode_upper, decode_of}
@@ -7,7 +7,8 @@ use Rattle.ua_server.specs.declared.outcome.Served.{Served}
 use Rattle.ua_server.specs.declared.outcome.ServeFault.TheVariants.{Read, Write, TooLong, OutOfMemory}
 use Rattle.ua_server.specs.declared.program.ProgramFault.{ProgramFault}
 use Rattle.ua_server.specs.declared.program.ProgramFault.TheVariants.{Line, BadHex, Connection}
-use Rattle.ua_server.specs.Bytes.{AppendsPart}
+use Rattle.ua_server.specs.Bytes.{AppendsPart, counted}
+use Rattle.ua_server.specs.Tally.{Tally}
 use Rattle.ua_server.specs.Replies.{Ending}
 use Rattle.ua_server.specs.Hexed.{AnswersText, digits_of}
 use Rattle.ua_server.specs.Serving.{Serves}
@@ -26,6 +27,30 @@ fault_status (Connection fault) = 1
 abbrev pub status_of : Result (Unit {0}) ProgramFault → ℕ
 status_of (Ok done) = 0
 status_of (Err fault) = fault_status fault
+
+-- the text that tells a refused command line
+abbrev pub line_text_of : LineFault → List ℕ
+line_text_of Words = codes "usage: uahist answer [--hex]"
+line_text_of NoMemory = codes "memory ran out before the command began"
+
+-- the text that tells a fault
+abbrev pub text_of : ProgramFault → List ℕ
+text_of (Line fault) = line_text_of fault
+text_of BadHex = codes "bad hex"
+text_of (Connection Read) = codes "connection ended (1)"
+text_of (Connection Write) = codes "connection ended (2)"
+text_of (Connection TooLong) = codes "connection ended (3)"
+text_of (Connection OutOfMemory) = codes "connection ended (4)"
+
+-- the line that standard error has of it
+abbrev pub error_line : ProgramFault → List ℕ
+error_line fault = codes "uahist: " ++ (text_of fault ++ 10 ∷ [])
+
+-- the whole line was written, or a first part of it, and one call more failed
+abbrev pub IsTold : {W : Type 0} → (W → Option (List ℕ)) → Tally W → Tally W → List ℕ → Type 0
+IsTold contents old new line =
+    (Appends (contents old.inner) (contents new.inner) line × (new.faults ≡ old.faults))
+    ⊎ (AppendsPart (contents old.inner) (contents new.inner) line × (new.faults ≡ counted old.faults))
 
 -- a connection ended so
 abbrev pub EndsAs : (Ending → Type 0) → Result (Unit {0}) ProgramFault → Type 0

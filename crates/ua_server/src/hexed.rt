@@ -74,7 +74,8 @@ pub fn answer_hex<C: Clock>(
         // memory's reader and writer fail for want of memory alone
         Err(_) => return Err(HexFault::Serve(ServeFault::OutOfMemory)),
     };
-    let Ok(answer) = hex::encode_upper(alloc, writer.inner.as_slice()) else {
+    let written = writer.into_inner();
+    let Ok(answer) = hex::encode_upper(alloc, written.as_slice()) else {
         return Err(HexFault::Serve(ServeFault::OutOfMemory));
     };
     match out.extend_from_slice(answer.as_bytes()) {

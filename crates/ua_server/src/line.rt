@@ -9,7 +9,8 @@ use clap::error::ErrorKind;
 use clap::{Arg, ArgAction, Command};
 use std::alloc::{AllocError, Global};
 use std::convert::AsStr;
-use thiserror::Error;
+use std::error::Error;
+use std::fmt;
 
 /// What the program is asked to do.
 #[derive(Clone, Copy, Debug, PartialEq, Eq)]
@@ -19,15 +20,40 @@ pub enum Line {
 }
 
 /// Why a command line is no command.
-#[derive(Clone, Copy, Debug, PartialEq, Eq, Error)]
+#[derive(Clone, Copy, Debug, PartialEq, Eq)]
 pub enum LineFault {
     /// The words are no command of the program's, or ask for help.
-    #[error("usage: uahist answer [--hex]")]
     Words,
     /// Memory ran out.
-    #[error("memory ran out before the command began")]
     OutOfMemory,
 }
+
+impl LineFault {
+    ghost use Rattle.ua_server.specs.Program.{line_text_of};
+
+    /// The text that tells it.
+    pub fn text(self) -> &'static str
+        ensures { result.now ≡ line_text_of self }
+    {
+        match self {
+            LineFault::Words => "usage: uahist answer [--hex]",
+            LineFault::OutOfMemory => "memory ran out before the command began",
+        }
+    }
+}
+
+impl fmt::Display for LineFault {
+    ghost use Rattle.std.specs.Prelude.{Some};
+    ghost use Rattle.ua_server.specs.Program.{line_text_of};
+
+    ghost output = { λ fault. Some (line_text_of fault) };
+
+    fn fmt<W: fmt::Write>(&self, f: &mut fmt::Formatter<W>) -> fmt::Result {
+        f.write_str(self.text())
+    }
+}
+
+impl Error for LineFault {}
 
 /// The program's commands and their options.
 fn command<'a>(alloc: Global) -> Result<Command<'a>, AllocError>

@@ -1,10 +1,10 @@
 //! The program, over any reader and writers.
 
-ghost use Rattle.std.specs.Prelude.{◌≡◌, ◌+◌, ℕ, ℤ, List, [], ◌∷◌, ◌++◌, IfOk, IfErr, OnOk, OnErr, IsErrOf, map};
+ghost use Rattle.std.specs.Prelude.{◌≡◌, ◌+◌, ℕ, ℤ, List, [], ◌∷◌, ◌++◌, IfOk, IfErr, OnOk, OnErr, IsErrOf, map, codes};
 ghost use Rattle.std.specs.Io.KnownBytes.{Appends, Consumes, IsAtEnd};
 ghost use Rattle.ua_server.specs.Bytes.{counted, AppendsPart};
 ghost use Rattle.ua_server.specs.Serving.{Serves};
-ghost use Rattle.ua_server.specs.Program.{status_of, EndsAs, AnswersDigits, MakesDigits, PrintsHex, Runs};
+ghost use Rattle.ua_server.specs.Program.{status_of, EndsAs, AnswersDigits, MakesDigits, PrintsHex, Runs, IsTold, error_line};
 ghost use Rattle.clap.specs.Words.{subcommand_of};
 ghost use Rattle.clap.specs.Takes.{takes};
 ghost use Rattle.ua_server.specs.Line.{uahist};
@@ -18,22 +18,51 @@ use crate::server::Server;
 use crate::serving::serve;
 use std::alloc::Global;
 use std::convert::AsStr;
+use std::error::Error;
+use std::fmt;
 use std::io::{Read, Write};
-use thiserror::Error;
 
 /// What went wrong in a run of the program.
-#[derive(Clone, Copy, Debug, PartialEq, Eq, Error)]
+#[derive(Clone, Copy, Debug, PartialEq, Eq)]
 pub enum ProgramFault {
     /// The command line is no command.
-    #[error("{0}")]
     Line(LineFault),
     /// The input isn't hex.
-    #[error("bad hex")]
     BadHex,
     /// A connection met a fault.
-    #[error("connection ended ({})", .0.number())]
     Connection(ServeFault),
 }
+
+impl ProgramFault {
+    ghost use Rattle.ua_server.specs.Program.{text_of};
+
+    /// The text that tells it: of a connection's fault its number.
+    pub fn text(self) -> &'static str
+        ensures { result.now ≡ text_of self }
+    {
+        match self {
+            ProgramFault::Line(fault) => fault.text(),
+            ProgramFault::BadHex => "bad hex",
+            ProgramFault::Connection(ServeFault::Read) => "connection ended (1)",
+            ProgramFault::Connection(ServeFault::Write) => "connection ended (2)",
+            ProgramFault::Connection(ServeFault::TooLong) => "connection ended (3)",
+            ProgramFault::Connection(ServeFault::OutOfMemory) => "connection ended (4)",
+        }
+    }
+}
+
+impl fmt::Display for ProgramFault {
+    ghost use Rattle.std.specs.Prelude.{Some};
+    ghost use Rattle.ua_server.specs.Program.{text_of};
+
+    ghost output = { λ fault. Some (text_of fault) };
+
+    fn fmt<W: fmt::Write>(&self, f: &mut fmt::Formatter<W>) -> fmt::Result {
+        f.write_str(self.text())
+    }
+}
+
+impl Error for ProgramFault {}
 
 /// The bytes that one read of a text asks for.
 const PIECE: usize = 4096;
@@ -104,6 +133,7 @@ fn hex_answer<R: Read, C: Clock>(
 /// Writes a line.
 fn print_line<W: Write>(line: &[u8], output: &mut Counted<W>) -> Result<(), ServeFault>
     ensures ok { OnOk result (Appends (W.contents output.old.inner) (W.contents output.new.inner) (line.now ++ 10 ∷ [])) }
+    ensures kept { OnOk result (output.new.faults ≡ output.old.faults) }
     ensures write { OnErr result (output.new.faults ≡ counted output.old.faults) }
     ensures part { IfErr result (λ fault. (fault ≡ ServeFault.Write) × AppendsPart (W.contents output.old.inner) (W.contents output.new.inner) (line.now ++ 10 ∷ [])) }
 {
@@ -158,17 +188,31 @@ pub fn run<S: AsStr, R: Read, W: Write, C: Clock>(
     }
 }
 
+/// Writes a line that begins with `uahist: `.
+fn tell<W: Write>(text: &[u8], errors: &mut Counted<W>) -> Result<(), ServeFault>
+    ensures ok { OnOk result (Appends (W.contents errors.old.inner) (W.contents errors.new.inner) (codes "uahist: " ++ (text.now ++ 10 ∷ []))) }
+    ensures kept { OnOk result (errors.new.faults ≡ errors.old.faults) }
+    ensures part { OnErr result (AppendsPart (W.contents errors.old.inner) (W.contents errors.new.inner) (codes "uahist: " ++ (text.now ++ 10 ∷ []))) }
+    ensures write { OnErr result (errors.new.faults ≡ counted errors.old.faults) }
+{
+    match errors.send(b"uahist: ") {
+        Ok(()) => print_line(text, errors),
+        Err(fault) => Err(fault),
+    }
+}
+
 /// Tells on `errors` what went wrong, in a line that begins with `uahist: `, and answers the exit status: 0 where nothing
-/// did, 1 where a connection ended by a fault, 2 where the command line or the input was refused. A line that can't be
-/// written is left out.
-pub fn report<W: Write>(ending: Result<(), ProgramFault>, errors: &mut W) -> u8
+/// did, 1 where a connection ended by a fault, 2 where the command line or the input was refused. Of a line that can't be
+/// written whole a first part stands, and the failed call is counted.
+pub fn report<W: Write>(ending: Result<(), ProgramFault>, errors: &mut Counted<W>) -> u8
     ensures status { result ≡ status_of ending }
     ensures silent { OnOk ending (errors.new ≡ errors.old) }
+    ensures told { IfErr ending (λ fault. IsTold W.contents errors.old errors.new (error_line fault)) }
 {
     let Err(fault) = ending else {
         return 0;
     };
-    let _ = writeln!(errors, "uahist: {fault}");
+    let _ = tell(fault.text().as_bytes(), errors);
     match fault {
         ProgramFault::Line(_) | ProgramFault::BadHex => 2,
         ProgramFault::Connection(_) => 1,

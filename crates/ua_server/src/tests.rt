@@ -216,10 +216,10 @@ fn serves_in_pieces(rt: HostRuntime) -> Result<(), Fail> {
             );
             assert!(rt; result == ending, "{count}");
             assert_eq!(rt;
-                (reader.faults, writer.faults),
+                (reader.faults(), writer.faults()),
                 (if fails { 1 } else { 0 }, 0)
             );
-            assert!(rt; Some(writer.inner.as_slice()) == want, "{count}");
+            assert!(rt; Some(writer.into_inner().as_slice()) == want, "{count}");
         }
     }
     for room in 0..29 {
@@ -246,11 +246,11 @@ fn serves_in_pieces(rt: HostRuntime) -> Result<(), Fail> {
             "{room}"
         );
         assert_eq!(rt;
-            (reader.faults, writer.faults),
+            (reader.faults(), writer.faults()),
             (0, if fails { 1 } else { 0 })
         );
         assert!(rt;
-            Some(writer.inner.bytes.as_slice()) == ack.get(..room),
+            Some(writer.into_inner().bytes.as_slice()) == ack.get(..room),
             "{room}"
         );
     }
@@ -282,7 +282,7 @@ fn told(
     input: &[u8],
     room: usize,
 ) -> Result<(Vec<u8>, Vec<u8>, u8), Fail> {
-    let mut errors = Vec::new(alloc);
+    let mut errors = Counted::new(Vec::new(alloc));
     let mut reader = Counted::new(input);
     let mut writer = Counted::new(Narrow {
         bytes: Vec::new(alloc),
@@ -290,7 +290,7 @@ fn told(
     });
     let ending = run(alloc, words, &mut reader, &mut writer, &mut clock());
     let status = report(ending, &mut errors);
-    Ok((writer.inner.bytes, errors, status))
+    Ok((writer.into_inner().bytes, errors.into_inner(), status))
 }
 
 #[test]
@@ -380,7 +380,7 @@ fn tells_each_fault(rt: HostRuntime) -> Result<(), Fail> {
         fails: true,
     });
     let mut writer = Counted::new(Vec::new(rt.alloc()));
-    let mut errors = Vec::new(rt.alloc());
+    let mut errors = Counted::new(Vec::new(rt.alloc()));
     let ending = run(
         rt.alloc(),
         &["uahist", "answer", "--hex"],
@@ -398,7 +398,7 @@ fn tells_each_fault(rt: HostRuntime) -> Result<(), Fail> {
     }
     let want =
         "uahist: connection ended (1)\nuahist: connection ended (3)\nuahist: connection ended (4)\nuahist: memory ran out before the command began\n";
-    assert!(rt; errors.as_slice() == want.as_bytes());
+    assert!(rt; errors.into_inner().as_slice() == want.as_bytes());
     chunks_are_counted();
     assert_eq!(rt; clock().now(), 116_444_736_000_000_000);
     assert_eq!(rt;
