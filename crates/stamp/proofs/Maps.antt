@@ -10,10 +10,13 @@ use Rattle.stamp.specs.Numbers.{number_of, IsVector, zeros}
 pub number_at : (numbers : List ℕ) (place replica : ℕ) → place + 1 ≡ replica → number_of numbers replica ≡ get_or numbers place 0
 number_at numbers place replica e = let s : replica ≡ suc place = omega arith in rw s refl
 
-pub same_vectors : (a b : List ℕ) → IsVector a → IsVector b → ((replica : ℕ) → number_of a replica ≡ number_of b replica) → a ≡ b
-same_vectors a b p q same =
+pub same_numbers : (a b : List ℕ) → length a ≡ length b → ((replica : ℕ) → number_of a replica ≡ number_of b replica) → a ≡ b
+same_numbers a b long same =
     let one : (i : ℕ) → i < length a → get_or a i 0 ≡ get_or b i 0 = λ i _. sym (number_at a i (i + 1) refl) ∙ same (i + 1) ∙ number_at b i (i + 1) refl in
-    ext_get_or 0 a b (p.whole ∙ sym q.whole) one
+    ext_get_or 0 a b long one
+
+pub same_vectors : (a b : List ℕ) → IsVector a → IsVector b → ((replica : ℕ) → number_of a replica ≡ number_of b replica) → a ≡ b
+same_vectors a b p q same = same_numbers a b (p.whole ∙ sym q.whole) same
 
 -- so many numbers, none above 0
 abbrev no_numbers : ℕ → List ℕ
