@@ -103,4 +103,10 @@ joined_vector old other now i p q j le = record {
 pub below_at : (a b : List ℕ) (k : ℕ) → get_or a k 0 < get_or b k 0 → ((replica : ℕ) → number_of b replica ≤ number_of a replica) → ⊥
 below_at a b k lt h = omega (arith, h (k + 1), number_at a k (k + 1) refl, number_at b k (k + 1) refl)
 
-pub ruleset vectors = (number_at, number_of-zeros, zeros_vector, number_of-set_same, number_of-set_other, raised_vector, at_each, joined_none, joined_more, joined_all, joined_vector, below_at)
+pub ruleset empties = (number_of-zeros, zeros_vector)
+
+pub ruleset raises = (number_of-set_same, number_of-set_other, raised_vector)
+
+pub ruleset comparisons = (at_each, below_at)
+
+pub ruleset joins = (joined_none, joined_more, joined_all, joined_vector)
