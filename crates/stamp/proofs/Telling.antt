@@ -1,14 +1,14 @@
 -- What entries tell: the map that they put into zeros, and no other.
-use Rattle.std.proofs.Common.{◌≡◌, ◌≢◌, ℕ, zero, suc, ◌+◌, ◌-◌, ◌<◌, ◌≤◌, Bool, true, List, [], ◌∷◌, ◌++◌, length, refl, sym, ap, subst, ◌∙◌, arith, ◌⊎◌, inl, inr}
+use Rattle.std.proofs.Common.{◌≡◌, ◌≢◌, ℕ, zero, suc, ◌+◌, ◌-◌, ◌<◌, ◌≤◌, true, List, [], ◌∷◌, length, refl, sym, subst, ◌∙◌, arith, ◌⊎◌, inl, inr}
 use Rattle.std.proofs.lemmas.Bool.{cases_eq, ltb-true}
 use Rattle.std.proofs.lemmas.Bool.Decides.{nat_tests}
-use Rattle.std.proofs.lemmas.List.{ext_get_or, length-set}
-use Rattle.std.specs.Prelude.{nat_le, nat_lt, ◌&&◌, slice_set}
+use Rattle.std.proofs.lemmas.List.{length-set}
+use Rattle.std.specs.Prelude.{nat_le, ◌&&◌, slice_set}
 use Rattle.std.specs.List.{AllByRecursion}
 use Rattle.stamp.specs.Limits.{greatest}
 use Rattle.stamp.specs.Numbers.{number_of, IsVector, zeros, filled}
 use Rattle.stamp.specs.Vector.{entries_above, entry_list, Tells, vector}
-use Rattle.stamp.proofs.Maps.{number_at, number_of-zeros, number_of-set_same, number_of-set_other, zeros_vector, set_vector, same_numbers}
+use Rattle.stamp.proofs.Maps.{number_of-zeros, number_of-set_same, number_of-set_other, zeros_vector, set_vector, same_numbers}
 
 -- entries of replicas up to 64 and numbers up to the greatest, each above the one before it, the first above this replica
 abbrev Ascends : ℕ → List (ℕ × ℕ) → Type 0

@@ -1,6 +1,6 @@
 -- A vector as bytes: how many replicas have a number above 0, and then each of them with its
 -- number, ascending.
-use Rattle.std.specs.Prelude.{◌≡◌, ◌≢◌, ℕ, zero, suc, nat_lt, nat_le, Bool, ◌&&◌, List, [], ◌∷◌, length}
+use Rattle.std.specs.Prelude.{◌≡◌, ◌≢◌, ℕ, zero, suc, nat_lt, nat_le, ◌&&◌, List, [], ◌∷◌, length}
 use Rattle.std.specs.List.{AllByRecursion}
 use Rattle.std.specs.Int.{w64}
 use Rattle.ua_binary.specs.Format.{Format, nothing, byte, ◌▸◌, headed, standing_for, passing, fitting, raised}
