@@ -1,19 +1,16 @@
 -- The format of vectors is lawful.
-use Rattle.std.proofs.Common.{◌≡◌, ℕ, zero, suc, ◌+◌, ◌-◌, ◌<◌, ◌≤◌, ◌^◌, Bool, true, false, List, [], ◌∷◌, ◌++◌, length, get_or, refl, sym, ap, subst, ◌∙◌, append_assoc, arith, inl, inr}
+use Rattle.std.proofs.Common.{◌≡◌, ℕ, zero, suc, ◌+◌, ◌-◌, ◌<◌, ◌≤◌, true, List, [], ◌∷◌, ◌++◌, length, get_or, refl, sym, subst, ◌∙◌, append_assoc, arith, inl, inr}
 use Rattle.std.proofs.lemmas.Bool.{cases_Bool, ltb-true, ltb-false}
 use Rattle.std.proofs.lemmas.Bool.Decides.{nat_tests}
-use Rattle.std.proofs.lemmas.List.{set_at, length_push, length-replicate}
+use Rattle.std.proofs.lemmas.List.{set_at, length_push}
 use Rattle.std.specs.Prelude.{nat_lt, nat_le, ◌&&◌, replicate, slice_set}
-use Rattle.std.specs.Int.{w64}
-use Rattle.ua_binary.specs.Format.{Format, IsLawful}
+use Rattle.ua_binary.specs.Format.{IsLawful}
 use Rattle.ua_binary.specs.Binary.{unsigned}
 use Rattle.ua_binary.proofs.Combined.{nothing_lawful, byte_lawful, then_lawful, headed_lawful, standing_lawful, passing_lawful, fitting_lawful, raised_lawful}
 use Rattle.ua_binary.proofs.Lawful.{u64_lawful}
-use Rattle.stamp.specs.declared.fault.VectorFault.TheVariants.{NotAscending, BadNumber}
 use Rattle.stamp.specs.Limits.{greatest}
-use Rattle.stamp.specs.Fault.{vector_fault}
-use Rattle.stamp.specs.Numbers.{number_of, IsVector, zeros, entries_from, entries, filled}
-use Rattle.stamp.specs.Vector.{replica_above, number, entry_above, first_of, rest_of, entries_above, entry_count, vector}
+use Rattle.stamp.specs.Numbers.{IsVector, zeros, entries_from, entries, filled}
+use Rattle.stamp.specs.Vector.{entry_above, rest_of, entries_above, entry_count, vector}
 
 entry_lawful : (last : ℕ) → IsLawful (entry_above last)
 entry_lawful last = then_lawful (passing_lawful _ _ (passing_lawful _ _ (raised_lawful _ byte_lawful))) (passing_lawful _ _ (raised_lawful _ u64_lawful))

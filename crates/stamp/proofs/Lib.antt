@@ -3,3 +3,4 @@ pub mod Orders
 pub mod Lawful
 pub mod Filling
 pub mod Putting
+pub mod Telling

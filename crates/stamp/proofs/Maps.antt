@@ -1,5 +1,5 @@
 -- Vectors as maps.
-use Rattle.std.proofs.Common.{◌≡◌, ◌≢◌, ℕ, zero, suc, ◌+◌, ◌-◌, ◌<◌, ◌≤◌, List, [], ◌∷◌, length, get_or, refl, sym, ap, ◌∙◌, arith, inl, inr}
+use Rattle.std.proofs.Common.{◌≡◌, ◌≢◌, ℕ, zero, suc, ◌+◌, ◌<◌, ◌≤◌, List, length, get_or, refl, sym, ap, ◌∙◌, arith, inl, inr}
 use Rattle.std.proofs.lemmas.Bool.{cases_eq, cases_lt}
 use Rattle.std.proofs.lemmas.List.{ext_get_or, get_or_past, get_or-set_same, get_or-set_other, length-set}
 use Rattle.std.specs.Prelude.{max, replicate, slice_set}
@@ -10,10 +10,13 @@ use Rattle.stamp.specs.Numbers.{number_of, IsVector, zeros}
 pub number_at : (numbers : List ℕ) (place replica : ℕ) → place + 1 ≡ replica → number_of numbers replica ≡ get_or numbers place 0
 number_at numbers place replica e = let s : replica ≡ suc place = omega arith in rw s refl
 
-pub same_vectors : (a b : List ℕ) → IsVector a → IsVector b → ((replica : ℕ) → number_of a replica ≡ number_of b replica) → a ≡ b
-same_vectors a b p q same =
+pub same_numbers : (a b : List ℕ) → length a ≡ length b → ((replica : ℕ) → number_of a replica ≡ number_of b replica) → a ≡ b
+same_numbers a b long same =
     let one : (i : ℕ) → i < length a → get_or a i 0 ≡ get_or b i 0 = λ i _. sym (number_at a i (i + 1) refl) ∙ same (i + 1) ∙ number_at b i (i + 1) refl in
-    ext_get_or 0 a b (p.whole ∙ sym q.whole) one
+    ext_get_or 0 a b long one
+
+pub same_vectors : (a b : List ℕ) → IsVector a → IsVector b → ((replica : ℕ) → number_of a replica ≡ number_of b replica) → a ≡ b
+same_vectors a b p q same = same_numbers a b (p.whole ∙ sym q.whole) same
 
 -- so many numbers, none above 0
 abbrev no_numbers : ℕ → List ℕ
@@ -100,4 +103,10 @@ joined_vector old other now i p q j le = record {
 pub below_at : (a b : List ℕ) (k : ℕ) → get_or a k 0 < get_or b k 0 → ((replica : ℕ) → number_of b replica ≤ number_of a replica) → ⊥
 below_at a b k lt h = omega (arith, h (k + 1), number_at a k (k + 1) refl, number_at b k (k + 1) refl)
 
-pub ruleset vectors = (number_at, number_of-zeros, zeros_vector, number_of-set_same, number_of-set_other, raised_vector, at_each, joined_none, joined_more, joined_all, joined_vector, below_at)
+pub ruleset empties = (number_of-zeros, zeros_vector)
+
+pub ruleset raises = (number_of-set_same, number_of-set_other, raised_vector)
+
+pub ruleset comparisons = (at_each, below_at)
+
+pub ruleset joins = (joined_none, joined_more, joined_all, joined_vector)

@@ -1,6 +1,7 @@
 -- A vector as bytes: how many replicas have a number above 0, and then each of them with its
 -- number, ascending.
-use Rattle.std.specs.Prelude.{ℕ, zero, suc, nat_lt, nat_le, Bool, ◌&&◌, List, [], ◌∷◌, length}
+use Rattle.std.specs.Prelude.{◌≡◌, ◌≢◌, ℕ, zero, suc, nat_lt, nat_le, ◌&&◌, List, [], ◌∷◌, length}
+use Rattle.std.specs.List.{AllByRecursion}
 use Rattle.std.specs.Int.{w64}
 use Rattle.ua_binary.specs.Format.{Format, nothing, byte, ◌▸◌, headed, standing_for, passing, fitting, raised}
 use Rattle.ua_binary.specs.Binary.{unsigned}
@@ -8,7 +9,7 @@ use Rattle.stamp.specs.declared.fault.VectorFault.{VectorFault}
 use Rattle.stamp.specs.declared.fault.VectorFault.TheVariants.{NotAscending, BadNumber}
 use Rattle.stamp.specs.Limits.{greatest}
 use Rattle.stamp.specs.Fault.{vector_fault}
-use Rattle.stamp.specs.Numbers.{IsVector, zeros, entries, filled}
+use Rattle.stamp.specs.Numbers.{number_of, IsVector, zeros, entries, filled}
 
 -- a byte that names a replica, above the one before it
 abbrev pub replica_above : ℕ → Format VectorFault ℕ
@@ -39,6 +40,15 @@ entries_above last (suc n) = headed first_of (entry_above last) (λ e. standing_
 abbrev pub entry_count : Format VectorFault ℕ
 entry_count = passing (λ n. nat_le n 64) BadNumber (raised vector_fault byte)
 
--- the count and the entries; a replica that isn't named has the number 0
+-- the count, and as many entries
+abbrev pub entry_list : Format VectorFault (List (ℕ × ℕ))
+entry_list = headed length entry_count (entries_above 0)
+
+-- a replica that isn't named has the number 0
 unfoldable pub vector : Format VectorFault (List ℕ)
-vector = fitting IsVector (standing_for (filled zeros) entries (headed length entry_count (entries_above 0)))
+vector = fitting IsVector (standing_for (filled zeros) entries entry_list)
+
+-- what entries tell of a vector: at each replica that they name its number, and 0 at every other
+pub record Tells (es : List (ℕ × ℕ)) (numbers : List ℕ) : Type 0 where
+  pub named : AllByRecursion (λ e. number_of numbers e.0 ≡ e.1) es
+  pub others : (replica : ℕ) → AllByRecursion (λ e. e.0 ≢ replica) es → number_of numbers replica ≡ 0

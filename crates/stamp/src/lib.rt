@@ -8,7 +8,10 @@ mod stamps;
 mod vectors;
 
 pub use fault::VectorFault;
-pub use laws::{formats_are_lawful, formats_are_prefix_free, stamps_are_ordered, vectors_are_maps};
+pub use laws::{
+    formats_are_lawful, formats_are_prefix_free, stamps_are_ordered, vectors_are_maps,
+    vectors_are_told,
+};
 pub use stamps::{GREATEST_TICK, ReplicaNo, Stamp, lift};
 pub use vectors::{GREATEST_NUMBER, Vector};
 

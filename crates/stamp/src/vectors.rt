@@ -43,7 +43,7 @@ impl Model for Vector {
 
 impl Vector {
     /// The vector of who holds no record: every number is 0.
-    #[tactic(auto, using(crate::proofs::Maps::vectors))]
+    #[tactic(auto, using(crate::proofs::Maps::empties))]
     pub fn new() -> Vector
         ensures none { (replica : ℕ) → number_of result replica ≡ 0 }
         ensures zeros { result ≡ zeros }
@@ -62,7 +62,7 @@ impl Vector {
     }
 
     /// Raises the number of a replica to `number`, where it is below.
-    #[tactic(auto, using(crate::proofs::Maps::vectors))]
+    #[tactic(auto, using(crate::proofs::Maps::raises))]
     pub fn raise(&mut self, replica: ReplicaNo, number: u64)
         requires { number ≤ greatest }
         ensures raised { number_of self.new replica ≡ max (number_of self.old replica) number }
@@ -81,7 +81,7 @@ impl Vector {
     }
 
     /// Whether each replica's number is at least that in `other`.
-    #[tactic(auto, using(crate::proofs::Maps::vectors))]
+    #[tactic(auto, using(crate::proofs::Maps::comparisons))]
     pub fn at_least(&self, other: &Vector) -> bool
         ensures { IsTrue result ↔ ((replica : ℕ) → number_of other.now replica ≤ number_of self.now replica) }
     {
@@ -94,7 +94,7 @@ impl Vector {
     }
 
     /// Raises each replica's number to that in `other`, where it is below.
-    #[tactic(auto, using(crate::proofs::Maps::vectors))]
+    #[tactic(auto, using(crate::proofs::Maps::joins))]
     pub fn join(&mut self, other: &Vector)
         ensures { (replica : ℕ) → number_of self.new replica ≡ max (number_of self.old replica) (number_of other.now replica) }
     {
