@@ -10,8 +10,8 @@ use Rattle.std.proofs.lemmas.Bool.Decides.{nat_tests}
 use Rattle.std.proofs.lemmas.Int.{ints}
 use Rattle.std.proofs.lemmas.List.{length-append, append_cancel_right}
 use Rattle.stamp.specs.Limits.{greatest}
-use Rattle.ua_binary.specs.Format.{Format, IsLawful, ◌>>=◌, ◌▸◌, standing_for, passing, whole}
-use Rattle.ua_binary.specs.Binary.{IsCounted, node_id}
+use Rattle.ua_binary.specs.Format.{Format, IsLawful, ◌>>=◌, ◌▸◌, standing_for, passing, raised, whole}
+use Rattle.ua_binary.specs.Binary.{IsCounted, node_id, text}
 use Rattle.ua_binary.proofs.Combined.{bind_ok, passed_ok, guard_ok, ok_is, Found, byte_lawful, then_lawful, standing_lawful, passing_lawful, fitting_lawful, raised_lawful}
 use Rattle.ua_binary.proofs.Lawful.{u64_lawful, i64_lawful, node_id_lawful, text_lawful}
 use Rattle.ua_binary.proofs.Spelled.{whole_found, whole_only}
@@ -23,6 +23,7 @@ use Rattle.records.specs.declared.record.HistoryUpdateType.{HistoryUpdateType}
 use Rattle.records.specs.declared.record.HistoryUpdateType.TheVariants.{Insert, Replace, Update, Delete}
 use Rattle.records.specs.declared.fault.RecordFault.{RecordFault}
 use Rattle.records.specs.declared.fault.RecordFault.TheVariants.{Binary, BadField, NotCanonical}
+use Rattle.records.specs.Fault.{binary_fault}
 use Rattle.records.specs.Spelling.{at_most, canonical, version, origin, number, tick, node, time, number_of_asked, asked_of_number, asked, is_user, user, is_value_for, value, front, record_of, parts_of, fields, longest, IsLawfulRecord, IsRecord, IsTick, HasSpelledParts, record_form, record_at, IsShortRecord}
 
 -- ---- two formats of formats
@@ -163,9 +164,6 @@ record_short r h = fields_only.holds (fields.canon r) r (fields_lawful.written r
 
 -- ---- what was read is a record
 
-passed_only : {E A : Type 0} (t : A → Bool) (e : E) (f : Format E A) → SpellsOnly (passing t e f) (λ v. t v ≡ true)
-passed_only t e f = record { holds = λ bytes v s. s.1 }
-
 -- what the tests tell
 abbrev IsTested : Record → Type 0
 IsTested r = ((1 ≤ r.number) × (r.number ≤ greatest)) × (IsTick r.tick × ((pos 1 ≤ℤ r.time) × (length r.user ≤ 256)))
@@ -186,17 +184,32 @@ short_user : (name : Option (List ℕ)) → is_user name ≡ true → length (un
 short_user None e = absurd (true≢false (sym e))
 short_user (Some name) e = leb-true _ _ e
 
+number_tested : SpellsOnly number (λ n. (1 ≤ n) × (n ≤ greatest))
+number_tested = record { holds = λ bytes n s. from_one n greatest s.1 }
+
+tick_tested : SpellsOnly tick IsTick
+tick_tested = record { holds = λ bytes t s. from_tick t s.1 }
+
+time_tested : SpellsOnly time (λ t. pos 1 ≤ℤ t)
+time_tested = record { holds = λ bytes t s. is_positive t s.1 }
+
+user_passed : SpellsOnly (passing is_user BadField (raised binary_fault text)) (λ name. is_user name ≡ true)
+user_passed = record { holds = λ bytes name s. s.1 }
+
+user_tested : SpellsOnly user (λ name. length name ≤ 256)
+user_tested = standing_only (λ name. unwrap_or name []) Some user_passed short_user
+
 tested_only : SpellsOnly (standing_for record_of parts_of (front ▸ value)) IsTested
 tested_only = standing_only record_of parts_of (then_only (
     then_only (any_only version) (
     then_only (any_only origin) (
-    then_only (passed_only _ _ _) (
-    then_only (passed_only _ _ _) (
+    then_only number_tested (
+    then_only tick_tested (
     then_only (any_only node) (
-    then_only (passed_only _ _ _) (
+    then_only time_tested (
     then_only (any_only asked)
-    (standing_only {P = λ name. length name ≤ 256} (λ name. unwrap_or name []) Some (passed_only _ _ _) (λ name h. short_user name h)))))))))
-    (any_only value)) (λ u h. (from_one u.0.1.1.0 greatest h.0.1.1.0, (from_tick u.0.1.1.1.0 h.0.1.1.1.0, (is_positive u.0.1.1.1.1.1.0 h.0.1.1.1.1.1.0, h.0.1.1.1.1.1.1.1))))
+    user_tested)))))))
+    (any_only value)) (λ u h. (h.0.1.1.0, (h.0.1.1.1.0, (h.0.1.1.1.1.1.0, h.0.1.1.1.1.1.1.1))))
 
 fields_tested : (bytes : List ℕ) (r : Record) → fields.Spells bytes r → IsTested r × (is_value_for r.asked r.value ≡ true)
 unfolding fields
