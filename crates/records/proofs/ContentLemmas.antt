@@ -1,5 +1,6 @@
 -- The laws of contents.
 use Rattle.std.proofs.Common.{◌≡◌, ℕ, ◌+◌, ◌≤◌, ◌<◌, eqb, max, ℤ, pos, ◌≤ℤ◌, ◌<ℤ◌, Bool, true, false, not, ◌||◌, cond, List, [], ◌∷◌, ◌++◌, filter, refl, sym, ap, ◌∙◌, subst, arith, inl, inr, ◌⊎◌, Ordering, Less, Equal, Greater, is_eq}
+use Rattle.std.specs.Prelude.{◌↔◌}
 use Rattle.std.specs.List.{AllByRecursion, list_any}
 use Rattle.std.specs.Ordering.{nat_cmp, ordering_then}
 use Rattle.std.proofs.lemmas.Bool.{true≢false, eq-eqb, eqb-true, cases_eq, cases_lt, cases_Bool, or_parts, not-true}
@@ -236,4 +237,7 @@ closed_idem R p = join_idem R p.ordered
 pub above_left : (R S : Content) → AreCompatible R S → IsWithin R (join R S)
 above_left R S same = has-join_left R S
 
-pub ruleset joins = (closed_comm, closed_assoc, closed_idem, closed_join, above_left, has-join_right, join_least, vec_join)
+pub join_has : (R S : Content) (r : Record) → AreCompatible R S → Has (join R S) r ↔ (Has R r ⊎ Has S r)
+join_has R S r same = (has_from_join R S r, λ h. elim h [ inl k ↦ has-join_left R S r k | inr k ↦ has-join_right R S same r k ])
+
+pub ruleset joins = (join_has, closed_comm, closed_assoc, closed_idem, closed_join, above_left, has-join_right, join_least, vec_join)

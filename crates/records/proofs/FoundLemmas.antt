@@ -29,11 +29,11 @@ kind_of_delete before Insert e = absurd (true≢false (sym e))
 kind_of_delete before Replace e = absurd (true≢false (sym e))
 kind_of_delete before Update e = absurd (true≢false (sym e))
 
-delete_in : (before : Option Record) (rs : List Record) (r : Record) → Has rs r → is_delete r.asked ≡ true → (e : Entry) × Has (entries_after before rs) e × (e.kind ≡ Delete) × (e.tick ≡ r.tick) × (e.origin ≡ r.origin) × (e.user ≡ r.user)
+delete_in : (before : Option Record) (rs : List Record) (r : Record) → Has rs r → is_delete r.asked ≡ true → (e : Entry) × Has (entries_after before rs) e × (e.kind ≡ Delete) × (e.time ≡ r.time) × (e.tick ≡ r.tick) × (e.origin ≡ r.origin) × (e.user ≡ r.user)
 delete_in before [] r h d = absurd h
 delete_in before (a ∷ rs) r h d = elim h [
-  | inl e ↦ (entry (write before) r, inl (ap (entry (write before)) e), kind_of_delete (write before) r.asked d, refl, refl, refl)
-  | inr k ↦ let m = delete_in (Some a) rs r k d in (m.0, inr m.1, m.2, m.3, m.4, m.5)
+  | inl e ↦ (entry (write before) r, inl (ap (entry (write before)) e), kind_of_delete (write before) r.asked d, refl, refl, refl, refl)
+  | inr k ↦ let m = delete_in (Some a) rs r k d in (m.0, inr m.1, m.2, m.3, m.4, m.5, m.6)
 ]
 
 after_live : (r s : Record) → is_delete r.asked ≡ false → (entry (write (Some r)) s).value ≡ Some r.value
@@ -53,8 +53,8 @@ write_in before (a ∷ b ∷ rs) r h d = elim h [
   ]
 ]
 
-held_write : (extra : Bool) (o : Option Record) (r : Record) → o ≡ Some r → is_delete r.asked ≡ false → (h : Held) × (held_of extra (write o) ≡ Some h) × (h.value ≡ r.value)
-held_write extra o r e d = (record { time = r.time; value = r.value; extra = extra }, rw (e, d), refl)
+held_write : (extra : Bool) (o : Option Record) (r : Record) → o ≡ Some r → is_delete r.asked ≡ false → (h : Held) × (held_of extra (write o) ≡ Some h) × (h.value ≡ r.value) × (h.time ≡ r.time)
+held_write extra o r e d = (record { time = r.time; value = r.value; extra = extra }, rw (e, d), refl, refl)
 
 at_its_place : (r : Record) → is_at r.node r.time r ≡ true
 at_its_place r = and_from _ _ ((Decides-is_same node_code r.node r.node).1 refl) (ap is_eq (tied_itself int_cmp_total r.time))
@@ -66,5 +66,5 @@ pub found : (R : Content) (r : Record) → Has R r → IsFound R r
 found R r h =
     let there = in_story R r h in (
       λ d. delete_in None (story R r.node r.time) r there d,
-      λ d. elim (write_in None (story R r.node r.time) r there d) [ inl e ↦ inl (held_write _ _ r e d) | inr m ↦ inr m ],
+      λ d. elim (write_in None (story R r.node r.time) r there d) [ inl e ↦ (let h = held_write _ _ r e d in inl (e, h.0, h.1, h.2, h.3)) | inr m ↦ inr m ],
     )

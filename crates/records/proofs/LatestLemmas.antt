@@ -1,5 +1,5 @@
 -- The live value is that of the greatest stamp.
-use Rattle.std.proofs.Common.{◌≡◌, ℕ, zero, suc, ◌+◌, ◌-◌, ◌≤◌, ◌<◌, nat_lt, Bool, true, false, cond, List, [], ◌∷◌, filter, length, Option, Some, None, refl, sym, ap, ◌∙◌, subst, arith, inl, inr, ◌⊎◌, Ordering, Less, slice_get, is_eq}
+use Rattle.std.proofs.Common.{◌≡◌, ℕ, zero, suc, ◌+◌, ◌-◌, ◌≤◌, ◌<◌, nat_lt, Bool, true, false, cond, List, [], ◌∷◌, filter, take, length, Option, Some, None, refl, sym, ap, ◌∙◌, subst, arith, inl, inr, ◌⊎◌, Ordering, Less, slice_get, is_eq}
 use Rattle.std.specs.Prelude.{◌↔◌}
 use Rattle.std.specs.Ordering.{int_eq}
 use Rattle.std.proofs.lemmas.Bool.{true≢false, lt-ltb, ltb-true, and_from, and_parts}
@@ -11,11 +11,11 @@ use Rattle.ua_binary.specs.declared.values.NodeId.{NodeId}
 use Rattle.std.proofs.Common.{ℤ}
 use Rattle.records.specs.Lists.{Has, Rises, IsApart, sort_by, last}
 use Rattle.records.specs.Same.{node_code}
-use Rattle.records.specs.Records.{stamp_cmp, is_at, is_delete, write, held_of, held, story, current}
+use Rattle.records.specs.Records.{stamp_cmp, name_cmp, is_at, is_delete, is_beyond, write, held_of, held, story, current, entries_after, entries, missing}
 use Rattle.records.specs.Contents.{Content, IsLatest, HasOther}
 use Rattle.records.proofs.Same.{Decides-is_same}
-use Rattle.records.proofs.Sorting.{all-has, has-filter, has_from_filter, pairwise-filter, has-sort_by, has_from_sort_by, rises-sort_by, asymmetric, irreflexive}
-use Rattle.records.proofs.Orders.{stamp_total}
+use Rattle.records.proofs.Sorting.{all-has, has-filter, has_from_filter, pairwise-filter, has-sort_by, has_from_sort_by, rises-sort_by, same_members, asymmetric, irreflexive}
+use Rattle.records.proofs.Orders.{stamp_total, name_total}
 use Rattle.records.proofs.FoundLemmas.{last_more, in_story}
 
 placed : (node : NodeId) (time : ℤ) (s : Record) → s.node ≡ node → s.time ≡ time → is_at node time s ≡ true
@@ -90,5 +90,42 @@ nothing_there (x ∷ xs) none = absurd (none x (inl refl))
 pub none_current : (R : Content) (node : NodeId) (time : ℤ) → ((s : Record) → Has R s → s.node ≡ node → s.time ≡ time → ⊥) → current R node time ≡ None
 none_current R node time none =
     ap held (nothing_there (story R node time) (λ s h. let k = from_story R node time s h in none s k.0 k.1 k.2))
+
+-- ---- the order of a list is free
+
+pub story_rises : (R : List Record) (node : NodeId) (time : ℤ) → IsApart stamp_cmp R → Rises stamp_cmp (story R node time)
+story_rises R node time apart = rises-story R node time apart
+
+pub story_has : (R : List Record) (node : NodeId) (time : ℤ) (r : Record) → Has (story R node time) r ↔ (Has R r × (r.node ≡ node) × (r.time ≡ time))
+story_has R node time r = (from_story R node time r, λ h. to_story R node time r h.0 h.1 h.2)
+
+pub story_free : (R S : List Record) (node : NodeId) (time : ℤ) → IsApart stamp_cmp R → IsApart stamp_cmp S → ((r : Record) → Has R r ↔ Has S r) → story R node time ≡ story S node time
+story_free R S node time a b same =
+    same_members stamp_cmp stamp_total _ _ (rises-story R node time a) (rises-story S node time b)
+    (λ r h. let k = from_story R node time r h in to_story S node time r ((same r).0 k.0) k.1 k.2)
+    (λ r h. let k = from_story S node time r h in to_story R node time r ((same r).1 k.0) k.1 k.2)
+
+pub current_free : (R S : List Record) (node : NodeId) (time : ℤ) → IsApart stamp_cmp R → IsApart stamp_cmp S → ((r : Record) → Has R r ↔ Has S r) → current R node time ≡ current S node time
+current_free R S node time a b same = ap held (story_free R S node time a b same)
+
+pub entries_free : (R S : List Record) (node : NodeId) (time : ℤ) → IsApart stamp_cmp R → IsApart stamp_cmp S → ((r : Record) → Has R r ↔ Has S r) → entries R node time ≡ entries S node time
+entries_free R S node time a b same = ap (entries_after None) (story_free R S node time a b same)
+
+from_beyond : (R : List Record) (v : ℕ → ℕ) (r : Record) → Has (sort_by name_cmp (filter (is_beyond v) R)) r → Has R r × (is_beyond v r ≡ true)
+from_beyond R v r h = has_from_filter (is_beyond v) R r (has_from_sort_by name_cmp name_total _ r h)
+
+to_beyond : (R : List Record) (v : ℕ → ℕ) (r : Record) → Has R r → is_beyond v r ≡ true → Has (sort_by name_cmp (filter (is_beyond v) R)) r
+to_beyond R v r h e = has-sort_by name_cmp name_total _ r (has-filter (is_beyond v) R r h e)
+
+rises-beyond : (R : List Record) (v : ℕ → ℕ) → IsApart name_cmp R → Rises name_cmp (sort_by name_cmp (filter (is_beyond v) R))
+rises-beyond R v apart = rises-sort_by name_cmp name_total _ (pairwise-filter _ (is_beyond v) R apart)
+
+pub missing_free : (R S : List Record) (v : ℕ → ℕ) (limit : ℕ) → IsApart name_cmp R → IsApart name_cmp S → ((r : Record) → Has R r ↔ Has S r) → missing R v limit ≡ missing S v limit
+missing_free R S v limit a b same =
+    ap (take limit) (same_members name_cmp name_total _ _ (rises-beyond R v a) (rises-beyond S v b)
+    (λ r h. let k = from_beyond R v r h in to_beyond S v r ((same r).0 k.0) k.1)
+    (λ r h. let k = from_beyond S v r h in to_beyond R v r ((same r).1 k.0) k.1))
+
+pub ruleset free = (story_rises, story_has, current_free, entries_free, missing_free)
 
 pub ruleset latest = (latest_deleted, latest_written, none_current)

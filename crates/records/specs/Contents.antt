@@ -6,7 +6,7 @@ use Rattle.std.specs.Ordering.{is_eq}
 use Rattle.std.specs.Option.{option_map_or}
 use Rattle.std.specs.Int.{int_max}
 use Rattle.stamp.specs.Limits.{greatest}
-use Rattle.records.specs.Lists.{insert_sorted, sort_by, Has, Rises}
+use Rattle.records.specs.Lists.{insert_sorted, sort_by, last, Has, Rises}
 use Rattle.records.specs.Same.{same_record}
 use Rattle.records.specs.Records.{name_cmp, stamp_cmp, is_beyond, is_delete, story, current, entries}
 use Rattle.records.specs.declared.record.Record.{Record}
@@ -33,7 +33,7 @@ abbrev pub top : Content → ℤ
 top [] = pos 0
 top (r ∷ R) = int_max r.tick (top R)
 
--- an origin's greatest tick
+-- an origin's greatest tick, 0 where it has none
 abbrev pub last_tick : Content → ℕ → ℤ
 last_tick R origin = top (filter (λ r. r.origin == origin) R)
 
@@ -137,15 +137,15 @@ pub record IsShownAt (rs : List Record) (es : List Entry) (k : ℕ) (r : Record)
   pub after : slice_get es (k + 1) ≡ Some next
   pub shows : next.value ≡ Some r.value
 
--- a write is the live value, or the next record's entry shows it
+-- a write is the last of its story and the live value, or the next record's entry shows it
 abbrev pub IsWriteFound : Content → Record → Type 0
 IsWriteFound R r =
-    ((h : Held) × (current R r.node r.time ≡ Some h) × (h.value ≡ r.value))
+    ((last (story R r.node r.time) ≡ Some r) × (h : Held) × (current R r.node r.time ≡ Some h) × (h.value ≡ r.value) × (h.time ≡ r.time))
     ⊎ ((k : ℕ) × IsShownAt (story R r.node r.time) (entries R r.node r.time) k r)
 
--- a delete is an entry of its kind, with its tick, origin and user
+-- a delete is an entry of its kind, with its time, tick, origin and user
 abbrev pub IsDeleteFound : Content → Record → Type 0
-IsDeleteFound R r = (e : Entry) × Has (entries R r.node r.time) e × (e.kind ≡ Delete) × (e.tick ≡ r.tick) × (e.origin ≡ r.origin) × (e.user ≡ r.user)
+IsDeleteFound R r = (e : Entry) × Has (entries R r.node r.time) e × (e.kind ≡ Delete) × (e.time ≡ r.time) × (e.tick ≡ r.tick) × (e.origin ≡ r.origin) × (e.user ≡ r.user)
 
 abbrev pub IsFound : Content → Record → Type 0
 IsFound R r = (is_delete r.asked ≡ true → IsDeleteFound R r) × (is_delete r.asked ≡ false → IsWriteFound R r)

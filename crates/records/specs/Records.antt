@@ -1,4 +1,4 @@
--- Records of writes and deletes, and what a list of them says of a node and a source time (Part 11, 4.4 and 6.4.3.3).
+-- Records of writes and deletes, and what a list of them says of a node and a source time (Part 11: raw and modified values, ModificationInfo).
 -- The list's order is free; no two of its records have one name or one stamp.
 use Rattle.std.specs.Prelude.{◌≡◌, ℕ, nat_lt, ℤ, Bool, true, false, not, ◌&&◌, if◌then◌else◌, List, [], ◌∷◌, filter, take, length, Option, Some, None}
 use Rattle.std.specs.declared.cmp.Ordering.{Ordering}

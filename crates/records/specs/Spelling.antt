@@ -1,5 +1,5 @@
 -- A record as bytes, format 1: the byte 1, and its fields one after the other. Only the spelling that is written is one.
-use Rattle.std.specs.Prelude.{◌≡◌, ℕ, ◌+◌, ◌^◌, ◌<◌, ◌≤◌, nat_lt, nat_le, ◌==◌, ℤ, pos, ◌≤ℤ◌, int_le, Bool, true, not, ◌&&◌, ◌||◌, List, [], ◌++◌, length, Option, Some, None, is_some, unwrap_or, Result, Ok, Err, if◌then◌else◌}
+use Rattle.std.specs.Prelude.{◌≡◌, ℕ, ◌+◌, ◌^◌, ◌<◌, ◌≤◌, nat_lt, nat_le, ◌==◌, ℤ, pos, ◌≤ℤ◌, int_le, Bool, true, false, not, ◌&&◌, ◌||◌, List, [], ◌++◌, length, Option, Some, None, is_some, unwrap_or, Result, Ok, Err, if◌then◌else◌}
 use Rattle.std.specs.Int.{w64}
 use Rattle.std.specs.Int.RustNames.{FitsSigned}
 use Rattle.std.specs.Str.{is_utf8, bytes_eq}
@@ -71,7 +71,7 @@ abbrev pub asked : Format RecordFault HistoryUpdateType
 asked = standing_for asked_of_number number_of_asked (passing (λ n. nat_le 1 n && nat_le n 4) BadField (raised binary_fault byte))
 
 abbrev pub is_user : Option (List ℕ) → Bool
-is_user None = not true
+is_user None = false
 is_user (Some name) = nat_le (length name) 256
 
 -- a text that isn't null, of at most 256 bytes
@@ -123,7 +123,7 @@ pub record IsLawfulRecord (r : Record) : Type 0 where
   pub suits : is_value_for r.asked r.value ≡ true
   pub size : length (fields.canon r) ≤ longest
 
--- its parts have spellings: so have those of each record in memory that is short enough
+-- its parts have spellings, each by itself, and its origin is a replica
 pub record HasSpelledParts (r : Record) : Type 0 where
   pub origin : IsReplica r.origin
   pub node : IsNodeId r.node

@@ -119,7 +119,7 @@ impl Record {
     ghost use Rattle.records.specs.Spelling.{parts_of, empty};
 
     /// Reads the fields before the value, which is left empty. An error leaves the cursor anywhere.
-    pub fn read_front(alloc: Global, cursor: &mut Cursor<'_>) -> Result<Record, RecordFault>
+    pub(crate) fn read_front(alloc: Global, cursor: &mut Cursor<'_>) -> Result<Record, RecordFault>
         ensures { ReadsPart fault.OutOfMemory (λ r. (parts_of r).0) result cursor.old cursor.new front.read }
     {
         read_version(cursor)?;

@@ -4,7 +4,8 @@ ghost use Rattle.std.specs.Prelude.{◌≡◌, ◌↔◌, true, false, Result, O
 ghost use Rattle.stamp.specs.Limits.{greatest};
 ghost use Rattle.records.specs.Lists.{Has, Rises};
 ghost use Rattle.records.specs.Contents.{Content, IsClosed, AreCompatible, IsWithin, IsNext, IsFound, IsLatest, HasOther, Finding, Adds, Holds, Clash, Gap, TickTooFar, TickNotRising, finding, learned, put, join, cut, vec, last_tick, merged};
-ghost use Rattle.records.specs.Records.{name_cmp, stamp_cmp, missing, is_beyond, is_delete, current};
+ghost use Rattle.records.specs.Records.{name_cmp, stamp_cmp, missing, is_beyond, is_delete, story, current, entries};
+ghost use Rattle.stamp.specs.Stamp as stamps;
 ghost use Rattle.records.specs.Lists.{IsApart};
 ghost use Rattle.records.specs.Spelling.{record_form, record_at};
 ghost use Rattle.ua_binary.specs.Format.{IsLawful, IsPrefixFree};
@@ -21,6 +22,7 @@ pub fn merging_is_a_join()
         → AreCompatible R S → AreCompatible R T → AreCompatible S T → join (join R S) T ≡ join R (join S T) }
     ensures repeats { (R : Content) → IsClosed R → join R R ≡ R }
     ensures closed { (R S : Content) → IsClosed R → IsClosed S → AreCompatible R S → IsClosed (join R S) }
+    ensures members { (R S : Content) (r : Record) → AreCompatible R S → Has (join R S) r ↔ (Has R r ⊎ Has S r) }
     ensures above_left { (R S : Content) → AreCompatible R S → IsWithin R (join R S) }
     ensures above_right { (R S : Content) → AreCompatible R S → IsWithin S (join R S) }
     ensures least { (R S T : Content) → IsWithin R T → IsWithin S T → IsWithin (join R S) T }
@@ -70,6 +72,22 @@ pub fn current_is_the_latest()
     ensures written { (R : Content) (r : Record) → IsApart stamp_cmp R → IsLatest R r → is_delete r.asked ≡ false
         → (h : Held) × (current R r.node r.time ≡ Some h) × (h.value ≡ r.value) × (h.time ≡ r.time) × ((h.extra ≡ true) ↔ HasOther R r) }
     ensures none { (R : Content) (node : NodeId) (time : ℤ) → ((s : Record) → Has R s → s.node ≡ node → s.time ≡ time → ⊥) → current R node time ≡ None }
+{}
+
+/// The order of a list is free: a story rises by stamp and has exactly the records of its node and
+/// source time, so lists with the same records show the same live value and the same modifications;
+/// and what a vector lacks of them is the same.
+#[tactic(auto, using(crate::proofs::LatestLemmas::free))]
+pub fn the_order_of_records_is_free()
+    ensures rises { (R : List Record) (node : NodeId) (time : ℤ) → IsApart stamp_cmp R → Rises stamp_cmp (story R node time) }
+    ensures story { (R : List Record) (node : NodeId) (time : ℤ) (r : Record) → Has (story R node time) r ↔ (Has R r × (r.node ≡ node) × (r.time ≡ time)) }
+    ensures current { (R S : List Record) (node : NodeId) (time : ℤ) → IsApart stamp_cmp R → IsApart stamp_cmp S
+        → ((r : Record) → Has R r ↔ Has S r) → current R node time ≡ current S node time }
+    ensures entries { (R S : List Record) (node : NodeId) (time : ℤ) → IsApart stamp_cmp R → IsApart stamp_cmp S
+        → ((r : Record) → Has R r ↔ Has S r) → entries R node time ≡ entries S node time }
+    ensures missing { (R S : List Record) (v : ℕ → ℕ) (limit : ℕ) → IsApart name_cmp R → IsApart name_cmp S
+        → ((r : Record) → Has R r ↔ Has S r) → missing R v limit ≡ missing S v limit }
+    ensures stamps { (r s : Record) → stamp_cmp r s ≡ stamps.stamp_cmp (record { tick = r.tick; origin = r.origin }) (record { tick = s.tick; origin = s.origin }) }
 {}
 
 /// Of a closed content no two records have one name or one stamp, and no number passes 2^62 - 1.

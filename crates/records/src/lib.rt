@@ -16,7 +16,7 @@ pub use laws::{
     closed_contents_are_told_apart, current_is_the_latest, each_record_is_found,
     equal_vectors_mean_equal_contents, formats_are_lawful, formats_are_prefix_free,
     learning_keeps_contents_closed, learning_what_is_missing_joins, merging_is_a_join,
-    vectors_cut_contents,
+    the_order_of_records_is_free, vectors_cut_contents,
 };
 pub use record::{HistoryUpdateType, Record};
 pub use shown::{Entry, Held};

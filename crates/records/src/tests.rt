@@ -1,4 +1,5 @@
-ghost use Rattle.std.specs.Prelude.{◌≡◌, IfOk};
+ghost use Rattle.std.specs.Prelude.{◌≡◌, ◌<◌, false, IfOk, IsTrue};
+ghost use Rattle.std.specs.Ordering.{is_eq};
 ghost use Rattle.records.specs.Lists.{IsApart};
 ghost use Rattle.records.specs.Records.{stamp_cmp, name_cmp};
 ghost use Rattle.records.specs.Spelling.{IsRecord};
@@ -28,8 +29,7 @@ fn record(
     asked: HistoryUpdateType,
     written: Option<i32>,
 ) -> Result<Record, AllocError>
-    ensures tick { IfOk result (λ r. r.tick ≡ tick) }
-    ensures origin { IfOk result (λ r. r.origin ≡ origin) }
+    ensures { IfOk result (λ r. r.origin ≡ origin) }
 {
     let node = node(alloc)?;
     let user = Text::from_str(alloc, "ann")?;
@@ -64,119 +64,138 @@ fn is_int(v: &DataValue, n: i32) -> bool {
     }
 }
 
-/// Whether these entries have these kinds and show these values.
-fn are_shown(entries: &[Entry], shown: &[(HistoryUpdateType, i32)]) -> bool {
-    if entries.len() != shown.len() {
-        return false;
+/// Whether a value is there exactly where this Int32 is, and is it.
+fn is_shown(value: &Option<DataValue>, n: Option<i32>) -> bool {
+    match (value, n) {
+        (Some(v), Some(n)) => is_int(v, n),
+        (None, None) => true,
+        _ => false,
     }
-    let mut same = true;
+}
+
+/// Whether these entries have these kinds and show these values.
+fn are_shown(entries: &[Entry], shown: &[(HistoryUpdateType, Option<i32>)]) -> bool {
+    let mut same = entries.len() == shown.len();
     for (entry, (kind, n)) in entries.iter().zip(shown) {
-        let value = match &entry.value {
-            Some(v) => is_int(v, *n),
-            None => false,
-        };
-        same = same && value && entry.kind == *kind;
+        same = same && is_shown(&entry.value, *n) && entry.kind == *kind;
     }
     same
 }
 
-/// Whether the records show this live value, with another record beside it, and these entries.
+/// Whether this is the live value at source time 10, with another record beside it.
+fn is_live(held: &Option<Held>, live: Option<i32>) -> bool {
+    match (held, live) {
+        (Some(held), Some(n)) => is_int(&held.value, n) && held.extra && held.time == 10,
+        (None, None) => true,
+        _ => false,
+    }
+}
+
+/// Whether the records show this live value and these entries.
 fn show(
     alloc: Global,
     records: &[Record],
-    live: i32,
-    shown: &[(HistoryUpdateType, i32)],
+    live: Option<i32>,
+    shown: &[(HistoryUpdateType, Option<i32>)],
 ) -> Result<bool, Fail>
     requires { IsApart stamp_cmp records.now }
 {
     let node = node(alloc)?;
-    let held = match current_of(alloc, records, &node, 10)? {
-        Some(held) => is_int(&held.value, live) && held.extra && held.time == 10,
-        None => false,
-    };
+    let held = current_of(alloc, records, &node, 10)?;
     let entries = entries_of(alloc, records, &node, 10)?;
-    Ok(held && are_shown(entries.as_slice(), shown))
+    Ok(is_live(&held, live) && are_shown(entries.as_slice(), shown))
 }
 
-/// Insert 7 of replica 1 and Insert 8 of replica 2, of one tick, in this order or turned.
-#[tactic(auto, using(crate::proofs::Orders::apart_by_origin))]
-fn two_inserts(alloc: Global, turned: bool) -> Result<bool, Fail> {
-    let (Some(one), Some(two)) = (ReplicaNo::new(1), ReplicaNo::new(2)) else {
-        return Ok(false);
-    };
-    let seven = record(alloc, one, 100, HistoryUpdateType::Insert, Some(7))?;
-    let eight = record(alloc, two, 100, HistoryUpdateType::Insert, Some(8))?;
-    let shown = [
-        (HistoryUpdateType::Insert, 7),
-        (HistoryUpdateType::Replace, 7),
-    ];
-    let records = if turned {
-        vec![in alloc; eight, seven]?
-    } else {
-        vec![in alloc; seven, eight]?
-    };
-    show(alloc, &records, 8, &shown)
-}
-
-#[test]
-fn inserts_of_two_replicas(rt: HostRuntime) -> Result<(), Fail> {
-    for turned in [false, true] {
-        assert!(rt; two_inserts(rt.alloc(), turned)?);
-    }
-    Ok(())
-}
-
-/// Which of four updates has this tick: Insert 7, Update 8, delete, Insert 9.
-fn update_at(tick: i64) -> (HistoryUpdateType, Option<i32>) {
-    match tick {
-        100 => (HistoryUpdateType::Insert, Some(7)),
-        101 => (HistoryUpdateType::Update, Some(8)),
-        102 => (HistoryUpdateType::Delete, None),
-        _ => (HistoryUpdateType::Insert, Some(9)),
-    }
-}
-
-fn update(alloc: Global, one: ReplicaNo, tick: i64) -> Result<Record, AllocError>
-    ensures { IfOk result (λ r. r.tick ≡ tick) }
+/// Whether two records have two ticks.
+#[tactic(auto, using(crate::proofs::Orders::apart_by_test))]
+fn have_two_ticks(a: &Record, b: &Record) -> bool
+    ensures { IsTrue result → is_eq (stamp_cmp a.now b.now) ≡ false }
 {
-    let (asked, written) = update_at(tick);
-    record(alloc, one, tick, asked, written)
+    a.tick != b.tick
 }
 
-/// Whether four updates of one replica, in the order of these ticks, show 9 and what became of them.
-#[tactic(auto, using(crate::proofs::Orders::apart_by_tick))]
-fn four_updates(alloc: Global, one: ReplicaNo, ticks: [i64; 4]) -> Result<bool, Fail> {
-    let [a, b, c, d] = ticks;
-    if a == b || a == c || a == d || b == c || b == d || c == d {
-        return Ok(false);
+/// Whether two records have two origins.
+#[tactic(auto, using(crate::proofs::Orders::apart_by_origin))]
+fn have_two_origins(a: &Record, b: &Record) -> bool
+    ensures { IsTrue result → is_eq (stamp_cmp a.now b.now) ≡ false }
+{
+    a.origin != b.origin
+}
+
+/// What two updates show, in any order.
+#[derive(Drop)]
+struct Case {
+    origins: [u8; 2],
+    ticks: [i64; 2],
+    asked: [HistoryUpdateType; 2],
+    written: [Option<i32>; 2],
+    live: Option<i32>,
+    shown: [(HistoryUpdateType, Option<i32>); 2],
+}
+
+/// One of the updates of a case.
+fn update(alloc: Global, case: &Case, i: usize) -> Result<Record, RecordFault>
+    requires { i < 2 }
+{
+    match ReplicaNo::new(case.origins[i]) {
+        Some(origin) => Ok(record(alloc, origin, case.ticks[i], case.asked[i], case.written[i])?),
+        None => Err(RecordFault::BadField),
     }
-    let shown = [
-        (HistoryUpdateType::Insert, 7),
-        (HistoryUpdateType::Update, 7),
-        (HistoryUpdateType::Delete, 8),
-        (HistoryUpdateType::Insert, 9),
-    ];
-    let first = update(alloc, one, a)?;
-    let second = update(alloc, one, b)?;
-    let third = update(alloc, one, c)?;
-    let fourth = update(alloc, one, d)?;
-    let records = vec![in alloc; first, second, third, fourth]?;
-    show(alloc, &records, 9, &shown)
+}
+
+/// Whether the updates of a case show what they should, the first of them being this one.
+fn holds(alloc: Global, case: &Case, first: usize) -> Result<bool, Fail>
+    requires { first < 2 }
+{
+    let one = update(alloc, case, first)?;
+    let other = update(alloc, case, 1 - first)?;
+    if have_two_ticks(&one, &other) || have_two_origins(&one, &other) {
+        let records = vec![in alloc; one, other]?;
+        return show(alloc, &records, case.live, &case.shown);
+    }
+    Ok(false)
 }
 
 #[test]
-fn updates_in_any_order(rt: HostRuntime) -> Result<(), Fail> {
-    let orders = [
-        [100i64, 101, 102, 103],
-        [103, 102, 101, 100],
-        [101, 100, 103, 102],
-        [102, 103, 100, 101],
-        [100, 103, 101, 102],
-        [103, 100, 102, 101],
+fn two_updates_in_both_orders(rt: HostRuntime) -> Result<(), Fail> {
+    use HistoryUpdateType::{Delete, Insert, Replace, Update};
+    let cases = [
+        Case {
+            origins: [1, 2],
+            ticks: [100, 100],
+            asked: [Insert, Insert],
+            written: [Some(7), Some(8)],
+            live: Some(8),
+            shown: [(Insert, Some(7)), (Replace, Some(7))],
+        },
+        Case {
+            origins: [1, 1],
+            ticks: [100, 101],
+            asked: [Insert, Update],
+            written: [Some(7), Some(8)],
+            live: Some(8),
+            shown: [(Insert, Some(7)), (Update, Some(7))],
+        },
+        Case {
+            origins: [1, 1],
+            ticks: [101, 102],
+            asked: [Update, Delete],
+            written: [Some(8), None],
+            live: None,
+            shown: [(Insert, Some(8)), (Delete, Some(8))],
+        },
+        Case {
+            origins: [1, 1],
+            ticks: [102, 103],
+            asked: [Delete, Insert],
+            written: [None, Some(9)],
+            live: Some(9),
+            shown: [(Delete, None), (Insert, Some(9))],
+        },
     ];
-    if let Some(one) = ReplicaNo::new(1) {
-        for ticks in orders {
-            assert!(rt; four_updates(rt.alloc(), one, ticks)?);
+    for case in &cases {
+        for first in 0..2 {
+            assert!(rt; holds(rt.alloc(), case, first)?);
         }
     }
     Ok(())
@@ -235,13 +254,18 @@ fn records_there_and_back(rt: HostRuntime) -> Result<(), Fail> {
     Ok(())
 }
 
+/// Whether the bytes are read as Insert 7 of replica 1 at tick 100.
+fn is_insert_7(alloc: Global, bytes: &[u8]) -> Result<bool, Fail> {
+    let Some(one) = ReplicaNo::new(1) else {
+        return Ok(false);
+    };
+    let wanted = record(alloc, one, 100, HistoryUpdateType::Insert, Some(7))?;
+    Ok(read_record(alloc, bytes).is_ok_and(|r| r == wanted))
+}
+
 #[test]
 fn the_record_that_is_read(rt: HostRuntime) -> Result<(), Fail> {
-    let record = read_record(rt.alloc(), &INSERT_7)?;
-    let named = record.origin.get() == 1 && record.number == 1 && record.tick == 100;
-    let placed = record.time == 10 && record.node == node(rt.alloc())?;
-    let asked = record.asked == HistoryUpdateType::Insert && record.user.as_str() == "ann";
-    assert!(rt; named && placed && asked && is_int(&record.value, 7));
+    assert!(rt; is_insert_7(rt.alloc(), &INSERT_7)?);
     Ok(())
 }
 
@@ -292,21 +316,14 @@ fn refused_records(rt: HostRuntime) -> Result<(), Fail> {
 
 #[test]
 fn records_spelled_otherwise(rt: HostRuntime) {
-    let front = [
-        1u8, 1, 1, 0, 0, 0, 0, 0, 0, 0, 100, 0, 0, 0, 0, 0, 0, 0,
-    ];
+    let front = [1u8, 1, 1, 0, 0, 0, 0, 0, 0, 0, 100, 0, 0, 0, 0, 0, 0, 0];
     let otherwise = [
         (
-            [
-                0, 85, 10, 0, 0, 0, 0, 0, 0, 0, 1, 0, 0, 0, 0, 1, 1, 2,
-            ]
-            .as_slice(),
+            [0, 85, 10, 0, 0, 0, 0, 0, 0, 0, 1, 0, 0, 0, 0, 1, 1, 2].as_slice(),
             RecordFault::NotCanonical,
         ),
         (
-            &[
-                1, 0, 85, 0, 10, 0, 0, 0, 0, 0, 0, 0, 1, 0, 0, 0, 0, 1, 1, 1,
-            ],
+            &[1, 0, 85, 0, 10, 0, 0, 0, 0, 0, 0, 0, 1, 0, 0, 0, 0, 1, 1, 1],
             RecordFault::NotCanonical,
         ),
         (
@@ -322,14 +339,15 @@ fn records_spelled_otherwise(rt: HostRuntime) {
             RecordFault::BadField,
         ),
         (
-            &[
-                0, 85, 10, 0, 0, 0, 0, 0, 0, 0, 1, 0, 0, 0, 0, 64,
-            ],
+            &[0, 85, 10, 0, 0, 0, 0, 0, 0, 0, 1, 0, 0, 0, 0, 64],
             RecordFault::Binary,
         ),
     ];
     for (rest, fault) in otherwise {
-        assert!(rt; read_both(rt.alloc(), &front, rest) == Err(fault), "at {rest:?}");
+        assert!(rt;
+            read_both(rt.alloc(), &front, rest) == Err(fault),
+            "at {rest:?}"
+        );
     }
 }
 
