@@ -1,5 +1,6 @@
 -- A body and its pieces.
 use Rattle.std.proofs.Common.{◌≡◌, ◌≢◌, ℕ, zero, suc, ◌<◌, ◌≤◌, Bool, true, false, cond, List, [], ◌∷◌, ◌++◌, length, take, drop, nat_le, refl, sym, ap, subst, ◌∙◌, arith}
+use Rattle.std.specs.Prelude.{IsTrue, ◌↔◌}
 use Rattle.std.proofs.lemmas.List.{length-drop, length-take, take-append-drop, append-nil}
 use Rattle.std.proofs.lemmas.Bool.Decides.{nat_tests}
 use Rattle.uacp.specs.Split.{joined, AreFull, IsSplit, pieces_within, pieces_of, left_of}
@@ -84,5 +85,11 @@ pub pieces_split : (size : ℕ) (body : List ℕ) → 0 < size → IsSplit size 
 unfolding pieces_of
 pieces_split size [] some = refl
 pieces_split size (byte ∷ body) some = (joined-within (length (byte ∷ body)) size (byte ∷ body), full-within (length (byte ∷ body)) size (byte ∷ body) some (omega arith) (omega arith))
+
+-- none is left once it is over, and before that there is one
+pub none_left : (over : Bool) (size : ℕ) (bytes : List ℕ) → IsTrue over ↔ (left_of over size bytes ≡ [])
+unfolding pieces_of
+none_left true size bytes = (λ _. refl, λ _. refl)
+none_left false size bytes = (λ f. absurd cc, λ e. absurd (some_pieces (length bytes) size bytes e))
 
 pub ruleset steps = (left-short, left-long)

@@ -1,6 +1,6 @@
 //! The body of a message in pieces, one for each chunk.
 
-ghost use Rattle.std.specs.Prelude.{◌≡◌, ◌-◌, ◌<◌, List, ℕ};
+ghost use Rattle.std.specs.Prelude.{◌≡◌, ◌↔◌, ◌-◌, ◌<◌, [], List, ℕ, IsTrue};
 ghost use Rattle.std.specs.Iterator.{YieldsFirstRef, item_count};
 ghost use Rattle.uacp.specs.Split.{IsSplit, left_of};
 
@@ -20,6 +20,16 @@ impl<'a> Model for Pieces<'a> {
     ghost view = { λ s. left_of s.is_over s.size s.rest.now };
 
     ghost invariant = { λ s. 0 < s.size };
+}
+
+impl<'a> Pieces<'a> {
+    /// Whether no piece is left.
+    #[tactic(auto, using(crate::proofs::Splits::none_left))]
+    pub fn is_empty(&self) -> bool
+        ensures { IsTrue result ↔ (self.now ≡ []) }
+    {
+        self.is_over
+    }
 }
 
 impl<'a> Iterator for Pieces<'a> {

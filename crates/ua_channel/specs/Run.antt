@@ -1,0 +1,63 @@
+-- Whole runs of a channel's calls.
+use Rattle.std.specs.Prelude.{◌≡◌, ◌≢◌, ◌+◌, ℕ, List, [], ◌∷◌, Result, Ok, Err}
+use Rattle.uacp.specs.Stream.{Piece}
+use Rattle.ua_channel.specs.declared.fault.ChannelFault.{ChannelFault}
+use Rattle.ua_channel.specs.declared.fault.ChannelFault.TheVariants.{ChannelId, OutOfMemory}
+use Rattle.ua_channel.specs.declared.taken.Taken.{Taken}
+use Rattle.ua_channel.specs.Placed.{Placed, Heard, heard_of, judged}
+use Rattle.ua_channel.specs.Taking.{State, Takes, Refuses, answer_of}
+use Rattle.ua_channel.specs.Sending.{number_after}
+
+-- what a call did
+pub data Event : Type 0 where
+  -- take answered this chunk, or refused it for a fault of its own
+  Took : Piece → Result Taken ChannelFault → Event
+  -- take ran out of memory at this chunk
+  Starved : Piece → Event
+  -- put_opened or wrap wrote so many chunks
+  Wrote : ℕ → Event
+
+abbrev pub Does : State → Event → State → Type 0
+Does old (Took chunk result) new = Takes old chunk result new × (result ≢ Err OutOfMemory)
+Does old (Starved chunk) new = Refuses old chunk OutOfMemory new
+Does old (Wrote count) new = new ≡ record old { next = number_after old.next count }
+
+-- one call after the other
+abbrev pub Runs : State → List Event → State → Type 0
+Runs old [] new = new ≡ old
+Runs old (event ∷ events) new = (between : State) × Does old event between × Runs between events new
+
+-- the chunks that were taken or refused
+abbrev pub chunks_of_run : List Event → List Piece
+chunks_of_run [] = []
+chunks_of_run (Took chunk result ∷ events) = chunk ∷ chunks_of_run events
+chunks_of_run (Starved chunk ∷ events) = chunks_of_run events
+chunks_of_run (Wrote count ∷ events) = chunks_of_run events
+
+-- what they were answered
+abbrev pub answers_of_run : List Event → List (Result Taken ChannelFault)
+answers_of_run [] = []
+answers_of_run (Took chunk result ∷ events) = result ∷ answers_of_run events
+answers_of_run (Starved chunk ∷ events) = answers_of_run events
+answers_of_run (Wrote count ∷ events) = answers_of_run events
+
+-- how many chunks were written
+abbrev pub written_of_run : List Event → ℕ
+written_of_run [] = 0
+written_of_run (Took chunk result ∷ events) = written_of_run events
+written_of_run (Starved chunk ∷ events) = written_of_run events
+written_of_run (Wrote count ∷ events) = count + written_of_run events
+
+-- once a chunk is ill placed, no later one is taken
+abbrev pub all_refused : List Piece → List (Result Taken ChannelFault)
+all_refused [] = []
+all_refused (chunk ∷ chunks) = Err ChannelId ∷ all_refused chunks
+
+-- what chunks are answered, each by those before it, the newest first: as long as they are well placed, each by its place; the first that isn't, by
+-- its fault; and later ones by ChannelId
+abbrev pub answers_to : List Placed → List Piece → List (Result Taken ChannelFault)
+answers_to past [] = []
+answers_to past (chunk ∷ chunks) = elim (judged (heard_of past) chunk) [
+  | Ok placed ↦ Ok (answer_of (heard_of past) placed) ∷ answers_to (placed ∷ past) chunks
+  | Err fault ↦ Err fault ∷ all_refused chunks
+]

@@ -1,0 +1,16 @@
+//! OPC UA Secure Conversation under the security policy None (Part 6, 6.7): which chunks of a
+//! connection are well placed, the messages of a chunk list, and messages in chunks.
+#![tactic(auto)]
+
+mod channel;
+mod fault;
+mod headers;
+mod inbound;
+mod placed;
+mod sending;
+mod taken;
+
+pub use channel::Channel;
+pub use fault::ChannelFault;
+pub use headers::{RequestHeader, put_response_header, read_request_header};
+pub use taken::{OpenRequest, Taken};
