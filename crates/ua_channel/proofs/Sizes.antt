@@ -15,6 +15,6 @@ message_size token number request piece = omega (arith, length-append (message_h
 
 pub opened_size : (number : ℕ) (request : OpenRequest) (now : Ticks)
     → 8 + length (security_header.canon (1, Some policy_none) ++ sequence_header.canon (number, request.request_id)
-        ++ open_response.canon ((now, (request.handle, record { 0 = 0 })), (request.token, (now, lifetime_of request.lifetime)))) ≡ 135
-unfolding security_header sequence_header open_response response_header unsigned signed text byte_string ticks status node_id
+    ++ open_response.canon ((now, (request.handle, record { 0 = 0 })), (request.token, (now, lifetime_of request.lifetime)))) ≡ 135
+unfolding policy_none security_header sequence_header open_response response_header unsigned signed text byte_string ticks status node_id
 opened_size number request now = refl

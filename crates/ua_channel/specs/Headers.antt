@@ -27,13 +27,22 @@ use Rattle.ua_channel.specs.declared.headers.RequestHeader.{RequestHeader}
 -- ---- the headers of chunks
 
 -- the one policy that is served
-abbrev pub policy_none : List ℕ
+unfoldable pub policy_none : List ℕ
 policy_none = codes "http://opcfoundation.org/UA/SecurityPolicy#None"
+
+abbrev pub SecurityFields : Type 0
+SecurityFields = ℕ × (Option (List ℕ) × (Option (List ℕ) × Option (List ℕ)))
+
+abbrev pub security_of : SecurityFields → ℕ × Option (List ℕ)
+security_of fields = (fields.0, fields.1.0)
+
+abbrev pub security_fields : ℕ × Option (List ℕ) → SecurityFields
+security_fields v = (v.0, (v.1, (None, None)))
 
 -- of an OPN chunk: channel id and policy; the sender's certificate and the receiver's thumbprint aren't kept, and null ones are written
 unfoldable pub security_header : Format BinaryFault (ℕ × Option (List ℕ))
 security_header = fitting (λ v. (v.0 < 2 ^ 32) × IsText v.1)
-    (standing_for (λ fields. (fields.0, fields.1.0)) (λ v. (v.0, (v.1, (None, None)))) (unsigned w32 ▸ text ▸ byte_string ▸ byte_string))
+    (standing_for security_of security_fields (unsigned w32 ▸ text ▸ byte_string ▸ byte_string))
 
 -- of an OPN chunk, behind it: sequence number and request id
 unfoldable pub sequence_header : Format BinaryFault (ℕ × ℕ)

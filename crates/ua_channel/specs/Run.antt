@@ -1,10 +1,10 @@
 -- Whole runs of a channel's calls.
-use Rattle.std.specs.Prelude.{◌≡◌, ◌≢◌, ◌+◌, ℕ, List, [], ◌∷◌, Result, Ok, Err}
+use Rattle.std.specs.Prelude.{◌≡◌, ◌≢◌, ◌+◌, ℕ, List, [], ◌∷◌, true, false, Result, Ok, Err}
 use Rattle.uacp.specs.Stream.{Piece}
 use Rattle.ua_channel.specs.declared.fault.ChannelFault.{ChannelFault}
 use Rattle.ua_channel.specs.declared.fault.ChannelFault.TheVariants.{ChannelId, OutOfMemory}
 use Rattle.ua_channel.specs.declared.taken.Taken.{Taken}
-use Rattle.ua_channel.specs.Placed.{Placed, Heard, heard_of, judged}
+use Rattle.ua_channel.specs.Placed.{Placed, Heard, heard_of, judged, is_more}
 use Rattle.ua_channel.specs.Taking.{State, Takes, Refuses, answer_of}
 use Rattle.ua_channel.specs.Sending.{number_after}
 
@@ -53,11 +53,27 @@ abbrev pub all_refused : List Piece → List (Result Taken ChannelFault)
 all_refused [] = []
 all_refused (chunk ∷ chunks) = Err ChannelId ∷ all_refused chunks
 
--- what chunks are answered, each by those before it, the newest first: as long as they are well placed, each by its place; the first that isn't, by
--- its fault; and later ones by ChannelId
+-- a well placed chunk is answered by its place, and the answers go on; an ill placed one is answered by its fault, and no later one is taken
+abbrev pub goes_on : Heard → Result Placed ChannelFault → (Placed → List (Result Taken ChannelFault)) → List Piece → List (Result Taken ChannelFault)
+goes_on heard (Ok placed) later chunks = Ok (answer_of heard placed) ∷ later placed
+goes_on heard (Err fault) later chunks = Err fault ∷ all_refused chunks
+
+-- what some chunks are answered, each by the chunks before it, the newest of them first
 abbrev pub answers_to : List Placed → List Piece → List (Result Taken ChannelFault)
 answers_to past [] = []
-answers_to past (chunk ∷ chunks) = elim (judged (heard_of past) chunk) [
-  | Ok placed ↦ Ok (answer_of (heard_of past) placed) ∷ answers_to (placed ∷ past) chunks
-  | Err fault ↦ Err fault ∷ all_refused chunks
-]
+answers_to past (chunk ∷ chunks) = goes_on (heard_of past) (judged (heard_of past) chunk) (λ placed. answers_to (placed ∷ past) chunks) chunks
+
+-- C chunks alone
+abbrev pub AreMore : List Placed → Type 0
+AreMore [] = Unit {0}
+AreMore (chunk ∷ older) = (is_more chunk ≡ true) × AreMore older
+
+-- no C chunk stands last
+abbrev pub IsBetween : List Placed → Type 0
+IsBetween [] = Unit {0}
+IsBetween (chunk ∷ older) = is_more chunk ≡ false
+
+-- some chunks that were taken, the newest first: each was well placed by those before it
+abbrev pub AreTaken : List Placed → Type 0
+AreTaken [] = Unit {0}
+AreTaken (placed ∷ older) = ((chunk : Piece) × (judged (heard_of older) chunk ≡ Ok placed)) × AreTaken older

@@ -29,7 +29,7 @@ lifetime_of asked = if asked == 0 then 3600000 else asked
 unfoldable pub opened_chunk : ℕ → OpenRequest → Ticks → List ℕ
 opened_chunk number request now =
     chunk_of Open Final (security_header.canon (1, Some policy_none) ++ sequence_header.canon (number, request.request_id)
-        ++ open_response.canon ((now, (request.handle, record { 0 = 0 })), (request.token, (now, lifetime_of request.lifetime))))
+    ++ open_response.canon ((now, (request.handle, record { 0 = 0 })), (request.token, (now, lifetime_of request.lifetime))))
 
 -- ---- messages
 

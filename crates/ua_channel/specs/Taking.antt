@@ -1,5 +1,5 @@
 -- What taking a chunk answers, and what a channel knows after it.
-use Rattle.std.specs.Prelude.{◌≡◌, ◌<◌, ◌≤◌, ◌⊎◌, ◌+◌, ℕ, List, [], ◌++◌, length, max, Option, None, Some, Bool, true, false, Result, Ok, Err}
+use Rattle.std.specs.Prelude.{◌≡◌, ◌<◌, ◌≤◌, ◌+◌, ℕ, List, [], ◌++◌, length, max, Option, None, Some, Bool, true, false, Result, Ok, Err}
 use Rattle.uacp.specs.declared.types.Letter.{Letter}
 use Rattle.uacp.specs.declared.types.Letter.TheVariants.{Final, More, Abort}
 use Rattle.uacp.specs.declared.types.Chunk.{Chunk}
@@ -38,7 +38,7 @@ with_none_open heard = record heard { chunks = 0; request = 0; bytes = [] }
 
 -- what is known once a well placed chunk is taken
 abbrev pub after : Heard → Placed → Heard
-after heard (Opens sequence asked) = record heard { openings = heard.openings + 1; last = Some sequence.0 }
+after heard (Opens sequence asked) = with_none_open (record heard { openings = heard.openings + 1; last = Some sequence.0 })
 after heard (Says Final numbers body) = with_none_open (record heard { last = Some numbers.number; token = max heard.token numbers.token })
 after heard (Says More numbers body) = record heard {
   last = Some numbers.number;
@@ -71,11 +71,10 @@ pub record State : Type 0 where
 abbrev pub fresh : Hello → Ack → State
 fresh hello ack = record { heard = heard_of []; next = 1; limit = max 25 ack.send_size; max_message = hello.max_message; max_chunks = hello.max_chunks }
 
--- the chunk isn't taken: its fault ends the channel; or memory for it was wanting, and all is as it was
+-- the chunk isn't taken: its fault ends the channel; or memory for a well placed one was wanting, and all is as it was
 abbrev pub Refuses : State → Piece → ChannelFault → State → Type 0
-Refuses old chunk fault new =
-    ((fault ≡ OutOfMemory) × ((placed : Placed) × (judged old.heard chunk ≡ Ok placed) × TakesMemory placed) × (new ≡ old))
-    ⊎ ((judged old.heard chunk ≡ Err fault) × (new ≡ record old { heard = record old.heard { ended = true } }))
+Refuses old chunk OutOfMemory new = ((placed : Placed) × (judged old.heard chunk ≡ Ok placed) × TakesMemory placed) × (new ≡ old)
+Refuses old chunk fault new = (judged old.heard chunk ≡ Err fault) × (new ≡ record old { heard = record old.heard { ended = true } })
 
 -- what is judged is told so
 abbrev pub IsJudged : Result Placed ChannelFault → Result PlacedChunk ChannelFault → Type 0

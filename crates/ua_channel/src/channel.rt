@@ -63,6 +63,7 @@ impl Channel {
     /// Renew for others), mode, a token id that is left. A fault ends the channel, and so does CLO:
     /// then every chunk is `ChannelId`. `OutOfMemory` comes only at a chunk that is well placed and
     /// has bytes of a message; that chunk isn't taken, and the channel is as it was.
+    #[tactic(auto, using(crate::proofs::Takings::refusing))]
     pub fn take(&mut self, chunk: Chunk<'_>) -> Result<Taken, ChannelFault>
         ensures { Takes self.old (piece_of chunk.entry) result self.new }
     {
@@ -102,6 +103,7 @@ impl Channel {
     /// sequence numbers run on, and their token is the greatest of the MSG chunks that were taken, 1
     /// before the first. The channel is ready. The one error is `OutOfMemory`: then nothing was
     /// appended, and no sequence number used.
+    #[tactic(auto, using(crate::proofs::Sendings::shortness))]
     pub fn wrap(
         &mut self,
         request_id: u32,

@@ -1,7 +1,7 @@
 //! The headers of chunks (Part 6, 6.7.2), of requests and responses (Part 4, 7.33 and 7.34), and
 //! what opens a channel (Part 4, 5.5.2).
 
-ghost use Rattle.std.specs.Prelude.{◌≡◌, Some};
+ghost use Rattle.std.specs.Prelude.{◌≡◌, ◌<◌, ◌^◌, Some, length};
 ghost use Rattle.std.specs.Option.{option_copied};
 ghost use Rattle.ua_binary.specs.Format.{Reads, Puts, PutsPart};
 ghost use Rattle.ua_binary.specs.Binary.{node_of};
@@ -13,7 +13,16 @@ use ua_binary::{
 };
 
 /// The URI of the security policy None (Part 7, 6.2).
-pub(crate) const POLICY_NONE: &str = "http://opcfoundation.org/UA/SecurityPolicy#None";
+const POLICY_NONE: &str = "http://opcfoundation.org/UA/SecurityPolicy#None";
+
+/// The URI of the policy that is served.
+#[tactic(auto, unfolding(crate::specs::Headers::policy_none))]
+pub(crate) fn policy_uri() -> &'static str
+    ensures value { result.now ≡ policy_none }
+    ensures few { length result.now < 2 ^ 31 }
+{
+    POLICY_NONE
+}
 
 /// The four numbers at the front of a MSG or CLO chunk, after its size (Part 6, 6.7.2).
 #[derive(Clone, Copy, Debug, PartialEq, Eq)]
@@ -203,7 +212,7 @@ pub(crate) fn put_security_header_parts(out: &mut Vec<u8>) -> Result<(), BinaryF
     ensures { PutsPart BinaryFault.OutOfMemory result out.old.items out.new.items (security_header.canon (1, Some policy_none)) }
 {
     put_u32(out, 1)?;
-    put_text(out, Some(POLICY_NONE))?;
+    put_text(out, Some(policy_uri()))?;
     put_bytes(out, None)?;
     put_bytes(out, None)?;
     Ok(())
@@ -214,7 +223,7 @@ pub(crate) fn put_security_header_parts(out: &mut Vec<u8>) -> Result<(), BinaryF
 pub(crate) struct Opened {
     pub handle: u32,
     pub token: u32,
-    pub now: Ticks,
+    pub made: Ticks,
     pub lifetime: u32,
 }
 
@@ -222,14 +231,14 @@ pub(crate) struct Opened {
 #[tactic(auto, using(ua_binary::proofs::Kept::kept), unfolding(crate::specs::Headers::open_response))]
 pub(crate) fn put_open_response_parts(out: &mut Vec<u8>, opened: &Opened) -> Result<(), BinaryFault>
     ensures { PutsPart BinaryFault.OutOfMemory result out.old.items out.new.items
-        (open_response.canon ((opened.now.now, (opened.now.handle, record { 0 = 0 })), (opened.now.token, (opened.now.now, opened.now.lifetime)))) }
+        (open_response.canon ((opened.now.made, (opened.now.handle, record { 0 = 0 })), (opened.now.token, (opened.now.made, opened.now.lifetime)))) }
 {
     put_node_id(out, &NodeId::Numeric(0, 449))?;
-    put_response_header(opened.now, opened.handle, Status(0), out)?;
+    put_response_header(opened.made, opened.handle, Status(0), out)?;
     put_u32(out, 0)?;
     put_u32(out, 1)?;
     put_u32(out, opened.token)?;
-    put_ticks(out, opened.now)?;
+    put_ticks(out, opened.made)?;
     put_u32(out, opened.lifetime)?;
     put_u32(out, u32::MAX)?;
     Ok(())

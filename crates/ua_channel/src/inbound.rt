@@ -3,7 +3,9 @@
 ghost use Rattle.std.specs.Prelude.{◌≡◌, ◌≤◌, MatchResult, Ok, Err, OnOk, OnErr, IfOk, IfErr};
 
 use crate::fault::ChannelFault;
-use crate::headers::{Asked, Numbers, read_message_header, read_security_header, read_sequence_header};
+use crate::headers::{
+    Asked, Numbers, read_message_header, read_security_header, read_sequence_header,
+};
 use crate::placed::{PlacedChunk, is_due_type, is_known, is_next, is_policy_none, read_asked};
 use crate::taken::{OpenRequest, Taken};
 use std::alloc::Global;
@@ -44,7 +46,8 @@ impl Model for Inbound {
 }
 
 impl Inbound {
-    ghost use Rattle.std.specs.Prelude.{max, Some, length, ◌+◌, IfOk, OnOk, ◌<◌, []};
+    ghost use Rattle.std.specs.Option.{option_copied};
+    ghost use Rattle.std.specs.Prelude.{true, max, Some, length, ◌+◌, IfOk, OnOk, ◌<◌, []};
     ghost use Rattle.ua_channel.specs.Placed.{Says, heard_of, checked, number_rules, size_rules, security_rules, sequence_rules, asked_rules, opening_judged, message_judged, closing_judged, judged};
     ghost use Rattle.ua_channel.specs.Taking.{piece_of, placed_of, with_none_open, IsJudged, HasRoom, HasRoomFor, Accepts};
 
@@ -247,6 +250,7 @@ impl Inbound {
             PlacedChunk::Opens(sequence, asked) => {
                 self.openings += 1;
                 self.last = Some(sequence.0);
+                let _none = self.close_message();
                 Ok(Taken::Opening(OpenRequest {
                     request_id: sequence.1,
                     handle: asked.handle,
@@ -258,7 +262,7 @@ impl Inbound {
             PlacedChunk::Closes(numbers) => {
                 self.is_ended = true;
                 self.last = Some(numbers.number);
-                let _dropped = self.close_message();
+                let _none = self.close_message();
                 Ok(Taken::Closed)
             }
         }
@@ -276,7 +280,7 @@ impl Inbound {
         match letter {
             Letter::Abort => {
                 self.note(&numbers);
-                let _dropped = self.close_message();
+                let _none = self.close_message();
                 Ok(Taken::Aborted(numbers.request_id))
             }
             Letter::More => {

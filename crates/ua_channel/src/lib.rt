@@ -6,6 +6,7 @@ mod channel;
 mod fault;
 mod headers;
 mod inbound;
+mod laws;
 mod placed;
 mod sending;
 mod taken;
@@ -13,4 +14,11 @@ mod taken;
 pub use channel::Channel;
 pub use fault::ChannelFault;
 pub use headers::{RequestHeader, put_response_header, read_request_header};
+pub use laws::{
+    chunks_are_answered_by_their_places, formats_are_lawful, formats_are_prefix_free,
+    message_is_the_bodies_of_its_run, messages_are_bounded, numbers_run_on,
+};
 pub use taken::{OpenRequest, Taken};
+
+#[cfg(test)]
+mod tests;

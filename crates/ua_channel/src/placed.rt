@@ -1,13 +1,11 @@
 //! Which chunks are well placed (Part 6, 6.7.2 and 6.7.6).
 
+ghost use Rattle.std.specs.Option.{option_copied};
 ghost use Rattle.std.specs.Prelude.{◌≡◌, ◌≤◌, ◌<◌, ◌^◌, length, MatchResult, Ok, Err};
 ghost use Rattle.ua_channel.specs.Placed.{Heard, follows, is_token, is_policy, is_due, asked_at};
 
 use crate::fault::ChannelFault;
-use crate::headers::{
-    Asked, Numbers, POLICY_NONE, read_message_header, read_open_request, read_security_header,
-    read_sequence_header,
-};
+use crate::headers::{Asked, Numbers, policy_uri, read_open_request};
 use ua_binary::Cursor;
 use uacp::Letter;
 
@@ -47,7 +45,7 @@ pub(crate) fn is_policy_none(policy: Option<&str>) -> bool
 {
     match policy {
         None => false,
-        Some(uri) => uri == POLICY_NONE,
+        Some(uri) => uri == policy_uri(),
     }
 }
 

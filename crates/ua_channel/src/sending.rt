@@ -7,7 +7,7 @@ ghost use Rattle.ua_channel.specs.Sending.{number_after, lifetime_of, opened_chu
 
 use crate::headers::{Opened, put_open_response_parts, put_security_header_parts};
 use crate::taken::OpenRequest;
-use ua_binary::{Ticks, BinaryFault, put_block, put_u32};
+use ua_binary::{BinaryFault, Ticks, put_block, put_u32};
 use uacp::{Kind, Letter, Pieces};
 
 /// The sequence number after this one.
@@ -16,7 +16,11 @@ pub(crate) fn following(number: u32) -> u32
     ensures value { result ≡ number_after number 1 }
     ensures within { IsNumber result }
 {
-    if number == 4_294_966_272 { 1 } else { number + 1 }
+    if number == 4_294_966_272 {
+        1
+    } else {
+        number + 1
+    }
 }
 
 /// The lifetime that is granted, in milliseconds.
@@ -39,7 +43,7 @@ pub(crate) fn put_opened_parts(
     let opened = Opened {
         handle: request.handle,
         token: request.token,
-        now,
+        made: now,
         lifetime: granted_lifetime(request.lifetime),
     };
     put_block(out, b"OPNF")?;
@@ -96,7 +100,7 @@ fn put_message_parts(
 
 /// A MSG chunk for each piece, their numbers running on from this one; the number after theirs. An
 /// error leaves a part.
-#[tactic(auto, using(ua_binary::proofs::Kept::kept))]
+#[tactic(auto, using(ua_binary::proofs::Kept::kept, crate::proofs::Sendings::running))]
 pub(crate) fn put_chunks(
     token: u32,
     request_id: u32,
