@@ -1,4 +1,4 @@
--- What a fault is called outside: by its number, and by the status code that an Error tells (Part 6, 7.1.2.5; Part 4, 7.38.2).
+-- What a fault is called outside: by its number, and by the status code that an Error tells (Part 6, 7.1.2.5).
 use Rattle.std.specs.Prelude.{ℕ}
 use Rattle.ua_channel.specs.declared.fault.ChannelFault.{ChannelFault}
 use Rattle.ua_channel.specs.declared.fault.ChannelFault.TheVariants.{Policy, Mode, RequestType, ChannelId, Token, Sequence, TooManyChunks, TooLarge, Decoding, OutOfMemory}

@@ -1,5 +1,5 @@
 -- The headers of a channel's chunks (Part 6, 6.7.2), those of requests and responses (Part 4, 7.33 and 7.34), and the opening of a
--- channel (Part 4, 5.5.2).
+-- channel (Part 4, 5.6.2).
 use Rattle.std.specs.Prelude.{◌+◌, ℕ, ℤ, pos, List, [], ◌∷◌, ◌++◌, length, codes, Option, None, Some, Bool, true, false, ◌&&◌, ◌==◌, ◌<◌, ◌^◌}
 use Rattle.std.specs.Option.{option_copied}
 use Rattle.std.specs.Int.{w32}

@@ -1,4 +1,4 @@
--- Which chunks of a channel are well placed, by the chunks before them (Part 6, 6.7.2 and 6.7.6; Part 4, 5.5.2).
+-- Which chunks of a channel are well placed, by the chunks before them (Part 6, 6.7.2; Part 4, 5.6.2).
 use Rattle.std.specs.Prelude.{◌+◌, ℕ, pos, List, [], ◌∷◌, ◌++◌, length, max, Option, None, Some, Bool, true, false, not, ◌&&◌, ◌||◌, ◌==◌, nat_lt, nat_le, if◌then◌else◌, Result, Ok, Err}
 use Rattle.std.specs.Str.{bytes_eq}
 use Rattle.std.specs.Ordering.{int_eq}

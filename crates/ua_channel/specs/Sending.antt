@@ -9,6 +9,7 @@ use Rattle.uacp.specs.declared.types.Kind.TheVariants.{Open, Message}
 use Rattle.uacp.specs.declared.types.Letter.{Letter}
 use Rattle.uacp.specs.declared.types.Letter.TheVariants.{Final, More}
 use Rattle.uacp.specs.Split.{IsSplit}
+use Rattle.uacp.specs.Stream.{Piece}
 use Rattle.ua_channel.specs.declared.taken.OpenRequest.{OpenRequest}
 use Rattle.ua_channel.specs.Headers.{policy_none, security_header, sequence_header, message_header, open_response, chunk_of}
 use Rattle.ua_channel.specs.Taking.{State}
@@ -47,6 +48,14 @@ letter_before (piece ∷ pieces) = More
 abbrev pub chunks_of : ℕ → ℕ → ℕ → List (List ℕ) → List ℕ
 chunks_of token request number [] = []
 chunks_of token request number (piece ∷ pieces) = message_chunk (letter_before pieces) token number request piece ++ chunks_of token request (number_after number 1) pieces
+
+-- what follows the header of such a chunk, and the chunks as the client cuts them off the stream
+abbrev pub sent_body : ℕ → ℕ → ℕ → List ℕ → List ℕ
+sent_body token request number piece = message_header.canon (record { channel_id = 1; token = token; number = number; request_id = request }) ++ piece
+
+abbrev pub sent_of : ℕ → ℕ → ℕ → List (List ℕ) → List Piece
+sent_of token request number [] = []
+sent_of token request number (piece ∷ pieces) = record { kind = Message; letter = letter_before pieces; body = sent_body token request number piece } ∷ sent_of token request (number_after number 1) pieces
 
 -- the bytes of so many chunks were appended and their numbers are used; or memory was wanting, and all is as it was
 abbrev pub Writes : {T : Type 0} → State → List ℕ → ℕ → Result T ChannelFault → List ℕ → List ℕ → State → Type 0

@@ -77,7 +77,7 @@ impl Channel {
     }
 
     /// Appends the answer to a request that opened the channel or renewed its token: an OPN chunk of
-    /// 135 bytes, made at this moment (Part 4, 5.5.2). The lifetime is the one that is asked for, or
+    /// 135 bytes, made at this moment (Part 4, 5.6.2). The lifetime is the one that is asked for, or
     /// 3,600,000 ms for 0; the server's nonce is null. The one error is `OutOfMemory`: then nothing
     /// was appended, and no sequence number used.
     pub fn put_opened(

@@ -1,5 +1,5 @@
 //! The headers of chunks (Part 6, 6.7.2), of requests and responses (Part 4, 7.33 and 7.34), and
-//! what opens a channel (Part 4, 5.5.2).
+//! what opens a channel (Part 4, 5.6.2).
 
 ghost use Rattle.std.specs.Prelude.{◌≡◌, ◌<◌, ◌^◌, Some, length};
 ghost use Rattle.std.specs.Option.{option_copied};
@@ -12,7 +12,7 @@ use ua_binary::{
     put_bytes, put_node_id, put_status, put_text, put_ticks, put_u8, put_u32,
 };
 
-/// The URI of the security policy None (Part 7, 6.2).
+/// The URI of the security policy None (Part 7).
 const POLICY_NONE: &str = "http://opcfoundation.org/UA/SecurityPolicy#None";
 
 /// The URI of the policy that is served.
@@ -33,7 +33,7 @@ pub(crate) struct Numbers {
     pub request_id: u32,
 }
 
-/// What an OpenSecureChannel request asks for (Part 4, 5.5.2).
+/// What an OpenSecureChannel request asks for (Part 4, 5.6.2).
 #[derive(Clone, Copy, Debug, PartialEq, Eq)]
 pub(crate) struct Asked {
     pub handle: u32,

@@ -280,7 +280,7 @@ impl Inbound {
         match letter {
             Letter::Abort => {
                 self.note(&numbers);
-                let _none = self.close_message();
+                let _given_up = self.close_message();
                 Ok(Taken::Aborted(numbers.request_id))
             }
             Letter::More => {

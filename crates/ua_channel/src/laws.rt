@@ -1,11 +1,13 @@
 //! What holds of a channel's formats, of every list of chunks, and of what is written.
 
-ghost use Rattle.std.specs.Prelude.{◌≡◌, ◌≤◌, ◌<◌, ◌+◌, ◌*◌, ◌%◌, ◌↔◌, ◌++◌, [], List, ℕ, Ok, true, length};
+ghost use Rattle.std.specs.Prelude.{◌≡◌, ◌≤◌, ◌<◌, ◌+◌, ◌-◌, ◌*◌, ◌%◌, ◌^◌, ◌↔◌, ◌++◌, [], List, ℕ, true, length};
 ghost use Rattle.ua_binary.specs.Format.{IsLawful, IsPrefixFree};
 ghost use Rattle.uacp.specs.declared.greeting.Hello.{Hello};
 ghost use Rattle.uacp.specs.declared.greeting.Ack.{Ack};
 ghost use Rattle.uacp.specs.declared.types.Letter.TheVariants.{Final};
-ghost use Rattle.uacp.specs.Stream.{Piece};
+ghost use Rattle.uacp.specs.Split.{IsSplit};
+ghost use Rattle.uacp.specs.Stream.{AreChunks};
+ghost use Rattle.ua_channel.specs.Sending.{chunks_of, sent_of, AreShort};
 ghost use Rattle.ua_channel.specs.declared.headers.Numbers.{Numbers};
 ghost use Rattle.ua_channel.specs.Headers.{security_header, sequence_header, message_header, request_header, response_header, open_request, open_response};
 ghost use Rattle.ua_channel.specs.Placed.{Placed, Says, heard_of, open_run, bodies_of};
@@ -68,4 +70,19 @@ pub fn messages_are_bounded()
 pub fn numbers_run_on()
     ensures { (hello : Hello) (ack : Ack) (events : List Event) (state : State) → Runs (fresh hello ack) events state
         → state.next ≡ written_of_run events % 4294966272 + 1 }
+{}
+
+/// The bytes that are written for a message are whole chunks, as the client's end cuts them off the
+/// stream, where it takes as many bytes a chunk.
+#[tactic(auto, using(crate::proofs::Wrapped::wrapped))]
+pub fn wrapped_bytes_are_whole_chunks()
+    ensures { (limit token request number : ℕ) (pieces : List (List ℕ)) → 24 < limit → limit < 2 ^ 32 → AreShort (limit - 24) pieces
+        → AreChunks true (λ _. limit) (chunks_of token request number pieces) (sent_of token request number pieces) [] }
+{}
+
+/// A body has no more pieces than a number says, exactly where they have room for it.
+#[tactic(auto, using(crate::proofs::Wrapped::wrapped))]
+pub fn pieces_are_counted()
+    ensures { (size most : ℕ) (body : List ℕ) (pieces : List (List ℕ)) → 0 < size → 0 < most → IsSplit size body pieces
+        → (length pieces ≤ most) ↔ (length body ≤ most * size) }
 {}

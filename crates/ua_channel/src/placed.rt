@@ -1,4 +1,4 @@
-//! Which chunks are well placed (Part 6, 6.7.2 and 6.7.6).
+//! Which chunks are well placed (Part 6, 6.7.2).
 
 ghost use Rattle.std.specs.Option.{option_copied};
 ghost use Rattle.std.specs.Prelude.{◌≡◌, ◌≤◌, ◌<◌, ◌^◌, length, MatchResult, Ok, Err};

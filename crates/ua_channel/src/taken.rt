@@ -2,7 +2,7 @@
 
 use ua_binary::Bytes;
 
-/// A request that opens the channel or renews its token (Part 4, 5.5.2).
+/// A request that opens the channel or renews its token (Part 4, 5.6.2).
 #[derive(Clone, Copy, Debug, PartialEq, Eq)]
 pub struct OpenRequest {
     /// The request id of its chunk.
