@@ -18,7 +18,7 @@ use Rattle.ua_channel.specs.Headers.{security_header, sequence_header, message_h
 use Rattle.ua_channel.specs.Placed.{Placed, Opens, Says, Closes, Heard, heard_of, judged, judged_by, checked, decoded, asked_at, security_rules, sequence_rules, asked_rules, number_rules, size_rules, is_more, open_run, bodies_of}
 use Rattle.ua_channel.specs.Taking.{State, fresh, Takes, Refuses, Accepts, answer_of, after}
 use Rattle.ua_channel.specs.Sending.{number_after}
-use Rattle.ua_channel.specs.Run.{Event, Took, Starved, Wrote, Does, Runs, chunks_of_run, answers_of_run, written_of_run, all_refused, answers_to, AreMore, IsBetween}
+use Rattle.ua_channel.specs.Run.{Event, Took, Starved, Wrote, Does, Runs, chunks_of_run, answers_of_run, written_of_run, all_refused, answers_to, taken_by, taken_of, AreTaken}
 
 -- a chunk that was judged well placed and then taken
 pub takes-accepted : (heard heard' : Heard) (next limit max_message max_chunks : ℕ) (chunk : Piece) (placed : Placed) (result : Result Taken ChannelFault)
@@ -164,6 +164,62 @@ takes-answer start events state knows run = told [] events start state knows run
 
 pub takes-answer-fresh : (hello : Greeting) (ack : Ack) (events : List Event) (state : State) → Runs (fresh hello ack) events state → answers_of_run events ≡ answers_to [] (chunks_of_run events)
 takes-answer-fresh hello ack events state run = takes-answer (fresh hello ack) events state refl run
+
+-- ---- what a channel knows
+
+-- an ended channel keeps what it knows
+stays : (events : List Event) (old new : State) → old.heard.ended ≡ true → Runs old events new → new.heard ≡ old.heard
+stays [] old new ended run = ap (λ (s : State). s.heard) run
+stays (Took chunk (Ok t) ∷ events) old new ended run =
+    let wrong = judged-ended old.heard chunk true ended refl in
+    let right = run.1.0.1 in absurd cc
+stays (Took chunk (Err fault) ∷ events) old new ended run =
+    let refuses = refuses-told old run.0 chunk fault (λ e. run.1.1 (ap Err e)) run.1.0 in
+    let still : run.0.heard.ended ≡ true = ap (λ (s : State). s.heard.ended) refuses.1 in
+    stays events run.0 new still run.2 ∙ ap (λ (s : State). s.heard) refuses.1 ∙ ap (λ e. record old.heard { ended = e }) (sym ended)
+stays (Starved chunk ∷ events) old new ended run =
+    stays events run.0 new (ap (λ (s : State). s.heard.ended) run.1.1 ∙ ended) run.2 ∙ ap (λ (s : State). s.heard) run.1.1
+stays (Wrote count ∷ events) old new ended run =
+    stays events run.0 new (ap (λ (s : State). s.heard.ended) run.1 ∙ ended) run.2 ∙ ap (λ (s : State). s.heard) run.1
+
+but_ended : (known heard : Heard) → heard ≡ known → heard ≡ record known { ended = heard.ended }
+but_ended known heard is = is ∙ ap (λ e. record known { ended = e }) (sym (ap (λ (h : Heard). h.ended) is))
+
+knows_after : (past : List Placed) (events : List Event) (old new : State) → old.heard ≡ heard_of past → Runs old events new
+    → new.heard ≡ record (heard_of (taken_of past (chunks_of_run events))) { ended = new.heard.ended }
+knows_after past [] old new knows run = but_ended (heard_of past) new.heard (ap (λ (s : State). s.heard) run ∙ knows)
+knows_after past (Took chunk (Ok t) ∷ events) old new knows run =
+    let placed = run.1.0.0 in
+    let is : judged (heard_of past) chunk ≡ Ok placed = subst (λ h. judged h chunk ≡ Ok placed) knows run.1.0.1 in
+    let later : run.0.heard ≡ heard_of (placed ∷ past) = ap (λ (s : State). s.heard) run.1.0.3 ∙ ap (λ h. after h placed) knows ∙ after-heard past placed in
+    rw is (knows_after (placed ∷ past) events run.0 new later run.2)
+knows_after past (Took chunk (Err fault) ∷ events) old new knows run =
+    let refuses = refuses-told old run.0 chunk fault (λ e. run.1.1 (ap Err e)) run.1.0 in
+    let is : judged (heard_of past) chunk ≡ Err fault = subst (λ h. judged h chunk ≡ Err fault) knows refuses.0 in
+    let ended : run.0.heard.ended ≡ true = ap (λ (s : State). s.heard.ended) refuses.1 in
+    let same : new.heard ≡ record (heard_of past) { ended = true } = stays events run.0 new ended run.2 ∙ ap (λ (s : State). s.heard) refuses.1 ∙ ap (λ (h : Heard). let k : Heard = record h { ended = true } in k) knows in
+    rw is (same ∙ ap (λ e. record (heard_of past) { ended = e }) (sym (ap (λ (h : Heard). h.ended) same)))
+knows_after past (Starved chunk ∷ events) old new knows run = knows_after past events run.0 new (ap (λ (s : State). s.heard) run.1.1 ∙ knows) run.2
+knows_after past (Wrote count ∷ events) old new knows run = knows_after past events run.0 new (ap (λ (s : State). s.heard) run.1 ∙ knows) run.2
+
+pub knows-taken : (hello : Greeting) (ack : Ack) (events : List Event) (state : State) → Runs (fresh hello ack) events state
+    → state.heard ≡ record (heard_of (taken_of [] (chunks_of_run events))) { ended = state.heard.ended }
+knows-taken hello ack events state run = knows_after [] events (fresh hello ack) state refl run
+
+taken_one : (past : List Placed) (chunk : Piece) (r : Result Placed ChannelFault) (later : Placed → List Placed) → judged (heard_of past) chunk ≡ r → AreTaken past
+    → ((placed : Placed) → AreTaken (placed ∷ past) → AreTaken (later placed)) → AreTaken (taken_by later past r)
+taken_one past chunk (Ok placed) later is taken goes = goes placed ((chunk, is), taken)
+taken_one past chunk (Err fault) later is taken goes = taken
+
+taken_after : (chunks : List Piece) (past : List Placed) → AreTaken past → AreTaken (taken_of past chunks)
+taken_after [] past taken = taken
+taken_after (chunk ∷ chunks) past taken =
+    taken_one past chunk (judged (heard_of past) chunk) (λ placed. taken_of (placed ∷ past) chunks) refl taken (λ placed more. taken_after chunks (placed ∷ past) more)
+
+pub taken-placed : (chunks : List Piece) → AreTaken (taken_of [] chunks)
+taken-placed chunks = taken_after chunks [] tt
+
+pub ruleset knowing = (knows-taken, taken-placed)
 
 pub ruleset refusing = (takes-refused)
 

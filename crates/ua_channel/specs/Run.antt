@@ -77,3 +77,12 @@ IsBetween (chunk ∷ older) = is_more chunk ≡ false
 abbrev pub AreTaken : List Placed → Type 0
 AreTaken [] = Unit {0}
 AreTaken (placed ∷ older) = ((chunk : Piece) × (judged (heard_of older) chunk ≡ Ok placed)) × AreTaken older
+
+-- the chunks that are taken of some, the newest first, where each is judged by the ones before it: as many as come before the first ill placed one
+abbrev pub taken_by : (Placed → List Placed) → List Placed → Result Placed ChannelFault → List Placed
+taken_by later past (Ok placed) = later placed
+taken_by later past (Err fault) = past
+
+abbrev pub taken_of : List Placed → List Piece → List Placed
+taken_of past [] = past
+taken_of past (chunk ∷ chunks) = taken_by (λ placed. taken_of (placed ∷ past) chunks) past (judged (heard_of past) chunk)

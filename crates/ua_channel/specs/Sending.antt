@@ -1,5 +1,5 @@
 -- What a channel writes: the answer to an opening, and messages in chunks (Part 6, 6.7.2).
-use Rattle.std.specs.Prelude.{◌≡◌, ◌<◌, ◌≤◌, ◌⊎◌, ◌+◌, ◌-◌, ◌*◌, ◌%◌, ℕ, List, [], ◌∷◌, ◌++◌, length, take, Some, false, Result, Ok, Err, if◌then◌else◌, ◌==◌}
+use Rattle.std.specs.Prelude.{◌≡◌, ◌<◌, ◌≤◌, ◌⊎◌, ◌+◌, ◌-◌, ◌*◌, ◌%◌, ℕ, List, [], ◌∷◌, ◌++◌, length, take, Some, Result, Ok, Err, if◌then◌else◌, ◌==◌}
 use Rattle.ua_binary.specs.declared.values.Ticks.{Ticks}
 use Rattle.ua_binary.specs.declared.fault.BinaryFault.{BinaryFault}
 use Rattle.ua_binary.specs.declared.fault.BinaryFault.TheVariants as binary
@@ -66,10 +66,6 @@ Writes old bytes count (Err fault) before now new = (fault ≡ OutOfMemory) × (
 abbrev pub Wraps : {T : Type 0} → State → ℕ → List ℕ → Result T ChannelFault → List ℕ → List ℕ → State → Type 0
 Wraps old request body result before now new = (pieces : List (List ℕ)) × IsSplit (old.limit - 24) body pieces
     × Writes old (chunks_of old.heard.token request old.next pieces) (length pieces) result before now new
-
--- it is open: an opening was taken, and neither CLO nor a fault
-abbrev pub IsReady : State → Type 0
-IsReady state = (state.heard.ended ≡ false) × (0 < state.heard.openings)
 
 -- no piece has more bytes than this
 abbrev pub AreShort : ℕ → List (List ℕ) → Type 0

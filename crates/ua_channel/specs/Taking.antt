@@ -102,3 +102,15 @@ Accepts old placed (Err fault) new = (fault ≡ OutOfMemory) × TakesMemory plac
 abbrev pub Takes : State → Piece → Result Taken ChannelFault → State → Type 0
 Takes old chunk (Ok taken) new = (placed : Placed) × (judged old.heard chunk ≡ Ok placed) × (taken ≡ answer_of old.heard placed) × (new ≡ record old { heard = after old.heard placed })
 Takes old chunk (Err fault) new = Refuses old chunk fault new
+
+-- it is open: an opening was taken, and neither CLO nor a fault
+abbrev pub IsReady : State → Type 0
+IsReady state = (state.heard.ended ≡ false) × (0 < state.heard.openings)
+
+-- what asks for an answer leaves the channel open
+abbrev pub LeavesReady : Taken → State → Type 0
+LeavesReady taken.Nothing state = Unit {0}
+LeavesReady (taken.Opening request) state = IsReady state
+LeavesReady (taken.Message request bytes) state = IsReady state
+LeavesReady (taken.Aborted request) state = Unit {0}
+LeavesReady taken.Closed state = Unit {0}

@@ -36,8 +36,9 @@ impl Model for Channel {
 }
 
 impl Channel {
-    ghost use Rattle.ua_channel.specs.Taking.{fresh, piece_of, Takes};
-    ghost use Rattle.ua_channel.specs.Sending.{opened_chunk, Writes, Wraps, IsReady, IsFitting};
+    ghost use Rattle.std.specs.Prelude.{IfOk};
+    ghost use Rattle.ua_channel.specs.Taking.{fresh, piece_of, Takes, IsReady, LeavesReady};
+    ghost use Rattle.ua_channel.specs.Sending.{opened_chunk, Writes, Wraps, IsFitting};
 
     /// A channel that isn't open yet, between a client and a server that greeted each other so. It
     /// takes no memory.
@@ -62,10 +63,12 @@ impl Channel {
     /// sequence header, sequence number, no open message, body, request type (Issue for the first,
     /// Renew for others), mode, a token id that is left. A fault ends the channel, and so does CLO:
     /// then every chunk is `ChannelId`. `OutOfMemory` comes only at a chunk that is well placed and
-    /// has bytes of a message; that chunk isn't taken, and the channel is as it was.
+    /// has bytes of a message; that chunk isn't taken, and the channel is as it was. After an opening
+    /// or a whole message the channel is ready, so that `wrap` may be called.
     #[tactic(auto, using(crate::proofs::Takings::refusing))]
     pub fn take(&mut self, chunk: Chunk<'_>) -> Result<Taken, ChannelFault>
-        ensures { Takes self.old (piece_of chunk.entry) result self.new }
+        ensures takes { Takes self.old (piece_of chunk.entry) result self.new }
+        ensures ready { IfOk result (λ taken. LeavesReady taken self.new) }
     {
         match self.inbound.judge(chunk) {
             Ok(placed) => self.inbound.accept(placed),

@@ -1,6 +1,6 @@
 //! What is known of the chunks that were taken.
 
-ghost use Rattle.std.specs.Prelude.{◌≡◌, ◌≤◌, MatchResult, Ok, Err, OnOk, OnErr, IfOk, IfErr};
+ghost use Rattle.std.specs.Prelude.{◌≡◌, ◌≤◌, OnOk, IfOk};
 
 use crate::fault::ChannelFault;
 use crate::headers::{
@@ -47,7 +47,7 @@ impl Model for Inbound {
 
 impl Inbound {
     ghost use Rattle.std.specs.Option.{option_copied};
-    ghost use Rattle.std.specs.Prelude.{true, max, Some, length, ◌+◌, IfOk, OnOk, ◌<◌, []};
+    ghost use Rattle.std.specs.Prelude.{true, max, Some, IfOk, OnOk, ◌<◌, []};
     ghost use Rattle.ua_channel.specs.Placed.{Says, heard_of, checked, number_rules, size_rules, security_rules, sequence_rules, asked_rules, opening_judged, message_judged, closing_judged, judged};
     ghost use Rattle.ua_channel.specs.Taking.{piece_of, placed_of, with_none_open, IsJudged, HasRoom, HasRoomFor, Accepts};
 

@@ -1,18 +1,18 @@
 //! What holds of a channel's formats, of every list of chunks, and of what is written.
 
-ghost use Rattle.std.specs.Prelude.{◌≡◌, ◌≤◌, ◌<◌, ◌+◌, ◌-◌, ◌*◌, ◌%◌, ◌^◌, ◌↔◌, ◌++◌, [], List, ℕ, true, length};
+ghost use Rattle.std.specs.Prelude.{◌≡◌, ◌≤◌, ◌<◌, ◌+◌, ◌-◌, ◌*◌, ◌%◌, ◌^◌, ◌↔◌, ◌++◌, [], ◌∷◌, List, ℕ, true, length};
 ghost use Rattle.ua_binary.specs.Format.{IsLawful, IsPrefixFree};
 ghost use Rattle.uacp.specs.declared.greeting.Hello.{Hello};
 ghost use Rattle.uacp.specs.declared.greeting.Ack.{Ack};
 ghost use Rattle.uacp.specs.declared.types.Letter.TheVariants.{Final};
 ghost use Rattle.uacp.specs.Split.{IsSplit};
-ghost use Rattle.uacp.specs.Stream.{AreChunks};
+ghost use Rattle.uacp.specs.Stream.{Piece, AreChunks};
 ghost use Rattle.ua_channel.specs.Sending.{chunks_of, sent_of, AreShort};
 ghost use Rattle.ua_channel.specs.declared.headers.Numbers.{Numbers};
 ghost use Rattle.ua_channel.specs.Headers.{security_header, sequence_header, message_header, request_header, response_header, open_request, open_response};
 ghost use Rattle.ua_channel.specs.Placed.{Placed, Says, heard_of, open_run, bodies_of};
 ghost use Rattle.ua_channel.specs.Taking.{State, fresh, answer_of};
-ghost use Rattle.ua_channel.specs.Run.{Event, Runs, chunks_of_run, answers_of_run, written_of_run, answers_to, AreMore, IsBetween, AreTaken};
+ghost use Rattle.ua_channel.specs.Run.{Event, Runs, chunks_of_run, answers_of_run, written_of_run, answers_to, taken_of, AreMore, IsBetween, AreTaken};
 
 use crate::taken::Taken;
 
@@ -57,11 +57,23 @@ pub fn message_is_the_bodies_of_its_run()
         → answer_of (heard_of (run ++ older)) (Says Final numbers body) ≡ Taken.Message numbers.request_id (bodies_of run ++ body) }
 {}
 
-/// A message that is open has at most 64 chunks and 4,194,304 bytes.
+/// What a channel knows after whatever calls is what the rules look at of the chunks that it took, the
+/// end aside: their openings, the newest sequence number, the greatest token of MSG chunks, the open
+/// message. And each chunk that it took was well placed by those before it.
+#[tactic(auto, using(crate::proofs::Takings::knowing))]
+pub fn channel_knows_the_chunks_taken()
+    ensures known { (hello : Hello) (ack : Ack) (events : List Event) (state : State) → Runs (fresh hello ack) events state
+        → state.heard ≡ record (heard_of (taken_of [] (chunks_of_run events))) { ended = state.heard.ended } }
+    ensures placed { (chunks : List Piece) → AreTaken (taken_of [] chunks) }
+{}
+
+/// A message has at most 64 chunks and 4,194,304 bytes, while it is open and once it is whole.
 #[tactic(auto, using(crate::proofs::Messages::messages))]
 pub fn messages_are_bounded()
     ensures chunks { (past : List Placed) → AreTaken past → length (open_run past) ≤ 64 }
     ensures bytes { (past : List Placed) → AreTaken past → length (bodies_of (open_run past)) ≤ 4194304 }
+    ensures whole { (older : List Placed) (numbers : Numbers) (body : List ℕ) → AreTaken (Says Final numbers body ∷ older)
+        → (length (open_run older) < 64) × (length (bodies_of (open_run older) ++ body) ≤ 4194304) }
 {}
 
 /// The sequence numbers of the chunks that are written run on from 1 to 4,294,966,272, and then begin

@@ -1,8 +1,8 @@
 //! Which chunks are well placed (Part 6, 6.7.2).
 
 ghost use Rattle.std.specs.Option.{option_copied};
-ghost use Rattle.std.specs.Prelude.{◌≡◌, ◌≤◌, ◌<◌, ◌^◌, length, MatchResult, Ok, Err};
-ghost use Rattle.ua_channel.specs.Placed.{Heard, follows, is_token, is_policy, is_due, asked_at};
+ghost use Rattle.std.specs.Prelude.{◌≡◌};
+ghost use Rattle.ua_channel.specs.Placed.{follows, is_token, is_policy, is_due, asked_at};
 
 use crate::fault::ChannelFault;
 use crate::headers::{Asked, Numbers, policy_uri, read_open_request};

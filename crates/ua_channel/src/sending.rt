@@ -1,6 +1,6 @@
 //! Chunks that are written.
 
-ghost use Rattle.std.specs.Prelude.{◌≡◌, ◌≤◌, ◌<◌, ◌+◌, ◌-◌, ◌^◌, List, ℕ, length, MatchResult};
+ghost use Rattle.std.specs.Prelude.{◌≡◌, ◌≤◌, length};
 ghost use Rattle.ua_binary.specs.Format.{Puts, PutsPart};
 ghost use Rattle.uacp.specs.Stream.{letters};
 ghost use Rattle.ua_channel.specs.Sending.{number_after, lifetime_of, opened_chunk, message_chunk, letter_before, AreShort, IsNumber, PutsChunks};
