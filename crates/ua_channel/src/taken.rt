@@ -1,6 +1,7 @@
 //! What a channel answers to a chunk.
 
-use ua_binary::Bytes;
+use std::alloc::AllocError;
+use ua_binary::{Bytes, TryClone};
 
 /// A request that opens the channel or renews its token (Part 4, 5.6.2).
 #[derive(Clone, Copy, Debug, PartialEq, Eq)]
@@ -28,4 +29,16 @@ pub enum Taken {
     Aborted(u32),
     /// The client closed the channel.
     Closed,
+}
+
+impl TryClone for Taken {
+    fn try_clone(&self) -> Result<Taken, AllocError> {
+        Ok(match self {
+            Taken::Nothing => Taken::Nothing,
+            Taken::Opening(request) => Taken::Opening(*request),
+            Taken::Message(request_id, bytes) => { Taken::Message(*request_id, bytes.try_clone()?) }
+            Taken::Aborted(request_id) => Taken::Aborted(*request_id),
+            Taken::Closed => Taken::Closed,
+        })
+    }
 }
