@@ -1,6 +1,6 @@
 //! Vectors: how many records of each replica are held.
 
-ghost use Rattle.std.specs.Prelude.{◌≡◌, ◌≢◌, ◌↔◌, ◌≤◌, ◌<◌, ◌+◌, ℕ, max, IsTrue, IfOk, length, nat_eq};
+ghost use Rattle.std.specs.Prelude.{◌≡◌, ◌≢◌, Ok, ◌↔◌, ◌≤◌, ◌<◌, ◌+◌, ℕ, max, IsTrue, IfOk, length, nat_eq};
 ghost use Rattle.std.specs.Cmp.{partial_equiv_from_equiv};
 ghost use Rattle.std.specs.Cmp.Lexicographic.{pointwise, nat_list_eq_equiv};
 ghost use Rattle.std.specs.List.{flat_map};
@@ -159,7 +159,11 @@ impl Eq for Vector {
 }
 
 impl TryClone for Vector {
-    fn try_clone(&self) -> Result<Vector, AllocError> {
+    /// It takes no memory.
+    fn try_clone(&self) -> Result<Vector, AllocError>
+        ensures same { IfOk result (λ v. v ≡ self.now) }
+        ensures always { result ≡ Ok self.now }
+    {
         Ok(*self)
     }
 }

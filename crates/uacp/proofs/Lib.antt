@@ -2,3 +2,4 @@ pub mod Cuts
 pub mod Streams
 pub mod Greetings
 pub mod Running
+pub mod Splits

@@ -4,3 +4,4 @@ pub mod Chunks
 pub mod Stream
 pub mod Held
 pub mod Run
+pub mod Split

@@ -315,3 +315,25 @@ fn tells_faults(rt: HostRuntime) -> Result<(), Fail> {
     }
     Ok(())
 }
+
+#[test]
+fn splits_bodies(rt: HostRuntime) -> Result<(), Fail> {
+    let body = [7; 8169];
+    for (len, limit, first, count) in [
+        (8169, 8192, 8168, 2),
+        (8168, 8192, 8168, 1),
+        (0, 8192, 0, 1),
+        (5, 26, 2, 3),
+        (4, 26, 2, 2),
+    ] {
+        assert!(rt; len <= body.len() && 24 < limit);
+        let mut lens = split(&body[..len], limit).map(|piece| piece.len());
+        assert_eq!(rt; lens.next(), Some(first), "{len} at {limit}");
+        assert_eq!(rt;
+            split(&body[..len], limit).count(),
+            count,
+            "{len} at {limit}"
+        );
+    }
+    Ok(())
+}

@@ -1,0 +1,116 @@
+-- The headers of a channel's chunks (Part 6, 6.7.2), those of requests and responses (Part 4, 7.33 and 7.34), and the opening of a
+-- channel (Part 4, 5.6.2).
+use Rattle.std.specs.Prelude.{◌+◌, ℕ, ℤ, pos, List, [], ◌∷◌, ◌++◌, length, codes, Option, None, Some, Bool, true, false, ◌&&◌, ◌==◌, ◌<◌, ◌^◌}
+use Rattle.std.specs.Option.{option_copied}
+use Rattle.std.specs.Int.{w32}
+use Rattle.std.specs.Int.RustNames.{FitsSigned}
+use Rattle.ua_binary.specs.declared.fault.BinaryFault.{BinaryFault}
+use Rattle.ua_binary.specs.declared.fault.BinaryFault.TheVariants.{BadEncodingByte}
+use Rattle.ua_binary.specs.declared.values.Ticks.{Ticks}
+use Rattle.ua_binary.specs.declared.values.Status.{Status}
+use Rattle.ua_binary.specs.declared.values.NodeId.{NodeId}
+use Rattle.ua_binary.specs.declared.values.NodeId.TheVariants.{Numeric}
+use Rattle.ua_binary.specs.declared.values.Body.TheVariants.{Absent}
+use Rattle.ua_binary.specs.declared.values.ExtensionObject.{ExtensionObject}
+use Rattle.ua_binary.specs.Format.{Format, ◌▸◌, standing_for, passing, fitting}
+use Rattle.ua_binary.specs.Binary.{unsigned, signed, text, byte_string, node_id, node_of, ticks, status, extension, extension_of, IsText}
+use Rattle.uacp.specs.declared.types.Kind.{Kind}
+use Rattle.uacp.specs.declared.types.Kind.TheVariants.{Open, Message}
+use Rattle.uacp.specs.declared.types.Letter.{Letter}
+use Rattle.uacp.specs.declared.types.Letter.TheVariants.{Final}
+use Rattle.uacp.specs.Greeting.{fixed, fixed_number}
+use Rattle.uacp.specs.Stream.{letters}
+use Rattle.ua_channel.specs.declared.headers.Numbers.{Numbers}
+use Rattle.ua_channel.specs.declared.headers.Asked.{Asked}
+use Rattle.ua_channel.specs.declared.headers.RequestHeader.{RequestHeader}
+
+-- ---- the headers of chunks
+
+-- the one policy that is served
+unfoldable pub policy_none : List ℕ
+policy_none = codes "http://opcfoundation.org/UA/SecurityPolicy#None"
+
+abbrev pub SecurityFields : Type 0
+SecurityFields = ℕ × (Option (List ℕ) × (Option (List ℕ) × Option (List ℕ)))
+
+abbrev pub security_of : SecurityFields → ℕ × Option (List ℕ)
+security_of fields = (fields.0, fields.1.0)
+
+abbrev pub security_fields : ℕ × Option (List ℕ) → SecurityFields
+security_fields v = (v.0, (v.1, (None, None)))
+
+-- of an OPN chunk: channel id and policy; the sender's certificate and the receiver's thumbprint aren't kept, and null ones are written
+unfoldable pub security_header : Format BinaryFault (ℕ × Option (List ℕ))
+security_header = fitting (λ v. (v.0 < 2 ^ 32) × IsText v.1)
+    (standing_for security_of security_fields (unsigned w32 ▸ text ▸ byte_string ▸ byte_string))
+
+-- of an OPN chunk, behind it: sequence number and request id
+unfoldable pub sequence_header : Format BinaryFault (ℕ × ℕ)
+sequence_header = unsigned w32 ▸ unsigned w32
+
+abbrev pub IsNumbers : Numbers → Type 0
+IsNumbers v = (v.channel_id < 2 ^ 32) × (v.token < 2 ^ 32) × (v.number < 2 ^ 32) × (v.request_id < 2 ^ 32)
+
+-- of a MSG or CLO chunk: channel id, token id, sequence number, request id
+unfoldable pub message_header : Format BinaryFault Numbers
+message_header = fitting IsNumbers (standing_for (λ fields. record { channel_id = fields.0; token = fields.1.0; number = fields.1.1.0; request_id = fields.1.1.1 })
+    (λ v. (v.channel_id, (v.token, (v.number, v.request_id)))) (unsigned w32 ▸ unsigned w32 ▸ unsigned w32 ▸ unsigned w32))
+
+-- a chunk: its letters, its size with these eight bytes, and what follows them
+abbrev pub chunk_of : Kind → Letter → List ℕ → List ℕ
+chunk_of kind letter body = letters kind letter ++ (unsigned w32).canon (8 + length body) ++ body
+
+-- ---- requests and responses
+
+-- session token, timestamp, handle, mask of diagnostics, audit entry, timeout hint, additional header
+abbrev pub RequestFields : Type 0
+RequestFields = NodeId × (Ticks × (ℕ × (ℕ × (Option (List ℕ) × (ℕ × ExtensionObject)))))
+
+-- a borrowed header as these
+abbrev pub request_fields : RequestHeader → RequestFields
+request_fields h = (node_of h.token, (h.timestamp, (h.handle, (h.diagnostics, (option_copied h.audit, (h.timeout, extension_of h.additional))))))
+
+unfoldable pub request_header : Format BinaryFault RequestFields
+request_header = node_id ▸ ticks ▸ unsigned w32 ▸ unsigned w32 ▸ text ▸ unsigned w32 ▸ extension
+
+-- timestamp, handle and status; no diagnostics, a null array of texts, no additional header
+unfoldable pub response_header : Format BinaryFault (Ticks × (ℕ × Status))
+response_header = standing_for (λ fields. (fields.0, (fields.1.0, fields.1.1.0))) (λ v. (v.0, (v.1.0, (v.1.1, (tt, (tt, tt))))))
+    (ticks ▸ unsigned w32 ▸ status ▸ fixed (0 ∷ []) ▸ fixed_number 4294967295 ▸ fixed (0 ∷ 0 ∷ 0 ∷ []))
+
+-- ---- the opening of a channel
+
+-- the type id of an OpenSecureChannel request
+abbrev pub is_opening : NodeId → Bool
+is_opening (Numeric namespace id) = namespace == 0 && id == 446
+is_opening _ = false
+
+-- type id, request header, version, request type, mode, nonce, lifetime
+abbrev pub AskedFields : Type 0
+AskedFields = NodeId × (RequestFields × (ℕ × (ℤ × (ℤ × (Option (List ℕ) × ℕ)))))
+
+-- the handle of the header, and what is asked; neither the version nor the nonce is kept
+abbrev pub asked_of : AskedFields → Asked
+asked_of fields = record { handle = fields.1.0.1.1.0; request_type = fields.1.1.1.0; mode = fields.1.1.1.1.0; lifetime = fields.1.1.1.1.1.1 }
+
+-- with no session token, the least moment, no audit entry, no additional header, version 0 and no nonce
+abbrev pub asked_fields : Asked → AskedFields
+asked_fields v =
+    (Numeric 0 446, ((Numeric 0 0, (record { 0 = pos 0 }, (v.handle, (0, (None, (0, record { type_id = Numeric 0 0; body = Absent })))))), (0, (v.request_type, (v.mode, (None, v.lifetime))))))
+
+abbrev pub IsAsked : Asked → Type 0
+IsAsked v = (v.handle < 2 ^ 32) × FitsSigned w32 v.request_type × FitsSigned w32 v.mode × (v.lifetime < 2 ^ 32)
+
+-- the request for a channel
+unfoldable pub open_request : Format BinaryFault Asked
+open_request = fitting IsAsked (standing_for asked_of asked_fields
+    (passing is_opening BadEncodingByte node_id ▸ request_header ▸ unsigned w32 ▸ signed w32 ▸ signed w32 ▸ byte_string ▸ unsigned w32))
+
+-- response header, token id, the moment of its making, lifetime
+abbrev pub OpenedFields : Type 0
+OpenedFields = (Ticks × (ℕ × Status)) × (ℕ × (Ticks × ℕ))
+
+-- its answer: type id 449, response header, version 0, channel id 1, token id, the moment of its making, lifetime, a null nonce
+unfoldable pub open_response : Format BinaryFault OpenedFields
+open_response = standing_for (λ fields. (fields.1.0, (fields.1.1.1.1.0, (fields.1.1.1.1.1.0, fields.1.1.1.1.1.1.0)))) (λ v. (tt, (v.0, (tt, (tt, (v.1.0, (v.1.1.0, (v.1.1.1, tt))))))))
+    (fixed (node_id.canon (Numeric 0 449)) ▸ response_header ▸ fixed_number 0 ▸ fixed_number 1 ▸ unsigned w32 ▸ ticks ▸ unsigned w32 ▸ fixed_number 4294967295)

@@ -1,0 +1,6 @@
+pub mod Fault
+pub mod Headers
+pub mod Placed
+pub mod Taking
+pub mod Sending
+pub mod Run

@@ -1,0 +1,217 @@
+-- Which chunks of a channel are well placed, by the chunks before them (Part 6, 6.7.2; Part 4, 5.6.2).
+use Rattle.std.specs.Prelude.{◌+◌, ℕ, pos, List, [], ◌∷◌, ◌++◌, length, max, Option, None, Some, Bool, true, false, not, ◌&&◌, ◌||◌, ◌==◌, nat_lt, nat_le, if◌then◌else◌, Result, Ok, Err}
+use Rattle.std.specs.Str.{bytes_eq}
+use Rattle.std.specs.Ordering.{int_eq}
+use Rattle.ua_binary.specs.declared.fault.BinaryFault.{BinaryFault}
+use Rattle.ua_binary.specs.Format.{◌>>=◌, Reading, with_fault, raised, whole}
+use Rattle.uacp.specs.declared.types.Kind.{Kind}
+use Rattle.uacp.specs.declared.types.Kind.TheVariants.{Hello, Open, Close, Message}
+use Rattle.uacp.specs.declared.types.Letter.{Letter}
+use Rattle.uacp.specs.declared.types.Letter.TheVariants.{Final, More, Abort}
+use Rattle.uacp.specs.Stream.{Piece}
+use Rattle.ua_channel.specs.declared.fault.ChannelFault.{ChannelFault}
+use Rattle.ua_channel.specs.declared.fault.ChannelFault.TheVariants.{Policy, Mode, RequestType, ChannelId, Token, Sequence, TooManyChunks, TooLarge, Decoding}
+use Rattle.ua_channel.specs.declared.headers.Numbers.{Numbers}
+use Rattle.ua_channel.specs.declared.headers.Asked.{Asked}
+use Rattle.ua_channel.specs.Headers.{policy_none, security_header, sequence_header, message_header, open_request}
+
+-- a chunk that was taken, as it is read
+pub data Placed : Type 0 where
+  -- OPN, by its sequence number and request id, and what it asks
+  Opens : ℕ × ℕ → Asked → Placed
+  -- MSG, by its letter, its numbers and the bytes behind them
+  Says : Letter → Numbers → List ℕ → Placed
+  -- CLO, by its numbers
+  Closes : Numbers → Placed
+
+-- ---- what is known of the chunks before: of a list of them, the newest first
+
+-- how many opened the channel
+abbrev pub openings_of : List Placed → ℕ
+openings_of [] = 0
+openings_of (Opens sequence asked ∷ older) = openings_of older + 1
+openings_of (Says letter numbers body ∷ older) = openings_of older
+openings_of (Closes numbers ∷ older) = openings_of older
+
+-- one of them closed it
+abbrev pub is_closed : List Placed → Bool
+is_closed [] = false
+is_closed (Opens sequence asked ∷ older) = is_closed older
+is_closed (Says letter numbers body ∷ older) = is_closed older
+is_closed (Closes numbers ∷ older) = true
+
+abbrev pub number_of_chunk : Placed → ℕ
+number_of_chunk (Opens sequence asked) = sequence.0
+number_of_chunk (Says letter numbers body) = numbers.number
+number_of_chunk (Closes numbers) = numbers.number
+
+-- the sequence number of the newest
+abbrev pub newest_number : List Placed → Option ℕ
+newest_number [] = None
+newest_number (chunk ∷ older) = Some (number_of_chunk chunk)
+
+-- the greatest token id of the MSG chunks, 1 where there is none
+abbrev pub greatest_token : List Placed → ℕ
+greatest_token [] = 1
+greatest_token (Opens sequence asked ∷ older) = greatest_token older
+greatest_token (Says letter numbers body ∷ older) = max (greatest_token older) numbers.token
+greatest_token (Closes numbers ∷ older) = greatest_token older
+
+-- another chunk of its message follows
+abbrev pub is_more : Placed → Bool
+is_more (Opens sequence asked) = false
+is_more (Says Final numbers body) = false
+is_more (Says More numbers body) = true
+is_more (Says Abort numbers body) = false
+is_more (Closes numbers) = false
+
+-- the open message: the run of C chunks that stands last
+abbrev pub open_run : List Placed → List Placed
+open_run [] = []
+open_run (chunk ∷ older) = if is_more chunk then chunk ∷ open_run older else []
+
+abbrev pub body_of_chunk : Placed → List ℕ
+body_of_chunk (Opens sequence asked) = []
+body_of_chunk (Says letter numbers body) = body
+body_of_chunk (Closes numbers) = []
+
+-- their bodies joined, the oldest first
+abbrev pub bodies_of : List Placed → List ℕ
+bodies_of [] = []
+bodies_of (chunk ∷ older) = bodies_of older ++ body_of_chunk chunk
+
+abbrev pub request_of_chunk : Placed → ℕ
+request_of_chunk (Opens sequence asked) = sequence.1
+request_of_chunk (Says letter numbers body) = numbers.request_id
+request_of_chunk (Closes numbers) = numbers.request_id
+
+-- the request id of the newest, 0 where there is none
+abbrev pub newest_request : List Placed → ℕ
+newest_request [] = 0
+newest_request (chunk ∷ older) = request_of_chunk chunk
+
+-- what the rules look at
+pub record Heard : Type 0 where
+  -- no further chunk is well placed
+  pub ended : Bool
+  pub openings : ℕ
+  -- the newest chunk's sequence number
+  pub last : Option ℕ
+  -- the greatest token id of the MSG chunks
+  pub token : ℕ
+  -- the open message: how many chunks, their request id, their bodies joined
+  pub chunks : ℕ
+  pub request : ℕ
+  pub bytes : List ℕ
+
+abbrev pub heard_of : List Placed → Heard
+heard_of past = record {
+  ended = is_closed past;
+  openings = openings_of past;
+  last = newest_number past;
+  token = greatest_token past;
+  chunks = length (open_run past);
+  request = newest_request (open_run past);
+  bytes = bodies_of (open_run past);
+}
+
+-- ---- the rules
+
+-- each rule holds, or else the fault of the first that doesn't
+abbrev pub checked : List (Bool × ChannelFault) → Result (Unit {0}) ChannelFault
+checked [] = Ok tt
+checked (rule ∷ rules) = if rule.0 then checked rules else Err rule.1
+
+-- the first sequence number is taken as it comes; the next one is greater by one, or, near the end of the numbers, begins anew below 1,024
+abbrev pub follows : Option ℕ → ℕ → Bool
+follows None number = true
+follows (Some last) number = (number == last + 1) || (nat_lt 4294966271 last && nat_lt number 1024)
+
+-- the tokens of k openings are 1 to k; the newest is k, and it or the one before it is right
+abbrev pub is_token : ℕ → ℕ → Bool
+is_token openings token = not (token == 0) && ((token == openings) || (token + 1 == openings))
+
+-- no message is open, or it has this request id
+abbrev pub is_of_open : Heard → ℕ → Bool
+is_of_open heard request = (heard.chunks == 0) || (heard.request == request)
+
+-- of a MSG or CLO chunk
+abbrev pub number_rules : Heard → Numbers → List (Bool × ChannelFault)
+number_rules heard numbers =
+    (not (heard.openings == 0), ChannelId)
+    ∷ (numbers.channel_id == 1, ChannelId)
+    ∷ (is_token heard.openings numbers.token, Token)
+    ∷ (follows heard.last numbers.number, Sequence)
+    ∷ (is_of_open heard numbers.request_id, Sequence)
+    ∷ []
+
+-- of a MSG chunk besides: at most 64 chunks and 4,194,304 bytes a message; what gives a message up counts toward neither
+abbrev pub size_rules : Heard → Letter → List ℕ → List (Bool × ChannelFault)
+size_rules heard Abort body = []
+size_rules heard Final body = (nat_lt heard.chunks 64, TooManyChunks) ∷ (nat_le (length heard.bytes + length body) 4194304, TooLarge) ∷ []
+size_rules heard More body = (nat_lt heard.chunks 64, TooManyChunks) ∷ (nat_le (length heard.bytes + length body) 4194304, TooLarge) ∷ []
+
+abbrev pub is_policy : Option (List ℕ) → Bool
+is_policy None = false
+is_policy (Some uri) = bytes_eq uri policy_none
+
+-- of an OPN chunk, by its security header
+abbrev pub security_rules : Heard → ℕ × Option (List ℕ) → List (Bool × ChannelFault)
+security_rules heard header = (is_policy header.1, Policy) ∷ ((heard.openings == 0) || (header.0 == 1), ChannelId) ∷ []
+
+-- by its sequence header
+abbrev pub sequence_rules : Heard → ℕ × ℕ → List (Bool × ChannelFault)
+sequence_rules heard header = (follows heard.last header.0, Sequence) ∷ (heard.chunks == 0, Sequence) ∷ []
+
+-- the first one issues (0), later ones renew (1)
+abbrev pub is_due : ℕ → Asked → Bool
+is_due openings asked = if openings == 0 then int_eq asked.request_type (pos 0) else int_eq asked.request_type (pos 1)
+
+-- by what it asks: mode 1 is None, and token ids have 32 bits
+abbrev pub asked_rules : Heard → Asked → List (Bool × ChannelFault)
+asked_rules heard asked = (is_due heard.openings asked, RequestType) ∷ (int_eq asked.mode (pos 1), Mode) ∷ (nat_lt heard.openings 4294967295, Token) ∷ []
+
+-- a fault of the encoding is Decoding
+abbrev pub decoded : {A : Type 0} → Reading BinaryFault A → Reading ChannelFault A
+decoded reading = with_fault (λ _. Decoding) reading
+
+-- all of some bytes are a request for a channel
+abbrev pub asked_at : List ℕ → Result Asked ChannelFault
+asked_at bytes = whole Decoding (raised (λ _. Decoding) open_request) bytes
+
+-- an OPN chunk
+abbrev pub opening_judged : Heard → List ℕ → Result Placed ChannelFault
+opening_judged heard body =
+    decoded (security_header.read body) >>= λ security.
+    checked (security_rules heard security.0) >>= λ _.
+    decoded (sequence_header.read security.1) >>= λ sequence.
+    checked (sequence_rules heard sequence.0) >>= λ _.
+    asked_at sequence.1 >>= λ asked.
+    checked (asked_rules heard asked) >>= λ _.
+    Ok (Opens sequence.0 asked)
+
+-- a MSG chunk
+abbrev pub message_judged : Heard → Letter → List ℕ → Result Placed ChannelFault
+message_judged heard letter body =
+    decoded (message_header.read body) >>= λ header.
+    checked (number_rules heard header.0) >>= λ _.
+    checked (size_rules heard letter header.1) >>= λ _.
+    Ok (Says letter header.0 header.1)
+
+-- a CLO chunk, whose body isn't read
+abbrev pub closing_judged : Heard → List ℕ → Result Placed ChannelFault
+closing_judged heard body =
+    decoded (message_header.read body) >>= λ header.
+    checked (number_rules heard header.0) >>= λ _.
+    Ok (Closes header.0)
+
+-- a chunk of a channel that hasn't ended; a Hello is no chunk of one
+abbrev pub judged_by : Heard → Kind → Letter → List ℕ → Result Placed ChannelFault
+judged_by heard Hello letter body = Err Decoding
+judged_by heard Open letter body = opening_judged heard body
+judged_by heard Close letter body = closing_judged heard body
+judged_by heard Message letter body = message_judged heard letter body
+
+-- the chunk as it is read, where it is well placed, or else its first fault
+abbrev pub judged : Heard → Piece → Result Placed ChannelFault
+judged heard chunk = if heard.ended then Err ChannelId else judged_by heard chunk.kind chunk.letter chunk.body

@@ -1,0 +1,116 @@
+-- What taking a chunk answers, and what a channel knows after it.
+use Rattle.std.specs.Prelude.{◌≡◌, ◌<◌, ◌≤◌, ◌+◌, ℕ, List, [], ◌++◌, length, max, Option, None, Some, Bool, true, false, Result, Ok, Err}
+use Rattle.uacp.specs.declared.types.Letter.{Letter}
+use Rattle.uacp.specs.declared.types.Letter.TheVariants.{Final, More, Abort}
+use Rattle.uacp.specs.declared.types.Chunk.{Chunk}
+use Rattle.uacp.specs.declared.greeting.Hello.{Hello}
+use Rattle.uacp.specs.declared.greeting.Ack.{Ack}
+use Rattle.uacp.specs.Stream.{Piece}
+use Rattle.ua_channel.specs.declared.fault.ChannelFault.{ChannelFault}
+use Rattle.ua_channel.specs.declared.fault.ChannelFault.TheVariants.{OutOfMemory}
+use Rattle.ua_channel.specs.declared.taken.Taken.{Taken}
+use Rattle.ua_channel.specs.declared.taken.Taken.TheVariants as taken
+use Rattle.ua_channel.specs.declared.placed.PlacedChunk.{PlacedChunk}
+use Rattle.ua_channel.specs.declared.placed.PlacedChunk.TheVariants as lent
+use Rattle.ua_channel.specs.Placed.{Placed, Opens, Says, Closes, Heard, heard_of, judged}
+
+-- a chunk that is lent
+abbrev pub piece_of : Chunk → Piece
+piece_of chunk = record { kind = chunk.kind; letter = chunk.letter; body = chunk.body.now }
+
+-- a chunk that is placed in memory of another
+abbrev pub placed_of : PlacedChunk → Placed
+placed_of (lent.Opens sequence asked) = Opens sequence asked
+placed_of (lent.Says letter numbers body) = Says letter numbers body.now
+placed_of (lent.Closes numbers) = Closes numbers
+
+-- what a well placed chunk is answered: a request to open; the body of a message, where it ends one; the end of the channel
+abbrev pub answer_of : Heard → Placed → Taken
+answer_of heard (Opens sequence asked) = taken.Opening (record { request_id = sequence.1; handle = asked.handle; lifetime = asked.lifetime; token = heard.openings + 1 })
+answer_of heard (Says Final numbers body) = taken.Message numbers.request_id (heard.bytes ++ body)
+answer_of heard (Says More numbers body) = taken.Nothing
+answer_of heard (Says Abort numbers body) = taken.Aborted numbers.request_id
+answer_of heard (Closes numbers) = taken.Closed
+
+-- no message is open
+abbrev pub with_none_open : Heard → Heard
+with_none_open heard = record heard { chunks = 0; request = 0; bytes = [] }
+
+-- what is known once a well placed chunk is taken
+abbrev pub after : Heard → Placed → Heard
+after heard (Opens sequence asked) = with_none_open (record heard { openings = heard.openings + 1; last = Some sequence.0 })
+after heard (Says Final numbers body) = with_none_open (record heard { last = Some numbers.number; token = max heard.token numbers.token })
+after heard (Says More numbers body) = record heard {
+  last = Some numbers.number;
+  token = max heard.token numbers.token;
+  chunks = heard.chunks + 1;
+  request = numbers.request_id;
+  bytes = heard.bytes ++ body;
+}
+after heard (Says Abort numbers body) = with_none_open (record heard { last = Some numbers.number; token = max heard.token numbers.token })
+after heard (Closes numbers) = with_none_open (record heard { last = Some numbers.number; ended = true })
+
+-- memory is taken for the body of a message alone
+abbrev pub TakesMemory : Placed → Type 0
+TakesMemory (Opens sequence asked) = ⊥
+TakesMemory (Says Final numbers body) = 0 < length body
+TakesMemory (Says More numbers body) = 0 < length body
+TakesMemory (Says Abort numbers body) = ⊥
+TakesMemory (Closes numbers) = ⊥
+
+-- what a channel is: what it knows of the chunks that it took, the sequence number of the next chunk that it writes, how many bytes such a
+-- chunk may have, and how many bytes and chunks a message that it writes; 0 is no limit
+pub record State : Type 0 where
+  pub heard : Heard
+  pub next : ℕ
+  pub limit : ℕ
+  pub max_message : ℕ
+  pub max_chunks : ℕ
+
+-- a new channel; a chunk that is written has a byte of its message at least
+abbrev pub fresh : Hello → Ack → State
+fresh hello ack = record { heard = heard_of []; next = 1; limit = max 25 ack.send_size; max_message = hello.max_message; max_chunks = hello.max_chunks }
+
+-- the chunk isn't taken: its fault ends the channel; or memory for a well placed one was wanting, and all is as it was
+abbrev pub Refuses : State → Piece → ChannelFault → State → Type 0
+Refuses old chunk OutOfMemory new = ((placed : Placed) × (judged old.heard chunk ≡ Ok placed) × TakesMemory placed) × (new ≡ old)
+Refuses old chunk fault new = (judged old.heard chunk ≡ Err fault) × (new ≡ record old { heard = record old.heard { ended = true } })
+
+-- what is judged is told so
+abbrev pub IsJudged : Result Placed ChannelFault → Result PlacedChunk ChannelFault → Type 0
+IsJudged judged (Ok placed) = judged ≡ Ok (placed_of placed)
+IsJudged judged (Err fault) = judged ≡ Err fault
+
+-- there is room for the body of a message, unless it is given up
+abbrev pub HasRoomFor : Heard → Letter → List ℕ → Type 0
+HasRoomFor heard Final body = (heard.chunks < 64) × (length heard.bytes + length body ≤ 4194304)
+HasRoomFor heard More body = (heard.chunks < 64) × (length heard.bytes + length body ≤ 4194304)
+HasRoomFor heard Abort body = Unit {0}
+
+-- and a token id for an opening
+abbrev pub HasRoom : Heard → Placed → Type 0
+HasRoom heard (Opens sequence asked) = heard.openings < 4294967295
+HasRoom heard (Says letter numbers body) = HasRoomFor heard letter body
+HasRoom heard (Closes numbers) = Unit {0}
+
+-- a well placed chunk is answered and known from then on, or memory for it was wanting
+abbrev pub Accepts : Heard → Placed → Result Taken ChannelFault → Heard → Type 0
+Accepts old placed (Ok taken) new = (taken ≡ answer_of old placed) × (new ≡ after old placed)
+Accepts old placed (Err fault) new = (fault ≡ OutOfMemory) × TakesMemory placed × (new ≡ old)
+
+-- what a take does: a well placed chunk is answered and known from then on; another is refused
+abbrev pub Takes : State → Piece → Result Taken ChannelFault → State → Type 0
+Takes old chunk (Ok taken) new = (placed : Placed) × (judged old.heard chunk ≡ Ok placed) × (taken ≡ answer_of old.heard placed) × (new ≡ record old { heard = after old.heard placed })
+Takes old chunk (Err fault) new = Refuses old chunk fault new
+
+-- it is open: an opening was taken, and neither CLO nor a fault
+abbrev pub IsReady : State → Type 0
+IsReady state = (state.heard.ended ≡ false) × (0 < state.heard.openings)
+
+-- what asks for an answer leaves the channel open
+abbrev pub LeavesReady : Taken → State → Type 0
+LeavesReady taken.Nothing state = Unit {0}
+LeavesReady (taken.Opening request) state = IsReady state
+LeavesReady (taken.Message request bytes) state = IsReady state
+LeavesReady (taken.Aborted request) state = Unit {0}
+LeavesReady taken.Closed state = Unit {0}

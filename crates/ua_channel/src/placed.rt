@@ -1,0 +1,72 @@
+//! Which chunks are well placed (Part 6, 6.7.2).
+
+ghost use Rattle.std.specs.Option.{option_copied};
+ghost use Rattle.std.specs.Prelude.{◌≡◌};
+ghost use Rattle.ua_channel.specs.Placed.{follows, is_token, is_policy, is_due, asked_at};
+
+use crate::fault::ChannelFault;
+use crate::headers::{Asked, Numbers, policy_uri, read_open_request};
+use ua_binary::Cursor;
+use uacp::Letter;
+
+/// A chunk that is well placed, as it is read.
+#[derive(Clone, Copy)]
+pub(crate) enum PlacedChunk<'a> {
+    /// OPN: its sequence number and request id, and what it asks.
+    Opens((u32, u32), Asked),
+    /// MSG: the bytes after its numbers.
+    Says(Letter, Numbers, &'a [u8]),
+    /// CLO.
+    Closes(Numbers),
+}
+
+/// Whether a sequence number may follow the newest one.
+pub(crate) fn is_next(last: Option<u32>, number: u32) -> bool
+    ensures { result ≡ follows last number }
+{
+    match last {
+        None => true,
+        Some(last) => {
+            last.checked_add(1) == Some(number) || (last > 4_294_966_271 && number < 1024)
+        }
+    }
+}
+
+/// Whether a token is the newest one or the one before it.
+pub(crate) fn is_known(openings: u32, token: u32) -> bool
+    ensures { result ≡ is_token openings token }
+{
+    token != 0 && (token == openings || token.checked_add(1) == Some(openings))
+}
+
+/// Whether the policy is None.
+pub(crate) fn is_policy_none(policy: Option<&str>) -> bool
+    ensures { result ≡ is_policy (option_copied policy.entry) }
+{
+    match policy {
+        None => false,
+        Some(uri) => uri == policy_uri(),
+    }
+}
+
+/// Whether the request type is the one that is due: Issue once, and Renew from then on.
+pub(crate) fn is_due_type(openings: u32, asked: &Asked) -> bool
+    ensures { result ≡ is_due openings asked.now }
+{
+    if openings == 0 {
+        asked.request_type == 0
+    } else {
+        asked.request_type == 1
+    }
+}
+
+/// The request for a channel that all of some bytes spell.
+pub(crate) fn read_asked(bytes: &[u8]) -> Result<Asked, ChannelFault>
+    ensures { result ≡ asked_at bytes.now }
+{
+    let mut cursor = Cursor::new(bytes);
+    match read_open_request(&mut cursor) {
+        Ok(asked) if cursor.rest().is_empty() => Ok(asked),
+        _ => Err(ChannelFault::Decoding),
+    }
+}

@@ -1,0 +1,122 @@
+//! Chunks that are written.
+
+ghost use Rattle.std.specs.Prelude.{◌≡◌, ◌≤◌, length};
+ghost use Rattle.ua_binary.specs.Format.{Puts, PutsPart};
+ghost use Rattle.uacp.specs.Stream.{letters};
+ghost use Rattle.ua_channel.specs.Sending.{number_after, lifetime_of, opened_chunk, message_chunk, letter_before, AreShort, IsNumber, PutsChunks};
+
+use crate::headers::{Opened, put_open_response_parts, put_security_header_parts};
+use crate::taken::OpenRequest;
+use ua_binary::{BinaryFault, Ticks, put_block, put_u32};
+use uacp::{Kind, Letter, Pieces};
+
+/// The sequence number after this one.
+pub(crate) fn following(number: u32) -> u32
+    requires { IsNumber number }
+    ensures value { result ≡ number_after number 1 }
+    ensures within { IsNumber result }
+{
+    if number == 4_294_966_272 {
+        1
+    } else {
+        number + 1
+    }
+}
+
+/// The lifetime that is granted, in milliseconds.
+fn granted_lifetime(asked: u32) -> u32
+    ensures { result ≡ lifetime_of asked }
+{
+    if asked == 0 { 3_600_000 } else { asked }
+}
+
+/// The answer to a request that opened a channel or renewed its token. An error leaves a part.
+#[tactic(auto, using(ua_binary::proofs::Kept::kept, crate::proofs::Sizes::opened_size), unfolding(crate::specs::Sending::opened_chunk, crate::specs::Headers::sequence_header))]
+pub(crate) fn put_opened_parts(
+    number: u32,
+    request: &OpenRequest,
+    now: Ticks,
+    out: &mut Vec<u8>,
+) -> Result<(), BinaryFault>
+    ensures { PutsPart BinaryFault.OutOfMemory result out.old.items out.new.items (opened_chunk number request.now now) }
+{
+    let opened = Opened {
+        handle: request.handle,
+        token: request.token,
+        made: now,
+        lifetime: granted_lifetime(request.lifetime),
+    };
+    put_block(out, b"OPNF")?;
+    put_u32(out, 135)?;
+    put_security_header_parts(out)?;
+    put_u32(out, number)?;
+    put_u32(out, request.request_id)?;
+    put_open_response_parts(out, &opened)?;
+    Ok(())
+}
+
+fn letter_of(pieces: &Pieces<'_>) -> Letter
+    ensures { result ≡ letter_before pieces.now }
+{
+    if pieces.is_empty() {
+        Letter::Final
+    } else {
+        Letter::More
+    }
+}
+
+fn put_letters(letter: Letter, out: &mut Vec<u8>) -> Result<(), BinaryFault>
+    ensures { Puts BinaryFault.OutOfMemory result out.old.items out.new.items (letters Kind.Message letter) }
+{
+    match letter {
+        Letter::Final => put_block(out, b"MSGF"),
+        Letter::More => put_block(out, b"MSGC"),
+        Letter::Abort => put_block(out, b"MSGA"),
+    }
+}
+
+/// A MSG chunk. An error leaves a part.
+#[tactic(auto, using(ua_binary::proofs::Kept::kept, crate::proofs::Sizes::message_size), unfolding(crate::specs::Sending::message_chunk, crate::specs::Headers::message_header))]
+fn put_message_parts(
+    letter: Letter,
+    token: u32,
+    number: u32,
+    request_id: u32,
+    piece: &[u8],
+    out: &mut Vec<u8>,
+) -> Result<(), BinaryFault>
+    requires { length piece.now ≤ 4294967271 }
+    ensures { PutsPart BinaryFault.OutOfMemory result out.old.items out.new.items (message_chunk letter token number request_id piece.now) }
+{
+    put_letters(letter, out)?;
+    put_u32(out, 24 + piece.len() as u32)?;
+    put_u32(out, 1)?;
+    put_u32(out, token)?;
+    put_u32(out, number)?;
+    put_u32(out, request_id)?;
+    put_block(out, piece)?;
+    Ok(())
+}
+
+/// A MSG chunk for each piece, their numbers running on from this one; the number after theirs. An
+/// error leaves a part.
+#[tactic(auto, using(ua_binary::proofs::Kept::kept, crate::proofs::Sendings::running))]
+pub(crate) fn put_chunks(
+    token: u32,
+    request_id: u32,
+    first: u32,
+    mut pieces: Pieces<'_>,
+    out: &mut Vec<u8>,
+) -> Result<u32, BinaryFault>
+    requires short { AreShort 4294967271 pieces }
+    requires number { IsNumber first }
+    ensures { PutsChunks token request_id first pieces.entry result out.old.items out.new.items }
+{
+    let mut number = first;
+    while let Some(piece) = pieces.next() {
+        let letter = letter_of(&pieces);
+        put_message_parts(letter, token, number, request_id, piece, out)?;
+        number = following(number);
+    }
+    Ok(number)
+}
