@@ -128,7 +128,7 @@ data_fields_only mask =
     ))
     ) (λ u h. (h.0, h.1.1.1.0, h.1.1.1.1.1)))
 
-data_value_only : SpellsOnly data_value IsShortData
+pub data_value_only : SpellsOnly data_value IsShortData
 unfolding data_value
 data_value_only = fitting_only IsDataValue (headed_only data_mask data_fields (any_only (raise byte)) (λ mask _. data_fields_only mask))
 
