@@ -1,5 +1,5 @@
 -- How many bytes values take, and which have a spelling.
-use Rattle.std.proofs.Common.{◌≡◌, ℕ, suc, ◌+◌, ◌<◌, ◌^◌, List, [], ◌∷◌, ◌++◌, length, is_some, refl, ap, ◌∙◌, arith}
+use Rattle.std.proofs.Common.{◌≡◌, ℕ, suc, ◌+◌, ◌<◌, ◌^◌, List, [], ◌∷◌, ◌++◌, length, is_some, ap, ◌∙◌, arith}
 use Rattle.std.specs.List.{All, AllByRecursion}
 use Rattle.std.proofs.lemmas.List.{length-append}
 use Rattle.std.proofs.lemmas.List.Elements.{recursion_from_All}
@@ -8,7 +8,7 @@ use Rattle.ua_binary.specs.Binary.{ticks, status}
 use Rattle.ua_variant.specs.Scalar.{scalar, scalar_number}
 use Rattle.ua_variant.specs.Values.{values, array_number}
 use Rattle.ua_variant.specs.Variant.{variant}
-use Rattle.ua_variant.specs.DataValue.{picoseconds, data_value, data_mask}
+use Rattle.ua_variant.specs.DataValue.{picoseconds, data_value}
 use Rattle.ua_variant.specs.declared.value.Scalar.{Scalar as One}
 use Rattle.ua_variant.specs.declared.value.Array.{Array as Many}
 use Rattle.ua_variant.specs.declared.value.Variant.TheVariants.{Null, Scalar, Array}

@@ -1,6 +1,6 @@
 //! How many bytes values take.
 
-ghost use Rattle.std.specs.Prelude.{◌≡◌, ◌≤◌, ◌<◌, ◌^◌, List, ℕ, All, IfSome, is_some, length};
+ghost use Rattle.std.specs.Prelude.{◌≡◌, ◌≤◌, ◌<◌, ◌^◌, IfSome, is_some, length};
 ghost use Rattle.std.specs.Int.{w64};
 ghost use Rattle.std.specs.Int.RustNames.{FitsSigned};
 ghost use Rattle.ua_binary.specs.Format.{saturated, flagged};
@@ -19,6 +19,7 @@ impl Scalar {
     #[tactic(auto, unfolding(crate::specs::Scalar::scalar, ua_binary::specs::Binary::boolean, ua_binary::specs::Binary::sbyte, ua_binary::specs::Binary::signed, ua_binary::specs::Binary::unsigned, ua_binary::specs::Binary::ticks, ua_binary::specs::Binary::status, ua_binary::specs::Binary::text, ua_binary::specs::Binary::byte_string, ua_binary::specs::Binary::guid, ua_binary::specs::Binary::node_id, ua_binary::specs::Binary::qualified, ua_binary::specs::Binary::localized))]
     fn size(&self) -> usize
         ensures counted { result ≡ saturated (length ((scalar (scalar_number self.now)).canon self.now)) }
+        ensures short { length ((scalar (scalar_number self.now)).canon self.now) < 2 ^ 31 → IsShortScalar self.now }
         ensures spelled { IsShortScalar self.now → IsScalar self.now }
     {
         match self {
@@ -50,6 +51,7 @@ impl Array {
     #[tactic(auto, using(crate::proofs::Sizes::values_fit), unfolding(crate::specs::Values::values))]
     fn size(&self) -> usize
         ensures counted { result ≡ saturated (length ((values (array_number self.now)).canon self.now)) }
+        ensures short { length ((values (array_number self.now)).canon self.now) < 2 ^ 31 → IsShortValues self.now }
         ensures spelled { IsShortValues self.now → IsValues self.now }
     {
         match self {
@@ -78,10 +80,12 @@ impl Array {
 
 impl Variant {
     /// How many bytes of it are written (Part 6, 5.2.2.16), or 2^64 - 1 where there are more. It takes
-    /// no memory. Each value whose texts, byte strings and arrays can be counted has a spelling.
+    /// no memory. The texts, byte strings and arrays of a value of less than 2^31 bytes can be counted,
+    /// and each value whose can has a spelling.
     #[tactic(auto, using(crate::proofs::Sizes::lengths))]
     pub fn size(&self) -> usize
         ensures counted { result ≡ saturated (length (variant.canon self.now)) }
+        ensures short { length (variant.canon self.now) < 2 ^ 31 → IsShortVariant self.now }
         ensures spelled { IsShortVariant self.now → IsVariant self.now }
     {
         match self {
@@ -94,6 +98,7 @@ impl Variant {
 
 fn value_size(v: &Option<Variant>) -> usize
     ensures counted { result ≡ saturated (length ((flagged (is_some v.now) variant).canon v.now)) }
+    ensures short { length ((flagged (is_some v.now) variant).canon v.now) < 2 ^ 31 → IfSome v.now IsShortVariant }
     ensures spelled { IfSome v.now IsShortVariant → IfSome v.now IsVariant }
 {
     match v {
@@ -139,11 +144,12 @@ fn picoseconds_size(v: Option<u16>) -> usize
 
 impl DataValue {
     /// How many bytes of it are written (Part 6, 5.2.2.17), or 2^64 - 1 where there are more. It takes
-    /// no memory. Each whose texts, byte strings and arrays can be counted, and whose picoseconds are
-    /// at most 9,999, has a spelling.
+    /// no memory. The texts, byte strings and arrays of one of less than 2^31 bytes can be counted; and
+    /// each whose can, and whose picoseconds are at most 9,999, has a spelling.
     #[tactic(auto, using(crate::proofs::Sizes::lengths))]
     pub fn size(&self) -> usize
         ensures counted { result ≡ saturated (length (data_value.canon self.now)) }
+        ensures short { length (data_value.canon self.now) < 2 ^ 31 → IfSome self.now.value IsShortVariant }
         ensures spelled { IsShortData self.now → IsDataValue self.now }
     {
         let stamps = status_size(self.status)
