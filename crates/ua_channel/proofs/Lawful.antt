@@ -1,12 +1,11 @@
 -- The formats of headers and of what opens a channel are lawful.
-use Rattle.std.proofs.Common.{◌≡◌, refl, arith}
+use Rattle.std.proofs.Common.{refl, arith}
 use Rattle.std.proofs.lemmas.Int.{ints}
-use Rattle.ua_binary.specs.Format.{IsLawful, IsPrefixFree}
+use Rattle.ua_binary.specs.Format.{IsLawful}
 use Rattle.ua_binary.specs.Binary.{unsigned, signed, text, byte_string, ticks, node_id, extension}
 use Rattle.ua_binary.specs.declared.fault.BinaryFault.TheVariants.{BadEncodingByte}
 use Rattle.ua_binary.proofs.Combined.{exactly_lawful, then_lawful, standing_lawful, passing_lawful, fitting_lawful}
 use Rattle.ua_binary.proofs.Lawful.{u32_lawful, i32_lawful, text_lawful, byte_string_lawful, node_id_lawful, ticks_lawful, status_lawful, extension_lawful}
-use Rattle.ua_binary.proofs.Spelled.{prefix_free}
 use Rattle.ua_channel.specs.Headers.{security_header, sequence_header, message_header, request_header, response_header, open_request, open_response, IsNumbers, IsAsked, security_of, security_fields, is_opening, asked_of, asked_fields}
 
 pub security_lawful : IsLawful security_header

@@ -1,5 +1,5 @@
 -- Messages of the chunks that were taken, and the numbers of those that are written.
-use Rattle.std.proofs.Common.{◌≡◌, ◌≢◌, ℕ, suc, ◌+◌, ◌-◌, ◌%◌, ◌<◌, ◌≤◌, Bool, true, false, cond, List, [], ◌∷◌, ◌++◌, length, Ok, Err, refl, sym, ap, subst, ◌∙◌, arith, not, ◌==◌, nat_lt, nat_le}
+use Rattle.std.proofs.Common.{◌≡◌, ℕ, ◌+◌, ◌-◌, ◌%◌, ◌<◌, ◌≤◌, Bool, true, false, cond, List, [], ◌∷◌, ◌++◌, length, Ok, Err, refl, sym, ap, subst, ◌∙◌, arith, not, ◌==◌, nat_lt, nat_le}
 use Rattle.std.specs.Prelude.{Result, IfOk}
 use Rattle.std.proofs.Math.Nat.{mod-add-mod}
 use Rattle.std.proofs.lemmas.Bool.Decides.{nat_tests}
@@ -17,7 +17,7 @@ use Rattle.ua_channel.specs.declared.headers.Numbers.{Numbers}
 use Rattle.ua_channel.specs.declared.taken.Taken.{Taken}
 use Rattle.ua_channel.specs.declared.taken.Taken.TheVariants as taken
 use Rattle.ua_channel.specs.Headers.{security_header, sequence_header, message_header}
-use Rattle.ua_channel.specs.Placed.{Placed, Opens, Says, Closes, Heard, heard_of, judged, judged_by, checked, decoded, asked_at, security_rules, sequence_rules, asked_rules, number_rules, size_rules, is_more, open_run, bodies_of}
+use Rattle.ua_channel.specs.Placed.{Placed, Opens, Says, Closes, Heard, heard_of, judged, judged_by, checked, decoded, asked_at, security_rules, sequence_rules, asked_rules, number_rules, size_rules, open_run, bodies_of}
 use Rattle.ua_channel.specs.Taking.{State, fresh, answer_of, after, HasRoomFor, Takes, LeavesReady}
 use Rattle.ua_channel.specs.Sending.{number_after, IsNumber}
 use Rattle.ua_channel.specs.Run.{Event, Took, Starved, Wrote, Runs, written_of_run, AreMore, IsBetween, AreTaken}

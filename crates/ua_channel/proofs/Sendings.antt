@@ -2,7 +2,7 @@
 use Rattle.std.proofs.Common.{◌≡◌, ℕ, zero, suc, ◌+◌, ◌-◌, ◌*◌, ◌/◌, ◌%◌, ◌<◌, ◌≤◌, List, [], ◌∷◌, ◌++◌, length, refl, sym, ap, ◌∙◌, subst, arith, append_assoc}
 use Rattle.std.proofs.lemmas.List.{append-nil}
 use Rattle.std.proofs.Math.Nat.{mod-add-mod}
-use Rattle.uacp.specs.Split.{joined, AreFull, IsSplit}
+use Rattle.uacp.specs.Split.{AreFull, IsSplit}
 use Rattle.ua_channel.specs.Sending.{number_after, AreShort, IsNumber}
 
 pub number_after-none : (number : ℕ) → IsNumber number → number_after number 0 ≡ number

@@ -1,7 +1,6 @@
 -- How long the chunks are that are written.
-use Rattle.std.proofs.Common.{◌≡◌, ℕ, ◌+◌, List, ◌++◌, length, Some, refl, ap, ◌∙◌, arith}
+use Rattle.std.proofs.Common.{◌≡◌, ℕ, ◌+◌, List, ◌++◌, length, Some, refl, arith}
 use Rattle.std.proofs.lemmas.List.{length-append}
-use Rattle.std.specs.Int.{w32}
 use Rattle.ua_binary.specs.declared.values.Ticks.{Ticks}
 use Rattle.ua_binary.specs.Binary.{unsigned, signed, text, byte_string, ticks, status, node_id}
 use Rattle.ua_channel.specs.declared.taken.OpenRequest.{OpenRequest}

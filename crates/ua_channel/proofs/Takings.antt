@@ -1,6 +1,6 @@
 -- Taking chunks, one after the other.
-use Rattle.std.proofs.Common.{◌≡◌, ◌≢◌, ℕ, suc, ◌+◌, ◌≤◌, Bool, true, false, cond, List, [], ◌∷◌, ◌++◌, length, Some, None, Ok, Err, refl, sym, ap, subst, ◌∙◌, arith, add-one, append_assoc, not, ◌&&◌, ◌==◌}
-use Rattle.std.specs.Prelude.{Option, Result, max}
+use Rattle.std.proofs.Common.{◌≡◌, ◌≢◌, ℕ, Bool, true, false, cond, List, [], ◌∷◌, length, Ok, Err, refl, sym, ap, subst, ◌∙◌, add-one, not, ◌&&◌, ◌==◌}
+use Rattle.std.specs.Prelude.{Result}
 use Rattle.ua_binary.specs.declared.fault.BinaryFault.{BinaryFault}
 use Rattle.ua_binary.specs.Format.{◌>>=◌, Reading}
 use Rattle.uacp.specs.declared.types.Kind.{Kind}
@@ -12,13 +12,11 @@ use Rattle.uacp.specs.declared.greeting.Ack.{Ack}
 use Rattle.uacp.specs.Stream.{Piece}
 use Rattle.ua_channel.specs.declared.fault.ChannelFault.{ChannelFault}
 use Rattle.ua_channel.specs.declared.fault.ChannelFault.TheVariants.{ChannelId, Decoding, OutOfMemory}
-use Rattle.ua_channel.specs.declared.headers.Numbers.{Numbers}
 use Rattle.ua_channel.specs.declared.taken.Taken.{Taken}
 use Rattle.ua_channel.specs.Headers.{security_header, sequence_header, message_header, open_request}
-use Rattle.ua_channel.specs.Placed.{Placed, Opens, Says, Closes, Heard, heard_of, judged, judged_by, checked, decoded, asked_at, security_rules, sequence_rules, asked_rules, number_rules, size_rules, is_more, open_run, bodies_of}
+use Rattle.ua_channel.specs.Placed.{Placed, Opens, Says, Closes, Heard, heard_of, judged, judged_by, checked, decoded, asked_at, security_rules, sequence_rules, asked_rules, number_rules, size_rules, open_run}
 use Rattle.ua_channel.specs.Taking.{State, fresh, Takes, Refuses, Accepts, answer_of, after}
-use Rattle.ua_channel.specs.Sending.{number_after}
-use Rattle.ua_channel.specs.Run.{Event, Took, Starved, Wrote, Does, Runs, chunks_of_run, answers_of_run, written_of_run, all_refused, answers_to, taken_by, taken_of, AreTaken}
+use Rattle.ua_channel.specs.Run.{Event, Took, Starved, Wrote, Runs, chunks_of_run, answers_of_run, all_refused, answers_to, taken_by, taken_of, AreTaken}
 
 -- a chunk that was judged well placed and then taken
 pub takes-accepted : (heard heard' : Heard) (next limit max_message max_chunks : ℕ) (chunk : Piece) (placed : Placed) (result : Result Taken ChannelFault)

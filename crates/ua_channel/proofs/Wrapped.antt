@@ -1,5 +1,5 @@
 -- What is written is whole chunks, and how many.
-use Rattle.std.proofs.Common.{◌≡◌, ℕ, zero, suc, true, ◌+◌, ◌-◌, ◌*◌, ◌^◌, ◌<◌, ◌≤◌, List, [], ◌∷◌, ◌++◌, length, refl, sym, ap, subst, ◌∙◌, arith}
+use Rattle.std.proofs.Common.{◌≡◌, ℕ, zero, suc, true, ◌+◌, ◌-◌, ◌*◌, ◌^◌, ◌<◌, ◌≤◌, List, [], ◌∷◌, length, refl, ap, ◌∙◌, arith}
 use Rattle.std.specs.Prelude.{◌↔◌}
 use Rattle.std.proofs.lemmas.List.{length-append}
 use Rattle.std.proofs.lemmas.Nat.{from_le_bytes-to_le_bytes_4}
@@ -8,8 +8,8 @@ use Rattle.uacp.specs.declared.types.Kind.TheVariants.{Message}
 use Rattle.uacp.specs.declared.types.Letter.{Letter}
 use Rattle.uacp.specs.declared.types.Letter.TheVariants.{Final, More, Abort}
 use Rattle.uacp.specs.Split.{joined, AreFull, IsSplit}
-use Rattle.uacp.specs.Stream.{Piece, IsChunk, AreChunks}
-use Rattle.ua_channel.specs.Headers.{message_header, chunk_of}
+use Rattle.uacp.specs.Stream.{IsChunk, AreChunks}
+use Rattle.ua_channel.specs.Headers.{chunk_of}
 use Rattle.ua_channel.specs.Sending.{number_after, letter_before, message_chunk, chunks_of, sent_body, sent_of, AreShort}
 use Rattle.ua_channel.proofs.Sizes.{message_size}
 

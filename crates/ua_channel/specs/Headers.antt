@@ -1,6 +1,6 @@
 -- The headers of a channel's chunks (Part 6, 6.7.2), those of requests and responses (Part 4, 7.33 and 7.34), and the opening of a
 -- channel (Part 4, 5.6.2).
-use Rattle.std.specs.Prelude.{◌+◌, ℕ, ℤ, pos, List, [], ◌∷◌, ◌++◌, length, codes, Option, None, Some, Bool, true, false, ◌&&◌, ◌==◌, ◌<◌, ◌^◌}
+use Rattle.std.specs.Prelude.{◌+◌, ℕ, ℤ, pos, List, [], ◌∷◌, ◌++◌, length, codes, Option, None, Bool, false, ◌&&◌, ◌==◌, ◌<◌, ◌^◌}
 use Rattle.std.specs.Option.{option_copied}
 use Rattle.std.specs.Int.{w32}
 use Rattle.std.specs.Int.RustNames.{FitsSigned}
@@ -15,9 +15,7 @@ use Rattle.ua_binary.specs.declared.values.ExtensionObject.{ExtensionObject}
 use Rattle.ua_binary.specs.Format.{Format, ◌▸◌, standing_for, passing, fitting}
 use Rattle.ua_binary.specs.Binary.{unsigned, signed, text, byte_string, node_id, node_of, ticks, status, extension, extension_of, IsText}
 use Rattle.uacp.specs.declared.types.Kind.{Kind}
-use Rattle.uacp.specs.declared.types.Kind.TheVariants.{Open, Message}
 use Rattle.uacp.specs.declared.types.Letter.{Letter}
-use Rattle.uacp.specs.declared.types.Letter.TheVariants.{Final}
 use Rattle.uacp.specs.Greeting.{fixed, fixed_number}
 use Rattle.uacp.specs.Stream.{letters}
 use Rattle.ua_channel.specs.declared.headers.Numbers.{Numbers}

@@ -1,5 +1,5 @@
 -- What taking a chunk answers, and what a channel knows after it.
-use Rattle.std.specs.Prelude.{◌≡◌, ◌<◌, ◌≤◌, ◌+◌, ℕ, List, [], ◌++◌, length, max, Option, None, Some, Bool, true, false, Result, Ok, Err}
+use Rattle.std.specs.Prelude.{◌≡◌, ◌<◌, ◌≤◌, ◌+◌, ℕ, List, [], ◌++◌, length, max, Some, true, false, Result, Ok, Err}
 use Rattle.uacp.specs.declared.types.Letter.{Letter}
 use Rattle.uacp.specs.declared.types.Letter.TheVariants.{Final, More, Abort}
 use Rattle.uacp.specs.declared.types.Chunk.{Chunk}

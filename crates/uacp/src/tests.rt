@@ -319,19 +319,18 @@ fn tells_faults(rt: HostRuntime) -> Result<(), Fail> {
 #[test]
 fn splits_bodies(rt: HostRuntime) -> Result<(), Fail> {
     let body = [7; 8169];
-    for (len, limit, first, count) in [
-        (8169, 8192, 8168, 2),
-        (8168, 8192, 8168, 1),
-        (0, 8192, 0, 1),
-        (5, 26, 2, 3),
-        (4, 26, 2, 2),
+    for (len, limit, want) in [
+        (8169, 8192, (Some(8168), Some(1), None)),
+        (8168, 8192, (Some(8168), None, None)),
+        (0, 8192, (Some(0), None, None)),
+        (5, 26, (Some(2), Some(2), Some(1))),
+        (4, 26, (Some(2), Some(2), None)),
     ] {
         assert!(rt; len <= body.len() && 24 < limit);
         let mut lens = split(&body[..len], limit).map(|piece| piece.len());
-        assert_eq!(rt; lens.next(), Some(first), "{len} at {limit}");
         assert_eq!(rt;
-            split(&body[..len], limit).count(),
-            count,
+            (lens.next(), lens.next(), lens.next()),
+            want,
             "{len} at {limit}"
         );
     }
