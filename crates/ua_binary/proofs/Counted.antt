@@ -1,5 +1,5 @@
 -- What is spelled is few enough to be counted, whatever its numbers are: so what was read may be written.
-use Rattle.std.proofs.Common.{◌≡◌, ℕ, zero, suc, ◌<◌, ◌^◌, ℤ, pos, negsuc, Bool, true, false, cond, ltb, List, [], ◌∷◌, length, Option, Some, None, IfSome, Result, Ok, Err, IfOk, refl, sym, ap, ◌∙◌, subst, arith, ◌==◌, not}
+use Rattle.std.proofs.Common.{◌≡◌, ℕ, zero, suc, ◌<◌, ◌^◌, ℤ, pos, negsuc, Bool, true, false, cond, ltb, List, [], ◌∷◌, length, Option, Some, None, IfSome, Ok, refl, sym, subst, arith, ◌==◌, not}
 use Rattle.std.proofs.lemmas.Bool.{ltb-true}
 use Rattle.std.proofs.lemmas.List.Elements.{All-nil, All-cons}
 use Rattle.std.specs.List.{All}
@@ -7,9 +7,9 @@ use Rattle.std.specs.Option.{option_flatten}
 use Rattle.std.specs.Int.{w16, w32, cast_signed}
 use Rattle.std.specs.Prelude.{bit_and, unwrap_or}
 use Rattle.ua_binary.specs.declared.fault.BinaryFault.{BinaryFault}
-use Rattle.ua_binary.specs.declared.fault.BinaryFault.TheVariants.{Short, BadLength, BadUtf8, BadEncodingByte}
+use Rattle.ua_binary.specs.declared.fault.BinaryFault.TheVariants.{BadLength, BadUtf8, BadEncodingByte}
 use Rattle.ua_binary.specs.declared.values.NodeId.TheVariants.{Numeric, Named, Global, Opaque}
-use Rattle.ua_binary.specs.Format.{Reading, ReadsUnless, IsLawful, Format, nothing, refused, byte, block, ◌▸◌, chosen, headed, standing_for, passing, flagged, fitting, raised, ItemsSpelled, items, at_least}
+use Rattle.ua_binary.specs.Format.{IsLawful, Format, nothing, refused, byte, block, ◌▸◌, chosen, headed, standing_for, passing, flagged, fitting, raised, ItemsSpelled, items}
 use Rattle.ua_binary.specs.Binary.{unsigned, signed, counted, count_of, IsCounted, byte_string, is_text, text, IsText, guid, two_byte_node, four_byte_node, numeric_node, named_node, global_node, opaque_node, node_form, node_form_of, IsNodeId, IsShortNode, node_id, localized, localized_fields, localized_mask, IsLocalized, IsShortLocalized, qualified, IsQualified, counted_items, array_spelled, array}
 
 -- each value that has a spelling is so
