@@ -1,15 +1,11 @@
 -- What is read of values is few enough to be written.
-use Rattle.std.proofs.Common.{◌≡◌, ℕ, ◌-◌, ◌<◌, ◌≤◌, ◌^◌, min, ltb, ◌==◌, List, length, Option, IfSome, Result, Ok, Err, refl, arith}
-use Rattle.std.specs.Prelude.{IfOk}
-use Rattle.std.specs.List.{All, AllByRecursion}
-use Rattle.std.proofs.lemmas.List.Elements.{recursion_from_All}
+use Rattle.std.proofs.Common.{◌≡◌, ℕ, ◌-◌, ◌<◌, ◌≤◌, ◌^◌, min, ltb, ◌==◌, List, length, Ok, arith}
 use Rattle.std.specs.Int.{w16, w32, w64}
-use Rattle.ua_binary.specs.Format.{Format, byte, block, standing_for, flagged, ReadsUnless}
+use Rattle.ua_binary.specs.Format.{Format, byte, block, standing_for, flagged}
 use Rattle.ua_binary.specs.Binary.{boolean, sbyte, signed, unsigned, ticks, status, guid}
 use Rattle.ua_binary.specs.declared.fault.BinaryFault.{BinaryFault}
 use Rattle.ua_binary.specs.declared.fault.BinaryFault.TheVariants.{BadEncodingByte}
 use Rattle.ua_binary.proofs.Counted.{SpellsOnly, IsFew, any_only, nothing_only, refused_only, then_only, headed_only, standing_only, flagged_only, chosen_only, fitting_only, raised_only, text_only, byte_string_only, node_id_only, localized_only, qualified_only, array_only, read_only}
-use Rattle.ua_variant.specs.declared.fault.VariantFault.{VariantFault}
 use Rattle.ua_variant.specs.declared.fault.VariantFault.TheVariants.{TypeUnsupported, BadEncodingByte as BadMask}
 use Rattle.ua_variant.specs.declared.value.Scalar.{Scalar as One}
 use Rattle.ua_variant.specs.declared.value.Scalar.TheVariants.{Boolean, SByte, Byte, Int16, UInt16, Int32, UInt32, Int64, UInt64, Float, Double, String, DateTime, Guid, ByteString, NodeId, StatusCode, QualifiedName, LocalizedText}
@@ -128,7 +124,7 @@ data_fields_only mask =
     ))
     ) (λ u h. (h.0, h.1.1.1.0, h.1.1.1.1.1)))
 
-data_value_only : SpellsOnly data_value IsShortData
+pub data_value_only : SpellsOnly data_value IsShortData
 unfolding data_value
 data_value_only = fitting_only IsDataValue (headed_only data_mask data_fields (any_only (raise byte)) (λ mask _. data_fields_only mask))
 

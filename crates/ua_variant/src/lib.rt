@@ -6,6 +6,7 @@ mod fault;
 mod laws;
 mod put;
 mod read;
+mod size;
 mod try_clone;
 mod value;
 

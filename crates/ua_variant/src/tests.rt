@@ -226,12 +226,12 @@ static ARRAYS: [(u8, &[u8], &str); 19] = [
     ),
 ];
 
-/// Whether the value is written as these bytes.
+/// Whether the value is written as these bytes, and has their size.
 fn is_written(alloc: Global, value: &Variant, bytes: &[u8]) -> bool
     requires { IsShortVariant value.now }
 {
     let mut out = Vec::new(alloc);
-    put_variant(&mut out, value).is_ok() && out.as_slice() == bytes
+    put_variant(&mut out, value).is_ok() && out.as_slice() == bytes && value.size() == bytes.len()
 }
 
 /// Whether `{:?}` shows this of the value.
@@ -281,12 +281,14 @@ fn arrays(rt: HostRuntime) {
     }
 }
 
-/// Whether the data value is written as these bytes.
+/// Whether the data value is written as these bytes, and has their size.
 fn is_data_written(alloc: Global, value: &DataValue, bytes: &[u8]) -> bool
     requires { IsShortData value.now }
 {
     let mut out = Vec::new(alloc);
-    put_data_value(&mut out, value).is_ok() && out.as_slice() == bytes
+    put_data_value(&mut out, value).is_ok()
+        && out.as_slice() == bytes
+        && value.size() == bytes.len()
 }
 
 /// Whether `{:?}` shows this of the data value.
