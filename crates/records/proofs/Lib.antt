@@ -11,3 +11,4 @@ pub mod CutLemmas
 pub mod LatestLemmas
 pub mod Spelled
 pub mod CloseLemmas
+pub mod Sizes

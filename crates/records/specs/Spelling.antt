@@ -1,5 +1,5 @@
 -- A record as bytes, format 1: the byte 1, and its fields one after the other. Only the spelling that is written is one.
-use Rattle.std.specs.Prelude.{◌≡◌, ℕ, ◌+◌, ◌^◌, ◌<◌, ◌≤◌, nat_lt, nat_le, ◌==◌, ℤ, pos, ◌≤ℤ◌, int_le, Bool, true, false, not, ◌&&◌, ◌||◌, List, [], ◌++◌, length, Option, Some, None, is_some, unwrap_or, Result, Ok, Err, if◌then◌else◌}
+use Rattle.std.specs.Prelude.{◌≡◌, ℕ, ◌+◌, ◌^◌, ◌<◌, ◌≤◌, nat_lt, nat_le, ◌==◌, ℤ, pos, ◌≤ℤ◌, int_le, Bool, true, false, not, ◌&&◌, ◌||◌, List, [], ◌++◌, length, Option, Some, None, IfSome, is_some, unwrap_or, Result, Ok, Err, if◌then◌else◌}
 use Rattle.std.specs.Int.{w64}
 use Rattle.std.specs.Int.RustNames.{FitsSigned}
 use Rattle.std.specs.Str.{is_utf8, bytes_eq}
@@ -8,7 +8,7 @@ use Rattle.ua_binary.specs.Format.{Format, byte, ◌▸◌, standing_for, passin
 use Rattle.ua_binary.specs.Binary.{unsigned, signed, text, node_id, IsNodeId, IsShortNode}
 use Rattle.ua_binary.specs.declared.values.NodeId.{NodeId}
 use Rattle.ua_variant.specs.declared.data.DataValue.{DataValue}
-use Rattle.ua_variant.specs.DataValue.{data_value, IsDataValue, IsShortData}
+use Rattle.ua_variant.specs.DataValue.{data_value, IsDataValue, IsShortData, IsPicoseconds}
 use Rattle.records.specs.declared.fault.RecordFault.{RecordFault}
 use Rattle.records.specs.declared.fault.RecordFault.TheVariants.{Binary, BadField, NotCanonical}
 use Rattle.records.specs.declared.record.Record.{Record}
@@ -130,6 +130,14 @@ pub record HasSpelledParts (r : Record) : Type 0 where
   pub time : FitsSigned w64 r.time
   pub user : is_utf8 r.user ≡ true
   pub value : IsDataValue r.value
+
+-- what a record's own tests ask, its size aside
+pub record HasLimits (r : Record) : Type 0 where
+  pub number : (1 ≤ r.number) × (r.number ≤ greatest)
+  pub time : pos 1 ≤ℤ r.time
+  pub user : length r.user ≤ 256
+  pub picoseconds : IfSome r.value.source_pico IsPicoseconds × IfSome r.value.server_pico IsPicoseconds
+  pub suits : is_value_for r.asked r.value ≡ true
 
 abbrev pub IsTick : ℤ → Type 0
 IsTick t = (pos 1 ≤ℤ t) × (t ≤ℤ pos greatest)

@@ -6,16 +6,23 @@ ghost use Rattle.std.specs.Str.{bytes_eq};
 ghost use Rattle.ua_binary.specs.Format.{Puts, PutsPart, ReadsUnless};
 ghost use Rattle.records.specs.declared.fault.RecordFault.TheVariants as fault;
 ghost use Rattle.records.specs.Spelling.{is_value_for, fields, record_form, record_at, front, parts_of, IsRecord, IsShortRecord, GivesUnless, HasSpelledParts};
+ghost use Rattle.std.specs.Prelude.{◌↔◌, IsTrue, IfSome};
+ghost use Rattle.ua_binary.specs.Format.{saturated};
+ghost use Rattle.ua_variant.specs.DataValue.{data_value, IsDataValue, IsPicoseconds, IsShortData};
+ghost use Rattle.ua_variant.specs.Variant.{IsShortVariant};
 ghost use Rattle.std.specs.Int.{w64};
 ghost use Rattle.std.specs.Int.RustNames.{FitsSigned};
 ghost use Rattle.std.specs.Str.{is_utf8};
 ghost use Rattle.stamp.specs.Limits.{IsReplica};
-ghost use Rattle.ua_binary.specs.Binary.{IsNodeId, IsShortNode};
+ghost use Rattle.ua_binary.specs.Binary.{node_id, IsNodeId, IsShortNode};
 
 use crate::fault::RecordFault;
 use crate::record::{HistoryUpdateType, Record};
+use stamp::GREATEST_NUMBER;
 use std::alloc::Global;
-use ua_binary::{BinaryFault, Cursor, or_undone, put_i64, put_node_id, put_text, put_u8, put_u64};
+use ua_binary::{
+    BinaryFault, Cursor, Encode, or_undone, put_i64, put_node_id, put_text, put_u8, put_u64,
+};
 use ua_variant::{DataValue, put_data_value, read_data_value};
 
 /// The most bytes of a record.
@@ -105,6 +112,66 @@ fn is_written_so(alloc: Global, r: &Record, bytes: &[u8]) -> Result<bool, Record
     let mut out = Vec::new(alloc);
     put_fields(&mut out, r)?;
     Ok(bytes == out.as_slice())
+}
+
+/// Whether picoseconds, where they are there, are at most 9,999.
+fn are_picoseconds(v: Option<u16>) -> bool
+    ensures { IsTrue result ↔ IfSome v IsPicoseconds }
+{
+    match v {
+        Some(n) => n <= 9999,
+        None => true,
+    }
+}
+
+impl Record {
+    ghost use Rattle.records.specs.Spelling.{fields, HasLimits, IsLawfulRecord};
+
+    /// How many bytes its fields take, or 2^64 - 1 where there are more.
+    #[tactic(auto, using(crate::proofs::Sizes::fields_length), unfolding(ua_binary::specs::Binary::node_id))]
+    fn size(&self) -> usize
+        ensures counted { result ≡ saturated (length (fields.canon self.now)) }
+        ensures node_short { length (node_id.canon self.now.node) < 2 ^ 31 → IsShortNode self.now.node }
+        ensures node_spelled { IsShortNode self.now.node → IsNodeId self.now.node }
+        ensures value_short { length (data_value.canon self.now.value) < 2 ^ 31 → IfSome self.now.value.value IsShortVariant }
+        ensures value_spelled { IsShortData self.now.value → IsDataValue self.now.value }
+    {
+        let texts = self.node.size().saturating_add(self.user.len());
+        texts.saturating_add(self.value.size()).saturating_add(31)
+    }
+
+    /// Whether its numbers, its user and its value are within the limits of a record.
+    fn has_limits(&self) -> bool
+        ensures { IsTrue result ↔ HasLimits self.now }
+    {
+        let value = &self.value;
+        let exact = are_picoseconds(value.source_pico) && are_picoseconds(value.server_pico);
+        self.number >= 1
+            && self.number <= GREATEST_NUMBER
+            && self.time >= 1
+            && self.user.len() <= 256
+            && exact
+            && is_value_for(self.asked, value)
+    }
+
+    /// Whether it has a spelling, its tick aside: its number is 1 to 2^62 - 1, its source time at least
+    /// 1, its user at most 256 bytes long; a delete's value is empty, and another's has no source time
+    /// and picoseconds of at most 9,999; and it takes at most 1,048,576 bytes. It takes no memory.
+    #[tactic(auto, using(crate::proofs::Sizes::lawfulness))]
+    pub fn is_lawful(&self) -> bool
+        ensures { IsTrue result ↔ IsLawfulRecord self.now }
+    {
+        let Record {
+            origin, time, user, ..
+        } = self;
+        let _time = *time;
+        let (_origin, _user) = (origin.get(), user.as_str());
+        let size = self.size();
+        if !self.has_limits() {
+            return false;
+        }
+        size <= LONGEST
+    }
 }
 
 /// Reads the record that all of the bytes spell. The fields are judged one after the other: one that
