@@ -32,9 +32,9 @@ small r h = (omega (arith, fields_length r, h), omega (arith, fields_length r, h
 
 -- what passes the tests has a spelling
 pub lawful_by : (r : Record) → IsReplica r.origin → FitsSigned w64 r.time → is_utf8 r.user ≡ true
-  → (length (node_id.canon r.node) < 2 ^ 31 → IsShortNode r.node) → (IsShortNode r.node → IsNodeId r.node)
-  → (length (data_value.canon r.value) < 2 ^ 31 → IfSome r.value.value IsShortVariant) → (IsShortData r.value → IsDataValue r.value)
-  → HasLimits r → length (fields.canon r) ≤ longest → IsLawfulRecord r
+    → (length (node_id.canon r.node) < 2 ^ 31 → IsShortNode r.node) → (IsShortNode r.node → IsNodeId r.node)
+    → (length (data_value.canon r.value) < 2 ^ 31 → IfSome r.value.value IsShortVariant) → (IsShortData r.value → IsDataValue r.value)
+    → HasLimits r → length (fields.canon r) ≤ longest → IsLawfulRecord r
 lawful_by r origin fits utf8 few_node node few_value value limits size =
     let few = small r size in
     record {

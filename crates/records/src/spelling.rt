@@ -162,7 +162,10 @@ impl Record {
         ensures { IsTrue result ↔ IsLawfulRecord self.now }
     {
         let Record {
-            origin, time, user, ..
+            origin,
+            time,
+            user,
+            ..
         } = self;
         let _time = *time;
         let (_origin, _user) = (origin.get(), user.as_str());

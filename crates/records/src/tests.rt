@@ -236,7 +236,7 @@ fn there_and_back(alloc: Global, bytes: &[u8]) -> Result<bool, Fail> {
     };
     let mut out = Vec::new(alloc);
     let written = put_record(&mut out, &record).is_ok() && out.as_slice() == bytes;
-    Ok(written && record.try_clone()? == record)
+    Ok(written && record.is_lawful() && record.try_clone()? == record)
 }
 
 #[test]

@@ -40,8 +40,8 @@ impl Channel {
     ghost use Rattle.ua_channel.specs.Taking.{fresh, piece_of, Takes, IsReady, LeavesReady};
     ghost use Rattle.ua_channel.specs.Sending.{opened_chunk, Writes, Wraps, IsFitting};
 
-    /// A channel that isn't open yet, between a client and a server that greeted each other so. It
-    /// takes no memory.
+    /// A channel that isn't open yet, between a client and a server that greeted each other so. A send
+    /// size below 25 is read as 25, so that each chunk has a byte of its message. It takes no memory.
     pub fn new(alloc: Global, hello: &Hello, ack: &Ack) -> Self
         ensures { result ≡ fresh hello.now ack.now }
     {

@@ -18,7 +18,7 @@ pub enum ChannelFault {
     /// Issue for a channel that stands, Renew for one that doesn't, or neither.
     #[error("the request type does not fit the channel")]
     RequestType,
-    /// The channel's id is another one, or no channel stands.
+    /// The channel's id is another one, no channel stands, or the channel has ended.
     #[error("no such channel")]
     ChannelId,
     /// The token is neither the newest nor the one before it, or no token is left.

@@ -4,7 +4,8 @@ use std::test::Fail;
 use ua_binary::{Cursor, NodeId, Status, Ticks, put_node_id};
 use uacp::{Ack, Chunk, Hello, Kind, Letter};
 
-/// A first OPN, after its eight bytes: sequence number 1, request 1, handle 1, Issue, an hour.
+/// A first OPN, after its eight bytes: the sequence number, the request id and the handle are 1; Issue,
+/// an hour.
 const OPENING: [u8; 124] =
     *b"\0\0\0\0\x2f\0\0\0http://opcfoundation.org/UA/SecurityPolicy#None\xff\xff\xff\xff\xff\xff\xff\xff\x01\0\0\0\x01\0\0\0\x01\0\xbe\x01\0\0\0\0\0\0\0\0\0\0\x01\0\0\0\0\0\0\0\xff\xff\xff\xff\0\0\0\0\0\0\0\0\0\0\0\0\0\0\0\x01\0\0\0\xff\xff\xff\xff\x80\xee\x36\0";
 
