@@ -21,7 +21,7 @@ pub use laws::{
 pub use record::{HistoryUpdateType, Record};
 pub use shown::{Entry, Held};
 pub use spelling::{put_record, read_record};
-pub use story::{current_of, entries_of, missing_of};
+pub use story::{current_of, entries_of, missing_of, story_of};
 
 #[cfg(test)]
 mod tests;

@@ -61,8 +61,8 @@ fn found_at(
     Ok(found)
 }
 
-/// The records at a node and source time, in the order of their stamps.
-fn story_of(
+/// The records at a node and source time, in the order of their stamps, in a `Vec`.
+fn sorted_at(
     alloc: Global,
     records: &[Record],
     node: &NodeId,
@@ -74,6 +74,21 @@ fn story_of(
     let mut found = found_at(alloc, records, node, time)?;
     found.sort_by_key(|r| (r.tick, r.origin))?;
     Ok(found)
+}
+
+/// The records at a node and a source time, in the order of their stamps. The records' order is free;
+/// no two of them have one stamp. The one error is `OutOfMemory`.
+pub fn story_of(
+    alloc: Global,
+    records: &[Record],
+    node: &NodeId,
+    time: i64,
+) -> Result<Listing<Record>, RecordFault>
+    requires { IsApart stamp_cmp records.now }
+    ensures { MatchResult result (λ v. v ≡ story records.now node.now time) (λ e. e ≡ fault.OutOfMemory) }
+{
+    let story = sorted_at(alloc, records, node, time)?;
+    Ok(Listing::of(story))
 }
 
 /// What a story leaves.
@@ -104,7 +119,7 @@ pub fn current_of(
     requires { IsApart stamp_cmp records.now }
     ensures { MatchResult result (λ v. v ≡ current records.now node.now time) (λ e. e ≡ fault.OutOfMemory) }
 {
-    let story = story_of(alloc, records, node, time)?;
+    let story = sorted_at(alloc, records, node, time)?;
     Ok(held_of(story))
 }
 
@@ -181,7 +196,7 @@ pub fn entries_of(
     requires { IsApart stamp_cmp records.now }
     ensures { MatchResult result (λ v. v ≡ entries records.now node.now time) (λ e. e ≡ fault.OutOfMemory) }
 {
-    let story = story_of(alloc, records, node, time)?;
+    let story = sorted_at(alloc, records, node, time)?;
     let shown = entries_in(alloc, &story)?;
     Ok(Listing::of(shown))
 }

@@ -4,7 +4,7 @@ use Rattle.std.proofs.lemmas.List.Sorted.{answers_always}
 use Rattle.records.specs.Records.{stamp_cmp, is_at}
 use Rattle.records.proofs.Orders.{stamp_total}
 use Rattle.records.proofs.Sorting.{sorted_is, pairwise-filter}
-use Rattle.records.proofs.story.story_of.Goals as goal
+use Rattle.records.proofs.story.sorted_at.Goals as goal
 
 pub returns : goal.returns
 returns c =
