@@ -1,0 +1,4 @@
+pub mod SetLemmas
+pub mod ListLemmas
+pub mod Listing
+pub mod Scripting

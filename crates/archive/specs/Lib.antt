@@ -1,0 +1,5 @@
+pub mod Reading
+pub mod Store
+pub mod Fault
+pub mod Listed
+pub mod Scripted

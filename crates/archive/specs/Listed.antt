@@ -1,0 +1,28 @@
+-- An archive in memory.
+use Rattle.std.specs.Prelude.{◌≡◌, ◌==◌, ⊤, ℕ, ℤ, pos, false, List, if◌then◌else◌}
+use Rattle.records.specs.Contents.{Content}
+use Rattle.records.specs.declared.record.Record.{Record}
+use Rattle.archive.specs.declared.fault.StoreFault.TheVariants.{OutOfMemory}
+use Rattle.archive.specs.Store.{Store}
+
+pub record Listed : Type 0 where
+  pub id : List ℕ
+  pub number : ℕ
+  pub records : Content
+  pub faults : ℕ
+
+-- its memory returns what was written, and it is never broken; a crash ends it, so what it may be found to hold is what it holds
+abbrev pub store_of : Listed → Store
+store_of a = record {
+  content = a.records;
+  own = a.number;
+  id = a.id;
+  broken = false;
+  failed = a.faults;
+  honest = ⊤;
+  may_hold = λ left. left ≡ a.records;
+  meets = λ fault. fault ≡ OutOfMemory;
+}
+
+abbrev pub tick_from : ℕ → Record → ℤ
+tick_from origin r = if r.origin == origin then r.tick else pos 0

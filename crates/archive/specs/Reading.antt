@@ -1,0 +1,111 @@
+-- What a content shows of a node over time (Part 11: raw and modified history).
+use Rattle.std.specs.Prelude.{◌≡◌, ℤ, pos, int_lt, int_le, Bool, true, ◌&&◌, List, [], ◌∷◌, filter, map, reverse, slice_get, Option, Some, None}
+use Rattle.std.specs.List.{filter_map, flat_map}
+use Rattle.std.specs.declared.cmp.Ordering.{Ordering}
+use Rattle.std.specs.declared.cmp.Ordering.TheVariants.{Less, Equal, Greater}
+use Rattle.std.specs.Ordering.{int_cmp, on, then_cmp, is_lt}
+use Rattle.stamp.specs.Stamp.{stamp_cmp}
+use Rattle.stamp.specs.declared.stamps.Stamp.{Stamp}
+use Rattle.ua_binary.specs.declared.values.NodeId.{NodeId}
+use Rattle.records.specs.Contents.{Content}
+use Rattle.records.specs.Records.{current, entries}
+use Rattle.records.specs.Same.{same_node}
+use Rattle.records.specs.declared.record.Record.{Record}
+use Rattle.records.specs.declared.shown.Held.{Held}
+use Rattle.records.specs.declared.shown.Entry.{Entry}
+use Rattle.archive.specs.declared.reading.Direction.{Direction}
+use Rattle.archive.specs.declared.reading.Direction.TheVariants.{Forward, Backward}
+use Rattle.archive.specs.declared.reading.LogPlace.{LogPlace}
+
+-- ---- lists in order, each element once
+
+abbrev pub placed_once : {X : Type 0} → Ordering → X → X → List X → List X → List X
+placed_once Less new x xs more = new ∷ x ∷ xs
+placed_once Equal new x xs more = x ∷ xs
+placed_once Greater new x xs more = x ∷ more
+
+abbrev pub insert_once : {X : Type 0} → (X → X → Ordering) → X → List X → List X
+insert_once cmp new [] = new ∷ []
+insert_once cmp new (x ∷ xs) = placed_once (cmp new x) new x xs (insert_once cmp new xs)
+
+abbrev pub set_of : {X : Type 0} → (X → X → Ordering) → List X → List X
+set_of cmp [] = []
+set_of cmp (x ∷ xs) = insert_once cmp x (set_of cmp xs)
+
+-- ---- times
+
+abbrev pub time_cmp : ℤ → ℤ → Ordering
+time_cmp = int_cmp
+
+abbrev pub time_lt : ℤ → ℤ → Bool
+time_lt = int_lt
+
+abbrev pub time_le : ℤ → ℤ → Bool
+time_le = int_le
+
+-- ---- a node's history, forward
+
+abbrev pub is_of : NodeId → Record → Bool
+is_of node r = same_node r.node node
+
+-- the source times at which the node has records, in order
+abbrev pub times : Content → NodeId → List ℤ
+times R node = set_of time_cmp (map (λ r. r.time) (filter (is_of node) R))
+
+-- the node's live values, in the order of their times
+abbrev pub lives : Content → NodeId → List Held
+lives R node = filter_map (current R node) (times R node)
+
+-- the node's modifications, one for each of its records, plain inserts too: times in order, within a time the newest first
+abbrev pub log : Content → NodeId → List Entry
+log R node = flat_map (λ t. reverse (entries R node t)) (times R node)
+
+-- ---- directions
+
+-- backward is the other way round: times descend, and within a time the oldest stands first
+abbrev pub in_direction : {X : Type 0} → Direction → List X → List X
+in_direction Forward xs = xs
+in_direction Backward xs = reverse xs
+
+abbrev pub opposite : Direction → Direction
+opposite Forward = Backward
+opposite Backward = Forward
+
+-- in the direction, the time is strictly beyond the limit
+abbrev pub is_past : Direction → ℤ → ℤ → Bool
+is_past Forward limit time = time_lt limit time
+is_past Backward limit time = time_lt time limit
+
+-- both ends are in it
+abbrev pub is_between : ℤ → ℤ → ℤ → Bool
+is_between from to time = time_le from time && time_le time to
+
+-- the order of modifications, forward: by time, and within a time the newest first
+abbrev pub log_cmp : LogPlace → LogPlace → Ordering
+log_cmp = then_cmp (on (λ p. p.time) time_cmp) (λ a b. stamp_cmp b.stamp a.stamp)
+
+abbrev pub place_of : Entry → LogPlace
+place_of e = record { time = e.time; stamp = record { tick = e.tick; origin = e.origin } }
+
+-- the entry stands behind a place, where one is given
+abbrev pub follows : Direction → Option LogPlace → Entry → Bool
+follows d None e = true
+follows Forward (Some place) e = is_lt (log_cmp place (place_of e))
+follows Backward (Some place) e = is_lt (log_cmp (place_of e) place)
+
+abbrev pub first : {X : Type 0} → List X → Option X
+first xs = slice_get xs 0
+
+-- ---- what the calls answer
+
+-- the live values between two times
+abbrev pub range_of : Content → NodeId → ℤ → ℤ → Direction → List Held
+range_of R node from to d = in_direction d (filter (λ h. is_between from to h.time) (lives R node))
+
+-- the modifications between two times that stand behind a place
+abbrev pub log_of : Content → NodeId → ℤ → ℤ → Option LogPlace → Direction → List Entry
+log_of R node from to after d = filter (follows d after) (in_direction d (filter (λ e. is_between from to e.time) (log R node)))
+
+-- the nearest live value strictly beyond a time
+abbrev pub outside_of : Content → NodeId → ℤ → Direction → Option Held
+outside_of R node time d = first (in_direction d (filter (λ h. is_past d time h.time) (lives R node)))

@@ -1,0 +1,114 @@
+-- What an archive keeps, and what its calls leave.
+use Rattle.std.specs.Prelude.{◌≡◌, ◌⊎◌, ℕ, ◌+◌, ◌-◌, ◌^◌, min, Bool, true, false, List, Option, Some, None, IfSome, unwrap_or, Result, Ok, Err, IfOk}
+use Rattle.records.specs.Lists.{Has}
+use Rattle.records.specs.Contents.{Content, IsClosed, Finding, Adds, Holds, Clash, Gap, TickTooFar, TickNotRising, finding, learned, put}
+use Rattle.records.specs.Spelling.{IsLawfulRecord}
+use Rattle.records.specs.declared.record.Record.{Record}
+use Rattle.archive.specs.declared.fault.StoreFault.{StoreFault}
+use Rattle.archive.specs.declared.fault.StoreFault.TheVariants.{Broken, WrongReplica, WrongArchive}
+use Rattle.archive.specs.declared.fault.LearnFault.{LearnFault}
+use Rattle.archive.specs.declared.fault.LearnFault.TheVariants as refused
+
+pub record Store : Type 1 where
+  -- the records held; nothing is said of them while it is broken
+  pub content : Content
+  -- the number of its replica
+  pub own : ℕ
+  -- the archive's id
+  pub id : List ℕ
+  -- each call that reads or writes the store answers Broken, until it is opened again
+  pub broken : Bool
+  -- how many calls answered a fault of the store, at most 2^64 - 1
+  pub failed : ℕ
+  -- so far the store returned what was written to it
+  pub honest : Type 0
+  -- what an opening after a crash at this moment may find
+  pub may_hold : Content → Type 0
+  -- the faults that its calls may answer
+  pub meets : StoreFault → Type 0
+
+-- each origin's records are its first ones, with ticks that rise, and each record is lawful
+pub record IsLawfulContent (R : Content) : Type 0 where
+  pub closed : IsClosed R
+  pub records : (r : Record) → Has R r → IsLawfulRecord r
+
+-- its content is lawful, and is what a crash leaves, nothing else
+pub record IsSettled (s : Store) : Type 0 where
+  pub lawful : IsLawfulContent s.content
+  pub stays : s.may_hold s.content
+  pub only : (left : Content) → s.may_hold left → left ≡ s.content
+
+-- as long as the store is used, it is settled
+abbrev pub Rests : Store → Type 0
+Rests s = s.honest → s.broken ≡ false → IsSettled s
+
+-- ---- what every call leaves, by the fault of the store that it answered, if any
+
+abbrev pub is_broken : Option StoreFault → Bool
+is_broken (Some Broken) = true
+is_broken fault = false
+
+-- so many faults more; the count stops at 2^64 - 1
+abbrev pub raised : ℕ → ℕ → ℕ
+raised n failed = min (failed + n) (2 ^ 64 - 1)
+
+-- each fault is counted
+abbrev pub failures : ℕ → Option StoreFault → ℕ
+failures failed None = failed
+failures failed (Some fault) = raised 1 failed
+
+-- faults of opening alone
+abbrev pub IsOfOpening : StoreFault → Type 0
+IsOfOpening fault = (fault ≡ WrongReplica) ⊎ (fault ≡ WrongArchive)
+
+pub record Leaves (old new : Store) (fault : Option StoreFault) : Type 0 where
+  pub before : Rests old
+  pub after : Rests new
+  pub own : new.own ≡ old.own
+  pub id : new.id ≡ old.id
+  pub honest : new.honest → old.honest
+  pub failed : new.failed ≡ failures old.failed fault
+  pub broken : new.broken ≡ is_broken fault
+  pub ended : old.broken ≡ true → fault ≡ Some Broken
+  pub met : IfSome fault (λ f. old.meets f × (IsOfOpening f → ⊥))
+  pub meets : (f : StoreFault) → new.meets f → old.meets f
+  -- behind Broken too an opening finds something
+  pub some : new.honest → ((left : Content) → new.may_hold left → ⊥) → ⊥
+
+-- ---- queries
+
+abbrev pub fault_in : {A : Type 0} → Result A StoreFault → Option StoreFault
+fault_in (Ok a) = None
+fault_in (Err fault) = Some fault
+
+-- a query's answer is such a one, or a fault of the store came; the content stays
+pub record Asks {A : Type 0} (old new : Store) (result : Result A StoreFault) (IsAnswer : A → Type 0) : Type 0 where
+  pub answer : new.honest → IfOk result IsAnswer
+  pub kept : new.honest → new.broken ≡ false → new.content ≡ old.content
+  pub crash : new.honest → (left : Content) → new.may_hold left → old.may_hold left
+  pub leaves : Leaves old new (fault_in result)
+
+-- ---- learning
+
+abbrev pub store_fault_in : Result Bool LearnFault → Option StoreFault
+store_fault_in (Err (refused.Store fault)) = Some fault
+store_fault_in result = None
+
+-- what a finding is answered: whether the record is added, or why it is refused
+abbrev pub answer_to : Finding → Result Bool LearnFault
+answer_to Adds = Ok true
+answer_to Holds = Ok false
+answer_to Clash = Err refused.Clash
+answer_to (Gap held got) = Err (refused.Gap held got)
+answer_to TickTooFar = Err refused.TickTooFar
+answer_to TickNotRising = Err refused.TickNotRising
+
+-- a record is learned: what it meets is answered, and the content is the old one, with the record where that is added; a fault of the store
+-- leaves the content as it was
+pub record Learns (old new : Store) (r : Record) (result : Result Bool LearnFault) : Type 0 where
+  pub answered : new.honest → store_fault_in result ≡ None → (result ≡ answer_to (finding old.content r)) × (new.content ≡ unwrap_or (learned old.content r) old.content)
+  pub kept : new.honest → new.broken ≡ false → IfSome (store_fault_in result) (λ _. new.content ≡ old.content)
+  -- a crash leaves what it could leave before, or the content with this one record
+  pub crash : new.honest → (left : Content) → new.may_hold left
+      → old.may_hold left ⊎ ((old.broken ≡ false) × (finding old.content r ≡ Adds) × (left ≡ put r old.content))
+  pub leaves : Leaves old new (store_fault_in result)

@@ -1,0 +1,114 @@
+//! What every archive does.
+
+use crate::fault::{LearnFault, StoreFault};
+use crate::reading::{Direction, LogPlace};
+use records::{Entry, Held, Record};
+use stamp::{ReplicaNo, Vector};
+use std::alloc::Global;
+use ua_binary::NodeId;
+use uuid::Uuid;
+
+/// The records of one replica, in a store. Contracts see it as a `Store`: its content, what the store
+/// may be found to hold after a crash, and how many of its calls answered a fault of the store; an
+/// implementor's `state` says what these are of it, and is to be read with it. Each call but `id`,
+/// `number` and `faults` may answer a fault of the store, and then, unless it is `Broken`, the content
+/// is as before. What the calls answer is promised as long as the store returns what was written to
+/// it. `alloc` is where an answer's lists are made; the other calls answer by value, and take what
+/// memory the store needs from where it was opened.
+pub trait Archive {
+    ghost use Rattle.std.specs.Prelude.{◌≡◌, ⊤, ℕ, take};
+    ghost use Rattle.stamp.specs.Numbers.{number_of};
+    ghost use Rattle.records.specs.Records.{story, missing};
+    ghost use Rattle.records.specs.Contents.{vec, top};
+    ghost use Rattle.records.specs.Spelling.{IsLawfulRecord};
+    ghost use Rattle.archive.specs.Reading.{range_of, log_of, outside_of};
+    ghost use Rattle.archive.specs.Store.{Store, Asks, Learns};
+
+    ghost state: { Self → Store };
+
+    /// The archive's id, which all of its replicas have. It reads no store.
+    fn id(&self) -> Uuid
+        ensures { result ≡ (state self.now).id };
+
+    /// The number of this replica. It reads no store.
+    fn number(&self) -> ReplicaNo
+        ensures { result ≡ (state self.now).own };
+
+    /// How many calls answered a fault of the store, at most 2^64 - 1. It reads no store.
+    fn faults(&self) -> u64
+        ensures { result ≡ (state self.now).failed };
+
+    /// The number of each replica's last record.
+    fn vector(&mut self) -> Result<Vector, StoreFault>
+        ensures { Asks (state self.old) (state self.new) result (λ v. (replica : ℕ) → number_of v replica ≡ vec (state self.old).content replica) };
+
+    /// The greatest tick of all records, 0 where there is none.
+    fn top(&mut self) -> Result<i64, StoreFault>
+        ensures { Asks (state self.old) (state self.new) result (λ t. t ≡ top (state self.old).content) };
+
+    /// The records of a node and a source time, in the order of their stamps.
+    fn at(&mut self, alloc: Global, node: &NodeId, time: i64) -> Result<Vec<Record>, StoreFault>
+        ensures { Asks (state self.old) (state self.new) result (λ v. v.items ≡ story (state self.old).content node.now time) };
+
+    /// The first `limit` of a node's live values from one source time to another, both included, in
+    /// the direction. `from` is the lesser time; where it is above `to` there are none.
+    fn range(
+        &mut self,
+        alloc: Global,
+        node: &NodeId,
+        from: i64,
+        to: i64,
+        direction: Direction,
+        limit: usize,
+    ) -> Result<Vec<Held>, StoreFault>
+        ensures { Asks (state self.old) (state self.new) result (λ v. v.items ≡ take limit (range_of (state self.old).content node.now from to direction)) };
+
+    /// The first `limit` of a node's modifications from one source time to another, both included, in
+    /// the direction, that stand behind a place, where one is given. There is one for each record,
+    /// also for an insert where nothing stood, which shows its own value.
+    fn log(
+        &mut self,
+        alloc: Global,
+        node: &NodeId,
+        from: i64,
+        to: i64,
+        after: Option<LogPlace>,
+        direction: Direction,
+        limit: usize,
+    ) -> Result<Vec<Entry>, StoreFault>
+        ensures { Asks (state self.old) (state self.new) result (λ v. v.items ≡ take limit (log_of (state self.old).content node.now from to after direction)) };
+
+    /// A node's live value that is nearest to a source time, strictly beyond it in the direction;
+    /// `None` where there is none.
+    fn next_outside(
+        &mut self,
+        alloc: Global,
+        node: &NodeId,
+        time: i64,
+        direction: Direction,
+    ) -> Result<Option<Held>, StoreFault>
+        ensures { Asks (state self.old) (state self.new) result (λ h. h ≡ outside_of (state self.old).content node.now time direction) };
+
+    /// The first `limit` of the records that a vector lacks, by origin and number.
+    fn since(
+        &mut self,
+        alloc: Global,
+        vector: &Vector,
+        limit: usize,
+    ) -> Result<Vec<Record>, StoreFault>
+        ensures { Asks (state self.old) (state self.new) result (λ v. v.items ≡ missing (state self.old).content (number_of vector.now) limit) };
+
+    /// Takes in a record: `true` where it is added, `false` where it is held already. Refusals come in
+    /// this order: `Clash` where another record of its name is held, `Gap` where its number is above
+    /// its origin's next, `TickTooFar` above 2^62 - 1, `TickNotRising` where its tick isn't above that
+    /// of its origin's last record. A fault of the store may come before any of them. A refused record
+    /// changes nothing; after `Broken` it may stand, and opening again tells. The condition is
+    /// `Record::is_lawful`.
+    fn learn(&mut self, candidate: &Record) -> Result<bool, LearnFault>
+        requires { IsLawfulRecord candidate.now }
+        ensures { Learns (state self.old) (state self.new) candidate.now result };
+
+    /// Reads the store anew.
+    fn reload(&mut self) -> Result<(), StoreFault>
+        ensures { Asks (state self.old) (state self.new) result (λ u. ⊤) };
+}

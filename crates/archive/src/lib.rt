@@ -1,0 +1,19 @@
+//! An archive: the records of one replica, in a store, and what it answers of them. `Archive` is the
+//! one contract that updates, reads and exchange stand on, and `ListArchive` meets it by one list of
+//! records.
+#![tactic(auto)]
+
+mod archive;
+mod fault;
+mod list_archive;
+mod reading;
+mod scripted;
+
+pub use archive::Archive;
+pub use fault::{LearnFault, StoreFault};
+pub use list_archive::ListArchive;
+pub use reading::{Direction, LogPlace};
+pub use scripted::{Failure, ScriptedArchive};
+
+#[cfg(test)]
+mod tests;

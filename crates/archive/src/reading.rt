@@ -1,0 +1,47 @@
+//! How history is read: directions, and places among modifications.
+
+ghost use Rattle.std.specs.Prelude.{◌≡◌};
+
+use stamp::Stamp;
+
+/// The way in which times are read.
+#[derive(Clone, Copy, Debug, PartialEq, Eq)]
+pub enum Direction {
+    /// Times ascend; of the modifications of one time, the newest stands first.
+    Forward,
+    /// Times descend; of the modifications of one time, the oldest stands first.
+    Backward,
+}
+
+/// The place of a modification among those of its node.
+#[derive(Clone, Copy, Debug, PartialEq, Eq)]
+pub struct LogPlace {
+    /// The source time, in steps of 100 ns since 1601.
+    pub time: i64,
+    /// The stamp of the record that made it.
+    pub stamp: Stamp,
+}
+
+impl Direction {
+    ghost use Rattle.archive.specs.Reading.{opposite, is_past};
+
+    /// The other way.
+    pub fn opposite(self) -> Direction
+        ensures { result ≡ opposite self }
+    {
+        match self {
+            Direction::Forward => Direction::Backward,
+            Direction::Backward => Direction::Forward,
+        }
+    }
+
+    /// Whether a time is strictly beyond a limit.
+    pub fn is_past(self, limit: i64, time: i64) -> bool
+        ensures { result ≡ is_past self limit time }
+    {
+        match self {
+            Direction::Forward => limit < time,
+            Direction::Backward => time < limit,
+        }
+    }
+}
