@@ -1,7 +1,7 @@
 -- `==` of values is exact: it tells whether two are one.
 use Rattle.std.proofs.Common.{rules, ◌≡◌, Bool, true, Some, None, eqb, true≢false, refl, sym, ap, ◌∙◌, subst, ◌&&◌}
 use Rattle.std.specs.Bool.{Decides}
-use Rattle.std.specs.Cmp.{booleans_Decides, signed_Decides, unsigned_Decides}
+use Rattle.std.specs.Cmp.{IsEquivalence, booleans_Decides, signed_Decides, unsigned_Decides}
 use Rattle.std.specs.Cmp.Lexicographic.{pointwise}
 use Rattle.std.specs.Option.{option_eq}
 use Rattle.std.proofs.lemmas.Bool.Decides.{Decides-and, Decides-like}
@@ -20,15 +20,17 @@ use Rattle.ua_variant.specs.DataValue.{data_of, parts_of}
 use Rattle.ua_variant.specs.contracts.value.ScalarPartialEq as scalar
 use Rattle.ua_variant.specs.contracts.value.ArrayPartialEq as array
 use Rattle.ua_variant.specs.contracts.value.VariantPartialEq as variant
+use Rattle.ua_variant.specs.contracts.value.ArrayEq.TheImpl.Laws as array_equal
+use Rattle.ua_variant.specs.contracts.value.VariantEq.TheImpl.Laws as variant_equal
 use Rattle.ua_variant.specs.contracts.data.DataValuePartialEq as whole
 
 -- a test of being one that is right
 abbrev pub IsExact : {A : Type 0} → (A → A → Bool) → Type 0
 IsExact {A} E = (a b : A) → Decides (E a b) (a ≡ b)
 
--- a test is exact where those that it joins are one, and it joins each with itself
-reflects : {A : Type 0} {E : A → A → Bool} → ((a b : A) → E a b ≡ true → a ≡ b) → ((a : A) → E a a ≡ true) → IsExact E
-reflects {E = E} only itself a b = (only a b, λ e. subst (λ c. E a c ≡ true) e (itself a))
+-- the law of `Eq` has each found with itself, so it is enough that what is found is one
+joins_one : {A : Type 0} {E : A → A → Bool} → IsEquivalence E → ((a b : A) → E a b ≡ true → a ≡ b) → IsExact E
+joins_one {E = E} law only a b = (only a b, λ e. subst (λ c. E a c ≡ true) e (law.refl a))
 
 pub lists : {A : Type 0} {E : A → A → Bool} → IsExact E → IsExact (pointwise E)
 lists exact a b = slice_eq-Decides exact a b _ refl
@@ -96,29 +98,8 @@ array_only (many.QualifiedName a) (many.QualifiedName b) e = ap many.QualifiedNa
 array_only (many.LocalizedText a) (many.LocalizedText b) e = ap many.LocalizedText ((lists localized_texts a b).0 e)
 array_only _ _ e = absurd (true≢false (sym e))
 
-array_itself : (a : Array) → equal_arrays a a ≡ true
-array_itself (many.Boolean a) = (lists booleans_Decides a a).1 refl
-array_itself (many.SByte a) = (lists signed_Decides a a).1 refl
-array_itself (many.Byte a) = (lists unsigned_Decides a a).1 refl
-array_itself (many.Int16 a) = (lists signed_Decides a a).1 refl
-array_itself (many.UInt16 a) = (lists unsigned_Decides a a).1 refl
-array_itself (many.Int32 a) = (lists signed_Decides a a).1 refl
-array_itself (many.UInt32 a) = (lists unsigned_Decides a a).1 refl
-array_itself (many.Int64 a) = (lists signed_Decides a a).1 refl
-array_itself (many.UInt64 a) = (lists unsigned_Decides a a).1 refl
-array_itself (many.Float a) = (lists blocks a a).1 refl
-array_itself (many.Double a) = (lists blocks a a).1 refl
-array_itself (many.String a) = (lists texts a a).1 refl
-array_itself (many.DateTime a) = (lists moments a a).1 refl
-array_itself (many.Guid a) = (lists guids a a).1 refl
-array_itself (many.ByteString a) = (lists texts a a).1 refl
-array_itself (many.NodeId a) = (lists nodes a a).1 refl
-array_itself (many.StatusCode a) = (lists statuses a a).1 refl
-array_itself (many.QualifiedName a) = (lists qualified_names a a).1 refl
-array_itself (many.LocalizedText a) = (lists localized_texts a a).1 refl
-
 pub arrays : IsExact equal_arrays
-arrays = reflects array_only array_itself
+arrays = joins_one array_equal.laws-law array_only
 
 pub scalars : IsExact (scalar.TheImpl.eq-value).it
 scalars a b = search rules
@@ -132,13 +113,8 @@ variant_only (any.Scalar a) (any.Scalar b) e = ap any.Scalar ((scalars a b).0 e)
 variant_only (any.Array a) (any.Array b) e = ap any.Array ((arrays a b).0 e)
 variant_only _ _ e = absurd (true≢false (sym e))
 
-variant_itself : (a : Variant) → equal_variants a a ≡ true
-variant_itself any.Null = refl
-variant_itself (any.Scalar a) = (scalars a a).1 refl
-variant_itself (any.Array a) = (arrays a a).1 refl
-
 pub variants : IsExact equal_variants
-variants = reflects variant_only variant_itself
+variants = joins_one variant_equal.laws-law variant_only
 
 pub data_values : IsExact (whole.TheImpl.eq-value).it
 data_values = through parts_of data_of (λ _. refl)
