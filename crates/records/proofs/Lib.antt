@@ -12,3 +12,4 @@ pub mod LatestLemmas
 pub mod Spelled
 pub mod CloseLemmas
 pub mod Sizes
+pub mod Equal

@@ -1,6 +1,6 @@
-//! Laws of contents. Each function's contract is a law, and its body is empty.
+//! Laws of contents and of records. Each function's contract is a law, and its body is empty.
 
-ghost use Rattle.std.specs.Prelude.{◌≡◌, ◌↔◌, true, false, Result, Ok, ℕ, ◌+◌, ◌≤◌, ◌<◌, max, min, ℤ, pos, ◌≤ℤ◌, ◌<ℤ◌, List, length, filter, Option, Some, None, ◌⊎◌};
+ghost use Rattle.std.specs.Prelude.{◌≡◌, ◌↔◌, IsTrue, true, false, Result, Ok, ℕ, ◌+◌, ◌≤◌, ◌<◌, max, min, ℤ, pos, ◌≤ℤ◌, ◌<ℤ◌, List, length, filter, Option, Some, None, ◌⊎◌};
 ghost use Rattle.stamp.specs.Limits.{greatest};
 ghost use Rattle.records.specs.Lists.{Has, Rises};
 ghost use Rattle.records.specs.Contents.{Content, IsClosed, AreCompatible, IsWithin, IsNext, IsFound, IsLatest, HasOther, Finding, Adds, Holds, Clash, Gap, TickTooFar, TickNotRising, finding, learned, put, join, cut, vec, last_tick, merged};
@@ -12,6 +12,9 @@ ghost use Rattle.ua_binary.specs.Format.{IsLawful, IsPrefixFree};
 ghost use Rattle.records.specs.declared.shown.Held.{Held};
 ghost use Rattle.ua_binary.specs.declared.values.NodeId.{NodeId};
 ghost use Rattle.records.specs.declared.record.Record.{Record};
+ghost use Rattle.records.specs.Same.{same_record};
+
+use crate::record::Record as OwnRecord;
 
 /// Merging is a join: on closed contents that are compatible it commutes, associates, repeats without
 /// change, and is the least content above both; its vector is the greater of both in each origin.
@@ -123,4 +126,12 @@ pub fn formats_are_lawful()
 #[tactic(auto, using(ua_binary::proofs::Spelled::prefix_free, crate::proofs::Spelled::record_lawful))]
 pub fn formats_are_prefix_free()
     ensures record { IsPrefixFree record_form }
+{}
+
+/// `==` holds of two records where they are one, and nowhere else: it is the test by which contents
+/// tell records apart.
+#[tactic(auto, using(crate::proofs::Equal::exact))]
+pub fn equality_is_exact()
+    ensures records { (a b : Record) → IsTrue (⟦<OwnRecord as PartialEq>⟧.eq a b) ↔ (a ≡ b) }
+    ensures tested { (a b : Record) → ⟦<OwnRecord as PartialEq>⟧.eq a b ≡ same_record a b }
 {}

@@ -26,7 +26,7 @@ fn push_copy(found: &mut Vec<Record>, r: &Record) -> Result<(), AllocError>
 }
 
 /// Whether two names are of one node.
-#[tactic(auto, using(crate::proofs::Same::tested))]
+#[tactic(auto, using(crate::proofs::Equal::same_nodes))]
 fn same_node(a: &NodeId, b: &NodeId) -> bool
     ensures { result ≡ same_node a.now b.now }
 {
