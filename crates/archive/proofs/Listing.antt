@@ -1,5 +1,5 @@
 -- An archive in memory meets the contract.
-use Rattle.std.proofs.Common.{◌≡◌, ◌≢◌, ℕ, Bool, true, false, Option, Some, None, IfSome, unwrap_or, Result, Ok, Err, IfOk, IfErr, refl, sym, ap, ◌∙◌, subst, inl, inr, ◌⊎◌}
+use Rattle.std.proofs.Common.{◌≡◌, ◌≢◌, Bool, true, false, Option, Some, None, IfSome, unwrap_or, Result, Ok, Err, IfOk, IfErr, refl, sym, ap, ◌∙◌, subst, inl, inr}
 use Rattle.std.proofs.lemmas.Bool.{true≢false}
 use Rattle.std.proofs.lemmas.Option.{none-some}
 use Rattle.records.specs.Spelling.{IsLawfulRecord}
@@ -8,7 +8,7 @@ use Rattle.records.proofs.LearnLemmas.{next_found, closed-next}
 use Rattle.records.specs.Contents.{Content, Finding, Adds, Holds, Clash, Gap, TickTooFar, TickNotRising, finding, after_finding, put}
 use Rattle.records.specs.declared.record.Record.{Record}
 use Rattle.archive.specs.declared.fault.StoreFault.{StoreFault}
-use Rattle.archive.specs.declared.fault.StoreFault.TheVariants.{OutOfMemory, WrongReplica, WrongArchive}
+use Rattle.archive.specs.declared.fault.StoreFault.TheVariants.{OutOfMemory}
 use Rattle.archive.specs.declared.fault.LearnFault.{LearnFault}
 use Rattle.archive.specs.declared.fault.LearnFault.TheVariants as refused
 use Rattle.archive.specs.Store.{Rests, IsLawfulContent, is_broken, raised, failures, IsOfOpening, Leaves, fault_in, Asks, store_fault_in, answer_to, Learns}

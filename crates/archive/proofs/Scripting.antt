@@ -1,13 +1,12 @@
 -- An archive that fails where it is told to meets the contract.
-use Rattle.std.proofs.Common.{◌≡◌, ◌≢◌, ℕ, Bool, true, false, Option, Some, None, IfSome, unwrap_or, Result, Ok, Err, IfOk, IfErr, refl, sym, ap, ◌∙◌, subst, inl, inr, ◌⊎◌}
+use Rattle.std.proofs.Common.{◌≡◌, Bool, true, false, Option, Some, None, IfSome, unwrap_or, Result, Ok, Err, IfErr, refl, sym, ap, ◌∙◌, subst, inl, inr}
 use Rattle.std.proofs.lemmas.Bool.{true≢false}
 use Rattle.records.specs.declared.record.Record.{Record}
-use Rattle.records.specs.Contents.{Content, Finding, Adds, Holds, Clash, Gap, TickTooFar, TickNotRising, finding, after_finding, put}
+use Rattle.records.specs.Contents.{Finding, Adds, Holds, Clash, Gap, TickTooFar, TickNotRising, finding, after_finding}
 use Rattle.archive.specs.declared.fault.StoreFault.{StoreFault}
-use Rattle.archive.specs.declared.fault.StoreFault.TheVariants.{OutOfMemory, Refused, Broken, WrongReplica, WrongArchive}
+use Rattle.archive.specs.declared.fault.StoreFault.TheVariants.{OutOfMemory, Broken}
 use Rattle.archive.specs.declared.fault.LearnFault.{LearnFault}
-use Rattle.archive.specs.declared.fault.LearnFault.TheVariants.{Store}
-use Rattle.archive.specs.Store.{Rests, IsSettled, IsLawfulContent, is_broken, failures, IsOfOpening, Leaves, fault_in, Asks, store_fault_in, answer_to, Learns}
+use Rattle.archive.specs.Store.{Rests, IsLawfulContent, is_broken, failures, IsOfOpening, Leaves, fault_in, Asks, store_fault_in, Learns}
 use Rattle.archive.specs.Listed.{Listed, store_of}
 use Rattle.archive.specs.Scripted.{Scripted, scripted_store, IsScripted, IsOldOrWith}
 use Rattle.archive.proofs.Listing.{err-ok}

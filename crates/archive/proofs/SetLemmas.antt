@@ -1,6 +1,5 @@
 -- A list in order with each element once is told by its members.
-use Rattle.std.proofs.Common.{◌≡◌, ℕ, Bool, true, false, List, [], ◌∷◌, refl, sym, ap, ◌∙◌, subst, inl, inr, Ordering, Less, Equal, Greater}
-use Rattle.std.specs.List.{AllByRecursion}
+use Rattle.std.proofs.Common.{◌≡◌, true, List, [], ◌∷◌, refl, sym, ap, ◌∙◌, subst, inl, inr, Ordering, Less, Equal, Greater}
 use Rattle.std.specs.Cmp.{IsTotalOrder}
 use Rattle.std.specs.Ordering.{ordering_reverse}
 use Rattle.std.proofs.Common.{ℤ, arith, IsPermutation, IsSorted}
@@ -15,7 +14,7 @@ use Rattle.std.proofs.lemmas.List.Filters.{dedup_is}
 use Rattle.std.proofs.lemmas.List.Kept.{Contains-dedup, Contains-from_dedup, IsStrictlySortedBy-dedup}
 use Rattle.std.proofs.lemmas.List.Sorted.{IsPermutation-sym}
 use Rattle.std.proofs.lemmas.Map.Lookups.{exact_signed}
-use Rattle.records.specs.Lists.{IsPairwise, Has, Rises}
+use Rattle.records.specs.Lists.{Has, Rises}
 use Rattle.records.proofs.Sorting.{contains_from_has, has_from_contains, has-permutation, all_weaker, all-has, all_from_has, same_members}
 use Rattle.archive.specs.Reading.{placed_once, insert_once, set_of}
 

@@ -1,11 +1,10 @@
 -- What a content shows of a node over time (Part 11: raw and modified history).
-use Rattle.std.specs.Prelude.{◌≡◌, ℤ, pos, int_lt, int_le, Bool, true, ◌&&◌, List, [], ◌∷◌, filter, map, reverse, slice_get, Option, Some, None}
+use Rattle.std.specs.Prelude.{ℤ, int_lt, int_le, Bool, true, ◌&&◌, List, [], ◌∷◌, filter, map, reverse, slice_get, Option, Some, None}
 use Rattle.std.specs.List.{filter_map, flat_map}
 use Rattle.std.specs.declared.cmp.Ordering.{Ordering}
 use Rattle.std.specs.declared.cmp.Ordering.TheVariants.{Less, Equal, Greater}
 use Rattle.std.specs.Ordering.{int_cmp, on, then_cmp, is_lt}
 use Rattle.stamp.specs.Stamp.{stamp_cmp}
-use Rattle.stamp.specs.declared.stamps.Stamp.{Stamp}
 use Rattle.ua_binary.specs.declared.values.NodeId.{NodeId}
 use Rattle.records.specs.Contents.{Content}
 use Rattle.records.specs.Records.{current, entries}

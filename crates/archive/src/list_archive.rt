@@ -103,7 +103,7 @@ fn last_tick_of(records: &[Record], origin: ReplicaNo) -> i64
 }
 
 /// Whether two records are one.
-#[tactic(auto, using(records::proofs::Same::tested))]
+#[tactic(auto, using(records::proofs::Equal::same_records))]
 fn is_same(a: &Record, b: &Record) -> bool
     ensures { result ≡ same_record a.now b.now }
 {
@@ -177,7 +177,7 @@ fn put(records: &mut Vec<Record>, candidate: &Record) -> Result<(), StoreFault>
 }
 
 /// Whether a record is of this node.
-#[tactic(auto, using(records::proofs::Same::tested))]
+#[tactic(auto, using(records::proofs::Equal::same_nodes))]
 fn is_of(node: &NodeId, r: &Record) -> bool
     ensures { result ≡ is_of node.now r.now }
 {

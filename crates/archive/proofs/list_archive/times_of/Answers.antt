@@ -1,4 +1,4 @@
-use Rattle.std.proofs.Common.{◌≡◌, arith, take, filter, map}
+use Rattle.std.proofs.Common.{◌≡◌, arith, filter, map}
 use Rattle.std.proofs.lemmas.List.{take_all}
 use Rattle.records.specs.declared.record.Record.{Record}
 use Rattle.archive.specs.Reading.{is_of}

@@ -1,5 +1,4 @@
 use Rattle.std.proofs.Common.{arith, subst, sym}
-use Rattle.records.specs.declared.record.Record.{Record}
 use Rattle.records.specs.Lists.{Has}
 use Rattle.archive.proofs.ListLemmas.{has_at, raised_more}
 use Rattle.archive.proofs.list_archive.vector_of.Goals as goal
