@@ -12,3 +12,9 @@ pub mod LatestLemmas
 pub mod Spelled
 pub mod CloseLemmas
 pub mod Sizes
+pub mod GreatestLemmas
+pub mod ChangeLemmas
+pub mod InclusionLemmas
+pub mod LackLemmas
+pub mod PartLemmas
+pub mod RefusalLemmas
