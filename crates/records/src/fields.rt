@@ -1,6 +1,7 @@
 //! The fields of a record.
 
 ghost use Rattle.std.specs.Prelude.{◌≡◌};
+ghost use Rattle.ua_binary.specs.Binary.{node_of};
 ghost use Rattle.ua_binary.specs.Format.{Reads, ReadsPart};
 ghost use Rattle.records.specs.declared.fault.RecordFault.TheVariants as fault;
 ghost use Rattle.records.specs.Spelling.{version, origin, number, tick, time, asked, user, front, empty};
@@ -9,7 +10,7 @@ use crate::fault::RecordFault;
 use crate::record::{HistoryUpdateType, Record};
 use stamp::{GREATEST_NUMBER, GREATEST_TICK, ReplicaNo};
 use std::alloc::Global;
-use ua_binary::{Cursor, Text};
+use ua_binary::{Cursor, NodeIdRef, Text};
 use ua_variant::DataValue;
 
 fn read_version(cursor: &mut Cursor<'_>) -> Result<u8, RecordFault>
@@ -115,6 +116,35 @@ fn no_value() -> DataValue
     }
 }
 
+/// The fields between the tick and the value, in the bytes that they were read from.
+#[derive(Clone, Copy, Drop)]
+struct Update<'a> {
+    node: NodeIdRef<'a>,
+    time: i64,
+    asked: HistoryUpdateType,
+    user: &'a str,
+}
+
+impl<'a> Update<'a> {
+    ghost use Rattle.records.specs.Spelling.{update};
+
+    /// Reads the fields. An error leaves the cursor anywhere.
+    fn read(cursor: &mut Cursor<'a>) -> Result<Update<'a>, RecordFault>
+        ensures { ReadsPart fault.OutOfMemory (λ u. (node_of u.node, (u.time, (u.asked, u.user.now)))) result cursor.old cursor.new update.read }
+    {
+        let node = cursor.node_id()?;
+        let time = read_time(cursor)?;
+        let asked = read_asked(cursor)?;
+        let user = read_user(cursor)?;
+        Ok(Update {
+            node,
+            time,
+            asked,
+            user,
+        })
+    }
+}
+
 impl Record {
     ghost use Rattle.records.specs.Spelling.{parts_of, empty};
 
@@ -126,19 +156,16 @@ impl Record {
         let origin = read_origin(cursor)?;
         let number = read_number(cursor)?;
         let tick = read_tick(cursor)?;
-        let node = cursor.node_id()?;
-        let time = read_time(cursor)?;
-        let asked = read_asked(cursor)?;
-        let user = read_user(cursor)?;
-        let node = node.to_owned(alloc)?;
-        let user = Text::from_str(alloc, user)?;
+        let update = Update::read(cursor)?;
+        let node = update.node.to_owned(alloc)?;
+        let user = Text::from_str(alloc, update.user)?;
         Ok(Record {
             origin,
             number,
             tick,
             node,
-            time,
-            asked,
+            time: update.time,
+            asked: update.asked,
             user,
             value: no_value(),
         })
