@@ -1,20 +1,17 @@
 -- What closedness gives a list of records.
-use Rattle.std.proofs.Common.{◌≡◌, ℕ, zero, suc, ◌+◌, ◌-◌, ◌^◌, ◌≤◌, ◌<◌, eqb, max, ℤ, pos, ◌≤ℤ◌, ◌<ℤ◌, Bool, true, false, cond, List, [], ◌∷◌, ◌++◌, filter, take, drop, get_or, length, refl, sym, ap, ◌∙◌, subst, arith, inl, inr, ◌⊎◌, Ordering, Less, is_eq, is_gt}
-use Rattle.std.specs.List.{insert}
-use Rattle.std.specs.Int.{int_max}
-use Rattle.std.proofs.lemmas.Bool.{true≢false, cases_lt, cases_eq}
+use Rattle.std.proofs.Common.{◌≡◌, ℕ, zero, suc, ◌^◌, ◌≤◌, ◌<◌, pos, ◌≤ℤ◌, ◌<ℤ◌, Bool, true, false, [], ◌∷◌, refl, arith, inl, inr, Less, is_eq}
+use Rattle.std.proofs.lemmas.Bool.{cases_eq}
 use Rattle.std.proofs.lemmas.Bool.Decides.{nat_tests}
-use Rattle.std.proofs.lemmas.List.{drop_more, take_more, append_assoc}
-use Rattle.std.proofs.lemmas.Int.{ints, clamps}
+use Rattle.std.proofs.lemmas.Int.{ints}
 use Rattle.stamp.specs.Limits.{greatest}
 use Rattle.records.specs.declared.record.Record.{Record}
-use Rattle.records.specs.Lists.{Has, Rises, IsPairwise, IsApart}
+use Rattle.records.specs.Lists.{Has, Rises, IsApart}
 use Rattle.records.specs.Records.{name_cmp, stamp_cmp}
-use Rattle.records.specs.Contents.{Content, number_from, vec, top, last_tick, IsClosed, put}
+use Rattle.records.specs.Contents.{Content, vec, IsClosed}
 use Rattle.records.proofs.Sorting.{all-has, all_from_has}
 use Rattle.records.proofs.ContentLemmas.{apart_from_rises, vec_attained}
 
-number_below_tick : (R : Content) → IsClosed R → (n : ℕ) (r : Record) → Has R r → r.number ≡ n → pos n ≤ℤ r.tick
+pub number_below_tick : (R : Content) → IsClosed R → (n : ℕ) (r : Record) → Has R r → r.number ≡ n → pos n ≤ℤ r.tick
 number_below_tick R closed zero r h e = absurd (omega (arith, closed.numbers r h))
 number_below_tick R closed (suc m) r h e = elim (cases_eq m 0) [
   | inl z ↦ let t = (closed.ticks r h).0 in omega (arith, ints, t)

@@ -1,16 +1,13 @@
 -- The laws of contents.
-use Rattle.std.proofs.Common.{◌≡◌, ℕ, ◌+◌, ◌≤◌, ◌<◌, eqb, max, ℤ, pos, ◌≤ℤ◌, ◌<ℤ◌, Bool, true, false, not, ◌||◌, cond, List, [], ◌∷◌, ◌++◌, filter, refl, sym, ap, ◌∙◌, subst, arith, inl, inr, ◌⊎◌, Ordering, Less, Equal, Greater, is_eq}
+use Rattle.std.proofs.Common.{◌≡◌, ℕ, ◌≤◌, ◌<◌, eqb, max, ◌<ℤ◌, Bool, true, false, not, ◌||◌, cond, List, [], ◌∷◌, ◌++◌, refl, sym, ap, ◌∙◌, subst, arith, inl, inr, ◌⊎◌, Ordering, Less, is_eq}
 use Rattle.std.specs.Prelude.{◌↔◌}
-use Rattle.std.specs.List.{AllByRecursion, list_any}
-use Rattle.std.specs.Ordering.{nat_cmp, ordering_then}
-use Rattle.std.proofs.lemmas.Bool.{true≢false, eq-eqb, eqb-true, cases_eq, cases_lt, cases_Bool, or_parts, not-true}
+use Rattle.std.proofs.lemmas.Bool.{true≢false, eq-eqb, eqb-true, cases_lt, cases_Bool, or_parts, not-true}
 use Rattle.std.proofs.lemmas.Bool.Decides.{nat_tests}
-use Rattle.std.proofs.lemmas.Int.{ints, clamps}
 use Rattle.records.specs.declared.record.Record.{Record}
-use Rattle.records.specs.Lists.{insert_sorted, sort_by, IsPairwise, IsApart, Has, Rises}
-use Rattle.records.specs.Records.{name_cmp, missing, is_beyond}
-use Rattle.records.specs.Contents.{Content, number_from, vec, top, last_tick, IsNamed, HasName, IsClosed, AreCompatible, IsWithin, names, join, put, cut}
-use Rattle.records.proofs.Sorting.{all_weaker, all-has, all_from_has, has-filter, has_from_filter, pairwise-filter, same_members, has-sort_by, has_from_sort_by, rises-sort_by, has-insert_sorted, has_from_insert_sorted, rises-insert_sorted}
+use Rattle.records.specs.Lists.{IsPairwise, IsApart, Has, Rises}
+use Rattle.records.specs.Records.{name_cmp}
+use Rattle.records.specs.Contents.{Content, vec, HasName, IsClosed, AreCompatible, IsWithin, names, join}
+use Rattle.records.proofs.Sorting.{all_weaker, all-has, all_from_has, has-filter, has_from_filter, pairwise-filter, same_members, has-sort_by, has_from_sort_by, rises-sort_by}
 use Rattle.records.proofs.Orders.{name_total}
 
 -- two records tie exactly where they have one name

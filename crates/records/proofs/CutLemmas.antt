@@ -1,13 +1,13 @@
 -- The part of a content that a vector covers.
-use Rattle.std.proofs.Common.{◌≡◌, ℕ, ◌+◌, ◌≤◌, ◌<◌, min, Bool, true, false, not, cond, List, [], ◌∷◌, filter, refl, sym, ap, ◌∙◌, subst, arith, inl, inr, ◌⊎◌}
-use Rattle.std.proofs.lemmas.Bool.{true≢false, ltb-false, le-ltb, not-true, cases_lt, cases_eq}
+use Rattle.std.proofs.Common.{◌≡◌, ℕ, ◌≤◌, min, Bool, true, not, sym, ap, ◌∙◌, subst, arith, inl, inr}
+use Rattle.std.proofs.lemmas.Bool.{ltb-false, le-ltb, not-true, cases_eq}
 use Rattle.records.specs.declared.record.Record.{Record}
 use Rattle.records.specs.Lists.{Has, Rises}
 use Rattle.records.specs.Records.{name_cmp, is_beyond}
-use Rattle.records.specs.Contents.{Content, vec, HasName, IsNamed, IsClosed, AreCompatible, join, cut}
+use Rattle.records.specs.Contents.{Content, vec, HasName, IsClosed, AreCompatible, join, cut}
 use Rattle.records.proofs.Sorting.{has-filter, has_from_filter, pairwise-filter, same_members}
 use Rattle.records.proofs.Orders.{name_total}
-use Rattle.records.proofs.ContentLemmas.{vec_bounds, vec_attained, vec_is, named_once, reached, compatible_back, rises-join, has_from_join, has-join_left, has-join_right, closed_join, vec_join}
+use Rattle.records.proofs.ContentLemmas.{vec_bounds, vec_is, named_once, reached, compatible_back, rises-join, has_from_join, has-join_left, has-join_right, closed_join, vec_join}
 
 -- whether a vector covers a record
 abbrev covered : (ℕ → ℕ) → Record → Bool

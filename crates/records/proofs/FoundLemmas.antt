@@ -1,7 +1,6 @@
 -- Each record of a content is found.
-use Rattle.std.proofs.Common.{◌≡◌, ℕ, zero, suc, ◌+◌, ◌-◌, ◌≤◌, ◌<◌, eqb, nat_eq, ℤ, Bool, true, false, not, ◌&&◌, cond, List, [], ◌∷◌, ◌++◌, filter, length, Option, Some, None, refl, sym, ap, ◌∙◌, subst, arith, inl, inr, ◌⊎◌, slice_get, nat_lt, is_eq}
-use Rattle.std.specs.Ordering.{int_eq}
-use Rattle.std.proofs.lemmas.Bool.{true≢false, and_from, eq-eqb}
+use Rattle.std.proofs.Common.{◌≡◌, ℕ, suc, ◌+◌, ◌-◌, Bool, true, false, List, [], ◌∷◌, length, Option, Some, None, refl, sym, ap, ◌∙◌, arith, inl, inr, ◌⊎◌, slice_get, is_eq}
+use Rattle.std.proofs.lemmas.Bool.{true≢false, and_from}
 use Rattle.std.proofs.lemmas.Cmp.{tied_itself, int_cmp_total}
 use Rattle.std.proofs.Common.{add-one}
 use Rattle.records.specs.declared.record.Record.{Record}
@@ -9,10 +8,10 @@ use Rattle.records.specs.declared.shown.Entry.{Entry}
 use Rattle.records.specs.declared.shown.Held.{Held}
 use Rattle.records.specs.declared.record.HistoryUpdateType.{HistoryUpdateType}
 use Rattle.records.specs.declared.record.HistoryUpdateType.TheVariants.{Insert, Replace, Update, Delete}
-use Rattle.records.specs.Lists.{Has, sort_by, last}
+use Rattle.records.specs.Lists.{Has, last}
 use Rattle.records.specs.Same.{node_code}
-use Rattle.records.specs.Records.{stamp_cmp, is_at, story, held_of, held, is_delete, write, kind, value_shown, entry, entries_after, entries, current}
-use Rattle.records.specs.Contents.{Content, IsShownAt, IsWriteFound, IsDeleteFound, IsFound}
+use Rattle.records.specs.Records.{stamp_cmp, is_at, story, held_of, is_delete, write, kind, entry, entries_after}
+use Rattle.records.specs.Contents.{Content, IsShownAt, IsFound}
 use Rattle.records.proofs.Sorting.{has-filter, has-sort_by}
 use Rattle.records.proofs.Orders.{stamp_total}
 use Rattle.records.proofs.Same.{Decides-is_same}

@@ -1,17 +1,15 @@
 -- The live value is that of the greatest stamp.
-use Rattle.std.proofs.Common.{◌≡◌, ℕ, zero, suc, ◌+◌, ◌-◌, ◌≤◌, ◌<◌, nat_lt, Bool, true, false, cond, List, [], ◌∷◌, filter, take, length, Option, Some, None, refl, sym, ap, ◌∙◌, subst, arith, inl, inr, ◌⊎◌, Ordering, Less, slice_get, is_eq}
+use Rattle.std.proofs.Common.{◌≡◌, ℕ, ◌<◌, nat_lt, true, false, List, [], ◌∷◌, filter, take, length, Some, None, refl, sym, ap, ◌∙◌, subst, arith, inl, inr, ◌⊎◌, Less}
 use Rattle.std.specs.Prelude.{◌↔◌}
-use Rattle.std.specs.Ordering.{int_eq}
-use Rattle.std.proofs.lemmas.Bool.{true≢false, lt-ltb, ltb-true, and_from, and_parts}
+use Rattle.std.proofs.lemmas.Bool.{lt-ltb, ltb-true, and_from, and_parts}
 use Rattle.std.proofs.lemmas.Bool.Decides.{Decides-int_eq}
-use Rattle.std.proofs.lemmas.List.{nil_from_length}
 use Rattle.records.specs.declared.record.Record.{Record}
 use Rattle.records.specs.declared.shown.Held.{Held}
 use Rattle.ua_binary.specs.declared.values.NodeId.{NodeId}
 use Rattle.std.proofs.Common.{ℤ}
 use Rattle.records.specs.Lists.{Has, Rises, IsApart, sort_by, last}
 use Rattle.records.specs.Same.{node_code}
-use Rattle.records.specs.Records.{stamp_cmp, name_cmp, is_at, is_delete, is_beyond, write, held_of, held, story, current, entries_after, entries, missing}
+use Rattle.records.specs.Records.{stamp_cmp, name_cmp, is_at, is_delete, is_beyond, held, story, current, entries_after, entries, missing}
 use Rattle.records.specs.Contents.{Content, IsLatest, HasOther}
 use Rattle.records.proofs.Same.{Decides-is_same}
 use Rattle.records.proofs.Sorting.{all-has, has-filter, has_from_filter, pairwise-filter, has-sort_by, has_from_sort_by, rises-sort_by, same_members, asymmetric, irreflexive}
@@ -111,13 +109,13 @@ current_free R S node time a b same = ap held (story_free R S node time a b same
 pub entries_free : (R S : List Record) (node : NodeId) (time : ℤ) → IsApart stamp_cmp R → IsApart stamp_cmp S → ((r : Record) → Has R r ↔ Has S r) → entries R node time ≡ entries S node time
 entries_free R S node time a b same = ap (entries_after None) (story_free R S node time a b same)
 
-from_beyond : (R : List Record) (v : ℕ → ℕ) (r : Record) → Has (sort_by name_cmp (filter (is_beyond v) R)) r → Has R r × (is_beyond v r ≡ true)
+pub from_beyond : (R : List Record) (v : ℕ → ℕ) (r : Record) → Has (sort_by name_cmp (filter (is_beyond v) R)) r → Has R r × (is_beyond v r ≡ true)
 from_beyond R v r h = has_from_filter (is_beyond v) R r (has_from_sort_by name_cmp name_total _ r h)
 
-to_beyond : (R : List Record) (v : ℕ → ℕ) (r : Record) → Has R r → is_beyond v r ≡ true → Has (sort_by name_cmp (filter (is_beyond v) R)) r
+pub to_beyond : (R : List Record) (v : ℕ → ℕ) (r : Record) → Has R r → is_beyond v r ≡ true → Has (sort_by name_cmp (filter (is_beyond v) R)) r
 to_beyond R v r h e = has-sort_by name_cmp name_total _ r (has-filter (is_beyond v) R r h e)
 
-rises-beyond : (R : List Record) (v : ℕ → ℕ) → IsApart name_cmp R → Rises name_cmp (sort_by name_cmp (filter (is_beyond v) R))
+pub rises-beyond : (R : List Record) (v : ℕ → ℕ) → IsApart name_cmp R → Rises name_cmp (sort_by name_cmp (filter (is_beyond v) R))
 rises-beyond R v apart = rises-sort_by name_cmp name_total _ (pairwise-filter _ (is_beyond v) R apart)
 
 pub missing_free : (R S : List Record) (v : ℕ → ℕ) (limit : ℕ) → IsApart name_cmp R → IsApart name_cmp S → ((r : Record) → Has R r ↔ Has S r) → missing R v limit ≡ missing S v limit

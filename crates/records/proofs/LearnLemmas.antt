@@ -1,22 +1,21 @@
 -- What learning leaves.
-use Rattle.std.proofs.Common.{◌≡◌, ℕ, ◌+◌, ◌≤◌, ◌<◌, eqb, leb, nat_le, nat_lt, ℤ, pos, ◌≤ℤ◌, ◌<ℤ◌, ◌+ℤ◌, Bool, true, false, not, ◌&&◌, ◌||◌, cond, List, [], ◌∷◌, filter, Option, Some, None, refl, sym, ap, ◌∙◌, subst, arith, inl, inr, ◌⊎◌, int_lt}
+use Rattle.std.proofs.Common.{◌≡◌, ℕ, ◌+◌, nat_le, nat_lt, ℤ, pos, ◌≤ℤ◌, ◌<ℤ◌, Bool, true, false, ◌||◌, cond, List, [], ◌∷◌, Option, Some, None, refl, sym, ap, subst, arith, inl, inr, ◌⊎◌, int_lt}
 use Rattle.std.specs.Prelude.{int_le, ◌↔◌}
 use Rattle.std.specs.Option.{option_map_or}
 use Rattle.std.specs.List.{list_any}
-use Rattle.std.specs.Int.{int_max, int_min}
-use Rattle.std.proofs.lemmas.Bool.{true≢false, lt-leb, le-leb, leb-false, ltb-false, le-ltb, eq-eqb, eqb-true, and_parts, cases_Bool}
+use Rattle.std.proofs.lemmas.Bool.{true≢false, lt-leb, le-leb, leb-false, ltb-false, le-ltb}
 use Rattle.std.proofs.lemmas.Option.{none-some, same_Some}
-use Rattle.std.proofs.lemmas.Int.{ints, clamps}
+use Rattle.std.proofs.lemmas.Int.{ints}
 use Rattle.stamp.specs.Limits.{greatest}
 use Rattle.records.specs.declared.record.Record.{Record}
 use Rattle.records.specs.Lists.{Has}
-use Rattle.records.specs.Contents.{Content, IsWithin, vec, top, last_tick, IsClosed, put, IsNext, Finding, Adds, Holds, Clash, Gap, TickTooFar, TickNotRising, finding, after_finding, learned, merged}
+use Rattle.records.specs.Contents.{Content, IsWithin, vec, last_tick, IsClosed, put, IsNext, Finding, Adds, Holds, Clash, Gap, TickTooFar, TickNotRising, finding, after_finding, learned, merged}
 use Rattle.records.specs.Same.{same_record, record_code}
 use Rattle.records.proofs.Same.{Decides-is_same}
 use Rattle.records.proofs.ContentLemmas.{vec_bounds}
 use Rattle.records.proofs.PutLemmas.{closed_put, has-put, has_from_put}
 
-held_from_test : (R : Content) (r : Record) → list_any (same_record r) R ≡ true → Has R r
+pub held_from_test : (R : Content) (r : Record) → list_any (same_record r) R ≡ true → Has R r
 held_from_test [] r e = absurd (true≢false (sym e))
 held_from_test (s ∷ R) r e = go (same_record r s) refl (held_from_test R r) e
   where
@@ -24,25 +23,25 @@ held_from_test (s ∷ R) r e = go (same_record r s) refl (held_from_test R r) e
     go true p more h = inl (sym ((Decides-is_same record_code r s).0 p))
     go false p more h = inr (more h)
 
-le_from_not : (a b : ℤ) → int_lt b a ≡ false → a ≤ℤ b
+pub le_from_not : (a b : ℤ) → int_lt b a ≡ false → a ≤ℤ b
 le_from_not a b e = grind (arith, ints)
 
-not_lt_test : (a b : ℤ) → b ≤ℤ a → int_lt a b ≡ false
+pub not_lt_test : (a b : ℤ) → b ≤ℤ a → int_lt a b ≡ false
 not_lt_test a b e = grind (arith, ints)
 
-not_le_test : (a b : ℤ) → b <ℤ a → int_le a b ≡ false
+pub not_le_test : (a b : ℤ) → b <ℤ a → int_le a b ≡ false
 not_le_test a b e = grind (arith, ints)
 
-le_from_test : (a b : ℤ) → int_le a b ≡ true → a ≤ℤ b
+pub le_from_test : (a b : ℤ) → int_le a b ≡ true → a ≤ℤ b
 le_from_test a b e = grind (arith, ints)
 
-lt_from_test : (a b : ℤ) → int_lt a b ≡ true → a <ℤ b
+pub lt_from_test : (a b : ℤ) → int_lt a b ≡ true → a <ℤ b
 lt_from_test a b e = grind (arith, ints)
 
-gt_from_test : (a b : ℤ) → int_le a b ≡ false → b <ℤ a
+pub gt_from_test : (a b : ℤ) → int_le a b ≡ false → b <ℤ a
 gt_from_test a b e = grind (arith, ints)
 
-abbrev finding_by : (a b g f t : Bool) → ℕ → ℕ → Finding
+abbrev pub finding_by : (a b g f t : Bool) → ℕ → ℕ → Finding
 finding_by a b g f t held got = cond a (cond b Holds Clash) (cond g (Gap held got) (cond f TickTooFar (cond t TickNotRising Adds)))
 
 abbrev adds : Finding → Bool
@@ -136,7 +135,7 @@ or_true : (b : Bool) → (b || true) ≡ true
 or_true true = refl
 or_true false = refl
 
-held_test : (R : Content) (r : Record) → Has R r → list_any (same_record r) R ≡ true
+pub held_test : (R : Content) (r : Record) → Has R r → list_any (same_record r) R ≡ true
 held_test [] r h = absurd h
 held_test (s ∷ R) r h = elim h [
   | inl e ↦ rw ((Decides-is_same record_code r s).1 (sym e)) refl

@@ -13,3 +13,9 @@ pub mod Spelled
 pub mod CloseLemmas
 pub mod Sizes
 pub mod Equal
+pub mod GreatestLemmas
+pub mod ChangeLemmas
+pub mod InclusionLemmas
+pub mod LackLemmas
+pub mod PartLemmas
+pub mod RefusalLemmas

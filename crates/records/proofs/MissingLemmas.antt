@@ -1,7 +1,7 @@
 -- Merging what another content has beyond the vector gives the union.
-use Rattle.std.proofs.Common.{◌≡◌, ℕ, ◌+◌, ◌≤◌, ◌<◌, eqb, nat_lt, ℤ, pos, ◌≤ℤ◌, ◌<ℤ◌, Bool, true, false, List, [], ◌∷◌, filter, take, length, Option, Some, None, refl, sym, ap, ◌∙◌, subst, arith, inl, inr, ◌⊎◌, Ordering, Less}
+use Rattle.std.proofs.Common.{◌≡◌, ℕ, ◌+◌, ◌≤◌, ◌<◌, eqb, pos, ◌≤ℤ◌, ◌<ℤ◌, List, [], ◌∷◌, filter, take, length, Some, refl, sym, ap, ◌∙◌, subst, arith, inl, inr, Less}
 use Rattle.std.specs.Option.{option_map_or}
-use Rattle.std.proofs.lemmas.Bool.{true≢false, lt-ltb, ltb-true, ltb-false, eq-eqb, eqb-true, cases_eq, cases_lt, cases_Bool}
+use Rattle.std.proofs.lemmas.Bool.{lt-ltb, ltb-true, eqb-true, cases_eq, cases_lt}
 use Rattle.std.proofs.lemmas.Bool.Decides.{nat_tests}
 use Rattle.std.proofs.lemmas.List.{take_all}
 use Rattle.std.proofs.lemmas.Int.{ints}
@@ -9,7 +9,7 @@ use Rattle.stamp.specs.Limits.{greatest}
 use Rattle.records.specs.declared.record.Record.{Record}
 use Rattle.records.specs.Lists.{sort_by, Has, Rises}
 use Rattle.records.specs.Records.{name_cmp, missing, is_beyond}
-use Rattle.records.specs.Contents.{Content, vec, top, last_tick, IsNamed, HasName, IsClosed, AreCompatible, join, put, learned, merged}
+use Rattle.records.specs.Contents.{Content, vec, last_tick, IsClosed, AreCompatible, IsNext, join, put, learned, merged}
 use Rattle.records.proofs.Sorting.{all-has, has-filter, has_from_filter, pairwise-filter, same_members, has-sort_by, has_from_sort_by, rises-sort_by}
 use Rattle.records.proofs.Orders.{name_total}
 use Rattle.records.proofs.ContentLemmas.{vec_bounds, apart_from_rises, compatible_back, named_once, reached, rises-join, has_from_join, has-join_left, has-join_right}
@@ -63,10 +63,10 @@ module _ (R S : Content) (x : Record) (xs : List Record) (closed : IsClosed R) (
   small_tick : x.tick ≤ℤ (pos greatest)
   small_tick = (closed'.ticks x (in_beyond x (inl refl)).0).1
 
-  next_closed : IsClosed (put x R)
+  pub next_closed : IsClosed (put x R)
   next_closed = closed_put x R closed first_number later_tick small_tick
 
-  next_compatible : AreCompatible (put x R) S
+  pub next_compatible : AreCompatible (put x R) S
   next_compatible q s h k e f = elim (has_from_put x R q h) [
     | inl here ↦ subst (λ (r : Record). r ≡ s) here (named_once S closed'.ordered x s (in_beyond x (inl refl)).0 k (ap (λ (r : Record). r.origin) here ∙ e) (ap (λ (r : Record). r.number) here ∙ f))
     | inr m ↦ same q s m k e f
@@ -89,7 +89,7 @@ module _ (R S : Content) (x : Record) (xs : List Record) (closed : IsClosed R) (
         | inr other ↦ omega (arith, vec_put_other x R z.origin other)
       ]
 
-  next_rest : xs ≡ filter (is_beyond (vec (put x R))) S
+  pub next_rest : xs ≡ filter (is_beyond (vec (put x R))) S
   next_rest =
       same_members name_cmp name_total _ _ up.1 (pairwise-filter _ (is_beyond (vec (put x R))) S closed'.ordered)
       (λ z h. has-filter (is_beyond (vec (put x R))) S z (in_beyond z (inr h)).0 (lt-ltb _ _ (next_beyond z h)))
@@ -116,8 +116,11 @@ module _ (R S : Content) (x : Record) (xs : List Record) (closed : IsClosed R) (
         | inr k ↦ has-join_right (put x R) S next_compatible z k
       ])
 
+  pub next_first : IsNext R x
+  next_first = record { number = first_number; rises = later_tick; within = small_tick }
+
   next_learned : learned R x ≡ Some (put x R)
-  next_learned = learned_next R x (record { number = first_number; rises = later_tick; within = small_tick })
+  next_learned = learned_next R x next_first
 
 nothing_beyond : (R S : Content) → IsClosed R → IsClosed S → AreCompatible R S → [] ≡ filter (is_beyond (vec R)) S → R ≡ join R S
 nothing_beyond R S closed closed' same is =

@@ -1,13 +1,12 @@
 -- One more record in a content.
-use Rattle.std.proofs.Common.{◌≡◌, ℕ, ◌+◌, ◌≤◌, ◌<◌, eqb, max, ℤ, pos, ◌≤ℤ◌, ◌<ℤ◌, Bool, true, false, not, cond, List, [], ◌∷◌, filter, refl, sym, ap, ◌∙◌, subst, arith, inl, inr, ◌⊎◌, is_eq, int_lt}
-use Rattle.std.specs.Int.{int_max}
-use Rattle.std.proofs.lemmas.Bool.{true≢false, eq-eqb, eqb-true, ne_eqb, cases_eq, cases_lt, cases_Bool}
+use Rattle.std.proofs.Common.{◌≡◌, ℕ, ◌+◌, ◌≤◌, ◌<◌, eqb, ℤ, pos, ◌≤ℤ◌, ◌<ℤ◌, [], ◌∷◌, filter, refl, sym, ap, ◌∙◌, subst, arith, inl, inr, ◌⊎◌}
+use Rattle.std.proofs.lemmas.Bool.{eq-eqb, cases_eq}
 use Rattle.std.proofs.lemmas.Int.{ints, clamps}
 use Rattle.stamp.specs.Limits.{greatest}
 use Rattle.records.specs.declared.record.Record.{Record}
 use Rattle.records.specs.Lists.{Has, Rises}
 use Rattle.records.specs.Records.{name_cmp}
-use Rattle.records.specs.Contents.{Content, vec, top, last_tick, IsNamed, HasName, IsClosed, AreCompatible, put}
+use Rattle.records.specs.Contents.{Content, vec, top, last_tick, IsClosed, put}
 use Rattle.records.proofs.Sorting.{all_from_has, has-filter, has_from_filter, has-insert_sorted, has_from_insert_sorted, rises-insert_sorted}
 use Rattle.records.proofs.Orders.{name_total}
 use Rattle.records.proofs.ContentLemmas.{apart_names, vec_bounds, vec_attained, vec_is}

@@ -1,9 +1,7 @@
 -- Stories, held values and entries, step by step.
-use Rattle.std.proofs.Common.{◌≡◌, ℕ, ◌+◌, ◌<◌, ◌≤◌, suc, List, [], ◌∷◌, ◌++◌, length, get_or, take, drop, Option, Some, None, refl, sym, ap, ◌∙◌, arith, subst, pos}
+use Rattle.std.proofs.Common.{◌≡◌, ℕ, ◌+◌, ◌<◌, List, [], ◌∷◌, ◌++◌, length, get_or, take, Option, Some, None, refl, ap}
 use Rattle.std.proofs.lemmas.List.{take_more}
-use Rattle.records.specs.declared.record.HistoryUpdateType.TheVariants.{Insert}
 use Rattle.records.specs.declared.record.Record.{Record}
-use Rattle.records.specs.declared.shown.Entry.{Entry}
 use Rattle.records.specs.Records.{entries_after, entry, write}
 
 -- the last record, or the one before the list

@@ -1,12 +1,12 @@
 -- How many bytes a record takes, and what that tells of it.
-use Rattle.std.proofs.Common.{◌≡◌, ℕ, ◌+◌, ◌-◌, ◌<◌, ◌≤◌, ◌^◌, min, ℤ, pos, ◌≤ℤ◌, true, List, length, ◌++◌, refl, arith}
-use Rattle.std.specs.Prelude.{IsTrue, ◌↔◌, IfSome}
+use Rattle.std.proofs.Common.{◌≡◌, ℕ, ◌+◌, ◌<◌, ◌≤◌, ◌^◌, ℤ, true, List, length, arith}
+use Rattle.std.specs.Prelude.{IfSome}
 use Rattle.std.specs.Int.{w64}
 use Rattle.std.specs.Int.RustNames.{FitsSigned}
 use Rattle.std.specs.Str.{is_utf8}
 use Rattle.std.proofs.lemmas.List.{length-append}
-use Rattle.stamp.specs.Limits.{greatest, IsReplica}
-use Rattle.ua_binary.specs.Format.{◌▸◌, saturated}
+use Rattle.stamp.specs.Limits.{IsReplica}
+use Rattle.ua_binary.specs.Format.{◌▸◌}
 use Rattle.ua_binary.specs.Binary.{node_id, IsNodeId, IsShortNode}
 use Rattle.ua_binary.proofs.Sizes.{text_length}
 use Rattle.ua_variant.specs.DataValue.{data_value, IsDataValue, IsShortData}

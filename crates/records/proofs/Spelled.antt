@@ -1,18 +1,16 @@
 -- The spelling of records is lawful.
-use Rattle.std.proofs.Common.{◌≡◌, ℕ, ◌+◌, ◌≤◌, ◌<◌, ◌^◌, ℤ, pos, ◌≤ℤ◌, int_le, Bool, true, false, not, cond, nat_le, List, [], ◌∷◌, ◌++◌, length, nat_lt, Option, Some, None, unwrap_or, Result, Ok, Err, refl, sym, ap, ◌∙◌, subst, arith, ◌==◌, ◌&&◌}
-use Rattle.std.specs.Prelude.{◌↔◌}
-use Rattle.std.specs.Str.{bytes_eq, is_utf8}
+use Rattle.std.proofs.Common.{◌≡◌, ℕ, ◌+◌, ◌≤◌, ◌<◌, ◌^◌, ℤ, pos, ◌≤ℤ◌, int_le, Bool, true, false, cond, nat_le, List, [], ◌++◌, length, nat_lt, Option, Some, None, unwrap_or, Result, Ok, Err, refl, sym, ap, ◌∙◌, subst, arith, ◌&&◌}
+use Rattle.std.specs.Str.{bytes_eq}
 use Rattle.std.specs.Int.{w64}
 use Rattle.std.specs.Int.RustNames.{FitsSigned}
 use Rattle.std.proofs.lemmas.Slice.Eq.{bytes_eq-Decides}
-use Rattle.std.proofs.lemmas.Bool.{ltb-false, le-ltb, eqb-true, eq-eqb, leb-true, le-leb, and_from, and_parts, true≢false}
-use Rattle.std.proofs.lemmas.Bool.Decides.{nat_tests}
+use Rattle.std.proofs.lemmas.Bool.{ltb-false, le-ltb, leb-true, le-leb, and_from, and_parts, true≢false}
 use Rattle.std.proofs.lemmas.Int.{ints}
 use Rattle.std.proofs.lemmas.List.{length-append, append_cancel_right}
 use Rattle.stamp.specs.Limits.{greatest}
-use Rattle.ua_binary.specs.Format.{Format, IsLawful, ◌>>=◌, ◌▸◌, standing_for, passing, raised, whole}
+use Rattle.ua_binary.specs.Format.{Format, IsLawful, ◌▸◌, standing_for, passing, raised, whole}
 use Rattle.ua_binary.specs.Binary.{IsCounted, node_id, text}
-use Rattle.ua_binary.proofs.Combined.{bind_ok, passed_ok, guard_ok, ok_is, Found, byte_lawful, then_lawful, standing_lawful, passing_lawful, fitting_lawful, raised_lawful}
+use Rattle.ua_binary.proofs.Combined.{bind_ok, passed_ok, guard_ok, Found, byte_lawful, then_lawful, standing_lawful, passing_lawful, fitting_lawful, raised_lawful}
 use Rattle.ua_binary.proofs.Lawful.{u64_lawful, i64_lawful, node_id_lawful, text_lawful}
 use Rattle.ua_binary.proofs.Spelled.{whole_found, whole_only}
 use Rattle.ua_binary.proofs.Counted.{SpellsOnly, any_only, then_only, standing_only, passing_only, raised_only, text_only, node_id_only, read_only}
@@ -21,7 +19,6 @@ use Rattle.ua_variant.proofs.Short.{data_value_only}
 use Rattle.records.specs.declared.record.Record.{Record}
 use Rattle.records.specs.declared.record.HistoryUpdateType.{HistoryUpdateType}
 use Rattle.records.specs.declared.record.HistoryUpdateType.TheVariants.{Insert, Replace, Update, Delete}
-use Rattle.records.specs.declared.fault.RecordFault.{RecordFault}
 use Rattle.records.specs.declared.fault.RecordFault.TheVariants.{Binary, BadField, NotCanonical}
 use Rattle.records.specs.Fault.{binary_fault}
 use Rattle.records.specs.Spelling.{at_most, canonical, version, origin, number, tick, node, time, number_of_asked, asked_of_number, asked, is_user, user, is_value_for, value, front, record_of, parts_of, fields, longest, IsLawfulRecord, IsRecord, IsTick, HasSpelledParts, record_form, record_at, IsShortRecord}

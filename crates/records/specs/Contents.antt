@@ -1,5 +1,5 @@
 -- Contents: what an archive holds, its merging, and where each record is found.
-use Rattle.std.specs.Prelude.{◌≡◌, ℕ, ◌+◌, ◌≤◌, ◌<◌, ◌==◌, nat_lt, nat_le, max, ℤ, pos, ◌+ℤ◌, ◌≤ℤ◌, ◌<ℤ◌, int_lt, int_le, Bool, true, false, not, if◌then◌else◌, List, [], ◌∷◌, ◌++◌, filter, slice_get, Option, Some, None, option_and_then, ◌⊎◌}
+use Rattle.std.specs.Prelude.{◌≡◌, ℕ, ◌+◌, ◌≤◌, ◌<◌, ◌==◌, nat_lt, nat_le, max, ℤ, pos, ◌≤ℤ◌, ◌<ℤ◌, int_lt, int_le, Bool, true, false, not, if◌then◌else◌, List, [], ◌∷◌, ◌++◌, filter, slice_get, Option, Some, None, ◌⊎◌, ⊤}
 use Rattle.std.specs.List.{list_any}
 use Rattle.std.specs.declared.cmp.Ordering.TheVariants.{Less}
 use Rattle.std.specs.Ordering.{is_eq}
@@ -86,6 +86,11 @@ pub record IsNext (R : Content) (r : Record) : Type 0 where
   pub number : r.number ≡ vec R r.origin + 1
   pub rises : last_tick R r.origin <ℤ r.tick
   pub within : r.tick ≤ℤ pos greatest
+
+-- each of these, in order, is its origin's next, once those before it are there
+abbrev pub AreNextInTurn : Content → List Record → Type 0
+AreNextInTurn R [] = ⊤
+AreNextInTurn R (r ∷ rs) = IsNext R r × AreNextInTurn (put r R) rs
 
 -- what a record that is to be learned meets in a content
 pub data Finding : Type 0 where

@@ -1,6 +1,6 @@
 -- Records of writes and deletes, and what a list of them says of a node and a source time (Part 11: raw and modified values, ModificationInfo).
 -- The list's order is free; no two of its records have one name or one stamp.
-use Rattle.std.specs.Prelude.{◌≡◌, ℕ, nat_lt, ℤ, Bool, true, false, not, ◌&&◌, if◌then◌else◌, List, [], ◌∷◌, filter, take, length, Option, Some, None}
+use Rattle.std.specs.Prelude.{ℕ, nat_lt, ℤ, Bool, true, false, ◌&&◌, if◌then◌else◌, List, [], ◌∷◌, filter, take, length, Option, Some, None}
 use Rattle.std.specs.declared.cmp.Ordering.{Ordering}
 use Rattle.std.specs.Ordering.{nat_cmp, int_cmp, int_eq, on, then_cmp}
 use Rattle.ua_binary.specs.declared.values.NodeId.{NodeId}

@@ -89,8 +89,12 @@ value = raised value_fault data_value
 abbrev pub Front : Type 0
 Front = ℕ × (ℕ × (ℕ × (ℤ × (NodeId × (ℤ × (HistoryUpdateType × List ℕ))))))
 
+-- what was updated, and who asked
+abbrev pub update : Format RecordFault (NodeId × (ℤ × (HistoryUpdateType × List ℕ)))
+update = node ▸ time ▸ asked ▸ user
+
 abbrev pub front : Format RecordFault Front
-front = version ▸ origin ▸ number ▸ tick ▸ node ▸ time ▸ asked ▸ user
+front = version ▸ origin ▸ number ▸ tick ▸ update
 
 abbrev pub record_of : Front × DataValue → Record
 record_of p = record { origin = p.0.1.0; number = p.0.1.1.0; tick = p.0.1.1.1.0; node = p.0.1.1.1.1.0; time = p.0.1.1.1.1.1.0; asked = p.0.1.1.1.1.1.1.0; user = p.0.1.1.1.1.1.1.1; value = p.1 }

@@ -1,15 +1,16 @@
 //! The fields of a record.
 
 ghost use Rattle.std.specs.Prelude.{◌≡◌};
+ghost use Rattle.ua_binary.specs.Binary.{node_of};
 ghost use Rattle.ua_binary.specs.Format.{Reads, ReadsPart};
 ghost use Rattle.records.specs.declared.fault.RecordFault.TheVariants as fault;
-ghost use Rattle.records.specs.Spelling.{version, origin, number, tick, time, asked, user, front, empty};
+ghost use Rattle.records.specs.Spelling.{version, origin, number, tick, time, asked, user, front};
 
 use crate::fault::RecordFault;
 use crate::record::{HistoryUpdateType, Record};
 use stamp::{GREATEST_NUMBER, GREATEST_TICK, ReplicaNo};
 use std::alloc::Global;
-use ua_binary::{Cursor, Text};
+use ua_binary::{Cursor, NodeId, NodeIdRef, Text};
 use ua_variant::DataValue;
 
 fn read_version(cursor: &mut Cursor<'_>) -> Result<u8, RecordFault>
@@ -101,46 +102,85 @@ fn read_user<'a>(cursor: &mut Cursor<'a>) -> Result<&'a str, RecordFault>
     Ok(user)
 }
 
-/// The value of a delete, with nothing in it.
-fn no_value() -> DataValue
-    ensures { result ≡ empty }
-{
-    DataValue {
-        value: None,
-        status: None,
-        source_time: None,
-        source_pico: None,
-        server_time: None,
-        server_pico: None,
+/// What was updated, and who asked, in the bytes that it was read from.
+#[derive(Clone, Copy, Drop)]
+struct Update<'a> {
+    node: NodeIdRef<'a>,
+    time: i64,
+    asked: HistoryUpdateType,
+    user: &'a str,
+}
+
+impl<'a> Update<'a> {
+    ghost use Rattle.records.specs.Spelling.{update};
+
+    /// An error leaves the cursor anywhere.
+    fn read(cursor: &mut Cursor<'a>) -> Result<Update<'a>, RecordFault>
+        ensures { ReadsPart fault.OutOfMemory (λ u. (node_of u.node, (u.time, (u.asked, u.user.now)))) result cursor.old cursor.new update.read }
+    {
+        let node = cursor.node_id()?;
+        let time = read_time(cursor)?;
+        let asked = read_asked(cursor)?;
+        let user = read_user(cursor)?;
+        Ok(Update {
+            node,
+            time,
+            asked,
+            user,
+        })
     }
 }
 
-impl Record {
-    ghost use Rattle.records.specs.Spelling.{parts_of, empty};
+/// The fields of a record before its value.
+#[derive(Drop)]
+pub(crate) struct Front {
+    origin: ReplicaNo,
+    number: u64,
+    tick: i64,
+    node: NodeId,
+    time: i64,
+    pub(crate) asked: HistoryUpdateType,
+    user: Text,
+}
 
-    /// Reads the fields before the value, which is left empty. An error leaves the cursor anywhere.
-    pub(crate) fn read_front(alloc: Global, cursor: &mut Cursor<'_>) -> Result<Record, RecordFault>
-        ensures { ReadsPart fault.OutOfMemory (λ r. (parts_of r).0) result cursor.old cursor.new front.read }
+impl Front {
+    ghost use Rattle.records.specs.Spelling.{front};
+
+    /// An error leaves the cursor anywhere.
+    pub(crate) fn read(alloc: Global, cursor: &mut Cursor<'_>) -> Result<Front, RecordFault>
+        ensures { ReadsPart fault.OutOfMemory (λ f. (1, (f.origin, (f.number, (f.tick, (f.node, (f.time, (f.asked, f.user)))))))) result cursor.old cursor.new front.read }
     {
         read_version(cursor)?;
         let origin = read_origin(cursor)?;
         let number = read_number(cursor)?;
         let tick = read_tick(cursor)?;
-        let node = cursor.node_id()?;
-        let time = read_time(cursor)?;
-        let asked = read_asked(cursor)?;
-        let user = read_user(cursor)?;
-        let node = node.to_owned(alloc)?;
-        let user = Text::from_str(alloc, user)?;
-        Ok(Record {
+        let update = Update::read(cursor)?;
+        let node = update.node.to_owned(alloc)?;
+        let user = Text::from_str(alloc, update.user)?;
+        Ok(Front {
             origin,
             number,
             tick,
             node,
-            time,
-            asked,
+            time: update.time,
+            asked: update.asked,
             user,
-            value: no_value(),
         })
+    }
+
+    /// The record of these fields and a value.
+    pub(crate) fn with_value(self, value: DataValue) -> Record
+        ensures { result ≡ record { origin = self.origin; number = self.number; tick = self.tick; node = self.node; time = self.time; asked = self.asked; user = self.user; value = value } }
+    {
+        Record {
+            origin: self.origin,
+            number: self.number,
+            tick: self.tick,
+            node: self.node,
+            time: self.time,
+            asked: self.asked,
+            user: self.user,
+            value,
+        }
     }
 }

@@ -1,9 +1,11 @@
 //! Laws of contents and of records. Each function's contract is a law, and its body is empty.
 
-ghost use Rattle.std.specs.Prelude.{◌≡◌, ◌↔◌, IsTrue, true, false, Result, Ok, ℕ, ◌+◌, ◌≤◌, ◌<◌, max, min, ℤ, pos, ◌≤ℤ◌, ◌<ℤ◌, List, length, filter, Option, Some, None, ◌⊎◌};
+ghost use Rattle.std.specs.Prelude.{◌≡◌, ◌↔◌, IsTrue, true, false, Result, Ok, ℕ, ◌+◌, ◌≤◌, ◌<◌, max, min, ℤ, pos, ◌≤ℤ◌, ◌<ℤ◌, List, length, filter, take, Option, Some, None, ◌⊎◌};
+ghost use Rattle.std.specs.Int.{int_max};
+ghost use Rattle.std.specs.declared.cmp.Ordering.TheVariants.{Less};
 ghost use Rattle.stamp.specs.Limits.{greatest};
 ghost use Rattle.records.specs.Lists.{Has, Rises};
-ghost use Rattle.records.specs.Contents.{Content, IsClosed, AreCompatible, IsWithin, IsNext, IsFound, IsLatest, HasOther, Finding, Adds, Holds, Clash, Gap, TickTooFar, TickNotRising, finding, learned, put, join, cut, vec, last_tick, merged};
+ghost use Rattle.records.specs.Contents.{Content, IsClosed, AreCompatible, IsWithin, IsNext, AreNextInTurn, IsFound, IsLatest, HasName, HasOther, Finding, Adds, Holds, Clash, Gap, TickTooFar, TickNotRising, finding, learned, put, join, cut, vec, top, last_tick, merged};
 ghost use Rattle.records.specs.Records.{name_cmp, stamp_cmp, missing, is_beyond, is_delete, story, current, entries};
 ghost use Rattle.stamp.specs.Stamp as stamps;
 ghost use Rattle.records.specs.Lists.{IsApart};
@@ -111,6 +113,97 @@ pub fn learning_keeps_contents_closed()
     ensures closed { (R : Content) (r : Record) (S : Content) → IsClosed R → learned R r ≡ Some S → IsClosed S }
     ensures within { (R : Content) (r : Record) (S : Content) → learned R r ≡ Some S → IsWithin R S × Has S r }
     ensures only { (R : Content) (r : Record) (S : Content) (z : Record) → learned R r ≡ Some S → Has S z → Has R z ⊎ (r ≡ z) }
+{}
+
+/// What one more record changes: the content has it and what it had; where it is its origin's next,
+/// its number and its tick are its origin's last, and the content stays closed. No other origin's last
+/// number or tick changes, and the greatest tick is the greater of both.
+#[tactic(auto, using(crate::proofs::ChangeLemmas::changes))]
+pub fn one_more_record_changes_its_origin_alone()
+    ensures members { (R : Content) (r z : Record) → Has (put r R) z ↔ ((r ≡ z) ⊎ Has R z) }
+    ensures number { (R : Content) (r : Record) → IsNext R r → vec (put r R) r.origin ≡ r.number }
+    ensures other_numbers { (R : Content) (r : Record) (origin : ℕ) → (r.origin ≡ origin → ⊥) → vec (put r R) origin ≡ vec R origin }
+    ensures tick { (R : Content) (r : Record) → IsNext R r → last_tick (put r R) r.origin ≡ r.tick }
+    ensures other_ticks { (R : Content) (r : Record) (origin : ℕ) → (r.origin ≡ origin → ⊥) → last_tick (put r R) origin ≡ last_tick R origin }
+    ensures top { (R : Content) (r : Record) → top (put r R) ≡ int_max r.tick (top R) }
+    ensures closed { (R : Content) (r : Record) → IsClosed R → IsNext R r → IsClosed (put r R) }
+{}
+
+/// An origin's last number and last tick, and the greatest tick of all, are greatest ones: no record
+/// has a greater one, and where they aren't 0 a record has them. Of a closed content the record with
+/// its origin's last number has its last tick, and no number passes the tick that goes with it.
+#[tactic(auto, using(crate::proofs::GreatestLemmas::greatest_members))]
+pub fn last_numbers_and_ticks_are_the_greatest()
+    ensures numbers { (R : Content) (r : Record) → Has R r → r.number ≤ vec R r.origin }
+    ensures number_held { (R : Content) (origin : ℕ) → (vec R origin ≡ 0) ⊎ HasName R origin (vec R origin) }
+    ensures ticks { (R : Content) (r : Record) → Has R r → r.tick ≤ℤ top R }
+    ensures tick_held { (R : Content) → (top R ≡ pos 0) ⊎ ((r : Record) × Has R r × (r.tick ≡ top R)) }
+    ensures last_ticks { (R : Content) (r : Record) (origin : ℕ) → Has R r → r.origin ≡ origin → r.tick ≤ℤ last_tick R origin }
+    ensures last_tick_held { (R : Content) (origin : ℕ) → (last_tick R origin ≡ pos 0) ⊎ ((r : Record) × Has R r × (r.origin ≡ origin) × (r.tick ≡ last_tick R origin)) }
+    ensures last_of_last { (R : Content) (r : Record) → IsClosed R → Has R r → r.number ≡ vec R r.origin → r.tick ≡ last_tick R r.origin }
+    ensures last_within { (R : Content) (origin : ℕ) → last_tick R origin ≤ℤ top R }
+    ensures numbers_below_ticks { (R : Content) (origin : ℕ) → IsClosed R → pos (vec R origin) ≤ℤ last_tick R origin }
+{}
+
+/// What a vector lacks of a content: records of it that are beyond the vector, rising by name; all of
+/// them where the limit allows, and else the first. It is empty only where nothing is beyond, or the
+/// limit is 0.
+#[tactic(auto, using(crate::proofs::LackLemmas::lacking))]
+pub fn missing_is_what_a_vector_lacks()
+    ensures within { (R : Content) (v : ℕ → ℕ) (k : ℕ) (r : Record) → Has (missing R v k) r → Has R r × (v r.origin < r.number) }
+    ensures all { (R : Content) (v : ℕ → ℕ) (k : ℕ) (r : Record) → length (filter (is_beyond v) R) ≤ k → Has R r → v r.origin < r.number → Has (missing R v k) r }
+    ensures rises { (R : Content) (v : ℕ → ℕ) (k : ℕ) → IsApart name_cmp R → Rises name_cmp (missing R v k) }
+    ensures before { (R : Content) (v : ℕ → ℕ) (k : ℕ) (r s : Record) → IsApart name_cmp R
+        → Has (missing R v k) r → Has R s → v s.origin < s.number → Has (missing R v k) s ⊎ (name_cmp r s ≡ Less) }
+    ensures first { (R : Content) (v : ℕ → ℕ) (k n : ℕ) → k ≤ n → missing R v k ≡ take k (missing R v n) }
+    ensures count { (R : Content) (v : ℕ → ℕ) (k : ℕ) → length (missing R v k) ≡ min k (length (filter (is_beyond v) R)) }
+    ensures some { (R : Content) (v : ℕ → ℕ) (k : ℕ) (r : Record) → 0 < k → Has R r → v r.origin < r.number → 0 < length (missing R v k) }
+{}
+
+/// Learning a batch in order, up to the first record that is refused: what is held then is closed, and
+/// is what was held and records of the batch alone. It is compatible with what both were.
+pub fn batches_keep_contents_closed()
+    ensures closed { (R : Content) (batch : List Record) → IsClosed R → IsClosed (merged batch R) }
+    ensures above { (R : Content) (batch : List Record) → IsWithin R (merged batch R) }
+    ensures only { (R : Content) (batch : List Record) (r : Record) → Has (merged batch R) r → Has R r ⊎ Has batch r }
+    ensures compatible { (R S T : Content) (batch : List Record) → AreCompatible R T → AreCompatible S T → IsWithin batch S → AreCompatible (merged batch R) T }
+{}
+
+/// Learning, in order, a first part of what a peer has beyond one's vector: each record of the part is
+/// the next in its turn, so all of them are learned. What is held then (closed, as after any batch) is
+/// within the join of both, and compatible with either.
+#[tactic(auto, using(crate::proofs::PartLemmas::parts))]
+pub fn a_first_part_of_what_is_missing_is_learned()
+    ensures turn { (R S : Content) (k m : ℕ) → IsClosed R → IsClosed S → AreCompatible R S → AreNextInTurn R (take m (missing S (vec R) k)) }
+    ensures members { (R S : Content) (k m : ℕ) (r : Record) → IsClosed R → IsClosed S → AreCompatible R S
+        → Has (merged (take m (missing S (vec R) k)) R) r ↔ (Has R r ⊎ Has (take m (missing S (vec R) k)) r) }
+    ensures count { (R S : Content) (k m : ℕ) → IsClosed R → IsClosed S → AreCompatible R S
+        → length (merged (take m (missing S (vec R) k)) R) ≡ length R + length (take m (missing S (vec R) k)) }
+    ensures within { (R S : Content) (k m : ℕ) → AreCompatible R S → IsWithin (merged (take m (missing S (vec R) k)) R) (join R S) }
+    ensures compatible_left { (R S : Content) (k m : ℕ) → IsClosed R → AreCompatible R S → AreCompatible (merged (take m (missing S (vec R) k)) R) R }
+    ensures compatible_right { (R S : Content) (k m : ℕ) → IsClosed S → AreCompatible R S → AreCompatible (merged (take m (missing S (vec R) k)) R) S }
+{}
+
+/// Inclusion is an order on contents that rise by name; on closed contents that are compatible it is the
+/// order of their vectors.
+#[tactic(auto, using(crate::proofs::InclusionLemmas::inclusion))]
+pub fn inclusion_is_an_order()
+    ensures reflexive { (R : Content) → IsWithin R R }
+    ensures transitive { (R S T : Content) → IsWithin R S → IsWithin S T → IsWithin R T }
+    ensures antisymmetric { (R S : Content) → Rises name_cmp R → Rises name_cmp S → IsWithin R S → IsWithin S R → R ≡ S }
+    ensures vectors { (R S : Content) → IsClosed R → IsClosed S → AreCompatible R S → IsWithin R S ↔ ((origin : ℕ) → vec R origin ≤ vec S origin) }
+{}
+
+/// What a refusal means. A clash: of a closed content, the record's name is held and the record isn't.
+/// A gap: its number is above the next one. The others come for its origin's next number alone: its
+/// tick is beyond the greatest one, or it isn't, and is not above the origin's last.
+#[tactic(auto, using(crate::proofs::RefusalLemmas::refusals))]
+pub fn each_refusal_has_its_meaning()
+    ensures clash { (R : Content) (r : Record) → IsClosed R → 1 ≤ r.number → (finding R r ≡ Clash) ↔ (HasName R r.origin r.number × (Has R r → ⊥)) }
+    ensures gap { (R : Content) (r : Record) (held got : ℕ) → (finding R r ≡ Gap held got) ↔ ((held ≡ vec R r.origin) × (got ≡ r.number) × (held + 1 < got)) }
+    ensures tick_too_far { (R : Content) (r : Record) → (finding R r ≡ TickTooFar) ↔ ((r.number ≡ vec R r.origin + 1) × (pos greatest <ℤ r.tick)) }
+    ensures tick_not_rising { (R : Content) (r : Record) → (finding R r ≡ TickNotRising)
+        ↔ ((r.number ≡ vec R r.origin + 1) × (r.tick ≤ℤ pos greatest) × (r.tick ≤ℤ last_tick R r.origin)) }
 {}
 
 /// The bytes of a record: what is spelled is read and nothing else is, what is written is a spelling,

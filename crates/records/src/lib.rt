@@ -13,9 +13,12 @@ mod story;
 
 pub use fault::RecordFault;
 pub use laws::{
+    a_first_part_of_what_is_missing_is_learned, batches_keep_contents_closed,
     closed_contents_are_told_apart, current_is_the_latest, each_record_is_found,
-    equal_vectors_mean_equal_contents, formats_are_lawful, formats_are_prefix_free,
+    each_refusal_has_its_meaning, equal_vectors_mean_equal_contents, formats_are_lawful,
+    formats_are_prefix_free, inclusion_is_an_order, last_numbers_and_ticks_are_the_greatest,
     learning_keeps_contents_closed, learning_what_is_missing_joins, merging_is_a_join,
+    missing_is_what_a_vector_lacks, one_more_record_changes_its_origin_alone,
     the_order_of_records_is_free, vectors_cut_contents,
 };
 pub use record::{HistoryUpdateType, Record};

@@ -47,8 +47,8 @@ pub struct Entry {
 
 impl TryClone for Entry {
     fn try_clone(&self) -> Result<Entry, AllocError> {
-        let value = self.value.try_clone()?;
         let user = self.user.try_clone()?;
+        let value = self.value.try_clone()?;
         Ok(Entry {
             time: self.time,
             value,

@@ -1,11 +1,11 @@
 //! Records as bytes, format 1: the byte 1, the fields, and nothing that is spelled in another way
 //! than it is written.
 
-ghost use Rattle.std.specs.Prelude.{◌≡◌, ◌<◌, ◌^◌, ℕ, List, length, IfOk, MatchResult, true};
+ghost use Rattle.std.specs.Prelude.{◌≡◌, ◌<◌, ◌^◌, ℕ, List, length, IfOk, MatchResult, Ok, Err, true};
 ghost use Rattle.std.specs.Str.{bytes_eq};
-ghost use Rattle.ua_binary.specs.Format.{Puts, PutsPart, ReadsUnless};
+ghost use Rattle.ua_binary.specs.Format.{Puts, PutsPart, ReadsPart, ReadsUnless, passing};
 ghost use Rattle.records.specs.declared.fault.RecordFault.TheVariants as fault;
-ghost use Rattle.records.specs.Spelling.{is_value_for, fields, record_form, record_at, front, parts_of, IsRecord, IsShortRecord, GivesUnless, HasSpelledParts};
+ghost use Rattle.records.specs.Spelling.{is_value_for, fields, value, record_form, record_at, front, parts_of, IsRecord, IsShortRecord, GivesUnless, HasSpelledParts};
 ghost use Rattle.std.specs.Prelude.{◌↔◌, IsTrue, IfSome};
 ghost use Rattle.ua_binary.specs.Format.{saturated};
 ghost use Rattle.ua_variant.specs.DataValue.{data_value, IsDataValue, IsPicoseconds, IsShortData};
@@ -17,6 +17,7 @@ ghost use Rattle.stamp.specs.Limits.{IsReplica};
 ghost use Rattle.ua_binary.specs.Binary.{node_id, IsNodeId, IsShortNode};
 
 use crate::fault::RecordFault;
+use crate::fields::Front;
 use crate::record::{HistoryUpdateType, Record};
 use stamp::GREATEST_NUMBER;
 use std::alloc::Global;
@@ -41,18 +42,38 @@ fn is_value_for(asked: HistoryUpdateType, v: &DataValue) -> bool
     !(values || source || server)
 }
 
-/// Reads the fields, in any of their spellings. An error leaves the cursor where it was.
+/// Reads the value of an update. An error leaves the cursor anywhere.
+fn read_value(
+    alloc: Global,
+    cursor: &mut Cursor<'_>,
+    asked: HistoryUpdateType,
+) -> Result<DataValue, RecordFault>
+    ensures { ReadsPart fault.OutOfMemory (λ v. v) result cursor.old cursor.new (passing (is_value_for asked) fault.BadField value).read }
+{
+    let value = read_data_value(alloc, cursor)?;
+    if !is_value_for(asked, &value) {
+        return Err(RecordFault::BadField);
+    }
+    Ok(value)
+}
+
+/// Reads the fields, in any of their spellings. An error leaves the cursor anywhere.
 #[tactic(auto, unfolding(crate::specs::Spelling::fields))]
+fn read_parts(alloc: Global, cursor: &mut Cursor<'_>) -> Result<Record, RecordFault>
+    ensures { ReadsPart fault.OutOfMemory (λ r. r) result cursor.old cursor.new fields.read }
+{
+    let front = Front::read(alloc, cursor)?;
+    let value = read_value(alloc, cursor, front.asked)?;
+    Ok(front.with_value(value))
+}
+
+/// Reads the fields, in any of their spellings. An error leaves the cursor where it was.
 fn read_fields(alloc: Global, cursor: &mut Cursor<'_>) -> Result<Record, RecordFault>
     ensures reads { ReadsUnless fault.OutOfMemory (λ r. r) result cursor.old cursor.new fields.read }
     ensures short { IfOk result IsShortRecord }
 {
     let mut next = cursor.fork();
-    let mut record = Record::read_front(alloc, &mut next)?;
-    record.value = read_data_value(alloc, &mut next)?;
-    if !is_value_for(record.asked, &record.value) {
-        return Err(RecordFault::BadField);
-    }
+    let record = read_parts(alloc, &mut next)?;
     *cursor = next;
     Ok(record)
 }
@@ -177,6 +198,26 @@ impl Record {
     }
 }
 
+/// Judges the bytes that a record was read of: that none is left over, then that they aren't too many,
+/// then that they are those that are written.
+fn judge_spelling(alloc: Global, r: &Record, bytes: &[u8], rest: &[u8]) -> Result<(), RecordFault>
+    requires read { fields.read bytes.now ≡ Ok (r.now, rest.now) }
+    requires short { IsShortRecord r.now }
+    ensures judged { MatchResult result (λ _. record_at bytes.now ≡ Ok r.now) (λ e. (e ≡ fault.OutOfMemory → ⊥) → record_at bytes.now ≡ Err e) }
+    ensures spelled { IfOk result (λ _. HasSpelledParts r.now) }
+{
+    if !rest.is_empty() {
+        return Err(RecordFault::Binary);
+    }
+    if bytes.len() > LONGEST {
+        return Err(RecordFault::BadField);
+    }
+    if !is_written_so(alloc, r, bytes)? {
+        return Err(RecordFault::NotCanonical);
+    }
+    Ok(())
+}
+
 /// Reads the record that all of the bytes spell. The fields are judged one after the other: one that
 /// isn't spelled is `Binary`, one outside its limits `BadField`. Then bytes behind the record are
 /// `Binary`, more than 1,048,576 of them `BadField`, and another spelling than the one that is written
@@ -187,15 +228,7 @@ pub fn read_record(alloc: Global, bytes: &[u8]) -> Result<Record, RecordFault>
 {
     let mut cursor = Cursor::new(bytes);
     let r = read_fields(alloc, &mut cursor)?;
-    if !cursor.rest().is_empty() {
-        return Err(RecordFault::Binary);
-    }
-    if bytes.len() > LONGEST {
-        return Err(RecordFault::BadField);
-    }
-    if !is_written_so(alloc, &r, bytes)? {
-        return Err(RecordFault::NotCanonical);
-    }
+    judge_spelling(alloc, &r, bytes, cursor.rest())?;
     Ok(r)
 }
 

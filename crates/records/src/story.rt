@@ -160,8 +160,8 @@ fn value_shown(before: Option<&Record>, r: &Record) -> Result<Option<DataValue>,
 fn entry_of(before: Option<&Record>, r: &Record) -> Result<Entry, AllocError>
     ensures { IfOk result (λ e. e ≡ entry (option_copied before.entry) r.now) }
 {
-    let value = value_shown(before, r)?;
     let user = r.user.try_clone()?;
+    let value = value_shown(before, r)?;
     Ok(Entry {
         time: r.time,
         value,

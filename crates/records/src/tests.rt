@@ -91,19 +91,26 @@ fn is_live(held: &Option<Held>, live: Option<i32>) -> bool {
     }
 }
 
-/// Whether the records show this live value and these entries.
-fn show(
+/// Whether the records show this live value.
+fn shows_live(alloc: Global, records: &[Record], live: Option<i32>) -> Result<bool, Fail>
+    requires { IsApart stamp_cmp records.now }
+{
+    let node = node(alloc)?;
+    let held = current_of(alloc, records, &node, 10)?;
+    Ok(is_live(&held, live))
+}
+
+/// Whether the records show these entries.
+fn shows_entries(
     alloc: Global,
     records: &[Record],
-    live: Option<i32>,
     shown: &[(HistoryUpdateType, Option<i32>)],
 ) -> Result<bool, Fail>
     requires { IsApart stamp_cmp records.now }
 {
     let node = node(alloc)?;
-    let held = current_of(alloc, records, &node, 10)?;
     let entries = entries_of(alloc, records, &node, 10)?;
-    Ok(is_live(&held, live) && are_shown(entries.as_slice(), shown))
+    Ok(are_shown(entries.as_slice(), shown))
 }
 
 /// Whether two records have two ticks.
@@ -143,17 +150,36 @@ fn update(alloc: Global, case: &Case, i: usize) -> Result<Record, RecordFault>
     }
 }
 
+/// The updates of a case, the first of them being this one.
+fn updates(alloc: Global, case: &Case, first: usize) -> Result<Vec<Record>, Fail>
+    requires { first < 2 }
+{
+    let mut records = Vec::new(alloc);
+    records.push(update(alloc, case, first)?)?;
+    records.push(update(alloc, case, 1 - first)?)?;
+    Ok(records)
+}
+
+/// Whether these are two records with two stamps.
+fn are_two(records: &[Record]) -> bool
+    ensures { IsTrue result → IsApart stamp_cmp records.now }
+{
+    match records {
+        [one, other] => have_two_ticks(one, other) || have_two_origins(one, other),
+        _ => false,
+    }
+}
+
 /// Whether the updates of a case show what they should, the first of them being this one.
 fn holds(alloc: Global, case: &Case, first: usize) -> Result<bool, Fail>
     requires { first < 2 }
 {
-    let one = update(alloc, case, first)?;
-    let other = update(alloc, case, 1 - first)?;
-    if have_two_ticks(&one, &other) || have_two_origins(&one, &other) {
-        let records = vec![in alloc; one, other]?;
-        return show(alloc, &records, case.live, &case.shown);
+    let records = updates(alloc, case, first)?;
+    if !are_two(&records) {
+        return Ok(false);
     }
-    Ok(false)
+    let live = shows_live(alloc, &records, case.live)?;
+    Ok(live && shows_entries(alloc, &records, &case.shown)?)
 }
 
 #[test]
@@ -201,24 +227,37 @@ fn two_updates_in_both_orders(rt: HostRuntime) -> Result<(), Fail> {
     Ok(())
 }
 
+/// The first records of these replicas, in the other order.
+#[tactic(auto, using(crate::proofs::Orders::names_apart))]
+fn firsts_of(alloc: Global, one: ReplicaNo, two: ReplicaNo) -> Result<Vec<Record>, AllocError>
+    requires { one ≡ two → ⊥ }
+    ensures { IfOk result (λ v. IsApart name_cmp v.items) }
+{
+    let eight = record(alloc, two, 100, HistoryUpdateType::Insert, Some(8))?;
+    let seven = record(alloc, one, 100, HistoryUpdateType::Insert, Some(7))?;
+    Ok(vec![in alloc; eight, seven]?)
+}
+
+/// Whether records are this replica's.
+fn are_of(records: &[Record], origin: ReplicaNo) -> bool {
+    let mut theirs = true;
+    for r in records {
+        theirs = theirs && r.origin == origin;
+    }
+    theirs
+}
+
 /// How many records beyond the vector of the first record of replica 1 are told, at this limit, of
 /// the first records of replicas 1 and 2; and whether they are replica 2's.
-#[tactic(auto, using(crate::proofs::Orders::names_apart))]
 fn told_of_two(alloc: Global, limit: usize) -> Result<(usize, bool), Fail> {
     let (Some(one), Some(two)) = (ReplicaNo::new(1), ReplicaNo::new(2)) else {
         return Ok((0, false));
     };
     let mut vector = Vector::new();
     vector.raise(one, 1);
-    let seven = record(alloc, one, 100, HistoryUpdateType::Insert, Some(7))?;
-    let eight = record(alloc, two, 100, HistoryUpdateType::Insert, Some(8))?;
-    let records = vec![in alloc; eight, seven]?;
+    let records = firsts_of(alloc, one, two)?;
     let told = missing_of(alloc, &records, &vector, limit)?;
-    let mut theirs = true;
-    for r in &told {
-        theirs = theirs && r.origin == two;
-    }
-    Ok((told.len(), theirs))
+    Ok((told.len(), are_of(&told, two)))
 }
 
 #[test]
@@ -229,14 +268,34 @@ fn missing_records(rt: HostRuntime) -> Result<(), Fail> {
     Ok(())
 }
 
-/// Whether the bytes are read as a record that is written as these bytes, and copied.
-fn there_and_back(alloc: Global, bytes: &[u8]) -> Result<bool, Fail> {
-    let Ok(record) = read_record(alloc, bytes) else {
-        return Ok(false);
-    };
+/// Whether a record is written as these bytes.
+fn is_written(alloc: Global, record: &Record, bytes: &[u8]) -> bool
+    requires { IsRecord record.now }
+{
     let mut out = Vec::new(alloc);
-    let written = put_record(&mut out, &record).is_ok() && out.as_slice() == bytes;
-    Ok(written && record.is_lawful() && record.try_clone()? == record)
+    put_record(&mut out, record).is_ok() && out.as_slice() == bytes
+}
+
+/// Whether a record is copied.
+fn is_copied(record: &Record) -> Result<bool, AllocError> {
+    let copy = record.try_clone()?;
+    Ok(copy == *record)
+}
+
+/// Whether a record is written as these bytes, lawful and copied.
+fn is_kept(alloc: Global, record: &Record, bytes: &[u8]) -> Result<bool, AllocError>
+    requires { IsRecord record.now }
+{
+    let copied = is_copied(record)?;
+    Ok(copied && record.is_lawful() && is_written(alloc, record, bytes))
+}
+
+/// Whether the bytes are read as a record that is written as these bytes, and copied.
+fn there_and_back(alloc: Global, bytes: &[u8]) -> Result<bool, AllocError> {
+    match read_record(alloc, bytes) {
+        Ok(r) => is_kept(alloc, &r, bytes),
+        Err(_) => Ok(false),
+    }
 }
 
 #[test]
@@ -254,19 +313,35 @@ fn records_there_and_back(rt: HostRuntime) -> Result<(), Fail> {
     Ok(())
 }
 
+/// Whether the bytes are read as this record.
+fn is_read_as(alloc: Global, bytes: &[u8], wanted: &Record) -> bool {
+    match read_record(alloc, bytes) {
+        Ok(r) => r == *wanted,
+        Err(_) => false,
+    }
+}
+
 /// Whether the bytes are read as Insert 7 of replica 1 at tick 100.
 fn is_insert_7(alloc: Global, bytes: &[u8]) -> Result<bool, Fail> {
     let Some(one) = ReplicaNo::new(1) else {
         return Ok(false);
     };
     let wanted = record(alloc, one, 100, HistoryUpdateType::Insert, Some(7))?;
-    Ok(read_record(alloc, bytes).is_ok_and(|r| r == wanted))
+    Ok(is_read_as(alloc, bytes, &wanted))
 }
 
 #[test]
 fn the_record_that_is_read(rt: HostRuntime) -> Result<(), Fail> {
     assert!(rt; is_insert_7(rt.alloc(), &INSERT_7)?);
     Ok(())
+}
+
+/// The fault of bytes that are no record.
+fn fault_of(alloc: Global, bytes: &[u8]) -> Option<RecordFault> {
+    match read_record(alloc, bytes) {
+        Ok(_) => None,
+        Err(fault) => Some(fault),
+    }
 }
 
 /// The bytes of Insert 7 with one of them changed.
@@ -278,6 +353,16 @@ fn changed(alloc: Global, place: usize, byte: u8) -> Result<Vec<u8>, AllocError>
         bytes.push(byte)?;
     }
     Ok(bytes)
+}
+
+/// The fault of the bytes of Insert 7 with one of them changed.
+fn fault_of_changed(
+    alloc: Global,
+    place: usize,
+    byte: u8,
+) -> Result<Option<RecordFault>, AllocError> {
+    let bytes = changed(alloc, place, byte)?;
+    Ok(fault_of(alloc, &bytes))
 }
 
 #[test]
@@ -302,20 +387,17 @@ fn refused_records(rt: HostRuntime) -> Result<(), Fail> {
         (48, 0, RecordFault::Binary),
     ];
     for (place, byte, fault) in refused {
-        let bytes = changed(rt.alloc(), place, byte)?;
-        assert!(rt;
-            read_record(rt.alloc(), &bytes) == Err(fault),
-            "{byte} at {place}"
-        );
+        let got = fault_of_changed(rt.alloc(), place, byte)?;
+        assert!(rt; got == Some(fault), "{byte} at {place}");
     }
     for end in 0..48 {
-        assert!(rt; read_record(rt.alloc(), &INSERT_7[..end]) == Err(RecordFault::Binary));
+        assert!(rt; fault_of(rt.alloc(), &INSERT_7[..end]) == Some(RecordFault::Binary));
     }
     Ok(())
 }
 
 #[test]
-fn records_spelled_otherwise(rt: HostRuntime) {
+fn records_spelled_otherwise(rt: HostRuntime) -> Result<(), Fail> {
     let front = [1u8, 1, 1, 0, 0, 0, 0, 0, 0, 0, 100, 0, 0, 0, 0, 0, 0, 0];
     let otherwise = [
         (
@@ -344,20 +426,21 @@ fn records_spelled_otherwise(rt: HostRuntime) {
         ),
     ];
     for (rest, fault) in otherwise {
-        assert!(rt;
-            read_both(rt.alloc(), &front, rest) == Err(fault),
-            "at {rest:?}"
-        );
+        let got = fault_of_both(rt.alloc(), &front, rest)?;
+        assert!(rt; got == Some(fault), "at {rest:?}");
     }
+    Ok(())
 }
 
-/// The record of both pieces, one behind the other.
-fn read_both(alloc: Global, front: &[u8], rest: &[u8]) -> Result<Record, RecordFault> {
+/// The fault of both pieces, one behind the other.
+fn fault_of_both(
+    alloc: Global,
+    front: &[u8],
+    rest: &[u8],
+) -> Result<Option<RecordFault>, AllocError> {
     let mut bytes = Vec::from_slice(alloc, front)?;
-    match bytes.extend_from_slice(rest) {
-        Ok(()) => read_record(alloc, &bytes),
-        Err(_) => Err(RecordFault::OutOfMemory),
-    }
+    bytes.extend_from_slice(rest)?;
+    Ok(fault_of(alloc, &bytes))
 }
 
 #[test]

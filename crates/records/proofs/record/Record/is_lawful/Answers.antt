@@ -1,12 +1,11 @@
 -- What passes the tests has a spelling, and what has one passes them.
-use Rattle.std.proofs.Common.{rules, ◌≡◌, ◌≤◌, true, arith}
+use Rattle.std.proofs.Common.{rules, ◌≡◌, true, arith}
 use Rattle.std.specs.Int.{w64}
 use Rattle.std.specs.Int.RustNames.{FitsSigned}
 use Rattle.std.proofs.lemmas.Bool.{leb-true, le-leb}
 use Rattle.stamp.specs.Limits.{IsReplica}
 use Rattle.std.specs.Str.{is_utf8}
-use Rattle.std.proofs.Common.{length}
-use Rattle.records.specs.Spelling.{fields, longest, HasLimits}
+use Rattle.records.specs.Spelling.{HasLimits}
 use Rattle.records.proofs.Sizes.{lawful_by}
 use Rattle.records.proofs.record.Record.is_lawful.Goals as goal
 
