@@ -1,5 +1,6 @@
 pub mod Runs
 pub mod Cutting
+pub mod Sending
 pub mod Steps
 pub mod Flow
 pub mod Printing

@@ -1,6 +1,7 @@
 -- A line is printed in two writes.
 use Rattle.std.proofs.Common.{◌≡◌, ℕ, ℤ, Bool, true, List, [], ◌++◌, Some, None, Ok, Err, IfErr, OnErr, refl, sym, ◌∙◌, ap, subst, inl, append_assoc, IsUtf8}
 use Rattle.std.proofs.lemmas.List.{append-nil}
+use Rattle.hex.specs.Hex.{encode_upper}
 use Rattle.clap.specs.Words.{Row, Text}
 use Rattle.std.specs.Prelude.{Option, Result}
 use Rattle.std.specs.Io.KnownBytes.{Appends, Consumes, IsAtEnd}
@@ -16,7 +17,7 @@ use Rattle.ua_server.specs.declared.line.LineFault.{LineFault}
 use Rattle.ua_server.specs.declared.line.LineFault.TheVariants.{Words, OutOfMemory as NoMemory}
 use Rattle.ua_server.specs.Line.{IsNoCommand}
 use Rattle.ua_server.specs.Hexed.{AnswersText, AnswersHex}
-use Rattle.ua_server.specs.Program.{IsUnmade, IsBadText, IsRefused}
+use Rattle.ua_server.specs.Program.{AnswersDigits, IsUnmade, IsBadText, IsRefused}
 
 -- the first write failed
 pub part-first : (old written : Option (List ℕ)) (first second : List ℕ) → AppendsPart old written first → AppendsPart old written (first ++ second)
@@ -68,6 +69,22 @@ made-connection known left text bytes readings old new result fault read over sa
     let P : Result Served HexFault → Type 0 = AnswersHex text readings old new in
     let Q : List ℕ → Type 0 = λ t. AnswersHex t readings old new (Err (Serve fault)) in
     unmade known left bytes readings old new fault read over (subst Q same (subst P is so))
+
+-- the digits that were made
+made : (known left : Option (List ℕ)) (bytes : List ℕ) (readings : List ℤ) (old new : List ℕ) (served : Served) → Consumes known left bytes → IsAtEnd left → old ≡ []
+    → AnswersHex bytes readings old new (Ok served) → AnswersDigits known readings new
+made None left bytes readings old new served read over empty so = tt
+made (Some text) None bytes readings old new served read over empty so = absurd read
+made (Some text) (Some rest) bytes readings old new served read over empty so =
+    let P : List ℕ → Type 0 = λ t. AnswersText t readings so.0 (Ok served) in
+    (so.0, served, subst P (whole-text text rest bytes read over) so.1, so.2 ∙ ap (λ (front : List ℕ). front ++ encode_upper so.0) empty)
+
+pub made-digits : (known left : Option (List ℕ)) (text bytes : List ℕ) (readings : List ℤ) (old new : List ℕ) (result : Result Served HexFault) (served : Served) → Consumes known left bytes → IsAtEnd left
+    → text ≡ bytes → old ≡ [] → result ≡ Ok served → AnswersHex text readings old new result → AnswersDigits known readings new
+made-digits known left text bytes readings old new result served read over same empty is so =
+    let P : Result Served HexFault → Type 0 = AnswersHex text readings old new in
+    let Q : List ℕ → Type 0 = λ t. AnswersHex t readings old new (Ok served) in
+    made known left bytes readings old new served read over empty (subst Q same (subst P is so))
 
 pub line-refused : (taken : Bool) (matches : Option (Text × List Row)) (fault : LineFault) → (fault ≡ Words → taken ≡ true → IsNoCommand matches) → IsRefused taken matches fault
 line-refused taken matches Words told = told refl

@@ -4,11 +4,13 @@
 mod clock;
 mod connection;
 mod counted;
+mod granting;
 mod hexed;
 mod laws;
 mod line;
 mod outcome;
 mod program;
+mod requests;
 mod server;
 mod serving;
 
