@@ -1,5 +1,5 @@
 -- A line is printed in two writes.
-use Rattle.std.proofs.Common.{◌≡◌, ℕ, ℤ, Bool, true, List, [], ◌++◌, Some, None, Ok, Err, IfErr, OnErr, refl, sym, ◌∙◌, ap, subst, inl, append_assoc, IsUtf8}
+use Rattle.std.proofs.Common.{◌≡◌, ℕ, ℤ, Bool, true, false, List, [], ◌++◌, Some, None, Ok, Err, IfErr, OnErr, refl, sym, ◌∙◌, ap, subst, inl, append_assoc, IsUtf8}
 use Rattle.std.proofs.lemmas.List.{append-nil}
 use Rattle.hex.specs.Hex.{encode_upper}
 use Rattle.clap.specs.Words.{Row, Text}
@@ -12,12 +12,15 @@ use Rattle.ua_server.specs.declared.outcome.ServeFault.TheVariants.{Read, Write,
 use Rattle.ua_server.specs.declared.outcome.Served.{Served}
 use Rattle.ua_server.specs.declared.hexed.HexFault.{HexFault}
 use Rattle.ua_server.specs.declared.hexed.HexFault.TheVariants.{Serve}
-use Rattle.ua_server.specs.declared.program.ProgramFault.TheVariants.{Connection}
+use Rattle.ua_server.specs.declared.program.ProgramFault.{ProgramFault}
+use Rattle.ua_server.specs.declared.program.ProgramFault.TheVariants.{Line, BadHex, Connection}
+use Rattle.ua_server.specs.declared.line.Line.TheVariants.{Answer}
+use Rattle.ua_server.specs.Readings.{AllAre}
 use Rattle.ua_server.specs.declared.line.LineFault.{LineFault}
 use Rattle.ua_server.specs.declared.line.LineFault.TheVariants.{Words, OutOfMemory as NoMemory}
-use Rattle.ua_server.specs.Line.{IsNoCommand}
+use Rattle.ua_server.specs.Line.{IsLine, IsNoCommand}
 use Rattle.ua_server.specs.Hexed.{AnswersText, AnswersHex}
-use Rattle.ua_server.specs.Program.{AnswersDigits, IsUnmade, IsBadText, IsRefused}
+use Rattle.ua_server.specs.Program.{AnswersDigits, IsUnmade, IsBadText, IsRefused, DoesAnswer, DoesLine, Runs}
 
 -- the first write failed
 pub part-first : (old written : Option (List ℕ)) (first second : List ℕ) → AppendsPart old written first → AppendsPart old written (first ++ second)
@@ -89,3 +92,23 @@ made-digits known left text bytes readings old new result served read over same 
 pub line-refused : (taken : Bool) (matches : Option (Text × List Row)) (fault : LineFault) → (fault ≡ Words → taken ≡ true → IsNoCommand matches) → IsRefused taken matches fault
 line-refused taken matches Words told = told refl
 line-refused taken matches NoMemory told = tt
+
+-- ---- what a command does
+
+no_line : (hex : Bool) (input old written : Option (List ℕ)) (readings : List ℤ) (fault : LineFault) → DoesAnswer hex input old written readings (Err (Line fault)) → ⊥
+no_line false input old written readings fault so = so
+no_line true input old written readings fault so = so
+
+answers-line : (hex : Bool) (now : Option ℤ) (input old written : Option (List ℕ)) (readings : List ℤ) (fault : LineFault) → DoesLine (Answer hex now) input old written readings (Err (Line fault)) → ⊥
+answers-line hex None input old written readings fault so = no_line hex input old written readings fault so
+answers-line hex (Some now) input old written readings fault so = no_line hex input old written so.1.0 fault so.1.2
+
+-- a command that a line names
+pub line-done : (taken : Bool) (matches : Option (Text × List Row)) (hex : Bool) (now : Option ℤ) (input old written : Option (List ℕ)) (readings : List ℤ) (result : Result (Unit {0}) ProgramFault)
+    → IsLine matches (Answer hex now) → DoesLine (Answer hex now) input old written readings result → Runs taken matches input old written readings result
+line-done taken matches hex now input old written readings (Ok done) is so = (Answer hex now, is, so)
+line-done taken matches hex now input old written readings (Err (Line fault)) is so = absurd (answers-line hex now input old written readings fault so)
+line-done taken matches hex now input old written readings (Err BadHex) is so = (Answer hex now, is, so)
+line-done taken matches hex now input old written readings (Err (Connection fault)) is so = (Answer hex now, is, so)
+
+pub ruleset lines = (line-done)

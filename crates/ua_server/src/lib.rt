@@ -14,7 +14,7 @@ mod requests;
 mod server;
 mod serving;
 
-pub use clock::{Clock, ConstantClock};
+pub use clock::{Clock, ConstantClock, SystemClock};
 pub use connection::{Connection, MOST_CHUNKS};
 pub use counted::Counted;
 pub use hexed::{HexFault, answer_hex};

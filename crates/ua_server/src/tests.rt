@@ -260,8 +260,8 @@ fn serves_in_pieces(rt: HostRuntime) -> Result<(), Fail> {
 #[test]
 fn reads_lines(rt: HostRuntime) {
     let alloc = rt.alloc();
-    assert!(rt; read_line(alloc, &["uahist", "answer", "--hex"]) == Ok(Line::Answer { hex: true }));
-    assert!(rt; read_line(alloc, &["uahist", "answer"]) == Ok(Line::Answer { hex: false }));
+    assert!(rt; read_line(alloc, &["uahist", "answer", "--hex"]) == Ok(Line::Answer { hex: true, now: None }));
+    assert!(rt; read_line(alloc, &["uahist", "answer"]) == Ok(Line::Answer { hex: false, now: None }));
     let none: [&str; 0] = [];
     assert!(rt; read_line(alloc, &none) == Err(LineFault::Words));
     assert!(rt; read_line(alloc, &["uahist"]) == Err(LineFault::Words));
@@ -269,7 +269,7 @@ fn reads_lines(rt: HostRuntime) {
     assert!(rt; read_line(alloc, &["uahist", "help"]) == Err(LineFault::Words));
     assert!(rt; read_line(alloc, &["uahist", "dump"]) == Err(LineFault::Words));
     assert!(rt; read_line(alloc, &["uahist", "answer", "--hex=1"]) == Err(LineFault::Words));
-    assert!(rt; read_line(alloc, &["uahist", "answer", "--now", "5"]) == Err(LineFault::Words));
+    assert!(rt; read_line(alloc, &["uahist", "answer", "--now", "5"]) == Ok(Line::Answer { hex: false, now: Some(5) }));
     assert!(rt; read_line(alloc, &["uahist", "answer", "more"]) == Err(LineFault::Words));
     assert!(rt; read_line(alloc, &["uahist", "answer", "--hex", "--hex"]) == Err(LineFault::Words));
     assert!(rt; read_line(alloc, &["uahist", "sync"]) == Err(LineFault::Words));
@@ -362,7 +362,7 @@ fn runs_and_reports(rt: HostRuntime) -> Result<(), Fail> {
             ["uahist", "serve"].as_slice(),
             b"".as_slice(),
             1000,
-            "uahist: usage: uahist answer [--hex]\n",
+            "uahist: usage: uahist answer [--hex] [--now N]\n",
             2,
         ),
     ] {
