@@ -1,6 +1,5 @@
 -- How many chunks a connection has.
-use Rattle.std.proofs.Common.{◌≡◌, ◌==◌, ℕ, ℤ, ◌+◌, Bool, true, false, List, [], ◌∷◌, Some, None, Ok, Err, refl, eq-eqb}
-use Rattle.std.specs.Prelude.{Result}
+use Rattle.std.proofs.Common.{◌≡◌, ◌==◌, ℕ, ℤ, ◌+◌, Bool, true, false, List, [], ◌∷◌, Some, None, Err, refl, eq-eqb}
 use Rattle.std.proofs.lemmas.Bool.{eqb-true}
 use Rattle.uacp.specs.declared.types.UacpFault.TheVariants.{OutOfMemory}
 use Rattle.uacp.specs.Stream.{Piece}

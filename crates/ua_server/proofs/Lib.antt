@@ -6,3 +6,4 @@ pub mod Flow
 pub mod Printing
 pub mod Counting
 pub mod Plain
+pub mod Openly

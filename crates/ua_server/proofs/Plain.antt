@@ -1,6 +1,6 @@
 -- What connections are answered where memory is there, in the terms of the stream.
 use Rattle.std.proofs.Common.{◌≡◌, ◌<◌, ◌≤◌, ℕ, true, false, List, [], ◌∷◌, ◌++◌, length, take, drop, Some, None, Ok, Err, refl, ◌∙◌, ap, arith}
-use Rattle.std.specs.Prelude.{Option, Result}
+use Rattle.std.specs.Prelude.{Option}
 use Rattle.std.proofs.lemmas.List.{append-nil, drop_at, take_at}
 use Rattle.uacp.specs.declared.types.Kind.{Kind}
 use Rattle.uacp.specs.declared.types.Kind.TheVariants.{Hello, Open, Close, Message}
@@ -46,7 +46,7 @@ plain-fault standing bytes fault some cuts =
     plain-step standing bytes (ill fault, length bytes) (reply_with standing (error.canon (code_of fault)) (Some (Ok (Refused (code_of fault))))) (next-some standing bytes some ∙ ap (λ o. Some (found bytes o)) cuts) refl
 
 -- a whole chunk stands first
-chunk-next : (standing : Standing) (piece : Piece) (chunk rest : List ℕ) → IsChunk standing.greeted standing.limit piece chunk
+pub chunk-next : (standing : Standing) (piece : Piece) (chunk rest : List ℕ) → IsChunk standing.greeted standing.limit piece chunk
     → (next standing (chunk ++ rest) ≡ Some (whole piece, length chunk)) × (drop (length chunk) (chunk ++ rest) ≡ rest)
 chunk-next standing piece chunk rest is =
     let cuts = chunk-cut standing.greeted standing.limit piece chunk rest is in

@@ -15,7 +15,6 @@ use Rattle.ua_server.specs.declared.hexed.HexFault.TheVariants.{Serve}
 use Rattle.ua_server.specs.declared.program.ProgramFault.{ProgramFault}
 use Rattle.ua_server.specs.declared.program.ProgramFault.TheVariants.{Line, BadHex, Connection}
 use Rattle.ua_server.specs.declared.line.Line.TheVariants.{Answer}
-use Rattle.ua_server.specs.Readings.{AllAre}
 use Rattle.ua_server.specs.declared.line.LineFault.{LineFault}
 use Rattle.ua_server.specs.declared.line.LineFault.TheVariants.{Words, OutOfMemory as NoMemory}
 use Rattle.ua_server.specs.Line.{IsLine, IsNoCommand}

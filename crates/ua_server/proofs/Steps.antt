@@ -1,13 +1,11 @@
 -- What the steps of answering one chunk do.
 use Rattle.std.proofs.Common.{◌≡◌, ◌≢◌, ◌==◌, ℕ, ℤ, ◌+◌, ◌<◌, ◌≤◌, Bool, true, false, List, [], ◌∷◌, ◌++◌, length, take, drop, Some, None, Ok, Err, refl, sym, ◌∙◌, ap, subst, arith}
-use Rattle.std.specs.Prelude.{Result, Option, max}
+use Rattle.std.specs.Prelude.{Option, max}
 use Rattle.std.proofs.lemmas.List.{append-nil, length-drop}
 use Rattle.std.proofs.lemmas.Bool.Decides.{nat_tests}
 use Rattle.ua_binary.specs.declared.values.Ticks.{Ticks}
 use Rattle.uacp.specs.declared.types.Header.{Header}
 use Rattle.uacp.specs.declared.types.Chunk.{Chunk}
-use Rattle.uacp.specs.declared.types.Kind.{Kind}
-use Rattle.uacp.specs.declared.types.Kind.TheVariants.{Hello, Open, Close, Message}
 use Rattle.uacp.specs.declared.types.Letter.TheVariants.{Final, More, Abort}
 use Rattle.uacp.specs.declared.types.UacpFault.{UacpFault}
 use Rattle.uacp.specs.declared.types.UacpFault.TheVariants.{OutOfMemory}
@@ -24,7 +22,7 @@ use Rattle.ua_channel.specs.declared.fault.ChannelFault.TheVariants as fault
 use Rattle.ua_channel.specs.declared.taken.OpenRequest.{OpenRequest}
 use Rattle.ua_channel.specs.declared.taken.Taken.{Taken}
 use Rattle.ua_channel.specs.Placed.{Placed, Opens, Says, Closes, judged}
-use Rattle.ua_channel.specs.Taking.{State, fresh, after, answer_of, piece_of, Refuses as RefusesChunk, Takes as TakesChunk, TakesMemory}
+use Rattle.ua_channel.specs.Taking.{State, fresh, after, piece_of, Refuses as RefusesChunk, Takes as TakesChunk, TakesMemory}
 use Rattle.ua_channel.specs.Sending.{opened_chunk, number_after}
 use Rattle.ua_server.specs.declared.outcome.Served.TheVariants.{Closed, Refused}
 use Rattle.ua_server.specs.declared.outcome.ServeFault.TheVariants.{TooLong, OutOfMemory as Starved}
@@ -32,8 +30,8 @@ use Rattle.ua_server.specs.declared.connection.Connection.{Connection}
 use Rattle.ua_server.specs.declared.granting.Grant.{Grant}
 use Rattle.ua_server.specs.declared.granting.Grant.TheVariants as grant
 use Rattle.ua_server.specs.Run.{Outside, before, Reply, Marked, Does, Answers}
-use Rattle.ua_server.specs.Marks.{Mark, fine, no_memory, made, give, then, clock}
-use Rattle.ua_server.specs.Granted.{Granted, goes, closed, refused, starved, Granting, acknowledged, opened, sent, responded, answered_come, kept_of, keeping, answered_placed, granted_by, granted}
+use Rattle.ua_server.specs.Marks.{Mark, fine, no_memory, made, then, clock}
+use Rattle.ua_server.specs.Granted.{Granted, goes, closed, refused, starved, Granting, acknowledged, opened, sent, responded, answered_come, kept_of, keeping, answered_placed, granted}
 use Rattle.ua_server.specs.Requests.{response_to, starved_response_to, bytes_sent, after_sent}
 use Rattle.ua_server.specs.Replies.{limit_or, Standing, Item, whole, ill, Ending, gone, concluded, refuse, reply_with, answer_taken, answer, found, chunks}
 use Rattle.ua_server.specs.Turns.{sees, AnswersSo, EndsSo, EndsRefused, Refuses, GivesOne, granted_as, IsClean, IsSmall, IsCountedChunk, Grants, LeavesOne}
@@ -185,7 +183,7 @@ chunk-answers held connection chunk readings reply unfailed gives does more =
     let Q : List ℕ → Type 0 = λ rest. Answers chunks standing (held.waiting ++ more) readings reply rest in
     subst Q stands.1 (answers-item chunks falls standing (held.waiting ++ more) (item, header.size) readings reply stands.0 (does-fine standing item readings reply (subst P gives.2 does)))
 
-few_test : (taken : ℕ) → taken ≢ 1000000 → (taken == 1000000) ≡ false
+pub few_test : (taken : ℕ) → taken ≢ 1000000 → (taken == 1000000) ≡ false
 few_test taken few = grind (arith, nat_tests)
 
 -- a chunk that goes on
@@ -269,7 +267,6 @@ gives-one held new chunk gives is unfailed small =
       failed = ap (λ (h : Held). h.failed) now ∙ unfailed;
       less = (omega (arith, length-drop (8 + length chunk.body.now) held.waiting, within.0, within.1), omega (arith, length-drop (8 + length chunk.body.now) held.waiting, within.0, within.1, within.2));
     }
-
 
 pub leaves-one : (held new : Held) (what : Grant) → GivesOne held new → LeavesOne what held new
 leaves-one held new (grant.Greeted limit) one = one

@@ -13,7 +13,7 @@ use Rattle.ua_server.specs.declared.outcome.Served.TheVariants.{EndOfInput, Clos
 use Rattle.ua_server.specs.declared.outcome.ServeFault.{ServeFault}
 use Rattle.ua_server.specs.declared.outcome.ServeFault.TheVariants.{TooLong, OutOfMemory as Starved}
 use Rattle.ua_server.specs.declared.connection.Connection.{Connection}
-use Rattle.ua_server.specs.Run.{Outside, Reply, Answer, Marked, Protocol, answered}
+use Rattle.ua_server.specs.Run.{Reply, Answer, Marked, Protocol, answered}
 use Rattle.ua_server.specs.Marks.{Mark, made, give, then}
 use Rattle.ua_server.specs.Granted.{Granted, goes, closed, refused, starved, granted}
 

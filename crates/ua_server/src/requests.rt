@@ -17,8 +17,11 @@ use ua_channel::{Channel, ChannelFault, put_response_header, read_request_header
 const SERVICE_FAULT: u32 = 397;
 
 const BAD_OUT_OF_MEMORY: u32 = 0x8003_0000;
+
 const BAD_DECODING_ERROR: u32 = 0x8007_0000;
+
 const BAD_SERVICE_UNSUPPORTED: u32 = 0x800B_0000;
+
 const BAD_RESPONSE_TOO_LARGE: u32 = 0x80B9_0000;
 
 /// The handle that the answer to a message repeats, and its status: no service is served yet. The handle is 0 where the

@@ -1,4 +1,4 @@
-use Rattle.std.proofs.Common.{ℕ, List, [], ◌+◌, Some, None, Ok, ap, sym, subst, refl}
+use Rattle.std.proofs.Common.{ℕ, List, ◌+◌, Some, None, Ok, ap, sym, subst}
 use Rattle.uacp.specs.Held.{Held}
 use Rattle.ua_server.specs.declared.connection.Connection.{Connection}
 use Rattle.ua_server.specs.declared.outcome.Served.TheVariants.{Closed}

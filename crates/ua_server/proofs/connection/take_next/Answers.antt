@@ -1,4 +1,4 @@
-use Rattle.std.proofs.Common.{[], ◌≡◌, ◌==◌, ◌<◌, true, refl, sym, subst, ℕ, eq-eqb, arith}
+use Rattle.std.proofs.Common.{[], ◌≡◌, ◌==◌, ◌<◌, true, sym, subst, ℕ, eq-eqb, arith}
 use Rattle.ua_server.specs.Turns.{sees, EndsRefused}
 use Rattle.ua_server.proofs.Steps.{chunk-grants, many-ends, fault-ends, left-waiting, gives-one, leaves-one, counted-one}
 use Rattle.ua_server.proofs.connection.take_next.Goals as goal

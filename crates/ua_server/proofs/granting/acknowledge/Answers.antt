@@ -1,5 +1,4 @@
 use Rattle.std.proofs.Common.{◌∙◌, ap, List, ℕ, ◌++◌, Some}
-use Rattle.uacp.specs.Fault.{code_of}
 use Rattle.uacp.specs.Greeting.{acknowledge}
 use Rattle.ua_channel.specs.Taking.{State}
 use Rattle.ua_server.proofs.Steps.{acknowledges, acknowledges-none}

@@ -1,8 +1,7 @@
-use Rattle.std.proofs.Common.{◌≡◌, ℤ, List, Bool, Some, None, refl, ◌∙◌, ap, subst, sym, codes, true, false}
+use Rattle.std.proofs.Common.{◌≡◌, ℤ, List, Some, None, refl, ◌∙◌, ap, subst, sym, codes}
 use Rattle.std.specs.Prelude.{Option, Result, Ok, Err}
 use Rattle.std.specs.Int.{w64}
-use Rattle.std.specs.Int.RustNames.{FitsSigned}
-use Rattle.std.specs.Str.Parse.{IsNumeral, ParsesSigned, ExplainsSignedError, HasSignedDigitsIfOk, signed_digits_value, without_leading_sign}
+use Rattle.std.specs.Str.Parse.{ParsesSigned, ExplainsSignedError, HasSignedDigitsIfOk, signed_digits_value}
 use Rattle.std.specs.declared.num.ParseIntError.{ParseIntError}
 use Rattle.clap.specs.Matches.{TriesOne}
 use Rattle.clap.specs.Words.{Row, Text, found_of, one_of, one_text, rows_of}

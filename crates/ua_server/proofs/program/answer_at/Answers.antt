@@ -1,4 +1,4 @@
-use Rattle.std.proofs.Common.{[], ℤ, List, Some, refl, sym, subst, w64, rules}
+use Rattle.std.proofs.Common.{[], ℤ, refl, sym, subst, w64, rules}
 use Rattle.std.specs.Prelude.{Option}
 use Rattle.std.specs.Int.RustNames.{FitsSigned}
 use Rattle.std.proofs.lemmas.Int.{to_z-of_z}
