@@ -1,15 +1,13 @@
--- Messages that are sent: their pieces, and whether they are within what the client takes.
-use Rattle.std.proofs.Common.{◌≡◌, ◌==◌, ℕ, zero, suc, ◌-◌, ◌*◌, ◌<◌, ◌≤◌, Bool, true, false, ◌&&◌, ◌||◌, nat_le, List, [], ◌∷◌, ◌++◌, length, take, drop, Ok, Err, inl, inr, refl, sym, ap, subst, ◌∙◌, arith}
-use Rattle.std.specs.Prelude.{Result, ◌⊎◌}
-use Rattle.std.proofs.lemmas.Bool.{eqb-true}
-use Rattle.std.proofs.lemmas.Bool.Decides.{nat_tests}
+-- A body has one list of pieces, so a message that is sent is sent in those.
+use Rattle.std.proofs.Common.{◌≡◌, ℕ, zero, suc, ◌-◌, ◌<◌, List, [], ◌∷◌, ◌++◌, length, take, drop, Ok, Err, refl, sym, ap, subst, ◌∙◌, arith}
+use Rattle.std.specs.Prelude.{Result}
 use Rattle.std.proofs.lemmas.List.{append-nil, length-append, take_at, drop_at}
 use Rattle.uacp.specs.Split.{joined, AreFull, IsSplit, pieces_of}
 use Rattle.uacp.proofs.Splits.{pieces_split}
 use Rattle.ua_channel.specs.declared.fault.ChannelFault.{ChannelFault}
 use Rattle.ua_channel.specs.Taking.{State}
-use Rattle.ua_channel.specs.Sending.{chunks_of, number_after, Wraps, IsFitting}
-use Rattle.ua_server.specs.Requests.{is_fitting, Sends}
+use Rattle.ua_channel.specs.Sending.{chunks_of, number_after, Wraps}
+use Rattle.ua_server.specs.Requests.{Sends}
 
 -- ---- a body has one list of pieces
 
@@ -64,45 +62,5 @@ wraps_sends old request body (Ok x) before now new wraps =
     let P : List (List ℕ) → Type 0 = λ pieces. (now ≡ before ++ chunks_of old.heard.token request old.next pieces) × (new ≡ record old { next = number_after old.next (length pieces) }) in
     subst P same wraps.2
 wraps_sends old request body (Err fault) before now new wraps = (wraps.2.1, wraps.2.2)
-
--- ---- what fits
-
-test_true : (m n k : ℕ) → (m ≡ 0) ⊎ (n ≤ k) → ((m == 0) || nat_le n k) ≡ true
-test_true m n k (inl none) = grind (arith, nat_tests)
-test_true m n k (inr within) = grind (arith, nat_tests)
-
-test_means : (m n k : ℕ) → ((m == 0) || nat_le n k) ≡ true → (m ≡ 0) ⊎ (n ≤ k)
-test_means m n k is = by_test (m == 0) refl is
-  where
-    by_test : (t : Bool) → (m == 0) ≡ t → (t || nat_le n k) ≡ true → (m ≡ 0) ⊎ (n ≤ k)
-    by_test true e is = inl (eqb-true m 0 e)
-    by_test false e is = inr (grind (arith, nat_tests))
-
-three : (a b c : Bool) → a ≡ true → b ≡ true → c ≡ true → (a && b && c) ≡ true
-three a b c e f h = rw (e, f, h) refl
-
-three_all : (a b c : Bool) → (a && b && c) ≡ true → (a ≡ true) × (b ≡ true) × (c ≡ true)
-three_all true true true e = (refl, refl, refl)
-three_all true true false e = absurd cc
-three_all true false c e = absurd cc
-three_all false b c e = absurd cc
-
-pub fits_true : (state : State) (n : ℕ) → IsFitting state n → is_fitting state n ≡ true
-fits_true state n fits =
-    let most = fits.most in
-    three _ _ _ (grind (arith, nat_tests)) (test_true state.max_message n state.max_message fits.bytes) (test_true state.max_chunks n (state.max_chunks * (state.limit - 24)) fits.chunks)
-
-fits_means : (state : State) (n : ℕ) → is_fitting state n ≡ true → IsFitting state n
-fits_means state n is =
-    let all = three_all _ _ _ is in
-    let first : nat_le n 16777216 ≡ true = all.0 in
-    record { most = grind (arith, nat_tests); bytes = test_means state.max_message n state.max_message all.1; chunks = test_means state.max_chunks n (state.max_chunks * (state.limit - 24)) all.2 }
-
-pub fits_false : (state : State) (n : ℕ) → (IsFitting state n → ⊥) → is_fitting state n ≡ false
-fits_false state n fails = by_test (is_fitting state n) refl
-  where
-    by_test : (t : Bool) → is_fitting state n ≡ t → t ≡ false
-    by_test true e = absurd (fails (fits_means state n e))
-    by_test false e = refl
 
 pub ruleset sending = (wraps_sends)
