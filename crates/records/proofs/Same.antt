@@ -1,7 +1,6 @@
 -- The test of being one is exact.
 use Rattle.std.proofs.Common.{◌≡◌, Bool, true, refl, sym, ap, subst}
 use Rattle.std.specs.Bool.{Decides}
-use Rattle.std.specs.Prelude.{IsTrue, ◌↔◌}
 use Rattle.std.proofs.lemmas.Bool.Decides.{same_from_decides}
 use Rattle.std.proofs.lemmas.Bool.{true≢false, eq-eqb, eqb-true, and_parts, and_from}
 use base.Stored.{Coded, Gv, gnil, gnum, gcons}
@@ -20,15 +19,7 @@ same_trees (gcons a b) (gcons c d) e =
     let p = same_trees a c parts.0 in
     let q = same_trees b d parts.1 in
     λ i. gcons (p i) (q i)
-same_trees gnil (gnum n) e = absurd (true≢false (sym e))
-same_trees gnil (gcons c d) e = absurd (true≢false (sym e))
-same_trees (gnum m) gnil e = absurd (true≢false (sym e))
-same_trees (gnum m) (gcons c d) e = absurd (true≢false (sym e))
-same_trees (gcons a b) gnil e = absurd (true≢false (sym e))
-same_trees (gcons a b) (gnum n) e = absurd (true≢false (sym e))
+same_trees _ _ e = absurd (true≢false (sym e))
 
 pub Decides-is_same : {A : Type 0} → (c : Coded A) → (x y : A) → Decides (is_same c x y) (x ≡ y)
 Decides-is_same c x y = (λ e. c.inj x y (same_trees _ _ e), λ p. subst (λ z. same_tree (c.code x) (c.code z) ≡ true) p (tree_itself (c.code x)))
-
-pub tested : {A : Type 0} → (c : Coded A) → (b : Bool) (x y : A) → (IsTrue b ↔ (x ≡ y)) → b ≡ is_same c x y
-tested c b x y h = same_from_decides b (is_same c x y) (h.0, h.1) (Decides-is_same c x y)

@@ -1,18 +1,14 @@
 -- How many chunks a connection has.
-use Rattle.std.proofs.Common.{◌≡◌, ◌==◌, ℕ, ℤ, ◌+◌, Bool, true, false, List, [], ◌∷◌, Some, None, Ok, Err, refl, eq-eqb}
-use Rattle.std.specs.Prelude.{Result}
+use Rattle.std.proofs.Common.{◌≡◌, ◌==◌, ℕ, ℤ, ◌+◌, Bool, true, false, List, [], ◌∷◌, Some, None, Err, refl, eq-eqb}
 use Rattle.std.proofs.lemmas.Bool.{eqb-true}
-use Rattle.uacp.specs.declared.types.Kind.{Kind}
-use Rattle.uacp.specs.declared.types.Kind.TheVariants.{Hello, Open, Close, Message}
-use Rattle.uacp.specs.declared.types.UacpFault.{UacpFault}
-use Rattle.uacp.specs.declared.types.UacpFault.TheVariants.{TypeInvalid, OutOfMemory}
-use Rattle.uacp.specs.declared.greeting.Ack.{Ack}
+use Rattle.uacp.specs.declared.types.UacpFault.TheVariants.{OutOfMemory}
 use Rattle.uacp.specs.Stream.{Piece}
-use Rattle.uacp.specs.Greeting.{hello_at}
 use Rattle.uacp.specs.Fault.{code_of}
 use Rattle.ua_server.specs.declared.outcome.ServeFault.TheVariants.{TooLong}
 use Rattle.ua_server.specs.Run.{Outside, Reply}
-use Rattle.ua_server.specs.Replies.{Mark, fine, no_memory, Standing, Item, whole, ill, partial, Ending, refuse, make_ack, ack_or, granted, concluded, answer_taken, answer, reply_with}
+use Rattle.ua_server.specs.Marks.{Mark, fine, no_memory}
+use Rattle.ua_server.specs.Granted.{Granted, goes, closed, refused, starved, granted}
+use Rattle.ua_server.specs.Replies.{Standing, Item, whole, ill, partial, Ending, refuse, concluded, answer_taken, answer, reply_with}
 
 pub one_too_many : (standing : Standing) (piece : Piece) (later : Outside Mark) → standing.connection.taken ≡ 1000000
     → answer_taken standing (whole piece) later ≡ (reply_with standing [] (Some (Err TooLong)), later)
@@ -28,28 +24,20 @@ refuse-counts standing code [] readings = record { sooner = λ e. absurd cc; eac
 refuse-counts standing code (fine ∷ marks) readings = record { sooner = λ e. absurd cc; each = λ e. absurd cc }
 refuse-counts standing code (no_memory ∷ marks) readings = record { sooner = λ e. absurd cc; each = λ e. absurd cc }
 
-concluded-counts : (standing : Standing) (grant : Result Ack UacpFault) (marks : List Mark) (readings : List ℤ) → Counts standing (concluded standing grant (record { marks = marks; readings = readings })).0
-concluded-counts standing (Ok ack) marks readings = record { sooner = λ e. absurd cc; each = λ e. refl }
-concluded-counts standing (Err fault) marks readings = refuse-counts standing (code_of fault) marks readings
+concluded-counts : (standing : Standing) (what : Granted) (marks : List Mark) (readings : List ℤ) → Counts standing (concluded standing what (record { marks = marks; readings = readings })).0
+concluded-counts standing (goes out limit channel) marks readings = record { sooner = λ e. absurd cc; each = λ e. refl }
+concluded-counts standing closed marks readings = record { sooner = λ e. absurd cc; each = λ e. absurd cc }
+concluded-counts standing (refused code) marks readings = refuse-counts standing code marks readings
+concluded-counts standing starved marks readings = record { sooner = λ e. absurd cc; each = λ e. absurd cc }
 
-ack-counts : (standing : Standing) (made : Result Ack UacpFault) (marks : List Mark) (readings : List ℤ)
-    → (let a = make_ack made (record { marks = marks; readings = readings }) in Counts standing (concluded standing a.0 a.1).0)
-ack-counts standing (Err fault) marks readings = concluded-counts standing (Err fault) marks readings
-ack-counts standing (Ok ack) [] readings = concluded-counts standing (Ok ack) [] readings
-ack-counts standing (Ok ack) (fine ∷ marks) readings = concluded-counts standing (Ok ack) marks readings
-ack-counts standing (Ok ack) (no_memory ∷ marks) readings = concluded-counts standing (Err OutOfMemory) marks readings
-
-piece-counts : (standing : Standing) (kind : Kind) (body : List ℕ) (marks : List Mark) (readings : List ℤ)
-    → (let a = granted kind body (record { marks = marks; readings = readings }) in Counts standing (concluded standing a.0 a.1).0)
-piece-counts standing Hello body marks readings = ack-counts standing (ack_or (hello_at body)) marks readings
-piece-counts standing Open body marks readings = concluded-counts standing (Err TypeInvalid) marks readings
-piece-counts standing Close body marks readings = concluded-counts standing (Err TypeInvalid) marks readings
-piece-counts standing Message body marks readings = concluded-counts standing (Err TypeInvalid) marks readings
+-- whatever a chunk is granted
+piece-counts : (standing : Standing) (piece : Piece) (outside : Outside Mark) → (let a = granted standing.connection.channel piece outside in Counts standing (concluded standing a.0 a.1).0)
+piece-counts standing piece outside = let a = granted standing.connection.channel piece outside in concluded-counts standing a.0 a.1.marks a.1.readings
 
 tested-counts : (standing : Standing) (piece : Piece) (marks : List Mark) (readings : List ℤ) (test : Bool) → (standing.connection.taken == 1000000) ≡ test
     → Counts standing (answer_taken standing (whole piece) (record { marks = marks; readings = readings })).0
 tested-counts standing piece marks readings true is = rw is (record { sooner = λ e. eqb-true standing.connection.taken 1000000 is; each = λ e. absurd cc })
-tested-counts standing piece marks readings false is = rw is (piece-counts standing piece.kind piece.body marks readings)
+tested-counts standing piece marks readings false is = rw is (piece-counts standing piece (record { marks = marks; readings = readings }))
 
 taken-counts : (standing : Standing) (item : Item) (marks : List Mark) (readings : List ℤ) → Counts standing (answer_taken standing item (record { marks = marks; readings = readings })).0
 taken-counts standing (whole piece) marks readings = tested-counts standing piece marks readings (standing.connection.taken == 1000000) refl

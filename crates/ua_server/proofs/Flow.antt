@@ -24,10 +24,11 @@ use Rattle.ua_server.specs.declared.connection.Turn.{Turn}
 use Rattle.ua_server.specs.declared.connection.Turn.TheVariants.{Waits, Goes, Ends}
 use Rattle.ua_server.specs.Bytes.{AppendsPart}
 use Rattle.ua_server.specs.Run.{Reply, Answers}
-use Rattle.ua_server.specs.Replies.{fine, Standing, partial, Ending, chunks, greeting, reply_with, found}
+use Rattle.ua_server.specs.Marks.{fine}
+use Rattle.ua_server.specs.Replies.{Standing, partial, Ending, chunks, greeting, reply_with, found}
 use Rattle.ua_server.specs.Turns.{sees, IsShort, AnswersSo, EndsSo, BeginsSo, EndsRefused, SendsRefusal, Turned, FailsSo, Drained, DrainsSoFar}
 use Rattle.ua_server.specs.Serving.{IsWhole, IsFirstPart, Serves, ServesSoFar}
-use Rattle.ua_server.proofs.Runs.{answers-start, answers-item, answers-end, answers-then, answers-whole, answers-part}
+use Rattle.ua_server.proofs.Runs.{answers-start, answers-item, answers-end, answers-then, answers-part}
 use Rattle.ua_server.proofs.Cutting.{falls, next-some}
 use Rattle.ua_server.proofs.Steps.{starved-ends}
 
@@ -115,17 +116,17 @@ drains-part old written sent a b c bytes middle rest r s out turn new left resul
 -- ---- the whole connection
 
 pub serves-start : (known written : Option (List ℕ)) (held : Held) → held ≡ record { waiting = []; greeted = false; limit = 65536; failed = None }
-    → ServesSoFar known known written written [] held (record { ack = None; taken = 0 })
+    → ServesSoFar known known written written [] held (record { channel = None; taken = 0 })
 serves-start None written held is = tt
 serves-start (Some input) written held is =
-    let P : Held → Type 0 = λ h. Answers chunks greeting input [] (reply_with (sees h (record { ack = None; taken = 0 })) [] None) (h.waiting ++ input) in
+    let P : Held → Type 0 = λ h. Answers chunks greeting input [] (reply_with (sees h (record { channel = None; taken = 0 })) [] None) (h.waiting ++ input) in
     ([], Appends-nil written, subst P (sym is) (answers-start chunks greeting input))
 
 whole-of : (input : List ℕ) (readings : List ℤ) (out : List ℕ) (ending : Ending) (last : Standing) (rest : List ℕ) → Answers chunks greeting input readings (reply_with last out (Some ending)) rest → IsWhole input readings out ending
-whole-of input readings out ending last rest so = (so.used, last, answers-whole chunks greeting input readings out ending last rest so)
+whole-of input readings out ending last rest so = (so.used, last, λ later. so.goes later)
 
 part-of : (input : List ℕ) (readings : List ℤ) (reply : Reply Standing Ending) (rest sent unsent : List ℕ) → Answers chunks greeting input readings reply rest → reply.out ≡ sent ++ unsent → IsFirstPart input readings sent
-part-of input readings reply rest sent unsent so parts = let part = answers-part chunks greeting input readings reply rest sent unsent so parts in (so.used, part.0, part.1)
+part-of input readings reply rest sent unsent so parts = (so.used, λ later. answers-part chunks greeting input readings reply rest sent unsent so parts later)
 
 -- a reader that failed
 pub serves-read : (known left old written : Option (List ℕ)) (readings : List ℤ) (held : Held) (connection : Connection)
@@ -265,7 +266,7 @@ short-none : cut false 65536 [] ≡ Ok None
 unfolding cut
 short-none = refl
 
-pub starts-short : (held : Held) → held ≡ record { waiting = []; greeted = false; limit = 65536; failed = None } → IsShort (sees held (record { ack = None; taken = 0 })) held.waiting
+pub starts-short : (held : Held) → held ≡ record { waiting = []; greeted = false; limit = 65536; failed = None } → IsShort (sees held (record { channel = None; taken = 0 })) held.waiting
 starts-short held is = ap (λ (h : Held). cut h.greeted h.limit h.waiting) is ∙ short-none
 
 pub starts-whole : (held : Held) → held ≡ record { waiting = []; greeted = false; limit = 65536; failed = None } → held.failed ≡ None

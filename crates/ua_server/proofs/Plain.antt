@@ -1,12 +1,11 @@
 -- What connections are answered where memory is there, in the terms of the stream.
 use Rattle.std.proofs.Common.{◌≡◌, ◌<◌, ◌≤◌, ℕ, true, false, List, [], ◌∷◌, ◌++◌, length, take, drop, Some, None, Ok, Err, refl, ◌∙◌, ap, arith}
-use Rattle.std.specs.Prelude.{Option, Result}
+use Rattle.std.specs.Prelude.{Option}
 use Rattle.std.proofs.lemmas.List.{append-nil, drop_at, take_at}
 use Rattle.uacp.specs.declared.types.Kind.{Kind}
 use Rattle.uacp.specs.declared.types.Kind.TheVariants.{Hello, Open, Close, Message}
 use Rattle.uacp.specs.declared.types.Letter.{Letter}
 use Rattle.uacp.specs.declared.types.UacpFault.{UacpFault}
-use Rattle.uacp.specs.declared.types.UacpFault.TheVariants.{TypeInvalid}
 use Rattle.uacp.specs.declared.greeting.Hello.{Hello as HelloNumbers}
 use Rattle.uacp.specs.declared.greeting.Ack.{Ack}
 use Rattle.uacp.specs.Greeting.{hello_at, ack_of, acknowledge, error}
@@ -17,7 +16,9 @@ use Rattle.uacp.proofs.Streams.{chunk-cut, rest-cut}
 use Rattle.uacp.proofs.Cuts.{cut-fault}
 use Rattle.ua_server.specs.declared.outcome.Served.TheVariants.{EndOfInput, Refused}
 use Rattle.ua_server.specs.Run.{Outside, Reply, Answer, joined, stepped, answered}
-use Rattle.ua_server.specs.Replies.{Mark, Standing, Item, whole, ill, partial, Ending, ack_or, greeted_with, reply_with, answer, found, next, chunks, greeting}
+use Rattle.ua_channel.specs.Taking.{fresh}
+use Rattle.ua_server.specs.Marks.{Mark}
+use Rattle.ua_server.specs.Replies.{Standing, Item, whole, ill, partial, Ending, gone, reply_with, answer, found, next, chunks, greeting}
 use Rattle.ua_server.specs.Serving.{Plainly}
 use Rattle.ua_server.proofs.Runs.{nothing_more, answered-step, joined-same}
 use Rattle.ua_server.proofs.Cutting.{falls, next-some, some_more}
@@ -45,7 +46,7 @@ plain-fault standing bytes fault some cuts =
     plain-step standing bytes (ill fault, length bytes) (reply_with standing (error.canon (code_of fault)) (Some (Ok (Refused (code_of fault))))) (next-some standing bytes some ∙ ap (λ o. Some (found bytes o)) cuts) refl
 
 -- a whole chunk stands first
-chunk-next : (standing : Standing) (piece : Piece) (chunk rest : List ℕ) → IsChunk standing.greeted standing.limit piece chunk
+pub chunk-next : (standing : Standing) (piece : Piece) (chunk rest : List ℕ) → IsChunk standing.greeted standing.limit piece chunk
     → (next standing (chunk ++ rest) ≡ Some (whole piece, length chunk)) × (drop (length chunk) (chunk ++ rest) ≡ rest)
 chunk-next standing piece chunk rest is =
     let cuts = chunk-cut standing.greeted standing.limit piece chunk rest is in
@@ -61,31 +62,34 @@ chunk-next standing piece chunk rest is =
     take_front : (a b : List ℕ) → take (length a) (a ++ b) ≡ a
     take_front a b = take_at a b (length a) refl
 
-hello-answer : (kind : Kind) (letter : Letter) (body : List ℕ) (result : Result Ack UacpFault) (ack : Ack) → MayStand false kind letter → ack_or (hello_at body) ≡ result → result ≡ Ok ack
-    → answer greeting (whole (record { kind = kind; letter = letter; body = body })) nothing_more ≡ (reply_with (greeted_with greeting ack) (acknowledge.canon ack) None, nothing_more)
-hello-answer Hello letter body result ack stands is ok = rw (is, ok) refl
-hello-answer Open letter body result ack stands is ok = absurd stands
-hello-answer Close letter body result ack stands is ok = absurd stands
-hello-answer Message letter body result ack stands is ok = absurd stands
+-- after a Hello that was acknowledged
+abbrev pub greeted_with : HelloNumbers → Ack → Standing
+greeted_with hello ack = gone greeting (Some ack.receive_size) (Some (fresh hello ack))
 
-hello-refused : (kind : Kind) (letter : Letter) (body : List ℕ) (result : Result Ack UacpFault) (fault : UacpFault) → MayStand false kind letter → ack_or (hello_at body) ≡ result → result ≡ Err fault
+hello-answer : (kind : Kind) (letter : Letter) (body : List ℕ) (hello : HelloNumbers) (ack : Ack) → MayStand false kind letter → hello_at body ≡ Ok hello → ack_of hello ≡ Ok ack
+    → answer greeting (whole (record { kind = kind; letter = letter; body = body })) nothing_more ≡ (reply_with (greeted_with hello ack) (acknowledge.canon ack) None, nothing_more)
+hello-answer Hello letter body hello ack stands reads grants = rw (reads, grants) refl
+hello-answer Open letter body hello ack stands reads grants = absurd stands
+hello-answer Close letter body hello ack stands reads grants = absurd stands
+hello-answer Message letter body hello ack stands reads grants = absurd stands
+
+hello-malformed : (kind : Kind) (letter : Letter) (body : List ℕ) (fault : UacpFault) → MayStand false kind letter → hello_at body ≡ Err fault
     → answer greeting (whole (record { kind = kind; letter = letter; body = body })) nothing_more ≡ (reply_with greeting (error.canon (code_of fault)) (Some (Ok (Refused (code_of fault)))), nothing_more)
-hello-refused Hello letter body result fault stands is refuses = rw (is, refuses) refl
-hello-refused Open letter body result fault stands is refuses = absurd stands
-hello-refused Close letter body result fault stands is refuses = absurd stands
-hello-refused Message letter body result fault stands is refuses = absurd stands
+hello-malformed Hello letter body fault stands reads = rw reads refl
+hello-malformed Open letter body fault stands reads = absurd stands
+hello-malformed Close letter body fault stands reads = absurd stands
+hello-malformed Message letter body fault stands reads = absurd stands
 
-later-refused : (ack : Ack) (kind : Kind) (letter : Letter) (body : List ℕ) → MayStand true kind letter
-    → answer (greeted_with greeting ack) (whole (record { kind = kind; letter = letter; body = body })) nothing_more
-    ≡ (reply_with (greeted_with greeting ack) (error.canon (code_of TypeInvalid)) (Some (Ok (Refused (code_of TypeInvalid)))), nothing_more)
-later-refused ack Hello letter body stands = absurd stands
-later-refused ack Open letter body stands = refl
-later-refused ack Close letter body stands = refl
-later-refused ack Message letter body stands = refl
+hello-refused : (kind : Kind) (letter : Letter) (body : List ℕ) (hello : HelloNumbers) (fault : UacpFault) → MayStand false kind letter → hello_at body ≡ Ok hello → ack_of hello ≡ Err fault
+    → answer greeting (whole (record { kind = kind; letter = letter; body = body })) nothing_more ≡ (reply_with greeting (error.canon (code_of fault)) (Some (Ok (Refused (code_of fault)))), nothing_more)
+hello-refused Hello letter body hello fault stands reads grants = rw (reads, grants) refl
+hello-refused Open letter body hello fault stands reads grants = absurd stands
+hello-refused Close letter body hello fault stands reads grants = absurd stands
+hello-refused Message letter body hello fault stands reads grants = absurd stands
 
 -- ---- the laws
 
-pub nothing-said : (bytes : List ℕ) → IsPartial false 65536 bytes → Plainly bytes [] EndOfInput
+pub nothing-said : (bytes : List ℕ) → IsPartial false 65536 bytes → Plainly bytes [] [] EndOfInput
 nothing-said bytes is =
     let all = plain-short greeting bytes (rest-cut false 65536 bytes None is) in
     record { out = ap (λ (a : Answer Standing Ending Mark). a.out) all; ending = ap (λ (a : Answer Standing Ending Mark). a.ending) all }
@@ -93,7 +97,7 @@ nothing-said bytes is =
 fault-long : (bytes : List ℕ) (fault : UacpFault) → IsFault false 65536 bytes fault → cut false 65536 bytes ≡ Err fault
 fault-long bytes fault is = rest-cut false 65536 bytes (Some fault) is
 
-pub fault-said : (bytes : List ℕ) (fault : UacpFault) → IsFault false 65536 bytes fault → Plainly bytes (error.canon (code_of fault)) (Refused (code_of fault))
+pub fault-said : (bytes : List ℕ) (fault : UacpFault) → IsFault false 65536 bytes fault → Plainly bytes [] (error.canon (code_of fault)) (Refused (code_of fault))
 fault-said bytes fault is =
     let cuts = fault-long bytes fault is in
     let long = cut-fault false 65536 bytes fault cuts in
@@ -101,39 +105,35 @@ fault-said bytes fault is =
     record { out = ap (λ (a : Answer Standing Ending Mark). a.out) all; ending = ap (λ (a : Answer Standing Ending Mark). a.ending) all }
 
 greeted : (chunk rest : List ℕ) (piece : Piece) (hello : HelloNumbers) (ack : Ack) → IsChunk false 65536 piece chunk → hello_at piece.body ≡ Ok hello → ack_of hello ≡ Ok ack
-    → plain greeting (chunk ++ rest) ≡ joined (reply_with (greeted_with greeting ack) (acknowledge.canon ack) None) nothing_more (plain (greeted_with greeting ack) rest)
+    → plain greeting (chunk ++ rest) ≡ joined (reply_with (greeted_with hello ack) (acknowledge.canon ack) None) nothing_more (plain (greeted_with hello ack) rest)
 greeted chunk rest piece hello ack is reads grants =
     let stands = chunk-next greeting piece chunk rest is in
-    let reply = reply_with (greeted_with greeting ack) (acknowledge.canon ack) None in
-    let granted : ack_or (hello_at piece.body) ≡ Ok ack = ap ack_or reads ∙ grants in
-    plain-step greeting (chunk ++ rest) (whole piece, length chunk) reply stands.0 (hello-answer piece.kind piece.letter piece.body (Ok ack) ack is.heads.stands granted refl)
-    ∙ ap (λ b. joined reply nothing_more (plain (greeted_with greeting ack) b)) stands.1
+    let reply = reply_with (greeted_with hello ack) (acknowledge.canon ack) None in
+    plain-step greeting (chunk ++ rest) (whole piece, length chunk) reply stands.0 (hello-answer piece.kind piece.letter piece.body hello ack is.heads.stands reads grants)
+    ∙ ap (λ b. joined reply nothing_more (plain (greeted_with hello ack) b)) stands.1
 
 pub acknowledged : (chunk rest : List ℕ) (piece : Piece) (hello : HelloNumbers) (ack : Ack) → IsChunk false 65536 piece chunk → hello_at piece.body ≡ Ok hello → ack_of hello ≡ Ok ack
-    → IsPartial true ack.receive_size rest → Plainly (chunk ++ rest) (acknowledge.canon ack) EndOfInput
+    → IsPartial true ack.receive_size rest → Plainly (chunk ++ rest) [] (acknowledge.canon ack) EndOfInput
 acknowledged chunk rest piece hello ack is reads grants short =
-    let reply = reply_with (greeted_with greeting ack) (acknowledge.canon ack) None in
-    let all = greeted chunk rest piece hello ack is reads grants ∙ joined-same reply nothing_more _ _ (plain-short (greeted_with greeting ack) rest (rest-cut true ack.receive_size rest None short)) in
+    let reply = reply_with (greeted_with hello ack) (acknowledge.canon ack) None in
+    let all = greeted chunk rest piece hello ack is reads grants ∙ joined-same reply nothing_more _ _ (plain-short (greeted_with hello ack) rest (rest-cut true ack.receive_size rest None short)) in
     record { out = ap (λ (a : Answer Standing Ending Mark). a.out) all ∙ append-nil (acknowledge.canon ack); ending = ap (λ (a : Answer Standing Ending Mark). a.ending) all }
 
-pub followed : (chunk second rest : List ℕ) (piece later : Piece) (hello : HelloNumbers) (ack : Ack) → IsChunk false 65536 piece chunk → hello_at piece.body ≡ Ok hello → ack_of hello ≡ Ok ack
-    → IsChunk true ack.receive_size later second → Plainly (chunk ++ (second ++ rest)) (acknowledge.canon ack ++ error.canon (code_of TypeInvalid)) (Refused (code_of TypeInvalid))
-followed chunk second rest piece later hello ack is reads grants more =
-    let reply = reply_with (greeted_with greeting ack) (acknowledge.canon ack) None in
-    let standing = greeted_with greeting ack in
-    let stands = chunk-next standing later second rest more in
-    let refused = plain-step standing (second ++ rest) (whole later, length second) (reply_with standing (error.canon (code_of TypeInvalid)) (Some (Ok (Refused (code_of TypeInvalid))))) stands.0
-    (later-refused ack later.kind later.letter later.body more.heads.stands) in
-    let all = greeted chunk (second ++ rest) piece hello ack is reads grants ∙ joined-same reply nothing_more _ _ refused in
+not-granted : (chunk rest : List ℕ) (piece : Piece) (fault : UacpFault) → IsChunk false 65536 piece chunk
+    → answer greeting (whole piece) nothing_more ≡ (reply_with greeting (error.canon (code_of fault)) (Some (Ok (Refused (code_of fault)))), nothing_more)
+    → Plainly (chunk ++ rest) [] (error.canon (code_of fault)) (Refused (code_of fault))
+not-granted chunk rest piece fault is refuses =
+    let stands = chunk-next greeting piece chunk rest is in
+    let all = plain-step greeting (chunk ++ rest) (whole piece, length chunk) (reply_with greeting (error.canon (code_of fault)) (Some (Ok (Refused (code_of fault))))) stands.0 refuses in
     record { out = ap (λ (a : Answer Standing Ending Mark). a.out) all; ending = ap (λ (a : Answer Standing Ending Mark). a.ending) all }
 
-pub ungranted : (chunk rest : List ℕ) (piece : Piece) (fault : UacpFault) → IsChunk false 65536 piece chunk → ack_or (hello_at piece.body) ≡ Err fault
-    → Plainly (chunk ++ rest) (error.canon (code_of fault)) (Refused (code_of fault))
-ungranted chunk rest piece fault is refuses =
-    let stands = chunk-next greeting piece chunk rest is in
-    let all = plain-step greeting (chunk ++ rest) (whole piece, length chunk) (reply_with greeting (error.canon (code_of fault)) (Some (Ok (Refused (code_of fault))))) stands.0
-    (hello-refused piece.kind piece.letter piece.body (Err fault) fault is.heads.stands refuses refl) in
-    record { out = ap (λ (a : Answer Standing Ending Mark). a.out) all; ending = ap (λ (a : Answer Standing Ending Mark). a.ending) all }
+pub malformed : (chunk rest : List ℕ) (piece : Piece) (fault : UacpFault) → IsChunk false 65536 piece chunk → hello_at piece.body ≡ Err fault
+    → Plainly (chunk ++ rest) [] (error.canon (code_of fault)) (Refused (code_of fault))
+malformed chunk rest piece fault is reads = not-granted chunk rest piece fault is (hello-malformed piece.kind piece.letter piece.body fault is.heads.stands reads)
+
+pub ungranted : (chunk rest : List ℕ) (piece : Piece) (hello : HelloNumbers) (fault : UacpFault) → IsChunk false 65536 piece chunk → hello_at piece.body ≡ Ok hello → ack_of hello ≡ Err fault
+    → Plainly (chunk ++ rest) [] (error.canon (code_of fault)) (Refused (code_of fault))
+ungranted chunk rest piece hello fault is reads grants = not-granted chunk rest piece fault is (hello-refused piece.kind piece.letter piece.body hello fault is.heads.stands reads grants)
 
 pub item-by-item : (standing : Standing) (bytes : List ℕ) (outside : Outside Mark) → answered chunks standing bytes outside ≡ stepped (answered chunks) chunks standing bytes outside (next standing bytes)
 item-by-item standing bytes outside = answered-step chunks falls standing bytes outside

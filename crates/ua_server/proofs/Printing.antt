@@ -1,6 +1,7 @@
 -- A line is printed in two writes.
-use Rattle.std.proofs.Common.{◌≡◌, ℕ, ℤ, Bool, true, List, [], ◌++◌, Some, None, Ok, Err, IfErr, OnErr, refl, sym, ◌∙◌, ap, subst, inl, append_assoc, IsUtf8}
+use Rattle.std.proofs.Common.{◌≡◌, ℕ, ℤ, Bool, true, false, List, [], ◌++◌, Some, None, Ok, Err, IfErr, OnErr, refl, sym, ◌∙◌, ap, subst, inl, append_assoc, IsUtf8}
 use Rattle.std.proofs.lemmas.List.{append-nil}
+use Rattle.hex.specs.Hex.{encode_upper}
 use Rattle.clap.specs.Words.{Row, Text}
 use Rattle.std.specs.Prelude.{Option, Result}
 use Rattle.std.specs.Io.KnownBytes.{Appends, Consumes, IsAtEnd}
@@ -11,12 +12,14 @@ use Rattle.ua_server.specs.declared.outcome.ServeFault.TheVariants.{Read, Write,
 use Rattle.ua_server.specs.declared.outcome.Served.{Served}
 use Rattle.ua_server.specs.declared.hexed.HexFault.{HexFault}
 use Rattle.ua_server.specs.declared.hexed.HexFault.TheVariants.{Serve}
-use Rattle.ua_server.specs.declared.program.ProgramFault.TheVariants.{Connection}
+use Rattle.ua_server.specs.declared.program.ProgramFault.{ProgramFault}
+use Rattle.ua_server.specs.declared.program.ProgramFault.TheVariants.{Line, BadHex, Connection}
+use Rattle.ua_server.specs.declared.line.Line.TheVariants.{Answer}
 use Rattle.ua_server.specs.declared.line.LineFault.{LineFault}
 use Rattle.ua_server.specs.declared.line.LineFault.TheVariants.{Words, OutOfMemory as NoMemory}
-use Rattle.ua_server.specs.Line.{IsNoCommand}
+use Rattle.ua_server.specs.Line.{IsLine, IsNoCommand}
 use Rattle.ua_server.specs.Hexed.{AnswersText, AnswersHex}
-use Rattle.ua_server.specs.Program.{IsUnmade, IsBadText, IsRefused}
+use Rattle.ua_server.specs.Program.{AnswersDigits, IsUnmade, IsBadText, IsRefused, DoesAnswer, DoesLine, Runs}
 
 -- the first write failed
 pub part-first : (old written : Option (List ℕ)) (first second : List ℕ) → AppendsPart old written first → AppendsPart old written (first ++ second)
@@ -69,6 +72,42 @@ made-connection known left text bytes readings old new result fault read over sa
     let Q : List ℕ → Type 0 = λ t. AnswersHex t readings old new (Err (Serve fault)) in
     unmade known left bytes readings old new fault read over (subst Q same (subst P is so))
 
+-- the digits that were made
+made : (known left : Option (List ℕ)) (bytes : List ℕ) (readings : List ℤ) (old new : List ℕ) (served : Served) → Consumes known left bytes → IsAtEnd left → old ≡ []
+    → AnswersHex bytes readings old new (Ok served) → AnswersDigits known readings new
+made None left bytes readings old new served read over empty so = tt
+made (Some text) None bytes readings old new served read over empty so = absurd read
+made (Some text) (Some rest) bytes readings old new served read over empty so =
+    let P : List ℕ → Type 0 = λ t. AnswersText t readings so.0 (Ok served) in
+    (so.0, served, subst P (whole-text text rest bytes read over) so.1, so.2 ∙ ap (λ (front : List ℕ). front ++ encode_upper so.0) empty)
+
+pub made-digits : (known left : Option (List ℕ)) (text bytes : List ℕ) (readings : List ℤ) (old new : List ℕ) (result : Result Served HexFault) (served : Served) → Consumes known left bytes → IsAtEnd left
+    → text ≡ bytes → old ≡ [] → result ≡ Ok served → AnswersHex text readings old new result → AnswersDigits known readings new
+made-digits known left text bytes readings old new result served read over same empty is so =
+    let P : Result Served HexFault → Type 0 = AnswersHex text readings old new in
+    let Q : List ℕ → Type 0 = λ t. AnswersHex t readings old new (Ok served) in
+    made known left bytes readings old new served read over empty (subst Q same (subst P is so))
+
 pub line-refused : (taken : Bool) (matches : Option (Text × List Row)) (fault : LineFault) → (fault ≡ Words → taken ≡ true → IsNoCommand matches) → IsRefused taken matches fault
 line-refused taken matches Words told = told refl
 line-refused taken matches NoMemory told = tt
+
+-- ---- what a command does
+
+no_line : (hex : Bool) (input old written : Option (List ℕ)) (readings : List ℤ) (fault : LineFault) → DoesAnswer hex input old written readings (Err (Line fault)) → ⊥
+no_line false input old written readings fault so = so
+no_line true input old written readings fault so = so
+
+answers-line : (hex : Bool) (now : Option ℤ) (input old written : Option (List ℕ)) (readings : List ℤ) (fault : LineFault) → DoesLine (Answer hex now) input old written readings (Err (Line fault)) → ⊥
+answers-line hex None input old written readings fault so = no_line hex input old written readings fault so
+answers-line hex (Some now) input old written readings fault so = no_line hex input old written so.1.0 fault so.1.2
+
+-- a command that a line names
+pub line-done : (taken : Bool) (matches : Option (Text × List Row)) (hex : Bool) (now : Option ℤ) (input old written : Option (List ℕ)) (readings : List ℤ) (result : Result (Unit {0}) ProgramFault)
+    → IsLine matches (Answer hex now) → DoesLine (Answer hex now) input old written readings result → Runs taken matches input old written readings result
+line-done taken matches hex now input old written readings (Ok done) is so = (Answer hex now, is, so)
+line-done taken matches hex now input old written readings (Err (Line fault)) is so = absurd (answers-line hex now input old written readings fault so)
+line-done taken matches hex now input old written readings (Err BadHex) is so = (Answer hex now, is, so)
+line-done taken matches hex now input old written readings (Err (Connection fault)) is so = (Answer hex now, is, so)
+
+pub ruleset lines = (line-done)

@@ -99,21 +99,14 @@ answers-then {C} {X} {E} {M} p start input readings written state rest more repl
       ∙ joined-after written reply reply.ending state (before second.used more later) later (answered p reply.state left later);
 }
 
--- where a reply ends the stream, it is the whole answer
-pub answers-whole : {C X E M : Type 0} (p : Protocol C X E M) (start : C) (input : List ℕ) (readings : List ℤ) (out : List ℕ) (ending : E) (state : C) (rest : List ℕ)
-    (so : Answers p start input readings (record { out = out; ending = Some ending; state = state }) rest)
-    → answered p start input (record { marks = so.used; readings = readings }) ≡ record { out = out; ending = ending; state = state; left = nothing_more }
-answers-whole p start input readings out ending state rest so = ap (λ o. answered p start input o) (sym (before-nothing so.used readings)) ∙ so.goes nothing_more
-
 rest_of : {C E M : Type 0} (out sent unsent : List ℕ) (o : Option E) (state : C) (outside : Outside M) (later : Answer C E M) → out ≡ sent ++ unsent → (left : List ℕ) × ((joined_by out state outside later o).out ≡ sent ++ left)
 rest_of out sent unsent (Some e) state outside later cut = (unsent, cut)
 rest_of out sent unsent None state outside later cut = (unsent ++ later.out, ap (λ b. b ++ later.out) cut ∙ append_assoc sent unsent later.out)
 
--- a first part of a reply is a first part of the whole answer
+-- a first part of a reply is a first part of the whole answer, whatever the outside gives later
 pub answers-part : {C X E M : Type 0} (p : Protocol C X E M) (start : C) (input : List ℕ) (readings : List ℤ) (reply : Reply C E) (rest sent unsent : List ℕ)
-    (so : Answers p start input readings reply rest) → reply.out ≡ sent ++ unsent
-    → (left : List ℕ) × ((answered p start input (record { marks = so.used; readings = readings })).out ≡ sent ++ left)
-answers-part {C} {X} {E} {M} p start input readings reply rest sent unsent so cut =
-    let part = rest_of reply.out sent unsent reply.ending reply.state nothing_more (answered p reply.state rest nothing_more) cut in
-    let now = ap (λ o. answered p start input o) (sym (before-nothing so.used readings)) ∙ so.goes nothing_more in
-    (part.0, ap (λ (a : Answer C E M). a.out) now ∙ part.1)
+    (so : Answers p start input readings reply rest) → reply.out ≡ sent ++ unsent → (later : Outside M)
+    → (left : List ℕ) × ((answered p start input (before so.used readings later)).out ≡ sent ++ left)
+answers-part {C} {X} {E} {M} p start input readings reply rest sent unsent so cut later =
+    let part = rest_of reply.out sent unsent reply.ending reply.state later (answered p reply.state rest later) cut in
+    (part.0, ap (λ (a : Answer C E M). a.out) (so.goes later) ∙ part.1)

@@ -3,6 +3,9 @@ pub mod Bytes
 pub mod Outcome
 pub mod Readings
 pub mod Run
+pub mod Marks
+pub mod Requests
+pub mod Granted
 pub mod Replies
 pub mod Turns
 pub mod Serving

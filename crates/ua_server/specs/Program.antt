@@ -9,6 +9,7 @@ use Rattle.ua_server.specs.declared.program.ProgramFault.{ProgramFault}
 use Rattle.ua_server.specs.declared.program.ProgramFault.TheVariants.{Line, BadHex, Connection}
 use Rattle.ua_server.specs.Bytes.{AppendsPart, counted}
 use Rattle.ua_server.specs.Tally.{Tally}
+use Rattle.ua_server.specs.Readings.{AllAre}
 use Rattle.ua_server.specs.Replies.{Ending}
 use Rattle.ua_server.specs.Hexed.{AnswersText, digits_of}
 use Rattle.ua_server.specs.Serving.{Serves}
@@ -30,7 +31,7 @@ status_of (Err fault) = fault_status fault
 
 -- the text that tells a refused command line
 abbrev pub line_text_of : LineFault → List ℕ
-line_text_of Words = codes "usage: uahist answer [--hex]"
+line_text_of Words = codes "usage: uahist answer [--hex] [--now N]"
 line_text_of NoMemory = codes "memory ran out before the command began"
 
 -- the text that tells a fault
@@ -98,10 +99,15 @@ PrintsHex input old written readings (Err (Connection Write)) = (digits : List �
 PrintsHex input old written readings (Err (Connection TooLong)) = IsTooLong input readings × (written ≡ old)
 PrintsHex input old written readings (Err (Connection OutOfMemory)) = written ≡ old
 
--- what each command does
+-- one connection is answered, in hex digits or in bytes
+abbrev pub DoesAnswer : Bool → Option (List ℕ) → Option (List ℕ) → Option (List ℕ) → List ℤ → Result (Unit {0}) ProgramFault → Type 0
+DoesAnswer false input old written readings result = EndsAs (Serves input old written readings) result
+DoesAnswer true input old written readings result = PrintsHex input old written readings result
+
+-- what each command does, by the readings of the clock; a moment that is given stands for each of them
 abbrev pub DoesLine : CommandLine → Option (List ℕ) → Option (List ℕ) → Option (List ℕ) → List ℤ → Result (Unit {0}) ProgramFault → Type 0
-DoesLine (Answer false) input old written readings result = EndsAs (Serves input old written readings) result
-DoesLine (Answer true) input old written readings result = PrintsHex input old written readings result
+DoesLine (Answer hex None) input old written readings result = DoesAnswer hex input old written readings result
+DoesLine (Answer hex (Some now)) input old written readings result = (readings ≡ []) × ((given : List ℤ) × AllAre now given × DoesAnswer hex input old written given result)
 
 -- what the command does that the matches name
 abbrev pub DoesMatches : Option (Text × List Row) → Option (List ℕ) → Option (List ℕ) → Option (List ℕ) → List ℤ → Result (Unit {0}) ProgramFault → Type 0

@@ -1,27 +1,21 @@
--- What a connection is answered (Part 6, 7.1): a Hello is acknowledged, and what follows it is refused.
+-- What a connection is answered: chunk after chunk, as far as the stream goes (Part 6, 7.1 and 6.7).
 use Rattle.std.specs.Prelude.{ℕ, ℤ, ◌+◌, ◌==◌, cond, Bool, true, false, List, [], ◌∷◌, take, drop, length, Option, None, Some, Result, Ok, Err}
 use Rattle.uacp.specs.declared.types.Header.{Header}
-use Rattle.uacp.specs.declared.types.Kind.{Kind}
-use Rattle.uacp.specs.declared.types.Kind.TheVariants.{Hello, Open, Close, Message}
 use Rattle.uacp.specs.declared.types.UacpFault.{UacpFault}
-use Rattle.uacp.specs.declared.types.UacpFault.TheVariants.{TypeInvalid, OutOfMemory}
-use Rattle.uacp.specs.declared.greeting.Hello.{Hello as HelloNumbers}
-use Rattle.uacp.specs.declared.greeting.Ack.{Ack}
+use Rattle.uacp.specs.declared.types.UacpFault.TheVariants.{OutOfMemory}
 use Rattle.uacp.specs.Stream.{Piece}
 use Rattle.uacp.specs.Chunks.{cut}
-use Rattle.uacp.specs.Greeting.{hello_at, ack_of, acknowledge, error}
+use Rattle.uacp.specs.Greeting.{error}
 use Rattle.uacp.specs.Fault.{code_of}
+use Rattle.ua_channel.specs.Taking.{State}
 use Rattle.ua_server.specs.declared.outcome.Served.{Served}
-use Rattle.ua_server.specs.declared.outcome.Served.TheVariants.{EndOfInput, Refused}
+use Rattle.ua_server.specs.declared.outcome.Served.TheVariants.{EndOfInput, Closed, Refused}
 use Rattle.ua_server.specs.declared.outcome.ServeFault.{ServeFault}
 use Rattle.ua_server.specs.declared.outcome.ServeFault.TheVariants.{TooLong, OutOfMemory as Starved}
 use Rattle.ua_server.specs.declared.connection.Connection.{Connection}
-use Rattle.ua_server.specs.Run.{Outside, Reply, Answer, Marked, Protocol, answered}
-
--- what the outside makes of one step of the answering: memory is there, or wanting
-pub data Mark : Type 0 where
-  fine : Mark
-  no_memory : Mark
+use Rattle.ua_server.specs.Run.{Reply, Answer, Marked, Protocol, answered}
+use Rattle.ua_server.specs.Marks.{Mark, made, give, then}
+use Rattle.ua_server.specs.Granted.{Granted, goes, closed, refused, starved, granted}
 
 -- how a connection stands between two chunks: whether it was greeted, the greatest size of a chunk, and what the layers above know
 pub record Standing : Type 0 where
@@ -41,24 +35,6 @@ Ending = Result Served ServeFault
 abbrev pub Answering : Type 0
 Answering = Marked Mark (Reply Standing Ending)
 
--- ---- steps
-
-abbrev pub made_by : {A : Type 0} → Marked Mark A → Marked Mark A → List Mark → List ℤ → (A × Outside Mark)
-made_by went starved [] readings = went (record { marks = []; readings = readings })
-made_by went starved (fine ∷ marks) readings = went (record { marks = marks; readings = readings })
-made_by went starved (no_memory ∷ marks) readings = starved (record { marks = marks; readings = readings })
-
--- a step that takes memory: the first where memory is there, the second where it is wanting
-abbrev pub made : {A : Type 0} → Marked Mark A → Marked Mark A → Marked Mark A
-made went starved outside = made_by went starved outside.marks outside.readings
-
-abbrev pub give : {A : Type 0} → A → Marked Mark A
-give a outside = (a, outside)
-
--- one step, and then what its value leads to
-abbrev pub then : {A B : Type 0} → Marked Mark A → (A → Marked Mark B) → Marked Mark B
-then first more outside = let a = first outside in more a.0 a.1
-
 abbrev pub reply_with : Standing → List ℕ → Option Ending → Reply Standing Ending
 reply_with standing out ending = record { out = out; ending = ending; state = standing }
 
@@ -70,32 +46,22 @@ refuse standing code = made
 
 -- ---- chunks
 
--- an Acknowledge is made
-abbrev pub make_ack : Result Ack UacpFault → Marked Mark (Result Ack UacpFault)
-make_ack (Err fault) = give (Err fault)
-make_ack (Ok ack) = made (give (Ok ack)) (give (Err OutOfMemory))
+abbrev pub limit_or : ℕ → Option ℕ → ℕ
+limit_or limit None = limit
+limit_or limit (Some new) = new
 
-abbrev pub ack_or : Result HelloNumbers UacpFault → Result Ack UacpFault
-ack_or (Err fault) = Err fault
-ack_or (Ok hello) = ack_of hello
+-- after one chunk more
+abbrev pub gone : Standing → Option ℕ → Option State → Standing
+gone standing limit channel = record { greeted = true; limit = limit_or standing.limit limit; connection = record { channel = channel; taken = standing.connection.taken + 1 } }
 
--- what a chunk is granted: a Hello its Acknowledge, others nothing
-abbrev pub granted : Kind → List ℕ → Marked Mark (Result Ack UacpFault)
-granted Hello body = make_ack (ack_or (hello_at body))
-granted Open body = give (Err TypeInvalid)
-granted Close body = give (Err TypeInvalid)
-granted Message body = give (Err TypeInvalid)
-
--- after a chunk that was acknowledged
-abbrev pub greeted_with : Standing → Ack → Standing
-greeted_with standing ack = record { greeted = true; limit = ack.receive_size; connection = record { ack = Some ack; taken = standing.connection.taken + 1 } }
-
-abbrev pub concluded : Standing → Result Ack UacpFault → Answering
-concluded standing (Ok ack) = give (reply_with (greeted_with standing ack) (acknowledge.canon ack) None)
-concluded standing (Err fault) = refuse standing (code_of fault)
+abbrev pub concluded : Standing → Granted → Answering
+concluded standing (goes out limit channel) = give (reply_with (gone standing limit channel) out None)
+concluded standing closed = give (reply_with standing [] (Some (Ok Closed)))
+concluded standing (refused code) = refuse standing code
+concluded standing starved = give (reply_with standing [] (Some (Err Starved)))
 
 abbrev pub answer_piece : Standing → Piece → Answering
-answer_piece standing piece = then (granted piece.kind piece.body) (concluded standing)
+answer_piece standing piece = then (granted standing.connection.channel piece) (concluded standing)
 
 -- 1,000,000 chunks are answered and no more
 abbrev pub answer_taken : Standing → Item → Answering
@@ -124,7 +90,7 @@ chunks = record { next = next; answer = answer; at_end = Ok EndOfInput }
 
 -- before the first chunk
 abbrev pub greeting : Standing
-greeting = record { greeted = false; limit = 65536; connection = record { ack = None; taken = 0 } }
+greeting = record { greeted = false; limit = 65536; connection = record { channel = None; taken = 0 } }
 
 -- the whole answer to a connection's bytes, by the clock's readings and the marks of the steps
 abbrev pub replies : List ℕ → List ℤ → List Mark → Answer Standing Ending Mark

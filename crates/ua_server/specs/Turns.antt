@@ -3,22 +3,23 @@ use Rattle.std.specs.Prelude.{◌≡◌, ◌≤◌, ◌<◌, ◌+◌, ◌*◌, �
 use Rattle.std.specs.Io.KnownBytes.{Appends}
 use Rattle.ua_server.specs.Bytes.{AppendsPart}
 use Rattle.uacp.specs.Held.{Held}
-use Rattle.uacp.specs.declared.types.UacpFault.{UacpFault}
-use Rattle.uacp.specs.declared.greeting.Ack.{Ack}
-use Rattle.uacp.specs.Greeting.{acknowledge, error}
-use Rattle.uacp.specs.Fault.{code_of}
+use Rattle.uacp.specs.Greeting.{error}
 use Rattle.uacp.specs.Chunks.{cut}
+use Rattle.ua_channel.specs.Taking.{State}
 use Rattle.ua_server.specs.declared.outcome.Served.{Served}
-use Rattle.ua_server.specs.declared.outcome.Served.TheVariants.{Refused}
+use Rattle.ua_server.specs.declared.outcome.Served.TheVariants.{Closed, Refused}
 use Rattle.ua_server.specs.declared.outcome.ServeFault.{ServeFault}
 use Rattle.ua_server.specs.declared.outcome.ServeFault.TheVariants.{Read, Write, TooLong, OutOfMemory}
 use Rattle.ua_server.specs.declared.connection.Connection.{Connection}
+use Rattle.ua_server.specs.declared.granting.Grant.{Grant}
+use Rattle.ua_server.specs.declared.granting.Grant.TheVariants as grant
 use Rattle.ua_server.specs.declared.connection.Taken.{Taken}
-use Rattle.ua_server.specs.declared.connection.Taken.TheVariants.{Nothing, TooMany, Granted, Faulty}
+use Rattle.ua_server.specs.declared.connection.Taken.TheVariants.{Nothing, TooMany, Came}
 use Rattle.ua_server.specs.declared.connection.Turn.{Turn}
 use Rattle.ua_server.specs.declared.connection.Turn.TheVariants.{Waits, Goes, Ends}
 use Rattle.ua_server.specs.Run.{Reply, Answers}
-use Rattle.ua_server.specs.Replies.{Standing, Ending, chunks, greeted_with, reply_with}
+use Rattle.ua_server.specs.Granted.{Granted, goes, closed, refused, starved}
+use Rattle.ua_server.specs.Replies.{Standing, Ending, chunks, gone, reply_with}
 
 abbrev pub sees : Held → Connection → Standing
 sees held connection = record { greeted = held.greeted; limit = held.limit; connection = connection }
@@ -49,17 +50,45 @@ Refuses code out (Err fault) = (fault ≡ OutOfMemory) × (out ≡ [])
 abbrev pub EndsRefused : Standing → List ℕ → List ℤ → ℕ → Type 0
 EndsRefused standing bytes readings code = (out : List ℕ) (ending : Ending) → Refuses code out ending → EndsSo standing bytes readings out ending
 
--- an Acknowledge was made, or nothing
-abbrev pub Makes : List ℕ → Result Ack UacpFault → Type 0
-Makes out (Ok ack) = out ≡ acknowledge.canon ack
-Makes out (Err fault) = out ≡ []
+-- ---- what a chunk was granted
+
+-- by what is told of it, the bytes that were made, and the channel after it
+abbrev pub granted_as : Grant → List ℕ → Option State → Granted
+granted_as (grant.Greeted limit) out channel = goes out (Some limit) channel
+granted_as grant.Answered out channel = goes out None channel
+granted_as grant.Closed out channel = closed
+granted_as (grant.Refused code) out channel = refused code
+granted_as grant.Starved out channel = starved
+
+-- nothing is made but an answer
+abbrev pub IsClean : Grant → List ℕ → Type 0
+IsClean (grant.Greeted limit) out = Unit {0}
+IsClean grant.Answered out = Unit {0}
+IsClean grant.Closed out = out ≡ []
+IsClean (grant.Refused code) out = out ≡ []
+IsClean grant.Starved out = out ≡ []
+
+-- chunks of at most 65,536 bytes are granted
+abbrev pub IsSmall : Grant → Type 0
+IsSmall (grant.Greeted limit) = limit ≤ 65536
+IsSmall grant.Answered = Unit {0}
+IsSmall grant.Closed = Unit {0}
+IsSmall (grant.Refused code) = Unit {0}
+IsSmall grant.Starved = Unit {0}
+
+-- a chunk that was granted this is answered so, and leaves the rest
+abbrev pub Grants : Standing → List ℕ → List ℤ → List ℕ → Grant → Option State → List ℕ → Type 0
+Grants standing bytes readings out (grant.Greeted limit) channel rest = AnswersSo standing bytes readings out (gone standing (Some limit) channel) rest
+Grants standing bytes readings out grant.Answered channel rest = AnswersSo standing bytes readings out (gone standing None channel) rest
+Grants standing bytes readings out grant.Closed channel rest = (out ≡ []) × EndsSo standing bytes readings [] (Ok Closed)
+Grants standing bytes readings out (grant.Refused code) channel rest = (out ≡ []) × EndsRefused standing bytes readings code
+Grants standing bytes readings out grant.Starved channel rest = (out ≡ []) × EndsSo standing bytes readings [] (Err OutOfMemory)
 
 -- what stands first was taken and granted something, or not
-abbrev pub Takes : Standing → List ℕ → List ℤ → List ℕ → Taken → List ℕ → Type 0
-Takes standing bytes readings out Nothing rest = IsShort standing bytes × (out ≡ []) × (rest ≡ bytes) × (readings ≡ [])
-Takes standing bytes readings out TooMany rest = (out ≡ []) × EndsSo standing bytes readings [] (Err TooLong)
-Takes standing bytes readings out (Granted ack) rest = AnswersSo standing bytes readings out (greeted_with standing ack) rest
-Takes standing bytes readings out (Faulty fault) rest = (out ≡ []) × EndsRefused standing bytes readings (code_of fault)
+abbrev pub Takes : Standing → List ℕ → List ℤ → List ℕ → Taken → Option State → List ℕ → Type 0
+Takes standing bytes readings out Nothing channel rest = IsShort standing bytes × (out ≡ []) × (rest ≡ bytes) × (readings ≡ []) × (channel ≡ standing.connection.channel)
+Takes standing bytes readings out TooMany channel rest = (out ≡ []) × EndsSo standing bytes readings [] (Err TooLong)
+Takes standing bytes readings out (Came grant) channel rest = Grants standing bytes readings out grant channel rest
 
 -- what one turn came to
 abbrev pub Turned : Standing → List ℕ → List ℤ → List ℕ → Result Turn ServeFault → Standing → List ℕ → Type 0
@@ -105,12 +134,18 @@ KeepsWhole Waits held = held.failed ≡ None
 KeepsWhole Goes held = held.failed ≡ None
 KeepsWhole (Ends served) held = Unit {0}
 
--- one more chunk may be taken, and an acknowledged size is at most 65,536
+-- a chunk that goes on is no chunk too many, and grants chunks of at most 65,536 bytes
+abbrev pub IsCountedChunk : ℕ → Grant → Type 0
+IsCountedChunk taken (grant.Greeted limit) = (taken < 1000000) × (limit ≤ 65536)
+IsCountedChunk taken grant.Answered = taken < 1000000
+IsCountedChunk taken grant.Closed = Unit {0}
+IsCountedChunk taken (grant.Refused code) = Unit {0}
+IsCountedChunk taken grant.Starved = Unit {0}
+
 abbrev pub IsCounted : ℕ → Taken → Type 0
 IsCounted taken Nothing = Unit {0}
 IsCounted taken TooMany = Unit {0}
-IsCounted taken (Granted ack) = (taken < 1000000) × (ack.receive_size ≤ 65536)
-IsCounted taken (Faulty fault) = Unit {0}
+IsCounted taken (Came grant) = IsCountedChunk taken grant
 
 -- fewer bytes wait, by one chunk, which has at most 65,536
 abbrev pub IsChunkLess : List ℕ → List ℕ → Type 0
@@ -119,15 +154,23 @@ IsChunkLess old new = (length new < length old) × (length old ≤ length new + 
 -- a chunk was given out of the intake
 pub record GivesOne (old new : Held) : Type 0 where
   pub greeted : new.greeted ≡ true
+  pub limit : new.limit ≡ old.limit
   pub failed : new.failed ≡ None
   pub less : IsChunkLess old.waiting new.waiting
+
+-- after a chunk that goes on
+abbrev pub LeavesOne : Grant → Held → Held → Type 0
+LeavesOne (grant.Greeted limit) old new = GivesOne old new
+LeavesOne grant.Answered old new = GivesOne old new
+LeavesOne grant.Closed old new = Unit {0}
+LeavesOne (grant.Refused code) old new = Unit {0}
+LeavesOne grant.Starved old new = Unit {0}
 
 -- what is left in the intake
 abbrev pub Leaves : Taken → Held → Held → Type 0
 Leaves Nothing old new = new ≡ old
 Leaves TooMany old new = Unit {0}
-Leaves (Granted ack) old new = GivesOne old new
-Leaves (Faulty fault) old new = Unit {0}
+Leaves (Came grant) old new = LeavesOne grant old new
 
 -- a turn that goes on leaves a chunk less
 abbrev pub Shortens : Turn → List ℕ → List ℕ → Type 0

@@ -1,8 +1,11 @@
 //! Clocks.
 
-ghost use Rattle.std.specs.Prelude.{◌≡◌, ◌∷◌, ◌++◌, [], List, ℤ};
+ghost use Rattle.std.specs.Prelude.{◌≡◌, ◌+◌, ◌-◌, ◌/◌, ◌^◌, min, pos, ◌∷◌, ◌++◌, [], List, ℤ};
+ghost use Rattle.std.specs.Duration.{as_nanos};
 ghost use Rattle.std.proofs.Common.{refl, ◌∙◌, subst, sym};
 ghost use Rattle.ua_server.specs.Readings.{AllAre, AllAre-append};
+
+use std::time::{Clock as TimeSource, Duration, SystemTime};
 
 /// What gives the time, in ticks of 100 nanoseconds since 1601-01-01 00:00 UTC (Part 6, 5.2.2.5).
 pub trait Clock {
@@ -16,6 +19,50 @@ pub trait Clock {
     ghost gave_none: { (clock : Self) → gave clock [] clock };
 
     ghost gave_more: { (a b c : Self) (xs ys : List ℤ) → gave a xs b → gave b ys c → gave a (xs ++ ys) c };
+}
+
+/// The Unix epoch, 1970-01-01 00:00 UTC.
+const EPOCH: i64 = 116_444_736_000_000_000;
+
+/// The moment so long after the Unix epoch, at most 2^63 - 1.
+fn after_epoch(since: Duration) -> i64
+    ensures { result ≡ pos (min (116444736000000000 + as_nanos since / 100) (2 ^ 63 - 1)) }
+{
+    match i64::try_from(since.as_nanos() / 100) {
+        Ok(ticks) => EPOCH.saturating_add(ticks),
+        Err(_) => i64::MAX,
+    }
+}
+
+/// The system's clock. Before 1970, and where it can't be read, it is the Unix epoch. Nothing is promised of its readings.
+#[derive(Clone, Copy)]
+pub struct SystemClock<'a, T> {
+    source: &'a T,
+}
+
+impl<'a, T: TimeSource> SystemClock<'a, T> {
+    /// The clock of this runtime.
+    pub fn new(source: &'a T) -> Self {
+        SystemClock { source }
+    }
+}
+
+impl<T: TimeSource> Clock for SystemClock<'_, T> {
+    ghost gave = { λ a xs b. Unit };
+
+    ghost gave_none = { λ a. tt };
+
+    ghost gave_more = { λ a b c xs ys p q. tt };
+
+    fn now(&mut self) -> i64 {
+        let Ok(now) = SystemTime::now(self.source) else {
+            return EPOCH;
+        };
+        match now.duration_since(SystemTime::UNIX_EPOCH) {
+            Ok(since) => after_epoch(since),
+            Err(_) => EPOCH,
+        }
+    }
 }
 
 /// A clock that stands still: each reading is this one.

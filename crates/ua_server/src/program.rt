@@ -4,12 +4,12 @@ ghost use Rattle.std.specs.Prelude.{◌≡◌, ◌+◌, ℕ, ℤ, List, [], ◌�
 ghost use Rattle.std.specs.Io.KnownBytes.{Appends, Consumes, IsAtEnd};
 ghost use Rattle.ua_server.specs.Bytes.{counted, AppendsPart};
 ghost use Rattle.ua_server.specs.Serving.{Serves};
-ghost use Rattle.ua_server.specs.Program.{status_of, EndsAs, AnswersDigits, MakesDigits, PrintsHex, Runs, IsTold, error_line};
+ghost use Rattle.ua_server.specs.Program.{status_of, EndsAs, AnswersDigits, MakesDigits, PrintsHex, DoesAnswer, DoesLine, Runs, IsTold, error_line};
 ghost use Rattle.clap.specs.Words.{subcommand_of};
 ghost use Rattle.clap.specs.Takes.{takes};
 ghost use Rattle.ua_server.specs.Line.{uahist};
 
-use crate::clock::Clock;
+use crate::clock::{Clock, ConstantClock};
 use crate::counted::Counted;
 use crate::hexed::{HexFault, answer_hex};
 use crate::line::{Line, LineFault, read_line};
@@ -165,10 +165,49 @@ fn answer_in_hex<R: Read, W: Write, C: Clock>(
     }
 }
 
-/// Does what a command line asks for.
+/// Answers one connection, in hex digits or in bytes.
+fn answer_either<R: Read, W: Write, C: Clock>(
+    alloc: Global,
+    hex: bool,
+    input: &mut Counted<R>,
+    output: &mut Counted<W>,
+    clock: &mut C,
+) -> Result<(), ProgramFault>
+    ensures read { IsErrOf result (ProgramFault.Connection ServeFault.Read) → input.new.faults ≡ counted input.old.faults }
+    ensures write { IsErrOf result (ProgramFault.Connection ServeFault.Write) → output.new.faults ≡ counted output.old.faults }
+    ensures does { (readings : List ℤ) × C.gave clock.old readings clock.new × DoesAnswer hex (R.remaining input.old.inner) (W.contents output.old.inner) (W.contents output.new.inner) readings result }
+{
+    if hex {
+        answer_in_hex(alloc, input, output, clock)
+    } else {
+        answer(alloc, input, output, clock)
+    }
+}
+
+/// Answers one connection. Where a moment is given the clock isn't read, and stands at that.
+fn answer_at<R: Read, W: Write, C: Clock>(
+    alloc: Global,
+    hex: bool,
+    now: Option<i64>,
+    input: &mut Counted<R>,
+    output: &mut Counted<W>,
+    clock: &mut C,
+) -> Result<(), ProgramFault>
+    ensures read { IsErrOf result (ProgramFault.Connection ServeFault.Read) → input.new.faults ≡ counted input.old.faults }
+    ensures write { IsErrOf result (ProgramFault.Connection ServeFault.Write) → output.new.faults ≡ counted output.old.faults }
+    ensures does { (readings : List ℤ) × C.gave clock.old readings clock.new × DoesLine (Line.Answer hex now) (R.remaining input.old.inner) (W.contents output.old.inner) (W.contents output.new.inner) readings result }
+{
+    match now {
+        None => answer_either(alloc, hex, input, output, clock),
+        Some(now) => answer_either(alloc, hex, input, output, &mut ConstantClock(now)),
+    }
+}
+
+/// Does what a command line asks for. Where that gives a moment, the clock isn't read.
 ///
 /// Errors: `Line` where the words are no command, `BadHex` where the input is to be hex and isn't, `Connection` where the
 /// connection met a fault; what went out before it stands.
+#[tactic(auto, using(crate::proofs::Printing::lines))]
 pub fn run<S: AsStr, R: Read, W: Write, C: Clock>(
     alloc: Global,
     words: &[S],
@@ -182,8 +221,7 @@ pub fn run<S: AsStr, R: Read, W: Write, C: Clock>(
         × Runs (takes uahist (map S.text words.now)) (subcommand_of uahist (map S.text words.now)) (R.remaining input.old.inner) (W.contents output.old.inner) (W.contents output.new.inner) readings result }
 {
     match read_line(alloc, words) {
-        Ok(Line::Answer { hex: false }) => answer(alloc, input, output, clock),
-        Ok(Line::Answer { hex: true }) => answer_in_hex(alloc, input, output, clock),
+        Ok(Line::Answer { hex, now }) => answer_at(alloc, hex, now, input, output, clock),
         Err(fault) => Err(ProgramFault::Line(fault)),
     }
 }

@@ -41,7 +41,7 @@ fn answer_waiting<W: Write, C: Clock>(
 {
     'chunks: loop {
         let mut out = Vec::new(alloc);
-        match next_answer(clock, intake, connection, &mut out) {
+        match next_answer(alloc, clock, intake, connection, &mut out) {
             Err(fault) => return Err(fault),
             Ok(Turn::Waits) => return Ok(None),
             Ok(Turn::Goes) => writer.send(out.as_slice())?,
@@ -96,7 +96,7 @@ pub fn serve<R: Read, W: Write, C: Clock>(
 {
     let mut intake = Intake::new(alloc);
     let mut connection = Connection {
-        ack: None,
+        channel: None,
         taken: 0,
     };
     let mut piece = [0u8; PIECE];

@@ -1,15 +1,11 @@
+mod rows;
+
 use super::*;
+use rows::{ACK, ANSWER, HELLO, OPEN, OPENED, PART, REQUEST, REST, ROWS};
 use std::alloc::Global;
 use std::io;
 use std::io::{Read, Write};
 use std::test::Fail;
-
-/// A Hello: receive and send size 65,536, no limits, `opc.tcp://localhost:4840`.
-static HELLO: &str =
-    "48454C46 38000000 00000000 00000100 00000100 00000000 00000000 18000000\r\n6F70632E7463703A2F2F6C6F63616C686F73743A34383430\n";
-
-/// Its Acknowledge: version 0, sizes 65,536, 4,194,304 bytes and 64 chunks a message.
-static ACK: &str = "41434B461C0000000000000000000100000001000000400040000000";
 
 /// Takes one byte a call, and none once it has `room`.
 #[derive(Drop)]
@@ -32,27 +28,42 @@ impl Write for Narrow {
     }
 }
 
-/// Gives one byte a call, and once they are over an error, or the end.
+/// Gives at most `size` bytes a call, and once they are over an error, or the end.
 #[derive(Drop)]
 struct Slow<'a> {
     bytes: &'a [u8],
+    size: usize,
     fails: bool,
 }
 
 impl Read for Slow<'_> {
     fn read(&mut self, buf: &mut [u8]) -> io::Result<usize> {
-        match self.bytes.split_first() {
-            None if self.fails => Err(io::Error::from(io::ErrorKind::BrokenPipe)),
-            None => Ok(0),
-            Some((first, rest)) => {
-                if buf.is_empty() {
-                    return Ok(0);
-                }
-                self.bytes = rest;
-                buf[0] = *first;
-                Ok(1)
-            }
+        if self.bytes.is_empty() && self.fails {
+            return Err(io::Error::from(io::ErrorKind::BrokenPipe));
         }
+        let n = self.size.min(buf.len()).min(self.bytes.len());
+        let (piece, rest) = self.bytes.split_at(n);
+        buf[..n].copy_from_slice(piece);
+        self.bytes = rest;
+        Ok(n)
+    }
+}
+
+/// Each reading is one tick after the last one.
+#[derive(Drop)]
+struct Ticking(i64);
+
+impl Clock for Ticking {
+    ghost gave = { λ a xs b. Unit };
+
+    ghost gave_none = { λ a. tt };
+
+    ghost gave_more = { λ a b c xs ys p q. tt };
+
+    fn now(&mut self) -> i64 {
+        let now = self.0;
+        self.0 = now.saturating_add(1);
+        now
     }
 }
 
@@ -60,228 +71,373 @@ fn clock() -> ConstantClock {
     ConstantClock(116_444_736_000_000_000)
 }
 
-fn answered(alloc: Global, text: &str) -> Result<(Served, Vec<u8>), HexFault> {
-    let mut out = Vec::new(alloc);
-    let served = answer_hex(alloc, text, &mut out, &mut Server::new(), &mut clock())?;
-    Ok((served, out))
+/// The parts, one after the other.
+fn joined(alloc: Global, parts: &[&str]) -> Result<String, Fail> {
+    let mut text = String::new(alloc);
+    for part in parts {
+        text.push_str(part)?;
+    }
+    Ok(text)
 }
 
-fn bytes_of(alloc: Global, text: &str) -> Result<Vec<u8>, Fail> {
+/// The bytes that the parts spell in hex digits.
+fn bytes_of(alloc: Global, parts: &[&str]) -> Result<Vec<u8>, Fail> {
     let mut digits = Vec::new(alloc);
-    for byte in text.bytes() {
-        if byte.is_ascii_hexdigit() {
-            digits.push(byte)?;
+    for part in parts {
+        for byte in part.bytes() {
+            if byte.is_ascii_hexdigit() {
+                digits.push(byte)?;
+            }
         }
     }
     Ok(hex::decode(alloc, digits.as_slice())?)
 }
 
+/// The digits are these parts, one after the other.
+fn is_joined(digits: &[u8], parts: &[&str]) -> bool {
+    let mut rest = digits;
+    for part in parts {
+        match rest.strip_prefix(part.as_bytes()) {
+            Some(after) => rest = after,
+            None => return false,
+        }
+    }
+    rest.is_empty()
+}
+
+/// A connection in hex digits is answered so.
+fn is_answered(alloc: Global, text: &str, want: &[&str], ending: Served) -> Result<bool, Fail> {
+    let mut out = Vec::new(alloc);
+    let served = answer_hex(alloc, text, &mut out, &mut Server::new(), &mut clock())?;
+    Ok(served == ending && is_joined(out.as_slice(), want))
+}
+
 #[test]
 fn answers_in_hex(rt: HostRuntime) -> Result<(), Fail> {
-    let refused = |code| Served::Refused(code);
-    let rows = [
-        (HELLO, ACK, Served::EndOfInput),
-        (
-            "48454C46 38000000 00000000 FF1F0000 00000100 00000000 00000000 180000006F70632E7463703A2F2F6C6F63616C686F73743A34383430",
-            "45525246100000000000AC80FFFFFFFF",
-            refused(0x80AC_0000),
-        ),
-        (
-            "48454C46 1F000000",
-            "45525246100000000000 0780FFFFFFFF",
-            refused(0x8007_0000),
-        ),
-        (
-            "474554202F000000",
-            "455252461000000000007E80FFFFFFFF",
-            refused(0x807E_0000),
-        ),
-        (
-            "52585646 1B000000",
-            "455252461000000000007E80FFFFFFFF",
-            refused(0x807E_0000),
-        ),
-        (
-            "52584446 1B000000",
-            "455252461000000000007E80FFFFFFFF",
-            refused(0x807E_0000),
-        ),
-        (
-            "48454C46 21100000",
-            "45525246100000000000 8080FFFFFFFF",
-            refused(0x8080_0000),
-        ),
-        ("48454C46 38000000", "", Served::EndOfInput),
-        (" \r\n", "", Served::EndOfInput),
-        (
-            "48454c46380000000000000000000100ff1f0000000000000000000018000000 6f70632e7463703a2f2f6c6f63616c686f73743a34383430",
-            "45525246100000000000AC80FFFFFFFF",
-            refused(0x80AC_0000),
-        ),
-        (
-            "48454C46 21000000 00000000 00000100 00000100 00000000 00000000 FFFFFFFF 00",
-            "45525246100000000000 0780FFFFFFFF",
-            refused(0x8007_0000),
-        ),
-        (
-            "48454C46 20000000 00000000 00200000 00000100 00000000 00000000 FFFFFFFF",
-            "41434B461C0000000000000000000100002000000000400040000000",
-            Served::EndOfInput,
-        ),
-    ];
-    for (input, want, ending) in rows {
-        let (served, out) = answered(rt.alloc(), input)?;
-        let want = bytes_of(rt.alloc(), want)?;
-        let got = hex::decode(rt.alloc(), out.as_slice())?;
-        assert!(rt; got.as_slice() == want.as_slice(), "{input}");
-        assert!(rt; served == ending, "{input}");
+    for (what, input, want, ending) in ROWS {
+        let text = joined(rt.alloc(), input)?;
+        assert!(rt;
+            is_answered(rt.alloc(), text.as_str(), want, ending)?,
+            "{what}"
+        );
     }
-    assert!(rt; matches!(answered(rt.alloc(), "4G"), Err(HexFault::BadHex)));
-    assert!(rt; matches!(answered(rt.alloc(), "484"), Err(HexFault::BadHex)));
-    assert!(rt; matches!(answered(rt.alloc(), "48\t45"), Err(HexFault::BadHex)));
     Ok(())
 }
 
+#[test]
+fn refuses_bad_hex(rt: HostRuntime) {
+    for text in ["4G", "484", "48\t45"] {
+        let mut out = Vec::new(rt.alloc());
+        let result = answer_hex(rt.alloc(), text, &mut out, &mut Server::new(), &mut clock());
+        assert!(rt; result == Err(HexFault::BadHex) && out.is_empty(), "{text}");
+    }
+}
+
+/// What was written before stays, and after an error nothing is appended.
 #[test]
 fn keeps_what_was_written(rt: HostRuntime) -> Result<(), Fail> {
     let mut out = vec![in rt.alloc(); 7u8]?;
-    let served = answer_hex(
-        rt.alloc(),
-        HELLO,
-        &mut out,
-        &mut Server::new(),
-        &mut clock(),
-    )?;
-    assert!(rt; served == Served::EndOfInput);
-    assert!(rt; out.len() == 57 && out.first() == Some(&7));
-    assert!(rt; &out[1..] == ACK.as_bytes());
-    let _ = answer_hex(rt.alloc(), "4G", &mut out, &mut Server::new(), &mut clock());
-    assert_eq!(rt; out.len(), 57);
+    for text in [HELLO, "4G"] {
+        let _ = answer_hex(rt.alloc(), text, &mut out, &mut Server::new(), &mut clock());
+        assert!(rt;
+            out.first() == Some(&7) && out.get(1..) == Some(ACK.as_bytes()),
+            "{text}"
+        );
+    }
     Ok(())
 }
 
-/// A chunk after the Hello is refused, whatever it is; a chunk that isn't whole is answered by nothing.
-#[test]
-fn refuses_what_follows(rt: HostRuntime) -> Result<(), Fail> {
-    let alloc = rt.alloc();
-    for (more, code) in [
-        (
-            "4F504E46 20000000 000000000000000000000000000000000000000000000000",
-            "7E80",
-        ),
-        ("4D534746 18000000 00000000000000000000000000000000", "7E80"),
-        ("434C4F46 18000000 00000000000000000000000000000000", "7E80"),
-        ("48454C46 38000000", "7E80"),
-        ("4D534746 17000000", "0780"),
-        ("4D534746 01000100", "8080"),
-        ("4D534746 00000100", ""),
-        ("4D534743 18000000 00000000000000000000000000000000", "7E80"),
-        ("4D534741 18000000 00000000000000000000000000000000", "7E80"),
-    ] {
-        let mut text = String::from_str(alloc, HELLO)?;
-        text.push_str(more)?;
-        let (_, out) = answered(alloc, text.as_str())?;
-        let mut want = String::from_str(alloc, ACK)?;
-        if !code.is_empty() {
-            want.push_str("45525246100000000000")?;
-            want.push_str(code)?;
-            want.push_str("FFFFFFFF")?;
-        }
-        assert!(rt; out.as_slice() == want.as_bytes(), "{more}");
+/// The connection is served so from pieces of this size, with no fault; the reader fails at its end where it is told to.
+fn is_served(alloc: Global, bytes: &[u8], size: usize, fails: bool, want: &[u8]) -> bool {
+    let mut reader = Counted::new(Slow { bytes, size, fails });
+    let mut writer = Counted::new(Vec::new(alloc));
+    let result = serve(
+        alloc,
+        &mut reader,
+        &mut writer,
+        &mut Server::new(),
+        &mut clock(),
+    );
+    let ending = if fails {
+        Err(ServeFault::Read)
+    } else {
+        Ok(Served::EndOfInput)
+    };
+    let faults = if fails { 1 } else { 0 };
+    result == ending
+        && reader.faults() == faults
+        && writer.faults() == 0
+        && writer.into_inner().as_slice() == want
+}
+
+/// A writer that takes so many bytes has just these, and its failed call is counted.
+fn is_written(alloc: Global, bytes: &[u8], room: usize, want: &[u8]) -> bool {
+    let mut reader = Counted::new(bytes);
+    let mut writer = Counted::new(Narrow {
+        bytes: Vec::new(alloc),
+        room,
+    });
+    let result = serve(
+        alloc,
+        &mut reader,
+        &mut writer,
+        &mut Server::new(),
+        &mut clock(),
+    );
+    let (ending, faults) = if room < want.len() {
+        (Err(ServeFault::Write), 1)
+    } else {
+        (Ok(Served::EndOfInput), 0)
+    };
+    result == ending
+        && reader.faults() == 0
+        && writer.faults() == faults
+        && Some(writer.into_inner().bytes.as_slice()) == want.get(..room.min(want.len()))
+}
+
+/// How many bytes answer a front of a Hello, an opening and a message.
+fn answered_of(front: usize) -> usize {
+    match front {
+        0..56 => 0,
+        56..188 => 28,
+        188..243 => 163,
+        _ => 215,
     }
-    Ok(())
 }
 
 #[test]
 fn serves_in_pieces(rt: HostRuntime) -> Result<(), Fail> {
-    let alloc = rt.alloc();
-    let hello = bytes_of(alloc, HELLO)?;
-    let ack = bytes_of(alloc, ACK)?;
-    assert_eq!(rt; (hello.len(), ack.len()), (56, 28));
-    for count in 0..57 {
-        let bytes = hello.get(..count).ok_or("a front")?;
-        let want = ack.get(..if count < 56 { 0 } else { 28 });
-        for (fails, ending) in [
-            (true, Err(ServeFault::Read)),
-            (false, Ok(Served::EndOfInput)),
-        ] {
-            let mut reader = Counted::new(Slow { bytes, fails });
-            let mut writer = Counted::new(Vec::new(alloc));
-            let result = serve(
-                alloc,
-                &mut reader,
-                &mut writer,
-                &mut Server::new(),
-                &mut clock(),
-            );
-            assert!(rt; result == ending, "{count}");
-            assert_eq!(rt;
-                (reader.faults(), writer.faults()),
-                (if fails { 1 } else { 0 }, 0)
-            );
-            assert!(rt; Some(writer.into_inner().as_slice()) == want, "{count}");
-        }
-    }
-    for room in 0..29 {
-        let mut reader = Counted::new(hello.as_slice());
-        let mut writer = Counted::new(Narrow {
-            bytes: Vec::new(alloc),
-            room,
-        });
-        let result = serve(
-            alloc,
-            &mut reader,
-            &mut writer,
-            &mut Server::new(),
-            &mut clock(),
-        );
-        let fails = room < 28;
+    let input = bytes_of(rt.alloc(), &[HELLO, OPEN, REQUEST])?;
+    let want = bytes_of(rt.alloc(), &[ACK, OPENED, ANSWER])?;
+    assert_eq!(rt; (input.len(), want.len()), (243, 215));
+    for size in 1..244 {
         assert!(rt;
-            result
-                == if fails {
-                    Err(ServeFault::Write)
-                } else {
-                    Ok(Served::EndOfInput)
-                },
-            "{room}"
-        );
-        assert_eq!(rt;
-            (reader.faults(), writer.faults()),
-            (0, if fails { 1 } else { 0 })
-        );
-        assert!(rt;
-            Some(writer.into_inner().bytes.as_slice()) == ack.get(..room),
-            "{room}"
+            is_served(rt.alloc(), input.as_slice(), size, false, want.as_slice()),
+            "{size}"
         );
     }
     Ok(())
 }
 
 #[test]
-fn reads_lines(rt: HostRuntime) {
-    let alloc = rt.alloc();
-    assert!(rt; read_line(alloc, &["uahist", "answer", "--hex"]) == Ok(Line::Answer { hex: true }));
-    assert!(rt; read_line(alloc, &["uahist", "answer"]) == Ok(Line::Answer { hex: false }));
-    let none: [&str; 0] = [];
-    assert!(rt; read_line(alloc, &none) == Err(LineFault::Words));
-    assert!(rt; read_line(alloc, &["uahist"]) == Err(LineFault::Words));
-    assert!(rt; read_line(alloc, &["uahist", "--help"]) == Err(LineFault::Words));
-    assert!(rt; read_line(alloc, &["uahist", "help"]) == Err(LineFault::Words));
-    assert!(rt; read_line(alloc, &["uahist", "dump"]) == Err(LineFault::Words));
-    assert!(rt; read_line(alloc, &["uahist", "answer", "--hex=1"]) == Err(LineFault::Words));
-    assert!(rt; read_line(alloc, &["uahist", "answer", "--now", "5"]) == Err(LineFault::Words));
-    assert!(rt; read_line(alloc, &["uahist", "answer", "more"]) == Err(LineFault::Words));
-    assert!(rt; read_line(alloc, &["uahist", "answer", "--hex", "--hex"]) == Err(LineFault::Words));
-    assert!(rt; read_line(alloc, &["uahist", "sync"]) == Err(LineFault::Words));
+fn serves_each_front(rt: HostRuntime) -> Result<(), Fail> {
+    let input = bytes_of(rt.alloc(), &[HELLO, OPEN, REQUEST])?;
+    let want = bytes_of(rt.alloc(), &[ACK, OPENED, ANSWER])?;
+    for count in 0..244 {
+        let bytes = input.get(..count).ok_or("a front")?;
+        let out = want.get(..answered_of(count)).ok_or("a front")?;
+        for fails in [true, false] {
+            assert!(rt; is_served(rt.alloc(), bytes, 1, fails, out), "{count}");
+        }
+    }
+    Ok(())
 }
 
-/// What a run prints, what it says went wrong, and its status.
-fn told(
+#[test]
+fn stops_where_the_writer_does(rt: HostRuntime) -> Result<(), Fail> {
+    let input = bytes_of(rt.alloc(), &[HELLO, OPEN, REQUEST])?;
+    let want = bytes_of(rt.alloc(), &[ACK, OPENED, ANSWER])?;
+    for room in 0..217 {
+        assert!(rt;
+            is_written(rt.alloc(), input.as_slice(), room, want.as_slice()),
+            "{room}"
+        );
+    }
+    Ok(())
+}
+
+/// A connection with so many chunks of one message, of no byte each.
+fn many_chunks(alloc: Global, count: u8) -> Result<Vec<u8>, Fail> {
+    let mut bytes = bytes_of(alloc, &[HELLO, OPEN])?;
+    for number in 0..count {
+        bytes.extend_from_slice(b"MSGC\x18\0\0\0\x01\0\0\0\x01\0\0\0")?;
+        bytes.extend_from_slice(&[number.saturating_add(2), 0, 0, 0, 2, 0, 0, 0])?;
+    }
+    Ok(bytes)
+}
+
+/// How many chunks of one message come, what goes out, and how the connection ends.
+static COUNTS: [(u8, &[&str], Served); 2] = [
+    (64, &[ACK, OPENED], Served::EndOfInput),
+    (
+        65,
+        &[ACK, OPENED, "455252461000000000008080FFFFFFFF"],
+        Served::Refused(0x8080_0000),
+    ),
+];
+
+/// A message has 64 chunks, and not 65.
+#[test]
+fn bounds_a_message(rt: HostRuntime) -> Result<(), Fail> {
+    for (count, want, ending) in COUNTS {
+        let input = many_chunks(rt.alloc(), count)?;
+        let text = hex::encode(rt.alloc(), input.as_slice())?;
+        assert!(rt;
+            is_answered(rt.alloc(), text.as_str(), want, ending)?,
+            "{count}"
+        );
+    }
+    Ok(())
+}
+
+/// The clock is read once for the opening and once for the message, and for nothing else.
+#[test]
+fn reads_the_clock(rt: HostRuntime) -> Result<(), Fail> {
+    let text = joined(rt.alloc(), &[HELLO, OPEN, PART, REST, PART])?;
+    let mut clock = Ticking(0x0102_0304_0506_0708);
+    let mut out = Vec::new(rt.alloc());
+    let result = answer_hex(
+        rt.alloc(),
+        text.as_str(),
+        &mut out,
+        &mut Server::new(),
+        &mut clock,
+    );
+    assert!(rt; result == Ok(Served::Refused(0x8088_0000)));
+    assert_eq!(rt; clock.0, 0x0102_0304_0506_070A);
+    // the opening's answer has 270 digits after the Acknowledge's 56, the message's timestamp comes 28 bytes into its own
+    assert!(rt; out.get(382..398) == Some(b"0907060504030201".as_slice()));
+    Ok(())
+}
+
+/// Command lines, and what they are.
+static LINES: [(&[&str], Result<Line, LineFault>); 19] = [
+    (
+        &["uahist", "answer"],
+        Ok(Line::Answer {
+            hex: false,
+            now: None,
+        }),
+    ),
+    (
+        &["uahist", "answer", "--hex"],
+        Ok(Line::Answer {
+            hex: true,
+            now: None,
+        }),
+    ),
+    (
+        &["uahist", "answer", "--now", "0"],
+        Ok(Line::Answer {
+            hex: false,
+            now: Some(0),
+        }),
+    ),
+    (
+        &["uahist", "answer", "--now=5"],
+        Ok(Line::Answer {
+            hex: false,
+            now: Some(5),
+        }),
+    ),
+    (
+        &["uahist", "answer", "--now", "116444736000000000", "--hex"],
+        Ok(Line::Answer {
+            hex: true,
+            now: Some(116_444_736_000_000_000),
+        }),
+    ),
+    (
+        &["uahist", "answer", "--now", "9223372036854775807"],
+        Ok(Line::Answer {
+            hex: false,
+            now: Some(i64::MAX),
+        }),
+    ),
+    (
+        &["uahist", "answer", "--now", "9223372036854775808"],
+        Err(LineFault::Words),
+    ),
+    (&["uahist", "answer", "--now=-1"], Err(LineFault::Words)),
+    (&["uahist", "answer", "--now", "5x"], Err(LineFault::Words)),
+    (&["uahist", "answer", "--now"], Err(LineFault::Words)),
+    (
+        &["uahist", "answer", "--now", "5", "--now", "6"],
+        Err(LineFault::Words),
+    ),
+    (&[], Err(LineFault::Words)),
+    (&["uahist"], Err(LineFault::Words)),
+    (&["uahist", "--help"], Err(LineFault::Words)),
+    (&["uahist", "help"], Err(LineFault::Words)),
+    (&["uahist", "dump"], Err(LineFault::Words)),
+    (&["uahist", "answer", "--hex=1"], Err(LineFault::Words)),
+    (&["uahist", "answer", "more"], Err(LineFault::Words)),
+    (
+        &["uahist", "answer", "--hex", "--hex"],
+        Err(LineFault::Words),
+    ),
+];
+
+#[test]
+fn reads_lines(rt: HostRuntime) {
+    for (at, (words, want)) in LINES.iter().enumerate() {
+        assert!(rt; read_line(rt.alloc(), words) == *want, "{at}");
+    }
+}
+
+/// Command lines, the input, the room of the output, what it has then, what is said, and the exit status.
+static RUNS: [(&[&str], &[u8], usize, &str, &str, u8); 7] = [
+    (
+        &["uahist", "answer", "--hex"],
+        b"474554202F000000",
+        1000,
+        "455252461000000000007E80FFFFFFFF\n",
+        "",
+        0,
+    ),
+    (&["uahist", "answer", "--hex"], b"", 1000, "\n", "", 0),
+    (
+        &["uahist", "answer"],
+        b"GET /\0\0\0",
+        1000,
+        "ERRF\x10\0\0\0",
+        "",
+        0,
+    ),
+    (
+        &["uahist", "answer", "--hex"],
+        b"4G",
+        1000,
+        "",
+        "uahist: bad hex\n",
+        2,
+    ),
+    (
+        &["uahist", "answer", "--hex"],
+        b"48\xFF",
+        1000,
+        "",
+        "uahist: bad hex\n",
+        2,
+    ),
+    (
+        &["uahist", "answer", "--hex"],
+        b"474554202F000000",
+        5,
+        "45525",
+        "uahist: connection ended (2)\n",
+        1,
+    ),
+    (
+        &["uahist", "serve"],
+        b"",
+        1000,
+        "",
+        "uahist: usage: uahist answer [--hex] [--now N]\n",
+        2,
+    ),
+];
+
+/// What a run prints begins so, and this is said.
+fn is_run(
     alloc: Global,
     words: &[&str],
     input: &[u8],
     room: usize,
-) -> Result<(Vec<u8>, Vec<u8>, u8), Fail> {
+    printed: &str,
+    said: &str,
+    status: u8,
+) -> bool {
     let mut errors = Counted::new(Vec::new(alloc));
     let mut reader = Counted::new(input);
     let mut writer = Counted::new(Narrow {
@@ -289,126 +445,92 @@ fn told(
         room,
     });
     let ending = run(alloc, words, &mut reader, &mut writer, &mut clock());
-    let status = report(ending, &mut errors);
-    Ok((writer.into_inner().bytes, errors.into_inner(), status))
+    report(ending, &mut errors) == status
+        && writer.into_inner().bytes.starts_with(printed.as_bytes())
+        && errors.into_inner().as_slice() == said.as_bytes()
 }
 
 #[test]
-fn runs_and_reports(rt: HostRuntime) -> Result<(), Fail> {
-    let alloc = rt.alloc();
-    let hello = bytes_of(alloc, HELLO)?;
-    let ack = bytes_of(alloc, ACK)?;
-    let (out, errors, status) = told(alloc, &["uahist", "answer"], hello.as_slice(), 1000)?;
-    assert!(rt; out.as_slice() == ack.as_slice() && errors.is_empty() && status == 0);
-    let (out, errors, status) = told(
-        alloc,
-        &["uahist", "answer", "--hex"],
-        HELLO.as_bytes(),
-        1000,
-    )?;
-    assert!(rt;
-        out.as_slice() == b"41434B461C0000000000000000000100000001000000400040000000\n".as_slice()
-    );
-    assert!(rt; errors.is_empty() && status == 0);
-    let (out, errors, status) = told(
-        alloc,
-        &["uahist", "answer", "--hex"],
-        b"474554202F000000",
-        1000,
-    )?;
-    assert!(rt;
-        out.as_slice() == b"455252461000000000007E80FFFFFFFF\n".as_slice()
-            && errors.is_empty()
-            && status == 0
-    );
-    let blanks = vec![in alloc; b' '; 5000]?;
-    let (out, _, status) = told(
-        alloc,
-        &["uahist", "answer", "--hex"],
-        blanks.as_slice(),
-        1000,
-    )?;
-    assert!(rt; out.as_slice() == b"\n".as_slice() && status == 0);
-    for (words, input, room, text, want) in [
-        (
-            ["uahist", "answer", "--hex"].as_slice(),
-            b"4G".as_slice(),
-            1000usize,
-            "uahist: bad hex\n",
-            2u8,
-        ),
-        (
-            ["uahist", "answer", "--hex"].as_slice(),
-            b"48\xFF".as_slice(),
-            1000,
-            "uahist: bad hex\n",
-            2,
-        ),
-        (
-            ["uahist", "answer"].as_slice(),
-            hello.as_slice(),
-            5,
-            "uahist: connection ended (2)\n",
-            1,
-        ),
-        (
-            ["uahist", "answer", "--hex"].as_slice(),
-            HELLO.as_bytes(),
-            5,
-            "uahist: connection ended (2)\n",
-            1,
-        ),
-        (
-            ["uahist", "serve"].as_slice(),
-            b"".as_slice(),
-            1000,
-            "uahist: usage: uahist answer [--hex]\n",
-            2,
-        ),
-    ] {
-        let (out, errors, status) = told(alloc, words, input, room)?;
-        assert!(rt; errors.as_slice() == text.as_bytes(), "{text}");
-        assert!(rt; status == want && out.len() <= room, "{text}");
+fn runs_and_reports(rt: HostRuntime) {
+    for (words, input, room, printed, said, status) in RUNS {
+        assert!(rt;
+            is_run(rt.alloc(), words, input, room, printed, said, status),
+            "{said}"
+        );
     }
-    Ok(())
 }
 
+/// The clock that is given stands in the answer, and more than one piece of input is read.
 #[test]
-fn tells_each_fault(rt: HostRuntime) -> Result<(), Fail> {
-    let mut reader = Counted::new(Slow {
-        bytes: b"",
-        fails: true,
-    });
+fn runs_at_a_moment(rt: HostRuntime) -> Result<(), Fail> {
+    let mut text = joined(rt.alloc(), &[HELLO, OPEN, REQUEST])?;
+    for _ in 0..5000 {
+        text.push_str(" ")?;
+    }
+    let words = ["uahist", "answer", "--hex", "--now", "116444736000000000"];
+    let mut reader = Counted::new(text.as_bytes());
     let mut writer = Counted::new(Vec::new(rt.alloc()));
-    let mut errors = Counted::new(Vec::new(rt.alloc()));
     let ending = run(
         rt.alloc(),
-        &["uahist", "answer", "--hex"],
+        &words,
         &mut reader,
         &mut writer,
-        &mut clock(),
+        &mut Ticking(7),
     );
-    assert_eq!(rt; report(ending, &mut errors), 1);
-    for (fault, status) in [
-        (ProgramFault::Connection(ServeFault::TooLong), 1),
-        (ProgramFault::Connection(ServeFault::OutOfMemory), 1),
-        (ProgramFault::Line(LineFault::OutOfMemory), 2),
-    ] {
-        assert_eq!(rt; report(Err(fault), &mut errors), status);
-    }
-    let want =
-        "uahist: connection ended (1)\nuahist: connection ended (3)\nuahist: connection ended (4)\nuahist: memory ran out before the command began\n";
-    assert!(rt; errors.into_inner().as_slice() == want.as_bytes());
-    chunks_are_counted();
-    assert_eq!(rt; clock().now(), 116_444_736_000_000_000);
-    assert_eq!(rt;
-        [
-            ServeFault::Read.number(),
-            ServeFault::Write.number(),
-            ServeFault::TooLong.number(),
-            ServeFault::OutOfMemory.number()
-        ],
-        [1, 2, 3, 4]
-    );
+    assert!(rt; ending.is_ok());
+    assert!(rt; is_joined(writer.into_inner().as_slice(), &[ACK, OPENED, ANSWER, "\n"]));
     Ok(())
+}
+
+/// What is said of this ending, and the exit status.
+fn is_told(alloc: Global, ending: Result<(), ProgramFault>, said: &str, status: u8) -> bool {
+    let mut errors = Counted::new(Vec::new(alloc));
+    report(ending, &mut errors) == status && errors.into_inner().as_slice() == said.as_bytes()
+}
+
+#[test]
+fn tells_each_fault(rt: HostRuntime) {
+    for (fault, said, status) in [
+        (
+            ProgramFault::Connection(ServeFault::Read),
+            "uahist: connection ended (1)\n",
+            1,
+        ),
+        (
+            ProgramFault::Connection(ServeFault::TooLong),
+            "uahist: connection ended (3)\n",
+            1,
+        ),
+        (
+            ProgramFault::Connection(ServeFault::OutOfMemory),
+            "uahist: connection ended (4)\n",
+            1,
+        ),
+        (
+            ProgramFault::Line(LineFault::OutOfMemory),
+            "uahist: memory ran out before the command began\n",
+            2,
+        ),
+    ] {
+        assert!(rt; is_told(rt.alloc(), Err(fault), said, status), "{said}");
+    }
+}
+
+#[test]
+fn numbers_its_faults(rt: HostRuntime) {
+    chunks_are_counted();
+    connections_are_answered();
+    answers_go_item_by_item();
+    for (at, fault) in [
+        ServeFault::Read,
+        ServeFault::Write,
+        ServeFault::TooLong,
+        ServeFault::OutOfMemory,
+    ]
+    .iter()
+    .enumerate()
+    {
+        assert!(rt; fault.number() as usize == at + 1);
+    }
+    assert!(rt; SystemClock::new(&rt).now() >= clock().now());
 }

@@ -1,5 +1,5 @@
 use Rattle.std.proofs.Common.{[], ℕ, List, Err, IsUtf8, ap, subst, ◌∙◌}
-use Rattle.ua_server.proofs.Printing.{made-read, made-bad, made-connection}
+use Rattle.ua_server.proofs.Printing.{made-digits, made-read, made-bad, made-connection}
 use Rattle.ua_server.proofs.program.hex_answer.Goals as goal
 
 pub returns-in-Err-clause-digits : goal.returns-in-Err-clause-digits
@@ -22,4 +22,13 @@ returns-clause-digits g c =
       answers.1,
       made-connection (g.R.Read.remaining c.args.input.now.inner) (g.R.Read.remaining c.read_all.new.input.inner) c.in-Ok-from_utf8.text.now c.in-Ok.bytes.items answers.0 c.new-digits.result.items c.answer_hex.new.out.items c.answer_hex.result c.in-Err-Serve.fault
           c.in-Ok.ensures.bytes.0 c.in-Ok.ensures.bytes.1 (c.in-Ok-from_utf8.ensures.cases.0 ∙ c.as_slice.ensures.value) (c.in-Err-Serve.is ∙ ap Err c.in-Err-Serve.field-0-is) answers.2,
+    )
+
+pub returns-in-Ok-answer_hex-clause-digits : goal.returns-in-Ok-answer_hex-clause-digits
+returns-in-Ok-answer_hex-clause-digits g c =
+    let answers = c.answer_hex.ensures in (
+      answers.0,
+      answers.1,
+      made-digits (g.R.Read.remaining c.args.input.now.inner) (g.R.Read.remaining c.read_all.new.input.inner) c.in-Ok-from_utf8.text.now c.in-Ok.bytes.items answers.0 c.new-digits.result.items c.answer_hex.new.out.items c.answer_hex.result c.in-Ok-answer_hex.field-0
+          c.in-Ok.ensures.bytes.0 c.in-Ok.ensures.bytes.1 (c.in-Ok-from_utf8.ensures.cases.0 ∙ c.as_slice.ensures.value) c.new-digits.ensures.items c.in-Ok-answer_hex.is answers.2,
     )
