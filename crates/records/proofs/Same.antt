@@ -1,7 +1,6 @@
 -- The test of being one is exact.
-use Rattle.std.proofs.Common.{◌≡◌, Bool, true, refl, sym, ap, subst}
+use Rattle.std.proofs.Common.{◌≡◌, true, refl, sym, ap, subst}
 use Rattle.std.specs.Bool.{Decides}
-use Rattle.std.proofs.lemmas.Bool.Decides.{same_from_decides}
 use Rattle.std.proofs.lemmas.Bool.{true≢false, eq-eqb, eqb-true, and_parts, and_from}
 use base.Stored.{Coded, Gv, gnil, gnum, gcons}
 use Rattle.records.specs.Same.{same_tree, is_same}
