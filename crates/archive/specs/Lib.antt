@@ -3,3 +3,4 @@ pub mod Store
 pub mod Fault
 pub mod Listed
 pub mod Scripted
+pub mod Queries

@@ -1,0 +1,36 @@
+//! Laws of the queries. Each function's contract is a law, and its body is empty.
+
+ghost use Rattle.std.specs.Prelude.{◌≡◌, ◌↔◌, ℤ, true, Option, Some, None};
+ghost use Rattle.ua_binary.specs.declared.values.NodeId.{NodeId};
+ghost use Rattle.records.specs.Lists.{Has, IsPairwise};
+ghost use Rattle.records.specs.Contents.{Content, IsClosed};
+ghost use Rattle.records.specs.declared.shown.Held.{Held};
+ghost use Rattle.records.specs.declared.shown.Entry.{Entry};
+ghost use Rattle.archive.specs.Reading.{is_past, follows, place_of, range_of, log_of, outside_of};
+ghost use Rattle.archive.specs.Queries.{IsInRange, IsInLog, IsNearest, HasNonePast};
+ghost use Rattle.archive.specs.declared.reading.Direction.{Direction};
+ghost use Rattle.archive.specs.declared.reading.LogPlace.{LogPlace};
+
+/// A range has the live values between its two times and no others, each once: in its direction, each
+/// is strictly beyond those before it.
+#[tactic(auto, using(crate::proofs::Ranges::ranges))]
+pub fn ranges_have_the_live_values()
+    ensures members { (R : Content) (node : NodeId) (from to : ℤ) (d : Direction) (h : Held) → Has (range_of R node from to d) h ↔ IsInRange R node from to h }
+    ensures order { (R : Content) (node : NodeId) (from to : ℤ) (d : Direction) → IsPairwise (λ a b. is_past d a.time b.time ≡ true) (range_of R node from to d) }
+{}
+
+/// A log has the modifications between its two times that stand behind the place given, and no others,
+/// each once: each stands behind the places of those before it.
+pub fn logs_have_the_modifications()
+    ensures members { (R : Content) (node : NodeId) (from to : ℤ) (after : Option LogPlace) (d : Direction) (e : Entry) → Has (log_of R node from to after d) e ↔ IsInLog R node from to after d e }
+    ensures order { (R : Content) (node : NodeId) (from to : ℤ) (after : Option LogPlace) (d : Direction) → IsClosed R
+        → IsPairwise (λ a b. follows d (Some (place_of a)) b ≡ true) (log_of R node from to after d) }
+{}
+
+/// The value outside is the live value nearest to a time among those strictly beyond it, and there is
+/// none exactly where no live value is beyond it.
+#[tactic(auto, using(crate::proofs::Ranges::outside_none))]
+pub fn outside_is_the_nearest()
+    ensures nearest { (R : Content) (node : NodeId) (time : ℤ) (d : Direction) (h : Held) → (outside_of R node time d ≡ Some h) ↔ IsNearest R node time d h }
+    ensures none { (R : Content) (node : NodeId) (time : ℤ) (d : Direction) → (outside_of R node time d ≡ None) ↔ HasNonePast R node time d }
+{}
