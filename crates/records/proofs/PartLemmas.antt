@@ -14,15 +14,15 @@ use Rattle.records.proofs.LackLemmas.{has_from_take, missing_within, length-inse
 
 -- ---- in turn
 
-turn_merged : (R : Content) (r : Record) (rs : List Record) → IsNext R r → merged (r ∷ rs) R ≡ merged rs (put r R)
+pub turn_merged : (R : Content) (r : Record) (rs : List Record) → IsNext R r → merged (r ∷ rs) R ≡ merged rs (put r R)
 turn_merged R r rs next = ap (λ o. option_map_or (merged rs) o R) (learned_next R r next)
 
-turn_take : (n : ℕ) (rs : List Record) (R : Content) → AreNextInTurn R rs → AreNextInTurn R (take n rs)
+pub turn_take : (n : ℕ) (rs : List Record) (R : Content) → AreNextInTurn R rs → AreNextInTurn R (take n rs)
 turn_take zero rs R turn = tt
 turn_take (suc n) [] R turn = tt
 turn_take (suc n) (r ∷ rs) R turn = (turn.0, turn_take n rs (put r R) turn.1)
 
-turn_has : (rs : List Record) (R : Content) (z : Record) → AreNextInTurn R rs → Has rs z → Has (merged rs R) z
+pub turn_has : (rs : List Record) (R : Content) (z : Record) → AreNextInTurn R rs → Has rs z → Has (merged rs R) z
 turn_has [] R z turn h = absurd h
 turn_has (r ∷ rs) R z turn h =
     subst (λ S. Has S z) (sym (turn_merged R r rs turn.0)) (elim h [
@@ -30,7 +30,7 @@ turn_has (r ∷ rs) R z turn h =
       | inr k ↦ turn_has rs (put r R) z turn.1 k
     ])
 
-turn_length : (rs : List Record) (R : Content) → AreNextInTurn R rs → length (merged rs R) ≡ length R + length rs
+pub turn_length : (rs : List Record) (R : Content) → AreNextInTurn R rs → length (merged rs R) ≡ length R + length rs
 turn_length [] R turn = omega arith
 turn_length (r ∷ rs) R turn =
     let more = turn_length rs (put r R) turn.1 in

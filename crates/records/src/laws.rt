@@ -161,7 +161,8 @@ pub fn missing_is_what_a_vector_lacks()
 {}
 
 /// Learning a batch in order, up to the first record that is refused: what is held then is closed, and
-/// is what was held and records of the batch alone. It is compatible with what both were.
+/// is what was held and records of the batch alone. It stays compatible with what a content that the
+/// batch is of is compatible with.
 pub fn batches_keep_contents_closed()
     ensures closed { (R : Content) (batch : List Record) → IsClosed R → IsClosed (merged batch R) }
     ensures above { (R : Content) (batch : List Record) → IsWithin R (merged batch R) }
