@@ -6,3 +6,4 @@ pub mod Turning
 pub mod Timing
 pub mod Ranges
 pub mod Logs
+pub mod Resuming

@@ -27,7 +27,7 @@ has_time R node t r h =
     let own = has-filter (is_of node) R r there.0 ((Decides-is_same node_code r.node node).1 there.1) in
     subst (Has (times R node)) there.2 (has-set_of int_cmp int_cmp_total exact_signed _ r.time (has-map (λ (s : Record). s.time) _ r own))
 
-has_from_get : {X : Type 0} (xs : List X) (k : ℕ) (x : X) → slice_get xs k ≡ Some x → Has xs x
+pub has_from_get : {X : Type 0} (xs : List X) (k : ℕ) (x : X) → slice_get xs k ≡ Some x → Has xs x
 has_from_get [] k x e = cc
 has_from_get (y ∷ ys) zero x e = inl (cc)
 has_from_get (y ∷ ys) (suc k) x e = inr (has_from_get ys k x e)

@@ -10,25 +10,25 @@ use Rattle.archive.specs.Reading.{is_past, follows}
 use Rattle.archive.specs.declared.reading.Direction.{Direction}
 use Rattle.archive.specs.declared.reading.LogPlace.{LogPlace}
 
--- the live value of its time, which is between two times or one of them
+-- the live value at its own time, which lies between the two, both ends in it
 pub record IsInRange (R : Content) (node : NodeId) (from to : ℤ) (h : Held) : Type 0 where
   pub live : current R node h.time ≡ Some h
   pub low : from ≤ℤ h.time
   pub high : h.time ≤ℤ to
 
--- a modification at its time, which is between two times or one of them; it stands behind a place, where one is given
+-- a modification at its own time, which lies between the two, both ends in it; it stands behind the place, where one is given
 pub record IsInLog (R : Content) (node : NodeId) (from to : ℤ) (after : Option LogPlace) (d : Direction) (e : Entry) : Type 0 where
   pub shown : Has (entries R node e.time) e
   pub low : from ≤ℤ e.time
   pub high : e.time ≤ℤ to
   pub behind : follows d after e ≡ true
 
--- the live value of its time, which is strictly beyond a time, and no live value beyond that time stands before it
+-- the live value at its own time, which is strictly beyond the one given; no live value beyond that one stands before it
 pub record IsNearest (R : Content) (node : NodeId) (time : ℤ) (d : Direction) (h : Held) : Type 0 where
   pub live : current R node h.time ≡ Some h
   pub past : is_past d time h.time ≡ true
   pub none_before : (other : Held) → current R node other.time ≡ Some other → is_past d time other.time ≡ true → is_past d other.time h.time ≡ false
 
--- no live value is strictly beyond a time
+-- no live value is strictly beyond the time
 abbrev pub HasNonePast : Content → NodeId → ℤ → Direction → Type 0
 HasNonePast R node time d = (h : Held) → current R node h.time ≡ Some h → is_past d time h.time ≡ false

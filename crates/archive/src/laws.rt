@@ -1,6 +1,6 @@
 //! Laws of the queries. Each function's contract is a law, and its body is empty.
 
-ghost use Rattle.std.specs.Prelude.{◌≡◌, ◌↔◌, ℤ, true, Option, Some, None};
+ghost use Rattle.std.specs.Prelude.{◌≡◌, ◌↔◌, ℕ, ◌+◌, ℤ, true, drop, slice_get, Option, Some, None};
 ghost use Rattle.ua_binary.specs.declared.values.NodeId.{NodeId};
 ghost use Rattle.records.specs.Lists.{Has, IsPairwise};
 ghost use Rattle.records.specs.Contents.{Content, IsClosed};
@@ -19,12 +19,15 @@ pub fn ranges_have_the_live_values()
     ensures order { (R : Content) (node : NodeId) (from to : ℤ) (d : Direction) → IsPairwise (λ a b. is_past d a.time b.time ≡ true) (range_of R node from to d) }
 {}
 
-/// A log has the modifications between its two times that stand behind the place given, and no others,
-/// each once: each stands behind the places of those before it.
+/// A log has the modifications between its two times that stand behind the place given, and no others.
+/// Of a closed content it has each once: each stands behind the places of those before it. What is
+/// behind the place of one of them is what follows it, so that a reading goes on where it stopped.
 pub fn logs_have_the_modifications()
     ensures members { (R : Content) (node : NodeId) (from to : ℤ) (after : Option LogPlace) (d : Direction) (e : Entry) → Has (log_of R node from to after d) e ↔ IsInLog R node from to after d e }
     ensures order { (R : Content) (node : NodeId) (from to : ℤ) (after : Option LogPlace) (d : Direction) → IsClosed R
         → IsPairwise (λ a b. follows d (Some (place_of a)) b ≡ true) (log_of R node from to after d) }
+    ensures resumes { (R : Content) (node : NodeId) (from to : ℤ) (after : Option LogPlace) (d : Direction) (k : ℕ) (e : Entry) → IsClosed R
+        → slice_get (log_of R node from to after d) k ≡ Some e → log_of R node from to (Some (place_of e)) d ≡ drop (k + 1) (log_of R node from to after d) }
 {}
 
 /// The value outside is the live value nearest to a time among those strictly beyond it, and there is
