@@ -61,6 +61,6 @@ wraps_sends old request body (Ok x) before now new wraps =
     let same = split_is (old.limit - 24) body wraps.0 wraps.1 in
     let P : List (List ℕ) → Type 0 = λ pieces. (now ≡ before ++ chunks_of old.heard.token request old.next pieces) × (new ≡ record old { next = number_after old.next (length pieces) }) in
     subst P same wraps.2
-wraps_sends old request body (Err fault) before now new wraps = (wraps.2.1, wraps.2.2)
+wraps_sends old request body (Err fault) before now new wraps = wraps.2
 
 pub ruleset sending = (wraps_sends)

@@ -8,6 +8,7 @@ use Rattle.ua_binary.specs.Format.{Reading}
 use Rattle.ua_binary.specs.Binary.{node_id}
 use Rattle.uacp.specs.Split.{pieces_of}
 use Rattle.ua_channel.specs.declared.fault.ChannelFault.{ChannelFault}
+use Rattle.ua_channel.specs.declared.fault.ChannelFault.TheVariants.{OutOfMemory}
 use Rattle.ua_channel.specs.Headers.{RequestFields, request_header, response_header}
 use Rattle.ua_channel.specs.Taking.{State}
 use Rattle.ua_channel.specs.Sending.{chunks_of, number_after}
@@ -53,4 +54,4 @@ after_sent channel body = record channel { next = number_after channel.next (len
 -- a message was sent, or memory for it was wanting and all is as it was
 abbrev pub Sends : {T : Type 0} → State → ℕ → List ℕ → Result T ChannelFault → List ℕ → List ℕ → State → Type 0
 Sends old request body (Ok _) before now new = (now ≡ before ++ bytes_sent old request body) × (new ≡ after_sent old body)
-Sends old request body (Err fault) before now new = (now ≡ before) × (new ≡ old)
+Sends old request body (Err fault) before now new = (fault ≡ OutOfMemory) × (now ≡ before) × (new ≡ old)

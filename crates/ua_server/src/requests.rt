@@ -1,6 +1,6 @@
 //! Messages of a secure channel, and their answers (Part 4, 7.35).
 
-ghost use Rattle.std.specs.Prelude.{◌≡◌, [], Some, IfOk};
+ghost use Rattle.std.specs.Prelude.{◌≡◌, [], Some, IfOk, IfErr};
 ghost use Rattle.ua_binary.specs.Binary.{node_id};
 ghost use Rattle.ua_channel.specs.Taking.{IsReady};
 ghost use Rattle.ua_server.specs.Run.{Does};
@@ -46,7 +46,8 @@ fn service_fault(
     handle: u32,
     status: u32,
 ) -> Result<Vec<u8>, BinaryFault>
-    ensures { IfOk result (λ body. body.items ≡ service_fault now handle status) }
+    ensures ok { IfOk result (λ body. body.items ≡ service_fault now handle status) }
+    ensures err { IfErr result (λ fault. fault ≡ BinaryFault.OutOfMemory) }
 {
     let mut body = Vec::new(alloc);
     put_node_id(&mut body, &NodeId::Numeric(0, SERVICE_FAULT))?;
@@ -62,7 +63,8 @@ fn response(
     message: &[u8],
     now: Ticks,
 ) -> Result<Vec<u8>, BinaryFault>
-    ensures { IfOk result (λ body. body.items ≡ response_to channel.now now message.now) }
+    ensures ok { IfOk result (λ body. body.items ≡ response_to channel.now now message.now) }
+    ensures err { IfErr result (λ fault. fault ≡ BinaryFault.OutOfMemory) }
 {
     let (handle, status) = read_refusal(message);
     let body = service_fault(alloc, now, handle, status)?;
