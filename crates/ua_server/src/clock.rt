@@ -1,9 +1,9 @@
 //! Clocks.
 
-ghost use Rattle.std.specs.Prelude.{◌≡◌, ◌+◌, ◌-◌, ◌/◌, ◌^◌, min, pos, ◌∷◌, ◌++◌, [], List, ℤ};
+ghost use Rattle.std.specs.Prelude.{◌≡◌, ◌+◌, ◌-◌, ◌/◌, ◌^◌, ◌≤ℤ◌, min, pos, ◌∷◌, ◌++◌, [], List, ℤ};
 ghost use Rattle.std.specs.Duration.{as_nanos};
 ghost use Rattle.std.proofs.Common.{refl, ◌∙◌, subst, sym};
-ghost use Rattle.ua_server.specs.Readings.{AllAre, AllAre-append};
+ghost use Rattle.ua_server.specs.Readings.{AllAre, AllAre-append, AllSinceEpoch, AllSinceEpoch-append};
 
 use std::time::{Clock as TimeSource, Duration, SystemTime};
 
@@ -34,7 +34,7 @@ fn after_epoch(since: Duration) -> i64
     }
 }
 
-/// The system's clock. Before 1970, and where it can't be read, it is the Unix epoch. Nothing is promised of its readings.
+/// The system's clock. Before 1970, and where it can't be read, it is the Unix epoch. Each reading is the epoch or later; that it is the machine's time is not promised.
 #[derive(Clone, Copy)]
 pub struct SystemClock<'a, T> {
     source: &'a T,
@@ -47,19 +47,26 @@ impl<'a, T: TimeSource> SystemClock<'a, T> {
     }
 }
 
+/// A time of the machine as a moment: the Unix epoch where it is before that.
+fn moment_of(time: SystemTime) -> i64
+    ensures { pos 116444736000000000 ≤ℤ result }
+{
+    match time.duration_since(SystemTime::UNIX_EPOCH) {
+        Ok(since) => after_epoch(since),
+        Err(_) => EPOCH,
+    }
+}
+
 impl<T: TimeSource> Clock for SystemClock<'_, T> {
-    ghost gave = { λ a xs b. Unit };
+    ghost gave = { λ a xs b. AllSinceEpoch xs };
 
     ghost gave_none = { λ a. tt };
 
-    ghost gave_more = { λ a b c xs ys p q. tt };
+    ghost gave_more = { λ a b c xs ys p q. AllSinceEpoch-append xs ys p q };
 
     fn now(&mut self) -> i64 {
-        let Ok(now) = SystemTime::now(self.source) else {
-            return EPOCH;
-        };
-        match now.duration_since(SystemTime::UNIX_EPOCH) {
-            Ok(since) => after_epoch(since),
+        match SystemTime::now(self.source) {
+            Ok(now) => moment_of(now),
             Err(_) => EPOCH,
         }
     }
