@@ -1,0 +1,4 @@
+pub mod Drafts
+pub mod Surveys
+pub mod Operating
+pub mod Deletions

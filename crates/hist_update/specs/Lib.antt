@@ -1,0 +1,4 @@
+pub mod Codes
+pub mod Outcome
+pub mod Updates
+pub mod Setbacks
