@@ -2,3 +2,4 @@ pub mod Drafts
 pub mod Surveys
 pub mod Operating
 pub mod Deletions
+pub mod Updating

@@ -11,6 +11,7 @@ use Rattle.hist_update.specs.Outcome.{IsRequest, Write, DeleteAt, fits, source_t
 use Rattle.hist_update.specs.Setbacks.{Operates, IsPlace, IsNumber, candidate_of, IsDraft, is_long, refusal, Submits}
 use Rattle.hist_update.specs.declared.code.UpdateCode.TheVariants as code
 use Rattle.hist_update.specs.declared.setback.Setback.TheVariants as setback
+use Rattle.hist_update.proofs.Drafts.{short_node}
 use Rattle.hist_update.proofs.Operating.{settled, deleted_by}
 use Rattle.std.proofs.lemmas.Int.{to_z-of_z}
 use Rattle.hist_update.proofs.operate.delete.Goals as goal
@@ -21,4 +22,4 @@ returns g c =
     let is = rw (same, c.empty_value.ensures) at c.in_ok-candidate.ensures in
     let asks = rw same at (c.in_ok-place.ensures).asks in
     settled g.A.Archive.state c.args.archive.now c.survey.new.archive c.settle.new.archive c.args.request.now (DeleteAt c.args.time) (deletion c.args.time) c.in_ok-place.place c.in_ok-candidate.candidate c.settle.result
-    (deleted_by c.args.request.now (g.A.Archive.state c.args.archive.now).own c.args.time c.requires (search rules)) asks is c.settle.ensures.refused c.settle.ensures.submitted
+    (deleted_by c.args.request.now (g.A.Archive.state c.args.archive.now).own c.args.time (c.as_ref-node.ensures.spelled (short_node c.args.request.now.node c.requires.node)) c.requires (search rules)) asks is c.settle.ensures.refused c.settle.ensures.submitted
