@@ -3,3 +3,4 @@ pub mod Surveys
 pub mod Operating
 pub mod Deletions
 pub mod Updating
+pub mod Stretches

@@ -1,5 +1,5 @@
 -- Why an operation was not done, and one operation over an archive.
-use Rattle.std.specs.Prelude.{◌≡◌, ◌⊎◌, ℕ, ◌+◌, ◌≤◌, min, nat_lt, ℤ, pos, ◌≤ℤ◌, Bool, true, false, length, if◌then◌else◌, Option, Some, None, unwrap_or, Result, Ok, Err, IsErr}
+use Rattle.std.specs.Prelude.{◌≡◌, ◌⊎◌, ℕ, ◌+◌, ◌≤◌, min, nat_lt, ℤ, pos, ◌≤ℤ◌, Bool, true, false, List, map, length, if◌then◌else◌, Option, Some, None, unwrap_or, Result, Ok, Err, IsErr}
 use Rattle.std.specs.Int.{w64}
 use Rattle.std.specs.Int.RustNames.{FitsSigned}
 use Rattle.stamp.specs.Limits.{greatest, lift, IsReplica}
@@ -13,12 +13,13 @@ use Rattle.archive.specs.Store.{Store, Learns, Passes}
 use Rattle.hist_update.specs.declared.code.UpdateCode.{UpdateCode}
 use Rattle.hist_update.specs.declared.code.UpdateCode.TheVariants.{BadOutOfMemory, BadResourceUnavailable, BadEncodingLimitsExceeded}
 use Rattle.hist_update.specs.declared.request.Request.{Request}
+use Rattle.hist_update.specs.declared.result.UpdateResult.{UpdateResult}
 use Rattle.hist_update.specs.declared.setback.Setback.{Setback}
 use Rattle.hist_update.specs.declared.setback.Setback.TheVariants as setback
-use Rattle.hist_update.specs.Codes.{code_of_fault}
+use Rattle.hist_update.specs.Codes.{code_of_fault, first_other}
 use Rattle.hist_update.specs.declared.operate.Place.{Place}
-use Rattle.hist_update.specs.Outcome.{Operation, Change, id_length, change_by, outcome, after, is_live, conflict, record_by}
-use Rattle.hist_update.specs.Updates.{Mark, Fine, Starved, Met, code_by, left_by, faults_in}
+use Rattle.hist_update.specs.Outcome.{Operation, DeleteAt, Change, id_length, change_by, outcome, after, is_live, conflict, record_by}
+use Rattle.hist_update.specs.Updates.{Mark, Fine, Starved, Met, code_by, left_by, faults_in, Updates, IsRefused, listing_refusal}
 
 abbrev pub code_of : Setback → UpdateCode
 code_of (setback.Refused code) = code
@@ -95,3 +96,15 @@ told (Err fault) code = Err (of_learn fault)
 
 abbrev pub Submits : Store → Store → Record → UpdateCode → Result UpdateCode Setback → Type 0
 Submits old new r code result = (answer : Result Bool LearnFault) × Learns old new r answer × (result ≡ told answer code)
+
+-- ---- a listing
+
+-- a listing that is refused changes nothing, and so does one for whose codes there is no memory; else its source times are deleted at
+abbrev pub AnswersListed : {A : Type 0} → (A → Store) → A → A → Request → Option UpdateCode → List ℤ → UpdateResult → Type 0
+AnswersListed state x y request (Some code) times result = IsRefused code result × (y ≡ x)
+AnswersListed state x y request None times result =
+    (IsRefused BadOutOfMemory result × (y ≡ x))
+    ⊎ ((result.status ≡ first_other result.codes.items) × Updates (state x) (state y) request (map DeleteAt times) result.codes.items)
+
+abbrev pub AnswersLives : {A : Type 0} → (A → Store) → A → A → Request → List ℤ → UpdateResult → Type 0
+AnswersLives state x y request times result = (IsRefused BadOutOfMemory result × (y ≡ x)) ⊎ AnswersListed state x y request (listing_refusal times) times result

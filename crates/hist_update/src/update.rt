@@ -1,22 +1,22 @@
 //! Whole updates: lists of values or source times, and stretches of time.
 
-ghost use Rattle.std.specs.Prelude.{◌≡◌, ◌≤◌, ◌⊎◌, ℤ, pos, [], ◌++◌, map, length, take, IfSome, IfNone, IfOk, Some, None, false, vec_capacity, MatchResult};
+ghost use Rattle.std.specs.Prelude.{◌≡◌, ◌≤◌, ◌≤ℤ◌, pos, [], map, length, IfOk, None, false, vec_capacity};
 ghost use Rattle.std.specs.List.{AllByRecursion};
 ghost use Rattle.ua_variant.specs.DataValue.{IsDataValue};
-ghost use Rattle.archive.specs.Store.{Asks};
+ghost use Rattle.std.specs.Int.{w64};
+ghost use Rattle.std.specs.Int.RustNames.{FitsSigned};
 ghost use Rattle.hist_update.specs.Codes.{asked_by, count_refusal, first_other};
 ghost use Rattle.hist_update.specs.Outcome.{IsRequest, Write, DeleteAt};
 ghost use Rattle.records.specs.Records.{is_delete};
-ghost use Rattle.hist_update.specs.Setbacks.{code_told};
-ghost use Rattle.hist_update.specs.Updates.{Updates, AnswersList, AnswersStretch, data_refusal, writes, doomed, stretch_refusal, listing_refusal};
-ghost use Rattle.hist_update.specs.declared.code.UpdateCode.TheVariants as code;
+ghost use Rattle.hist_update.specs.Setbacks.{code_told, AnswersListed, AnswersLives};
+ghost use Rattle.hist_update.specs.Updates.{Updates, AnswersList, AnswersStretch, data_refusal, writes, last_of, stretch_refusal, listing_refusal};
 
 use crate::code::UpdateCode;
 use crate::operate::{delete, write};
 use crate::request::Request;
 use crate::result::UpdateResult;
 use crate::setback::Setback;
-use archive::{Archive, Direction, StoreFault};
+use archive::{Archive, Direction};
 use records::{Held, HistoryUpdateType};
 use std::alloc::{AllocError, Global};
 use ua_variant::{DataValue, ValueType};
@@ -165,26 +165,6 @@ fn times_of(alloc: Global, lives: &[Held]) -> Result<Vec<i64>, AllocError>
     Ok(times)
 }
 
-/// The source times of a node's live values in a stretch of time, the first 1,001 of them.
-fn listed<A: Archive>(
-    alloc: Global,
-    archive: &mut A,
-    request: &Request,
-    start: i64,
-    end: i64,
-) -> Result<Vec<i64>, Setback> {
-    let last = if start == end { end } else { end - 1 };
-    let lives = archive.range(
-        alloc,
-        &request.node,
-        start,
-        last,
-        Direction::Forward,
-        MOST + 1,
-    )?;
-    Ok(times_of(alloc, &lives)?)
-}
-
 /// The first code that isn't Good, or Good.
 fn first_other(codes: &[UpdateCode]) -> UpdateCode
     ensures { result ≡ first_other codes.now }
@@ -197,7 +177,7 @@ fn first_other(codes: &[UpdateCode]) -> UpdateCode
     UpdateCode::Good
 }
 
-/// Deletes at the times of a listing.
+/// Deletes at the source times of a listing.
 fn delete_listed<A: Archive>(
     alloc: Global,
     archive: &mut A,
@@ -205,6 +185,7 @@ fn delete_listed<A: Archive>(
     times: &[i64],
 ) -> UpdateResult
     requires { IsRequest request.now }
+    ensures { AnswersListed A.state archive.old archive.new request.now (listing_refusal times.now) times.now result }
 {
     if times.is_empty() {
         return UpdateResult::refused(alloc, UpdateCode::BadNoData);
@@ -217,6 +198,46 @@ fn delete_listed<A: Archive>(
         status: first_other(&deleted.codes),
         codes: deleted.codes,
     }
+}
+
+/// Deletes the live values of a listing.
+fn delete_lives<A: Archive>(
+    alloc: Global,
+    archive: &mut A,
+    request: &Request,
+    lives: &[Held],
+) -> UpdateResult
+    requires { IsRequest request.now }
+    ensures { AnswersLives A.state archive.old archive.new request.now (map (λ h. h.time) lives.now) result }
+{
+    match times_of(alloc, lives) {
+        Ok(times) => delete_listed(alloc, archive, request, &times),
+        Err(_) => UpdateResult::refused(alloc, UpdateCode::BadOutOfMemory),
+    }
+}
+
+/// Why a delete of a stretch of time is refused before the archive is asked.
+fn stretch_refusal(modified: bool, start: i64, end: i64) -> Option<UpdateCode>
+    ensures refused { result ≡ stretch_refusal modified start end }
+    ensures ordered { result ≡ None → (pos 1 ≤ℤ start) × (start ≤ℤ end) }
+{
+    if modified {
+        return Some(UpdateCode::BadHistoryOperationUnsupported);
+    }
+    if start < 1 || end < start {
+        return Some(UpdateCode::BadInvalidTimestampArgument);
+    }
+    None
+}
+
+/// The last source time of a stretch of time.
+fn last_of(start: i64, end: i64) -> i64
+    requires start { pos 1 ≤ℤ start }
+    requires end { start ≤ℤ end }
+    ensures last { result ≡ last_of start end }
+    ensures fits { FitsSigned w64 result }
+{
+    if start == end { end } else { end - 1 }
 }
 
 /// Deletes a node's live values from `start` up to but without `end`, or at the one instant where
@@ -232,14 +253,19 @@ pub fn delete_raw<A: Archive>(
     requires { IsRequest request.now }
     ensures { AnswersStretch A.state archive.old archive.new request.now (stretch_refusal modified start end) start end result }
 {
-    if modified {
-        return UpdateResult::refused(alloc, UpdateCode::BadHistoryOperationUnsupported);
+    if let Some(code) = stretch_refusal(modified, start, end) {
+        return UpdateResult::refused(alloc, code);
     }
-    if start < 1 || end < start {
-        return UpdateResult::refused(alloc, UpdateCode::BadInvalidTimestampArgument);
-    }
-    match listed(alloc, archive, request, start, end) {
-        Ok(times) => delete_listed(alloc, archive, request, &times),
-        Err(setback) => UpdateResult::refused(alloc, setback.code()),
+    let last = last_of(start, end);
+    match archive.range(
+        alloc,
+        &request.node,
+        start,
+        last,
+        Direction::Forward,
+        MOST + 1,
+    ) {
+        Ok(lives) => delete_lives(alloc, archive, request, &lives),
+        Err(fault) => UpdateResult::refused(alloc, Setback::Store(fault).code()),
     }
 }
