@@ -4,3 +4,7 @@ pub mod Operating
 pub mod Deletions
 pub mod Updating
 pub mod Stretches
+pub mod NewRecords
+pub mod Answered
+pub mod LawfulUpdates
+pub mod LiveTimes

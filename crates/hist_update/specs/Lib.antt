@@ -2,3 +2,4 @@ pub mod Codes
 pub mod Outcome
 pub mod Updates
 pub mod Setbacks
+pub mod Laws

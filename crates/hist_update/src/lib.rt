@@ -2,6 +2,7 @@
 #![tactic(auto)]
 
 mod code;
+mod laws;
 mod operate;
 mod request;
 mod result;
@@ -9,6 +10,10 @@ mod setback;
 mod update;
 
 pub use code::UpdateCode;
+pub use laws::{
+    codes_tell_what_was_done, new_records_come_last, stretches_have_the_live_times,
+    updates_keep_contents_lawful, updates_lose_nothing,
+};
 pub use request::Request;
 pub use result::UpdateResult;
 pub use update::{delete_at, delete_raw, update_data};
