@@ -1,6 +1,7 @@
 -- What the codes of operations tell, and what stands behind them.
-use Rattle.std.proofs.Common.{◌≡◌, ◌≢◌, ℕ, zero, suc, ◌+◌, ◌≤◌, ◌<◌, ℤ, Bool, true, false, List, [], ◌∷◌, slice_get, Option, Some, None, Result, Ok, Err, refl, sym, ap, ◌∙◌, subst, inl, inr, ◌⊎◌, arith}
+use Rattle.std.proofs.Common.{◌≡◌, ◌≢◌, ℕ, zero, suc, ◌+◌, ◌≤◌, ◌<◌, ℤ, Bool, true, false, List, [], ◌∷◌, slice_get, Option, Some, None, Result, Ok, Err, IsErr, refl, sym, ap, ◌∙◌, subst, inl, inr, ◌⊎◌, arith}
 use Rattle.std.specs.Prelude.{if◌then◌else◌, int_lt, pos}
+use Rattle.std.proofs.lemmas.Bool.{true≢false}
 use Rattle.std.proofs.lemmas.Option.{none-some, same_Some}
 use Rattle.stamp.specs.Limits.{lift}
 use Rattle.ua_variant.specs.declared.data.DataValue.{DataValue}
@@ -19,7 +20,7 @@ use Rattle.hist_update.specs.declared.code.UpdateCode.TheVariants.{Good, GoodEnt
 use Rattle.hist_update.specs.declared.request.Request.{Request}
 use Rattle.hist_update.specs.Codes.{number_of_code, code_of_fault}
 use Rattle.hist_update.specs.Outcome.{Operation, Write, DeleteAt, Change, Outcome, Refused, Added, change_by, written, timed, typed, fits, time_judged, source_time, sized, is_too_long, writing, deletion, outcome, outcome_of, judged, stamped, conflict, done, is_live, after}
-use Rattle.hist_update.specs.Updates.{Mark, Fine, Starved, Met, Step, code_by, left_by, codes_by, updated}
+use Rattle.hist_update.specs.Updates.{Mark, Fine, Starved, Met, Step, code_by, left_by, codes_by, updated, Stands, AreEnded}
 use Rattle.hist_update.specs.Laws.{IsBad, IsGood, IsRecordOf, IsAnsweredAt}
 use Rattle.hist_update.proofs.NewRecords.{Made, made, new_next}
 
@@ -184,3 +185,68 @@ left_closed R own request op Fine closed = go (outcome R own request op) refl
 pub updated_closed : (R : Content) (own : ℕ) (request : Request) (steps : List Step) → IsClosed R → IsClosed (updated R own request steps)
 updated_closed R own request [] closed = closed
 updated_closed R own request (s ∷ steps) closed = updated_closed (left_by R (outcome R own request s.0) s.1) own request steps (left_closed R own request s.0 s.1 closed)
+
+-- ---- what an opening may find
+
+stands_within : (R : Content) (own : ℕ) (request : Request) (steps : List Step) (left : Content) → Stands R own request steps left → IsWithin R left
+stands_within R own request [] left h r k = subst (λ S. Has S r) (sym h) k
+stands_within R own request ((op, Fine) ∷ steps) left h r k = stands_within (after R (outcome R own request op)) own request steps left h r (left_within R (outcome R own request op) Fine r k)
+stands_within R own request ((op, Starved) ∷ steps) left h r k = stands_within R own request steps left h r k
+stands_within R own request ((op, Met fault.OutOfMemory) ∷ steps) left h r k = stands_within R own request steps left h r k
+stands_within R own request ((op, Met fault.Refused) ∷ steps) left h r k = stands_within R own request steps left h r k
+stands_within R own request ((op, Met fault.WrongReplica) ∷ steps) left h r k = stands_within R own request steps left h r k
+stands_within R own request ((op, Met fault.WrongArchive) ∷ steps) left h r k = stands_within R own request steps left h r k
+stands_within R own request ((op, Met fault.Broken) ∷ steps) left h r k = elim h [
+  | inl e ↦ subst (λ S. Has S r) (sym e) k
+  | inr e ↦ subst (λ S. Has S r) (sym e) (left_within R (outcome R own request op) Fine r k)
+]
+
+rest_answered : (R : Content) (own : ℕ) (request : Request) (s : Step) (steps : List Step) (k : ℕ) (op : Operation) (code : UpdateCode)
+    → IsAnsweredAt R own request (s ∷ steps) (suc k) op code → IsAnsweredAt (left_by R (outcome R own request s.0) s.1) own request steps k op code
+rest_answered R own request s steps k op code a = record { step = a.step; there = a.there; is = a.is; told = a.told }
+
+first_code : (R : Content) (own : ℕ) (request : Request) (s : Step) (steps : List Step) (op : Operation) (code : UpdateCode)
+    → IsAnsweredAt R own request (s ∷ steps) zero op code → code_by (outcome R own request s.0) s.1 ≡ code
+first_code R own request s steps op code a = same_Some _ _ a.told
+
+ended_bad : (R : Content) (own : ℕ) (request : Request) (op : Operation) (m : Mark) → (m ≡ Fine → IsErr (change_by request own op)) → IsBad (code_by (outcome R own request op) m)
+ended_bad R own request op Starved h = omega arith
+ended_bad R own request op (Met f) h = fault_bad f
+ended_bad R own request op Fine h = go (change_by request own op) refl (h refl)
+  where
+    go : (x : Result Change UpdateCode) → change_by request own op ≡ x → IsErr x → IsBad (code_by (outcome_of R own request x) Fine)
+    go (Err c) e k = change_bad request own op c e
+    go (Ok change) e k = absurd (true≢false (sym k))
+
+-- behind a break no code is Good
+none_good : (R : Content) (own : ℕ) (request : Request) (steps : List Step) (k : ℕ) (op : Operation) (code : UpdateCode)
+    → AreEnded true own request steps → IsAnsweredAt R own request steps k op code → IsGood code → ⊥
+none_good R own request [] k op code ended a good = absurd (none-some _ a.there)
+none_good R own request (s ∷ steps) zero op code ended a good =
+    not_both code (subst IsBad (first_code R own request s steps op code a) (ended_bad R own request s.0 s.1 (ended.0 refl))) good
+none_good R own request (s ∷ steps) (suc k) op code ended a good =
+    none_good (left_by R (outcome R own request s.0) s.1) own request steps k op code ended.1 (rest_answered R own request s steps k op code a) good
+
+pub good_found : (R : Content) (own : ℕ) (request : Request) (steps : List Step) (left : Content) (k : ℕ) (op : Operation) (code : UpdateCode)
+    → Stands R own request steps left → AreEnded false own request steps → IsAnsweredAt R own request steps k op code → IsGood code → (r : Record) × Has left r × IsRecordOf request own op r
+good_found R own request [] left k op code h ended a good = absurd (none-some _ a.there)
+good_found R own request ((o, Fine) ∷ steps) left zero op code h ended a good =
+    let step : (o, Fine) ≡ a.step = same_Some _ _ a.there in
+    let d = good_done R own request o Fine (subst IsGood (sym (first_code R own request (o, Fine) steps op code a)) good) in
+    let there : Has (after R (outcome R own request o)) d.0 = subst (λ S. Has S d.0) (sym d.2) (has-put d.0 R d.0 (inl refl)) in
+    (d.0, stands_within (after R (outcome R own request o)) own request steps left h d.0 there, subst (λ x. IsRecordOf request own x d.0) (ap (λ (t : Step). t.0) step ∙ a.is) d.3)
+good_found R own request ((o, Starved) ∷ steps) left zero op code h ended a good = not_both BadOutOfMemory (omega arith) (subst IsGood (sym (first_code R own request (o, Starved) steps op code a)) good)
+good_found R own request ((o, Met f) ∷ steps) left zero op code h ended a good = not_both (code_of_fault f) (fault_bad f) (subst IsGood (sym (first_code R own request (o, Met f) steps op code a)) good)
+good_found R own request ((o, Fine) ∷ steps) left (suc k) op code h ended a good =
+    good_found (after R (outcome R own request o)) own request steps left k op code h ended.1 (rest_answered R own request (o, Fine) steps k op code a) good
+good_found R own request ((o, Starved) ∷ steps) left (suc k) op code h ended a good = good_found R own request steps left k op code h ended.1 (rest_answered R own request (o, Starved) steps k op code a) good
+good_found R own request ((o, Met fault.OutOfMemory) ∷ steps) left (suc k) op code h ended a good =
+    good_found R own request steps left k op code h ended.1 (rest_answered R own request (o, Met fault.OutOfMemory) steps k op code a) good
+good_found R own request ((o, Met fault.Refused) ∷ steps) left (suc k) op code h ended a good =
+    good_found R own request steps left k op code h ended.1 (rest_answered R own request (o, Met fault.Refused) steps k op code a) good
+good_found R own request ((o, Met fault.WrongReplica) ∷ steps) left (suc k) op code h ended a good =
+    good_found R own request steps left k op code h ended.1 (rest_answered R own request (o, Met fault.WrongReplica) steps k op code a) good
+good_found R own request ((o, Met fault.WrongArchive) ∷ steps) left (suc k) op code h ended a good =
+    good_found R own request steps left k op code h ended.1 (rest_answered R own request (o, Met fault.WrongArchive) steps k op code a) good
+good_found R own request ((o, Met fault.Broken) ∷ steps) left (suc k) op code h ended a good =
+    absurd (none_good R own request steps k op code ended.1 (rest_answered R own request (o, Met fault.Broken) steps k op code a) good)

@@ -92,9 +92,11 @@ or-assoc false y z = refl
 ended-then : (broken : Bool) (own : ℕ) (request : Request) (steps : List Step) (s : Step)
     → AreEnded broken own request steps → ((broken || list_any is_break (faults_of steps)) ≡ true → s.1 ≡ Fine → IsErr (change_by request own s.0)) → AreEnded broken own request (then steps s)
 ended-then broken own request [] s h last = (λ e f. last (or-false broken ∙ e) f, tt)
-ended-then broken own request (t ∷ steps) s h last =
-    (h.0, ended-then (broken || breaks t.1) own request steps s h.1
-    (λ e f. last (ap (λ y. broken || y) (any-or false (faults_in t.1) (faults_of steps)) ∙ (sym (or-assoc broken (breaks t.1) (list_any is_break (faults_of steps))) ∙ e)) f))
+ended-then broken own request (t ∷ steps) s h last = (
+  h.0,
+  ended-then (broken || breaks t.1) own request steps s h.1
+      (λ e f. last (ap (λ y. broken || y) (any-or false (faults_in t.1) (faults_of steps)) ∙ (sym (or-assoc broken (breaks t.1) (list_any is_break (faults_of steps))) ∙ e)) f),
+)
 
 -- ---- an operation behind a break
 

@@ -13,7 +13,7 @@ ghost use Rattle.archive.specs.Store.{IsLawfulContent};
 ghost use Rattle.hist_update.specs.declared.code.UpdateCode.{UpdateCode};
 ghost use Rattle.hist_update.specs.declared.request.Request.{Request as Asker};
 ghost use Rattle.hist_update.specs.Outcome.{Operation, IsRequest, Refused, Added, outcome};
-ghost use Rattle.hist_update.specs.Updates.{Mark, Step, code_by, left_by, updated, doomed};
+ghost use Rattle.hist_update.specs.Updates.{Mark, Step, code_by, left_by, updated, Stands, AreEnded, doomed};
 ghost use Rattle.hist_update.specs.Laws.{IsBad, IsGood, IsRecordOf, IsAnsweredAt, IsSpelled, IsOperation, IsDoomed};
 
 /// A new record is its origin's next, its tick is above every tick held, and it is the last of its
@@ -39,11 +39,14 @@ pub fn codes_tell_what_was_done()
 {}
 
 /// What was held before some operations is held behind them, and the record of each operation of a
-/// Good code is.
+/// Good code is. What an opening may find behind them has it too, also where one of them broke the
+/// store.
 pub fn updates_lose_nothing()
     ensures within { (R : Content) (own : ℕ) (q : Asker) (steps : List Step) → IsWithin R (updated R own q steps) }
     ensures stands { (R : Content) (own : ℕ) (q : Asker) (steps : List Step) (k : ℕ) (op : Operation) (code : UpdateCode) → IsAnsweredAt R own q steps k op code → IsGood code
         → (r : Record) × Has (updated R own q steps) r × IsRecordOf q own op r }
+    ensures found { (R : Content) (own : ℕ) (q : Asker) (steps : List Step) (left : Content) (k : ℕ) (op : Operation) (code : UpdateCode) → Stands R own q steps left → AreEnded false own q steps
+        → IsAnsweredAt R own q steps k op code → IsGood code → (r : Record) × Has left r × IsRecordOf q own op r }
 {}
 
 /// Behind some operations a closed content is closed, and one of lawful records has no others.

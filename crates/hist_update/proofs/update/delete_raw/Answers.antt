@@ -23,8 +23,8 @@ returns-in-Ok g c =
     let free = c.in_default.ensures.refused ∙ both (stretch_refusal c.args.modified) _ _ _ _ first final in
     let lives = c.deref.result.now in
     let told : c.in-Ok.lives.items ≡ take 1001 (range_of R node _ _ Forward) → map (λ (h : Held). h.time) lives ≡ take 1001 (doomed R node c.args.start c.args.end) = λ e.
-        ap (map (λ (h : Held). h.time)) (c.deref.ensures.value ∙ (e ∙ both (λ s t. take 1001 (range_of R node s t Forward)) _ _ _ _ first last))
-        ∙ sym (take-map (λ (h : Held). h.time) 1001 (range_of R node c.args.start (last_of c.args.start c.args.end) Forward)) in
+    ap (map (λ (h : Held). h.time)) (c.deref.ensures.value ∙ (e ∙ both (λ s t. take 1001 (range_of R node s t Forward)) _ _ _ _ first last))
+    ∙ sym (take-map (λ (h : Held). h.time) 1001 (range_of R node c.args.start (last_of c.args.start c.args.end) Forward)) in
     subst (λ (r : Option UpdateCode). AnswersStretch g.A.Archive.state c.args.archive.now c.delete_lives.new.archive c.args.request.now r c.args.start c.args.end c.delete_lives.result) free
     (stretched g.A.Archive.state c.args.archive.now c.range.new.self c.delete_lives.new.archive c.in-Ok.lives _ (map (λ (h : Held). h.time) lives) c.args.request.now c.args.start c.args.end c.delete_lives.result
     c.in-Ok.ensures told c.delete_lives.ensures)
