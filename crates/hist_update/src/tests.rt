@@ -565,41 +565,41 @@ fn stretches_are_deleted(rt: HostRuntime) -> Result<(), Fail> {
 }
 
 /// Which call of the archive fails, how, and the codes of inserts at 10, at 10 again and at 20.
-static FAILURES: [(u64, Failure, [UpdateCode; 3]); 9] = [
+static FAILURES: [(u64, Failure, &[UpdateCode]); 9] = [
     (
         0,
         Failure::Refused,
-        [GoodEntryInserted, BadEntryExists, GoodEntryInserted],
+        &[GoodEntryInserted, BadEntryExists, GoodEntryInserted],
     ),
     (
         1,
         Failure::OutOfMemory,
-        [BadOutOfMemory, GoodEntryInserted, GoodEntryInserted],
+        &[BadOutOfMemory, GoodEntryInserted, GoodEntryInserted],
     ),
     (
         2,
         Failure::Refused,
-        [BadResourceUnavailable, GoodEntryInserted, GoodEntryInserted],
+        &[BadResourceUnavailable, GoodEntryInserted, GoodEntryInserted],
     ),
     (
         3,
         Failure::Refused,
-        [BadResourceUnavailable, GoodEntryInserted, GoodEntryInserted],
+        &[BadResourceUnavailable, GoodEntryInserted, GoodEntryInserted],
     ),
     (
         4,
         Failure::OutOfMemory,
-        [BadOutOfMemory, GoodEntryInserted, GoodEntryInserted],
+        &[BadOutOfMemory, GoodEntryInserted, GoodEntryInserted],
     ),
     (
         4,
         Failure::Refused,
-        [BadResourceUnavailable, GoodEntryInserted, GoodEntryInserted],
+        &[BadResourceUnavailable, GoodEntryInserted, GoodEntryInserted],
     ),
     (
         4,
         Failure::BrokenBefore,
-        [
+        &[
             BadResourceUnavailable,
             BadResourceUnavailable,
             BadResourceUnavailable,
@@ -608,7 +608,7 @@ static FAILURES: [(u64, Failure, [UpdateCode; 3]); 9] = [
     (
         4,
         Failure::BrokenAfter,
-        [
+        &[
             BadResourceUnavailable,
             BadResourceUnavailable,
             BadResourceUnavailable,
@@ -617,7 +617,7 @@ static FAILURES: [(u64, Failure, [UpdateCode; 3]); 9] = [
     (
         8,
         Failure::OutOfMemory,
-        [GoodEntryInserted, BadEntryExists, BadOutOfMemory],
+        &[GoodEntryInserted, BadEntryExists, BadOutOfMemory],
     ),
 ];
 
@@ -643,7 +643,7 @@ fn faults_have_their_codes(rt: HostRuntime) -> Result<(), Fail> {
     for (call, failure, codes) in &FAILURES {
         let told = inserts_three(rt.alloc(), *call, *failure)?;
         assert!(rt;
-            told.status == Good && told.codes.as_slice() == codes.as_slice(),
+            told.status == Good && told.codes.as_slice() == *codes,
             "{call} {failure:?}"
         );
     }
