@@ -1,11 +1,9 @@
 -- What the codes of operations tell, and what stands behind them.
-use Rattle.std.proofs.Common.{◌≡◌, ◌≢◌, ℕ, zero, suc, ◌+◌, ◌≤◌, ◌<◌, ℤ, Bool, true, false, List, [], ◌∷◌, slice_get, Option, Some, None, Result, Ok, Err, IsErr, refl, sym, ap, ◌∙◌, subst, inl, inr, ◌⊎◌, arith}
+use Rattle.std.proofs.Common.{◌≡◌, ℕ, zero, suc, ℤ, Bool, true, false, List, [], ◌∷◌, Option, Some, None, Result, Ok, Err, IsErr, refl, sym, ap, ◌∙◌, subst, inl, inr, ◌⊎◌, arith}
 use Rattle.std.specs.Prelude.{if◌then◌else◌, int_lt, pos}
 use Rattle.std.proofs.lemmas.Bool.{true≢false}
 use Rattle.std.proofs.lemmas.Option.{none-some, same_Some}
 use Rattle.stamp.specs.Limits.{lift}
-use Rattle.ua_variant.specs.declared.data.DataValue.{DataValue}
-use Rattle.ua_variant.specs.declared.value.ValueType.{ValueType}
 use Rattle.records.specs.declared.record.Record.{Record}
 use Rattle.records.specs.declared.record.HistoryUpdateType.{HistoryUpdateType}
 use Rattle.records.specs.declared.record.HistoryUpdateType.TheVariants.{Insert, Replace, Update, Delete}
@@ -16,13 +14,13 @@ use Rattle.records.proofs.LearnLemmas.{closed-next}
 use Rattle.archive.specs.declared.fault.StoreFault.{StoreFault}
 use Rattle.archive.specs.declared.fault.StoreFault.TheVariants as fault
 use Rattle.hist_update.specs.declared.code.UpdateCode.{UpdateCode}
-use Rattle.hist_update.specs.declared.code.UpdateCode.TheVariants.{Good, GoodEntryInserted, GoodEntryReplaced, BadOutOfMemory, BadResourceUnavailable, BadEncodingLimitsExceeded, BadInvalidTimestamp, BadTypeMismatch, BadEntryExists, BadNoEntryExists}
+use Rattle.hist_update.specs.declared.code.UpdateCode.TheVariants.{BadOutOfMemory, BadResourceUnavailable, BadEncodingLimitsExceeded, BadInvalidTimestamp, BadTypeMismatch, BadEntryExists, BadNoEntryExists}
 use Rattle.hist_update.specs.declared.request.Request.{Request}
-use Rattle.hist_update.specs.Codes.{number_of_code, code_of_fault}
-use Rattle.hist_update.specs.Outcome.{Operation, Write, DeleteAt, Change, Outcome, Refused, Added, change_by, written, timed, typed, fits, time_judged, source_time, sized, is_too_long, writing, deletion, outcome, outcome_of, judged, stamped, conflict, done, is_live, after}
-use Rattle.hist_update.specs.Updates.{Mark, Fine, Starved, Met, Step, code_by, left_by, codes_by, updated, Stands, AreEnded}
+use Rattle.hist_update.specs.Codes.{code_of_fault}
+use Rattle.hist_update.specs.Outcome.{Operation, Write, DeleteAt, Change, Outcome, Refused, Added, change_by, written, timed, typed, fits, source_time, is_too_long, writing, deletion, outcome, outcome_of, judged, stamped, conflict, done, is_live, after}
+use Rattle.hist_update.specs.Updates.{Mark, Fine, Starved, Met, Step, code_by, left_by, updated, Stands, AreEnded}
 use Rattle.hist_update.specs.Laws.{IsBad, IsGood, IsRecordOf, IsAnsweredAt}
-use Rattle.hist_update.proofs.NewRecords.{Made, made, new_next}
+use Rattle.hist_update.proofs.NewRecords.{made, new_next}
 
 -- ---- the codes
 

@@ -1,14 +1,13 @@
 -- A delete is never too long.
-use Rattle.std.proofs.Common.{◌≡◌, ℕ, ◌+◌, ◌≤◌, ◌<◌, ◌^◌, ◌==◌, nat_lt, ℤ, pos, Bool, true, false, ◌&&◌, List, ◌∷◌, length, refl, arith}
+use Rattle.std.proofs.Common.{◌≡◌, ℕ, ◌≤◌, ◌==◌, nat_lt, ℤ, pos, Bool, true, false, ◌&&◌, ◌∷◌, length, arith}
 use Rattle.std.specs.Prelude.{if◌then◌else◌}
 use Rattle.std.proofs.lemmas.Bool.{le-ltb}
-use Rattle.std.proofs.lemmas.List.{length-append}
-use Rattle.ua_binary.specs.Binary.{unsigned, guid, text, byte_string, node_id, node_form, IsNodeId}
+use Rattle.ua_binary.specs.Binary.{unsigned, node_id, node_form, IsNodeId}
 use Rattle.ua_binary.specs.declared.values.NodeId.{NodeId}
 use Rattle.ua_binary.specs.declared.values.NodeId.TheVariants.{Numeric, Named, Global, Opaque}
 use Rattle.ua_binary.proofs.Sizes.{text_length, byte_string_length, guid_length}
 use Rattle.ua_variant.specs.DataValue.{data_value}
-use Rattle.records.specs.Spelling.{empty, fields, longest}
+use Rattle.records.specs.Spelling.{empty}
 use Rattle.records.proofs.Sizes.{fields_length}
 use Rattle.hist_update.specs.declared.request.Request.{Request}
 use Rattle.hist_update.specs.Outcome.{IsRequest, id_length, deletion, record_by, is_too_long}

@@ -1,5 +1,5 @@
 -- A content of lawful records has no others behind some operations.
-use Rattle.std.proofs.Common.{◌≡◌, ℕ, ◌+◌, ◌≤◌, ℤ, pos, ◌≤ℤ◌, Bool, true, false, List, [], ◌∷◌, length, nat_lt, Option, Some, None, IfSome, Result, Ok, Err, refl, sym, ap, ◌∙◌, subst, arith}
+use Rattle.std.proofs.Common.{◌≡◌, ℕ, ◌+◌, ℤ, pos, ◌≤ℤ◌, Bool, true, false, List, [], ◌∷◌, Option, Some, None, IfSome, Result, Ok, Err, refl, sym, subst, arith}
 use Rattle.std.specs.Prelude.{if◌then◌else◌, int_lt}
 use Rattle.std.specs.Int.{w64}
 use Rattle.std.specs.Int.RustNames.{FitsSigned}
@@ -10,13 +10,9 @@ use Rattle.std.proofs.lemmas.Option.{none-some, same_Some}
 use Rattle.stamp.specs.Limits.{IsReplica}
 use Rattle.ua_binary.specs.declared.values.Ticks.{Ticks}
 use Rattle.ua_variant.specs.DataValue.{IsDataValue}
-use Rattle.ua_variant.specs.declared.data.DataValue.{DataValue}
-use Rattle.ua_variant.specs.declared.value.ValueType.{ValueType}
 use Rattle.records.specs.declared.record.Record.{Record}
-use Rattle.records.specs.declared.record.HistoryUpdateType.{HistoryUpdateType}
-use Rattle.records.specs.Records.{is_delete}
-use Rattle.records.specs.Contents.{Content, put, vec}
-use Rattle.records.specs.Spelling.{IsLawfulRecord, is_value_for, fields, longest}
+use Rattle.records.specs.Contents.{Content, vec}
+use Rattle.records.specs.Spelling.{IsLawfulRecord, is_value_for}
 use Rattle.records.proofs.Sizes.{fields_length}
 use Rattle.records.proofs.LearnLemmas.{le_from_not, finding_next}
 use Rattle.archive.specs.Store.{IsLawfulContent}
@@ -24,12 +20,12 @@ use Rattle.archive.proofs.Listing.{lawful_put}
 use Rattle.hist_update.specs.declared.code.UpdateCode.{UpdateCode}
 use Rattle.hist_update.specs.declared.code.UpdateCode.TheVariants.{BadEncodingLimitsExceeded, BadInvalidTimestamp}
 use Rattle.hist_update.specs.declared.request.Request.{Request}
-use Rattle.hist_update.specs.Outcome.{Operation, Write, DeleteAt, Change, Outcome, Refused, Added, IsRequest, change_by, written, timed, typed, fits, source_time, is_too_long, writing, deletion, outcome, record_by, after}
+use Rattle.hist_update.specs.Outcome.{Operation, Write, DeleteAt, Change, Outcome, Refused, Added, IsRequest, change_by, written, timed, typed, fits, source_time, is_too_long, writing, deletion, outcome, record_by}
 use Rattle.hist_update.specs.Updates.{Mark, Fine, Starved, Met, Step, left_by, updated}
 use Rattle.hist_update.specs.Laws.{IsSpelled, IsOperation}
 use Rattle.hist_update.proofs.Deletions.{deletion_short}
 use Rattle.hist_update.proofs.Operating.{is_new}
-use Rattle.hist_update.proofs.NewRecords.{Made, made, new_next}
+use Rattle.hist_update.proofs.NewRecords.{made, new_next}
 
 record IsChange (request : Request) (own : ℕ) (change : Change) : Type 0 where
   pub time : pos 1 ≤ℤ change.time

@@ -1,5 +1,5 @@
 -- The source times that a delete of a stretch of time deletes at.
-use Rattle.std.proofs.Common.{◌≡◌, ℤ, pos, ◌≤ℤ◌, ◌<ℤ◌, ◌-ℤ◌, ◌↔◌, Bool, true, false, List, Option, Some, None, refl, sym, ap, ◌∙◌, subst, inl, inr, ◌⊎◌, arith, is_some}
+use Rattle.std.proofs.Common.{◌≡◌, ℤ, pos, ◌≤ℤ◌, ◌<ℤ◌, ◌-ℤ◌, ◌↔◌, Bool, true, false, Option, Some, None, refl, sym, ap, ◌∙◌, subst, inl, inr, arith, is_some}
 use Rattle.std.specs.Prelude.{if◌then◌else◌}
 use Rattle.std.specs.Ordering.{int_eq}
 use Rattle.std.proofs.lemmas.Bool.{true≢false}
@@ -17,7 +17,6 @@ use Rattle.archive.specs.Queries.{IsInRange}
 use Rattle.archive.proofs.Ranges.{range_has, range_goes}
 use Rattle.archive.proofs.Timing.{current_time}
 use Rattle.archive.proofs.Turning.{has-map, has_from_map, pairwise-map}
-use Rattle.hist_update.specs.Outcome.{is_live}
 use Rattle.hist_update.specs.Updates.{last_of, doomed}
 use Rattle.hist_update.specs.Laws.{IsInStretch, IsDoomed}
 

@@ -1,32 +1,23 @@
 -- How a new record came to be, and that it comes last.
-use Rattle.std.proofs.Common.{◌≡◌, ◌≢◌, ℕ, suc, ◌+◌, ◌≤◌, ◌<◌, ℤ, pos, ◌≤ℤ◌, ◌<ℤ◌, ◌-ℤ◌, ◌↔◌, Bool, true, false, List, [], ◌∷◌, map, length, slice_get, nat_lt, Option, Some, None, Result, Ok, Err, refl, sym, ap, ◌∙◌, subst, inl, inr, ◌⊎◌, arith}
-use Rattle.std.specs.Prelude.{if◌then◌else◌, int_lt}
+use Rattle.std.proofs.Common.{◌≡◌, ℕ, ◌+◌, ℤ, ◌<ℤ◌, true, false, Option, Some, None, Result, Ok, Err, refl, sym, ap, subst, inl, inr, arith}
 use Rattle.std.specs.declared.cmp.Ordering.{Ordering}
 use Rattle.std.specs.declared.cmp.Ordering.TheVariants.{Less}
-use Rattle.std.specs.Ordering.{int_cmp, nat_cmp, ordering_then}
+use Rattle.std.specs.Ordering.{nat_cmp, ordering_then}
 use Rattle.std.specs.Cmp.{int_cmp_is}
-use Rattle.std.specs.List.{AllByRecursion}
 use Rattle.std.proofs.lemmas.Int.{ints}
-use Rattle.std.proofs.lemmas.Option.{none-some, same_Some}
-use Rattle.stamp.specs.Limits.{greatest, lift}
+use Rattle.stamp.specs.Limits.{lift}
 use Rattle.records.specs.declared.record.Record.{Record}
-use Rattle.records.specs.declared.record.HistoryUpdateType.{HistoryUpdateType}
-use Rattle.records.specs.declared.record.HistoryUpdateType.TheVariants.{Insert, Replace, Update, Delete}
 use Rattle.records.specs.declared.shown.Held.{Held}
 use Rattle.records.specs.Lists.{Has, last}
 use Rattle.records.specs.Records.{is_delete, stamp_cmp, story, current}
-use Rattle.records.specs.Contents.{Content, vec, top, put, IsClosed, IsNext, IsLatest, IsWithin}
+use Rattle.records.specs.Contents.{Content, vec, top, put, IsClosed, IsNext, IsLatest}
 use Rattle.records.proofs.PutLemmas.{has-put, has_from_put, top_bounds}
 use Rattle.records.proofs.CloseLemmas.{closed_stamps}
 use Rattle.records.proofs.LearnLemmas.{closed-next}
 use Rattle.records.proofs.LatestLemmas.{latest_last, latest_written, latest_deleted}
 use Rattle.hist_update.specs.declared.code.UpdateCode.{UpdateCode}
-use Rattle.hist_update.specs.declared.code.UpdateCode.TheVariants.{Good, GoodEntryInserted, GoodEntryReplaced, BadOutOfMemory, BadResourceUnavailable, BadEncodingLimitsExceeded, BadInvalidTimestamp, BadTypeMismatch, BadEntryExists, BadNoEntryExists}
 use Rattle.hist_update.specs.declared.request.Request.{Request}
-use Rattle.hist_update.specs.Codes.{number_of_code, code_of_fault}
-use Rattle.hist_update.specs.Outcome.{Operation, Write, DeleteAt, Change, Outcome, Refused, Added, change_by, outcome, outcome_of, judged, stamped, conflict, done, is_live, record_by, code_in, after}
-use Rattle.hist_update.specs.Updates.{Mark, Fine, Starved, Met, Step, code_by, left_by, codes_by, updated}
-use Rattle.hist_update.specs.Laws.{IsBad, IsGood, IsRecordOf, IsAnsweredAt}
+use Rattle.hist_update.specs.Outcome.{Operation, Change, Outcome, Refused, Added, change_by, outcome, outcome_of, judged, stamped, conflict, done, is_live, record_by}
 use Rattle.hist_update.proofs.Operating.{lifted, is_new}
 
 -- ---- how a record came to be

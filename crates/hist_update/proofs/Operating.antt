@@ -1,14 +1,13 @@
 -- One operation over an archive: a survey, a record, and what the archive makes of it.
-use Rattle.std.proofs.Common.{◌≡◌, ℕ, ◌+◌, ◌≤◌, ◌<◌, ℤ, pos, ◌≤ℤ◌, ◌<ℤ◌, min, Bool, true, false, List, [], ◌∷◌, length, Option, Some, None, IfSome, IfNone, unwrap_or, Result, Ok, Err, IsErr, IfOk, refl, sym, ap, ◌∙◌, subst, inl, inr, ◌⊎◌, arith, nat_lt, int_lt, ◌+ℤ◌}
+use Rattle.std.proofs.Common.{◌≡◌, ℕ, ◌+◌, ◌≤◌, ℤ, pos, ◌≤ℤ◌, ◌<ℤ◌, min, Bool, true, false, Option, Some, None, IfSome, IfNone, unwrap_or, Result, Ok, Err, IsErr, refl, sym, ap, ◌∙◌, subst, inl, inr, ◌⊎◌, arith, nat_lt, int_lt, ◌+ℤ◌}
 use Rattle.std.specs.Prelude.{if◌then◌else◌}
 use Rattle.std.specs.Int.{int_max, int_min}
-use Rattle.std.proofs.Math.Bool.{or-false}
 use Rattle.std.proofs.lemmas.Bool.{true≢false}
 use Rattle.std.proofs.lemmas.Int.{ints, clamps}
 use Rattle.std.proofs.lemmas.Option.{none-some, same_Some}
 use Rattle.stamp.specs.Limits.{greatest, lift}
 use Rattle.records.specs.declared.record.Record.{Record}
-use Rattle.records.specs.Spelling.{fields, longest, is_value_for}
+use Rattle.records.specs.Spelling.{longest}
 use Rattle.records.specs.Records.{is_delete}
 use Rattle.records.specs.declared.record.HistoryUpdateType.{HistoryUpdateType}
 use Rattle.ua_binary.specs.Binary.{IsNodeId}
@@ -17,7 +16,7 @@ use Rattle.ua_variant.specs.declared.data.DataValue.{DataValue}
 use Rattle.ua_variant.specs.declared.value.ValueType.{ValueType}
 use Rattle.ua_variant.specs.DataValue.{IsDataValue}
 use Rattle.std.specs.Option.{option_and_then}
-use Rattle.records.specs.Contents.{Content, vec, top, last_tick, finding, Adds, Holds, Clash, Gap, TickTooFar, TickNotRising, after_finding, learned, put, IsClosed, IsNext}
+use Rattle.records.specs.Contents.{Content, vec, top, last_tick, finding, Adds, after_finding, learned, put, IsClosed}
 use Rattle.records.proofs.Sizes.{fields_length}
 use Rattle.records.proofs.LearnLemmas.{finding_next, lt_from_test, le_from_not}
 use Rattle.records.proofs.PutLemmas.{last_tick_within}
@@ -25,7 +24,7 @@ use Rattle.records.proofs.GreatestLemmas.{numbers_below}
 use Rattle.archive.specs.declared.fault.StoreFault.{StoreFault}
 use Rattle.archive.specs.declared.fault.LearnFault.{LearnFault}
 use Rattle.archive.specs.declared.fault.LearnFault.TheVariants as refused
-use Rattle.archive.specs.Store.{Store, Leaves, Asks, Learns, fault_in, store_fault_in, answer_to}
+use Rattle.archive.specs.Store.{Store, Leaves, Asks, Learns, store_fault_in, answer_to}
 use Rattle.hist_update.specs.declared.code.UpdateCode.{UpdateCode}
 use Rattle.hist_update.specs.declared.code.UpdateCode.TheVariants.{BadResourceUnavailable, BadEncodingLimitsExceeded, BadInvalidTimestamp}
 use Rattle.hist_update.specs.declared.setback.Setback.{Setback}
@@ -33,8 +32,8 @@ use Rattle.hist_update.specs.declared.setback.Setback.TheVariants as setback
 use Rattle.hist_update.specs.declared.request.Request.{Request}
 use Rattle.hist_update.specs.declared.operate.Place.{Place}
 use Rattle.hist_update.specs.Outcome.{Operation, Write, DeleteAt, IsRequest, deletion, writing, written, source_time, fits, typed, timed, time_judged, Change, Outcome, Refused, Added, change_by, sized, outcome, outcome_of, judged, stamped, is_live, is_too_long, conflict, done, record_by, code_in, after}
-use Rattle.hist_update.specs.Updates.{Mark, Fine, Starved, Met, code_by, left_by, faults_in}
-use Rattle.hist_update.specs.Setbacks.{code_of, of_learn, code_told, mark_in, Operates, IsPlace, candidate_of, is_long, refusal_by, refusal, told, Submits, IsDraft, IsNumber}
+use Rattle.hist_update.specs.Updates.{Fine, Starved, Met}
+use Rattle.hist_update.specs.Setbacks.{Operates, IsPlace, candidate_of, is_long, refusal_by, refusal, told, Submits, IsDraft, IsNumber}
 use Rattle.archive.proofs.Results.{err-ok}
 use Rattle.archive.proofs.Calls.{leaves-then, in_use, passes-leaves, passes-none}
 use Rattle.hist_update.proofs.Deletions.{deletion_short}

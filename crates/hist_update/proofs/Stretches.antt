@@ -1,21 +1,20 @@
 -- Deletes of all values of a stretch of time: a listing, and deletes at what it told.
-use Rattle.std.proofs.Common.{◌≡◌, ◌≢◌, ℕ, ◌+◌, ◌<◌, ◌≤◌, ◌==◌, suc, nat_lt, min, ℤ, Bool, true, false, ◌||◌, List, [], ◌∷◌, ◌++◌, map, take, length, Option, Some, None, Result, Ok, Err, refl, sym, ap, ◌∙◌, subst, inl, inr, ◌⊎◌, arith}
+use Rattle.std.proofs.Common.{◌≡◌, ◌≢◌, ℕ, ◌≤◌, suc, nat_lt, min, ℤ, Bool, true, false, List, [], ◌∷◌, map, take, length, Option, Some, None, Ok, Err, refl, sym, ap, ◌∙◌, subst, inl, inr, arith}
 use Rattle.std.specs.Prelude.{if◌then◌else◌}
 use Rattle.std.proofs.lemmas.Bool.{true≢false, ltb-false, ne_eqb}
 use Rattle.std.proofs.lemmas.Bool.Decides.{nat_tests}
 use Rattle.std.proofs.lemmas.List.{length-take, take_all}
 use Rattle.std.proofs.lemmas.Option.{none-some, same_Some}
-use Rattle.records.specs.Contents.{Content}
 use Rattle.archive.specs.declared.fault.StoreFault.{StoreFault}
-use Rattle.archive.specs.Store.{Store, Rests, Asks}
+use Rattle.archive.specs.Store.{Store, Asks}
 use Rattle.archive.proofs.Calls.{in_use, passes-leaves, passes-then}
 use Rattle.hist_update.specs.declared.code.UpdateCode.{UpdateCode}
-use Rattle.hist_update.specs.declared.code.UpdateCode.TheVariants.{Good, BadNothingToDo, BadNoData, BadOutOfMemory, BadTooManyOperations}
+use Rattle.hist_update.specs.declared.code.UpdateCode.TheVariants.{Good, BadNothingToDo, BadTooManyOperations}
 use Rattle.hist_update.specs.declared.request.Request.{Request}
 use Rattle.hist_update.specs.declared.result.UpdateResult.{UpdateResult}
 use Rattle.hist_update.specs.Codes.{code_of_fault, first_other, most, count_refusal}
 use Rattle.hist_update.specs.Outcome.{Operation, DeleteAt}
-use Rattle.hist_update.specs.Updates.{Updates, codes_by, updated, Stands, AreEnded, faults_of, IsRefused, AnswersList, doomed, listing_refusal, Keeps, Deletes, Stretched, Starves, Fails, Refuses, Erases}
+use Rattle.hist_update.specs.Updates.{Updates, codes_by, updated, Stands, AreEnded, faults_of, IsRefused, AnswersList, doomed, listing_refusal, Keeps, Stretched, Starves, Fails, Refuses, Erases}
 use Rattle.hist_update.specs.Setbacks.{AnswersListed, AnswersLives}
 
 -- ---- what was listed is enough to judge it

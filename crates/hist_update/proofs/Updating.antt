@@ -1,7 +1,6 @@
 -- Operations one after the other: one more behind some.
-use Rattle.std.proofs.Common.{◌≡◌, ℕ, ◌+◌, ◌<◌, ◌≤◌, Bool, true, false, ◌||◌, List, [], ◌∷◌, ◌++◌, map, take, length, Option, Some, None, Result, Ok, Err, IsErr, refl, sym, ap, ◌∙◌, subst, inl, inr, ◌⊎◌, append_assoc, get_or}
+use Rattle.std.proofs.Common.{◌≡◌, ℕ, ◌+◌, ◌<◌, Bool, true, false, ◌||◌, List, [], ◌∷◌, ◌++◌, map, take, length, Result, Ok, Err, IsErr, refl, sym, ap, ◌∙◌, subst, inl, inr, append_assoc, get_or}
 use Rattle.std.proofs.lemmas.List.{take_more, map-append}
-use Rattle.std.specs.Prelude.{⊤}
 use Rattle.std.specs.List.{list_any}
 use Rattle.std.proofs.Math.Bool.{or-false}
 use Rattle.std.proofs.lemmas.Bool.{true≢false}
@@ -13,8 +12,8 @@ use Rattle.archive.proofs.Calls.{passes-none, passes-then}
 use Rattle.hist_update.specs.declared.code.UpdateCode.{UpdateCode}
 use Rattle.hist_update.specs.declared.request.Request.{Request}
 use Rattle.hist_update.specs.declared.setback.Setback.{Setback}
-use Rattle.hist_update.specs.Outcome.{Operation, Change, Outcome, change_by, outcome, outcome_of, after}
-use Rattle.hist_update.specs.Updates.{Mark, Fine, Starved, Met, Step, faults_in, faults_of, breaks, code_by, left_by, codes_by, updated, StandsBehind, Stands, AreEnded, Updates}
+use Rattle.hist_update.specs.Outcome.{Operation, Change, change_by, outcome, outcome_of}
+use Rattle.hist_update.specs.Updates.{Mark, Fine, Starved, Met, Step, faults_in, faults_of, breaks, code_by, left_by, codes_by, updated, Stands, AreEnded, Updates}
 use Rattle.hist_update.specs.Setbacks.{code_told, mark_in, Operates}
 
 -- ---- the definitions over one step more

@@ -1,7 +1,6 @@
 -- The status codes of an update (Part 4, 7.39; Part 11, HistoryUpdate).
 use Rattle.std.specs.Prelude.{ℕ, nat_lt, ℤ, pos, Option, Some, None, ◌==◌, if◌then◌else◌, List, [], ◌∷◌}
 use Rattle.std.specs.Ordering.{int_eq}
-use Rattle.ua_binary.specs.declared.values.Status.{Status}
 use Rattle.archive.specs.declared.fault.StoreFault.{StoreFault}
 use Rattle.archive.specs.declared.fault.StoreFault.TheVariants.{OutOfMemory}
 use Rattle.records.specs.declared.record.HistoryUpdateType.{HistoryUpdateType}

@@ -1,12 +1,11 @@
 -- What is said of updates in general.
-use Rattle.std.specs.Prelude.{◌≡◌, ◌⊎◌, ℕ, ◌≤◌, ◌<◌, ℤ, pos, ◌≤ℤ◌, ◌<ℤ◌, false, true, List, [], ◌∷◌, slice_get, Option, Some, None, Result, Ok}
+use Rattle.std.specs.Prelude.{◌≡◌, ◌⊎◌, ℕ, ◌≤◌, ◌<◌, ℤ, ◌≤ℤ◌, ◌<ℤ◌, false, true, List, slice_get, Some, Ok}
 use Rattle.std.specs.Int.{w64}
 use Rattle.std.specs.Int.RustNames.{FitsSigned}
 use Rattle.std.specs.Str.{is_utf8}
 use Rattle.ua_binary.specs.Binary.{IsNodeId}
 use Rattle.ua_binary.specs.declared.values.NodeId.{NodeId}
 use Rattle.ua_variant.specs.DataValue.{IsDataValue}
-use Rattle.records.specs.Lists.{Has}
 use Rattle.records.specs.Contents.{Content}
 use Rattle.records.specs.Records.{is_delete}
 use Rattle.records.specs.declared.record.Record.{Record}

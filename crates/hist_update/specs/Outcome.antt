@@ -1,5 +1,5 @@
 -- What one operation of an update comes to over a content (Part 11, HistoryUpdate): a code, and the record that it adds, if any.
-use Rattle.std.specs.Prelude.{◌≡◌, ℕ, ◌≤◌, ◌+◌, nat_lt, ℤ, pos, int_lt, int_le, Bool, true, false, not, if◌then◌else◌, length, Option, Some, None, is_some, Result, Ok, Err}
+use Rattle.std.specs.Prelude.{ℕ, ◌≤◌, ◌+◌, nat_lt, ℤ, pos, int_lt, Bool, true, false, if◌then◌else◌, length, Option, Some, None, is_some, Result, Ok, Err}
 use Rattle.std.specs.Option.{option_and_then}
 use Rattle.stamp.specs.Limits.{lift}
 use Rattle.ua_binary.specs.declared.values.NodeId.{NodeId}
@@ -13,7 +13,7 @@ use Rattle.records.specs.Records.{current}
 use Rattle.records.specs.Spelling.{empty, fields, longest}
 use Rattle.records.specs.declared.record.Record.{Record}
 use Rattle.records.specs.declared.record.HistoryUpdateType.{HistoryUpdateType}
-use Rattle.records.specs.declared.record.HistoryUpdateType.TheVariants.{Insert, Replace, Update, Delete}
+use Rattle.records.specs.declared.record.HistoryUpdateType.TheVariants.{Insert, Replace, Delete}
 use Rattle.hist_update.specs.declared.request.Request.{Request}
 use Rattle.hist_update.specs.declared.code.UpdateCode.{UpdateCode}
 use Rattle.hist_update.specs.declared.code.UpdateCode.TheVariants.{Good, GoodEntryInserted, GoodEntryReplaced, BadResourceUnavailable, BadEncodingLimitsExceeded, BadInvalidTimestamp, BadTypeMismatch, BadEntryExists, BadNoEntryExists}

@@ -1,8 +1,6 @@
 -- Why an operation was not done, and one operation over an archive.
-use Rattle.std.specs.Prelude.{◌≡◌, ◌⊎◌, ℕ, ◌+◌, ◌≤◌, min, nat_lt, ℤ, pos, ◌≤ℤ◌, Bool, true, false, List, map, length, if◌then◌else◌, Option, Some, None, unwrap_or, Result, Ok, Err, IsErr}
-use Rattle.std.specs.Int.{w64}
-use Rattle.std.specs.Int.RustNames.{FitsSigned}
-use Rattle.stamp.specs.Limits.{greatest, lift, IsReplica}
+use Rattle.std.specs.Prelude.{◌≡◌, ◌⊎◌, ◌+◌, ◌≤◌, min, nat_lt, ℤ, pos, ◌≤ℤ◌, Bool, true, false, List, map, length, Option, Some, None, unwrap_or, Result, Ok, Err, IsErr}
+use Rattle.stamp.specs.Limits.{greatest, lift}
 use Rattle.ua_variant.specs.DataValue.{IsDataValue}
 use Rattle.records.specs.Contents.{Content, vec, top}
 use Rattle.records.specs.Spelling.{fields, longest, is_value_for}

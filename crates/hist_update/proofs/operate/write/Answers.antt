@@ -1,15 +1,9 @@
-use Rattle.std.proofs.Common.{rules, ◌≡◌, ◌+◌, min, is_some, IfOk, IfSome, IfNone, false, Ok, Err, None, ℕ, ◌-◌, ◌*◌, ◌<◌, ◌≤◌, length, ◌/◌, ◌%◌, Bool, true, nat_eq, nat_lt, List, [], ◌∷◌, ◌++◌, slice_index_or, slice_set, bit_and, bit_or, Fits, w8, w32, w64, Bor, MutBor, ℤ, pos, ◌+ℤ◌, ◌-ℤ◌, ◌*ℤ◌, ◌≤ℤ◌, ◌<ℤ◌, FitsSigned, to_z, of_z}
-use Rattle.stamp.specs.Limits.{greatest, lift}
-use Rattle.records.specs.Records.{held, current}
-use Rattle.records.specs.Contents.{vec, top}
-use Rattle.archive.specs.Store.{Store, Asks}
-use Rattle.ua_variant.specs.DataValue.{IsDataValue}
-use Rattle.hist_update.specs.Outcome.{IsRequest, Write, DeleteAt, fits, source_time, time_judged, conflict, done, is_live, writing, deletion, record_by}
-use Rattle.hist_update.specs.Setbacks.{Operates, IsPlace, candidate_of, IsDraft, is_long, refusal, Submits}
-use Rattle.hist_update.specs.declared.code.UpdateCode.TheVariants as code
+use Rattle.std.proofs.Common.{rules, ◌≡◌, Err, w64}
+use Rattle.hist_update.specs.Outcome.{Write, writing}
+use Rattle.hist_update.specs.Setbacks.{Operates, IsDraft}
 use Rattle.hist_update.specs.declared.setback.Setback.TheVariants as setback
-use Rattle.hist_update.proofs.Operating.{refused-early, survey-failed, draft-starved, write_draft, written_by, unwritten, settled}
-use Rattle.std.proofs.Common.{subst, sym, refl, ap, ◌∙◌}
+use Rattle.hist_update.proofs.Operating.{refused-early, draft-starved, write_draft, written_by, unwritten, settled}
+use Rattle.std.proofs.Common.{subst, sym}
 use Rattle.std.proofs.lemmas.Int.{to_z-of_z}
 use Rattle.hist_update.proofs.operate.write.Goals as goal
 

@@ -1,4 +1,4 @@
-use Rattle.std.proofs.Common.{rules, ◌≡◌, ◌++◌, [], ◌∷◌, ◌+◌, ℤ, pos, get_or, vec_len, refl, sym, ap, ◌∙◌, subst, is_ok, arith, FitsSigned, w64}
+use Rattle.std.proofs.Common.{rules, ◌++◌, [], ◌∷◌, ◌+◌, ℤ, pos, get_or, vec_len, refl, sym, ap, ◌∙◌, subst, is_ok, arith, FitsSigned, w64}
 use Rattle.std.specs.Prelude.{if◌then◌else◌}
 use Rattle.std.proofs.lemmas.Int.{to_z-of_z}
 use Rattle.hist_update.specs.Outcome.{DeleteAt}

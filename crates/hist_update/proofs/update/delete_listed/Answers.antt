@@ -1,10 +1,10 @@
-use Rattle.std.proofs.Common.{rules, ◌≡◌, ◌≢◌, Bool, true, false, not, [], map, length, refl, sym, subst}
+use Rattle.std.proofs.Common.{rules, ◌≡◌, ◌≢◌, Bool, true, false, not, [], map, refl, sym, subst}
 use denote.Enum.Bare.{same_true}
 use Rattle.hist_update.specs.contracts.code.UpdateCode.{the_type}
 use Rattle.hist_update.specs.declared.code.UpdateCode.TheVariants.{Good}
 use Rattle.hist_update.specs.Outcome.{DeleteAt}
 use Rattle.hist_update.specs.Updates.{AnswersList, listing_refusal}
-use Rattle.hist_update.proofs.Stretches.{passed-on, deleted-all, listed-counted, refused-bad}
+use Rattle.hist_update.proofs.Stretches.{deleted-all, listed-counted, refused-bad}
 use Rattle.hist_update.proofs.update.delete_listed.Goals as goal
 
 unflip : (x : Bool) → not x ≡ false → x ≡ true

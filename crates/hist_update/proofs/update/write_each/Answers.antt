@@ -1,4 +1,4 @@
-use Rattle.std.proofs.Common.{rules, ◌≡◌, ◌++◌, [], ◌∷◌, ◌+◌, vec_len, sym, ap, ◌∙◌, subst, is_ok, arith}
+use Rattle.std.proofs.Common.{rules, ◌++◌, [], ◌∷◌, ◌+◌, vec_len, sym, ap, ◌∙◌, subst, is_ok, arith}
 use Rattle.std.specs.Prelude.{if◌then◌else◌}
 use Rattle.hist_update.specs.Outcome.{Write}
 use Rattle.hist_update.specs.Updates.{Updates}
