@@ -16,6 +16,10 @@ module _ {X Y : Type 0} where
   has-map f [] x h = absurd h
   has-map f (y ∷ ys) x h = elim h [ inl e ↦ inl (ap f e) | inr k ↦ inr (has-map f ys x k) ]
 
+  pub has_from_map : (f : X → Y) (xs : List X) (y : Y) → Has (map f xs) y → (x : X) × Has xs x × (f x ≡ y)
+  has_from_map f [] y h = absurd h
+  has_from_map f (x ∷ xs) y h = elim h [ inl e ↦ (x, inl refl, e) | inr k ↦ let r = has_from_map f xs y k in (r.0, inr r.1, r.2) ]
+
   pub has-filter_map : (f : X → Option Y) (xs : List X) (x : X) (y : Y) → Has xs x → f x ≡ Some y → Has (filter_map f xs) y
   has-filter_map f [] x y h e = absurd h
   has-filter_map f (z ∷ xs) x y h e = elim h [
@@ -47,6 +51,11 @@ module _ {X Y : Type 0} where
   ]
 
   module _ (P : X → X → Type 0) (Q : Y → Y → Type 0) where
+    pub pairwise-map : (f : X → Y) → ((a b : X) → P a b → Q (f a) (f b)) → (xs : List X) → IsPairwise P xs → IsPairwise Q (map f xs)
+    pairwise-map f go [] h = tt
+    pairwise-map f go (x ∷ xs) h =
+        (all_from_has (Q (f x)) (map f xs) (λ y m. let r = has_from_map f xs y m in subst (Q (f x)) r.2 (go x r.0 (all-has (P x) xs r.0 h.0 r.1))), pairwise-map f go xs h.1)
+
     pub pairwise-filter_map : (f : X → Option Y) → ((a b : X) (x y : Y) → P a b → f a ≡ Some x → f b ≡ Some y → Q x y) → (xs : List X) → IsPairwise P xs → IsPairwise Q (filter_map f xs)
     pairwise-filter_map f step [] up = tt
     pairwise-filter_map f step (a ∷ xs) up = go (f a) refl (pairwise-filter_map f step xs up.1)

@@ -47,7 +47,7 @@ greatest_last (x ∷ y ∷ xs) r up h all = elim h [
   | inr k ↦ last_more x y xs ∙ greatest_last (y ∷ xs) r up.1 k (λ s m. all s (inr m))
 ]
 
-latest_last : (R : Content) (r : Record) → IsApart stamp_cmp R → IsLatest R r → last (story R r.node r.time) ≡ Some r
+pub latest_last : (R : Content) (r : Record) → IsApart stamp_cmp R → IsLatest R r → last (story R r.node r.time) ≡ Some r
 latest_last R r apart latest =
     greatest_last (story R r.node r.time) r (rises-story R r.node r.time apart) (in_story R r latest.there)
     (λ s h. let k = from_story R r.node r.time s h in latest.above s k.0 k.1 k.2)

@@ -1,0 +1,118 @@
+-- A content of lawful records has no others behind some operations.
+use Rattle.std.proofs.Common.{◌≡◌, ℕ, ◌+◌, ℤ, pos, ◌≤ℤ◌, Bool, true, false, List, [], ◌∷◌, Option, Some, None, IfSome, Result, Ok, Err, refl, sym, subst, arith}
+use Rattle.std.specs.Prelude.{if◌then◌else◌, int_lt}
+use Rattle.std.specs.Int.{w64}
+use Rattle.std.specs.Int.RustNames.{FitsSigned}
+use Rattle.std.specs.List.{AllByRecursion}
+use Rattle.std.specs.Option.{option_and_then}
+use Rattle.std.proofs.lemmas.Bool.{ltb-false}
+use Rattle.std.proofs.lemmas.Option.{none-some, same_Some}
+use Rattle.stamp.specs.Limits.{IsReplica}
+use Rattle.ua_binary.specs.declared.values.Ticks.{Ticks}
+use Rattle.ua_variant.specs.DataValue.{IsDataValue}
+use Rattle.records.specs.declared.record.Record.{Record}
+use Rattle.records.specs.Contents.{Content, vec}
+use Rattle.records.specs.Spelling.{IsLawfulRecord, is_value_for}
+use Rattle.records.proofs.Sizes.{fields_length}
+use Rattle.records.proofs.LearnLemmas.{le_from_not, finding_next}
+use Rattle.archive.specs.Store.{IsLawfulContent}
+use Rattle.archive.proofs.Listing.{lawful_put}
+use Rattle.hist_update.specs.declared.code.UpdateCode.{UpdateCode}
+use Rattle.hist_update.specs.declared.code.UpdateCode.TheVariants.{BadEncodingLimitsExceeded, BadInvalidTimestamp}
+use Rattle.hist_update.specs.declared.request.Request.{Request}
+use Rattle.hist_update.specs.Outcome.{Operation, Write, DeleteAt, Change, Outcome, Refused, Added, IsRequest, change_by, written, timed, typed, fits, source_time, is_too_long, writing, deletion, outcome, record_by}
+use Rattle.hist_update.specs.Updates.{Mark, Fine, Starved, Met, Step, left_by, updated}
+use Rattle.hist_update.specs.Laws.{IsSpelled, IsOperation}
+use Rattle.hist_update.proofs.Deletions.{deletion_short}
+use Rattle.hist_update.proofs.Operating.{is_new}
+use Rattle.hist_update.proofs.NewRecords.{made, new_next}
+
+record IsChange (request : Request) (own : ℕ) (change : Change) : Type 0 where
+  pub time : pos 1 ≤ℤ change.time
+  pub fits : FitsSigned w64 change.time
+  pub value : IsDataValue change.value
+  pub suits : is_value_for change.asked change.value ≡ true
+  pub short : is_too_long request own change ≡ false
+
+same_change : (a b : Change) → ◌≡◌ {A = Result Change UpdateCode} (Ok a) (Ok b) → a ≡ b
+same_change a b e = cc
+
+no_change : {X : Type 0} (code : UpdateCode) (a : Change) → ◌≡◌ {A = Result Change UpdateCode} (Err code) (Ok a) → X
+no_change code a e = absurd (cc)
+
+sourced : (o : Option Ticks) (t : ℤ) → IfSome o (λ s. FitsSigned w64 s.0) → option_and_then (λ (s : Ticks). if int_lt s.0 (pos 1) then None else Some s.0) o ≡ Some t → (pos 1 ≤ℤ t) × FitsSigned w64 t
+sourced None t fits e = absurd (none-some _ e)
+sourced (Some s) t fits e = go (int_lt s.0 (pos 1)) refl e
+  where
+    go : (x : Bool) → int_lt s.0 (pos 1) ≡ x → (if x then None else Some s.0) ≡ Some t → (pos 1 ≤ℤ t) × FitsSigned w64 t
+    go true p h = absurd (none-some _ h)
+    go false p h = subst (λ u. (pos 1 ≤ℤ u) × FitsSigned w64 u) (same_Some _ _ h) (le_from_not _ _ p, fits)
+
+is_change : (request : Request) (own : ℕ) (op : Operation) (change : Change) → IsRequest request → IsSpelled request → IsOperation op → change_by request own op ≡ Ok change → IsChange request own change
+is_change request own (DeleteAt time) change lawful spelled fits e = go (int_lt time (pos 1)) refl e
+  where
+    go : (x : Bool) → int_lt time (pos 1) ≡ x → (if x then Err BadInvalidTimestamp else Ok (deletion time)) ≡ Ok change → IsChange request own change
+    go true p h = no_change _ _ h
+    go false p h = subst (IsChange request own) (same_change _ _ h) (record {
+      time = le_from_not _ _ p;
+      fits = fits;
+      value = (tt, tt, tt, tt, tt, tt);
+      suits = refl;
+      short = deletion_short request own time spelled.node lawful;
+    })
+is_change request own (Write asked type v) change lawful spelled is e = by_time (source_time v) refl e
+  where
+    by_size : (t : ℤ) → (pos 1 ≤ℤ t) × FitsSigned w64 t → (x : Bool) → is_too_long request own (writing asked v t) ≡ x
+        → (if x then Err BadEncodingLimitsExceeded else Ok (writing asked v t)) ≡ Ok change → IsChange request own change
+    by_size t at true p h = no_change _ _ h
+    by_size t at false p h = subst (IsChange request own) (same_change _ _ h) (record {
+      time = at.0;
+      fits = at.1;
+      value = (is.1.0, is.1.1, tt, is.1.3, is.1.4, is.1.5);
+      suits = rw is.0 refl;
+      short = p;
+    })
+
+    by_type : (t : ℤ) → (pos 1 ≤ℤ t) × FitsSigned w64 t → (x : Bool) → written request own asked v (typed x t) ≡ Ok change → IsChange request own change
+    by_type t at true h = by_size t at (is_too_long request own (writing asked v t)) refl h
+    by_type t at false h = no_change _ _ h
+
+    by_time : (o : Option ℤ) → source_time v ≡ o → written request own asked v (timed type v o) ≡ Ok change → IsChange request own change
+    by_time None p h = no_change _ _ h
+    by_time (Some t) p h = by_type t (sourced v.source_time t is.1.2 p) (fits type v.value) h
+
+lawful_new : (R : Content) (own : ℕ) (request : Request) (op : Operation) (code : UpdateCode) (r : Record) → IsReplica own → IsRequest request → IsSpelled request → IsOperation op → IsLawfulContent R
+    → outcome R own request op ≡ Added code r → IsLawfulRecord r
+lawful_new R own request op code r replica lawful spelled is content e =
+    let m = made R own request op code r e in
+    let change = is_change request own op m.change lawful spelled is m.asked in
+    let new = is_new R own request.reading m.tick content.closed m.lifts in
+    let few = ltb-false _ _ change.short in
+    let same = fields_length (record_by request own 1 (pos 1) m.change) in
+    let long = fields_length (record_by request own (vec R own + 1) m.tick m.change) in
+    subst IsLawfulRecord (sym m.is) (record {
+      origin = replica;
+      number = (omega arith, new.number);
+      node = spelled.node;
+      time = (change.time, change.fits);
+      user = (lawful.user, spelled.user);
+      value = change.value;
+      suits = change.suits;
+      size = omega (arith, few, same, long);
+    })
+
+left_lawful : (R : Content) (own : ℕ) (request : Request) (op : Operation) (m : Mark) → IsReplica own → IsRequest request → IsSpelled request → IsOperation op → IsLawfulContent R
+    → IsLawfulContent (left_by R (outcome R own request op) m)
+left_lawful R own request op Starved replica lawful spelled is content = content
+left_lawful R own request op (Met f) replica lawful spelled is content = content
+left_lawful R own request op Fine replica lawful spelled is content = go (outcome R own request op) refl
+  where
+    go : (o : Outcome) → outcome R own request op ≡ o → IsLawfulContent (left_by R o Fine)
+    go (Refused c) e = content
+    go (Added c r) e = lawful_put R r content (lawful_new R own request op c r replica lawful spelled is content e) (finding_next R r (new_next R own request op c r content.closed e))
+
+pub updated_lawful : (R : Content) (own : ℕ) (request : Request) (steps : List Step) → IsReplica own → IsRequest request → IsSpelled request → AllByRecursion (λ s. IsOperation s.0) steps
+    → IsLawfulContent R → IsLawfulContent (updated R own request steps)
+updated_lawful R own request [] replica lawful spelled is content = content
+updated_lawful R own request (s ∷ steps) replica lawful spelled is content =
+    updated_lawful (left_by R (outcome R own request s.0) s.1) own request steps replica lawful spelled is.1 (left_lawful R own request s.0 s.1 replica lawful spelled is.0 content)

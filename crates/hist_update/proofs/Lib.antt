@@ -1,0 +1,10 @@
+pub mod Drafts
+pub mod Surveys
+pub mod Operating
+pub mod Deletions
+pub mod Updating
+pub mod Stretches
+pub mod NewRecords
+pub mod Answered
+pub mod LawfulUpdates
+pub mod LiveTimes

@@ -1,0 +1,324 @@
+-- One operation over an archive: a survey, a record, and what the archive makes of it.
+use Rattle.std.proofs.Common.{◌≡◌, ℕ, ◌+◌, ◌≤◌, ℤ, pos, ◌≤ℤ◌, ◌<ℤ◌, min, Bool, true, false, Option, Some, None, IfSome, IfNone, unwrap_or, Result, Ok, Err, IsErr, refl, sym, ap, ◌∙◌, subst, inl, inr, ◌⊎◌, arith, nat_lt, int_lt, ◌+ℤ◌}
+use Rattle.std.specs.Prelude.{if◌then◌else◌}
+use Rattle.std.specs.Int.{int_max, int_min}
+use Rattle.std.proofs.lemmas.Bool.{true≢false}
+use Rattle.std.proofs.lemmas.Int.{ints, clamps}
+use Rattle.std.proofs.lemmas.Option.{none-some, same_Some}
+use Rattle.stamp.specs.Limits.{greatest, lift}
+use Rattle.records.specs.declared.record.Record.{Record}
+use Rattle.records.specs.Spelling.{longest}
+use Rattle.records.specs.Records.{is_delete}
+use Rattle.records.specs.declared.record.HistoryUpdateType.{HistoryUpdateType}
+use Rattle.ua_binary.specs.Binary.{IsNodeId}
+use Rattle.ua_binary.specs.declared.values.Ticks.{Ticks}
+use Rattle.ua_variant.specs.declared.data.DataValue.{DataValue}
+use Rattle.ua_variant.specs.declared.value.ValueType.{ValueType}
+use Rattle.ua_variant.specs.DataValue.{IsDataValue}
+use Rattle.std.specs.Option.{option_and_then}
+use Rattle.records.specs.Contents.{Content, vec, top, last_tick, finding, Adds, after_finding, learned, put, IsClosed}
+use Rattle.records.proofs.Sizes.{fields_length}
+use Rattle.records.proofs.LearnLemmas.{finding_next, lt_from_test, le_from_not}
+use Rattle.records.proofs.PutLemmas.{last_tick_within}
+use Rattle.records.proofs.GreatestLemmas.{numbers_below}
+use Rattle.archive.specs.declared.fault.StoreFault.{StoreFault}
+use Rattle.archive.specs.declared.fault.LearnFault.{LearnFault}
+use Rattle.archive.specs.declared.fault.LearnFault.TheVariants as refused
+use Rattle.archive.specs.Store.{Store, Leaves, Asks, Learns, store_fault_in, answer_to}
+use Rattle.hist_update.specs.declared.code.UpdateCode.{UpdateCode}
+use Rattle.hist_update.specs.declared.code.UpdateCode.TheVariants.{BadResourceUnavailable, BadEncodingLimitsExceeded, BadInvalidTimestamp}
+use Rattle.hist_update.specs.declared.setback.Setback.{Setback}
+use Rattle.hist_update.specs.declared.setback.Setback.TheVariants as setback
+use Rattle.hist_update.specs.declared.request.Request.{Request}
+use Rattle.hist_update.specs.declared.operate.Place.{Place}
+use Rattle.hist_update.specs.Outcome.{Operation, Write, DeleteAt, IsRequest, deletion, writing, written, source_time, fits, typed, timed, time_judged, Change, Outcome, Refused, Added, change_by, sized, outcome, outcome_of, judged, stamped, is_live, is_too_long, conflict, done, record_by, code_in, after}
+use Rattle.hist_update.specs.Updates.{Fine, Starved, Met}
+use Rattle.hist_update.specs.Setbacks.{Operates, IsPlace, candidate_of, is_long, refusal_by, refusal, told, Submits, IsDraft, IsNumber}
+use Rattle.archive.proofs.Results.{err-ok}
+use Rattle.archive.proofs.Calls.{leaves-then, in_use, passes-leaves, passes-none}
+use Rattle.hist_update.proofs.Deletions.{deletion_short}
+
+some-none : {A : Type 0} {X : Type 0} (a : A) → Some a ≡ None → X
+some-none a e = absurd (none-some _ (sym e))
+
+-- ---- what the rules say by what the archive told
+
+-- the outcome by its tests
+abbrev by_tests : (R : Content) (own : ℕ) (request : Request) (change : Change) (live : Bool) (long : Bool) (conf : Option UpdateCode) (tick : Option ℤ) → Outcome
+by_tests R own request change live true conf tick = Refused BadEncodingLimitsExceeded
+by_tests R own request change live false (Some code) tick = Refused code
+by_tests R own request change live false None tick = stamped R own request change (done change.asked live) tick
+
+tested : (R : Content) (own : ℕ) (request : Request) (change : Change) (long : Bool)
+    → outcome_of R own request (if long then Err BadEncodingLimitsExceeded else Ok change)
+    ≡ by_tests R own request change (is_live R request.node change.time) long (conflict change.asked (is_live R request.node change.time)) (lift request.reading (top R))
+tested R own request change true = refl
+tested R own request change false = go (conflict change.asked (is_live R request.node change.time))
+  where
+    go : (conf : Option UpdateCode) → judged R own request change (is_live R request.node change.time) conf ≡ by_tests R own request change (is_live R request.node change.time) false conf (lift request.reading (top R))
+    go None = refl
+    go (Some code) = refl
+
+refused_by_tests : (R : Content) (own : ℕ) (request : Request) (change : Change) (live long : Bool) (conf : Option UpdateCode) (tick : Option ℤ) (code : UpdateCode)
+    → refusal_by long conf tick ≡ Some code → by_tests R own request change live long conf tick ≡ Refused code
+refused_by_tests R own request change live true conf tick code e = ap Refused (same_Some _ _ e)
+refused_by_tests R own request change live false (Some c) tick code e = ap Refused (same_Some _ _ e)
+refused_by_tests R own request change live false None None code e = ap Refused (same_Some _ _ e)
+refused_by_tests R own request change live false None (Some t) code e = absurd (none-some _ e)
+
+added_by_tests : (R : Content) (own : ℕ) (request : Request) (change : Change) (live long : Bool) (conf : Option UpdateCode) (tick : Option ℤ)
+    → refusal_by long conf tick ≡ None → (t : ℤ) × (tick ≡ Some t) × (by_tests R own request change live long conf tick ≡ Added (done change.asked live) (record_by request own (vec R own + 1) t change))
+added_by_tests R own request change live true conf tick e = some-none _ e
+added_by_tests R own request change live false (Some c) tick e = some-none _ e
+added_by_tests R own request change live false None None e = some-none _ e
+added_by_tests R own request change live false None (Some t) e = (t, refl, refl)
+
+-- the tests of a record and its place are those of the rules
+same_refusal : (R : Content) (own : ℕ) (request : Request) (change : Change) (place : Place)
+    → place.live ≡ is_live R request.node change.time → place.tick ≡ lift request.reading (top R) → place.origin ≡ own
+    → refusal (candidate_of request place change) place
+    ≡ refusal_by (is_too_long request own change) (conflict change.asked (is_live R request.node change.time)) (lift request.reading (top R))
+same_refusal R own request change place live tick origin =
+    let long : is_long (candidate_of request place change) ≡ is_too_long request own change =
+    ap (λ n. nat_lt longest n) (fields_length (candidate_of request place change) ∙ sym (fields_length (record_by request own 1 (pos 1) change))) in
+    ap (λ x. refusal_by x (conflict change.asked place.live) place.tick) long
+    ∙ (ap (λ x. refusal_by (is_too_long request own change) (conflict change.asked x) place.tick) live
+    ∙ ap (λ x. refusal_by (is_too_long request own change) (conflict change.asked (is_live R request.node change.time)) x) tick)
+
+-- a tick that is given is above all others and within the limits
+pub record IsLifted (most t : ℤ) : Type 0 where
+  pub above : most <ℤ t
+  pub within : t ≤ℤ pos greatest
+  pub below : most <ℤ pos greatest
+
+pub lifted : (now most t : ℤ) → lift now most ≡ Some t → IsLifted most t
+lifted now most t e = go (int_lt most (pos greatest)) refl e
+  where
+    go : (x : Bool) → int_lt most (pos greatest) ≡ x → (if x then Some (int_max (most +ℤ pos 1) (int_min now (pos greatest))) else None) ≡ Some t → IsLifted most t
+    go false p h = absurd (none-some _ h)
+    go true p h =
+        let same : int_max (most +ℤ pos 1) (int_min now (pos greatest)) ≡ t = same_Some _ _ h in
+        let low = lt_from_test _ _ p in
+        record { above = grind (arith, ints, clamps, same, low); within = grind (arith, ints, clamps, same, low); below = low }
+
+-- what a change becomes is its origin's next record, above every tick held
+pub record IsNew (R : Content) (own : ℕ) (t : ℤ) : Type 0 where
+  pub number : vec R own + 1 ≤ greatest
+  pub rises : last_tick R own <ℤ t
+  pub within : t ≤ℤ pos greatest
+
+pub is_new : (R : Content) (own : ℕ) (now t : ℤ) → IsClosed R → lift now (top R) ≡ Some t → IsNew R own t
+is_new R own now t closed e =
+    let l = lifted now (top R) t e in
+    let below = numbers_below R own closed in
+    let within = last_tick_within R own in
+    record { number = omega (arith, ints, l.below, below, within); rises = omega (arith, ints, l.above, within); within = l.within }
+
+-- ---- the four ways in which an operation ends
+
+-- the rules refuse it before the archive is asked
+pub refused-early : (a : Store) (request : Request) (op : Operation) (code : UpdateCode) → change_by request a.own op ≡ Err code → Operates a a request op (Err (setback.Refused code))
+refused-early a request op code e = record {
+  code = λ h. sym (ap code_in (ap (outcome_of a.content a.own request) e));
+  content = λ h u. sym (ap (after a.content) (ap (outcome_of a.content a.own request) e));
+  crash = λ h left m. inl m;
+  ended = λ b f. subst IsErr (sym e) refl;
+  passes = passes-none a;
+}
+
+fine-met : {X : Type 0} (fault : StoreFault) → Met fault ≡ Fine → X
+fine-met fault e = absurd (true≢false (sym (ap (λ m. elim m [ Fine ↦ true | _ ↦ false ]) e)))
+
+starved-fine : {X : Type 0} → Starved ≡ Fine → X
+starved-fine e = absurd (true≢false (sym (ap (λ m. elim m [ Fine ↦ true | _ ↦ false ]) e)))
+
+-- the survey met a fault
+pub survey-failed : (a b : Store) (request : Request) (op : Operation) (fault : StoreFault) (P : Place → Type 0) → Asks {A = Place} a b (Err fault) P → Operates a b request op (Err (setback.Store fault))
+survey-failed a b request op fault P p = record {
+  code = λ h. refl;
+  content = λ h u. p.kept h u;
+  crash = λ h left m. inl (p.crash h left m);
+  ended = λ e f. fine-met fault f;
+  passes = passes-leaves a b (Some fault) p.leaves;
+}
+
+-- there was no memory for the record
+pub draft-starved : (a b : Store) (request : Request) (op : Operation) (place : Place) (P : Place → Type 0) → Asks a b (Ok place) P → Operates a b request op (Err setback.Starved)
+draft-starved a b request op place P p = record {
+  code = λ h. refl;
+  content = λ h u. p.kept h u;
+  crash = λ h left m. inl (p.crash h left m);
+  ended = λ e f. starved-fine f;
+  passes = passes-leaves a b None p.leaves;
+}
+
+-- the rules refuse it at its place
+pub settled-refused : (a b : Store) (request : Request) (op : Operation) (change : Change) (place : Place) (code : UpdateCode)
+    → change_by request a.own op ≡ sized request a.own change → Asks a b (Ok place) (IsPlace a request change.time)
+    → refusal (candidate_of request place change) place ≡ Some code → Operates a b request op (Err (setback.Refused code))
+settled-refused a b request op change place code asked p e = record {
+  code = λ h. sym (ap code_in (refused h));
+  content = λ h u. p.kept h u ∙ sym (ap (after a.content) (refused h));
+  crash = λ h left m. inl (p.crash h left m);
+  ended = λ b f. absurd (none-some _ (p.leaves.ended b));
+  passes = passes-leaves a b None p.leaves;
+}
+  where
+    refused : b.honest → outcome a.content a.own request op ≡ Refused code
+    refused h =
+        let at = p.answer h in
+        ap (outcome_of a.content a.own request) asked
+        ∙ (tested a.content a.own request change (is_too_long request a.own change)
+        ∙ refused_by_tests a.content a.own request change _ _ _ _ code (sym (same_refusal a.content a.own request change place at.live at.tick at.origin) ∙ e))
+
+record Facts (R : Content) (own : ℕ) (request : Request) (op : Operation) (code : UpdateCode) (r : Record) : Type 0 where
+  pub is : outcome R own request op ≡ Added code r
+  pub adds : finding R r ≡ Adds
+
+facts : (R : Content) (own : ℕ) (request : Request) (op : Operation) (change : Change) (place : Place)
+    → change_by request own op ≡ sized request own change → IsClosed R
+    → place.live ≡ is_live R request.node change.time → place.origin ≡ own → place.number ≡ min (vec R own + 1) greatest → place.tick ≡ lift request.reading (top R)
+    → refusal (candidate_of request place change) place ≡ None → Facts R own request op (done change.asked place.live) (candidate_of request place change)
+facts R own request op change place asked closed live origin number tick e =
+    let made = added_by_tests R own request change (is_live R request.node change.time) _ _ _ (sym (same_refusal R own request change place live tick origin) ∙ e) in
+    let t = made.0 in
+    let new = is_new R own request.reading t closed made.1 in
+    let few : min (vec R own + 1) greatest ≡ vec R own + 1 = omega (arith, new.number) in
+    let same : record_by request own (vec R own + 1) t change ≡ candidate_of request place change =
+    sym (ap (λ o. record_by request o place.number (unwrap_or place.tick (pos greatest)) change) origin
+    ∙ (ap (λ n. record_by request own n (unwrap_or place.tick (pos greatest)) change) (number ∙ few)
+    ∙ ap (λ o. record_by request own (vec R own + 1) (unwrap_or o (pos greatest)) change) (tick ∙ made.1))) in
+    record {
+      is = ap (outcome_of R own request) asked ∙ (tested R own request change _ ∙ (made.2 ∙ (ap (λ x. Added (done change.asked x) (record_by request own (vec R own + 1) t change)) (sym live) ∙ ap (Added (done change.asked place.live)) same)));
+      adds = subst (λ r. finding R r ≡ Adds) same (finding_next R (record_by request own (vec R own + 1) t change) (record { number = refl; rises = new.rises; within = new.within }));
+    }
+
+-- the archive was given its record
+pub settled-submitted : (a b c : Store) (request : Request) (op : Operation) (change : Change) (place : Place) (result : Result UpdateCode Setback)
+    → change_by request a.own op ≡ sized request a.own change → Asks a b (Ok place) (IsPlace a request change.time)
+    → refusal (candidate_of request place change) place ≡ None
+    → Submits b c (candidate_of request place change) (done change.asked place.live) result → Operates a c request op result
+settled-submitted a b c request op change place result asked p e (answer, learns, told_so) =
+    subst (λ r. Operates a c request op r) (sym told_so) (go answer learns)
+  where
+    r : Record
+    r = candidate_of request place change
+
+    known : b.honest → Facts a.content a.own request op (done change.asked place.live) r
+    known h =
+        let at = p.answer h in
+        let settled = p.leaves.before (p.leaves.honest h) (in_use a b p.leaves) in
+        facts a.content a.own request op change place asked settled.lawful.closed at.live at.origin at.number at.tick e
+
+    same_as : b.honest → b.content ≡ a.content
+    same_as h = p.kept h p.leaves.broken
+
+    crashed : (x : Result Bool LearnFault) → Learns b c r x → c.honest → (left : Content) → c.may_hold left
+        → a.may_hold left ⊎ ((a.broken ≡ false) × (left ≡ after a.content (outcome a.content a.own request op)))
+    crashed x l h left m =
+        let hb = l.leaves.honest h in
+        elim (l.crash h left m) [
+          | inl k ↦ inl (p.crash hb left k)
+          | inr q ↦ inr (in_use a b p.leaves, q.2 ∙ (ap (put r) (same_as hb) ∙ sym (ap (after a.content) (known hb).is)))
+        ]
+
+    impossible : (f : LearnFault) → Learns b c r (Err f) → store_fault_in (Err f) ≡ None → c.honest → ⊥
+    impossible f l none h =
+        let hb = l.leaves.honest h in
+        let found : finding b.content r ≡ Adds = subst (λ S. finding S r ≡ Adds) (sym (same_as hb)) (known hb).adds in
+        err-ok (Err f) f true refl ((l.answered h none).0 ∙ ap answer_to found)
+
+    odd : (x : Result Bool LearnFault) → Learns b c r x → store_fault_in x ≡ None → (c.honest → ⊥) → Operates a c request op (Err (setback.Refused BadResourceUnavailable))
+    odd x l none never = record {
+      code = λ h. absurd (never h);
+      content = λ h u. absurd (never h);
+      crash = λ h left m. absurd (never h);
+      ended = λ y. absurd (none-some _ (p.leaves.ended y));
+      passes = passes-leaves a c None (leaves-then a b c None p.leaves (subst (Leaves b c) none l.leaves));
+    }
+
+    go : (x : Result Bool LearnFault) → Learns b c r x → Operates a c request op (told x (done change.asked place.live))
+    go (Ok added) l = record {
+      code = λ h. sym (ap code_in (known (l.leaves.honest h)).is);
+      content = λ h u.
+          let hb = l.leaves.honest h in
+          (l.answered h refl).1 ∙ (ap (λ S. unwrap_or (learned S r) S) (same_as hb)
+          ∙ (ap (λ f. unwrap_or (after_finding a.content r f) a.content) (known hb).adds ∙ sym (ap (after a.content) (known hb).is)));
+      crash = λ h left m. crashed (Ok added) l h left m;
+      ended = λ y. absurd (none-some _ (p.leaves.ended y));
+      passes = passes-leaves a c None (leaves-then a b c None p.leaves l.leaves);
+    }
+    go (Err (refused.Store fault)) l = record {
+      code = λ h. refl;
+      content = λ h u. l.kept h u ∙ same_as (l.leaves.honest h);
+      crash = λ h left m. crashed (Err (refused.Store fault)) l h left m;
+      ended = λ y. absurd (none-some _ (p.leaves.ended y));
+      passes = passes-leaves a c (Some fault) (leaves-then a b c (Some fault) p.leaves l.leaves);
+    }
+    go (Err refused.Clash) l = odd _ l refl (impossible _ l refl)
+    go (Err (refused.Gap held got)) l = odd _ l refl (impossible _ l refl)
+    go (Err refused.TickTooFar) l = odd _ l refl (impossible _ l refl)
+    go (Err refused.TickNotRising) l = odd _ l refl (impossible _ l refl)
+
+-- ---- drafts of writes
+
+ok_same : (a b : ℤ) (r : Result ℤ UpdateCode) → r ≡ Ok a → r ≡ Ok b → a ≡ b
+ok_same a b s d e = sym (ap (λ r. elim r [ Ok x ↦ x | Err f ↦ a ]) d) ∙ ap (λ r. elim r [ Ok x ↦ x | Err f ↦ a ]) e
+
+sourced : (o : Option Ticks) (t : ℤ) → option_and_then (λ (s : Ticks). if int_lt s.0 (pos 1) then None else Some s.0) o ≡ Some t → pos 1 ≤ℤ t
+sourced None t e = absurd (none-some _ e)
+sourced (Some s) t e = go (int_lt s.0 (pos 1)) refl e
+  where
+    go : (x : Bool) → int_lt s.0 (pos 1) ≡ x → (if x then None else Some s.0) ≡ Some t → pos 1 ≤ℤ t
+    go true p h = absurd (none-some _ h)
+    go false p h = subst (λ u. pos 1 ≤ℤ u) (same_Some _ _ h) (le_from_not _ _ p)
+
+judged_time : (type : ValueType) (v : DataValue) (time : ℤ) → time_judged type v ≡ Ok time → pos 1 ≤ℤ time
+judged_time type v time e = go (source_time v) refl e
+  where
+    typed_so : (x : Bool) (t : ℤ) → typed x t ≡ Ok time → t ≡ time
+    typed_so true t h = ok_same t time (Ok t) refl h
+    typed_so false t h = absurd (err-ok _ _ _ refl h)
+
+    go : (o : Option ℤ) → source_time v ≡ o → timed type v o ≡ Ok time → pos 1 ≤ℤ time
+    go None p h = absurd (err-ok _ _ _ refl h)
+    go (Some t) p h = subst (λ u. pos 1 ≤ℤ u) (typed_so (fits type v.value) t h) (sourced v.source_time t p)
+
+pub write_draft : (request : Request) (place : Place) (asked : HistoryUpdateType) (type : ValueType) (v : DataValue) (time : ℤ)
+    → IsRequest request → IsNumber place → is_delete asked ≡ false → IsDataValue v → time_judged type v ≡ Ok time → IsDraft (candidate_of request place (writing asked v time))
+write_draft request place asked type v time lawful number write value judged = record {
+  number = number;
+  node = lawful.node;
+  time = judged_time type v time judged;
+  user = lawful.user;
+  value = (value.0, value.1, tt, value.3, value.4, value.5);
+  suits = rw write refl;
+}
+
+pub written_by : (request : Request) (own : ℕ) (asked : HistoryUpdateType) (type : ValueType) (v : DataValue) (time : ℤ) → time_judged type v ≡ Ok time
+    → change_by request own (Write asked type v) ≡ sized request own (writing asked v time)
+written_by request own asked type v time e = ap (written request own asked v) e
+
+pub unwritten : (request : Request) (own : ℕ) (asked : HistoryUpdateType) (type : ValueType) (v : DataValue) (code : UpdateCode) → time_judged type v ≡ Err code
+    → change_by request own (Write asked type v) ≡ Err code
+unwritten request own asked type v code e = ap (written request own asked v) e
+
+-- either way in which a record was settled
+pub settled : {A : Type 0} (state : A → Store) (x y z : A) (request : Request) (op : Operation) (change : Change) (place : Place) (r : Record) (result : Result UpdateCode Setback)
+    → change_by request (state x).own op ≡ sized request (state x).own change → Asks (state x) (state y) (Ok place) (IsPlace (state x) request change.time) → r ≡ candidate_of request place change
+    → IfSome (refusal r place) (λ code. (result ≡ Err (setback.Refused code)) × (z ≡ y))
+    → IfNone (refusal r place) (Submits (state y) (state z) r (done r.asked place.live) result)
+    → Operates (state x) (state z) request op result
+settled state x y z request op change place r result asked p is refused submitted = go (refusal r place) refl refused submitted
+  where
+    go : (o : Option UpdateCode) → refusal r place ≡ o → IfSome o (λ code. (result ≡ Err (setback.Refused code)) × (z ≡ y)) → IfNone o (Submits (state y) (state z) r (done r.asked place.live) result)
+        → Operates (state x) (state z) request op result
+    go (Some code) e f s =
+        subst (λ w. Operates (state x) (state w) request op result) (sym f.1)
+        (subst (λ w. Operates (state x) (state y) request op w) (sym f.0) (settled-refused (state x) (state y) request op change place code asked p (ap (λ w. refusal w place) (sym is) ∙ e)))
+    go None e f s =
+        settled-submitted (state x) (state y) (state z) request op change place result asked p (ap (λ w. refusal w place) (sym is) ∙ e) (subst (λ w. Submits (state y) (state z) w (done w.asked place.live) result) is s)
+
+pub deleted_by : (request : Request) (own : ℕ) (time : ℤ) → IsNodeId request.node → IsRequest request → int_lt time (pos 1) ≡ false → change_by request own (DeleteAt time) ≡ sized request own (deletion time)
+deleted_by request own time spelled lawful late =
+    ap (λ x. if x then Err BadInvalidTimestamp else Ok (deletion time)) late ∙ sym (ap (λ x. if x then Err BadEncodingLimitsExceeded else Ok (deletion time)) (deletion_short request own time spelled lawful))

@@ -1,0 +1,135 @@
+-- What one operation of an update comes to over a content (Part 11, HistoryUpdate): a code, and the record that it adds, if any.
+use Rattle.std.specs.Prelude.{ℕ, ◌≤◌, ◌+◌, nat_lt, ℤ, pos, int_lt, Bool, true, false, if◌then◌else◌, length, Option, Some, None, is_some, Result, Ok, Err}
+use Rattle.std.specs.Option.{option_and_then}
+use Rattle.stamp.specs.Limits.{lift}
+use Rattle.ua_binary.specs.declared.values.NodeId.{NodeId}
+use Rattle.ua_binary.specs.declared.values.NodeId.TheVariants.{Named, Opaque}
+use Rattle.ua_variant.specs.Variant.{has_type}
+use Rattle.ua_variant.specs.declared.data.DataValue.{DataValue}
+use Rattle.ua_variant.specs.declared.value.Variant.{Variant}
+use Rattle.ua_variant.specs.declared.value.ValueType.{ValueType}
+use Rattle.records.specs.Contents.{Content, vec, top, put}
+use Rattle.records.specs.Records.{current}
+use Rattle.records.specs.Spelling.{empty, fields, longest}
+use Rattle.records.specs.declared.record.Record.{Record}
+use Rattle.records.specs.declared.record.HistoryUpdateType.{HistoryUpdateType}
+use Rattle.records.specs.declared.record.HistoryUpdateType.TheVariants.{Insert, Replace, Delete}
+use Rattle.hist_update.specs.declared.request.Request.{Request}
+use Rattle.hist_update.specs.declared.code.UpdateCode.{UpdateCode}
+use Rattle.hist_update.specs.declared.code.UpdateCode.TheVariants.{Good, GoodEntryInserted, GoodEntryReplaced, BadResourceUnavailable, BadEncodingLimitsExceeded, BadInvalidTimestamp, BadTypeMismatch, BadEntryExists, BadNoEntryExists}
+
+-- a write of one value to a node of this type, or a delete at one source time
+pub data Operation : Type 0 where
+  Write : (asked : HistoryUpdateType) → ValueType → DataValue → Operation
+  DeleteAt : ℤ → Operation
+
+-- what is to be changed, once that is clear
+pub record Change : Type 0 where
+  pub time : ℤ
+  pub asked : HistoryUpdateType
+  pub value : DataValue
+
+-- the record of a change, made by this replica, with this number and tick
+abbrev pub record_by : Request → ℕ → ℕ → ℤ → Change → Record
+record_by request own number tick change = record { origin = own; number = number; tick = tick; node = request.node; time = change.time; asked = change.asked; user = request.user; value = change.value }
+
+-- what a caller sees to: the node's id and the user's name have at most 256 bytes each
+abbrev pub id_length : NodeId → ℕ
+id_length (Named ns name) = length name
+id_length (Opaque ns id) = length id
+id_length node = 0
+
+pub record IsRequest (request : Request) : Type 0 where
+  pub node : id_length request.node ≤ 256
+  pub user : length request.user ≤ 256
+
+-- ---- what is refused whatever is held
+
+-- the source time, where there is one of at least 1
+abbrev pub source_time : DataValue → Option ℤ
+source_time v = option_and_then (λ t. if int_lt t.0 (pos 1) then None else Some t.0) v.source_time
+
+-- a value that isn't there fits each type, as a null one does
+abbrev pub fits : ValueType → Option Variant → Bool
+fits type None = true
+fits type (Some v) = has_type v type
+
+-- the change's record has too many bytes; its number and its tick take eight each, whatever they are
+abbrev pub is_too_long : Request → ℕ → Change → Bool
+is_too_long request own change = nat_lt longest (length (fields.canon (record_by request own 1 (pos 1) change)))
+
+-- the record has the source time, and so its value doesn't
+abbrev pub writing : HistoryUpdateType → DataValue → ℤ → Change
+writing asked v time = record { time = time; asked = asked; value = record v { source_time = None } }
+
+abbrev pub deletion : ℤ → Change
+deletion time = record { time = time; asked = Delete; value = empty }
+
+abbrev pub typed : Bool → ℤ → Result ℤ UpdateCode
+typed true time = Ok time
+typed false time = Err BadTypeMismatch
+
+abbrev pub timed : ValueType → DataValue → Option ℤ → Result ℤ UpdateCode
+timed type v None = Err BadInvalidTimestamp
+timed type v (Some time) = typed (fits type v.value) time
+
+-- the source time of a value that may be written to a node of this type
+abbrev pub time_judged : ValueType → DataValue → Result ℤ UpdateCode
+time_judged type v = timed type v (source_time v)
+
+abbrev pub sized : Request → ℕ → Change → Result Change UpdateCode
+sized request own change = if is_too_long request own change then Err BadEncodingLimitsExceeded else Ok change
+
+abbrev pub written : Request → ℕ → HistoryUpdateType → DataValue → Result ℤ UpdateCode → Result Change UpdateCode
+written request own asked v (Err code) = Err code
+written request own asked v (Ok time) = sized request own (writing asked v time)
+
+-- the change that an operation asks for
+abbrev pub change_by : Request → ℕ → Operation → Result Change UpdateCode
+change_by request own (Write asked type v) = written request own asked v (time_judged type v)
+change_by request own (DeleteAt time) = if int_lt time (pos 1) then Err BadInvalidTimestamp else Ok (deletion time)
+
+-- ---- what a content makes of it
+
+pub data Outcome : Type 0 where
+  Refused : UpdateCode → Outcome
+  Added : UpdateCode → Record → Outcome
+
+-- an insert onto a live value, and a replacement or a delete of none, are refused
+abbrev pub conflict : HistoryUpdateType → (live : Bool) → Option UpdateCode
+conflict Insert true = Some BadEntryExists
+conflict Replace false = Some BadNoEntryExists
+conflict Delete false = Some BadNoEntryExists
+conflict asked live = None
+
+abbrev pub done : HistoryUpdateType → (live : Bool) → UpdateCode
+done Delete live = Good
+done asked false = GoodEntryInserted
+done asked true = GoodEntryReplaced
+
+abbrev pub is_live : Content → NodeId → ℤ → Bool
+is_live R node time = is_some (current R node time)
+
+abbrev pub stamped : Content → ℕ → Request → Change → UpdateCode → Option ℤ → Outcome
+stamped R own request change code None = Refused BadResourceUnavailable
+stamped R own request change code (Some tick) = Added code (record_by request own (vec R own + 1) tick change)
+
+abbrev pub judged : Content → ℕ → Request → Change → (live : Bool) → Option UpdateCode → Outcome
+judged R own request change live (Some code) = Refused code
+judged R own request change live None = stamped R own request change (done change.asked live) (lift request.reading (top R))
+
+abbrev pub outcome_of : Content → ℕ → Request → Result Change UpdateCode → Outcome
+outcome_of R own request (Err code) = Refused code
+outcome_of R own request (Ok change) = judged R own request change (is_live R request.node change.time) (conflict change.asked (is_live R request.node change.time))
+
+abbrev pub outcome : Content → ℕ → Request → Operation → Outcome
+outcome R own request operation = outcome_of R own request (change_by request own operation)
+
+abbrev pub code_in : Outcome → UpdateCode
+code_in (Refused code) = code
+code_in (Added code r) = code
+
+-- the content that it leaves
+abbrev pub after : Content → Outcome → Content
+after R (Refused code) = R
+after R (Added code r) = put r R

@@ -1,0 +1,301 @@
+//! One operation: a write of one value, or a delete at one source time.
+
+ghost use Rattle.std.specs.Prelude.{◌≡◌, ◌+◌, min, is_some, IfOk, IfSome, IfNone, false, Ok, Err, None};
+ghost use Rattle.std.specs.Int.{w64};
+ghost use Rattle.std.specs.Int.RustNames.{FitsSigned};
+ghost use Rattle.stamp.specs.Limits.{greatest, lift};
+ghost use Rattle.records.specs.Records.{held, current, is_delete};
+ghost use Rattle.records.specs.Spelling.{empty, IsLawfulRecord};
+ghost use Rattle.records.specs.Contents.{vec, top};
+ghost use Rattle.archive.specs.Store.{Store, Asks};
+ghost use Rattle.ua_variant.specs.DataValue.{IsDataValue};
+ghost use Rattle.hist_update.specs.Outcome.{IsRequest, Write, DeleteAt, fits, source_time, time_judged, conflict, done, is_live, writing, deletion, record_by};
+ghost use Rattle.hist_update.specs.Setbacks.{Operates, IsPlace, IsNumber, candidate_of, IsDraft, is_long, refusal, Submits};
+ghost use Rattle.hist_update.specs.declared.code.UpdateCode.TheVariants as code;
+ghost use Rattle.hist_update.specs.declared.setback.Setback.TheVariants as setback;
+
+use crate::code::UpdateCode;
+use crate::request::Request;
+use crate::setback::Setback;
+use archive::{Archive, StoreFault};
+use records::{HistoryUpdateType, Record};
+use stamp::{GREATEST_NUMBER, GREATEST_TICK, ReplicaNo, lift};
+use std::alloc::{AllocError, Global};
+use ua_binary::TryClone;
+use ua_variant::{DataValue, ValueType, Variant, same_type};
+
+/// Where a change is to go: whether a value is live there, and the name and the tick of its record;
+/// no tick where none is left, and then the number is the greatest.
+#[derive(Clone, Copy)]
+struct Place {
+    live: bool,
+    origin: ReplicaNo,
+    number: u64,
+    tick: Option<i64>,
+}
+
+/// Whether a story ends in a write.
+fn is_write_last(story: &[Record]) -> bool
+    ensures { result ≡ is_some (held story.now) }
+{
+    match story.last() {
+        Some(record) => record.asked != HistoryUpdateType::Delete,
+        None => false,
+    }
+}
+
+/// Asks the archive where a change at this source time is to go.
+fn survey<A: Archive>(
+    alloc: Global,
+    archive: &mut A,
+    request: &Request,
+    time: i64,
+) -> Result<Place, StoreFault>
+    ensures number { IfOk result IsNumber }
+    ensures asks { Asks (A.state archive.old) (A.state archive.new) result (IsPlace (A.state archive.old) request.now time) }
+{
+    let story = archive.at(alloc, &request.node, time)?;
+    let live = is_write_last(&story);
+    let origin = archive.number();
+    let tick = lift(request.reading, archive.top()?);
+    let number = archive.vector()?.get(origin) + 1;
+    Ok(Place {
+        live,
+        origin,
+        number: number.min(GREATEST_NUMBER),
+        tick,
+    })
+}
+
+/// Why an update is refused for what is live.
+fn conflict(asked: HistoryUpdateType, live: bool) -> Option<UpdateCode>
+    ensures { result ≡ conflict asked live }
+{
+    match (asked, live) {
+        (HistoryUpdateType::Insert, true) => Some(UpdateCode::BadEntryExists),
+        (HistoryUpdateType::Replace | HistoryUpdateType::Delete, false) => {
+            Some(UpdateCode::BadNoEntryExists)
+        }
+        _ => None,
+    }
+}
+
+/// The code of an update that was done.
+fn done(asked: HistoryUpdateType, live: bool) -> UpdateCode
+    ensures { result ≡ done asked live }
+{
+    if asked == HistoryUpdateType::Delete {
+        UpdateCode::Good
+    } else if live {
+        UpdateCode::GoodEntryReplaced
+    } else {
+        UpdateCode::GoodEntryInserted
+    }
+}
+
+/// Whether a value fits a type. One that isn't there fits each.
+fn fits(value_type: ValueType, value: &Option<Variant>) -> bool
+    ensures { result ≡ fits value_type value.now }
+{
+    match value {
+        Some(value) => same_type(value, value_type),
+        None => true,
+    }
+}
+
+/// The source time of a value, where there is one of at least 1.
+fn source_time(value: &DataValue) -> Option<i64>
+    ensures time { result ≡ source_time value.now }
+    ensures fits { IfSome result (λ t. FitsSigned w64 t) }
+{
+    match value.source_time {
+        Some(ticks) if ticks.0 >= 1 => Some(ticks.0),
+        _ => None,
+    }
+}
+
+/// The source time of a value that may be written to a node of this type.
+fn judge(value_type: ValueType, value: &DataValue) -> Result<i64, UpdateCode>
+    ensures judged { result ≡ time_judged value_type value.now }
+    ensures fits { IfOk result (λ t. FitsSigned w64 t) }
+{
+    let Some(time) = source_time(value) else {
+        return Err(UpdateCode::BadInvalidTimestamp);
+    };
+    if !fits(value_type, &value.value) {
+        return Err(UpdateCode::BadTypeMismatch);
+    }
+    Ok(time)
+}
+
+/// A copy of a value, without its source time.
+fn without_time(value: &DataValue) -> Result<DataValue, AllocError>
+    ensures { IfOk result (λ v. v ≡ record value.now { source_time = None }) }
+{
+    let copy = value.value.try_clone()?;
+    Ok(DataValue {
+        value: copy,
+        status: value.status,
+        source_time: None,
+        source_pico: value.source_pico,
+        server_time: value.server_time,
+        server_pico: value.server_pico,
+    })
+}
+
+/// A value with nothing in it.
+fn empty_value() -> DataValue
+    ensures { result ≡ empty }
+{
+    DataValue {
+        value: None,
+        status: None,
+        source_time: None,
+        source_pico: None,
+        server_time: None,
+        server_pico: None,
+    }
+}
+
+impl Request {
+    /// The record of a change.
+    fn record(
+        &self,
+        place: &Place,
+        time: i64,
+        asked: HistoryUpdateType,
+        value: DataValue,
+    ) -> Result<Record, AllocError>
+        ensures { IfOk result (λ r. r ≡ candidate_of self.now place.now (record { time = time; asked = asked; value = value })) }
+    {
+        let node = self.node.try_clone()?;
+        let user = self.user.try_clone()?;
+        Ok(Record {
+            origin: place.origin,
+            number: place.number,
+            tick: place.tick.unwrap_or(GREATEST_TICK),
+            node,
+            time,
+            asked,
+            user,
+            value,
+        })
+    }
+
+    /// The record of a write.
+    fn write(
+        &self,
+        place: &Place,
+        time: i64,
+        asked: HistoryUpdateType,
+        value: &DataValue,
+    ) -> Result<Record, AllocError>
+        ensures { IfOk result (λ r. r ≡ candidate_of self.now place.now (writing asked value.now time)) }
+    {
+        let value = without_time(value)?;
+        self.record(place, time, asked, value)
+    }
+}
+
+/// Whether a record, lawful but for its size, takes too many bytes.
+#[tactic(auto, using(crate::proofs::Drafts::drafts))]
+fn is_long(candidate: &Record) -> bool
+    requires { IsDraft candidate.now }
+    ensures tested { result ≡ is_long candidate.now }
+    ensures lawful { result ≡ false → IsLawfulRecord candidate.now }
+{
+    let (_origin, _time) = (candidate.origin.get(), candidate.time);
+    let (_node, _user) = (candidate.node.as_ref(), candidate.user.as_str());
+    !candidate.is_lawful()
+}
+
+/// Why a change is refused at its place.
+fn refusal(candidate: &Record, place: &Place) -> Option<UpdateCode>
+    requires { IsDraft candidate.now }
+    ensures tested { result ≡ refusal candidate.now place.now }
+    ensures lawful { result ≡ None → IsLawfulRecord candidate.now }
+{
+    if is_long(candidate) {
+        return Some(UpdateCode::BadEncodingLimitsExceeded);
+    }
+    if let Some(code) = conflict(candidate.asked, place.live) {
+        return Some(code);
+    }
+    match place.tick {
+        Some(_) => None,
+        None => Some(UpdateCode::BadResourceUnavailable),
+    }
+}
+
+/// Gives a record to the archive.
+fn submit<A: Archive>(
+    archive: &mut A,
+    candidate: &Record,
+    code: UpdateCode,
+) -> Result<UpdateCode, Setback>
+    requires { IsLawfulRecord candidate.now }
+    ensures { Submits (A.state archive.old) (A.state archive.new) candidate.now code result }
+{
+    match archive.learn(candidate) {
+        Ok(_) => Ok(code),
+        Err(fault) => Err(fault.into()),
+    }
+}
+
+/// Gives a record to the archive, where nothing speaks against it.
+fn settle<A: Archive>(
+    archive: &mut A,
+    candidate: &Record,
+    place: &Place,
+) -> Result<UpdateCode, Setback>
+    requires { IsDraft candidate.now }
+    ensures refused { IfSome (refusal candidate.now place.now) (λ code. (result ≡ Err (setback.Refused code)) × (archive.new ≡ archive.old)) }
+    ensures submitted { IfNone (refusal candidate.now place.now) (Submits (A.state archive.old) (A.state archive.new) candidate.now (done candidate.now.asked place.now.live) result) }
+{
+    if let Some(code) = refusal(candidate, place) {
+        return Err(Setback::Refused(code));
+    }
+    submit(archive, candidate, done(candidate.asked, place.live))
+}
+
+/// Writes one value.
+pub(crate) fn write<A: Archive>(
+    alloc: Global,
+    archive: &mut A,
+    request: &Request,
+    value_type: ValueType,
+    asked: HistoryUpdateType,
+    value: &DataValue,
+) -> Result<UpdateCode, Setback>
+    requires request { IsRequest request.now }
+    requires asked { is_delete asked ≡ false }
+    requires value { IsDataValue value.now }
+    ensures { Operates (A.state archive.old) (A.state archive.new) request.now (Write asked value_type value.now) result }
+{
+    let time = match judge(value_type, value) {
+        Ok(time) => time,
+        Err(code) => return Err(Setback::Refused(code)),
+    };
+    let place = survey(alloc, archive, request, time)?;
+    let candidate = request.write(&place, time, asked, value)?;
+    settle(archive, &candidate, &place)
+}
+
+/// Deletes what is live at one source time.
+pub(crate) fn delete<A: Archive>(
+    alloc: Global,
+    archive: &mut A,
+    request: &Request,
+    time: i64,
+) -> Result<UpdateCode, Setback>
+    requires { IsRequest request.now }
+    ensures { Operates (A.state archive.old) (A.state archive.new) request.now (DeleteAt time) result }
+{
+    if time < 1 {
+        return Err(Setback::Refused(UpdateCode::BadInvalidTimestamp));
+    }
+    let _node = request.node.as_ref();
+    let place = survey(alloc, archive, request, time)?;
+    let candidate = request.record(&place, time, HistoryUpdateType::Delete, empty_value())?;
+    settle(archive, &candidate, &place)
+}
