@@ -1,0 +1,119 @@
+-- What happened to the sessions of a connection, and how each call is answered by what happened before it (Part 4, 5.6).
+use Rattle.std.specs.Prelude.{◌≡◌, ◌≤◌, ◌<◌, ◌+◌, ◌/◌, ℕ, zero, suc, Bool, true, false, List, [], ◌∷◌, ◌==◌, ◌||◌, Option, None, Some, Result, Ok, Err, IsOk, if◌then◌else◌}
+use Rattle.ua_binary.specs.Binary.{numbers_of}
+use Rattle.ua_binary.specs.declared.values.NodeId.{NodeId}
+use Rattle.ua_session.specs.declared.fault.SessionFault.{SessionFault}
+use Rattle.ua_session.specs.declared.fault.SessionFault.TheVariants.{TooMany, IdInvalid, NotActivated, IdentityInvalid, IdentityRejected, OutOfMemory}
+use Rattle.ua_session.specs.Users.{Allowed, Claim, judged}
+use Rattle.ua_session.specs.Sessions.{State, session_id_of, token_of, user_at, Creates, Activates, Closes}
+
+-- ---- what happened
+
+-- A session was made; the k-th one was activated as a user, or closed. What was refused did not happen.
+pub data Deed : Type 0 where
+  Made : Deed
+  Activated : ℕ → List ℕ → Deed
+  Closed : ℕ → Deed
+
+-- The newest deed is the first of a list. How many sessions were made:
+abbrev pub made_of : List Deed → ℕ
+made_of [] = 0
+made_of (Made ∷ past) = suc (made_of past)
+made_of (Activated k user ∷ past) = made_of past
+made_of (Closed k ∷ past) = made_of past
+
+-- how many were closed
+abbrev pub closed_of : List Deed → ℕ
+closed_of [] = 0
+closed_of (Made ∷ past) = closed_of past
+closed_of (Activated k user ∷ past) = closed_of past
+closed_of (Closed k ∷ past) = suc (closed_of past)
+
+-- whether the k-th was closed
+abbrev pub was_closed : ℕ → List Deed → Bool
+was_closed k [] = false
+was_closed k (Made ∷ past) = was_closed k past
+was_closed k (Activated l user ∷ past) = was_closed k past
+was_closed k (Closed l ∷ past) = l == k || was_closed k past
+
+-- the user of the k-th session's last activation
+abbrev pub last_user : ℕ → List Deed → Option (List ℕ)
+last_user k [] = None
+last_user k (Made ∷ past) = last_user k past
+last_user k (Activated l user ∷ past) = if l == k then Some user else last_user k past
+last_user k (Closed l ∷ past) = last_user k past
+
+-- the k-th session was made and not closed
+pub record IsAlive (k : ℕ) (past : List Deed) : Type 0 where
+  pub first : 0 < k
+  pub made : k ≤ made_of past
+  pub unclosed : was_closed k past ≡ false
+
+-- the session that a token is of, if of any
+abbrev pub session_of : NodeId → ℕ
+session_of token = (numbers_of token).1 / 2
+
+-- the token of a session that is alive
+pub record IsValid (token : NodeId) (past : List Deed) : Type 0 where
+  pub is_token : token ≡ token_of (session_of token)
+  pub is_alive : IsAlive (session_of token) past
+
+-- fewer than 1,000,000 were made, and fewer than 16 of these are alive
+pub record HasRoom (past : List Deed) : Type 0 where
+  pub to_make : made_of past < 1000000
+  pub to_hold : made_of past < closed_of past + 16
+
+-- ---- the calls
+
+-- a call, with what it answered
+pub data Event : Type 0 where
+  Create : Result (NodeId × NodeId) SessionFault → Event
+  Activate : NodeId → Allowed → Claim → Result (List ℕ) SessionFault → Event
+  Close : NodeId → Result (Unit {0}) SessionFault → Event
+  -- user_of
+  Ask : NodeId → Result (List ℕ) SessionFault → Event
+
+-- what the calls promise
+abbrev pub Does : State → Event → State → Type 0
+Does old (Create result) new = Creates old result new
+Does old (Activate token allowed claim result) new = Activates old token allowed claim result new
+Does old (Close token result) new = Closes old token result new
+Does old (Ask token result) new = (result ≡ user_at old token) × (new ≡ old)
+
+-- one call after the other
+abbrev pub Runs : State → List Event → State → Type 0
+Runs old [] new = new ≡ old
+Runs old (event ∷ events) new = (between : State) × Does old event between × Runs between events new
+
+-- what happened, with this call
+abbrev pub after : List Deed → Event → List Deed
+after past (Create (Ok given)) = Made ∷ past
+after past (Create (Err fault)) = past
+after past (Activate token allowed claim (Ok user)) = Activated (session_of token) user ∷ past
+after past (Activate token allowed claim (Err fault)) = past
+after past (Close token (Ok done)) = Closed (session_of token) ∷ past
+after past (Close token (Err fault)) = past
+after past (Ask token result) = past
+
+-- Each call is answered by what happened before it: a session is made where there is room for one; a token is valid while its
+-- session is alive; as whom it is activated is judged by the users; and the user who is told is that of the last activation.
+abbrev pub IsAnswered : List Deed → Event → Type 0
+IsAnswered past (Create (Ok given)) = HasRoom past × (given ≡ (session_id_of (suc (made_of past)), token_of (suc (made_of past))))
+IsAnswered past (Create (Err TooMany)) = ¬ HasRoom past
+IsAnswered past (Create (Err OutOfMemory)) = HasRoom past
+IsAnswered past (Create (Err fault)) = ⊥
+IsAnswered past (Activate token allowed claim (Ok user)) = IsValid token past × (judged allowed claim ≡ Ok user)
+IsAnswered past (Activate token allowed claim (Err IdInvalid)) = ¬ IsValid token past
+IsAnswered past (Activate token allowed claim (Err OutOfMemory)) = IsValid token past × IsOk (judged allowed claim)
+IsAnswered past (Activate token allowed claim (Err fault)) = IsValid token past × (judged allowed claim ≡ Err fault)
+IsAnswered past (Close token (Ok done)) = IsValid token past
+IsAnswered past (Close token (Err IdInvalid)) = ¬ IsValid token past
+IsAnswered past (Close token (Err fault)) = ⊥
+IsAnswered past (Ask token (Ok user)) = IsValid token past × (last_user (session_of token) past ≡ Some user)
+IsAnswered past (Ask token (Err NotActivated)) = IsValid token past × (last_user (session_of token) past ≡ None)
+IsAnswered past (Ask token (Err IdInvalid)) = ¬ IsValid token past
+IsAnswered past (Ask token (Err fault)) = ⊥
+
+abbrev pub AreAnswered : List Deed → List Event → Type 0
+AreAnswered past [] = Unit {0}
+AreAnswered past (event ∷ events) = IsAnswered past event × AreAnswered (after past event) events

@@ -1,0 +1,29 @@
+//! Who a client says that it is, and who a user is.
+
+use ua_binary::{Bytes, Text};
+
+/// Who a client says that it is: the identity token of ActivateSession (Part 4, 5.6.3 and 7.36), in the
+/// memory that it was read from.
+#[derive(Clone, Copy, Debug)]
+pub enum Identity<'a> {
+    /// No token at all, or an AnonymousIdentityToken.
+    Anonymous,
+    /// A UserNameIdentityToken.
+    Named {
+        /// A null name is no user's.
+        name: Option<&'a str>,
+        /// A null password counts as an empty one.
+        password: Option<&'a [u8]>,
+        /// What encrypted the password; nothing but null or an empty text is served.
+        algorithm: Option<&'a str>,
+    },
+    /// A token of another type.
+    Other,
+}
+
+/// A user with a name and a password.
+#[derive(Debug, Drop)]
+pub(crate) struct User {
+    pub name: Text,
+    pub password: Bytes,
+}

@@ -1,0 +1,16 @@
+//! The sessions of a connection and their users (Part 4, 5.6): which tokens are alive, and as whom each
+//! was activated.
+#![tactic(auto)]
+
+mod fault;
+mod identity;
+mod laws;
+mod session;
+mod sessions;
+mod users;
+
+pub use fault::SessionFault;
+pub use identity::Identity;
+pub use laws::calls_are_answered_by_what_happened;
+pub use sessions::Sessions;
+pub use users::Users;
