@@ -1,7 +1,7 @@
 //! The sessions of one connection.
 
 ghost use Rattle.std.specs.Prelude.{◌≡◌, length, find, position, IfOk};
-ghost use Rattle.std.specs.Option.{option_copied, ok_or};
+ghost use Rattle.std.specs.Option.{option_copied};
 ghost use Rattle.ua_binary.specs.Binary.{node_of};
 ghost use Rattle.ua_session.specs.Users.{claim_of, told, IsUserName};
 ghost use Rattle.ua_session.specs.Sessions.{fresh, user_at, is_named, Creates, Activates, Closes};
@@ -82,6 +82,7 @@ impl Sessions {
     /// identity of another type and for a password that is encrypted; then `IdentityRejected` where an
     /// anonymous user isn't allowed, and where the first user of that name has another password or none
     /// has the name; last `OutOfMemory`. A refusal leaves the session as it was.
+    #[tactic(auto, using(crate::proofs::Calls::activating))]
     pub fn activate<'u>(
         &mut self,
         token: NodeIdRef<'_>,
@@ -91,7 +92,9 @@ impl Sessions {
         ensures activates { Activates self.old (node_of token.entry) users.now (claim_of identity.entry) (told result) self.new }
         ensures name { IfOk result (λ user. IsUserName user.now) }
     {
-        let place = place_of(&self.alive, token)?;
+        let Some(place) = place_of(&self.alive, token) else {
+            return Err(SessionFault::IdInvalid);
+        };
         let user = users.judge(identity)?;
         let name = Text::from_str(self.alloc, user)?;
         self.alive[place].user = Some(name);
@@ -100,10 +103,13 @@ impl Sessions {
 
     /// Closes a session (Part 4, 5.6.4), whether it was activated or not. `IdInvalid` where the token is
     /// none of a session that is open. It takes no memory.
+    #[tactic(auto, using(crate::proofs::Calls::closing))]
     pub fn close(&mut self, token: NodeIdRef<'_>) -> Result<(), SessionFault>
         ensures { Closes self.old (node_of token.entry) result self.new }
     {
-        let place = place_of(&self.alive, token)?;
+        let Some(place) = place_of(&self.alive, token) else {
+            return Err(SessionFault::IdInvalid);
+        };
         self.alive.remove(place);
         Ok(())
     }
@@ -129,11 +135,8 @@ fn find_session<'a>(alive: &'a [Session], token: NodeIdRef<'_>) -> Option<&'a Se
 }
 
 /// The place of the session of this token.
-fn place_of(alive: &[Session], token: NodeIdRef<'_>) -> Result<usize, SessionFault>
-    ensures { result ≡ ok_or (position (is_named (node_of token.entry)) alive.now) SessionFault.IdInvalid }
+fn place_of(alive: &[Session], token: NodeIdRef<'_>) -> Option<usize>
+    ensures { result ≡ position (is_named (node_of token.entry)) alive.now }
 {
-    alive
-        .iter()
-        .position(|session| session.is_named(token))
-        .ok_or(SessionFault::IdInvalid)
+    alive.iter().position(|session| session.is_named(token))
 }
