@@ -1,3 +1,5 @@
 pub mod Found
 pub mod Calls
 pub mod Nobody
+pub mod Alive
+pub mod Histories
