@@ -3,6 +3,7 @@ use Rattle.std.proofs.Common.{◌≡◌, ◌⊎◌, inl, inr, ℕ, zero, suc, �
 use Rattle.std.specs.Option.{option_or}
 use Rattle.std.proofs.lemmas.Bool.{eqb-true, eqb-false, eq-eqb, ne_eqb, cases_eq}
 use Rattle.std.proofs.lemmas.List.Folds.{find-append}
+use Rattle.ua_binary.specs.declared.values.NodeId.{NodeId}
 use Rattle.ua_binary.specs.declared.values.NodeId.TheVariants.{Numeric}
 use Rattle.ua_session.specs.declared.session.Session.{Session}
 use Rattle.ua_session.specs.Sessions.{is_named, set_user, without}
@@ -76,11 +77,17 @@ length-without n (session ∷ alive) some = by (length-without n alive) (eqb n s
         let P : Bool → Type 0 = λ b. IsSome (cond b (Some session) (at n alive)) in
         rw e (ap suc (rest (subst P e some)))
 
-pub length-set_user : (n : ℕ) (user : List ℕ) (alive : List Session) → length (set_user (Numeric 1 n) user alive) ≡ length alive
-length-set_user n user [] = refl
-length-set_user n user (session ∷ alive) =
-    elim (eqb n session.token) as (λ b. length (cond b (with_user user session ∷ alive) (session ∷ set_user (Numeric 1 n) user alive)) ≡ suc (length alive))
-    [ true ↦ refl | false ↦ ap suc (length-set_user n user alive) ]
+pub length-set_user : (token : NodeId) (user : List ℕ) (alive : List Session) → length (set_user token user alive) ≡ length alive
+length-set_user token user [] = refl
+length-set_user token user (session ∷ alive) =
+    elim (is_named token session) as (λ b. length (cond b (with_user user session ∷ alive) (session ∷ set_user token user alive)) ≡ suc (length alive))
+    [ true ↦ refl | false ↦ ap suc (length-set_user token user alive) ]
+
+pub length-le-without : (token : NodeId) (alive : List Session) → length (without token alive) ≤ length alive
+length-le-without token [] = omega arith
+length-le-without token (session ∷ alive) =
+    elim (is_named token session) as (λ b. length (cond b alive (session ∷ without token alive)) ≤ suc (length alive))
+    [ true ↦ omega arith | false ↦ omega (arith, length-le-without token alive) ]
 
 -- ---- no two have one token, still
 

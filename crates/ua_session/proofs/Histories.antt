@@ -30,7 +30,7 @@ pub record Represents (past : List Deed) (state : State) : Type 0 where
   pub held : (k : ℕ) → IsAlive k past → IsSome (at (2 * k + 1) state.alive)
   pub unmade : (k : ℕ) → made_of past < k → (was_closed k past ≡ false) × (last_user k past ≡ None)
 
-represents-fresh : Represents [] fresh
+pub represents-fresh : Represents [] fresh
 represents-fresh = record {
   made = refl;
   count = refl;
@@ -113,7 +113,7 @@ represents-activated past state n user one is there =
     let held_one = is.holds n one there in
     record {
       made = is.made;
-      count = rw (length-set_user n user state.alive) is.count;
+      count = rw (length-set_user (Numeric 1 n) user state.alive) is.count;
       apart = apart-set_user n user state.alive is.apart;
       holds = λ m session found. elim (cases_eq m n) [
         | inl same ↦ (
@@ -216,10 +216,10 @@ names past state (Named namespace name) session is found = let none = none_found
 names past state (Global namespace id) session is found = let none = none_found state.alive in absurd cc
 names past state (Opaque namespace id) session is found = let none = none_found state.alive in absurd cc
 
-half : (k : ℕ) → (2 * k + 1) / 2 ≡ k
+pub half : (k : ℕ) → (2 * k + 1) / 2 ≡ k
 half k = omega arith
 
-valid : (past : List Deed) (state : State) (token : NodeId) (session : Session) → Represents past state → find (is_named token) state.alive ≡ Some session
+pub valid : (past : List Deed) (state : State) (token : NodeId) (session : Session) → Represents past state → find (is_named token) state.alive ≡ Some session
     → IsValid token past × (session.user ≡ last_user (session_of token) past)
 valid past state token session is found =
     let named = names past state token session is found in
@@ -228,7 +228,7 @@ valid past state token session is found =
     let both = subst P (half k) (named.holds.is_alive, named.holds.user) in
     (record { is_token = named.is_token; is_alive = both.0 }, both.1)
 
-invalid : (past : List Deed) (state : State) (token : NodeId) → Represents past state → find (is_named token) state.alive ≡ None → ¬ IsValid token past
+pub invalid : (past : List Deed) (state : State) (token : NodeId) → Represents past state → find (is_named token) state.alive ≡ None → ¬ IsValid token past
 invalid past state token is gone one =
     let P : NodeId → Type 0 = λ t. find (is_named t) state.alive ≡ None in
     let none : at (2 * session_of token + 1) state.alive ≡ None = subst P one.is_token gone in
@@ -364,13 +364,13 @@ goes-close past old token done (Some session) is found answer = leaves-closed pa
 represents-along : (past : List Deed) (state new : State) → new ≡ state → Represents past state → Represents past new
 represents-along past state new same is = let P : State → Type 0 = Represents past in subst P (sym same) is
 
-answering : (past : List Deed) (old new : State) (event : Event) → Represents past old → Does old event new → IsAnswered past event
+pub answering : (past : List Deed) (old new : State) (event : Event) → Represents past old → Does old event new → IsAnswered past event
 answering past old new (Create result) is does = creating past old (is_full old) result is refl does.answer
 answering past old new (Activate token allowed claim result) is does = activating past old token allowed claim (find (is_named token) old.alive) (judged allowed claim) result is refl refl does.answer
 answering past old new (Close token result) is does = closing past old token (find (is_named token) old.alive) result is refl does.answer
 answering past old new (Ask token result) is does = asking past old token (find (is_named token) old.alive) result is refl does.0
 
-leaving : (past : List Deed) (old new : State) (event : Event) → Represents past old → Does old event new → Represents (after past event) new
+pub leaving : (past : List Deed) (old new : State) (event : Event) → Represents past old → Does old event new → Represents (after past event) new
 leaving past old new (Create (Ok given)) is does = represents-along _ _ new does.leaves (represents-made past old is)
 leaving past old new (Create (Err fault)) is does = represents-along past old new does.leaves is
 leaving past old new (Activate token allowed claim (Ok user)) is does = represents-along _ _ new does.leaves (goes-activate past old token user (find (is_named token) old.alive) (judged allowed claim) is refl does.answer)

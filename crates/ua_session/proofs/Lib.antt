@@ -3,3 +3,5 @@ pub mod Calls
 pub mod Nobody
 pub mod Alive
 pub mod Histories
+pub mod Judging
+pub mod Lasting

@@ -1,5 +1,5 @@
 -- What happened to the sessions of a connection, and how each call is answered by what happened before it (Part 4, 5.6).
-use Rattle.std.specs.Prelude.{◌≡◌, ◌≤◌, ◌<◌, ◌+◌, ◌/◌, ℕ, zero, suc, Bool, true, false, List, [], ◌∷◌, ◌==◌, ◌||◌, Option, None, Some, Result, Ok, Err, IsOk, if◌then◌else◌}
+use Rattle.std.specs.Prelude.{◌≡◌, ◌≢◌, ◌≤◌, ◌<◌, ◌+◌, ◌/◌, ℕ, zero, suc, Bool, true, false, List, [], ◌∷◌, ◌==◌, ◌||◌, Option, None, Some, Result, Ok, Err, IsOk, if◌then◌else◌}
 use Rattle.ua_binary.specs.Binary.{numbers_of}
 use Rattle.ua_binary.specs.declared.values.NodeId.{NodeId}
 use Rattle.ua_session.specs.declared.fault.SessionFault.{SessionFault}
@@ -117,3 +117,13 @@ IsAnswered past (Ask token (Err fault)) = ⊥
 abbrev pub AreAnswered : List Deed → List Event → Type 0
 AreAnswered past [] = Unit {0}
 AreAnswered past (event ∷ events) = IsAnswered past event × AreAnswered (after past event) events
+
+-- none of the calls activated or closed the session of this token
+abbrev pub LeaveAlone : NodeId → List Event → Type 0
+LeaveAlone token [] = Unit {0}
+LeaveAlone token (Create result ∷ events) = LeaveAlone token events
+LeaveAlone token (Activate other allowed claim (Ok user) ∷ events) = (other ≢ token) × LeaveAlone token events
+LeaveAlone token (Activate other allowed claim (Err fault) ∷ events) = LeaveAlone token events
+LeaveAlone token (Close other (Ok done) ∷ events) = (other ≢ token) × LeaveAlone token events
+LeaveAlone token (Close other (Err fault) ∷ events) = LeaveAlone token events
+LeaveAlone token (Ask other result ∷ events) = LeaveAlone token events

@@ -1,5 +1,6 @@
 -- Which users there are, and as whom an identity is allowed (Part 4, 5.6.3 and 7.36).
-use Rattle.std.specs.Prelude.{◌≡◌, ◌≤◌, ℕ, Bool, true, List, [], ◌∷◌, length, codes, nat_eq, Option, None, Some, Result, Ok, Err, find, unwrap_or, if◌then◌else◌}
+use Rattle.std.specs.Prelude.{◌≡◌, ◌≢◌, ◌≤◌, ℕ, Bool, true, List, [], ◌∷◌, ◌++◌, length, codes, nat_eq, Option, None, Some, Result, Ok, Err, find, unwrap_or, if◌then◌else◌}
+use Rattle.std.specs.List.{AllByRecursion}
 use Rattle.std.specs.Borrow.{Bor}
 use Rattle.std.specs.Option.{option_copied}
 use Rattle.std.specs.Cmp.Lexicographic.{pointwise}
@@ -67,3 +68,13 @@ HasShortName user = length user.name ≤ 256
 pub record IsUserName (name : List ℕ) : Type 0 where
   pub short : length name ≤ 256
   pub utf8 : is_utf8 name ≡ true
+
+-- the first user of a name has this password
+pub record IsFirst (users : List User) (name password : List ℕ) : Type 0 where
+  pub before : List User
+  pub user : User
+  pub more : List User
+  pub among : users ≡ before ++ user ∷ more
+  pub others : AllByRecursion (λ other. other.name ≢ name) before
+  pub same_name : user.name ≡ name
+  pub same_password : user.password ≡ password
