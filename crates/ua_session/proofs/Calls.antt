@@ -1,13 +1,13 @@
 -- What a call does, by the place of its session.
-use Rattle.std.proofs.Common.{◌≡◌, ℕ, ◌≤◌, ◌<◌, Bool, true, false, List, [], ◌∷◌, length, get_or, set, Option, None, Some, Result, Ok, Err, MatchResult, refl, sym, ap, ◌∙◌, subst, find, position, cond, arith}
+use Rattle.std.proofs.Common.{◌≡◌, ℕ, ◌≤◌, List, length, get_or, set, None, Some, Ok, Err, refl, sym, ap, ◌∙◌, subst, position}
 use Rattle.std.specs.List.{AllByRecursion, remove}
 use Rattle.ua_binary.specs.declared.values.NodeId.{NodeId}
 use Rattle.ua_session.specs.declared.fault.SessionFault.{SessionFault}
 use Rattle.ua_session.specs.declared.fault.SessionFault.TheVariants.{IdInvalid, OutOfMemory}
 use Rattle.ua_session.specs.declared.session.Session.{Session}
 use Rattle.ua_session.specs.Users.{Allowed, Claim, judged}
-use Rattle.ua_session.specs.Sessions.{State, is_named, set_user, without, where_open, activated, closed, Activates, Closes, IsOrStarved, HasShortUser}
-use Rattle.ua_session.proofs.Found.{Found, found, find_none, find_some, without-at, set_user-at, short-set_user, short-without}
+use Rattle.ua_session.specs.Sessions.{State, is_named, Activates, Closes, HasShortUser}
+use Rattle.ua_session.proofs.Found.{found, find_none, find_some, without-at, set_user-at, short-set_user, short-without}
 
 -- ---- close
 

@@ -1,16 +1,14 @@
 -- The session of a token in a list: found, changed or taken out by its place.
-use Rattle.std.proofs.Common.{◌≡◌, ℕ, zero, suc, ◌+◌, ◌-◌, ◌<◌, ◌≤◌, Bool, true, false, List, [], ◌∷◌, ◌++◌, length, get_or, set, take, drop, Option, None, Some, IfSome, Result, Ok, Err, refl, sym, ap, ◌∙◌, subst, cond, nat_lt, ltb-false, arith, find, position}
+use Rattle.std.proofs.Common.{◌≡◌, ℕ, zero, suc, ◌<◌, ◌≤◌, Bool, true, false, List, [], ◌∷◌, length, get_or, set, Option, None, Some, IfSome, refl, sym, ap, ◌∙◌, subst, cond, nat_lt, ltb-false, arith, find, position}
 use Rattle.std.specs.List.{AllByRecursion, position_or_len, slice_get, remove}
-use Rattle.std.specs.Option.{ok_or}
 use Rattle.std.proofs.lemmas.List.Folds.{find_at}
 use Rattle.std.proofs.lemmas.List.Quantifiers.{position-Some}
-use Rattle.std.proofs.lemmas.Option.{slice_get_past, slice_get-get_or}
+use Rattle.std.proofs.lemmas.Option.{slice_get_past}
 use Rattle.ua_binary.specs.declared.values.NodeId.{NodeId}
-use Rattle.ua_session.specs.declared.fault.SessionFault.{SessionFault}
 use Rattle.ua_session.specs.declared.session.Session.{Session}
 use Rattle.ua_session.specs.declared.identity.User.{User}
 use Rattle.ua_session.specs.Users.{HasShortName}
-use Rattle.ua_session.specs.Sessions.{is_named, set_user, without, where_open, HasShortUser}
+use Rattle.ua_session.specs.Sessions.{is_named, set_user, without, HasShortUser}
 
 -- what is found has what each item has
 pub find_has : {X : Type 0} (P : X → Type 0) (p : X → Bool) (xs : List X) → AllByRecursion P xs → IfSome (find p xs) P

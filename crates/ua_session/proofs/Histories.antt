@@ -1,9 +1,9 @@
 -- The sessions that are held are those that were made and not closed, and so each call is answered by what happened.
-use Rattle.std.proofs.Common.{◌≡◌, ◌⊎◌, inl, inr, ℕ, zero, suc, ◌+◌, ◌*◌, ◌/◌, ◌<◌, ◌≤◌, Bool, true, false, List, [], ◌∷◌, ◌++◌, length, Option, None, Some, Result, Ok, Err, MatchResult, refl, sym, ap, ◌∙◌, subst, cond, eqb, leb, arith, find, length-append, is_some, IsSome, IsOk, option_map, unwrap_or, nat_eq, ◌||◌, ◌&&◌}
+use Rattle.std.proofs.Common.{◌≡◌, inl, inr, ℕ, suc, ◌+◌, ◌*◌, ◌/◌, ◌<◌, Bool, true, false, List, [], ◌∷◌, length, Option, None, Some, Result, Ok, Err, refl, sym, ap, ◌∙◌, subst, cond, eqb, leb, arith, find, length-append, is_some, IsSome, option_map, unwrap_or, nat_eq, ◌&&◌}
 use Rattle.std.specs.Option.{option_or}
 use Rattle.std.specs.Result.{result_ok}
 use Rattle.std.specs.Cmp.Lexicographic.{pointwise}
-use Rattle.std.proofs.lemmas.Bool.{eqb-true, eqb-false, eq-eqb, ne_eqb, cases_eq, cases_Bool, or_parts, or_cases, or_from, leb-true, leb-false, le-leb, lt-leb, cond-true, cond-false, true≢false, not_from_true}
+use Rattle.std.proofs.lemmas.Bool.{eqb-true, eqb-false, eq-eqb, ne_eqb, cases_eq, or_parts, or_cases, or_from, leb-true, leb-false, cond-true, cond-false, true≢false}
 use Rattle.ua_binary.specs.declared.values.NodeId.{NodeId}
 use Rattle.ua_binary.specs.declared.values.NodeId.TheVariants.{Numeric, Named, Global, Opaque}
 use Rattle.ua_session.specs.declared.fault.SessionFault.{SessionFault}
@@ -11,9 +11,9 @@ use Rattle.ua_session.specs.declared.fault.SessionFault.TheVariants.{TooMany, Id
 use Rattle.ua_session.specs.declared.session.Session.{Session}
 use Rattle.ua_session.specs.declared.identity.User.{User}
 use Rattle.ua_session.specs.Users.{Allowed, Claim, Anonymous, Named as ByName, Other, nobody, has_name, admitted, known, plain, judged}
-use Rattle.ua_session.specs.Sessions.{State, fresh, session_id_of, token_of, is_named, is_full, created, where_open, activated, closed, user_in, user_at, with_session, set_user, without, IsOrStarved, Creates, Activates, Closes}
+use Rattle.ua_session.specs.Sessions.{State, fresh, session_id_of, token_of, is_named, is_full, where_open, user_in, with_session, set_user, without, IsOrStarved}
 use Rattle.ua_session.specs.History.{Deed, Made, Activated, Closed, made_of, closed_of, was_closed, last_user, IsAlive, session_of, IsValid, HasRoom, Event, Create, Activate, Close, Ask, Does, Runs, after, IsAnswered, AreAnswered}
-use Rattle.ua_session.proofs.Alive.{named, at, with_user, Apart, at_same-set_user, at_other-set_user, at_same-without, at_other-without, length-without, length-set_user, apart-set_user, apart-without, at-append, apart-append}
+use Rattle.ua_session.proofs.Alive.{at, with_user, Apart, at_same-set_user, at_other-set_user, at_same-without, at_other-without, length-without, length-set_user, apart-set_user, apart-without, at-append, apart-append}
 
 -- a session that is held under a token's number
 pub record Holds (past : List Deed) (n : ℕ) (session : Session) : Type 0 where

@@ -2,12 +2,11 @@
 use Rattle.std.proofs.Common.{◌≡◌, ◌≢◌, ◌↔◌, ℕ, Bool, true, false, List, [], ◌∷◌, ◌++◌, Option, None, Some, Result, Ok, Err, refl, sym, ap, ◌∙◌, subst, cond, find, unwrap_or, nat_eq}
 use Rattle.std.specs.List.{AllByRecursion}
 use Rattle.std.specs.Cmp.Lexicographic.{pointwise, bytes_decides}
-use Rattle.std.specs.Result.{result_ok}
 use Rattle.std.proofs.lemmas.Bool.{true≢false, false_from_ne_true}
 use Rattle.ua_session.specs.declared.fault.SessionFault.{SessionFault}
-use Rattle.ua_session.specs.declared.fault.SessionFault.TheVariants.{IdentityInvalid, IdentityRejected}
+use Rattle.ua_session.specs.declared.fault.SessionFault.TheVariants.{IdentityRejected}
 use Rattle.ua_session.specs.declared.identity.User.{User}
-use Rattle.ua_session.specs.Users.{Allowed, Claim, Anonymous, Named, Other, nobody, has_name, admitted, known, plain, judged, IsFirst}
+use Rattle.ua_session.specs.Users.{Allowed, Anonymous, Named, nobody, has_name, admitted, known, plain, judged, IsFirst}
 
 same : (a b : List ℕ) → pointwise nat_eq a b ≡ true → a ≡ b
 same a b = (bytes_decides a b).0

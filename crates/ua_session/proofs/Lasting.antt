@@ -1,12 +1,12 @@
 -- What a token has, whatever is called later; and how many sessions there are.
-use Rattle.std.proofs.Common.{◌≡◌, ◌≢◌, ◌⊎◌, inl, inr, ℕ, zero, suc, ◌+◌, ◌*◌, ◌/◌, ◌<◌, ◌≤◌, Bool, true, false, List, [], ◌∷◌, ◌++◌, length, Option, None, Some, Result, Ok, Err, refl, sym, ap, ◌∙◌, subst, cond, eqb, leb, arith, find, length-append, ◌||◌}
+use Rattle.std.proofs.Common.{◌≡◌, ◌≢◌, ℕ, suc, ◌+◌, ◌*◌, ◌≤◌, Bool, true, false, List, [], ◌∷◌, ◌++◌, length, Option, None, Some, Result, Ok, Err, refl, sym, ap, ◌∙◌, subst, cond, eqb, leb, arith, find, length-append}
 use Rattle.std.proofs.lemmas.Bool.{eq-eqb, ne_eqb, or_parts, or_from, or_left, or_right, leb-false, cond-true, cond-false, true≢false}
 use Rattle.ua_binary.specs.declared.values.NodeId.{NodeId}
 use Rattle.ua_session.specs.declared.fault.SessionFault.{SessionFault}
-use Rattle.ua_session.specs.declared.fault.SessionFault.TheVariants.{TooMany, IdInvalid, NotActivated, OutOfMemory}
+use Rattle.ua_session.specs.declared.fault.SessionFault.TheVariants.{TooMany, IdInvalid, NotActivated}
 use Rattle.ua_session.specs.declared.session.Session.{Session}
 use Rattle.ua_session.specs.Users.{Allowed, Claim, judged}
-use Rattle.ua_session.specs.Sessions.{State, fresh, session_id_of, token_of, is_named, is_full, user_in, user_at, with_session, set_user, without, IsOrStarved}
+use Rattle.ua_session.specs.Sessions.{State, fresh, session_id_of, token_of, is_named, is_full, user_in, user_at, with_session, IsOrStarved}
 use Rattle.ua_session.specs.History.{Deed, Made, Activated, Closed, made_of, was_closed, last_user, IsAlive, session_of, IsValid, Event, Create, Activate, Close, Ask, Does, Runs, after, IsAnswered, LeaveAlone}
 use Rattle.ua_session.proofs.Alive.{length-set_user, length-le-without}
 use Rattle.ua_session.proofs.Histories.{Represents, represents-fresh, half, valid, invalid, answering, leaving}

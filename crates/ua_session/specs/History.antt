@@ -1,9 +1,9 @@
 -- What happened to the sessions of a connection, and how each call is answered by what happened before it (Part 4, 5.6).
-use Rattle.std.specs.Prelude.{◌≡◌, ◌≢◌, ◌≤◌, ◌<◌, ◌+◌, ◌/◌, ℕ, zero, suc, Bool, true, false, List, [], ◌∷◌, ◌==◌, ◌||◌, Option, None, Some, Result, Ok, Err, IsOk, if◌then◌else◌}
+use Rattle.std.specs.Prelude.{◌≡◌, ◌≢◌, ◌≤◌, ◌<◌, ◌+◌, ◌/◌, ℕ, suc, Bool, false, List, [], ◌∷◌, ◌==◌, ◌||◌, Option, None, Some, Result, Ok, Err, IsOk, if◌then◌else◌}
 use Rattle.ua_binary.specs.Binary.{numbers_of}
 use Rattle.ua_binary.specs.declared.values.NodeId.{NodeId}
 use Rattle.ua_session.specs.declared.fault.SessionFault.{SessionFault}
-use Rattle.ua_session.specs.declared.fault.SessionFault.TheVariants.{TooMany, IdInvalid, NotActivated, IdentityInvalid, IdentityRejected, OutOfMemory}
+use Rattle.ua_session.specs.declared.fault.SessionFault.TheVariants.{TooMany, IdInvalid, NotActivated, OutOfMemory}
 use Rattle.ua_session.specs.Users.{Allowed, Claim, judged}
 use Rattle.ua_session.specs.Sessions.{State, session_id_of, token_of, user_at, Creates, Activates, Closes}
 

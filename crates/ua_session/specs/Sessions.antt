@@ -1,5 +1,5 @@
 -- What the sessions of a connection are, and what each call answers and leaves (Part 4, 5.6).
-use Rattle.std.specs.Prelude.{◌≡◌, ◌≤◌, ◌<◌, ◌+◌, ◌*◌, ℕ, Bool, true, false, List, [], ◌∷◌, ◌++◌, length, ◌==◌, ◌&&◌, ◌||◌, nat_lt, nat_le, Option, None, Some, IfSome, Result, Ok, Err, MatchResult, find, if◌then◌else◌}
+use Rattle.std.specs.Prelude.{◌≡◌, ◌≤◌, ◌+◌, ◌*◌, ℕ, Bool, false, List, [], ◌∷◌, ◌++◌, length, ◌==◌, ◌&&◌, ◌||◌, nat_le, Option, None, Some, IfSome, Result, Ok, Err, MatchResult, find, if◌then◌else◌}
 use Rattle.ua_binary.specs.declared.values.NodeId.{NodeId}
 use Rattle.ua_binary.specs.declared.values.NodeId.TheVariants.{Numeric}
 use Rattle.ua_session.specs.declared.fault.SessionFault.{SessionFault}

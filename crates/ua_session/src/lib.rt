@@ -17,3 +17,6 @@ pub use laws::{
 };
 pub use sessions::Sessions;
 pub use users::Users;
+
+#[cfg(test)]
+mod tests;

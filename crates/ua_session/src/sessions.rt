@@ -1,10 +1,11 @@
 //! The sessions of one connection.
 
-ghost use Rattle.std.specs.Prelude.{◌≡◌, length, find, position, IfOk};
+ghost use Rattle.std.specs.Prelude.{◌≡◌, length, find, position, IfOk, IfSome};
+ghost use Rattle.std.specs.List.{AllByRecursion};
 ghost use Rattle.std.specs.Option.{option_copied};
 ghost use Rattle.ua_binary.specs.Binary.{node_of};
 ghost use Rattle.ua_session.specs.Users.{claim_of, told, IsUserName};
-ghost use Rattle.ua_session.specs.Sessions.{fresh, user_at, is_named, Creates, Activates, Closes};
+ghost use Rattle.ua_session.specs.Sessions.{fresh, user_at, is_named, HasShortUser, Creates, Activates, Closes};
 
 use crate::fault::SessionFault;
 use crate::identity::Identity;
@@ -15,10 +16,10 @@ use std::marker::Model;
 use ua_binary::{NodeId, NodeIdRef, Text};
 
 /// How many sessions may be open at a time.
-pub const MAX_ALIVE: usize = 16;
+const MAX_ALIVE: usize = 16;
 
 /// How many sessions a connection may make.
-pub const MAX_MADE: u32 = 1_000_000;
+const MAX_MADE: u32 = 1_000_000;
 
 /// The sessions of one connection (Part 4, 5.6), each known by its authentication token.
 ///
@@ -129,7 +130,9 @@ impl Sessions {
 
 /// The session of this token.
 fn find_session<'a>(alive: &'a [Session], token: NodeIdRef<'_>) -> Option<&'a Session>
-    ensures { option_copied result ≡ find (is_named (node_of token.entry)) alive.now }
+    requires { AllByRecursion HasShortUser alive.now }
+    ensures found { option_copied result ≡ find (is_named (node_of token.entry)) alive.now }
+    ensures short { IfSome result (λ session. HasShortUser session.now) }
 {
     alive.iter().find(|session| session.is_named(token))
 }

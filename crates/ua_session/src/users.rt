@@ -1,6 +1,6 @@
 //! Who may activate a session, and as whom.
 
-ghost use Rattle.std.specs.Prelude.{◌≡◌, ◌≤◌, ◌<◌, [], ◌∷◌, ◌++◌, length, find, IfOk, IfErr, OnOk};
+ghost use Rattle.std.specs.Prelude.{◌≡◌, ◌≤◌, ◌<◌, [], ◌∷◌, ◌++◌, length, find, IfOk, IfErr, IfSome, OnOk};
 ghost use Rattle.std.specs.List.{AllByRecursion};
 ghost use Rattle.std.specs.Option.{option_copied};
 ghost use Rattle.ua_session.specs.Users.{told, known, has_name, HasShortName, IsUserName};
@@ -64,6 +64,7 @@ impl Users {
     /// As whom an identity is allowed: `anonymous`, or the first user of that name where the password is
     /// that user's. `IdentityInvalid` for a token of another type and for a password that is encrypted,
     /// whoever it names; else `IdentityRejected`.
+    #[tactic(auto, using(crate::proofs::Nobody::anonymity))]
     pub(crate) fn judge(&self, identity: Identity<'_>) -> Result<&str, SessionFault>
         ensures judged { told result ≡ judged self.now (claim_of identity.entry) }
         ensures name { IfOk result (λ user. IsUserName user.now) }
@@ -112,7 +113,9 @@ fn admit<'a>(
 
 /// The first user of this name.
 fn find_user<'a>(users: &'a [User], name: &str) -> Option<&'a User>
-    ensures { option_copied result ≡ find (has_name name.now) users.now }
+    requires { AllByRecursion HasShortName users.now }
+    ensures found { option_copied result ≡ find (has_name name.now) users.now }
+    ensures short { IfSome result (λ user. HasShortName user.now) }
 {
     users.iter().find(|user| user.name.as_str() == name)
 }

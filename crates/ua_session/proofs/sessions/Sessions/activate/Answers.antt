@@ -1,4 +1,4 @@
-use Rattle.std.proofs.Common.{◌≡◌, position, sym, ap, ◌∙◌}
+use Rattle.std.proofs.Common.{position, sym, ap, ◌∙◌}
 use Rattle.ua_binary.specs.Binary.{node_of}
 use Rattle.ua_session.specs.Sessions.{is_named}
 use Rattle.ua_session.proofs.Calls.{activates-one}
