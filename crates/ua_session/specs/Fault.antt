@@ -1,4 +1,4 @@
--- What a fault is called outside: by its number, and by the status code that a response tells (Part 4, 7.39).
+-- What a fault is called outside: by its number, and by the status code that a response tells (Part 4, StatusCode).
 use Rattle.std.specs.Prelude.{ℕ}
 use Rattle.ua_session.specs.declared.fault.SessionFault.{SessionFault}
 use Rattle.ua_session.specs.declared.fault.SessionFault.TheVariants.{TooMany, IdInvalid, NotActivated, IdentityInvalid, IdentityRejected, OutOfMemory}

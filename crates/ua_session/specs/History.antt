@@ -1,4 +1,4 @@
--- What happened to the sessions of a connection, and how each call is answered by what happened before it (Part 4, 5.6).
+-- What happened to the sessions of a connection, and how each call is answered by what happened before it (Part 4, 5.7).
 use Rattle.std.specs.Prelude.{◌≡◌, ◌≢◌, ◌≤◌, ◌<◌, ◌+◌, ◌/◌, ℕ, suc, Bool, false, List, [], ◌∷◌, ◌==◌, ◌||◌, Option, None, Some, Result, Ok, Err, IsOk, if◌then◌else◌}
 use Rattle.ua_binary.specs.Binary.{numbers_of}
 use Rattle.ua_binary.specs.declared.values.NodeId.{NodeId}

@@ -1,4 +1,4 @@
--- What the sessions of a connection are, and what each call answers and leaves (Part 4, 5.6).
+-- What the sessions of a connection are, and what each call answers and leaves (Part 4, 5.7).
 use Rattle.std.specs.Prelude.{◌≡◌, ◌≤◌, ◌+◌, ◌*◌, ℕ, Bool, false, List, [], ◌∷◌, ◌++◌, length, ◌==◌, ◌&&◌, ◌||◌, nat_le, Option, None, Some, IfSome, Result, Ok, Err, MatchResult, find, if◌then◌else◌}
 use Rattle.ua_binary.specs.declared.values.NodeId.{NodeId}
 use Rattle.ua_binary.specs.declared.values.NodeId.TheVariants.{Numeric}

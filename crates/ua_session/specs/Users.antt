@@ -1,4 +1,4 @@
--- Which users there are, and as whom an identity is allowed (Part 4, 5.6.3 and 7.36).
+-- Which users there are, and as whom an identity is allowed (Part 4, 5.7.3).
 use Rattle.std.specs.Prelude.{◌≡◌, ◌≢◌, ◌≤◌, ℕ, Bool, true, List, [], ◌∷◌, ◌++◌, length, codes, nat_eq, Option, None, Some, Result, Ok, Err, find, unwrap_or, if◌then◌else◌}
 use Rattle.std.specs.List.{AllByRecursion}
 use Rattle.std.specs.Borrow.{Bor}

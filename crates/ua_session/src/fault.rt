@@ -6,7 +6,7 @@ ghost use Rattle.ua_session.specs.declared.fault.SessionFault.TheVariants.{OutOf
 use std::alloc::{AllocError, AllocFailed};
 use thiserror::Error;
 
-/// Why a call of a session service is refused (Part 4, 5.6). Each leaves the sessions as they were.
+/// Why a call of a session service is refused (Part 4, 5.7). Each leaves the sessions as they were.
 #[derive(Clone, Copy, Debug, PartialEq, Eq, Error)]
 pub enum SessionFault {
     /// 16 sessions are open, or 1,000,000 were made.
@@ -46,7 +46,7 @@ impl SessionFault {
         }
     }
 
-    /// The status code that a response tells the client (Part 4, 7.39).
+    /// The status code that a response tells the client (Part 4, StatusCode).
     pub fn code(self) -> u32
         ensures { result ≡ code_of self }
     {

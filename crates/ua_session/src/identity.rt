@@ -3,7 +3,7 @@
 use std::fmt;
 use ua_binary::{Bytes, Text};
 
-/// Who a client says that it is: the identity token of ActivateSession (Part 4, 5.6.3 and 7.36), in the
+/// Who a client says that it is: the user identity token of ActivateSession (Part 4, 5.7.3), in the
 /// memory that it was read from.
 #[derive(Clone, Copy)]
 pub enum Identity<'a> {

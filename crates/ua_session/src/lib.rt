@@ -1,4 +1,4 @@
-//! The sessions of a connection and their users (Part 4, 5.6): which tokens are alive, and as whom each
+//! The sessions of a connection and their users (Part 4, 5.7): which tokens are alive, and as whom each
 //! was activated.
 #![tactic(auto)]
 

@@ -21,7 +21,7 @@ const MAX_ALIVE: usize = 16;
 /// How many sessions a connection may make.
 const MAX_MADE: u32 = 1_000_000;
 
-/// The sessions of one connection (Part 4, 5.6), each known by its authentication token.
+/// The sessions of one connection (Part 4, 5.7), each known by its authentication token.
 ///
 /// The k-th session has the id `ns=1;i=2k` and the token `ns=1;i=2k+1`, so that no token is ever given
 /// twice. A session has no user until it is activated.
@@ -56,7 +56,7 @@ impl Sessions {
         }
     }
 
-    /// Makes a session (Part 4, 5.6.2), and answers its id and its authentication token. `TooMany` where
+    /// Makes a session (Part 4, 5.7.2), and answers its id and its authentication token. `TooMany` where
     /// 16 sessions are open or 1,000,000 were made; `OutOfMemory` leaves them as they were.
     pub fn create(&mut self) -> Result<(NodeId, NodeId), SessionFault>
         ensures { Creates self.old result self.new }
@@ -76,7 +76,7 @@ impl Sessions {
         ))
     }
 
-    /// Activates a session as a user (Part 4, 5.6.3), and answers the user's name: `anonymous`, or the
+    /// Activates a session as a user (Part 4, 5.7.3), and answers the user's name: `anonymous`, or the
     /// name of the identity. It may be activated again, and the last user counts.
     ///
     /// `IdInvalid` where the token is none of a session that is open. Then `IdentityInvalid` for an
@@ -102,7 +102,7 @@ impl Sessions {
         Ok(user)
     }
 
-    /// Closes a session (Part 4, 5.6.4), whether it was activated or not. `IdInvalid` where the token is
+    /// Closes a session (Part 4, 5.7.4), whether it was activated or not. `IdInvalid` where the token is
     /// none of a session that is open. It takes no memory.
     #[tactic(auto, using(crate::proofs::Calls::closing))]
     pub fn close(&mut self, token: NodeIdRef<'_>) -> Result<(), SessionFault>
