@@ -5,7 +5,7 @@ use Rattle.ua_binary.specs.declared.values.NodeId.{NodeId}
 use Rattle.ua_session.specs.declared.fault.SessionFault.{SessionFault}
 use Rattle.ua_session.specs.declared.fault.SessionFault.TheVariants.{IdInvalid, OutOfMemory}
 use Rattle.ua_session.specs.declared.session.Session.{Session}
-use Rattle.ua_session.specs.Users.{Allowed, Claim, judged}
+use Rattle.ua_session.specs.Users.{Allowed, Claim, judgement}
 use Rattle.ua_session.specs.Sessions.{State, is_named, Activates, Closes, HasShortUser}
 use Rattle.ua_session.proofs.Found.{found, find_none, find_some, without-at, set_user-at, short-set_user, short-without}
 
@@ -40,19 +40,19 @@ activates-none state token allowed claim none =
     let gone = find_none (is_named token) state.alive none in
     record { answer = rw gone refl; leaves = refl }
 
-pub activates-refused : (state : State) (token : NodeId) (allowed : Allowed) (claim : Claim) (place : ℕ) (fault : SessionFault) → position (is_named token) state.alive ≡ Some place → Err fault ≡ judged allowed claim
+pub activates-refused : (state : State) (token : NodeId) (allowed : Allowed) (claim : Claim) (place : ℕ) (fault : SessionFault) → position (is_named token) state.alive ≡ Some place → Err fault ≡ judgement allowed claim
     → Activates state token allowed claim (Err fault) state
 activates-refused state token allowed claim place fault at is =
     let one = find_some token state.alive place (found token state.alive place at) any in
     record { answer = rw (one, ← is) refl; leaves = refl }
 
-pub activates-starved : (state : State) (token : NodeId) (allowed : Allowed) (claim : Claim) (place : ℕ) (user : List ℕ) → position (is_named token) state.alive ≡ Some place → Ok user ≡ judged allowed claim
+pub activates-starved : (state : State) (token : NodeId) (allowed : Allowed) (claim : Claim) (place : ℕ) (user : List ℕ) → position (is_named token) state.alive ≡ Some place → Ok user ≡ judgement allowed claim
     → Activates state token allowed claim (Err OutOfMemory) state
 activates-starved state token allowed claim place user at is =
     let one = find_some token state.alive place (found token state.alive place at) any in
     record { answer = rw (one, ← is) refl; leaves = refl }
 
-pub activates-one : (state : State) (token : NodeId) (allowed : Allowed) (claim : Claim) (place : ℕ) (user name : List ℕ) (d : Session) → position (is_named token) state.alive ≡ Some place → Ok user ≡ judged allowed claim
+pub activates-one : (state : State) (token : NodeId) (allowed : Allowed) (claim : Claim) (place : ℕ) (user name : List ℕ) (d : Session) → position (is_named token) state.alive ≡ Some place → Ok user ≡ judgement allowed claim
     → d ≡ get_or state.alive place d → name ≡ user
     → Activates state token allowed claim (Ok user) (record { made = state.made; alive = set state.alive place (record { token = d.token; user = Some name }) })
 activates-one state token allowed claim place user name d at is there copied =

@@ -8,7 +8,7 @@ use Rattle.ua_binary.specs.declared.values.NodeId.{NodeId}
 use Rattle.ua_session.specs.declared.session.Session.{Session}
 use Rattle.ua_session.specs.declared.identity.User.{User}
 use Rattle.ua_session.specs.Users.{HasShortName}
-use Rattle.ua_session.specs.Sessions.{is_named, set_user, without, HasShortUser}
+use Rattle.ua_session.specs.Sessions.{is_named, with_user, without_session, HasShortUser}
 
 -- what is found has what each item has
 pub find_has : {X : Type 0} (P : X → Type 0) (p : X → Bool) (xs : List X) → AllByRecursion P xs → IfSome (find p xs) P
@@ -45,14 +45,14 @@ after_first token session alive place is = record {
   before = λ k d below. is.before (suc k) d (omega (arith, below));
 }
 
-pub without-at : (token : NodeId) (alive : List Session) (place : ℕ) → Found token alive place → remove alive place ≡ without token alive
+pub without-at : (token : NodeId) (alive : List Session) (place : ℕ) → Found token alive place → remove alive place ≡ without_session token alive
 without-at token [] place is = absurd (omega (arith, is.within))
 without-at token (session ∷ alive) zero is = let here = is.here session in rw here refl
 without-at token (session ∷ alive) (suc place) is =
     let apart : is_named token session ≡ false = is.before zero session (omega arith) in
     rw apart (ap (λ rest. session ∷ rest) (without-at token alive place (after_first token session alive place is)))
 
-pub set_user-at : (token : NodeId) (user : List ℕ) (alive : List Session) (place : ℕ) (d : Session) → Found token alive place → set alive place (record (get_or alive place d) { user = Some user }) ≡ set_user token user alive
+pub set_user-at : (token : NodeId) (user : List ℕ) (alive : List Session) (place : ℕ) (d : Session) → Found token alive place → set alive place (record (get_or alive place d) { user = Some user }) ≡ with_user token user alive
 set_user-at token user [] place d is = absurd (omega (arith, is.within))
 set_user-at token user (session ∷ alive) zero d is = let here = is.here session in rw here refl
 set_user-at token user (session ∷ alive) (suc place) d is =
@@ -68,16 +68,16 @@ find_some token (session ∷ alive) (suc place) is d =
     rw apart (find_some token alive place (after_first token session alive place is) d)
 
 -- the names stay short
-pub short-set_user : (token : NodeId) (user : List ℕ) (alive : List Session) → length user ≤ 256 → AllByRecursion HasShortUser alive → AllByRecursion HasShortUser (set_user token user alive)
+pub short-set_user : (token : NodeId) (user : List ℕ) (alive : List Session) → length user ≤ 256 → AllByRecursion HasShortUser alive → AllByRecursion HasShortUser (with_user token user alive)
 short-set_user token user [] short all = tt
 short-set_user token user (session ∷ alive) short all =
-    elim (is_named token session) as (λ b. AllByRecursion HasShortUser (cond b (record session { user = Some user } ∷ alive) (session ∷ set_user token user alive)))
+    elim (is_named token session) as (λ b. AllByRecursion HasShortUser (cond b (record session { user = Some user } ∷ alive) (session ∷ with_user token user alive)))
     [ true ↦ (short, all.1) | false ↦ (all.0, short-set_user token user alive short all.1) ]
 
-pub short-without : (token : NodeId) (alive : List Session) → AllByRecursion HasShortUser alive → AllByRecursion HasShortUser (without token alive)
+pub short-without : (token : NodeId) (alive : List Session) → AllByRecursion HasShortUser alive → AllByRecursion HasShortUser (without_session token alive)
 short-without token [] all = tt
 short-without token (session ∷ alive) all =
-    elim (is_named token session) as (λ b. AllByRecursion HasShortUser (cond b alive (session ∷ without token alive)))
+    elim (is_named token session) as (λ b. AllByRecursion HasShortUser (cond b alive (session ∷ without_session token alive)))
     [ true ↦ all.1 | false ↦ (all.0, short-without token alive all.1) ]
 
 -- a user that a session has is short

@@ -1,6 +1,6 @@
 -- The sessions that are held are those that were made and not closed, and so each call is answered by what happened.
 use Rattle.std.proofs.Common.{◌≡◌, inl, inr, ℕ, suc, ◌+◌, ◌*◌, ◌/◌, ◌<◌, Bool, true, false, List, [], ◌∷◌, length, Option, None, Some, Result, Ok, Err, refl, sym, ap, ◌∙◌, subst, cond, eqb, leb, arith, find, length-append, is_some, IsSome, option_map, unwrap_or, nat_eq, ◌&&◌}
-use Rattle.std.specs.Option.{option_or}
+use Rattle.std.specs.Option.{option_or, ok_or}
 use Rattle.std.specs.Result.{result_ok}
 use Rattle.std.specs.Cmp.Lexicographic.{pointwise}
 use Rattle.std.proofs.lemmas.Bool.{eqb-true, eqb-false, eq-eqb, ne_eqb, cases_eq, or_parts, or_cases, or_from, leb-true, leb-false, cond-true, cond-false, true≢false}
@@ -10,10 +10,10 @@ use Rattle.ua_session.specs.declared.fault.SessionFault.{SessionFault}
 use Rattle.ua_session.specs.declared.fault.SessionFault.TheVariants.{TooMany, IdInvalid, NotActivated, IdentityInvalid, IdentityRejected, OutOfMemory}
 use Rattle.ua_session.specs.declared.session.Session.{Session}
 use Rattle.ua_session.specs.declared.identity.User.{User}
-use Rattle.ua_session.specs.Users.{Allowed, Claim, Anonymous, Named as ByName, Other, nobody, has_name, admitted, known, plain, judged}
-use Rattle.ua_session.specs.Sessions.{State, fresh, session_id_of, token_of, is_named, is_full, where_open, user_in, with_session, set_user, without, IsOrStarved}
-use Rattle.ua_session.specs.History.{Deed, Made, Activated, Closed, made_of, closed_of, was_closed, last_user, IsAlive, session_of, IsValid, HasRoom, Event, Create, Activate, Close, Ask, Does, Runs, after, IsAnswered, AreAnswered}
-use Rattle.ua_session.proofs.Alive.{at, with_user, Apart, at_same-set_user, at_other-set_user, at_same-without, at_other-without, length-without, length-set_user, apart-set_user, apart-without, at-append, apart-append}
+use Rattle.ua_session.specs.Users.{Allowed, Claim, Anonymous, Named as ByName, Other, nobody, has_name, judgement_of_user, judgement_of_name, unless_encrypted, judgement}
+use Rattle.ua_session.specs.Sessions.{State, fresh, session_id_of, token_of, is_named, is_full, if_open, user_of_session, with_new, with_user, without_session, IsOrStarved}
+use Rattle.ua_session.specs.History.{Deed, Made, Activated, Closed, made_count, closed_count, was_closed, last_user, IsAlive, session_of, IsValid, HasRoom, Event, Create, Activate, Close, Ask, Does, Runs, after, IsAnswered, AreAnswered}
+use Rattle.ua_session.proofs.Alive.{at, changed, Apart, at_same-set_user, at_other-set_user, at_same-without, at_other-without, length-without, length-set_user, apart-set_user, apart-without, at-append, apart-append}
 
 -- a session that is held under a token's number
 pub record Holds (past : List Deed) (n : ℕ) (session : Session) : Type 0 where
@@ -23,12 +23,12 @@ pub record Holds (past : List Deed) (n : ℕ) (session : Session) : Type 0 where
 
 -- what is held, in terms of what happened
 pub record Represents (past : List Deed) (state : State) : Type 0 where
-  pub made : state.made ≡ made_of past
-  pub count : length state.alive + closed_of past ≡ made_of past
+  pub made : state.made ≡ made_count past
+  pub count : length state.alive + closed_count past ≡ made_count past
   pub apart : Apart state.alive
   pub holds : (n : ℕ) (session : Session) → at n state.alive ≡ Some session → Holds past n session
   pub held : (k : ℕ) → IsAlive k past → IsSome (at (2 * k + 1) state.alive)
-  pub unmade : (k : ℕ) → made_of past < k → (was_closed k past ≡ false) × (last_user k past ≡ None)
+  pub unmade : (k : ℕ) → made_count past < k → (was_closed k past ≡ false) × (last_user k past ≡ None)
 
 pub represents-fresh : Represents [] fresh
 represents-fresh = record {
@@ -75,18 +75,18 @@ some_right : {A : Type 0} (o : Option A) (x : A) → IsSome (option_or o (Some x
 some_right (Some y) x = refl
 some_right None x = refl
 
-held-made : (past : List Deed) (state : State) (k : ℕ) → Represents past state → IsAlive k (Made ∷ past) → IsSome (at (2 * k + 1) (with_session state).alive)
+held-made : (past : List Deed) (state : State) (k : ℕ) → Represents past state → IsAlive k (Made ∷ past) → IsSome (at (2 * k + 1) (with_new state).alive)
 held-made past state k is alive =
     let new : Session = record { token = 2 * (state.made + 1) + 1; user = None } in
     let made = is.made in
     let P : Option Session → Type 0 = IsSome in
     subst P (sym (at-append (2 * k + 1) state.alive new))
-    (elim (cases_eq k (suc (made_of past))) [
+    (elim (cases_eq k (suc (made_count past))) [
       | inl one ↦ (let test : eqb (2 * k + 1) (2 * (state.made + 1) + 1) ≡ true = eq-eqb _ _ (omega arith) in rw test (some_right (at (2 * k + 1) state.alive) new))
       | inr ne ↦ some_left (at (2 * k + 1) state.alive) _ (is.held k (record { first = alive.first; made = omega (arith, alive.made); unclosed = alive.unclosed }))
     ])
 
-represents-made : (past : List Deed) (state : State) → Represents past state → Represents (Made ∷ past) (with_session state)
+represents-made : (past : List Deed) (state : State) → Represents past state → Represents (Made ∷ past) (with_new state)
 represents-made past state is =
     let new : Session = record { token = 2 * (state.made + 1) + 1; user = None } in
     record {
@@ -108,7 +108,7 @@ halves past n m s t one other ne same =
     ne (b ∙ ap (λ h. 2 * h + 1) (sym same) ∙ sym a)
 
 represents-activated : (past : List Deed) (state : State) (n : ℕ) (user : List ℕ) (one : Session) → Represents past state → at n state.alive ≡ Some one
-    → Represents (Activated (n / 2) user ∷ past) (record state { alive = set_user (Numeric 1 n) user state.alive })
+    → Represents (Activated (n / 2) user ∷ past) (record state { alive = with_user (Numeric 1 n) user state.alive })
 represents-activated past state n user one is there =
     let held_one = is.holds n one there in
     record {
@@ -117,8 +117,8 @@ represents-activated past state n user one is there =
       apart = apart-set_user n user state.alive is.apart;
       holds = λ m session found. elim (cases_eq m n) [
         | inl same ↦ (
-            let Q : ℕ → Type 0 = λ k. at k (set_user (Numeric 1 n) user state.alive) ≡ Some session in
-            let changed : Some (with_user user one) ≡ Some session = sym (at_same-set_user n user state.alive ∙ ap (option_map (with_user user)) there) ∙ subst Q same found in
+            let Q : ℕ → Type 0 = λ k. at k (with_user (Numeric 1 n) user state.alive) ≡ Some session in
+            let changed : Some (changed user one) ≡ Some session = sym (at_same-set_user n user state.alive ∙ ap (option_map (changed user)) there) ∙ subst Q same found in
             let has : Some user ≡ session.user = ap (λ (o : Option Session). elim o [ None ↦ None | Some s ↦ s.user ]) changed in
             let P : ℕ → Type 0 = λ k. Holds (Activated (n / 2) user ∷ past) k session in
             subst P (sym same) (record {
@@ -139,7 +139,7 @@ represents-activated past state n user one is there =
           let still = is.held k (record { first = alive.first; made = alive.made; unclosed = alive.unclosed }) in
           elim (cases_eq (2 * k + 1) n) [
             | inl same ↦ (
-                let P : ℕ → Type 0 = λ m. IsSome (at m (set_user (Numeric 1 n) user state.alive)) in
+                let P : ℕ → Type 0 = λ m. IsSome (at m (with_user (Numeric 1 n) user state.alive)) in
                 subst P (sym same) (rw (at_same-set_user n user state.alive, there) refl))
             | inr ne ↦ rw (at_other-set_user (2 * k + 1) n user state.alive ne) still
           ];
@@ -152,7 +152,7 @@ represents-activated past state n user one is there =
 -- ---- a session is closed
 
 represents-closed : (past : List Deed) (state : State) (n : ℕ) (one : Session) → Represents past state → at n state.alive ≡ Some one
-    → Represents (Closed (n / 2) ∷ past) (record state { alive = without (Numeric 1 n) state.alive })
+    → Represents (Closed (n / 2) ∷ past) (record state { alive = without_session (Numeric 1 n) state.alive })
 represents-closed past state n one is there =
     let held_one = is.holds n one there in
     let fewer = length-without n state.alive (rw there refl) in
@@ -162,7 +162,7 @@ represents-closed past state n one is there =
       apart = apart-without n state.alive is.apart;
       holds = λ m session found. elim (cases_eq m n) [
         | inl same ↦ (
-            let Q : ℕ → Type 0 = λ k. at k (without (Numeric 1 n) state.alive) ≡ Some session in
+            let Q : ℕ → Type 0 = λ k. at k (without_session (Numeric 1 n) state.alive) ≡ Some session in
             let gone : None ≡ Some session = sym (at_same-without n state.alive is.apart) ∙ subst Q same found in absurd cc)
         | inr ne ↦ (
             let held_other = is.holds m session (sym (at_other-without m n state.alive ne) ∙ found) in
@@ -248,24 +248,24 @@ abbrev is_judgement : Result (List ℕ) SessionFault → Bool
 is_judgement (Ok user) = true
 is_judgement (Err fault) = of_identity fault
 
-admitted-judges : (o : Option User) (password : List ℕ) → is_judgement (admitted o password) ≡ true
+admitted-judges : (o : Option User) (password : List ℕ) → is_judgement (judgement_of_user o password) ≡ true
 admitted-judges None password = refl
 admitted-judges (Some user) password = elim (pointwise nat_eq user.password password) as (λ b. is_judgement (cond b (Ok user.name) (Err IdentityRejected)) ≡ true) [ true ↦ refl | false ↦ refl ]
 
-known-judges : (users : List User) (name : Option (List ℕ)) (password : List ℕ) → is_judgement (known users name password) ≡ true
+known-judges : (users : List User) (name : Option (List ℕ)) (password : List ℕ) → is_judgement (judgement_of_name users name password) ≡ true
 known-judges users None password = refl
 known-judges users (Some name) password = admitted-judges (find (has_name name) users) password
 
-plain-judges : (algorithm : List ℕ) (answer : Result (List ℕ) SessionFault) → is_judgement answer ≡ true → is_judgement (plain algorithm answer) ≡ true
+plain-judges : (algorithm : List ℕ) (answer : Result (List ℕ) SessionFault) → is_judgement answer ≡ true → is_judgement (unless_encrypted algorithm answer) ≡ true
 plain-judges [] answer e = e
 plain-judges (byte ∷ algorithm) answer e = refl
 
-judged-judges : (allowed : Allowed) (claim : Claim) → is_judgement (judged allowed claim) ≡ true
+judged-judges : (allowed : Allowed) (claim : Claim) → is_judgement (judgement allowed claim) ≡ true
 judged-judges allowed Anonymous = elim allowed.anonymous as (λ b. is_judgement (cond b (Ok nobody) (Err IdentityRejected)) ≡ true) [ true ↦ refl | false ↦ refl ]
-judged-judges allowed (ByName name password algorithm) = plain-judges (unwrap_or algorithm []) (known allowed.named name (unwrap_or password [])) (known-judges allowed.named name (unwrap_or password []))
+judged-judges allowed (ByName name password algorithm) = plain-judges (unwrap_or algorithm []) (judgement_of_name allowed.named name (unwrap_or password [])) (known-judges allowed.named name (unwrap_or password []))
 judged-judges allowed Other = refl
 
-judged-fault : (allowed : Allowed) (claim : Claim) (fault : SessionFault) → judged allowed claim ≡ Err fault → of_identity fault ≡ true
+judged-fault : (allowed : Allowed) (claim : Claim) (fault : SessionFault) → judgement allowed claim ≡ Err fault → of_identity fault ≡ true
 judged-fault allowed claim fault is = sym (ap is_judgement is) ∙ judged-judges allowed claim
 
 has_room : (past : List Deed) (old : State) → Represents past old → is_full old ≡ false → HasRoom past
@@ -296,7 +296,7 @@ creating past old false (Err OutOfMemory) is full answer = has_room past old is 
 creating past old false (Err fault) is full answer = cc
 
 activating : (past : List Deed) (old : State) (token : NodeId) (allowed : Allowed) (claim : Claim) (o : Option Session) (j : Result (List ℕ) SessionFault) (result : Result (List ℕ) SessionFault)
-    → Represents past old → find (is_named token) old.alive ≡ o → judged allowed claim ≡ j → IsOrStarved (where_open o j) result → IsAnswered past (Activate token allowed claim result)
+    → Represents past old → find (is_named token) old.alive ≡ o → judgement allowed claim ≡ j → IsOrStarved (if_open o j) result → IsAnswered past (Activate token allowed claim result)
 activating past old token allowed claim None j (Ok user) is found judges answer = absurd cc
 activating past old token allowed claim None j (Err IdInvalid) is found judges answer = invalid past old token is found
 activating past old token allowed claim None j (Err fault) is found judges answer = absurd cc
@@ -304,12 +304,12 @@ activating past old token allowed claim (Some session) (Ok name) (Ok user) is fo
 activating past old token allowed claim (Some session) (Ok name) (Err OutOfMemory) is found judges answer = ((valid past old token session is found).0, rw judges refl)
 activating past old token allowed claim (Some session) (Ok name) (Err fault) is found judges answer = absurd cc
 activating past old token allowed claim (Some session) (Err cause) (Ok user) is found judges answer = absurd cc
-activating past old token allowed claim (Some session) (Err cause) (Err IdInvalid) is found judges answer = let told = judged-fault allowed claim cause judges in absurd cc
-activating past old token allowed claim (Some session) (Err cause) (Err OutOfMemory) is found judges answer = let told = judged-fault allowed claim cause judges in absurd cc
+activating past old token allowed claim (Some session) (Err cause) (Err IdInvalid) is found judges answer = let answer_of = judged-fault allowed claim cause judges in absurd cc
+activating past old token allowed claim (Some session) (Err cause) (Err OutOfMemory) is found judges answer = let answer_of = judged-fault allowed claim cause judges in absurd cc
 activating past old token allowed claim (Some session) (Err cause) (Err fault) is found judges answer = ((valid past old token session is found).0, judges ∙ sym answer)
 
 closing : (past : List Deed) (old : State) (token : NodeId) (o : Option Session) (result : Result (Unit {0}) SessionFault)
-    → Represents past old → find (is_named token) old.alive ≡ o → result ≡ where_open o (Ok tt) → IsAnswered past (Close token result)
+    → Represents past old → find (is_named token) old.alive ≡ o → result ≡ if_open o (Ok tt) → IsAnswered past (Close token result)
 closing past old token None (Ok done) is found answer = absurd cc
 closing past old token None (Err IdInvalid) is found answer = invalid past old token is found
 closing past old token None (Err fault) is found answer = absurd cc
@@ -317,7 +317,7 @@ closing past old token (Some session) (Ok done) is found answer = (valid past ol
 closing past old token (Some session) (Err fault) is found answer = absurd cc
 
 asked : (past : List Deed) (token : NodeId) (user : Option (List ℕ)) (result : Result (List ℕ) SessionFault) → IsValid token past → user ≡ last_user (session_of token) past
-    → result ≡ elim user [ None ↦ Err NotActivated | Some name ↦ Ok name ] → IsAnswered past (Ask token result)
+    → result ≡ ok_or user NotActivated → IsAnswered past (Ask token result)
 asked past token None (Ok name) is last answer = absurd cc
 asked past token None (Err NotActivated) is last answer = (is, sym last)
 asked past token None (Err fault) is last answer = absurd cc
@@ -325,7 +325,7 @@ asked past token (Some user) (Ok name) is last answer = (is, sym last ∙ sym (a
 asked past token (Some user) (Err fault) is last answer = absurd cc
 
 asking : (past : List Deed) (old : State) (token : NodeId) (o : Option Session) (result : Result (List ℕ) SessionFault)
-    → Represents past old → find (is_named token) old.alive ≡ o → result ≡ user_in o → IsAnswered past (Ask token result)
+    → Represents past old → find (is_named token) old.alive ≡ o → result ≡ user_of_session o → IsAnswered past (Ask token result)
 asking past old token None (Ok user) is found answer = absurd cc
 asking past old token None (Err IdInvalid) is found answer = invalid past old token is found
 asking past old token None (Err fault) is found answer = absurd cc
@@ -336,28 +336,28 @@ asking past old token (Some session) result is found answer =
 -- ---- what a call leaves
 
 leaves-activated : (past : List Deed) (old : State) (token : NodeId) (user : List ℕ) (session : Session) → Represents past old → find (is_named token) old.alive ≡ Some session
-    → Represents (Activated (session_of token) user ∷ past) (record old { alive = set_user token user old.alive })
+    → Represents (Activated (session_of token) user ∷ past) (record old { alive = with_user token user old.alive })
 leaves-activated past old token user session is found =
     let named = names past old token session is found in
-    let P : NodeId → Type 0 = λ t. Represents (Activated (session_of token) user ∷ past) (record old { alive = set_user t user old.alive }) in
-    let Q : ℕ → Type 0 = λ k. Represents (Activated k user ∷ past) (record old { alive = set_user (token_of (session_of token)) user old.alive }) in
+    let P : NodeId → Type 0 = λ t. Represents (Activated (session_of token) user ∷ past) (record old { alive = with_user t user old.alive }) in
+    let Q : ℕ → Type 0 = λ k. Represents (Activated k user ∷ past) (record old { alive = with_user (token_of (session_of token)) user old.alive }) in
     subst P (sym named.is_token) (subst Q (half (session_of token)) (represents-activated past old (2 * session_of token + 1) user session is named.there))
 
 leaves-closed : (past : List Deed) (old : State) (token : NodeId) (session : Session) → Represents past old → find (is_named token) old.alive ≡ Some session
-    → Represents (Closed (session_of token) ∷ past) (record old { alive = without token old.alive })
+    → Represents (Closed (session_of token) ∷ past) (record old { alive = without_session token old.alive })
 leaves-closed past old token session is found =
     let named = names past old token session is found in
-    let P : NodeId → Type 0 = λ t. Represents (Closed (session_of token) ∷ past) (record old { alive = without t old.alive }) in
-    let Q : ℕ → Type 0 = λ k. Represents (Closed k ∷ past) (record old { alive = without (token_of (session_of token)) old.alive }) in
+    let P : NodeId → Type 0 = λ t. Represents (Closed (session_of token) ∷ past) (record old { alive = without_session t old.alive }) in
+    let Q : ℕ → Type 0 = λ k. Represents (Closed k ∷ past) (record old { alive = without_session (token_of (session_of token)) old.alive }) in
     subst P (sym named.is_token) (subst Q (half (session_of token)) (represents-closed past old (2 * session_of token + 1) session is named.there))
 
-goes-activate : (past : List Deed) (old : State) (token : NodeId) (user : List ℕ) (o : Option Session) (j : Result (List ℕ) SessionFault) → Represents past old → find (is_named token) old.alive ≡ o → IsOrStarved (where_open o j) (Ok user)
-    → Represents (Activated (session_of token) user ∷ past) (record old { alive = set_user token user old.alive })
+goes-activate : (past : List Deed) (old : State) (token : NodeId) (user : List ℕ) (o : Option Session) (j : Result (List ℕ) SessionFault) → Represents past old → find (is_named token) old.alive ≡ o → IsOrStarved (if_open o j) (Ok user)
+    → Represents (Activated (session_of token) user ∷ past) (record old { alive = with_user token user old.alive })
 goes-activate past old token user None j is found answer = absurd cc
 goes-activate past old token user (Some session) j is found answer = leaves-activated past old token user session is found
 
 goes-close : (past : List Deed) (old : State) (token : NodeId) (done : Unit {0}) (o : Option Session) → Represents past old → find (is_named token) old.alive ≡ o
-    → (let r : Result (Unit {0}) SessionFault = Ok done in r ≡ where_open o (Ok tt)) → Represents (Closed (session_of token) ∷ past) (record old { alive = without token old.alive })
+    → (let r : Result (Unit {0}) SessionFault = Ok done in r ≡ if_open o (Ok tt)) → Represents (Closed (session_of token) ∷ past) (record old { alive = without_session token old.alive })
 goes-close past old token done None is found answer = absurd cc
 goes-close past old token done (Some session) is found answer = leaves-closed past old token session is found
 
@@ -366,14 +366,14 @@ represents-along past state new same is = let P : State → Type 0 = Represents 
 
 pub answering : (past : List Deed) (old new : State) (event : Event) → Represents past old → Does old event new → IsAnswered past event
 answering past old new (Create result) is does = creating past old (is_full old) result is refl does.answer
-answering past old new (Activate token allowed claim result) is does = activating past old token allowed claim (find (is_named token) old.alive) (judged allowed claim) result is refl refl does.answer
+answering past old new (Activate token allowed claim result) is does = activating past old token allowed claim (find (is_named token) old.alive) (judgement allowed claim) result is refl refl does.answer
 answering past old new (Close token result) is does = closing past old token (find (is_named token) old.alive) result is refl does.answer
 answering past old new (Ask token result) is does = asking past old token (find (is_named token) old.alive) result is refl does.0
 
 pub leaving : (past : List Deed) (old new : State) (event : Event) → Represents past old → Does old event new → Represents (after past event) new
 leaving past old new (Create (Ok given)) is does = represents-along _ _ new does.leaves (represents-made past old is)
 leaving past old new (Create (Err fault)) is does = represents-along past old new does.leaves is
-leaving past old new (Activate token allowed claim (Ok user)) is does = represents-along _ _ new does.leaves (goes-activate past old token user (find (is_named token) old.alive) (judged allowed claim) is refl does.answer)
+leaving past old new (Activate token allowed claim (Ok user)) is does = represents-along _ _ new does.leaves (goes-activate past old token user (find (is_named token) old.alive) (judgement allowed claim) is refl does.answer)
 leaving past old new (Activate token allowed claim (Err fault)) is does = represents-along past old new does.leaves is
 leaving past old new (Close token (Ok done)) is does = represents-along _ _ new does.leaves (goes-close past old token done (find (is_named token) old.alive) is refl does.answer)
 leaving past old new (Close token (Err fault)) is does = represents-along past old new does.leaves is

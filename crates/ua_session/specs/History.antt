@@ -4,7 +4,7 @@ use Rattle.ua_binary.specs.Binary.{numbers_of}
 use Rattle.ua_binary.specs.declared.values.NodeId.{NodeId}
 use Rattle.ua_session.specs.declared.fault.SessionFault.{SessionFault}
 use Rattle.ua_session.specs.declared.fault.SessionFault.TheVariants.{TooMany, IdInvalid, NotActivated, OutOfMemory}
-use Rattle.ua_session.specs.Users.{Allowed, Claim, judged}
+use Rattle.ua_session.specs.Users.{Allowed, Claim, judgement}
 use Rattle.ua_session.specs.Sessions.{State, session_id_of, token_of, user_at, Creates, Activates, Closes}
 
 -- ---- what happened
@@ -16,18 +16,18 @@ pub data Deed : Type 0 where
   Closed : ℕ → Deed
 
 -- The newest deed is the first of a list. How many sessions were made:
-abbrev pub made_of : List Deed → ℕ
-made_of [] = 0
-made_of (Made ∷ past) = suc (made_of past)
-made_of (Activated k user ∷ past) = made_of past
-made_of (Closed k ∷ past) = made_of past
+abbrev pub made_count : List Deed → ℕ
+made_count [] = 0
+made_count (Made ∷ past) = suc (made_count past)
+made_count (Activated k user ∷ past) = made_count past
+made_count (Closed k ∷ past) = made_count past
 
 -- how many were closed
-abbrev pub closed_of : List Deed → ℕ
-closed_of [] = 0
-closed_of (Made ∷ past) = closed_of past
-closed_of (Activated k user ∷ past) = closed_of past
-closed_of (Closed k ∷ past) = suc (closed_of past)
+abbrev pub closed_count : List Deed → ℕ
+closed_count [] = 0
+closed_count (Made ∷ past) = closed_count past
+closed_count (Activated k user ∷ past) = closed_count past
+closed_count (Closed k ∷ past) = suc (closed_count past)
 
 -- whether the k-th was closed
 abbrev pub was_closed : ℕ → List Deed → Bool
@@ -46,7 +46,7 @@ last_user k (Closed l ∷ past) = last_user k past
 -- the k-th session was made and not closed
 pub record IsAlive (k : ℕ) (past : List Deed) : Type 0 where
   pub first : 0 < k
-  pub made : k ≤ made_of past
+  pub made : k ≤ made_count past
   pub unclosed : was_closed k past ≡ false
 
 -- the session that a token is of, if of any
@@ -60,8 +60,8 @@ pub record IsValid (token : NodeId) (past : List Deed) : Type 0 where
 
 -- fewer than 1,000,000 were made, and fewer than 16 of these are alive
 pub record HasRoom (past : List Deed) : Type 0 where
-  pub to_make : made_of past < 1000000
-  pub to_hold : made_of past < closed_of past + 16
+  pub to_make : made_count past < 1000000
+  pub to_hold : made_count past < closed_count past + 16
 
 -- ---- the calls
 
@@ -98,14 +98,14 @@ after past (Ask token result) = past
 -- Each call is answered by what happened before it: a session is made where there is room for one; a token is valid while its
 -- session is alive; as whom it is activated is judged by the users; and the user who is told is that of the last activation.
 abbrev pub IsAnswered : List Deed → Event → Type 0
-IsAnswered past (Create (Ok given)) = HasRoom past × (given ≡ (session_id_of (suc (made_of past)), token_of (suc (made_of past))))
+IsAnswered past (Create (Ok given)) = HasRoom past × (given ≡ (session_id_of (suc (made_count past)), token_of (suc (made_count past))))
 IsAnswered past (Create (Err TooMany)) = ¬ HasRoom past
 IsAnswered past (Create (Err OutOfMemory)) = HasRoom past
 IsAnswered past (Create (Err fault)) = ⊥
-IsAnswered past (Activate token allowed claim (Ok user)) = IsValid token past × (judged allowed claim ≡ Ok user)
+IsAnswered past (Activate token allowed claim (Ok user)) = IsValid token past × (judgement allowed claim ≡ Ok user)
 IsAnswered past (Activate token allowed claim (Err IdInvalid)) = ¬ IsValid token past
-IsAnswered past (Activate token allowed claim (Err OutOfMemory)) = IsValid token past × IsOk (judged allowed claim)
-IsAnswered past (Activate token allowed claim (Err fault)) = IsValid token past × (judged allowed claim ≡ Err fault)
+IsAnswered past (Activate token allowed claim (Err OutOfMemory)) = IsValid token past × IsOk (judgement allowed claim)
+IsAnswered past (Activate token allowed claim (Err fault)) = IsValid token past × (judgement allowed claim ≡ Err fault)
 IsAnswered past (Close token (Ok done)) = IsValid token past
 IsAnswered past (Close token (Err IdInvalid)) = ¬ IsValid token past
 IsAnswered past (Close token (Err fault)) = ⊥

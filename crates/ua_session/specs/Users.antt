@@ -29,9 +29,9 @@ claim_of (lent.Named name password algorithm) = Named (option_copied name) (opti
 claim_of lent.Other = Other
 
 -- an answer without where its name lies in memory
-abbrev pub told : Result (Bor (List ℕ)) SessionFault → Result (List ℕ) SessionFault
-told (Ok name) = Ok name.now
-told (Err fault) = Err fault
+abbrev pub answer_of : Result (Bor (List ℕ)) SessionFault → Result (List ℕ) SessionFault
+answer_of (Ok name) = Ok name.now
+answer_of (Err fault) = Err fault
 
 -- what the user is called who has no name
 abbrev pub nobody : List ℕ
@@ -41,25 +41,25 @@ abbrev pub has_name : List ℕ → User → Bool
 has_name name user = pointwise nat_eq user.name name
 
 -- the user's name where the password is the user's, every byte of it
-abbrev pub admitted : Option User → List ℕ → Result (List ℕ) SessionFault
-admitted None password = Err IdentityRejected
-admitted (Some user) password = if pointwise nat_eq user.password password then Ok user.name else Err IdentityRejected
+abbrev pub judgement_of_user : Option User → List ℕ → Result (List ℕ) SessionFault
+judgement_of_user None password = Err IdentityRejected
+judgement_of_user (Some user) password = if pointwise nat_eq user.password password then Ok user.name else Err IdentityRejected
 
 -- of equal names the first one counts, and a null name is nobody's
-abbrev pub known : List User → Option (List ℕ) → List ℕ → Result (List ℕ) SessionFault
-known users None password = Err IdentityRejected
-known users (Some name) password = admitted (find (has_name name) users) password
+abbrev pub judgement_of_name : List User → Option (List ℕ) → List ℕ → Result (List ℕ) SessionFault
+judgement_of_name users None password = Err IdentityRejected
+judgement_of_name users (Some name) password = judgement_of_user (find (has_name name) users) password
 
 -- the answer where nothing was encrypted: the algorithm is empty
-abbrev pub plain : List ℕ → Result (List ℕ) SessionFault → Result (List ℕ) SessionFault
-plain [] answer = answer
-plain (byte ∷ algorithm) answer = Err IdentityInvalid
+abbrev pub unless_encrypted : List ℕ → Result (List ℕ) SessionFault → Result (List ℕ) SessionFault
+unless_encrypted [] answer = answer
+unless_encrypted (byte ∷ algorithm) answer = Err IdentityInvalid
 
 -- as whom an identity is allowed, or why it isn't; a null password and a null algorithm count as empty ones
-abbrev pub judged : Allowed → Claim → Result (List ℕ) SessionFault
-judged allowed Anonymous = if allowed.anonymous then Ok nobody else Err IdentityRejected
-judged allowed (Named name password algorithm) = plain (unwrap_or algorithm []) (known allowed.named name (unwrap_or password []))
-judged allowed Other = Err IdentityInvalid
+abbrev pub judgement : Allowed → Claim → Result (List ℕ) SessionFault
+judgement allowed Anonymous = if allowed.anonymous then Ok nobody else Err IdentityRejected
+judgement allowed (Named name password algorithm) = unless_encrypted (unwrap_or algorithm []) (judgement_of_name allowed.named name (unwrap_or password []))
+judgement allowed Other = Err IdentityInvalid
 
 abbrev pub HasShortName : User → Type 0
 HasShortName user = length user.name ≤ 256

@@ -13,7 +13,7 @@ pub use fault::SessionFault;
 pub use identity::Identity;
 pub use laws::{
     calls_are_answered_by_what_happened, identities_are_judged_by_the_first_of_equal_names,
-    sessions_are_bounded, user_is_that_of_the_last_activation,
+    sessions_are_bounded, tokens_are_given_once, user_is_that_of_the_last_activation,
 };
 pub use sessions::Sessions;
 pub use users::Users;

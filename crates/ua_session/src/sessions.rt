@@ -4,7 +4,7 @@ ghost use Rattle.std.specs.Prelude.{◌≡◌, length, find, position, IfOk, IfS
 ghost use Rattle.std.specs.List.{AllByRecursion};
 ghost use Rattle.std.specs.Option.{option_copied};
 ghost use Rattle.ua_binary.specs.Binary.{node_of};
-ghost use Rattle.ua_session.specs.Users.{claim_of, told, IsUserName};
+ghost use Rattle.ua_session.specs.Users.{claim_of, answer_of, IsUserName};
 ghost use Rattle.ua_session.specs.Sessions.{fresh, user_at, is_named, HasShortUser, Creates, Activates, Closes};
 
 use crate::fault::SessionFault;
@@ -90,7 +90,7 @@ impl Sessions {
         identity: Identity<'_>,
         users: &'u Users,
     ) -> Result<&'u str, SessionFault>
-        ensures activates { Activates self.old (node_of token.entry) users.now (claim_of identity.entry) (told result) self.new }
+        ensures activates { Activates self.old (node_of token.entry) users.now (claim_of identity.entry) (answer_of result) self.new }
         ensures name { IfOk result (λ user. IsUserName user.now) }
     {
         let Some(place) = place_of(&self.alive, token) else {
@@ -119,7 +119,7 @@ impl Sessions {
     /// token is none of a session that is open, and `NotActivated` where the session has no user. It
     /// takes no memory.
     pub fn user_of(&self, token: NodeIdRef<'_>) -> Result<&str, SessionFault>
-        ensures value { told result ≡ user_at self.now (node_of token.entry) }
+        ensures value { answer_of result ≡ user_at self.now (node_of token.entry) }
         ensures name { IfOk result (λ user. IsUserName user.now) }
     {
         let session = find_session(&self.alive, token).ok_or(SessionFault::IdInvalid)?;

@@ -3,7 +3,7 @@
 ghost use Rattle.std.specs.Prelude.{◌≡◌, ◌≤◌, ◌<◌, [], ◌∷◌, ◌++◌, length, find, IfOk, IfErr, IfSome, OnOk};
 ghost use Rattle.std.specs.List.{AllByRecursion};
 ghost use Rattle.std.specs.Option.{option_copied};
-ghost use Rattle.ua_session.specs.Users.{told, known, has_name, HasShortName, IsUserName};
+ghost use Rattle.ua_session.specs.Users.{answer_of, judgement_of_name, has_name, HasShortName, IsUserName};
 
 use crate::fault::SessionFault;
 use crate::identity::{Identity, User};
@@ -34,7 +34,7 @@ impl Model for Users {
 }
 
 impl Users {
-    ghost use Rattle.ua_session.specs.Users.{claim_of, judged};
+    ghost use Rattle.ua_session.specs.Users.{claim_of, judgement};
 
     /// No user with a name yet; a user without one is allowed or not. It takes no memory.
     pub fn new(alloc: Global, anonymous: bool) -> Self
@@ -66,7 +66,7 @@ impl Users {
     /// whoever it names; else `IdentityRejected`.
     #[tactic(auto, using(crate::proofs::Nobody::anonymity))]
     pub(crate) fn judge(&self, identity: Identity<'_>) -> Result<&str, SessionFault>
-        ensures judged { told result ≡ judged self.now (claim_of identity.entry) }
+        ensures judged { answer_of result ≡ judgement self.now (claim_of identity.entry) }
         ensures name { IfOk result (λ user. IsUserName user.now) }
     {
         match identity {
@@ -99,7 +99,7 @@ fn admit<'a>(
     password: &[u8],
 ) -> Result<&'a str, SessionFault>
     requires { AllByRecursion HasShortName users.now }
-    ensures known { told result ≡ known users.now (option_copied name.entry) password.now }
+    ensures known { answer_of result ≡ judgement_of_name users.now (option_copied name.entry) password.now }
     ensures name { IfOk result (λ user. IsUserName user.now) }
 {
     let name = name.ok_or(SessionFault::IdentityRejected)?;
