@@ -1,0 +1,4 @@
+pub mod Fault
+pub mod Users
+pub mod Sessions
+pub mod History

@@ -1,0 +1,100 @@
+-- What the sessions of a connection are, and what each call answers and leaves (Part 4, 5.7).
+use Rattle.std.specs.Prelude.{◌≡◌, ◌≤◌, ◌+◌, ◌*◌, ℕ, Bool, false, List, [], ◌∷◌, ◌++◌, length, ◌==◌, ◌&&◌, ◌||◌, nat_le, Option, None, Some, IfSome, Result, Ok, Err, MatchResult, find, if◌then◌else◌}
+use Rattle.std.specs.Option.{ok_or}
+use Rattle.ua_binary.specs.declared.values.NodeId.{NodeId}
+use Rattle.ua_binary.specs.declared.values.NodeId.TheVariants.{Numeric}
+use Rattle.ua_session.specs.declared.fault.SessionFault.{SessionFault}
+use Rattle.ua_session.specs.declared.fault.SessionFault.TheVariants.{TooMany, IdInvalid, NotActivated, OutOfMemory}
+use Rattle.ua_session.specs.declared.session.Session.{Session}
+use Rattle.ua_session.specs.Users.{Allowed, Claim, judgement}
+
+-- the id and the token of the k-th session of a connection, k from 1
+abbrev pub session_id_of : ℕ → NodeId
+session_id_of k = Numeric 1 (2 * k)
+
+abbrev pub token_of : ℕ → NodeId
+token_of k = Numeric 1 (2 * k + 1)
+
+-- whether this is the session's token
+abbrev pub is_named : NodeId → Session → Bool
+is_named (Numeric namespace number) session = namespace == 1 && number == session.token
+is_named _ session = false
+
+-- how many sessions were made, and those that are open, the oldest first
+pub record State : Type 0 where
+  pub made : ℕ
+  pub alive : List Session
+
+-- no session yet
+abbrev pub fresh : State
+fresh = record { made = 0; alive = [] }
+
+-- 16 are open, or 1,000,000 were made
+abbrev pub is_full : State → Bool
+is_full state = nat_le 16 (length state.alive) || nat_le 1000000 state.made
+
+-- ---- what a call answers where memory is there
+
+-- the id and the token of the next session
+abbrev pub create_answer : State → Result (NodeId × NodeId) SessionFault
+create_answer state = if is_full state then Err TooMany else Ok (session_id_of (state.made + 1), token_of (state.made + 1))
+
+-- an answer for a session that is open
+abbrev pub if_open : {A : Type 0} → Option Session → Result A SessionFault → Result A SessionFault
+if_open None answer = Err IdInvalid
+if_open (Some session) answer = answer
+
+-- as whom the session is activated
+abbrev pub activate_answer : State → NodeId → Allowed → Claim → Result (List ℕ) SessionFault
+activate_answer state token allowed claim = if_open (find (is_named token) state.alive) (judgement allowed claim)
+
+abbrev pub close_answer : State → NodeId → Result (Unit {0}) SessionFault
+close_answer state token = if_open (find (is_named token) state.alive) (Ok tt)
+
+-- the user of a session, where it has one
+abbrev pub user_of_session : Option Session → Result (List ℕ) SessionFault
+user_of_session None = Err IdInvalid
+user_of_session (Some session) = ok_or session.user NotActivated
+
+abbrev pub user_at : State → NodeId → Result (List ℕ) SessionFault
+user_at state token = user_of_session (find (is_named token) state.alive)
+
+-- ---- what a call leaves
+
+-- one session more, which nobody activated
+abbrev pub with_new : State → State
+with_new state = record { made = state.made + 1; alive = state.alive ++ record { token = 2 * (state.made + 1) + 1; user = None } ∷ [] }
+
+-- the session of this token has this user
+abbrev pub with_user : NodeId → List ℕ → List Session → List Session
+with_user token user [] = []
+with_user token user (session ∷ alive) = if is_named token session then record session { user = Some user } ∷ alive else session ∷ with_user token user alive
+
+-- the session of this token is gone
+abbrev pub without_session : NodeId → List Session → List Session
+without_session token [] = []
+without_session token (session ∷ alive) = if is_named token session then alive else session ∷ without_session token alive
+
+-- ---- the calls
+
+-- a good answer, or want of memory in its place; a refusal is exact
+abbrev pub IsOrStarved : {A : Type 0} → Result A SessionFault → Result A SessionFault → Type 0
+IsOrStarved (Ok answer) result = MatchResult result (λ given. given ≡ answer) (λ fault. fault ≡ OutOfMemory)
+IsOrStarved (Err fault) result = result ≡ Err fault
+
+pub record Creates (old : State) (result : Result (NodeId × NodeId) SessionFault) (new : State) : Type 0 where
+  pub answer : IsOrStarved (create_answer old) result
+  pub leaves : MatchResult result (λ _. new ≡ with_new old) (λ _. new ≡ old)
+
+pub record Activates (old : State) (token : NodeId) (allowed : Allowed) (claim : Claim) (result : Result (List ℕ) SessionFault) (new : State) : Type 0 where
+  pub answer : IsOrStarved (activate_answer old token allowed claim) result
+  pub leaves : MatchResult result (λ user. new ≡ record old { alive = with_user token user old.alive }) (λ _. new ≡ old)
+
+pub record Closes (old : State) (token : NodeId) (result : Result (Unit {0}) SessionFault) (new : State) : Type 0 where
+  pub answer : result ≡ close_answer old token
+  pub leaves : MatchResult result (λ _. new ≡ record old { alive = without_session token old.alive }) (λ _. new ≡ old)
+
+-- ---- what each session keeps
+
+abbrev pub HasShortUser : Session → Type 0
+HasShortUser session = IfSome session.user (λ user. length user ≤ 256)

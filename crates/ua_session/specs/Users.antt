@@ -1,0 +1,80 @@
+-- Which users there are, and as whom an identity is allowed (Part 4, 5.7.3).
+use Rattle.std.specs.Prelude.{◌≡◌, ◌≢◌, ◌≤◌, ℕ, Bool, true, List, [], ◌∷◌, ◌++◌, length, codes, nat_eq, Option, None, Some, Result, Ok, Err, find, unwrap_or, if◌then◌else◌}
+use Rattle.std.specs.List.{AllByRecursion}
+use Rattle.std.specs.Borrow.{Bor}
+use Rattle.std.specs.Option.{option_copied}
+use Rattle.std.specs.Cmp.Lexicographic.{pointwise}
+use Rattle.std.specs.Str.{is_utf8}
+use Rattle.ua_session.specs.declared.fault.SessionFault.{SessionFault}
+use Rattle.ua_session.specs.declared.fault.SessionFault.TheVariants.{IdentityInvalid, IdentityRejected}
+use Rattle.ua_session.specs.declared.identity.User.{User}
+use Rattle.ua_session.specs.declared.identity.Identity.{Identity}
+use Rattle.ua_session.specs.declared.identity.Identity.TheVariants as lent
+
+-- whether a user without a name is allowed, and the users with one, in the order in which they were added
+pub record Allowed : Type 0 where
+  pub anonymous : Bool
+  pub named : List User
+
+-- An identity without where it lies in memory: no name, or a name with a password and the algorithm that encrypted it, or
+-- something else.
+pub data Claim : Type 0 where
+  Anonymous : Claim
+  Named : Option (List ℕ) → Option (List ℕ) → Option (List ℕ) → Claim
+  Other : Claim
+
+abbrev pub claim_of : Identity → Claim
+claim_of lent.Anonymous = Anonymous
+claim_of (lent.Named name password algorithm) = Named (option_copied name) (option_copied password) (option_copied algorithm)
+claim_of lent.Other = Other
+
+-- an answer without where its name lies in memory
+abbrev pub answer_of : Result (Bor (List ℕ)) SessionFault → Result (List ℕ) SessionFault
+answer_of (Ok name) = Ok name.now
+answer_of (Err fault) = Err fault
+
+-- what the user is called who has no name
+abbrev pub nobody : List ℕ
+nobody = codes "anonymous"
+
+abbrev pub has_name : List ℕ → User → Bool
+has_name name user = pointwise nat_eq user.name name
+
+-- the user's name where the password is the user's, every byte of it
+abbrev pub judgement_of_user : Option User → List ℕ → Result (List ℕ) SessionFault
+judgement_of_user None password = Err IdentityRejected
+judgement_of_user (Some user) password = if pointwise nat_eq user.password password then Ok user.name else Err IdentityRejected
+
+-- of equal names the first one counts, and a null name is nobody's
+abbrev pub judgement_of_name : List User → Option (List ℕ) → List ℕ → Result (List ℕ) SessionFault
+judgement_of_name users None password = Err IdentityRejected
+judgement_of_name users (Some name) password = judgement_of_user (find (has_name name) users) password
+
+-- the answer where nothing was encrypted: the algorithm is empty
+abbrev pub unless_encrypted : List ℕ → Result (List ℕ) SessionFault → Result (List ℕ) SessionFault
+unless_encrypted [] answer = answer
+unless_encrypted (byte ∷ algorithm) answer = Err IdentityInvalid
+
+-- as whom an identity is allowed, or why it isn't; a null password and a null algorithm count as empty ones
+abbrev pub judgement : Allowed → Claim → Result (List ℕ) SessionFault
+judgement allowed Anonymous = if allowed.anonymous then Ok nobody else Err IdentityRejected
+judgement allowed (Named name password algorithm) = unless_encrypted (unwrap_or algorithm []) (judgement_of_name allowed.named name (unwrap_or password []))
+judgement allowed Other = Err IdentityInvalid
+
+abbrev pub HasShortName : User → Type 0
+HasShortName user = length user.name ≤ 256
+
+-- what is handed out as a user's name: UTF-8 of at most 256 bytes
+pub record IsUserName (name : List ℕ) : Type 0 where
+  pub short : length name ≤ 256
+  pub utf8 : is_utf8 name ≡ true
+
+-- the first user of a name has this password
+pub record IsFirst (users : List User) (name password : List ℕ) : Type 0 where
+  pub before : List User
+  pub user : User
+  pub more : List User
+  pub among : users ≡ before ++ user ∷ more
+  pub others : AllByRecursion (λ other. other.name ≢ name) before
+  pub same_name : user.name ≡ name
+  pub same_password : user.password ≡ password

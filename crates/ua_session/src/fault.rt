@@ -1,0 +1,78 @@
+//! Why a session service is refused.
+
+ghost use Rattle.std.specs.Prelude.{◌≡◌};
+ghost use Rattle.ua_session.specs.declared.fault.SessionFault.TheVariants.{OutOfMemory};
+
+use std::alloc::{AllocError, AllocFailed};
+use thiserror::Error;
+
+/// Why a call of a session service is refused (Part 4, 5.7). Each leaves the sessions as they were.
+#[derive(Clone, Copy, Debug, PartialEq, Eq, Error)]
+pub enum SessionFault {
+    /// 16 sessions are open, or 1,000,000 were made.
+    #[error("too many sessions")]
+    TooMany,
+    /// The token is not that of a session that is open.
+    #[error("no such session")]
+    IdInvalid,
+    /// The session has no user yet.
+    #[error("the session is not activated")]
+    NotActivated,
+    /// The identity token is of a kind that is not served.
+    #[error("the identity token is not served")]
+    IdentityInvalid,
+    /// No user has this name and password, or an anonymous one is not allowed.
+    #[error("the identity is rejected")]
+    IdentityRejected,
+    /// Memory ran out.
+    #[error("out of memory")]
+    OutOfMemory,
+}
+
+impl SessionFault {
+    ghost use Rattle.ua_session.specs.Fault.{number_of, code_of};
+
+    /// The fault's number, from 1 to 6 in the order of the variants.
+    pub fn number(self) -> u8
+        ensures { result ≡ number_of self }
+    {
+        match self {
+            SessionFault::TooMany => 1,
+            SessionFault::IdInvalid => 2,
+            SessionFault::NotActivated => 3,
+            SessionFault::IdentityInvalid => 4,
+            SessionFault::IdentityRejected => 5,
+            SessionFault::OutOfMemory => 6,
+        }
+    }
+
+    /// The status code that a response tells the client (Part 4, StatusCode).
+    pub fn code(self) -> u32
+        ensures { result ≡ code_of self }
+    {
+        match self {
+            SessionFault::TooMany => 0x8056_0000,
+            SessionFault::IdInvalid => 0x8025_0000,
+            SessionFault::NotActivated => 0x8027_0000,
+            SessionFault::IdentityInvalid => 0x8020_0000,
+            SessionFault::IdentityRejected => 0x8021_0000,
+            SessionFault::OutOfMemory => 0x8003_0000,
+        }
+    }
+}
+
+impl From<AllocError> for SessionFault {
+    ghost from_gives = { λ _ fault. fault ≡ OutOfMemory };
+
+    fn from(_cause: AllocError) -> SessionFault {
+        SessionFault::OutOfMemory
+    }
+}
+
+impl<T: Drop> From<AllocFailed<T>> for SessionFault {
+    ghost from_gives = { λ _ fault. fault ≡ OutOfMemory };
+
+    fn from(_cause: AllocFailed<T>) -> SessionFault {
+        SessionFault::OutOfMemory
+    }
+}

@@ -1,0 +1,121 @@
+//! Who may activate a session, and as whom.
+
+ghost use Rattle.std.specs.Prelude.{◌≡◌, ◌≤◌, ◌<◌, [], ◌∷◌, ◌++◌, length, find, IfOk, IfErr, IfSome, OnOk};
+ghost use Rattle.std.specs.List.{AllByRecursion};
+ghost use Rattle.std.specs.Option.{option_copied};
+ghost use Rattle.ua_session.specs.Users.{answer_of, judgement_of_name, has_name, HasShortName, IsUserName};
+
+use crate::fault::SessionFault;
+use crate::identity::{Identity, User};
+use std::alloc::Global;
+use std::marker::Model;
+use ua_binary::{Bytes, Text};
+
+/// The name that the server gives a user without one.
+const ANONYMOUS: &str = "anonymous";
+
+/// The users that are allowed to activate sessions.
+#[derive(Debug, Drop)]
+pub struct Users {
+    alloc: Global,
+    anonymous: bool,
+    named: Vec<User>,
+}
+
+impl Model for Users {
+    ghost use Rattle.std.specs.List.{AllByRecursion};
+    ghost use Rattle.ua_session.specs.Users.{Allowed, HasShortName};
+
+    ghost Value = { Allowed };
+
+    ghost view = { λ u. record { anonymous = u.anonymous; named = u.named.items } };
+
+    ghost invariant = { λ u. AllByRecursion HasShortName u.named.items };
+}
+
+impl Users {
+    ghost use Rattle.ua_session.specs.Users.{claim_of, judgement};
+
+    /// No user with a name yet; a user without one is allowed or not. It takes no memory.
+    pub fn new(alloc: Global, anonymous: bool) -> Self
+        ensures { result ≡ record { anonymous = anonymous; named = [] } }
+    {
+        Users {
+            alloc,
+            anonymous,
+            named: Vec::new(alloc),
+        }
+    }
+
+    /// Adds a user, whose name has 1 to 256 bytes. Of two equal names the first one counts. The one error
+    /// is `OutOfMemory`, which changes nothing.
+    pub fn add(&mut self, name: &str, password: &[u8]) -> Result<(), SessionFault>
+        requires some { 0 < length name.now }
+        requires short { length name.now ≤ 256 }
+        ensures ok { OnOk result (self.new ≡ record self.old { named = self.old.named ++ record { name = name.now; password = password.now } ∷ [] }) }
+        ensures err { IfErr result (λ fault. (fault ≡ SessionFault.OutOfMemory) × (self.new ≡ self.old)) }
+    {
+        let name = Text::from_str(self.alloc, name)?;
+        let password = Bytes::from_slice(self.alloc, password)?;
+        self.named.push(User { name, password })?;
+        Ok(())
+    }
+
+    /// As whom an identity is allowed: `anonymous`, or the first user of that name where the password is
+    /// that user's. `IdentityInvalid` for a token of another type and for a password that is encrypted,
+    /// whoever it names; else `IdentityRejected`.
+    #[tactic(auto, using(crate::proofs::Nobody::anonymity))]
+    pub(crate) fn judge(&self, identity: Identity<'_>) -> Result<&str, SessionFault>
+        ensures judged { answer_of result ≡ judgement self.now (claim_of identity.entry) }
+        ensures name { IfOk result (λ user. IsUserName user.now) }
+    {
+        match identity {
+            Identity::Anonymous => {
+                if self.anonymous {
+                    Ok(ANONYMOUS)
+                } else {
+                    Err(SessionFault::IdentityRejected)
+                }
+            }
+            Identity::Named {
+                name,
+                password,
+                algorithm,
+            } => {
+                if !algorithm.unwrap_or("").is_empty() {
+                    return Err(SessionFault::IdentityInvalid);
+                }
+                admit(&self.named, name, password.unwrap_or(&[]))
+            }
+            Identity::Other => Err(SessionFault::IdentityInvalid),
+        }
+    }
+}
+
+/// The name of the first user who has this name, where the password is that user's.
+fn admit<'a>(
+    users: &'a [User],
+    name: Option<&str>,
+    password: &[u8],
+) -> Result<&'a str, SessionFault>
+    requires { AllByRecursion HasShortName users.now }
+    ensures known { answer_of result ≡ judgement_of_name users.now (option_copied name.entry) password.now }
+    ensures name { IfOk result (λ user. IsUserName user.now) }
+{
+    let name = name.ok_or(SessionFault::IdentityRejected)?;
+    let user = find_user(users, name).ok_or(SessionFault::IdentityRejected)?;
+    if user.password.as_slice() == password {
+        Ok(user.name.as_str())
+    } else {
+        Err(SessionFault::IdentityRejected)
+    }
+}
+
+/// The first user of this name.
+fn find_user<'a>(users: &'a [User], name: &str) -> Option<&'a User>
+    requires { AllByRecursion HasShortName users.now }
+    ensures found { option_copied result ≡ find (has_name name.now) users.now }
+    ensures short { IfSome result (λ user. HasShortName user.now) }
+{
+    users.iter().find(|user| user.name.as_str() == name)
+}
