@@ -5,6 +5,7 @@ pub mod Deletions
 pub mod Updating
 pub mod Stretches
 pub mod NewRecords
+pub mod Stood
 pub mod Answered
 pub mod LawfulUpdates
 pub mod LiveTimes

@@ -63,7 +63,7 @@ passed-on state x y request None times deleted (inr h) bad = absurd (bad h.0)
 
 pub deleted-all : {A : Type 0} (state : A → Store) (x y : A) (request : Request) (refusal : Option UpdateCode) (times : List ℤ) (deleted : UpdateResult)
     → AnswersList state x y request refusal (map DeleteAt times) deleted → ((code : UpdateCode) → refusal ≡ Some code → code ≢ Good) → deleted.status ≡ Good
-    → (result : UpdateResult) → result.status ≡ first_other deleted.codes.items → result.codes.items ≡ deleted.codes.items → AnswersListed state x y request refusal times result
+    → (result : UpdateResult) → result.status ≡ first_other deleted.codes → result.codes ≡ deleted.codes → AnswersListed state x y request refusal times result
 deleted-all state x y request (Some code) times deleted h bad good result status codes = absurd (bad code refl (sym h.0.0 ∙ good))
 deleted-all state x y request None times deleted (inl h) bad good result status codes = let e = h.0.0 in absurd (cc)
 deleted-all state x y request None times deleted (inr h) bad good result status codes =
@@ -122,7 +122,7 @@ stretched {A = A} state x y z lives P times request start end_ result p told ans
       listed = λ honest.
           let here = h.1.passes.honest honest in
           (found here ∙ all_listed (doomed (state x).content request.node start end_) (sym (judged here) ∙ e), e);
-      updates = asked-updates (state x) (state y) (state z) lives P request (map DeleteAt times) result.codes.items p h.1;
+      updates = asked-updates (state x) (state y) (state z) lives P request (map DeleteAt times) result.codes p h.1;
       status = h.0;
     })
 

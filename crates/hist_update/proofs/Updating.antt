@@ -1,4 +1,5 @@
 -- Operations one after the other: one more behind some.
+use Rattle.std.specs.Prelude.{is_ok, if◌then◌else◌}
 use Rattle.std.proofs.Common.{◌≡◌, ℕ, ◌+◌, ◌<◌, Bool, true, false, ◌||◌, List, [], ◌∷◌, ◌++◌, map, take, length, Result, Ok, Err, IsErr, refl, sym, ap, ◌∙◌, subst, inl, inr, append_assoc, get_or}
 use Rattle.std.proofs.lemmas.List.{take_more, map-append}
 use Rattle.std.specs.List.{list_any}
@@ -18,10 +19,10 @@ use Rattle.hist_update.specs.Setbacks.{code_told, mark_in, Operates}
 
 -- ---- the definitions over one step more
 
-abbrev then : List Step → Step → List Step
-then steps s = steps ++ (s ∷ [])
+abbrev followed : List Step → Step → List Step
+followed steps s = steps ++ (s ∷ [])
 
-faults-then : (steps : List Step) (s : Step) → faults_of (then steps s) ≡ faults_of steps ++ faults_in s.1
+faults-then : (steps : List Step) (s : Step) → faults_of (followed steps s) ≡ faults_of steps ++ faults_in s.1
 faults-then [] s = append-none (faults_in s.1)
   where
     append-none : (xs : List StoreFault) → xs ++ [] ≡ xs
@@ -29,23 +30,23 @@ faults-then [] s = append-none (faults_in s.1)
     append-none (x ∷ xs) = ap (λ ys. x ∷ ys) (append-none xs)
 faults-then (t ∷ steps) s = ap (λ fs. faults_in t.1 ++ fs) (faults-then steps s) ∙ sym (append_assoc (faults_in t.1) (faults_of steps) (faults_in s.1))
 
-each-then : (steps : List Step) (s : Step) → map (λ (t : Step). t.0) (then steps s) ≡ map (λ (t : Step). t.0) steps ++ (s.0 ∷ [])
+each-then : (steps : List Step) (s : Step) → map (λ (t : Step). t.0) (followed steps s) ≡ map (λ (t : Step). t.0) steps ++ (s.0 ∷ [])
 each-then [] s = refl
 each-then (t ∷ steps) s = ap (λ ops. t.0 ∷ ops) (each-then steps s)
 
 updated-then : (R : Content) (own : ℕ) (request : Request) (steps : List Step) (s : Step)
-    → updated R own request (then steps s) ≡ left_by (updated R own request steps) (outcome (updated R own request steps) own request s.0) s.1
+    → updated R own request (followed steps s) ≡ left_by (updated R own request steps) (outcome (updated R own request steps) own request s.0) s.1
 updated-then R own request [] s = refl
 updated-then R own request (t ∷ steps) s = updated-then (left_by R (outcome R own request t.0) t.1) own request steps s
 
 codes-then : (R : Content) (own : ℕ) (request : Request) (steps : List Step) (s : Step)
-    → codes_by R own request (then steps s) ≡ codes_by R own request steps ++ (code_by (outcome (updated R own request steps) own request s.0) s.1 ∷ [])
+    → codes_by R own request (followed steps s) ≡ codes_by R own request steps ++ (code_by (outcome (updated R own request steps) own request s.0) s.1 ∷ [])
 codes-then R own request [] s = refl
 codes-then R own request (t ∷ steps) s = ap (λ cs. code_by (outcome R own request t.0) t.1 ∷ cs) (codes-then (left_by R (outcome R own request t.0) t.1) own request steps s)
 
 -- once one broke the store, the later ones don't matter
 broke-then : (R : Content) (own : ℕ) (request : Request) (steps : List Step) (s : Step) (left : Content)
-    → list_any is_break (faults_of steps) ≡ true → Stands R own request steps left → Stands R own request (then steps s) left
+    → list_any is_break (faults_of steps) ≡ true → Stands R own request steps left → Stands R own request (followed steps s) left
 broke-then R own request [] s left e h = absurd (true≢false (sym e))
 broke-then R own request ((op, Fine) ∷ steps) s left e h = broke-then (left_by R (outcome R own request op) Fine) own request steps s left e h
 broke-then R own request ((op, Starved) ∷ steps) s left e h = broke-then R own request steps s left e h
@@ -67,9 +68,9 @@ stands-updated R own request ((op, Met WrongReplica) ∷ steps) left e h = stand
 stands-updated R own request ((op, Met WrongArchive) ∷ steps) left e h = stands-updated R own request steps left e h
 stands-updated R own request ((op, Met Broken) ∷ steps) left e h = absurd (true≢false e)
 
--- and then the last one decides
+-- and followed the last one decides
 stands-then : (R : Content) (own : ℕ) (request : Request) (steps : List Step) (s : Step) (left : Content)
-    → list_any is_break (faults_of steps) ≡ false → Stands (updated R own request steps) own request (s ∷ []) left → Stands R own request (then steps s) left
+    → list_any is_break (faults_of steps) ≡ false → Stands (updated R own request steps) own request (s ∷ []) left → Stands R own request (followed steps s) left
 stands-then R own request [] s left e h = h
 stands-then R own request ((op, Fine) ∷ steps) s left e h = stands-then (left_by R (outcome R own request op) Fine) own request steps s left e h
 stands-then R own request ((op, Starved) ∷ steps) s left e h = stands-then R own request steps s left e h
@@ -89,7 +90,7 @@ or-assoc true y z = refl
 or-assoc false y z = refl
 
 ended-then : (broken : Bool) (own : ℕ) (request : Request) (steps : List Step) (s : Step)
-    → AreEnded broken own request steps → ((broken || list_any is_break (faults_of steps)) ≡ true → s.1 ≡ Fine → IsErr (change_by request own s.0)) → AreEnded broken own request (then steps s)
+    → AreEnded broken own request steps → ((broken || list_any is_break (faults_of steps)) ≡ true → s.1 ≡ Fine → IsErr (change_by request own s.0)) → AreEnded broken own request (followed steps s)
 ended-then broken own request [] s h last = (λ e f. last (or-false broken ∙ e) f, tt)
 ended-then broken own request (t ∷ steps) s h last = (
   h.0,
@@ -154,7 +155,7 @@ last_stands b c request op result o h rests used left m = go (mark_in result) re
 pub updates-more : (a b c : Store) (request : Request) (ops : List Operation) (told : List UpdateCode) (op : Operation) (result : Result UpdateCode Setback)
     → Updates a b request ops told → Operates b c request op result → Updates a c request (ops ++ (op ∷ [])) (told ++ (code_told result ∷ []))
 updates-more a b c request ops told op result u o = record {
-  steps = then u.steps s;
+  steps = followed u.steps s;
   each = each-then u.steps s ∙ ap (λ xs. xs ++ (op ∷ [])) u.each;
   codes = λ h. ap (λ cs. cs ++ (code_told result ∷ [])) (u.codes (o.passes.honest h))
       ∙ (ap (λ x. codes_by a.content a.own request u.steps ++ (x ∷ [])) (o.code h ∙ (ap (λ n. code_by (outcome b.content n request op) mark) u.passes.own ∙ code h b.broken refl))
@@ -190,7 +191,7 @@ updates-more a b c request ops told op result u o = record {
     broke : (x : Bool) → a.broken ≡ false → b.broken ≡ x → list_any is_break (faults_of u.steps) ≡ x
     broke x used e = ap (λ y. y || list_any is_break (faults_of u.steps)) (sym used) ∙ (sym u.passes.broken ∙ e)
 
-    stands : c.honest → Rests a → a.broken ≡ false → (left : Content) → c.may_hold left → (x : Bool) → b.broken ≡ x → Stands a.content a.own request (then u.steps (op, mark_in result)) left
+    stands : c.honest → Rests a → a.broken ≡ false → (left : Content) → c.may_hold left → (x : Bool) → b.broken ≡ x → Stands a.content a.own request (followed u.steps (op, mark_in result)) left
     stands h rests used left m true e =
         elim (o.crash h left m) [
           | inl k ↦ broke-then a.content a.own request u.steps (op, mark_in result) left (broke true used e) (u.stands (o.passes.honest h) rests used left k)
@@ -212,3 +213,7 @@ updates-next a b c request f xs i other x result told more code u o within is sa
   where
     ops : map f (take (i + 1) xs) ≡ map f (take i xs) ++ (f x ∷ [])
     ops = ap (map f) (take_more xs i other within) ∙ (map-append f (take i xs) (get_or xs i other ∷ []) ∙ ap (λ y. map f (take i xs) ++ (f y ∷ [])) (sym is))
+
+-- what a push leaves that went well
+pub pushed : {E X : Type 0} (result : Result (Unit {0}) E) (u : Unit {0}) (longer same new : X) → new ≡ (if is_ok result then longer else same) → result ≡ Ok u → new ≡ longer
+pushed result u longer same new grown ok = grown ∙ ap (λ r. if is_ok r then longer else same) ok

@@ -102,7 +102,7 @@ abbrev pub AnswersListed : {A : Type 0} → (A → Store) → A → A → Reques
 AnswersListed state x y request (Some code) times result = IsRefused code result × (y ≡ x)
 AnswersListed state x y request None times result =
     (IsRefused BadOutOfMemory result × (y ≡ x))
-    ⊎ ((result.status ≡ first_other result.codes.items) × Updates (state x) (state y) request (map DeleteAt times) result.codes.items)
+    ⊎ ((result.status ≡ first_other result.codes) × Updates (state x) (state y) request (map DeleteAt times) result.codes)
 
 abbrev pub AnswersLives : {A : Type 0} → (A → Store) → A → A → Request → List ℤ → UpdateResult → Type 0
 AnswersLives state x y request times result = (IsRefused BadOutOfMemory result × (y ≡ x)) ⊎ AnswersListed state x y request (listing_refusal times) times result

@@ -114,14 +114,14 @@ listing_refusal (t ∷ times) = if nat_lt most (length (t ∷ times)) then Some 
 -- ---- what the calls answer
 
 abbrev pub IsRefused : UpdateCode → UpdateResult → Type 0
-IsRefused code result = (result.status ≡ code) × (result.codes.items ≡ [])
+IsRefused code result = (result.status ≡ code) × (result.codes ≡ [])
 
 -- a list that is refused as a whole changes nothing, and so does one for whose codes there is no memory; else its operations are done in order
 abbrev pub AnswersList : {A : Type 0} → (A → Store) → A → A → Request → Option UpdateCode → List Operation → UpdateResult → Type 0
 AnswersList state x y request (Some code) operations result = IsRefused code result × (y ≡ x)
 AnswersList state x y request None operations result =
     (IsRefused BadOutOfMemory result × (y ≡ x))
-    ⊎ ((result.status ≡ Good) × Updates (state x) (state y) request operations result.codes.items)
+    ⊎ ((result.status ≡ Good) × Updates (state x) (state y) request operations result.codes)
 
 -- nothing was changed, though the store was asked
 pub record Keeps (old new : Store) (faults : List StoreFault) : Type 0 where
@@ -133,8 +133,8 @@ pub record Keeps (old new : Store) (faults : List StoreFault) : Type 0 where
 pub record Deletes (old new : Store) (request : Request) (start end_ : ℤ) (result : UpdateResult) : Type 0 where
   pub times : List ℤ
   pub listed : new.honest → (times ≡ doomed old.content request.node start end_) × (listing_refusal times ≡ None)
-  pub updates : Updates old new request (map DeleteAt times) result.codes.items
-  pub status : result.status ≡ first_other result.codes.items
+  pub updates : Updates old new request (map DeleteAt times) result.codes
+  pub status : result.status ≡ first_other result.codes
 
 -- the listing came to this
 pub data Stretched (old new : Store) (request : Request) (start end_ : ℤ) (result : UpdateResult) : Type 0 where

@@ -8,11 +8,13 @@ ghost use Rattle.records.specs.Lists.{Has, IsPairwise, last};
 ghost use Rattle.records.specs.Contents.{Content, IsClosed, IsNext, IsWithin, put};
 ghost use Rattle.records.specs.Records.{is_delete, story, current};
 ghost use Rattle.records.specs.declared.record.Record.{Record};
+ghost use Rattle.records.specs.declared.record.HistoryUpdateType.TheVariants.{Insert, Replace};
 ghost use Rattle.records.specs.declared.shown.Held.{Held};
 ghost use Rattle.archive.specs.Store.{IsLawfulContent};
 ghost use Rattle.hist_update.specs.declared.code.UpdateCode.{UpdateCode};
+ghost use Rattle.hist_update.specs.declared.code.UpdateCode.TheVariants as codes;
 ghost use Rattle.hist_update.specs.declared.request.Request.{Request as Asker};
-ghost use Rattle.hist_update.specs.Outcome.{Operation, IsRequest, Refused, Added, outcome};
+ghost use Rattle.hist_update.specs.Outcome.{Operation, IsRequest, Added, outcome, is_live};
 ghost use Rattle.hist_update.specs.Updates.{Mark, Step, code_by, left_by, updated, Stands, AreEnded, doomed};
 ghost use Rattle.hist_update.specs.Laws.{IsBad, IsGood, IsRecordOf, IsAnsweredAt, IsSpelled, IsOperation, IsDoomed};
 
@@ -36,6 +38,19 @@ pub fn codes_tell_what_was_done()
     ensures good { (R : Content) (own : ℕ) (q : Asker) (op : Operation) (m : Mark) → IsGood (code_by (outcome R own q op) m)
         → (r : Record) × (outcome R own q op ≡ Added (code_by (outcome R own q op) m) r) × (left_by R (outcome R own q op) m ≡ put r R) × IsRecordOf q own op r }
     ensures either { (R : Content) (own : ℕ) (q : Asker) (op : Operation) (m : Mark) → IsBad (code_by (outcome R own q op) m) ⊎ IsGood (code_by (outcome R own q op) m) }
+{}
+
+/// The code of what was done tells what stood there: an insert, and what is told as inserted, stood
+/// onto no live value; a replacement, a delete, and what is told as replaced, onto one.
+pub fn codes_tell_what_stood()
+    ensures inserted { (R : Content) (own : ℕ) (q : Asker) (op : Operation) (r : Record) → outcome R own q op ≡ Added codes.GoodEntryInserted r
+        → (is_live R r.node r.time ≡ false) × (is_delete r.asked ≡ false) }
+    ensures replaced { (R : Content) (own : ℕ) (q : Asker) (op : Operation) (r : Record) → outcome R own q op ≡ Added codes.GoodEntryReplaced r
+        → (is_live R r.node r.time ≡ true) × (is_delete r.asked ≡ false) }
+    ensures deleted { (R : Content) (own : ℕ) (q : Asker) (op : Operation) (r : Record) → outcome R own q op ≡ Added codes.Good r
+        → (is_live R r.node r.time ≡ true) × (is_delete r.asked ≡ true) }
+    ensures insert { (R : Content) (own : ℕ) (q : Asker) (op : Operation) (code : UpdateCode) (r : Record) → outcome R own q op ≡ Added code r → r.asked ≡ Insert → is_live R r.node r.time ≡ false }
+    ensures replacement { (R : Content) (own : ℕ) (q : Asker) (op : Operation) (code : UpdateCode) (r : Record) → outcome R own q op ≡ Added code r → r.asked ≡ Replace → is_live R r.node r.time ≡ true }
 {}
 
 /// What was held before some operations is held behind them, and the record of each operation of a

@@ -11,8 +11,8 @@ mod update;
 
 pub use code::UpdateCode;
 pub use laws::{
-    codes_tell_what_was_done, new_records_come_last, stretches_have_the_live_times,
-    updates_keep_contents_lawful, updates_lose_nothing,
+    codes_tell_what_stood, codes_tell_what_was_done, new_records_come_last,
+    stretches_have_the_live_times, updates_keep_contents_lawful, updates_lose_nothing,
 };
 pub use request::Request;
 pub use result::UpdateResult;

@@ -19,6 +19,7 @@ use crate::setback::Setback;
 use archive::{Archive, Direction};
 use records::{Held, HistoryUpdateType};
 use std::alloc::{AllocError, Global};
+use ua_binary::Listing;
 use ua_variant::{DataValue, ValueType};
 
 /// The most operations of one list.
@@ -99,8 +100,16 @@ fn delete_each<A: Archive>(
     }
 }
 
-/// Writes values to a node of this type (Part 11, UpdateDataDetails), in order; `perform` is 1 for
-/// insert, 2 for replace, 3 for update.
+/// Writes 1 to 1,000 values to a node of this type, in order (Part 11, UpdateDataDetails). `perform` is
+/// 1 for insert, 2 for replace, 3 for update (PerformUpdateType); else the status is
+/// BadHistoryOperationInvalid, then BadNothingToDo for no value, BadTooManyOperations for more than
+/// 1,000, and BadOutOfMemory where there is no memory for the codes: then nothing was changed and there
+/// are no codes. Otherwise the status is Good, and each value has a code of its own: BadInvalidTimestamp
+/// without a source time of at least 1, BadTypeMismatch, BadEncodingLimitsExceeded where its record has
+/// more than 1,048,576 bytes, BadEntryExists, BadNoEntryExists, BadResourceUnavailable where no tick is
+/// left, BadOutOfMemory, BadResourceUnavailable for another fault of the store, GoodEntryInserted or
+/// GoodEntryReplaced. A value of a Bad code changed nothing, save that behind a break of the store its
+/// record may stand.
 pub fn update_data<A: Archive>(
     alloc: Global,
     archive: &mut A,
@@ -127,11 +136,15 @@ pub fn update_data<A: Archive>(
     );
     UpdateResult {
         status: UpdateCode::Good,
-        codes,
+        codes: Listing::of(codes),
     }
 }
 
-/// Deletes what is live at each of these source times (Part 11, DeleteAtTimeDetails), in order.
+/// Deletes what is live at each of 1 to 1,000 source times, in order (Part 11, DeleteAtTimeDetails).
+/// The status is BadNothingToDo for no time, BadTooManyOperations for more than 1,000, BadOutOfMemory
+/// where there is no memory for the codes; then nothing was changed and there are no codes. Otherwise it
+/// is Good, and each time has a code of its own: BadInvalidTimestamp below 1, BadNoEntryExists where
+/// none is live, those of a tick, memory and the store as for a value, or Good.
 pub fn delete_at<A: Archive>(
     alloc: Global,
     archive: &mut A,
@@ -150,7 +163,7 @@ pub fn delete_at<A: Archive>(
     delete_each(alloc, archive, request, times, &mut codes);
     UpdateResult {
         status: UpdateCode::Good,
-        codes,
+        codes: Listing::of(codes),
     }
 }
 
@@ -195,7 +208,7 @@ fn delete_listed<A: Archive>(
         return deleted;
     }
     UpdateResult {
-        status: first_other(&deleted.codes),
+        status: first_other(deleted.codes.as_slice()),
         codes: deleted.codes,
     }
 }
@@ -241,7 +254,12 @@ fn last_of(start: i64, end: i64) -> i64
 }
 
 /// Deletes a node's live values from `start` up to but without `end`, or at the one instant where
-/// both are equal (Part 11, DeleteRawModifiedDetails), each by an operation of its own.
+/// both are equal, ascending, each by an operation of its own (Part 11, DeleteRawModifiedDetails). The
+/// status is BadHistoryOperationUnsupported where modifications are asked for,
+/// BadInvalidTimestampArgument for a time below 1 or a start behind the end, BadNoData where none is
+/// live, BadTooManyOperations for more than 1,000, the code of a fault that the listing met, and
+/// BadOutOfMemory where there is no memory for the codes: then nothing was changed and there are no
+/// codes. Otherwise it is the first code that isn't Good, or Good.
 pub fn delete_raw<A: Archive>(
     alloc: Global,
     archive: &mut A,

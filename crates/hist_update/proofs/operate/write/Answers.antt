@@ -1,6 +1,6 @@
 use Rattle.std.proofs.Common.{rules, ◌≡◌, Err, w64}
 use Rattle.hist_update.specs.Outcome.{Write, writing}
-use Rattle.hist_update.specs.Setbacks.{Operates, IsDraft}
+use Rattle.hist_update.specs.Setbacks.{candidate_of, Operates, IsDraft}
 use Rattle.hist_update.specs.declared.setback.Setback.TheVariants as setback
 use Rattle.hist_update.proofs.Operating.{refused-early, draft-starved, write_draft, written_by, unwritten, settled}
 use Rattle.std.proofs.Common.{subst, sym}
@@ -20,7 +20,7 @@ pub settle-requires : goal.settle-requires
 settle-requires g c =
     let same = to_z-of_z w64 c.in-Ok.time (c.in-Ok.ensures).fits in
     let is = rw same at c.in_ok-candidate.ensures in
-    subst IsDraft (sym is) (write_draft c.args.request.now c.in_ok-place.place c.args.asked c.args.value_type c.args.value.now c.in-Ok.time c.requires.request (c.in_ok-place.ensures).number c.requires.asked c.requires.value (sym (c.in-Ok.ensures).judged))
+    subst IsDraft (sym {b = candidate_of c.args.request.now c.in_ok-place.place (writing c.args.asked c.args.value.now c.in-Ok.time)} is) (write_draft c.args.request.now c.in_ok-place.place c.args.asked c.args.value_type c.args.value.now c.in-Ok.time c.requires.request (c.in_ok-place.ensures).number c.requires.asked c.requires.value (sym (c.in-Ok.ensures).judged))
 
 pub returns : goal.returns
 returns g c =

@@ -1,10 +1,9 @@
-use Rattle.std.proofs.Common.{rules, ◌++◌, [], ◌∷◌, ◌+◌, ℤ, pos, get_or, vec_len, refl, sym, ap, ◌∙◌, subst, is_ok, arith, FitsSigned, w64}
-use Rattle.std.specs.Prelude.{if◌then◌else◌}
+use Rattle.std.proofs.Common.{rules, ◌++◌, [], ◌∷◌, ◌+◌, ℤ, pos, get_or, vec_len, refl, sym, ap, ◌∙◌, subst, arith, FitsSigned, w64}
 use Rattle.std.proofs.lemmas.Int.{to_z-of_z}
 use Rattle.hist_update.specs.Outcome.{DeleteAt}
 use Rattle.hist_update.specs.Setbacks.{Operates}
 use Rattle.hist_update.specs.Updates.{Updates}
-use Rattle.hist_update.proofs.Updating.{updates-none, updates-next}
+use Rattle.hist_update.proofs.Updating.{pushed, updates-none, updates-next}
 use Rattle.hist_update.proofs.update.delete_each.Goals as goal
 
 pub loop-time-init : goal.loop-time-init
@@ -22,7 +21,7 @@ loop-time-preserved g c =
     record {
       done = updates-next _ (g.A.Archive.state c.loop-time.archive) _ c.args.request.now DeleteAt c.args.times.now c.loop-time.time-index (pos 0) time c.delete-done.result c.loop-time.codes.items _ c.code_of.result
           c.loop-time.invariant.done deleted c.loop-time-test.true refl c.code_of.ensures
-          (c.push.ensures.items ∙ ap (λ r. if is_ok r then (c.loop-time.codes.items ++ c.code_of.result ∷ []) else c.loop-time.codes.items) c.unwrap.ensures);
-      count = c.push.ensures.len ∙ (ap (λ r. if is_ok r then vec_len c.loop-time.codes + 1 else vec_len c.loop-time.codes) c.unwrap.ensures ∙ ap (λ n. n + 1) c.loop-time.invariant.count);
+          (pushed c.push.result c.unwrap.result (c.loop-time.codes.items ++ c.code_of.result ∷ []) c.loop-time.codes.items c.push.new.self.items c.push.ensures.items c.unwrap.ensures);
+      count = pushed c.push.result c.unwrap.result (vec_len c.loop-time.codes + 1) (vec_len c.loop-time.codes) (vec_len c.push.new.self) c.push.ensures.len c.unwrap.ensures ∙ ap (λ n. n + 1) c.loop-time.invariant.count;
       room = omega (arith, c.push.ensures.capacity, c.loop-time.invariant.room);
     }

@@ -1,8 +1,7 @@
-use Rattle.std.proofs.Common.{rules, ◌++◌, [], ◌∷◌, ◌+◌, vec_len, sym, ap, ◌∙◌, subst, is_ok, arith}
-use Rattle.std.specs.Prelude.{if◌then◌else◌}
+use Rattle.std.proofs.Common.{rules, ◌++◌, [], ◌∷◌, ◌+◌, vec_len, sym, ap, ◌∙◌, subst, arith}
 use Rattle.hist_update.specs.Outcome.{Write}
 use Rattle.hist_update.specs.Updates.{Updates}
-use Rattle.hist_update.proofs.Updating.{updates-none, updates-next}
+use Rattle.hist_update.proofs.Updating.{pushed, updates-none, updates-next}
 use Rattle.hist_update.proofs.update.write_each.Goals as goal
 
 pub loop-value-init : goal.loop-value-init
@@ -16,7 +15,7 @@ pub loop-value-preserved : goal.loop-value-preserved
 loop-value-preserved g c = record {
   done = updates-next _ (g.A.Archive.state c.loop-value.archive) _ c.args.request.now (Write c.args.asked c.args.value_type) c.args.values.now c.loop-value.value-index c.value-item.result c.value-item.result c.write-done.result c.loop-value.codes.items _ c.code_of.result
       c.loop-value.invariant.done c.write-done.ensures c.loop-value-test.true c.value-item.is c.code_of.ensures
-      (c.push.ensures.items ∙ ap (λ r. if is_ok r then (c.loop-value.codes.items ++ c.code_of.result ∷ []) else c.loop-value.codes.items) c.unwrap.ensures);
-  count = c.push.ensures.len ∙ (ap (λ r. if is_ok r then vec_len c.loop-value.codes + 1 else vec_len c.loop-value.codes) c.unwrap.ensures ∙ ap (λ n. n + 1) c.loop-value.invariant.count);
+      (pushed c.push.result c.unwrap.result (c.loop-value.codes.items ++ c.code_of.result ∷ []) c.loop-value.codes.items c.push.new.self.items c.push.ensures.items c.unwrap.ensures);
+  count = pushed c.push.result c.unwrap.result (vec_len c.loop-value.codes + 1) (vec_len c.loop-value.codes) (vec_len c.push.new.self) c.push.ensures.len c.unwrap.ensures ∙ ap (λ n. n + 1) c.loop-value.invariant.count;
   room = omega (arith, c.push.ensures.capacity, c.loop-value.invariant.room);
 }
