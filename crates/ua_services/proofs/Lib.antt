@@ -1,0 +1,4 @@
+pub mod Skipped
+pub mod Unkept
+pub mod Lawful
+pub mod Fits

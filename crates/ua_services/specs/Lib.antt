@@ -1,0 +1,4 @@
+pub mod Unkept
+pub mod Structure
+pub mod Endpoints
+pub mod Sessions

@@ -1,0 +1,39 @@
+//! What holds of each format.
+
+ghost use Rattle.ua_binary.specs.Format.{IsLawful, IsPrefixFree};
+ghost use Rattle.ua_services.specs.Endpoints.{application_description, user_token_policy, endpoint_description, get_endpoints_request, get_endpoints_response};
+ghost use Rattle.ua_services.specs.Sessions.{user_identity, create_session_request, create_session_response, activate_session_request, activate_session_response, close_session_request};
+
+/// What is read is spelled there; what is spelled is read, whatever follows; and what is written is a
+/// spelling.
+#[tactic(auto, using(crate::proofs::Lawful::lawful))]
+pub fn formats_are_lawful()
+    ensures application_description { IsLawful application_description }
+    ensures user_token_policy { IsLawful user_token_policy }
+    ensures endpoint_description { IsLawful endpoint_description }
+    ensures user_identity { IsLawful user_identity }
+    ensures get_endpoints_request { IsLawful get_endpoints_request }
+    ensures get_endpoints_response { IsLawful get_endpoints_response }
+    ensures create_session_request { IsLawful create_session_request }
+    ensures create_session_response { IsLawful create_session_response }
+    ensures activate_session_request { IsLawful activate_session_request }
+    ensures activate_session_response { IsLawful activate_session_response }
+    ensures close_session_request { IsLawful close_session_request }
+{}
+
+/// No spelling is the front of another, and no two values have one spelling: so what was written is
+/// read again, whatever follows.
+#[tactic(auto, using(ua_binary::proofs::Spelled::prefix_free, crate::proofs::Lawful::lawful))]
+pub fn formats_are_prefix_free()
+    ensures application_description { IsPrefixFree application_description }
+    ensures user_token_policy { IsPrefixFree user_token_policy }
+    ensures endpoint_description { IsPrefixFree endpoint_description }
+    ensures user_identity { IsPrefixFree user_identity }
+    ensures get_endpoints_request { IsPrefixFree get_endpoints_request }
+    ensures get_endpoints_response { IsPrefixFree get_endpoints_response }
+    ensures create_session_request { IsPrefixFree create_session_request }
+    ensures create_session_response { IsPrefixFree create_session_response }
+    ensures activate_session_request { IsPrefixFree activate_session_request }
+    ensures activate_session_response { IsPrefixFree activate_session_response }
+    ensures close_session_request { IsPrefixFree close_session_request }
+{}
