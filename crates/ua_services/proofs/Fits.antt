@@ -73,7 +73,11 @@ pub node_is : (v : NodeId) → node_id.Fits v → IsNodeId v
 unfolding node_id
 node_is v h = h
 
-pub ruleset fits = (application_fits, mode_fits, token_fits, text_is, localized_is, node_is)
+pub u32_is : (n : ℕ) → (unsigned w32).Fits n → n < 2 ^ 32
+unfolding unsigned
+u32_is n h = h
+
+pub ruleset fits = (application_fits, mode_fits, token_fits, text_is, localized_is, node_is, u32_is)
 
 -- what stands for itself
 pub all_same : {A : Type 0} (l : List A) → map (λ x. x) l ≡ l
