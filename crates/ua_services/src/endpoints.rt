@@ -6,9 +6,9 @@ ghost use Rattle.ua_services.specs.Endpoints.{ApplicationFields, application_fie
 
 use crate::many::{many_size, put_many, put_texts, texts_size};
 use crate::skipping::skip_texts;
-use std::alloc::Global;
+use std::alloc::{AllocError, Global};
 use ua_binary::{
-    BinaryFault, Cursor, Encode, Listing, LocalizedText, Text, or_undone, put_bytes, put_i32, put_localized,
+    BinaryFault, Cursor, Encode, Listing, LocalizedText, Text, TryClone, or_undone, put_bytes, put_i32, put_localized,
     put_owned_text, put_text, read_array,
 };
 
@@ -111,6 +111,51 @@ pub struct EndpointDescription {
     pub user_identity_tokens: Listing<UserTokenPolicy>,
     pub transport_profile_uri: Option<Text>,
     pub security_level: u8,
+}
+
+impl TryClone for ApplicationDescription {
+    fn try_clone(&self) -> Result<ApplicationDescription, AllocError> {
+        let application_uri = self.application_uri.try_clone()?;
+        let product_uri = self.product_uri.try_clone()?;
+        let application_name = self.application_name.try_clone()?;
+        let discovery_urls = self.discovery_urls.try_clone()?;
+        Ok(ApplicationDescription {
+            application_uri,
+            product_uri,
+            application_name,
+            application_type: self.application_type,
+            discovery_urls,
+        })
+    }
+}
+
+impl TryClone for UserTokenPolicy {
+    fn try_clone(&self) -> Result<UserTokenPolicy, AllocError> {
+        let policy_id = self.policy_id.try_clone()?;
+        Ok(UserTokenPolicy {
+            policy_id,
+            token_type: self.token_type,
+        })
+    }
+}
+
+impl TryClone for EndpointDescription {
+    fn try_clone(&self) -> Result<EndpointDescription, AllocError> {
+        let endpoint_url = self.endpoint_url.try_clone()?;
+        let security_policy_uri = self.security_policy_uri.try_clone()?;
+        let transport_profile_uri = self.transport_profile_uri.try_clone()?;
+        let user_identity_tokens = self.user_identity_tokens.try_clone()?;
+        let server = self.server.try_clone()?;
+        Ok(EndpointDescription {
+            endpoint_url,
+            server,
+            security_mode: self.security_mode,
+            security_policy_uri,
+            user_identity_tokens,
+            transport_profile_uri,
+            security_level: self.security_level,
+        })
+    }
 }
 
 impl Encode for ApplicationDescription {

@@ -26,3 +26,6 @@ pub use sessions::{
     put_activate_session_response, put_create_session_response, read_activate_session_request,
     read_close_session_request, read_create_session_request,
 };
+
+#[cfg(test)]
+mod tests;

@@ -1,0 +1,279 @@
+use super::*;
+use std::alloc::{AllocError, Global};
+use std::fmt::Debug;
+use ua_binary::{Cursor, Listing, LocalizedText, NodeId, Text, TryClone, array_size};
+
+#[derive(Clone, Copy, Debug)]
+enum Kind {
+    GetEndpoints,
+    CreateSession,
+    ActivateSession,
+    CloseSession,
+}
+
+/// Whether this was read, as `{:?}` shows it.
+fn is_shown<T: Debug>(alloc: Global, found: &T, want: &str) -> bool {
+    format!(in alloc; "{found:?}").is_ok_and(|text| text.as_str() == want)
+}
+
+/// How many bytes are left of a request whose reading shows this.
+fn left_of(alloc: Global, kind: Kind, bytes: &[u8], want: &str) -> Option<usize> {
+    let mut cursor = Cursor::new(bytes);
+    let is_read = match kind {
+        Kind::GetEndpoints => {
+            is_shown(alloc, &read_get_endpoints_request(alloc, &mut cursor), want)
+        }
+        Kind::CreateSession => is_shown(alloc, &read_create_session_request(&mut cursor), want),
+        Kind::ActivateSession => {
+            is_shown(alloc, &read_activate_session_request(&mut cursor), want)
+        }
+        Kind::CloseSession => is_shown(alloc, &read_close_session_request(&mut cursor), want),
+    };
+    if is_read { Some(cursor.rest().len()) } else { None }
+}
+
+/// Requests behind their headers, and what is kept of them.
+static REQUESTS: [(Kind, &[u8], &str); 10] = [
+    (
+        Kind::GetEndpoints,
+        b"\xff\xff\xff\xff\xff\xff\xff\xff\x01\0\0\0\x01\0\0\0x",
+        "Ok(GetEndpointsRequest { endpoint_url: None, profile_uris: [Some(\"x\")] })",
+    ),
+    (
+        Kind::GetEndpoints,
+        b"\x01\0\0\0u\x02\0\0\0\x02\0\0\0en\xff\xff\xff\xff\xff\xff\xff\xff",
+        "Ok(GetEndpointsRequest { endpoint_url: Some(\"u\"), profile_uris: [] })",
+    ),
+    (
+        Kind::CreateSession,
+        b"\x01\0\0\0c\xff\xff\xff\xff\x02\x01\0\0\0n\x01\0\0\0\xff\xff\xff\xff\xff\xff\xff\xff\x01\0\0\0\x01\0\0\0d\
+        \xff\xff\xff\xff\x01\0\0\0u\x01\0\0\0s\x02\0\0\0\x01\x02\xff\xff\xff\xff\0\0\0\0\0\0\xf0\x3f\0\0\x40\0",
+        "Ok(CreateSessionRequest { endpoint_url: Some(\"u\"), session_name: Some(\"s\"), timeout: [0, 0, 0, 0, 0, 0, 240, 63] })",
+    ),
+    (
+        Kind::ActivateSession,
+        b"\xff\xff\xff\xff\xff\xff\xff\xff\x01\0\0\0\xff\xff\xff\xff\xff\xff\xff\xff\0\0\0\0\
+        \x01\0\x41\x01\x01\x0d\0\0\0\x09\0\0\0anonymous\xff\xff\xff\xff\xff\xff\xff\xff",
+        "Ok(ActivateSessionRequest { user_identity: Anonymous })",
+    ),
+    (
+        Kind::ActivateSession,
+        b"\xff\xff\xff\xff\xff\xff\xff\xff\0\0\0\0\x01\0\0\0\x02\0\0\0en\0\0\0\xff\xff\xff\xff\xff\xff\xff\xff",
+        "Ok(ActivateSessionRequest { user_identity: Anonymous })",
+    ),
+    (
+        Kind::ActivateSession,
+        b"\x01\0\0\0a\x01\0\0\0b\0\0\0\0\0\0\0\0\
+        \x01\0\x44\x01\x01\x16\0\0\0\x01\0\0\0p\x03\0\0\0ann\x02\0\0\0pw\xff\xff\xff\xff\xff\xff\xff\xff\xff\xff\xff\xff",
+        "Ok(ActivateSessionRequest { user_identity: UserName { name: Some(\"ann\"), password: Some([112, 119]), algorithm: None } })",
+    ),
+    (
+        Kind::ActivateSession,
+        b"\xff\xff\xff\xff\xff\xff\xff\xff\0\0\0\0\0\0\0\0\x01\0\x47\x01\x01\x01\0\0\0\x09\xff\xff\xff\xff\xff\xff\xff\xff",
+        "Ok(ActivateSessionRequest { user_identity: Other })",
+    ),
+    (
+        Kind::ActivateSession,
+        b"\xff\xff\xff\xff\xff\xff\xff\xff\0\0\0\0\0\0\0\0\0\0\x01\xff\xff\xff\xff\xff\xff\xff\xff\xff\xff\xff\xff",
+        "Ok(ActivateSessionRequest { user_identity: Other })",
+    ),
+    (
+        Kind::CloseSession,
+        b"\x01",
+        "Ok(CloseSessionRequest { delete_subscriptions: true })",
+    ),
+    (
+        Kind::CloseSession,
+        b"\0",
+        "Ok(CloseSessionRequest { delete_subscriptions: false })",
+    ),
+];
+
+#[test]
+fn requests(rt: HostRuntime) {
+    for (kind, bytes, want) in REQUESTS {
+        let left = left_of(rt.alloc(), kind, bytes, want);
+        assert!(rt; left == Some(0), "{want}");
+    }
+}
+
+/// Whether each front of a request is `Short` and leaves the cursor where it was.
+fn are_fronts_short(alloc: Global, kind: Kind, bytes: &[u8]) -> bool {
+    for len in 0..bytes.len() {
+        if left_of(alloc, kind, &bytes[..len], "Err(Short)") != Some(len) {
+            return false;
+        }
+    }
+    true
+}
+
+#[test]
+fn fronts_of_requests(rt: HostRuntime) {
+    for (kind, bytes, want) in REQUESTS {
+        let short = are_fronts_short(rt.alloc(), kind, bytes);
+        assert!(rt; short, "{want}");
+    }
+}
+
+/// Requests that no spelling begins, and the fault of the leftmost field that has none.
+static REFUSED: [(Kind, &[u8], &str); 8] = [
+    (
+        Kind::GetEndpoints,
+        b"\xff\xff\xff\xff\xfe\xff\xff\xff\x01\0\0\0\x01\0\0\0x",
+        "Err(BadLength)",
+    ),
+    (
+        Kind::GetEndpoints,
+        b"\xff\xff\xff\xff\xff\xff\xff\xff\x01\0\0\0\x01\0\0\0\xff",
+        "Err(BadUtf8)",
+    ),
+    (
+        Kind::GetEndpoints,
+        b"\xff\xff\xff\xff\xff\xff\xff\x7f\x01\0\0\0\x01\0\0\0x",
+        "Err(Short)",
+    ),
+    // a known token without a body, with one in XML, and with bytes behind it
+    (
+        Kind::ActivateSession,
+        b"\xff\xff\xff\xff\xff\xff\xff\xff\0\0\0\0\0\0\0\0\x01\0\x41\x01\0\xff\xff\xff\xff\xff\xff\xff\xff",
+        "Err(BadEncodingByte)",
+    ),
+    (
+        Kind::ActivateSession,
+        b"\xff\xff\xff\xff\xff\xff\xff\xff\0\0\0\0\0\0\0\0\x01\0\x44\x01\x02\x04\0\0\0\xff\xff\xff\xff\xff\xff\xff\xff\xff\xff\xff\xff",
+        "Err(BadEncodingByte)",
+    ),
+    (
+        Kind::ActivateSession,
+        b"\xff\xff\xff\xff\xff\xff\xff\xff\0\0\0\0\0\0\0\0\x01\0\x41\x01\x01\x05\0\0\0\xff\xff\xff\xff\x09\xff\xff\xff\xff\xff\xff\xff\xff",
+        "Err(BadEncodingByte)",
+    ),
+    // a null body, and one that ends inside the token
+    (
+        Kind::ActivateSession,
+        b"\xff\xff\xff\xff\xff\xff\xff\xff\0\0\0\0\0\0\0\0\x01\0\x41\x01\x01\xff\xff\xff\xff\xff\xff\xff\xff\xff\xff\xff\xff",
+        "Err(Short)",
+    ),
+    (
+        Kind::ActivateSession,
+        b"\xff\xff\xff\xff\xff\xff\xff\xff\0\0\0\0\0\0\0\0\x01\0\x44\x01\x01\x06\0\0\0\xff\xff\xff\xff\x01\0\0\0\xff\xff\xff\xff\xff\xff\xff\xff\xff\xff",
+        "Err(Short)",
+    ),
+];
+
+#[test]
+fn refused_requests(rt: HostRuntime) {
+    for (kind, bytes, want) in REFUSED {
+        let left = left_of(rt.alloc(), kind, bytes, want);
+        assert!(rt; left == Some(bytes.len()), "{want} at {bytes:?}");
+    }
+}
+
+fn text(alloc: Global, text: &str) -> Result<Option<Text>, AllocError> {
+    Ok(Some(Text::from_str(alloc, text)?))
+}
+
+fn server(alloc: Global) -> Result<ApplicationDescription, AllocError> {
+    let mut urls = Vec::new(alloc);
+    urls.push(text(alloc, "u")?)?;
+    Ok(ApplicationDescription {
+        application_uri: text(alloc, "a")?,
+        product_uri: text(alloc, "p")?,
+        application_name: LocalizedText {
+            locale: None,
+            text: text(alloc, "n")?,
+        },
+        application_type: ApplicationType::Server,
+        discovery_urls: Listing::of(urls),
+    })
+}
+
+fn tokens(alloc: Global) -> Result<Listing<UserTokenPolicy>, AllocError> {
+    let mut tokens = Vec::new(alloc);
+    tokens.push(UserTokenPolicy {
+        policy_id: text(alloc, "o")?,
+        token_type: UserTokenType::Anonymous,
+    })?;
+    tokens.push(UserTokenPolicy {
+        policy_id: None,
+        token_type: UserTokenType::UserName,
+    })?;
+    Ok(Listing::of(tokens))
+}
+
+fn endpoints(alloc: Global) -> Result<Listing<EndpointDescription>, AllocError> {
+    let server = server(alloc)?;
+    let user_identity_tokens = tokens(alloc)?;
+    let mut endpoints = Vec::new(alloc);
+    endpoints.push(EndpointDescription {
+        endpoint_url: text(alloc, "u")?,
+        server,
+        security_mode: MessageSecurityMode::None,
+        security_policy_uri: text(alloc, "s")?,
+        user_identity_tokens,
+        transport_profile_uri: text(alloc, "t")?,
+        security_level: 7,
+    })?;
+    Ok(Listing::of(endpoints))
+}
+
+/// An array of that endpoint.
+static ENDPOINTS: &[u8] =
+    b"\x01\0\0\0\x01\0\0\0u\x01\0\0\0a\x01\0\0\0p\x02\x01\0\0\0n\0\0\0\0\xff\xff\xff\xff\xff\xff\xff\xff\x01\0\0\0\x01\0\0\0u\
+    \xff\xff\xff\xff\x01\0\0\0\x01\0\0\0s\x02\0\0\0\x01\0\0\0o\0\0\0\0\xff\xff\xff\xff\xff\xff\xff\xff\xff\xff\xff\xff\
+    \xff\xff\xff\xff\x01\0\0\0\xff\xff\xff\xff\xff\xff\xff\xff\xff\xff\xff\xff\x01\0\0\0t\x07";
+
+/// Whether these endpoints are written as those bytes, counted as so many, and copied.
+fn are_endpoints_written(alloc: Global, endpoints: &[EndpointDescription], bytes: &[u8]) -> bool {
+    if array_size(endpoints) != bytes.len() {
+        return false;
+    }
+    let mut out = Vec::new(alloc);
+    put_get_endpoints_response(&mut out, endpoints).is_ok()
+        && out.as_slice() == bytes
+        && endpoints.iter().all(|endpoint| is_copied(endpoint))
+}
+
+fn is_copied(endpoint: &EndpointDescription) -> bool {
+    endpoint.try_clone().is_ok_and(|copy| copy == *endpoint)
+}
+
+/// Whether a session of these endpoints is written as these bytes round theirs.
+fn is_session_written(alloc: Global, endpoints: &[EndpointDescription]) -> bool {
+    if array_size(endpoints) != ENDPOINTS.len() {
+        return false;
+    }
+    let made = CreateSessionResponse {
+        session_id: NodeId::Numeric(1, 2),
+        authentication_token: NodeId::Numeric(1, 3),
+        timeout: [0, 0, 0, 0, 0, 0, 240, 63],
+        endpoints,
+        max_request_size: 4_194_304,
+    };
+    let mut out = Vec::new(alloc);
+    let front = b"\x01\x01\x02\0\x01\x01\x03\0\0\0\0\0\0\0\xf0\x3f\xff\xff\xff\xff\xff\xff\xff\xff";
+    let back = b"\xff\xff\xff\xff\xff\xff\xff\xff\xff\xff\xff\xff\0\0\x40\0";
+    put_create_session_response(&mut out, &made).is_ok()
+        && out.starts_with(front)
+        && out[front.len()..].starts_with(ENDPOINTS)
+        && out.ends_with(back)
+        && out.len() == front.len() + ENDPOINTS.len() + back.len()
+}
+
+#[test]
+fn written_endpoints(rt: HostRuntime) -> Result<(), AllocError> {
+    let mut none = Vec::new(rt.alloc());
+    assert!(rt; put_get_endpoints_response(&mut none, &[]).is_ok());
+    assert_eq!(rt; none.as_slice(), [0, 0, 0, 0].as_slice());
+    let endpoints = endpoints(rt.alloc())?;
+    assert!(rt; are_endpoints_written(rt.alloc(), endpoints.as_slice(), ENDPOINTS));
+    assert!(rt; is_session_written(rt.alloc(), endpoints.as_slice()));
+    Ok(())
+}
+
+#[test]
+fn written_activations(rt: HostRuntime) {
+    let mut out = Vec::new(rt.alloc());
+    assert!(rt; put_activate_session_response(&mut out).is_ok());
+    assert_eq!(rt; out.as_slice(), [255; 12].as_slice());
+}
