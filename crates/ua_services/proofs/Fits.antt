@@ -7,9 +7,10 @@ use Rattle.std.specs.List.{All, AllByRecursion}
 use Rattle.std.specs.Int.{w32}
 use Rattle.std.specs.Int.RustNames.{FitsSigned}
 use Rattle.ua_binary.specs.Format.{Format}
-use Rattle.ua_binary.specs.Binary.{unsigned, signed, text, IsText, localized, IsLocalized, node_id, IsNodeId}
+use Rattle.ua_binary.specs.Binary.{unsigned, signed, status, text, IsText, localized, IsLocalized, node_id, IsNodeId}
 use Rattle.ua_binary.specs.declared.values.LocalizedText.{LocalizedText}
 use Rattle.ua_binary.specs.declared.values.NodeId.{NodeId}
+use Rattle.ua_binary.specs.declared.values.Status.{Status}
 use Rattle.ua_binary.proofs.Sizes.{byte_string_length, no_byte_string_length, text_length, no_text_length, array_length}
 use Rattle.ua_binary.specs.declared.fault.BinaryFault.{BinaryFault}
 use Rattle.ua_services.specs.Unkept.{many, AreFew}
@@ -77,7 +78,11 @@ pub u32_is : (n : ℕ) → (unsigned w32).Fits n → n < 2 ^ 32
 unfolding unsigned
 u32_is n h = h
 
-pub ruleset fits = (application_fits, mode_fits, token_fits, text_is, localized_is, node_is, u32_is)
+pub status_is : (v : Status) → status.Fits v → v.0 < 2 ^ 32
+unfolding status unsigned
+status_is v h = h
+
+pub ruleset fits = (status_is, application_fits, mode_fits, token_fits, text_is, localized_is, node_is, u32_is)
 
 -- what stands for itself
 pub all_same : {A : Type 0} (l : List A) → map (λ x. x) l ≡ l

@@ -2,3 +2,4 @@ pub mod Skipped
 pub mod Unkept
 pub mod Lawful
 pub mod Fits
+pub mod UpdatesLawful

@@ -7,12 +7,15 @@ use Rattle.ua_binary.specs.declared.fault.BinaryFault.{BinaryFault}
 use Rattle.ua_binary.specs.declared.fault.BinaryFault.TheVariants.{BadEncodingByte}
 use Rattle.ua_binary.specs.Format.{◌>>=◌, Format, IsLawful, byte}
 use Rattle.ua_binary.specs.Binary.{unsigned, signed, byte_string, array}
-use Rattle.ua_binary.proofs.Combined.{bind_ok, ok_is, Found, exactly_lawful, byte_lawful, then_lawful, standing_lawful, passing_lawful, fitting_lawful}
+use Rattle.ua_binary.proofs.Combined.{bind_ok, ok_is, Found, exactly_lawful, byte_lawful, then_lawful, standing_lawful, passing_lawful, fitting_lawful, raised_lawful}
 use Rattle.ua_binary.proofs.Elements.{IsItemLawful}
 use Rattle.ua_binary.proofs.Lawful.{i32_lawful, byte_string_lawful, array_of_items}
 use Rattle.ua_binary.proofs.Spelled.{inside_lawful}
 use Rattle.ua_services.specs.Unkept.{unkept, ◌▹◌, ◌◃◌, many, AreFew, unkept_array, null}
-use Rattle.ua_services.specs.Structure.{binary_body, structure}
+use Rattle.ua_variant.specs.declared.fault.VariantFault.{VariantFault}
+use Rattle.ua_variant.specs.declared.fault.VariantFault.TheVariants as variant
+use Rattle.ua_variant.specs.Raise.{variant_fault}
+use Rattle.ua_services.specs.Structure.{binary_body, structure, structure_with_values}
 
 pub unkept_lawful : {E A : Type 0} (a : A) {f : Format E A} → IsLawful f → IsLawful (unkept a f)
 unkept_lawful a p = fitting_lawful _ (λ v h. (h, refl)) (standing_lawful (λ _. tt) (λ _. a) p)
@@ -55,3 +58,6 @@ binary_body_lawful = standing_lawful _ _ (then_lawful (passing_lawful _ BadEncod
 
 pub structure_lawful : {A : Type 0} {f : Format BinaryFault A} → IsLawful f → IsLawful (structure f)
 structure_lawful p = inside_lawful BadEncodingByte binary_body_lawful p
+
+pub structure_with_values_lawful : {A : Type 0} {f : Format VariantFault A} → IsLawful f → IsLawful (structure_with_values f)
+structure_with_values_lawful p = inside_lawful variant.BadEncodingByte (raised_lawful variant_fault binary_body_lawful) p

@@ -2,3 +2,4 @@ pub mod Unkept
 pub mod Structure
 pub mod Endpoints
 pub mod Sessions
+pub mod Updates

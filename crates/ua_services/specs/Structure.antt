@@ -6,6 +6,9 @@ use Rattle.ua_binary.specs.declared.values.NodeId.{NodeId}
 use Rattle.ua_binary.specs.declared.values.NodeId.TheVariants.{Numeric}
 use Rattle.ua_binary.specs.Format.{Format, byte, ◌▸◌, passing, standing_for, inside}
 use Rattle.ua_binary.specs.Binary.{byte_string}
+use Rattle.ua_variant.specs.declared.fault.VariantFault.{VariantFault}
+use Rattle.ua_variant.specs.declared.fault.VariantFault.TheVariants as variant
+use Rattle.ua_variant.specs.Variant.{raise}
 
 -- the type with this id in namespace 0
 abbrev pub is_type : ℕ → NodeId → Bool
@@ -19,3 +22,7 @@ binary_body = standing_for (λ p. unwrap_or p.1 []) (λ bytes. (1, Some bytes)) 
 -- a structure that fills a binary body: what is left of the body has no meaning
 abbrev pub structure : {A : Type 0} → Format BinaryFault A → Format BinaryFault A
 structure f = inside BadEncodingByte binary_body f
+
+-- the same of a structure in which values of any type stand
+abbrev pub structure_with_values : {A : Type 0} → Format VariantFault A → Format VariantFault A
+structure_with_values f = inside variant.BadEncodingByte (raise binary_body) f

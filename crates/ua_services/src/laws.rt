@@ -3,10 +3,11 @@
 ghost use Rattle.ua_binary.specs.Format.{IsLawful, IsPrefixFree};
 ghost use Rattle.ua_services.specs.Endpoints.{application_description, user_token_policy, endpoint_description, get_endpoints_request, get_endpoints_response};
 ghost use Rattle.ua_services.specs.Sessions.{user_identity, create_session_request, create_session_response, activate_session_request, activate_session_response, close_session_request};
+ghost use Rattle.ua_services.specs.Updates.{update_data_details, delete_raw_modified_details, delete_at_time_details, history_update_details, history_update_request, history_update_result, history_update_response};
 
 /// What is read is spelled there; what is spelled is read, whatever follows; and what is written is a
 /// spelling.
-#[tactic(auto, using(crate::proofs::Lawful::lawful))]
+#[tactic(auto, using(crate::proofs::Lawful::lawful, crate::proofs::UpdatesLawful::updates))]
 pub fn formats_are_lawful()
     ensures application_description { IsLawful application_description }
     ensures user_token_policy { IsLawful user_token_policy }
@@ -19,11 +20,18 @@ pub fn formats_are_lawful()
     ensures activate_session_request { IsLawful activate_session_request }
     ensures activate_session_response { IsLawful activate_session_response }
     ensures close_session_request { IsLawful close_session_request }
+    ensures update_data_details { IsLawful update_data_details }
+    ensures delete_raw_modified_details { IsLawful delete_raw_modified_details }
+    ensures delete_at_time_details { IsLawful delete_at_time_details }
+    ensures history_update_details { IsLawful history_update_details }
+    ensures history_update_request { IsLawful history_update_request }
+    ensures history_update_result { IsLawful history_update_result }
+    ensures history_update_response { IsLawful history_update_response }
 {}
 
 /// No spelling is the front of another, and no two values have one spelling: so what was written is
 /// read again, whatever follows.
-#[tactic(auto, using(ua_binary::proofs::Spelled::prefix_free, crate::proofs::Lawful::lawful))]
+#[tactic(auto, using(ua_binary::proofs::Spelled::prefix_free, crate::proofs::Lawful::lawful, crate::proofs::UpdatesLawful::updates))]
 pub fn formats_are_prefix_free()
     ensures application_description { IsPrefixFree application_description }
     ensures user_token_policy { IsPrefixFree user_token_policy }
@@ -36,4 +44,11 @@ pub fn formats_are_prefix_free()
     ensures activate_session_request { IsPrefixFree activate_session_request }
     ensures activate_session_response { IsPrefixFree activate_session_response }
     ensures close_session_request { IsPrefixFree close_session_request }
+    ensures update_data_details { IsPrefixFree update_data_details }
+    ensures delete_raw_modified_details { IsPrefixFree delete_raw_modified_details }
+    ensures delete_at_time_details { IsPrefixFree delete_at_time_details }
+    ensures history_update_details { IsPrefixFree history_update_details }
+    ensures history_update_request { IsPrefixFree history_update_request }
+    ensures history_update_result { IsPrefixFree history_update_result }
+    ensures history_update_response { IsPrefixFree history_update_response }
 {}

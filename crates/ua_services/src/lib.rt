@@ -13,6 +13,7 @@ mod many;
 mod sessions;
 mod skipping;
 mod structure;
+mod updates;
 
 pub use endpoints::{
     ApplicationDescription, ApplicationType, EndpointDescription, GetEndpointsRequest,
@@ -25,6 +26,10 @@ pub use sessions::{
     ActivateSessionRequest, CloseSessionRequest, CreateSessionRequest, CreateSessionResponse,
     put_activate_session_response, put_create_session_response, read_activate_session_request,
     read_close_session_request, read_create_session_request,
+};
+pub use updates::{
+    DeleteAtTimeDetails, DeleteRawModifiedDetails, HistoryUpdateDetails, HistoryUpdateRequest,
+    HistoryUpdateResult, UpdateDataDetails, put_history_update_response, read_history_update_request,
 };
 
 #[cfg(test)]
