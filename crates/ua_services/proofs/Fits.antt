@@ -1,5 +1,5 @@
 -- What is written has a spelling: enumerations, and arrays of what has one.
-use Rattle.std.proofs.Common.{◌≡◌, ℕ, ◌<◌, ◌^◌, ◌+◌, ℤ, List, [], ◌∷◌, ◌++◌, length, map, Option, None, Result, Ok, Err, IfOk, refl, arith}
+use Rattle.std.proofs.Common.{◌≡◌, ℕ, ◌<◌, ◌^◌, ◌+◌, ℤ, List, [], ◌∷◌, ◌++◌, length, map, Bool, Option, None, Result, Ok, Err, IfOk, refl, arith}
 use Rattle.std.proofs.lemmas.Int.{ints}
 use Rattle.std.proofs.lemmas.List.Elements.{recursion_from_All}
 use Rattle.std.proofs.lemmas.List.{length-map, length-append, map-id}
@@ -7,12 +7,18 @@ use Rattle.std.specs.List.{All, AllByRecursion}
 use Rattle.std.specs.Int.{w32}
 use Rattle.std.specs.Int.RustNames.{FitsSigned}
 use Rattle.ua_binary.specs.Format.{Format}
-use Rattle.ua_binary.specs.Binary.{unsigned, signed, status, text, IsText, localized, IsLocalized, node_id, IsNodeId}
+use Rattle.ua_binary.specs.Binary.{unsigned, signed, boolean, status, text, IsText, localized, IsLocalized, qualified, IsQualified, node_id, IsNodeId}
 use Rattle.ua_binary.specs.declared.values.LocalizedText.{LocalizedText}
 use Rattle.ua_binary.specs.declared.values.NodeId.{NodeId}
+use Rattle.ua_binary.specs.declared.values.QualifiedName.{QualifiedName}
+use Rattle.ua_services.specs.Browsing.{class_number, ReferenceFields, reference_description}
+use Rattle.ua_services.specs.declared.browsing.NodeClass.{NodeClass}
+use Rattle.ua_services.specs.declared.browsing.NodeClass.TheVariants.{Unspecified, Object, Variable, Method, ObjectType, VariableType, ReferenceType, DataType, View}
 use Rattle.ua_binary.specs.declared.values.Status.{Status}
 use Rattle.ua_binary.proofs.Sizes.{byte_string_length, no_byte_string_length, text_length, no_text_length, array_length}
 use Rattle.ua_binary.specs.declared.fault.BinaryFault.{BinaryFault}
+use Rattle.ua_variant.specs.DataValue.{data_value, IsDataValue}
+use Rattle.ua_variant.specs.declared.data.DataValue.{DataValue}
 use Rattle.ua_services.specs.Unkept.{many, AreFew}
 use Rattle.ua_services.specs.Endpoints.{ApplicationFields, application_description, application_number, mode_number, token_number}
 use Rattle.ua_services.specs.declared.endpoints.ApplicationType.{ApplicationType}
@@ -82,7 +88,26 @@ pub status_is : (v : Status) → status.Fits v → v.0 < 2 ^ 32
 unfolding status unsigned
 status_is v h = h
 
-pub ruleset fits = (status_is, application_fits, mode_fits, token_fits, text_is, localized_is, node_is, u32_is)
+pub qualified_is : (v : QualifiedName) → qualified.Fits v → IsQualified v
+unfolding qualified
+qualified_is v h = h
+
+pub class_fits : (c : NodeClass) → FitsSigned w32 (class_number c)
+class_fits Unspecified = omega (arith, ints)
+class_fits Object = omega (arith, ints)
+class_fits Variable = omega (arith, ints)
+class_fits Method = omega (arith, ints)
+class_fits ObjectType = omega (arith, ints)
+class_fits VariableType = omega (arith, ints)
+class_fits ReferenceType = omega (arith, ints)
+class_fits DataType = omega (arith, ints)
+class_fits View = omega (arith, ints)
+
+pub data_fits : (v : DataValue) → IsDataValue v → data_value.Fits v
+unfolding data_value
+data_fits v h = h
+
+pub ruleset fits = (qualified_is, class_fits, status_is, application_fits, mode_fits, token_fits, text_is, localized_is, node_is, u32_is)
 
 -- what stands for itself
 pub all_same : {A : Type 0} (l : List A) → map (λ x. x) l ≡ l
@@ -102,4 +127,19 @@ application_length v =
     let kind = (signed w32).canon v.1.1.1.0 in
     omega (arith, number_length v.1.1.1.0, no_text_length, length-append (text.canon None) urls, length-append (text.canon None) (text.canon None ++ urls), length-append kind more, length-append (localized.canon v.1.1.0) (kind ++ more), length-append (text.canon v.1.0) (localized.canon v.1.1.0 ++ (kind ++ more)), length-append (text.canon v.0) (text.canon v.1.0 ++ (localized.canon v.1.1.0 ++ (kind ++ more))))
 
-pub ruleset lengths = (application_length, byte_string_length, no_byte_string_length, text_length, no_text_length, array_length, length-append, number_length)
+pub boolean_length : (b : Bool) → length (boolean.canon b) ≡ 1
+unfolding boolean
+boolean_length b = refl
+
+pub reference_length : (v : ReferenceFields) → length (reference_description.canon v) ≡ length (node_id.canon v.0) + (5 + (length (node_id.canon v.1.1.0) + (length (qualified.canon v.1.1.1.0) + (length (localized.canon v.1.1.1.1.0) + length (node_id.canon v.1.1.1.1.1.1)))))
+unfolding reference_description
+reference_length v =
+    let last = node_id.canon v.1.1.1.1.1.1 in
+    let kind = (signed w32).canon v.1.1.1.1.1.0 in
+    let display = localized.canon v.1.1.1.1.0 in
+    let name = qualified.canon v.1.1.1.0 in
+    let node = node_id.canon v.1.1.0 in
+    let way = boolean.canon v.1.0 in
+    omega (arith, number_length v.1.1.1.1.1.0, boolean_length v.1.0, length-append kind last, length-append display (kind ++ last), length-append name (display ++ (kind ++ last)), length-append node (name ++ (display ++ (kind ++ last))), length-append way (node ++ (name ++ (display ++ (kind ++ last)))), length-append (node_id.canon v.0) (way ++ (node ++ (name ++ (display ++ (kind ++ last))))))
+
+pub ruleset lengths = (reference_length, boolean_length, application_length, byte_string_length, no_byte_string_length, text_length, no_text_length, array_length, length-append, number_length)

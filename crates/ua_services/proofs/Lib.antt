@@ -3,3 +3,4 @@ pub mod Unkept
 pub mod Lawful
 pub mod Fits
 pub mod UpdatesLawful
+pub mod ReadsLawful

@@ -29,9 +29,12 @@ closed_lawful p q = fitting_lawful _ (λ v h. (h, refl)) (standing_lawful _ _ (t
 pub many_lawful : {A : Type 0} {f : Format BinaryFault A} → IsItemLawful f → IsLawful (many f)
 many_lawful p = array_of_items (λ e. e) p
 
-pub many_fits : {A : Type 0} (f : Format BinaryFault A) (vs : List A) → AreFew f vs → (many f).Fits vs
+pub array_fits : {E A : Type 0} (told : BinaryFault → E) (f : Format E A) (vs : List A) → AreFew f vs → (array told f).Fits vs
 unfolding array signed
-many_fits f vs h = (omega (arith, h.0), (h.1, refl))
+array_fits told f vs h = (omega (arith, h.0), (h.1, refl))
+
+pub many_fits : {A : Type 0} (f : Format BinaryFault A) (vs : List A) → AreFew f vs → (many f).Fits vs
+many_fits f vs h = array_fits (λ e. e) f vs h
 
 null_spelled : {A : Type 0} (f : Format BinaryFault A) → (many f).Spells ((signed w32).canon (negsuc 0)) []
 unfolding array signed unsigned

@@ -3,3 +3,5 @@ pub mod Structure
 pub mod Endpoints
 pub mod Sessions
 pub mod Updates
+pub mod Browsing
+pub mod Attributes

@@ -6,6 +6,8 @@
 //! ends with it is told by the cursor.
 #![tactic(auto)]
 
+mod attributes;
+mod browsing;
 mod endpoints;
 mod identity;
 mod laws;
@@ -15,6 +17,13 @@ mod skipping;
 mod structure;
 mod updates;
 
+pub use attributes::{
+    ReadRequest, ReadValueId, TimestampsToReturn, put_read_response, read_read_request,
+};
+pub use browsing::{
+    BrowseDescription, BrowseDirection, BrowseRequest, BrowseResult, NodeClass,
+    ReferenceDescription, put_browse_response, read_browse_request,
+};
 pub use endpoints::{
     ApplicationDescription, ApplicationType, EndpointDescription, GetEndpointsRequest,
     MessageSecurityMode, UserTokenPolicy, UserTokenType, put_get_endpoints_response,
