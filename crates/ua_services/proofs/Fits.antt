@@ -4,13 +4,17 @@ use Rattle.std.proofs.lemmas.Int.{ints}
 use Rattle.std.proofs.lemmas.List.Elements.{recursion_from_All}
 use Rattle.std.proofs.lemmas.List.{length-map, length-append, map-id}
 use Rattle.std.specs.List.{All, AllByRecursion}
-use Rattle.std.specs.Int.{w32}
+use Rattle.std.specs.Int.{w32, w64}
 use Rattle.std.specs.Int.RustNames.{FitsSigned}
 use Rattle.ua_binary.specs.Format.{Format}
-use Rattle.ua_binary.specs.Binary.{unsigned, signed, boolean, status, text, IsText, localized, IsLocalized, qualified, IsQualified, node_id, IsNodeId}
+use Rattle.ua_binary.specs.Binary.{unsigned, signed, boolean, ticks, status, text, IsText, localized, IsLocalized, qualified, IsQualified, node_id, IsNodeId}
 use Rattle.ua_binary.specs.declared.values.LocalizedText.{LocalizedText}
 use Rattle.ua_binary.specs.declared.values.NodeId.{NodeId}
 use Rattle.ua_binary.specs.declared.values.QualifiedName.{QualifiedName}
+use Rattle.ua_binary.specs.declared.values.Ticks.{Ticks}
+use Rattle.ua_services.specs.History.{update_number, HistoryFields, IsHistoryRead, history_read_result}
+use Rattle.ua_services.specs.declared.history.HistoryUpdateType.{HistoryUpdateType}
+use Rattle.ua_services.specs.declared.history.HistoryUpdateType.TheVariants.{Insert, Replace, Update, Delete}
 use Rattle.ua_services.specs.Browsing.{class_number, ReferenceFields, reference_description}
 use Rattle.ua_services.specs.declared.browsing.NodeClass.{NodeClass}
 use Rattle.ua_services.specs.declared.browsing.NodeClass.TheVariants.{Unspecified, Object, Variable, Method, ObjectType, VariableType, ReferenceType, DataType, View}
@@ -49,7 +53,7 @@ each_fits P view [] h = tt
 each_fits P view (v ∷ vs) h = (h.0, each_fits P view vs h.1)
 
 -- few enough items, each with a spelling
-few_fit : {E A V : Type 0} (view : V → A) (f : Format E A) (vs : List V) → length vs < 2 ^ 31 → All (λ v. f.Fits (view v)) vs → AreFew f (map view vs)
+pub few_fit : {E A V : Type 0} (view : V → A) (f : Format E A) (vs : List V) → length vs < 2 ^ 31 → All (λ v. f.Fits (view v)) vs → AreFew f (map view vs)
 few_fit view f vs lt h = (omega (arith, lt, length-map vs view), each_fits f.Fits view vs (recursion_from_All (λ v. f.Fits (view v)) vs h))
 
 -- few enough items, each of which may be written
@@ -107,7 +111,21 @@ pub data_fits : (v : DataValue) → IsDataValue v → data_value.Fits v
 unfolding data_value
 data_fits v h = h
 
-pub ruleset fits = (qualified_is, class_fits, status_is, application_fits, mode_fits, token_fits, text_is, localized_is, node_is, u32_is)
+pub update_fits : (t : HistoryUpdateType) → FitsSigned w32 (update_number t)
+update_fits Insert = omega (arith, ints)
+update_fits Replace = omega (arith, ints)
+update_fits Update = omega (arith, ints)
+update_fits Delete = omega (arith, ints)
+
+pub ticks_is : (t : Ticks) → ticks.Fits t → FitsSigned w64 t.0
+unfolding ticks
+ticks_is t h = h
+
+pub history_fits : (v : HistoryFields) → IsHistoryRead v → history_read_result.Fits v
+unfolding history_read_result
+history_fits v h = h
+
+pub ruleset fits = (update_fits, ticks_is, qualified_is, class_fits, status_is, application_fits, mode_fits, token_fits, text_is, localized_is, node_is, u32_is)
 
 -- what stands for itself
 pub all_same : {A : Type 0} (l : List A) → map (λ x. x) l ≡ l
@@ -142,4 +160,8 @@ reference_length v =
     let way = boolean.canon v.1.0 in
     omega (arith, number_length v.1.1.1.1.1.0, boolean_length v.1.0, length-append kind last, length-append display (kind ++ last), length-append name (display ++ (kind ++ last)), length-append node (name ++ (display ++ (kind ++ last))), length-append way (node ++ (name ++ (display ++ (kind ++ last)))), length-append (node_id.canon v.0) (way ++ (node ++ (name ++ (display ++ (kind ++ last))))))
 
-pub ruleset lengths = (reference_length, boolean_length, application_length, byte_string_length, no_byte_string_length, text_length, no_text_length, array_length, length-append, number_length)
+pub ticks_length : (t : Ticks) → length (ticks.canon t) ≡ 8
+unfolding ticks signed unsigned
+ticks_length t = refl
+
+pub ruleset lengths = (ticks_length, reference_length, boolean_length, application_length, byte_string_length, no_byte_string_length, text_length, no_text_length, array_length, length-append, number_length)

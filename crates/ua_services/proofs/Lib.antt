@@ -4,3 +4,4 @@ pub mod Lawful
 pub mod Fits
 pub mod UpdatesLawful
 pub mod ReadsLawful
+pub mod Canons

@@ -5,3 +5,4 @@ pub mod Sessions
 pub mod Updates
 pub mod Browsing
 pub mod Attributes
+pub mod History

@@ -1,7 +1,7 @@
 //! What a Read asks and answers (Part 4, 5.10.2).
 
-ghost use Rattle.std.specs.Prelude.{◌≡◌, map, IfOk};
-ghost use Rattle.ua_binary.specs.Format.{Puts, PutsPart, Reads, ReadsUnless};
+ghost use Rattle.std.specs.Prelude.{◌≡◌, length, map, IfOk};
+ghost use Rattle.ua_binary.specs.Format.{Puts, PutsPart, Reads, ReadsUnless, saturated};
 ghost use Rattle.ua_variant.specs.DataValue.{data_value};
 ghost use Rattle.ua_services.specs.Unkept.{AreFew};
 ghost use Rattle.ua_services.specs.Attributes.{timestamps_of, timestamps, ReadFields, read_fields, read_value_id, read_asked, read_request, data_values, AreShortValues, read_response};
@@ -130,6 +130,18 @@ pub(crate) fn put_data_values(out: &mut Vec<u8>, values: &[DataValue]) -> Result
     let len = out.len();
     let put = put_data_values_parts(out, values);
     or_undone(put, out, len)
+}
+
+/// How many bytes of that array are written, or 2^64 - 1 where there are more. It takes no memory.
+#[tactic(auto, using(crate::proofs::Fits::lengths))]
+pub(crate) fn data_values_size(values: &[DataValue]) -> usize
+    ensures { result ≡ saturated (length (data_values.canon values.now)) }
+{
+    let mut size = 4usize;
+    for value in values {
+        size = size.saturating_add(value.size());
+    }
+    size
 }
 
 #[tactic(auto, using(ua_binary::proofs::Kept::kept), unfolding(crate::specs::Attributes::read_response))]

@@ -9,6 +9,7 @@
 mod attributes;
 mod browsing;
 mod endpoints;
+mod history;
 mod identity;
 mod laws;
 mod many;
@@ -28,6 +29,11 @@ pub use endpoints::{
     ApplicationDescription, ApplicationType, EndpointDescription, GetEndpointsRequest,
     MessageSecurityMode, UserTokenPolicy, UserTokenType, put_get_endpoints_response,
     read_get_endpoints_request,
+};
+pub use history::{
+    HistoryData, HistoryReadDetails, HistoryReadRequest, HistoryReadResult, HistoryReadValueId,
+    HistoryUpdateType, ModificationInfo, ReadRawModifiedDetails,
+    put_history_read_response, read_history_read_request,
 };
 pub use identity::IdentityToken;
 pub use laws::{formats_are_lawful, formats_are_prefix_free};
