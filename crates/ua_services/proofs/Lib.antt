@@ -5,3 +5,4 @@ pub mod Fits
 pub mod UpdatesLawful
 pub mod ReadsLawful
 pub mod Canons
+pub mod HistoryLawful

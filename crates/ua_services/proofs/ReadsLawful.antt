@@ -46,7 +46,7 @@ pub browse_response_lawful : IsLawful browse_response
 unfolding browse_response
 browse_response_lawful = fitting_lawful _ (λ v h. (many_fits browse_result v h, tt)) (closed_lawful (many_lawful browsed_item) null_lawful)
 
-timestamps_lawful : IsLawful timestamps
+pub timestamps_lawful : IsLawful timestamps
 unfolding timestamps
 timestamps_lawful = standing_lawful timestamps_of timestamps_number i32_lawful
 

@@ -6,10 +6,11 @@ ghost use Rattle.ua_services.specs.Sessions.{user_identity, create_session_reque
 ghost use Rattle.ua_services.specs.Updates.{update_data_details, delete_raw_modified_details, delete_at_time_details, history_update_details, history_update_request, history_update_result, history_update_response};
 ghost use Rattle.ua_services.specs.Browsing.{browse_description, browse_request, reference_description, browse_result, browse_response};
 ghost use Rattle.ua_services.specs.Attributes.{read_value_id, read_request, read_response};
+ghost use Rattle.ua_services.specs.History.{read_raw_modified_details, history_read_details, history_read_value_id, history_read_request, modification_info, history_data, history_read_result, history_read_response};
 
 /// What is read is spelled there; what is spelled is read, whatever follows; and what is written is a
 /// spelling.
-#[tactic(auto, using(crate::proofs::Lawful::lawful, crate::proofs::UpdatesLawful::updates, crate::proofs::ReadsLawful::reads))]
+#[tactic(auto, using(crate::proofs::Lawful::lawful, crate::proofs::UpdatesLawful::updates, crate::proofs::ReadsLawful::reads, crate::proofs::HistoryLawful::history))]
 pub fn formats_are_lawful()
     ensures application_description { IsLawful application_description }
     ensures user_token_policy { IsLawful user_token_policy }
@@ -37,11 +38,19 @@ pub fn formats_are_lawful()
     ensures read_value_id { IsLawful read_value_id }
     ensures read_request { IsLawful read_request }
     ensures read_response { IsLawful read_response }
+    ensures read_raw_modified_details { IsLawful read_raw_modified_details }
+    ensures history_read_details { IsLawful history_read_details }
+    ensures history_read_value_id { IsLawful history_read_value_id }
+    ensures history_read_request { IsLawful history_read_request }
+    ensures modification_info { IsLawful modification_info }
+    ensures history_data { IsLawful history_data }
+    ensures history_read_result { IsLawful history_read_result }
+    ensures history_read_response { IsLawful history_read_response }
 {}
 
 /// No spelling is the front of another, and no two values have one spelling: so what was written is
 /// read again, whatever follows.
-#[tactic(auto, using(ua_binary::proofs::Spelled::prefix_free, crate::proofs::Lawful::lawful, crate::proofs::UpdatesLawful::updates, crate::proofs::ReadsLawful::reads))]
+#[tactic(auto, using(ua_binary::proofs::Spelled::prefix_free, crate::proofs::Lawful::lawful, crate::proofs::UpdatesLawful::updates, crate::proofs::ReadsLawful::reads, crate::proofs::HistoryLawful::history))]
 pub fn formats_are_prefix_free()
     ensures application_description { IsPrefixFree application_description }
     ensures user_token_policy { IsPrefixFree user_token_policy }
@@ -69,4 +78,12 @@ pub fn formats_are_prefix_free()
     ensures read_value_id { IsPrefixFree read_value_id }
     ensures read_request { IsPrefixFree read_request }
     ensures read_response { IsPrefixFree read_response }
+    ensures read_raw_modified_details { IsPrefixFree read_raw_modified_details }
+    ensures history_read_details { IsPrefixFree history_read_details }
+    ensures history_read_value_id { IsPrefixFree history_read_value_id }
+    ensures history_read_request { IsPrefixFree history_read_request }
+    ensures modification_info { IsPrefixFree modification_info }
+    ensures history_data { IsPrefixFree history_data }
+    ensures history_read_result { IsPrefixFree history_read_result }
+    ensures history_read_response { IsPrefixFree history_read_response }
 {}
