@@ -1,5 +1,5 @@
 -- What is written of a node's history.
-use Rattle.std.proofs.Common.{◌≡◌, ℕ, pos, List, [], ◌∷◌, ◌++◌, length, refl}
+use Rattle.std.proofs.Common.{◌≡◌, pos, List, [], ◌∷◌, ◌++◌, length, refl}
 use Rattle.std.specs.Int.{w32}
 use Rattle.ua_binary.specs.Binary.{signed, byte_string, node_id}
 use Rattle.ua_binary.specs.declared.values.NodeId.TheVariants.{Numeric}

@@ -20,7 +20,6 @@ use Rattle.ua_services.specs.declared.browsing.NodeClass.{NodeClass}
 use Rattle.ua_services.specs.declared.browsing.NodeClass.TheVariants.{Unspecified, Object, Variable, Method, ObjectType, VariableType, ReferenceType, DataType, View}
 use Rattle.ua_binary.specs.declared.values.Status.{Status}
 use Rattle.ua_binary.proofs.Sizes.{byte_string_length, no_byte_string_length, text_length, no_text_length, array_length}
-use Rattle.ua_binary.specs.declared.fault.BinaryFault.{BinaryFault}
 use Rattle.ua_variant.specs.DataValue.{data_value, IsDataValue}
 use Rattle.ua_variant.specs.declared.data.DataValue.{DataValue}
 use Rattle.ua_services.specs.Unkept.{many, AreFew}

@@ -1,5 +1,5 @@
 -- The formats of HistoryRead are lawful.
-use Rattle.std.proofs.Common.{◌≡◌, refl, arith}
+use Rattle.std.proofs.Common.{refl, arith}
 use Rattle.ua_binary.specs.Format.{IsLawful}
 use Rattle.ua_binary.specs.Binary.{unsigned, signed, text, byte_string, ticks, status, node_id}
 use Rattle.ua_binary.specs.declared.values.NodeId.{NodeId}

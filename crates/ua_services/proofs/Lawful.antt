@@ -1,5 +1,5 @@
 -- The formats of the services are lawful.
-use Rattle.std.proofs.Common.{None, refl, arith}
+use Rattle.std.proofs.Common.{None, refl}
 use Rattle.ua_binary.specs.Format.{IsLawful}
 use Rattle.ua_binary.specs.Binary.{unsigned, signed, text, byte_string, localized, node_id}
 use Rattle.ua_binary.specs.declared.values.NodeId.{NodeId}

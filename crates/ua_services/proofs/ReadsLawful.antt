@@ -1,5 +1,5 @@
 -- The formats of Browse and Read are lawful.
-use Rattle.std.proofs.Common.{None, refl}
+use Rattle.std.proofs.Common.{None}
 use Rattle.ua_binary.specs.Format.{IsLawful}
 use Rattle.ua_binary.specs.Binary.{unsigned, signed, boolean, status, node_id, qualified, localized, byte_string}
 use Rattle.ua_binary.proofs.Combined.{block_lawful, then_lawful, standing_lawful, fitting_lawful, raised_lawful}
@@ -7,7 +7,7 @@ use Rattle.ua_binary.proofs.Elements.{IsItemLawful, then_item, fitting_item}
 use Rattle.ua_binary.proofs.Lawful.{u32_lawful, i32_lawful, boolean_lawful, ticks_lawful, text_lawful, byte_string_lawful, status_item, node_id_lawful, node_id_item, qualified_lawful, localized_lawful, array_of_items}
 use Rattle.ua_variant.specs.Raise.{variant_fault}
 use Rattle.ua_variant.specs.DataValue.{data_value}
-use Rattle.ua_services.specs.Browsing.{browse_direction, direction_of, direction_number, browse_description, view_description, no_view, browse_request, IsReference, reference_description, IsBrowsed, browse_result, browse_response}
+use Rattle.ua_services.specs.Browsing.{browse_direction, direction_of, direction_number, browse_description, no_view, browse_request, IsReference, reference_description, IsBrowsed, browse_result, browse_response}
 use Rattle.ua_services.specs.Attributes.{timestamps, timestamps_of, timestamps_number, read_value_id, no_age, read_request, data_values, read_response}
 use Rattle.ua_services.proofs.Unkept.{unkept_lawful, past_lawful, closed_lawful, many_lawful, array_fits, many_fits, null_lawful}
 use Rattle.ua_services.proofs.UpdatesLawful.{data_value_item}

@@ -1,12 +1,10 @@
 -- Formats with fields that aren't kept are lawful.
-use Rattle.std.proofs.Common.{◌≡◌, ℕ, ◌<◌, ◌^◌, negsuc, List, [], ◌++◌, length, map, Ok, refl, subst, arith}
-use Rattle.std.proofs.lemmas.List.Elements.{recursion_from_All}
-use Rattle.std.specs.List.{All, AllByRecursion}
+use Rattle.std.proofs.Common.{negsuc, List, [], Ok, refl, subst, arith}
 use Rattle.std.specs.Int.{w32}
 use Rattle.ua_binary.specs.declared.fault.BinaryFault.{BinaryFault}
 use Rattle.ua_binary.specs.declared.fault.BinaryFault.TheVariants.{BadEncodingByte}
-use Rattle.ua_binary.specs.Format.{◌>>=◌, Format, IsLawful, byte}
-use Rattle.ua_binary.specs.Binary.{unsigned, signed, byte_string, array}
+use Rattle.ua_binary.specs.Format.{Format, IsLawful}
+use Rattle.ua_binary.specs.Binary.{unsigned, signed, array}
 use Rattle.ua_binary.proofs.Combined.{bind_ok, ok_is, Found, exactly_lawful, byte_lawful, then_lawful, standing_lawful, passing_lawful, fitting_lawful, raised_lawful}
 use Rattle.ua_binary.proofs.Elements.{IsItemLawful}
 use Rattle.ua_binary.proofs.Lawful.{i32_lawful, byte_string_lawful, array_of_items}

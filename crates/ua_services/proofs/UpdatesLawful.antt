@@ -6,7 +6,7 @@ use Rattle.ua_binary.specs.declared.values.NodeId.{NodeId}
 use Rattle.ua_binary.specs.declared.values.Body.TheVariants.{Absent}
 use Rattle.ua_binary.proofs.Combined.{then_lawful, chosen_lawful, standing_lawful, fitting_lawful, raised_lawful}
 use Rattle.ua_binary.proofs.Elements.{IsItemLawful, item, then_item, headed_item, raised_item, fitting_item}
-use Rattle.ua_binary.proofs.Lawful.{i32_lawful, boolean_lawful, ticks_lawful, ticks_item, status_lawful, status_item, node_id_lawful, node_id_item, body_lawful, array_of_items}
+use Rattle.ua_binary.proofs.Lawful.{i32_lawful, boolean_lawful, ticks_lawful, ticks_item, status_item, node_id_lawful, node_id_item, body_lawful, array_of_items}
 use Rattle.ua_variant.specs.Raise.{variant_fault}
 use Rattle.ua_variant.specs.DataValue.{data_value}
 use Rattle.ua_variant.proofs.Masks.{data_value_lawful}

@@ -1,5 +1,5 @@
 -- Sessions: how one is made, activated and closed (Part 4, 5.6.2 to 5.6.4), and who a client says that it is (7.36).
-use Rattle.std.specs.Prelude.{◌≡◌, ℕ, ◌<◌, ◌^◌, List, [], length, map, Option, None, Bool, if◌then◌else◌}
+use Rattle.std.specs.Prelude.{◌≡◌, ℕ, ◌<◌, ◌^◌, List, length, map, Option, None, Bool, if◌then◌else◌}
 use Rattle.std.specs.Option.{option_copied}
 use Rattle.std.specs.Int.{w32}
 use Rattle.ua_binary.specs.declared.fault.BinaryFault.{BinaryFault}
@@ -16,8 +16,6 @@ use Rattle.ua_services.specs.declared.identity.IdentityToken.{IdentityToken}
 use Rattle.ua_services.specs.declared.identity.IdentityToken.TheVariants as lent
 use Rattle.ua_services.specs.declared.sessions.CreateSessionRequest.{CreateSessionRequest}
 use Rattle.ua_services.specs.declared.sessions.CreateSessionResponse.{CreateSessionResponse}
-use Rattle.ua_services.specs.declared.sessions.ActivateSessionRequest.{ActivateSessionRequest}
-use Rattle.ua_services.specs.declared.sessions.CloseSessionRequest.{CloseSessionRequest}
 
 -- ---- identities
 

@@ -1,5 +1,5 @@
 -- Structures that are named by the id of their type and stand in the body of an extension object (Part 6, 5.2.2.15).
-use Rattle.std.specs.Prelude.{ℕ, List, [], Option, Some, Bool, false, ◌==◌, ◌&&◌, unwrap_or}
+use Rattle.std.specs.Prelude.{ℕ, List, [], Some, Bool, false, ◌==◌, ◌&&◌, unwrap_or}
 use Rattle.ua_binary.specs.declared.fault.BinaryFault.{BinaryFault}
 use Rattle.ua_binary.specs.declared.fault.BinaryFault.TheVariants.{BadEncodingByte}
 use Rattle.ua_binary.specs.declared.values.NodeId.{NodeId}

@@ -1,5 +1,5 @@
 -- Fields that are read by their grammar and not kept.
-use Rattle.std.specs.Prelude.{ℕ, ◌<◌, ◌^◌, negsuc, List, [], length, Ok}
+use Rattle.std.specs.Prelude.{◌<◌, ◌^◌, negsuc, List, length, Ok}
 use Rattle.std.specs.List.{AllByRecursion}
 use Rattle.std.specs.Int.{w32}
 use Rattle.ua_binary.specs.declared.fault.BinaryFault.{BinaryFault}

@@ -10,8 +10,8 @@ use crate::many::{many_size, put_many, put_null_array};
 use std::alloc::{AllocError, Global};
 use ua_binary::{
     BinaryFault, Cursor, Decode, Encode, Listing, LocalizedText, NodeId, NodeIdRef, QualifiedName,
-    Status, TryClone, or_undone, put_boolean, put_bytes, put_i32, put_localized, put_node_id, put_qualified,
-    put_status, read_array,
+    Status, TryClone, or_undone, put_boolean, put_bytes, put_i32, put_localized, put_node_id,
+    put_qualified, put_status, read_array,
 };
 
 /// Which references are followed (Part 4, 7.5).
@@ -235,8 +235,14 @@ impl Encode for ReferenceDescription {
 
     #[tactic(auto, using(crate::proofs::Fits::lengths, ua_binary::proofs::Sizes::short, crate::proofs::Fits::fits), unfolding(crate::specs::Browsing::reference_description))]
     fn size(&self) -> usize {
-        let ids = self.reference_type_id.size().saturating_add(self.node_id.size());
-        let names = self.browse_name.size().saturating_add(self.display_name.size());
+        let ids = self
+            .reference_type_id
+            .size()
+            .saturating_add(self.node_id.size());
+        let names = self
+            .browse_name
+            .size()
+            .saturating_add(self.display_name.size());
         let kind = self.type_definition.size().saturating_add(5);
         ids.saturating_add(names).saturating_add(kind)
     }
@@ -264,7 +270,9 @@ impl Encode for BrowseResult {
     #[tactic(auto, using(crate::proofs::Fits::lengths, crate::proofs::Fits::fits), unfolding(crate::specs::Browsing::browse_result))]
     fn size(&self) -> usize {
         let references = many_size(self.references.as_slice());
-        references.saturating_add(self.status.size()).saturating_add(4)
+        references
+            .saturating_add(self.status.size())
+            .saturating_add(4)
     }
 }
 

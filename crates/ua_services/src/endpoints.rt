@@ -8,8 +8,8 @@ use crate::many::{many_size, put_many, put_texts, texts_size};
 use crate::skipping::skip_texts;
 use std::alloc::{AllocError, Global};
 use ua_binary::{
-    BinaryFault, Cursor, Encode, Listing, LocalizedText, Text, TryClone, or_undone, put_bytes, put_i32, put_localized,
-    put_owned_text, put_text, read_array,
+    BinaryFault, Cursor, Encode, Listing, LocalizedText, Text, TryClone, or_undone, put_bytes,
+    put_i32, put_localized, put_owned_text, put_text, read_array,
 };
 
 /// What an application is (Part 4, 7.2).
@@ -183,7 +183,10 @@ impl Encode for ApplicationDescription {
 
     #[tactic(auto, using(crate::proofs::Fits::lengths, ua_binary::proofs::Sizes::short, crate::proofs::Fits::fits), unfolding(crate::specs::Endpoints::application_description))]
     fn size(&self) -> usize {
-        let uris = self.application_uri.size().saturating_add(self.product_uri.size());
+        let uris = self
+            .application_uri
+            .size()
+            .saturating_add(self.product_uri.size());
         let name = self.application_name.size().saturating_add(12);
         let urls = texts_size(self.discovery_urls.as_slice());
         uris.saturating_add(name).saturating_add(urls)
@@ -254,7 +257,10 @@ impl EndpointDescription {
         ensures spelled { IsShortAccess self.now → IsAccess (access_fields self.now) }
     {
         let level = self.security_level.size();
-        let texts = self.security_policy_uri.size().saturating_add(self.transport_profile_uri.size());
+        let texts = self
+            .security_policy_uri
+            .size()
+            .saturating_add(self.transport_profile_uri.size());
         let tokens = many_size(self.user_identity_tokens.as_slice());
         texts.saturating_add(tokens).saturating_add(4 + level)
     }

@@ -413,10 +413,7 @@ fn put_history_results_parts(
 }
 
 /// An array of results.
-fn put_history_results(
-    out: &mut Vec<u8>,
-    results: &[HistoryReadResult],
-) -> Result<(), BinaryFault>
+fn put_history_results(out: &mut Vec<u8>, results: &[HistoryReadResult]) -> Result<(), BinaryFault>
     requires { AreShortHistoryReads results.now }
     ensures puts { Puts BinaryFault.OutOfMemory result out.old.items out.new.items (history_results.canon (map history_fields results.now)) }
     ensures spelled { IfOk result (λ _. AreHistoryReads results.now) }

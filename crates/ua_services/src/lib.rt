@@ -32,8 +32,8 @@ pub use endpoints::{
 };
 pub use history::{
     HistoryData, HistoryReadDetails, HistoryReadRequest, HistoryReadResult, HistoryReadValueId,
-    HistoryUpdateType, ModificationInfo, ReadRawModifiedDetails,
-    put_history_read_response, read_history_read_request,
+    HistoryUpdateType, ModificationInfo, ReadRawModifiedDetails, put_history_read_response,
+    read_history_read_request,
 };
 pub use identity::IdentityToken;
 pub use laws::{formats_are_lawful, formats_are_prefix_free};
@@ -44,7 +44,8 @@ pub use sessions::{
 };
 pub use updates::{
     DeleteAtTimeDetails, DeleteRawModifiedDetails, HistoryUpdateDetails, HistoryUpdateRequest,
-    HistoryUpdateResult, UpdateDataDetails, put_history_update_response, read_history_update_request,
+    HistoryUpdateResult, UpdateDataDetails, put_history_update_response,
+    read_history_update_request,
 };
 
 #[cfg(test)]

@@ -8,9 +8,7 @@ use crate::endpoints::EndpointDescription;
 use crate::identity::{IdentityToken, read_user_identity};
 use crate::many::{put_many, put_null_array};
 use crate::skipping::{skip_application, skip_certificates, skip_signature, skip_texts};
-use ua_binary::{
-    BinaryFault, Cursor, Encode, NodeId, or_undone, put_bytes, put_node_id, put_text,
-};
+use ua_binary::{BinaryFault, Cursor, Encode, NodeId, or_undone, put_bytes, put_node_id, put_text};
 
 /// What a CreateSession request asks (Part 4, 5.6.2), in the bytes that it was read from. The client's
 /// description, nonce and certificate aren't kept, since no policy with signatures is served.

@@ -33,7 +33,11 @@ fn left_of(alloc: Global, kind: Kind, bytes: &[u8], want: &str) -> Option<usize>
         }
         Kind::CloseSession => is_shown(alloc, &read_close_session_request(&mut cursor), want),
         Kind::HistoryUpdate => {
-            is_shown(alloc, &read_history_update_request(alloc, &mut cursor), want)
+            is_shown(
+                alloc,
+                &read_history_update_request(alloc, &mut cursor),
+                want,
+            )
         }
         Kind::Browse => is_shown(alloc, &read_browse_request(alloc, &mut cursor), want),
         Kind::Read => is_shown(alloc, &read_read_request(alloc, &mut cursor), want),
@@ -41,7 +45,11 @@ fn left_of(alloc: Global, kind: Kind, bytes: &[u8], want: &str) -> Option<usize>
             is_shown(alloc, &read_history_read_request(alloc, &mut cursor), want)
         }
     };
-    if is_read { Some(cursor.rest().len()) } else { None }
+    if is_read {
+        Some(cursor.rest().len())
+    } else {
+        None
+    }
 }
 
 /// Requests behind their headers, and what is kept of them.
@@ -212,7 +220,11 @@ static REFUSED: [(Kind, &[u8], &str); 17] = [
         "Err(Short)",
     ),
     // details of a known type without a body, with one in XML, and with bytes behind them
-    (Kind::HistoryUpdate, b"\x01\0\0\0\x01\0\xaa\x02\0", "Err(BadEncodingByte)"),
+    (
+        Kind::HistoryUpdate,
+        b"\x01\0\0\0\x01\0\xaa\x02\0",
+        "Err(BadEncodingByte)",
+    ),
     (
         Kind::HistoryUpdate,
         b"\x01\0\0\0\x01\0\xb3\x02\x02\x06\0\0\0\0\x55\0\0\0\0",

@@ -106,14 +106,12 @@ fn read_delete_raw_modified<'a>(
         return Err(BinaryFault::BadEncodingByte);
     }
     *cursor = next;
-    Ok(HistoryUpdateDetails::DeleteRawModified(
-        DeleteRawModifiedDetails {
-            node_id,
-            is_delete_modified,
-            start_time,
-            end_time,
-        },
-    ))
+    Ok(HistoryUpdateDetails::DeleteRawModified(DeleteRawModifiedDetails {
+        node_id,
+        is_delete_modified,
+        start_time,
+        end_time,
+    }))
 }
 
 /// The body of DeleteAtTimeDetails.
@@ -132,10 +130,7 @@ fn read_delete_at_time<'a>(
         return Err(BinaryFault::BadEncodingByte);
     }
     *cursor = next;
-    Ok(HistoryUpdateDetails::DeleteAtTime(DeleteAtTimeDetails {
-        node_id,
-        times,
-    }))
+    Ok(HistoryUpdateDetails::DeleteAtTime(DeleteAtTimeDetails { node_id, times }))
 }
 
 /// The body of details of another type.
