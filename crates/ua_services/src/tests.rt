@@ -1,7 +1,12 @@
+ghost use Rattle.ua_variant.specs.DataValue.{IsShortData};
+
 use super::*;
 use std::alloc::{AllocError, Global};
 use std::fmt::Debug;
-use ua_binary::{Cursor, Listing, LocalizedText, NodeId, Text, TryClone, array_size};
+use ua_binary::{
+    Cursor, Listing, LocalizedText, NodeId, QualifiedName, Status, Text, Ticks, TryClone, array_size,
+};
+use ua_variant::{DataValue, Scalar, Variant};
 
 #[derive(Clone, Copy, Debug)]
 enum Kind {
@@ -379,4 +384,246 @@ fn written_activations(rt: HostRuntime) {
     let mut out = Vec::new(rt.alloc());
     assert!(rt; put_activate_session_response(&mut out).is_ok());
     assert_eq!(rt; out.as_slice(), [255; 12].as_slice());
+}
+
+/// What is written of results, or nothing where their array hasn't the size that is told of it.
+fn updates_written(alloc: Global, results: &[HistoryUpdateResult]) -> Option<Vec<u8>> {
+    if array_size(results) > 1000 {
+        return None;
+    }
+    let mut out = Vec::new(alloc);
+    put_history_update_response(&mut out, results).ok()?;
+    if out.len() == array_size(results) + 4 {
+        Some(out)
+    } else {
+        None
+    }
+}
+
+fn update_results(alloc: Global) -> Result<Listing<HistoryUpdateResult>, AllocError> {
+    let codes = Vec::from_slice(alloc, &[Status(0x00A2_0000), Status(0x809F_0000)])?;
+    let mut results = Vec::new(alloc);
+    results.push(HistoryUpdateResult {
+        status: Status(0),
+        operation_results: Listing::of(codes),
+    })?;
+    results.push(HistoryUpdateResult {
+        status: Status(0x8034_0000),
+        operation_results: Listing::new(alloc),
+    })?;
+    Ok(Listing::of(results))
+}
+
+fn is(written: &Option<Vec<u8>>, bytes: &[u8]) -> bool {
+    match written {
+        None => false,
+        Some(written) => written.as_slice() == bytes,
+    }
+}
+
+#[test]
+fn written_updates(rt: HostRuntime) -> Result<(), AllocError> {
+    let results = update_results(rt.alloc())?;
+    let written = updates_written(rt.alloc(), results.as_slice());
+    assert!(rt;
+        is(
+            &written,
+            b"\x02\0\0\0\0\0\0\0\x02\0\0\0\0\0\xa2\0\0\0\x9f\x80\xff\xff\xff\xff\0\0\x34\x80\0\0\0\0\xff\xff\xff\xff\xff\xff\xff\xff"
+        )
+    );
+    Ok(())
+}
+
+fn browsed_written(alloc: Global, results: &[BrowseResult]) -> Option<Vec<u8>> {
+    if array_size(results) > 1000 {
+        return None;
+    }
+    let mut out = Vec::new(alloc);
+    put_browse_response(&mut out, results).ok()?;
+    if out.len() == array_size(results) + 4 {
+        Some(out)
+    } else {
+        None
+    }
+}
+
+/// The variable T under Objects, as a browse with all fields shows it, and a browse that is refused.
+fn browse_results(alloc: Global) -> Result<Listing<BrowseResult>, AllocError> {
+    let mut references = Vec::new(alloc);
+    references.push(ReferenceDescription {
+        reference_type_id: NodeId::Numeric(0, 35),
+        is_forward: true,
+        node_id: NodeId::Numeric(1, 84),
+        browse_name: QualifiedName {
+            namespace: 1,
+            name: text(alloc, "T")?,
+        },
+        display_name: LocalizedText {
+            locale: None,
+            text: text(alloc, "T")?,
+        },
+        node_class: NodeClass::Variable,
+        type_definition: NodeId::Numeric(0, 63),
+    })?;
+    let mut results = Vec::new(alloc);
+    results.push(BrowseResult {
+        status: Status(0),
+        references: Listing::of(references),
+    })?;
+    results.push(BrowseResult {
+        status: Status(0x804D_0000),
+        references: Listing::new(alloc),
+    })?;
+    Ok(Listing::of(results))
+}
+
+#[test]
+fn written_references(rt: HostRuntime) -> Result<(), AllocError> {
+    let results = browse_results(rt.alloc())?;
+    let written = browsed_written(rt.alloc(), results.as_slice());
+    assert!(rt;
+        is(
+            &written,
+            b"\x02\0\0\0\0\0\0\0\xff\xff\xff\xff\x01\0\0\0\0\x23\x01\x01\x01\x54\0\x01\0\x01\0\0\0T\x02\x01\0\0\0T\x02\0\0\0\0\x3f\
+            \0\0\x4d\x80\xff\xff\xff\xff\0\0\0\0\xff\xff\xff\xff"
+        )
+    );
+    Ok(())
+}
+
+/// The numbers that the standard gives to classes of nodes.
+#[test]
+fn numbers_of_classes(rt: HostRuntime) {
+    for (class, number) in [
+        (NodeClass::Unspecified, 0),
+        (NodeClass::Object, 1),
+        (NodeClass::Variable, 2),
+        (NodeClass::Method, 4),
+        (NodeClass::ObjectType, 8),
+        (NodeClass::VariableType, 16),
+        (NodeClass::ReferenceType, 32),
+        (NodeClass::DataType, 64),
+        (NodeClass::View, 128),
+    ] {
+        assert_eq!(rt; class.number(), number);
+    }
+}
+
+/// The Int32 7 at 10.
+fn seven() -> DataValue
+    ensures { IsShortData result }
+{
+    DataValue {
+        value: Some(Variant::Scalar(Scalar::Int32(7))),
+        status: None,
+        source_time: Some(Ticks(10)),
+        source_pico: None,
+        server_time: None,
+        server_pico: None,
+    }
+}
+
+/// What is written of this value, read twice.
+fn read_written(alloc: Global) -> Option<Vec<u8>> {
+    let mut out = Vec::new(alloc);
+    put_read_response(&mut out, &[seven(), seven()]).ok()?;
+    Some(out)
+}
+
+#[test]
+fn written_values(rt: HostRuntime) {
+    let written = read_written(rt.alloc());
+    assert!(rt;
+        is(
+            &written,
+            b"\x02\0\0\0\x05\x06\x07\0\0\0\x0a\0\0\0\0\0\0\0\x05\x06\x07\0\0\0\x0a\0\0\0\0\0\0\0\xff\xff\xff\xff"
+        )
+    );
+}
+
+/// What is written of a read without values, where nothing goes on.
+fn nothing_written(alloc: Global) -> Option<Vec<u8>> {
+    let result = HistoryReadResult {
+        status: Status(0x00A5_0000),
+        continuation_point: None,
+        history_data: HistoryData::Nothing,
+    };
+    let mut out = Vec::new(alloc);
+    put_history_read_response(&mut out, &[result]).ok()?;
+    Some(out)
+}
+
+/// What is written of a value of a node's history.
+fn raw_written(alloc: Global) -> Option<Vec<u8>> {
+    let mut values = Vec::new(alloc);
+    values.push(seven()).ok()?;
+    let history_data = HistoryData::Raw(Listing::of(values));
+    if history_data.body_size() != 18 {
+        return None;
+    }
+    let result = HistoryReadResult {
+        status: Status(0),
+        continuation_point: None,
+        history_data,
+    };
+    let mut out = Vec::new(alloc);
+    put_history_read_response(&mut out, &[result]).ok()?;
+    Some(out)
+}
+
+fn deletion(alloc: Global) -> Result<ModificationInfo, AllocError> {
+    Ok(ModificationInfo {
+        modification_time: Ticks(100),
+        update_type: HistoryUpdateType::Delete,
+        user_name: text(alloc, "ann")?,
+    })
+}
+
+/// What is written of a value of a node's history and of its deletion.
+fn modified_written(alloc: Global) -> Option<Vec<u8>> {
+    let mut infos = Vec::new(alloc);
+    infos.push(deletion(alloc).ok()?).ok()?;
+    if array_size(infos.as_slice()) != 23 {
+        return None;
+    }
+    let mut values = Vec::new(alloc);
+    values.push(seven()).ok()?;
+    let history_data = HistoryData::Modified(Listing::of(values), Listing::of(infos));
+    if history_data.body_size() != 41 {
+        return None;
+    }
+    let result = HistoryReadResult {
+        status: Status(0),
+        continuation_point: None,
+        history_data,
+    };
+    let mut out = Vec::new(alloc);
+    put_history_read_response(&mut out, &[result]).ok()?;
+    Some(out)
+}
+
+#[test]
+fn written_histories(rt: HostRuntime) {
+    let nothing = nothing_written(rt.alloc());
+    assert!(rt;
+        is(
+            &nothing,
+            b"\x01\0\0\0\0\0\xa5\0\xff\xff\xff\xff\0\0\0\xff\xff\xff\xff"
+        )
+    );
+    let raw = raw_written(rt.alloc());
+    assert!(rt;
+        is(
+            &raw,
+            b"\x01\0\0\0\0\0\0\0\xff\xff\xff\xff\x01\0\x92\x02\x01\x12\0\0\0\x01\0\0\0\x05\x06\x07\0\0\0\x0a\0\0\0\0\0\0\0\xff\xff\xff\xff"
+        )
+    );
+    let modified = modified_written(rt.alloc());
+    assert!(rt;
+        is(
+            &modified,
+            b"\x01\0\0\0\0\0\0\0\xff\xff\xff\xff\x01\0\xdb\x2b\x01\x29\0\0\0\x01\0\0\0\x05\x06\x07\0\0\0\x0a\0\0\0\0\0\0\0\
+            \x01\0\0\0\x64\0\0\0\0\0\0\0\x04\0\0\0\x03\0\0\0ann\xff\xff\xff\xff"
+        )
+    );
 }
