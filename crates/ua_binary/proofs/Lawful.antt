@@ -13,7 +13,7 @@ use Rattle.ua_binary.specs.declared.values.Body.{Body}
 use Rattle.ua_binary.specs.declared.values.Body.TheVariants.{Absent, Binary, Xml}
 use Rattle.ua_binary.specs.declared.values.LocalizedText.{LocalizedText}
 use Rattle.ua_binary.specs.Format.{◌>>=◌, Reading, Format, IsLawful, byte, block, passing, with_fault, items_at}
-use Rattle.ua_binary.specs.Binary.{unsigned, signed, sbyte, ticks, status, boolean, counted, count_of, IsCounted, byte_string, is_text, text, IsText, guid, guid_of, guid_fields, IsGuid, node_form, node_form_of, IsNodeId, node_id, localized, localized_fields, localized_mask, IsLocalized, counted_number, count_at, counted_items, array_spelled, array, qualified, IsQualified, IsExtension, body_form, body_kind, IsBody, extension}
+use Rattle.ua_binary.specs.Binary.{unsigned, signed, sbyte, ticks, status, boolean, counted, count_of, IsCounted, byte_string, is_text, text, IsText, guid, guid_of, guid_fields, IsGuid, node_form, node_form_of, IsNodeId, node_id, localized, localized_fields, localized_mask, IsLocalized, counted_number, count_at, counted_items, array_spelled, array, qualified, IsQualified, IsExtension, body_form, body_kind, IsBody, body, extension}
 use Rattle.ua_binary.proofs.Elements.{IsItemLawful, item}
 use Rattle.ua_binary.proofs.Combined.{nothing_lawful, refused_lawful, byte_lawful, block_lawful, then_lawful, chosen_lawful, headed_lawful, standing_lawful, passing_lawful, flagged_lawful, fitting_lawful, raised_lawful, IsNonEmpty, counted_items_lawful}
 
@@ -167,9 +167,12 @@ body_fits Absent h = (omega arith, refl)
 body_fits (Binary b) h = (omega arith, (h, refl))
 body_fits (Xml b) h = (omega arith, (h, refl))
 
+pub body_lawful : IsLawful body
+body_lawful = fitting_lawful IsBody body_fits (headed_lawful body_kind body_form byte_lawful body_form_lawful)
+
 pub extension_lawful : IsLawful extension
 unfolding extension node_id
-extension_lawful = fitting_lawful IsExtension (λ v h. (h, refl)) (standing_lawful _ _ (then_lawful node_id_lawful (fitting_lawful IsBody body_fits (headed_lawful body_kind body_form byte_lawful body_form_lawful))))
+extension_lawful = fitting_lawful IsExtension (λ v h. (h, refl)) (standing_lawful _ _ (then_lawful node_id_lawful body_lawful))
 
 counted_items_are_lawful : {E A : Type 0} (told : BinaryFault → E) (f : Format E A) → IsNonEmpty f → IsLawful f → (n : ℤ) → IsLawful (counted_items told f n)
 counted_items_are_lawful told f some p (pos n) = counted_items_lawful n (told Short) some p

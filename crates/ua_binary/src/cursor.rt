@@ -4,7 +4,7 @@ ghost use Rattle.std.specs.Prelude.{◌≡◌, List, ℕ, option_map, length, Ma
 ghost use Rattle.std.specs.Option.{option_copied};
 ghost use Rattle.std.specs.Int.{w16, w32, w64};
 ghost use Rattle.ua_binary.specs.Format.{Reads, byte, block};
-ghost use Rattle.ua_binary.specs.Binary.{unsigned, signed, sbyte, boolean, byte_string, count_at, text, guid, ticks, status, node_id, node_of, localized, localized_of, is_text, qualified, qualified_of, extension, extension_of};
+ghost use Rattle.ua_binary.specs.Binary.{unsigned, signed, sbyte, boolean, byte_string, count_at, text, guid, ticks, status, node_id, node_of, localized, localized_of, is_text, qualified, qualified_of, body, body_of, extension, extension_of};
 
 use crate::fault::BinaryFault;
 use crate::values::{
@@ -337,21 +337,31 @@ impl<'a> Cursor<'a> {
         Ok(LocalizedRef { locale, text })
     }
 
-    /// An ExtensionObject (Part 6, 5.2.2.15): the NodeId of its type, a byte for the kind of its body,
+    /// The body of an ExtensionObject (Part 6, 5.2.2.15), behind the id of its type: a byte for its kind,
     /// and the body: 0 for none, 1 for bytes, 2 for XML. Another kind is `BadEncodingByte`; a body of
     /// length -1 reads as an empty one.
-    #[tactic(auto, unfolding(crate::specs::Binary::extension))]
-    pub fn extension(&mut self) -> Result<ExtensionRef<'a>, BinaryFault>
-        ensures { Reads extension_of result self.old self.new extension.read }
+    pub fn body(&mut self) -> Result<BodyRef<'a>, BinaryFault>
+        ensures { Reads body_of result self.old self.new body.read }
     {
         let mut next = self.fork();
-        let type_id = next.node_id()?;
         let body = match next.u8()? {
             0 => BodyRef::Absent,
             1 => BodyRef::Binary(next.bytes()?.unwrap_or(&[])),
             2 => BodyRef::Xml(next.bytes()?.unwrap_or(&[])),
             _ => return Err(BinaryFault::BadEncodingByte),
         };
+        *self = next;
+        Ok(body)
+    }
+
+    /// An ExtensionObject (Part 6, 5.2.2.15): the NodeId of its type, and its body, as `body` reads it.
+    #[tactic(auto, unfolding(crate::specs::Binary::extension))]
+    pub fn extension(&mut self) -> Result<ExtensionRef<'a>, BinaryFault>
+        ensures { Reads extension_of result self.old self.new extension.read }
+    {
+        let mut next = self.fork();
+        let type_id = next.node_id()?;
+        let body = next.body()?;
         *self = next;
         Ok(ExtensionRef { type_id, body })
     }

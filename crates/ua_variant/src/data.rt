@@ -7,6 +7,7 @@ ghost use Rattle.ua_binary.specs.Format.{Puts, PutsPart, Reads, ReadsPart, Reads
 ghost use Rattle.ua_binary.specs.Binary.{ticks, status, unsigned};
 ghost use Rattle.ua_variant.specs.Variant.{variant, IsVariant, IsShortVariant};
 ghost use Rattle.ua_variant.specs.DataValue.{stamps, stamps_of, picoseconds, IsPicoseconds, flag, data_mask, data_value, IsDataValue, IsShortData};
+ghost use Rattle.ua_variant.specs.declared.data.DataValue.{DataValue as Data};
 
 use crate::fault::VariantFault;
 use crate::put::put_variant;
@@ -14,7 +15,7 @@ use crate::read::read_variant;
 use crate::value::Variant;
 use std::alloc::Global;
 use ua_binary::{
-    BinaryFault, Cursor, Status, Ticks, or_undone, put_status, put_ticks, put_u8, put_u16,
+    BinaryFault, Cursor, Decode, Status, Ticks, or_undone, put_status, put_ticks, put_u8, put_u16,
 };
 
 /// A value with its status and the moments at which its source and its server had it (Part 6,
@@ -122,6 +123,20 @@ pub fn read_data_value(alloc: Global, cursor: &mut Cursor) -> Result<DataValue, 
         server_time: stamps.server_time,
         server_pico: stamps.server_pico,
     })
+}
+
+impl<'a> Decode<'a> for DataValue {
+    type Fault = VariantFault;
+
+    ghost Value = { Data };
+
+    ghost view = { λ v. v };
+
+    ghost format = { data_value };
+
+    fn decode(alloc: Global, cursor: &mut Cursor<'a>) -> Result<DataValue, VariantFault> {
+        read_data_value(alloc, cursor)
+    }
 }
 
 fn put_value(out: &mut Vec<u8>, v: &Option<Variant>) -> Result<(), BinaryFault>

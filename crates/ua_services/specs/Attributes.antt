@@ -1,0 +1,74 @@
+-- What a Read asks and answers (Part 4, 5.10.2).
+use Rattle.std.specs.Prelude.{◌<◌, ◌^◌, ℕ, ℤ, pos, List, [], ◌∷◌, length, map, All, Option, Some, None, if◌then◌else◌}
+use Rattle.std.specs.Option.{option_copied}
+use Rattle.std.specs.Ordering.{int_eq}
+use Rattle.std.specs.Int.{w32}
+use Rattle.ua_binary.specs.declared.fault.BinaryFault.{BinaryFault}
+use Rattle.ua_binary.specs.declared.values.NodeId.{NodeId}
+use Rattle.ua_binary.specs.declared.values.QualifiedName.{QualifiedName}
+use Rattle.ua_binary.specs.Format.{Format, block, ◌▸◌, standing_for, fitting}
+use Rattle.ua_binary.specs.Binary.{unsigned, signed, text, node_id, node_of, qualified, qualified_of, array}
+use Rattle.ua_variant.specs.declared.fault.VariantFault.{VariantFault}
+use Rattle.ua_variant.specs.declared.data.DataValue.{DataValue}
+use Rattle.ua_variant.specs.Raise.{variant_fault}
+use Rattle.ua_variant.specs.Variant.{raise}
+use Rattle.ua_variant.specs.DataValue.{data_value, IsShortData}
+use Rattle.ua_services.specs.Unkept.{unkept, ◌▹◌, ◌◃◌, many, AreFew, null}
+use Rattle.ua_services.specs.declared.attributes.TimestampsToReturn.{TimestampsToReturn}
+use Rattle.ua_services.specs.declared.attributes.TimestampsToReturn.TheVariants.{Source, Server, Both, Neither}
+use Rattle.ua_services.specs.declared.attributes.ReadValueId.{ReadValueId}
+use Rattle.ua_services.specs.declared.attributes.ReadRequest.{ReadRequest}
+
+-- ---- the request
+
+-- which moments a client wants; another number says none of these
+abbrev pub timestamps_of : ℤ → Option TimestampsToReturn
+timestamps_of n = if int_eq n (pos 0) then Some Source else if int_eq n (pos 1) then Some Server else if int_eq n (pos 2) then Some Both else if int_eq n (pos 3) then Some Neither else None
+
+abbrev pub timestamps_number : Option TimestampsToReturn → ℤ
+timestamps_number (Some Source) = pos 0
+timestamps_number (Some Server) = pos 1
+timestamps_number (Some Both) = pos 2
+timestamps_number (Some Neither) = pos 3
+timestamps_number None = pos 4
+
+unfoldable pub timestamps : Format BinaryFault (Option TimestampsToReturn)
+timestamps = standing_for timestamps_of timestamps_number (signed w32)
+
+-- node, attribute, index range, data encoding
+abbrev pub ReadFields : Type 0
+ReadFields = NodeId × (ℕ × (Option (List ℕ) × QualifiedName))
+
+abbrev pub read_fields : ReadValueId → ReadFields
+read_fields v = (node_of v.node_id, (v.attribute_id, (option_copied v.index_range, qualified_of v.data_encoding)))
+
+unfoldable pub read_value_id : Format BinaryFault ReadFields
+read_value_id = node_id ▸ unsigned w32 ▸ text ▸ qualified
+
+abbrev pub ReadAsked : Type 0
+ReadAsked = Option TimestampsToReturn × List ReadFields
+
+abbrev pub read_asked : ReadRequest → ReadAsked
+read_asked r = (r.timestamps, map read_fields r.nodes.items)
+
+-- the eight bytes of the Double 0
+abbrev pub no_age : List ℕ
+no_age = 0 ∷ 0 ∷ 0 ∷ 0 ∷ 0 ∷ 0 ∷ 0 ∷ 0 ∷ []
+
+-- greatest age, moments, what is read
+unfoldable pub read_request : Format BinaryFault ReadAsked
+read_request = unkept no_age (block 8) ▹ timestamps ▸ many read_value_id
+
+-- ---- the response
+
+-- an array of data values
+abbrev pub data_values : Format VariantFault (List DataValue)
+data_values = array variant_fault data_value
+
+-- few enough, each of which may be written
+abbrev pub AreShortValues : List DataValue → Type 0
+AreShortValues values = (length values < 2 ^ 31) × All IsShortData values
+
+-- the values, diagnostics
+unfoldable pub read_response : Format VariantFault (List DataValue)
+read_response = fitting (AreFew data_value) (data_values ◃ raise null)

@@ -1,0 +1,115 @@
+-- What a Browse asks and answers (Part 4, 5.8.2).
+use Rattle.std.specs.Prelude.{◌<◌, ◌^◌, ℕ, ℤ, pos, List, length, map, All, Option, Some, None, Bool, if◌then◌else◌}
+use Rattle.std.specs.Ordering.{int_eq}
+use Rattle.std.specs.Int.{w32}
+use Rattle.std.specs.Int.RustNames.{FitsSigned}
+use Rattle.ua_binary.specs.declared.fault.BinaryFault.{BinaryFault}
+use Rattle.ua_binary.specs.declared.values.NodeId.{NodeId}
+use Rattle.ua_binary.specs.declared.values.NodeId.TheVariants.{Numeric}
+use Rattle.ua_binary.specs.declared.values.Ticks.{Ticks}
+use Rattle.ua_binary.specs.declared.values.Status.{Status}
+use Rattle.ua_binary.specs.declared.values.QualifiedName.{QualifiedName}
+use Rattle.ua_binary.specs.declared.values.LocalizedText.{LocalizedText}
+use Rattle.ua_binary.specs.Format.{Format, ◌▸◌, standing_for, fitting}
+use Rattle.ua_binary.specs.Binary.{unsigned, signed, boolean, byte_string, node_id, node_of, IsNodeId, IsShortNode, ticks, status, qualified, IsQualified, localized, IsLocalized, IsShortLocalized, IsCounted}
+use Rattle.ua_services.specs.Unkept.{unkept, ◌▹◌, ◌◃◌, many, AreFew, null}
+use Rattle.ua_services.specs.declared.browsing.BrowseDirection.{BrowseDirection}
+use Rattle.ua_services.specs.declared.browsing.BrowseDirection.TheVariants.{Forward, Inverse, Both}
+use Rattle.ua_services.specs.declared.browsing.NodeClass.{NodeClass}
+use Rattle.ua_services.specs.declared.browsing.NodeClass.TheVariants.{Unspecified, Object, Variable, Method, ObjectType, VariableType, ReferenceType, DataType, View}
+use Rattle.ua_services.specs.declared.browsing.BrowseDescription.{BrowseDescription}
+use Rattle.ua_services.specs.declared.browsing.ReferenceDescription.{ReferenceDescription}
+use Rattle.ua_services.specs.declared.browsing.BrowseResult.{BrowseResult}
+
+-- ---- the request
+
+-- another number is no direction
+abbrev pub direction_of : ℤ → Option BrowseDirection
+direction_of n = if int_eq n (pos 0) then Some Forward else if int_eq n (pos 1) then Some Inverse else if int_eq n (pos 2) then Some Both else None
+
+abbrev pub direction_number : Option BrowseDirection → ℤ
+direction_number (Some Forward) = pos 0
+direction_number (Some Inverse) = pos 1
+direction_number (Some Both) = pos 2
+direction_number None = pos 3
+
+unfoldable pub browse_direction : Format BinaryFault (Option BrowseDirection)
+browse_direction = standing_for direction_of direction_number (signed w32)
+
+-- node, direction, reference type, whether its subtypes count, classes, fields of the results
+abbrev pub BrowseFields : Type 0
+BrowseFields = NodeId × (Option BrowseDirection × (NodeId × (Bool × (ℕ × ℕ))))
+
+abbrev pub browse_fields : BrowseDescription → BrowseFields
+browse_fields d = (node_of d.node_id, (d.direction, (node_of d.reference_type_id, (d.include_subtypes, (d.node_class_mask, d.result_mask)))))
+
+unfoldable pub browse_description : Format BinaryFault BrowseFields
+browse_description = node_id ▸ browse_direction ▸ node_id ▸ boolean ▸ unsigned w32 ▸ unsigned w32
+
+-- the id of a view, a moment, a version
+abbrev pub view_description : Format BinaryFault (NodeId × (Ticks × ℕ))
+view_description = node_id ▸ ticks ▸ unsigned w32
+
+abbrev pub no_view : NodeId × (Ticks × ℕ)
+no_view = (Numeric 0 0, (record { 0 = pos 0 }, 0))
+
+-- the view, the most references, what is browsed
+unfoldable pub browse_request : Format BinaryFault (List BrowseFields)
+browse_request = unkept no_view view_description ▹ unkept 0 (unsigned w32) ▹ many browse_description
+
+-- ---- the response
+
+abbrev pub class_number : NodeClass → ℤ
+class_number Unspecified = pos 0
+class_number Object = pos 1
+class_number Variable = pos 2
+class_number Method = pos 4
+class_number ObjectType = pos 8
+class_number VariableType = pos 16
+class_number ReferenceType = pos 32
+class_number DataType = pos 64
+class_number View = pos 128
+
+-- reference type, whether it is a forward one, node, browse name, display name, class, type definition
+abbrev pub ReferenceFields : Type 0
+ReferenceFields = NodeId × (Bool × (NodeId × (QualifiedName × (LocalizedText × (ℤ × NodeId)))))
+
+abbrev pub reference_fields : ReferenceDescription → ReferenceFields
+reference_fields r = (r.reference_type_id, (r.is_forward, (r.node_id, (r.browse_name, (r.display_name, (class_number r.node_class, r.type_definition))))))
+
+abbrev pub IsReference : ReferenceFields → Type 0
+IsReference v = IsNodeId v.0 × IsNodeId v.1.1.0 × IsQualified v.1.1.1.0 × IsLocalized v.1.1.1.1.0 × FitsSigned w32 v.1.1.1.1.1.0 × IsNodeId v.1.1.1.1.1.1
+
+-- the expanded ids of the node and of its type definition are spelled as those of this server
+unfoldable pub reference_description : Format BinaryFault ReferenceFields
+reference_description = fitting IsReference (node_id ▸ boolean ▸ node_id ▸ qualified ▸ localized ▸ signed w32 ▸ node_id)
+
+abbrev pub IsShortReference : ReferenceDescription → Type 0
+IsShortReference r = IsShortNode r.reference_type_id × IsShortNode r.node_id × IsCounted r.browse_name.name × IsShortLocalized r.display_name × IsShortNode r.type_definition
+
+-- the status of a browse, and the references
+abbrev pub BrowsedFields : Type 0
+BrowsedFields = Status × List ReferenceFields
+
+abbrev pub browsed_fields : BrowseResult → BrowsedFields
+browsed_fields r = (r.status, map reference_fields r.references)
+
+abbrev pub IsBrowsed : BrowsedFields → Type 0
+IsBrowsed v = (v.0.0 < 2 ^ 32) × AreFew reference_description v.1
+
+-- status, continuation point, references
+unfoldable pub browse_result : Format BinaryFault BrowsedFields
+browse_result = fitting IsBrowsed (status ▸ unkept None byte_string ▹ many reference_description)
+
+abbrev pub IsShortBrowsed : BrowseResult → Type 0
+IsShortBrowsed r = (length r.references < 2 ^ 31) × All IsShortReference r.references
+
+abbrev pub AreShortBrowsed : List BrowseResult → Type 0
+AreShortBrowsed results = (length results < 2 ^ 31) × All IsShortBrowsed results
+
+abbrev pub AreBrowsed : List BrowseResult → Type 0
+AreBrowsed results = AreFew browse_result (map browsed_fields results)
+
+-- the results, diagnostics
+unfoldable pub browse_response : Format BinaryFault (List BrowsedFields)
+browse_response = fitting (AreFew browse_result) (many browse_result ◃ null)

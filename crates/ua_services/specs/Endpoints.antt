@@ -1,0 +1,145 @@
+-- Endpoints, and the request for them (Part 4, 5.4.4, 7.2, 7.14 and 7.42).
+use Rattle.std.specs.Prelude.{ℕ, ◌<◌, ◌^◌, ℤ, pos, List, [], length, map, All, Option, None}
+use Rattle.std.specs.Option.{option_copied}
+use Rattle.std.specs.Int.{w32}
+use Rattle.std.specs.Int.RustNames.{FitsSigned}
+use Rattle.ua_binary.specs.declared.fault.BinaryFault.{BinaryFault}
+use Rattle.ua_binary.specs.declared.values.LocalizedText.{LocalizedText}
+use Rattle.ua_binary.specs.Format.{Format, byte, ◌▸◌, fitting}
+use Rattle.ua_binary.specs.Binary.{signed, text, IsText, byte_string, localized, IsLocalized, IsCounted, IsShortLocalized}
+use Rattle.ua_services.specs.Unkept.{unkept, ◌▹◌, ◌◃◌, many, AreFew, unkept_array}
+use Rattle.ua_services.specs.declared.endpoints.ApplicationType.{ApplicationType}
+use Rattle.ua_services.specs.declared.endpoints.ApplicationType.TheVariants.{Server, Client, ClientAndServer, DiscoveryServer}
+use Rattle.ua_services.specs.declared.endpoints.MessageSecurityMode.{MessageSecurityMode}
+use Rattle.ua_services.specs.declared.endpoints.MessageSecurityMode.TheVariants as mode
+use Rattle.ua_services.specs.declared.endpoints.UserTokenType.{UserTokenType}
+use Rattle.ua_services.specs.declared.endpoints.UserTokenType.TheVariants.{Anonymous, UserName}
+use Rattle.ua_services.specs.declared.endpoints.ApplicationDescription.{ApplicationDescription}
+use Rattle.ua_services.specs.declared.endpoints.UserTokenPolicy.{UserTokenPolicy}
+use Rattle.ua_services.specs.declared.endpoints.EndpointDescription.{EndpointDescription}
+use Rattle.ua_services.specs.declared.endpoints.GetEndpointsRequest.{GetEndpointsRequest}
+
+-- ---- enumerations
+
+abbrev pub application_number : ApplicationType → ℤ
+application_number Server = pos 0
+application_number Client = pos 1
+application_number ClientAndServer = pos 2
+application_number DiscoveryServer = pos 3
+
+abbrev pub mode_number : MessageSecurityMode → ℤ
+mode_number mode.Invalid = pos 0
+mode_number mode.None = pos 1
+mode_number mode.Sign = pos 2
+mode_number mode.SignAndEncrypt = pos 3
+
+abbrev pub token_number : UserTokenType → ℤ
+token_number Anonymous = pos 0
+token_number UserName = pos 1
+
+-- ---- applications
+
+-- URI, product URI, name, type, discovery URLs
+abbrev pub ApplicationFields : Type 0
+ApplicationFields = Option (List ℕ) × (Option (List ℕ) × (LocalizedText × (ℤ × List (Option (List ℕ)))))
+
+abbrev pub application_fields : ApplicationDescription → ApplicationFields
+application_fields v = (v.application_uri, (v.product_uri, (v.application_name, (application_number v.application_type, v.discovery_urls))))
+
+-- what has a spelling
+abbrev pub IsApplication : ApplicationFields → Type 0
+IsApplication v = IsText v.0 × IsText v.1.0 × IsLocalized v.1.1.0 × FitsSigned w32 v.1.1.1.0 × AreFew text v.1.1.1.1
+
+-- URI, product URI, name, type, URI of a gateway, URI of a discovery profile, discovery URLs
+unfoldable pub application_description : Format BinaryFault ApplicationFields
+application_description = fitting IsApplication (text ▸ text ▸ localized ▸ signed w32 ▸ unkept None text ▹ unkept None text ▹ many text)
+
+abbrev pub IsShortTexts : List (Option (List ℕ)) → Type 0
+IsShortTexts texts = (length texts < 2 ^ 31) × All (λ v. IsCounted v) texts
+
+abbrev pub IsShortApplication : ApplicationDescription → Type 0
+IsShortApplication v = IsCounted v.application_uri × IsCounted v.product_uri × IsShortLocalized v.application_name × IsShortTexts v.discovery_urls
+
+-- no URIs, an empty name, a server
+abbrev pub no_application : ApplicationFields
+no_application = (None, (None, (record { locale = None; text = None }, (pos 0, []))))
+
+-- ---- tokens
+
+-- policy id, type of the token
+abbrev pub TokenFields : Type 0
+TokenFields = Option (List ℕ) × ℤ
+
+abbrev pub token_fields : UserTokenPolicy → TokenFields
+token_fields v = (v.policy_id, token_number v.token_type)
+
+abbrev pub IsToken : TokenFields → Type 0
+IsToken v = IsText v.0 × FitsSigned w32 v.1
+
+-- policy id, type of the token, type of an issued one, URL of its issuer, security policy
+unfoldable pub user_token_policy : Format BinaryFault TokenFields
+user_token_policy = fitting IsToken (text ▸ signed w32 ◃ unkept None text ◃ unkept None text ◃ unkept None text)
+
+abbrev pub IsShortToken : UserTokenPolicy → Type 0
+IsShortToken v = IsCounted v.policy_id
+
+-- ---- endpoints
+
+-- security mode, security policy, tokens, transport profile, security level
+abbrev pub AccessFields : Type 0
+AccessFields = ℤ × (Option (List ℕ) × (List TokenFields × (Option (List ℕ) × ℕ)))
+
+-- URL, the server, and these
+abbrev pub EndpointFields : Type 0
+EndpointFields = Option (List ℕ) × (ApplicationFields × AccessFields)
+
+abbrev pub access_fields : EndpointDescription → AccessFields
+access_fields v = (mode_number v.security_mode, (v.security_policy_uri, (map token_fields v.user_identity_tokens, (v.transport_profile_uri, v.security_level))))
+
+abbrev pub endpoint_fields : EndpointDescription → EndpointFields
+endpoint_fields v = (v.endpoint_url, (application_fields v.server, access_fields v))
+
+abbrev pub IsAccess : AccessFields → Type 0
+IsAccess v = FitsSigned w32 v.0 × IsText v.1.0 × AreFew user_token_policy v.1.1.0 × IsText v.1.1.1.0 × (v.1.1.1.1 < 2 ^ 8)
+
+-- how an endpoint is reached: security mode, security policy, tokens, transport profile, security level
+unfoldable pub access : Format BinaryFault AccessFields
+access = fitting IsAccess (signed w32 ▸ text ▸ many user_token_policy ▸ text ▸ byte)
+
+abbrev pub IsEndpoint : EndpointFields → Type 0
+IsEndpoint v = IsText v.0 × IsApplication v.1.0 × IsAccess v.1.1
+
+-- URL, the server, its certificate, and how it is reached
+unfoldable pub endpoint_description : Format BinaryFault EndpointFields
+endpoint_description = fitting IsEndpoint (text ▸ application_description ▸ unkept None byte_string ▹ access)
+
+abbrev pub IsShortAccess : EndpointDescription → Type 0
+IsShortAccess v = IsCounted v.security_policy_uri × (length v.user_identity_tokens < 2 ^ 31) × All IsShortToken v.user_identity_tokens × IsCounted v.transport_profile_uri
+
+abbrev pub IsShortEndpoint : EndpointDescription → Type 0
+IsShortEndpoint v = IsCounted v.endpoint_url × IsShortApplication v.server × IsShortAccess v
+
+-- few enough endpoints, each with few enough of all that is counted
+abbrev pub AreShortEndpoints : List EndpointDescription → Type 0
+AreShortEndpoints endpoints = (length endpoints < 2 ^ 31) × All IsShortEndpoint endpoints
+
+-- the same, each with a spelling
+abbrev pub AreEndpoints : List EndpointDescription → Type 0
+AreEndpoints endpoints = AreFew endpoint_description (map endpoint_fields endpoints)
+
+-- ---- GetEndpoints
+
+-- the URL that the client used, and the transport profiles that it takes
+abbrev pub EndpointsAsked : Type 0
+EndpointsAsked = Option (List ℕ) × List (Option (List ℕ))
+
+abbrev pub endpoints_asked : GetEndpointsRequest → EndpointsAsked
+endpoints_asked r = (option_copied r.endpoint_url, map option_copied r.profile_uris.items)
+
+-- URL, locales, transport profiles
+unfoldable pub get_endpoints_request : Format BinaryFault EndpointsAsked
+get_endpoints_request = text ▸ unkept_array text ▹ many text
+
+-- the endpoints
+unfoldable pub get_endpoints_response : Format BinaryFault (List EndpointFields)
+get_endpoints_response = fitting (AreFew endpoint_description) (many endpoint_description)

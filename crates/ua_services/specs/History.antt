@@ -1,0 +1,201 @@
+-- What a HistoryRead asks and answers (Part 4, 5.10.3; Part 11, 6.4 and 6.5).
+use Rattle.std.specs.Prelude.{◌<◌, ◌^◌, ℕ, ℤ, pos, List, [], length, map, All, Bool, false, Option, Some, None}
+use Rattle.std.specs.Option.{option_copied}
+use Rattle.std.specs.Int.{w32, w64}
+use Rattle.std.specs.Int.RustNames.{FitsSigned}
+use Rattle.ua_binary.specs.declared.fault.BinaryFault.{BinaryFault}
+use Rattle.ua_binary.specs.declared.values.NodeId.{NodeId}
+use Rattle.ua_binary.specs.declared.values.NodeId.TheVariants.{Numeric}
+use Rattle.ua_binary.specs.declared.values.Ticks.{Ticks}
+use Rattle.ua_binary.specs.declared.values.Status.{Status}
+use Rattle.ua_binary.specs.declared.values.QualifiedName.{QualifiedName}
+use Rattle.ua_binary.specs.declared.values.Body.TheVariants.{Absent}
+use Rattle.ua_binary.specs.Format.{Format, ◌▸◌, chosen, headed, standing_for, fitting}
+use Rattle.ua_binary.specs.Binary.{unsigned, signed, boolean, text, IsText, byte_string, IsCounted, node_id, node_of, qualified, qualified_of, ticks, status, body, array}
+use Rattle.ua_variant.specs.declared.fault.VariantFault.{VariantFault}
+use Rattle.ua_variant.specs.declared.data.DataValue.{DataValue}
+use Rattle.ua_variant.specs.Raise.{variant_fault}
+use Rattle.ua_variant.specs.Variant.{raise}
+use Rattle.ua_variant.specs.DataValue.{data_value}
+use Rattle.ua_services.specs.Unkept.{◌◃◌, many, AreFew, null}
+use Rattle.ua_services.specs.Structure.{is_type, structure, structure_with_values}
+use Rattle.ua_services.specs.Attributes.{timestamps, data_values, AreShortValues}
+use Rattle.ua_services.specs.declared.attributes.TimestampsToReturn.{TimestampsToReturn}
+use Rattle.ua_services.specs.declared.history.ReadRawModifiedDetails.{ReadRawModifiedDetails}
+use Rattle.ua_services.specs.declared.history.HistoryReadDetails.{HistoryReadDetails}
+use Rattle.ua_services.specs.declared.history.HistoryReadDetails.TheVariants.{ReadRawModified, Other}
+use Rattle.ua_services.specs.declared.history.HistoryReadValueId.{HistoryReadValueId}
+use Rattle.ua_services.specs.declared.history.HistoryReadRequest.{HistoryReadRequest}
+use Rattle.ua_services.specs.declared.history.HistoryUpdateType.{HistoryUpdateType}
+use Rattle.ua_services.specs.declared.history.HistoryUpdateType.TheVariants.{Insert, Replace, Update, Delete}
+use Rattle.ua_services.specs.declared.history.ModificationInfo.{ModificationInfo}
+use Rattle.ua_services.specs.declared.history.HistoryData.{HistoryData}
+use Rattle.ua_services.specs.declared.history.HistoryData.TheVariants as owned
+use Rattle.ua_services.specs.declared.history.HistoryReadResult.{HistoryReadResult}
+
+-- ---- the request
+
+abbrev pub raw_of : Bool × (Ticks × (Ticks × (ℕ × Bool))) → ReadRawModifiedDetails
+raw_of p = record { is_read_modified = p.0; start_time = p.1.0; end_time = p.1.1.0; num_values_per_node = p.1.1.1.0; return_bounds = p.1.1.1.1 }
+
+abbrev pub raw_fields : ReadRawModifiedDetails → Bool × (Ticks × (Ticks × (ℕ × Bool)))
+raw_fields d = (d.is_read_modified, (d.start_time, (d.end_time, (d.num_values_per_node, d.return_bounds))))
+
+-- whether modified values are meant, start, end, the most values, whether bounds are wanted
+unfoldable pub read_raw_modified_details : Format BinaryFault ReadRawModifiedDetails
+read_raw_modified_details = standing_for raw_of raw_fields (boolean ▸ ticks ▸ ticks ▸ unsigned w32 ▸ boolean)
+
+abbrev pub no_range : ReadRawModifiedDetails
+no_range = raw_of (false, (record { 0 = pos 0 }, (record { 0 = pos 0 }, (0, false))))
+
+abbrev pub read_raw_modified_form : Format BinaryFault HistoryReadDetails
+read_raw_modified_form = standing_for ReadRawModified (λ v. elim v [ ReadRawModified d ↦ d | _ ↦ no_range ]) (structure read_raw_modified_details)
+
+abbrev pub other_read_form : Format BinaryFault HistoryReadDetails
+other_read_form = standing_for (λ _. Other) (λ _. Absent) body
+
+-- what the type calls for: 649 a structure that fills the body; the body of another type isn't looked into
+abbrev pub read_details_form : NodeId → Format BinaryFault HistoryReadDetails
+read_details_form id = chosen (is_type 649 id) read_raw_modified_form other_read_form
+
+-- the type that is written
+abbrev pub read_details_type : HistoryReadDetails → NodeId
+read_details_type (ReadRawModified _) = Numeric 0 649
+read_details_type Other = Numeric 0 0
+
+-- a type, and what it calls for
+unfoldable pub history_read_details : Format BinaryFault HistoryReadDetails
+history_read_details = headed read_details_type node_id read_details_form
+
+-- an empty continuation point counts as none
+abbrev pub point_of : Option (List ℕ) → Option (List ℕ)
+point_of (Some []) = None
+point_of v = v
+
+unfoldable pub continuation_point : Format BinaryFault (Option (List ℕ))
+continuation_point = standing_for point_of (λ v. v) byte_string
+
+-- node, index range, data encoding, continuation point
+abbrev pub HistoryReadFields : Type 0
+HistoryReadFields = NodeId × (Option (List ℕ) × (QualifiedName × Option (List ℕ)))
+
+abbrev pub history_read_fields : HistoryReadValueId → HistoryReadFields
+history_read_fields v = (node_of v.node_id, (option_copied v.index_range, (qualified_of v.data_encoding, option_copied v.continuation_point)))
+
+unfoldable pub history_read_value_id : Format BinaryFault HistoryReadFields
+history_read_value_id = node_id ▸ text ▸ qualified ▸ continuation_point
+
+abbrev pub HistoryAsked : Type 0
+HistoryAsked = HistoryReadDetails × (Option TimestampsToReturn × (Bool × List HistoryReadFields))
+
+abbrev pub history_asked : HistoryReadRequest → HistoryAsked
+history_asked r = (r.details, (r.timestamps, (r.release_continuation_points, map history_read_fields r.nodes.items)))
+
+-- details, moments, whether continuation points are released, what is read
+unfoldable pub history_read_request : Format BinaryFault HistoryAsked
+history_read_request = history_read_details ▸ timestamps ▸ boolean ▸ many history_read_value_id
+
+-- ---- the response
+
+abbrev pub update_number : HistoryUpdateType → ℤ
+update_number Insert = pos 1
+update_number Replace = pos 2
+update_number Update = pos 3
+update_number Delete = pos 4
+
+-- when a value was modified, how, and by whom
+abbrev pub InfoFields : Type 0
+InfoFields = Ticks × (ℤ × Option (List ℕ))
+
+abbrev pub info_fields : ModificationInfo → InfoFields
+info_fields v = (v.modification_time, (update_number v.update_type, v.user_name))
+
+abbrev pub IsInfo : InfoFields → Type 0
+IsInfo v = FitsSigned w64 v.0.0 × FitsSigned w32 v.1.0 × IsText v.1.1
+
+unfoldable pub modification_info : Format BinaryFault InfoFields
+modification_info = fitting IsInfo (ticks ▸ signed w32 ▸ text)
+
+abbrev pub IsShortInfo : ModificationInfo → Type 0
+IsShortInfo v = IsCounted v.user_name
+
+-- values with how each was modified
+abbrev pub history_modified_data : Format VariantFault (List DataValue × List InfoFields)
+history_modified_data = data_values ▸ raise (many modification_info)
+
+-- what was read: nothing, values, or values with how each was modified
+pub data History : Type 0 where
+  Nothing : History
+  Raw : List DataValue → History
+  Modified : List DataValue × List InfoFields → History
+
+abbrev pub history_of : HistoryData → History
+history_of owned.Nothing = Nothing
+history_of (owned.Raw values) = Raw values
+history_of (owned.Modified values infos) = Modified (values, map info_fields infos)
+
+-- what the type calls for: 658 HistoryData, 11227 HistoryModifiedData, another nothing
+abbrev pub history_form : NodeId → Format VariantFault History
+history_form id =
+    chosen (is_type 658 id) (standing_for Raw (λ v. elim v [ Raw values ↦ values | _ ↦ [] ]) (structure_with_values data_values)) (
+    chosen (is_type 11227 id) (standing_for Modified (λ v. elim v [ Modified p ↦ p | _ ↦ ([], []) ]) (structure_with_values history_modified_data))
+    (standing_for (λ _. Nothing) (λ _. Absent) (raise body)))
+
+-- the type that is written
+abbrev pub history_type : History → NodeId
+history_type Nothing = Numeric 0 0
+history_type (Raw _) = Numeric 0 658
+history_type (Modified _) = Numeric 0 11227
+
+-- the bytes of the body
+abbrev pub history_bytes : History → List ℕ
+history_bytes Nothing = []
+history_bytes (Raw values) = data_values.canon values
+history_bytes (Modified p) = history_modified_data.canon p
+
+-- few enough values with spellings, and few enough bytes
+abbrev pub IsHistory : History → Type 0
+IsHistory Nothing = Unit {0}
+IsHistory (Raw values) = AreFew data_value values × (length (data_values.canon values) < 2 ^ 31)
+IsHistory (Modified p) = AreFew data_value p.0 × AreFew modification_info p.1 × (length (history_modified_data.canon p) < 2 ^ 31)
+
+-- an extension object: a type, and what it calls for
+unfoldable pub history_data : Format VariantFault History
+history_data = fitting IsHistory (headed history_type (raise node_id) history_form)
+
+abbrev pub IsShortHistory : HistoryData → Type 0
+IsShortHistory owned.Nothing = Unit {0}
+IsShortHistory (owned.Raw values) = AreShortValues values × (length (history_bytes (Raw values)) < 2 ^ 31)
+IsShortHistory (owned.Modified values infos) =
+    AreShortValues values × (length infos < 2 ^ 31) × All IsShortInfo infos × (length (history_bytes (Modified (values, map info_fields infos))) < 2 ^ 31)
+
+-- the status of a read, where it goes on, and what was read
+abbrev pub HistoryFields : Type 0
+HistoryFields = Status × (Option (List ℕ) × History)
+
+abbrev pub history_fields : HistoryReadResult → HistoryFields
+history_fields r = (r.status, (r.continuation_point, history_of r.history_data))
+
+abbrev pub IsHistoryRead : HistoryFields → Type 0
+IsHistoryRead v = (v.0.0 < 2 ^ 32) × IsCounted v.1.0 × IsHistory v.1.1
+
+-- status, continuation point, what was read
+unfoldable pub history_read_result : Format VariantFault HistoryFields
+history_read_result = fitting IsHistoryRead (raise status ▸ raise byte_string ▸ history_data)
+
+abbrev pub IsShortHistoryRead : HistoryReadResult → Type 0
+IsShortHistoryRead r = IsCounted r.continuation_point × IsShortHistory r.history_data
+
+abbrev pub AreShortHistoryReads : List HistoryReadResult → Type 0
+AreShortHistoryReads results = (length results < 2 ^ 31) × All IsShortHistoryRead results
+
+abbrev pub AreHistoryReads : List HistoryReadResult → Type 0
+AreHistoryReads results = AreFew history_read_result (map history_fields results)
+
+-- an array of results
+abbrev pub history_results : Format VariantFault (List HistoryFields)
+history_results = array variant_fault history_read_result
+
+-- the results, diagnostics
+unfoldable pub history_read_response : Format VariantFault (List HistoryFields)
+history_read_response = fitting (AreFew history_read_result) (history_results ◃ raise null)

@@ -1,0 +1,137 @@
+-- Sessions: how one is made, activated and closed (Part 4, 5.6.2 to 5.6.4), and who a client says that it is (7.36).
+use Rattle.std.specs.Prelude.{◌≡◌, ℕ, ◌<◌, ◌^◌, List, length, map, Option, None, Bool, if◌then◌else◌}
+use Rattle.std.specs.Option.{option_copied}
+use Rattle.std.specs.Int.{w32}
+use Rattle.ua_binary.specs.declared.fault.BinaryFault.{BinaryFault}
+use Rattle.ua_binary.specs.declared.values.NodeId.{NodeId}
+use Rattle.ua_binary.specs.declared.values.NodeId.TheVariants.{Numeric}
+use Rattle.ua_binary.specs.declared.values.Body.{Body}
+use Rattle.ua_binary.specs.declared.values.Body.TheVariants.{Absent}
+use Rattle.ua_binary.specs.Format.{Format, block, ◌▸◌, chosen, headed, standing_for, fitting}
+use Rattle.ua_binary.specs.Binary.{unsigned, boolean, text, byte_string, node_id, IsNodeId, status, body, IsShortNode}
+use Rattle.ua_services.specs.Unkept.{unkept, ◌▹◌, ◌◃◌, many, AreFew, unkept_array, null}
+use Rattle.ua_services.specs.Structure.{is_type, structure}
+use Rattle.ua_services.specs.Endpoints.{no_application, application_description, EndpointFields, endpoint_fields, endpoint_description, AreShortEndpoints}
+use Rattle.ua_services.specs.declared.identity.IdentityToken.{IdentityToken}
+use Rattle.ua_services.specs.declared.identity.IdentityToken.TheVariants as lent
+use Rattle.ua_services.specs.declared.sessions.CreateSessionRequest.{CreateSessionRequest}
+use Rattle.ua_services.specs.declared.sessions.CreateSessionResponse.{CreateSessionResponse}
+
+-- ---- identities
+
+-- who a client says that it is: nobody, a user by name, password and the algorithm that the password is encrypted with, or something else
+pub data Identity : Type 0 where
+  Nobody : Identity
+  User : Option (List ℕ) → Option (List ℕ) → Option (List ℕ) → Identity
+  Other : Identity
+
+-- a borrowed token as this
+abbrev pub identity_of : IdentityToken → Identity
+identity_of lent.Anonymous = Nobody
+identity_of (lent.UserName name password algorithm) = User (option_copied name) (option_copied password) (option_copied algorithm)
+identity_of lent.Other = Other
+
+-- policy id
+unfoldable pub anonymous_identity_token : Format BinaryFault (Unit {0})
+anonymous_identity_token = unkept None text
+
+-- name, password, algorithm of encryption
+abbrev pub UserParts : Type 0
+UserParts = Option (List ℕ) × (Option (List ℕ) × Option (List ℕ))
+
+abbrev pub user_parts : Identity → UserParts
+user_parts (User name password algorithm) = (name, (password, algorithm))
+user_parts _ = (None, (None, None))
+
+-- policy id, user name, password, algorithm of encryption
+unfoldable pub user_name_identity_token : Format BinaryFault UserParts
+user_name_identity_token = unkept None text ▹ text ▸ byte_string ▸ text
+
+-- of a type that isn't known here: the null type without a body is nobody's
+abbrev pub unknown_identity : NodeId → Body → Identity
+unknown_identity id Absent = if is_type 0 id then Nobody else Other
+unknown_identity id _ = Other
+
+abbrev pub anonymous_form : Format BinaryFault Identity
+anonymous_form = standing_for (λ _. Nobody) (λ _. tt) (structure anonymous_identity_token)
+
+abbrev pub user_name_form : Format BinaryFault Identity
+user_name_form = standing_for (λ p. User p.0 p.1.0 p.1.1) user_parts (structure user_name_identity_token)
+
+abbrev pub unknown_form : NodeId → Format BinaryFault Identity
+unknown_form id = standing_for (unknown_identity id) (λ _. Absent) body
+
+-- what the type calls for: 321 an AnonymousIdentityToken, 324 a UserNameIdentityToken; each fills its body
+abbrev pub identity_form : NodeId → Format BinaryFault Identity
+identity_form id = chosen (is_type 321 id) anonymous_form (chosen (is_type 324 id) user_name_form (unknown_form id))
+
+-- the type that is written: the null one of nobody, and that of a certificate for what is something else
+abbrev pub identity_type : Identity → NodeId
+identity_type Nobody = Numeric 0 0
+identity_type (User _ _ _) = Numeric 0 324
+identity_type Other = Numeric 0 327
+
+-- a type, and what it calls for
+unfoldable pub user_identity : Format BinaryFault Identity
+user_identity = headed identity_type node_id identity_form
+
+-- ---- signatures and certificates
+
+-- algorithm, signature
+abbrev pub signature_data : Format BinaryFault (Option (List ℕ) × Option (List ℕ))
+signature_data = text ▸ byte_string
+
+-- certificate, signature
+abbrev pub signed_software_certificate : Format BinaryFault (Option (List ℕ) × Option (List ℕ))
+signed_software_certificate = byte_string ▸ byte_string
+
+abbrev pub no_signature : Option (List ℕ) × Option (List ℕ)
+no_signature = (None, None)
+
+-- ---- CreateSession
+
+-- the URL of the endpoint, the name of the session, the timeout as its bytes
+abbrev pub SessionAsked : Type 0
+SessionAsked = Option (List ℕ) × (Option (List ℕ) × List ℕ)
+
+abbrev pub session_asked : CreateSessionRequest → SessionAsked
+session_asked r = (option_copied r.endpoint_url, (option_copied r.session_name, r.timeout))
+
+-- the client, URI of the server, URL of the endpoint, name, nonce, certificate, timeout, greatest response
+unfoldable pub create_session_request : Format BinaryFault SessionAsked
+create_session_request =
+    unkept no_application application_description ▹ unkept None text ▹ text ▸ text ▸ unkept None byte_string ▹ unkept None byte_string ▹ block 8 ◃ unkept 0 (unsigned w32)
+
+-- session id, token, timeout, endpoints, greatest request
+abbrev pub SessionMade : Type 0
+SessionMade = NodeId × (NodeId × (List ℕ × (List EndpointFields × ℕ)))
+
+abbrev pub session_made : CreateSessionResponse → SessionMade
+session_made r = (r.session_id, (r.authentication_token, (r.timeout, (map endpoint_fields r.endpoints.now, r.max_request_size))))
+
+abbrev pub IsSessionMade : SessionMade → Type 0
+IsSessionMade v = IsNodeId v.0 × IsNodeId v.1.0 × (length v.1.1.0 ≡ 8) × AreFew endpoint_description v.1.1.1.0 × (v.1.1.1.1 < 2 ^ 32)
+
+-- session id, token, timeout, nonce, certificate, endpoints, software certificates, signature, greatest request
+unfoldable pub create_session_response : Format BinaryFault SessionMade
+create_session_response =
+    fitting IsSessionMade (node_id ▸ node_id ▸ block 8 ▸ unkept None byte_string ▹ unkept None byte_string ▹ many endpoint_description
+    ▸ unkept_array signed_software_certificate ▹ unkept no_signature signature_data ▹ unsigned w32)
+
+abbrev pub IsShortSession : CreateSessionResponse → Type 0
+IsShortSession r = IsShortNode r.session_id × IsShortNode r.authentication_token × AreShortEndpoints r.endpoints.now
+
+-- ---- ActivateSession and CloseSession
+
+-- signature, software certificates, locales, identity, signature of the token
+unfoldable pub activate_session_request : Format BinaryFault Identity
+activate_session_request =
+    unkept no_signature signature_data ▹ unkept_array signed_software_certificate ▹ unkept_array text ▹ user_identity ◃ unkept no_signature signature_data
+
+-- nonce, results of the certificates, diagnostics
+unfoldable pub activate_session_response : Format BinaryFault (Unit {0})
+activate_session_response = unkept None byte_string ▹ unkept_array status ▹ null
+
+-- whether subscriptions end with it
+unfoldable pub close_session_request : Format BinaryFault Bool
+close_session_request = boolean

@@ -1,0 +1,43 @@
+-- Fields that are read by their grammar and not kept.
+use Rattle.std.specs.Prelude.{◌<◌, ◌^◌, negsuc, List, length, Ok}
+use Rattle.std.specs.List.{AllByRecursion}
+use Rattle.std.specs.Int.{w32}
+use Rattle.ua_binary.specs.declared.fault.BinaryFault.{BinaryFault}
+use Rattle.ua_binary.specs.declared.fault.BinaryFault.TheVariants.{BadEncodingByte}
+use Rattle.ua_binary.specs.Format.{◌>>=◌, Format, exactly, ◌▸◌, standing_for, fitting}
+use Rattle.ua_binary.specs.Binary.{signed, array}
+
+-- a field whose value isn't kept; where it is written, it is this one
+abbrev pub unkept : {E A : Type 0} → A → Format E A → Format E (Unit {0})
+unkept a f = fitting (λ _. f.Fits a) (standing_for (λ _. tt) (λ _. a) f)
+
+-- such a field, and what follows it
+infixr 6 ◌▹◌
+abbrev pub ◌▹◌ : {E A : Type 0} → Format E (Unit {0}) → Format E A → Format E A
+u ▹ f = fitting (λ v. u.Fits tt × f.Fits v) (standing_for (λ p. p.1) (λ v. (tt, v)) (u ▸ f))
+
+-- what stands before such a field, and the field
+infixr 7 ◌◃◌
+abbrev pub ◌◃◌ : {E A : Type 0} → Format E A → Format E (Unit {0}) → Format E A
+f ◃ u = fitting (λ v. f.Fits v × u.Fits tt) (standing_for (λ p. p.0) (λ v. (v, tt)) (f ▸ u))
+
+-- an array
+abbrev pub many : {A : Type 0} → Format BinaryFault A → Format BinaryFault (List A)
+many f = array (λ e. e) f
+
+-- few enough to be counted, each with a spelling
+abbrev pub AreFew : {E A : Type 0} → Format E A → List A → Type 0
+AreFew f vs = (length vs < 2 ^ 31) × AllByRecursion f.Fits vs
+
+-- an array that isn't kept; a null one is written
+abbrev pub unkept_array : {A : Type 0} → Format BinaryFault A → Format BinaryFault (Unit {0})
+unkept_array f = record {
+  Spells = λ bytes _. (vs : _) × (many f).Spells bytes vs;
+  read = λ bytes. (many f).read bytes >>= λ a. Ok (tt, a.1);
+  canon = λ _. (signed w32).canon (negsuc 0);
+  Fits = λ _. Unit {0};
+}
+
+-- a null array, as the one of diagnostics always is
+abbrev pub null : Format BinaryFault (Unit {0})
+null = exactly BadEncodingByte ((signed w32).canon (negsuc 0))

@@ -1,0 +1,144 @@
+-- What a HistoryUpdate asks and answers (Part 4, 5.10.5; Part 11, 6.8).
+use Rattle.std.specs.Prelude.{◌<◌, ◌^◌, ℤ, pos, List, [], length, map, All, Bool, false}
+use Rattle.std.specs.Int.{w32}
+use Rattle.ua_binary.specs.declared.fault.BinaryFault.{BinaryFault}
+use Rattle.ua_binary.specs.declared.values.NodeId.{NodeId}
+use Rattle.ua_binary.specs.declared.values.NodeId.TheVariants.{Numeric}
+use Rattle.ua_binary.specs.declared.values.Ticks.{Ticks}
+use Rattle.ua_binary.specs.declared.values.Status.{Status}
+use Rattle.ua_binary.specs.declared.values.Body.TheVariants.{Absent}
+use Rattle.ua_binary.specs.Format.{Format, ◌▸◌, chosen, headed, standing_for, fitting}
+use Rattle.ua_binary.specs.Binary.{signed, boolean, node_id, node_of, ticks, status, body, array}
+use Rattle.ua_variant.specs.declared.fault.VariantFault.{VariantFault}
+use Rattle.ua_variant.specs.declared.data.DataValue.{DataValue}
+use Rattle.ua_variant.specs.Raise.{variant_fault}
+use Rattle.ua_variant.specs.Variant.{raise}
+use Rattle.ua_variant.specs.DataValue.{data_value}
+use Rattle.ua_services.specs.Unkept.{◌◃◌, many, AreFew, null}
+use Rattle.ua_services.specs.Structure.{is_type, structure, structure_with_values}
+use Rattle.ua_services.specs.declared.updates.UpdateDataDetails.{UpdateDataDetails}
+use Rattle.ua_services.specs.declared.updates.DeleteRawModifiedDetails.{DeleteRawModifiedDetails}
+use Rattle.ua_services.specs.declared.updates.DeleteAtTimeDetails.{DeleteAtTimeDetails}
+use Rattle.ua_services.specs.declared.updates.HistoryUpdateDetails.{HistoryUpdateDetails}
+use Rattle.ua_services.specs.declared.updates.HistoryUpdateDetails.TheVariants as lent
+use Rattle.ua_services.specs.declared.updates.HistoryUpdateResult.{HistoryUpdateResult}
+
+-- ---- details
+
+-- a node, which update is asked, and values
+abbrev pub DataUpdate : Type 0
+DataUpdate = NodeId × (ℤ × List DataValue)
+
+abbrev pub data_update : UpdateDataDetails → DataUpdate
+data_update d = (node_of d.node_id, (d.perform, d.values))
+
+-- node, perform, values
+unfoldable pub update_data_details : Format VariantFault DataUpdate
+update_data_details = raise node_id ▸ raise (signed w32) ▸ array variant_fault data_value
+
+-- a node, whether modified values are meant, and a range of time
+abbrev pub RawDeletion : Type 0
+RawDeletion = NodeId × (Bool × (Ticks × Ticks))
+
+abbrev pub raw_deletion : DeleteRawModifiedDetails → RawDeletion
+raw_deletion d = (node_of d.node_id, (d.is_delete_modified, (d.start_time, d.end_time)))
+
+-- node, whether modified values are meant, start, end
+unfoldable pub delete_raw_modified_details : Format BinaryFault RawDeletion
+delete_raw_modified_details = node_id ▸ boolean ▸ ticks ▸ ticks
+
+-- a node, and times
+abbrev pub DeletionAt : Type 0
+DeletionAt = NodeId × List Ticks
+
+abbrev pub deletion_at : DeleteAtTimeDetails → DeletionAt
+deletion_at d = (node_of d.node_id, d.times)
+
+-- node, times
+unfoldable pub delete_at_time_details : Format BinaryFault DeletionAt
+delete_at_time_details = node_id ▸ many ticks
+
+-- what one of the details asks
+pub data Details : Type 0 where
+  UpdateData : DataUpdate → Details
+  DeleteRawModified : RawDeletion → Details
+  DeleteAtTime : DeletionAt → Details
+  -- of another type
+  Other : Details
+
+-- borrowed details as these
+abbrev pub details_of : HistoryUpdateDetails → Details
+details_of (lent.UpdateData d) = UpdateData (data_update d)
+details_of (lent.DeleteRawModified d) = DeleteRawModified (raw_deletion d)
+details_of (lent.DeleteAtTime d) = DeleteAtTime (deletion_at d)
+details_of lent.Other = Other
+
+abbrev pub no_node : NodeId
+no_node = Numeric 0 0
+
+abbrev pub no_time : Ticks
+no_time = record { 0 = pos 0 }
+
+abbrev pub update_data_form : Format VariantFault Details
+update_data_form = standing_for UpdateData (λ v. elim v [ UpdateData d ↦ d | _ ↦ (no_node, (pos 0, [])) ]) (structure_with_values update_data_details)
+
+abbrev pub delete_raw_modified_form : Format BinaryFault Details
+delete_raw_modified_form = standing_for DeleteRawModified (λ v. elim v [ DeleteRawModified d ↦ d | _ ↦ (no_node, (false, (no_time, no_time))) ]) (structure delete_raw_modified_details)
+
+abbrev pub delete_at_time_form : Format BinaryFault Details
+delete_at_time_form = standing_for DeleteAtTime (λ v. elim v [ DeleteAtTime d ↦ d | _ ↦ (no_node, []) ]) (structure delete_at_time_details)
+
+abbrev pub other_form : Format BinaryFault Details
+other_form = standing_for (λ _. Other) (λ _. Absent) body
+
+-- what the type calls for: 682, 688 and 691 a structure that fills the body; the body of another type isn't looked into
+abbrev pub details_form : NodeId → Format VariantFault Details
+details_form id =
+    chosen (is_type 682 id) update_data_form (
+    chosen (is_type 688 id) (raise delete_raw_modified_form) (
+    chosen (is_type 691 id) (raise delete_at_time_form)
+    (raise other_form)))
+
+-- the type that is written
+abbrev pub details_type : Details → NodeId
+details_type (UpdateData _) = Numeric 0 682
+details_type (DeleteRawModified _) = Numeric 0 688
+details_type (DeleteAtTime _) = Numeric 0 691
+details_type Other = no_node
+
+-- a type, and what it calls for
+unfoldable pub history_update_details : Format VariantFault Details
+history_update_details = headed details_type (raise node_id) details_form
+
+-- ---- HistoryUpdate
+
+-- the details, each by itself
+unfoldable pub history_update_request : Format VariantFault (List Details)
+history_update_request = array variant_fault history_update_details
+
+-- the status of one of the details, and the codes of its operations
+abbrev pub UpdateFields : Type 0
+UpdateFields = Status × List Status
+
+abbrev pub update_fields : HistoryUpdateResult → UpdateFields
+update_fields r = (r.status, r.operation_results)
+
+abbrev pub IsUpdated : UpdateFields → Type 0
+IsUpdated v = (v.0.0 < 2 ^ 32) × AreFew status v.1
+
+-- status, codes, diagnostics
+unfoldable pub history_update_result : Format BinaryFault UpdateFields
+history_update_result = fitting IsUpdated (status ▸ many status ◃ null)
+
+abbrev pub IsShortUpdate : HistoryUpdateResult → Type 0
+IsShortUpdate r = length r.operation_results < 2 ^ 31
+
+abbrev pub AreShortUpdates : List HistoryUpdateResult → Type 0
+AreShortUpdates results = (length results < 2 ^ 31) × All IsShortUpdate results
+
+abbrev pub AreUpdated : List HistoryUpdateResult → Type 0
+AreUpdated results = AreFew history_update_result (map update_fields results)
+
+-- the results, diagnostics
+unfoldable pub history_update_response : Format BinaryFault (List UpdateFields)
+history_update_response = fitting (AreFew history_update_result) (many history_update_result ◃ null)
