@@ -7,7 +7,7 @@ use Rattle.ua_session.specs.declared.fault.SessionFault.TheVariants.{IdInvalid, 
 use Rattle.ua_session.specs.declared.session.Session.{Session}
 use Rattle.ua_session.specs.Users.{Allowed, Claim, judgement}
 use Rattle.ua_session.specs.Sessions.{State, is_named, Activates, Closes, HasShortUser}
-use Rattle.ua_session.proofs.Found.{found, find_none, find_some, without-at, set_user-at, short-set_user, short-without}
+use Rattle.ua_session.proofs.Found.{found, find_none, find_some, without_session-at, with_user-at, short-with_user, short-without_session}
 
 -- ---- close
 
@@ -23,13 +23,13 @@ pub closes-one : (state : State) (token : NodeId) (place : ℕ) (rest : List Ses
 closes-one state token place rest at is =
     let here = found token state.alive place at in
     let one = find_some token state.alive place here any in
-    record { answer = rw one refl; leaves = ap (λ l. let s : State = record { made = state.made; alive = l } in s) (is ∙ without-at token state.alive place here) }
+    record { answer = rw one refl; leaves = ap (λ l. let s : State = record { made = state.made; alive = l } in s) (is ∙ without_session-at token state.alive place here) }
 
 -- the names stay short
 pub short-remove : (alive rest : List Session) (token : NodeId) (place : ℕ) → position (is_named token) alive ≡ Some place → rest ≡ remove alive place → AllByRecursion HasShortUser alive → AllByRecursion HasShortUser rest
 short-remove alive rest token place at is all =
     let P : List Session → Type 0 = AllByRecursion HasShortUser in
-    subst P (sym (is ∙ without-at token alive place (found token alive place at))) (short-without token alive all)
+    subst P (sym (is ∙ without_session-at token alive place (found token alive place at))) (short-without_session token alive all)
 
 pub ruleset closing = (closes-none, closes-one, short-remove)
 
@@ -59,15 +59,15 @@ activates-one state token allowed claim place user name d at is there copied =
     let here = found token state.alive place at in
     let one = find_some token state.alive place here any in
     let written = ap (λ u. set state.alive place (record d { user = Some u })) copied in
-    let same = written ∙ ap (λ (s : Session). set state.alive place (record s { user = Some user })) there ∙ set_user-at token user state.alive place d here in
+    let same = written ∙ ap (λ (s : Session). set state.alive place (record s { user = Some user })) there ∙ with_user-at token user state.alive place d here in
     record { answer = rw (one, ← is) refl; leaves = ap (λ l. let s : State = record { made = state.made; alive = l } in s) same }
 
 pub short-set : (alive : List Session) (token : NodeId) (place : ℕ) (user : List ℕ) (d : Session) → position (is_named token) alive ≡ Some place → d ≡ get_or alive place d → length user ≤ 256 → AllByRecursion HasShortUser alive
     → AllByRecursion HasShortUser (set alive place (record { token = d.token; user = Some user }))
 short-set alive token place user d at there short all =
     let here = found token alive place at in
-    let same = ap (λ (s : Session). set alive place (record s { user = Some user })) there ∙ set_user-at token user alive place d here in
+    let same = ap (λ (s : Session). set alive place (record s { user = Some user })) there ∙ with_user-at token user alive place d here in
     let P : List Session → Type 0 = AllByRecursion HasShortUser in
-    subst P (sym same) (short-set_user token user alive short all)
+    subst P (sym same) (short-with_user token user alive short all)
 
 pub ruleset activating = (activates-none, activates-refused, activates-starved, activates-one, short-set)

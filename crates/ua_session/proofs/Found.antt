@@ -1,19 +1,12 @@
 -- The session of a token in a list: found, changed or taken out by its place.
-use Rattle.std.proofs.Common.{◌≡◌, ℕ, zero, suc, ◌<◌, ◌≤◌, Bool, true, false, List, [], ◌∷◌, length, get_or, set, Option, None, Some, IfSome, refl, sym, ap, ◌∙◌, subst, cond, nat_lt, ltb-false, arith, find, position}
+use Rattle.std.proofs.Common.{◌≡◌, ℕ, zero, suc, ◌<◌, ◌≤◌, Bool, true, false, List, [], ◌∷◌, length, get_or, set, None, Some, refl, sym, ap, ◌∙◌, cond, nat_lt, ltb-false, arith, find, position}
 use Rattle.std.specs.List.{AllByRecursion, position_or_len, slice_get, remove}
 use Rattle.std.proofs.lemmas.List.Folds.{find_at}
 use Rattle.std.proofs.lemmas.List.Quantifiers.{position-Some}
 use Rattle.std.proofs.lemmas.Option.{slice_get_past}
 use Rattle.ua_binary.specs.declared.values.NodeId.{NodeId}
 use Rattle.ua_session.specs.declared.session.Session.{Session}
-use Rattle.ua_session.specs.declared.identity.User.{User}
-use Rattle.ua_session.specs.Users.{HasShortName}
 use Rattle.ua_session.specs.Sessions.{is_named, with_user, without_session, HasShortUser}
-
--- what is found has what each item has
-pub find_has : {X : Type 0} (P : X → Type 0) (p : X → Bool) (xs : List X) → AllByRecursion P xs → IfSome (find p xs) P
-find_has P p [] all = tt
-find_has P p (x ∷ xs) all = elim (p x) as (λ b. IfSome (cond b (Some x) (find p xs)) P) [ true ↦ all.0 | false ↦ find_has P p xs all.1 ]
 
 -- what has no place isn't found
 pub find_none : {X : Type 0} (p : X → Bool) (xs : List X) → position p xs ≡ None → find p xs ≡ None
@@ -45,19 +38,19 @@ after_first token session alive place is = record {
   before = λ k d below. is.before (suc k) d (omega (arith, below));
 }
 
-pub without-at : (token : NodeId) (alive : List Session) (place : ℕ) → Found token alive place → remove alive place ≡ without_session token alive
-without-at token [] place is = absurd (omega (arith, is.within))
-without-at token (session ∷ alive) zero is = let here = is.here session in rw here refl
-without-at token (session ∷ alive) (suc place) is =
+pub without_session-at : (token : NodeId) (alive : List Session) (place : ℕ) → Found token alive place → remove alive place ≡ without_session token alive
+without_session-at token [] place is = absurd (omega (arith, is.within))
+without_session-at token (session ∷ alive) zero is = let here = is.here session in rw here refl
+without_session-at token (session ∷ alive) (suc place) is =
     let apart : is_named token session ≡ false = is.before zero session (omega arith) in
-    rw apart (ap (λ rest. session ∷ rest) (without-at token alive place (after_first token session alive place is)))
+    rw apart (ap (λ rest. session ∷ rest) (without_session-at token alive place (after_first token session alive place is)))
 
-pub set_user-at : (token : NodeId) (user : List ℕ) (alive : List Session) (place : ℕ) (d : Session) → Found token alive place → set alive place (record (get_or alive place d) { user = Some user }) ≡ with_user token user alive
-set_user-at token user [] place d is = absurd (omega (arith, is.within))
-set_user-at token user (session ∷ alive) zero d is = let here = is.here session in rw here refl
-set_user-at token user (session ∷ alive) (suc place) d is =
+pub with_user-at : (token : NodeId) (user : List ℕ) (alive : List Session) (place : ℕ) (d : Session) → Found token alive place → set alive place (record (get_or alive place d) { user = Some user }) ≡ with_user token user alive
+with_user-at token user [] place d is = absurd (omega (arith, is.within))
+with_user-at token user (session ∷ alive) zero d is = let here = is.here session in rw here refl
+with_user-at token user (session ∷ alive) (suc place) d is =
     let apart : is_named token session ≡ false = is.before zero session (omega arith) in
-    rw apart (ap (λ rest. session ∷ rest) (set_user-at token user alive place d (after_first token session alive place is)))
+    rw apart (ap (λ rest. session ∷ rest) (with_user-at token user alive place d (after_first token session alive place is)))
 
 -- what is at a place is found
 pub find_some : (token : NodeId) (alive : List Session) (place : ℕ) → Found token alive place → (d : Session) → find (is_named token) alive ≡ Some (get_or alive place d)
@@ -68,27 +61,14 @@ find_some token (session ∷ alive) (suc place) is d =
     rw apart (find_some token alive place (after_first token session alive place is) d)
 
 -- the names stay short
-pub short-set_user : (token : NodeId) (user : List ℕ) (alive : List Session) → length user ≤ 256 → AllByRecursion HasShortUser alive → AllByRecursion HasShortUser (with_user token user alive)
-short-set_user token user [] short all = tt
-short-set_user token user (session ∷ alive) short all =
+pub short-with_user : (token : NodeId) (user : List ℕ) (alive : List Session) → length user ≤ 256 → AllByRecursion HasShortUser alive → AllByRecursion HasShortUser (with_user token user alive)
+short-with_user token user [] short all = tt
+short-with_user token user (session ∷ alive) short all =
     elim (is_named token session) as (λ b. AllByRecursion HasShortUser (cond b (record session { user = Some user } ∷ alive) (session ∷ with_user token user alive)))
-    [ true ↦ (short, all.1) | false ↦ (all.0, short-set_user token user alive short all.1) ]
+    [ true ↦ (short, all.1) | false ↦ (all.0, short-with_user token user alive short all.1) ]
 
-pub short-without : (token : NodeId) (alive : List Session) → AllByRecursion HasShortUser alive → AllByRecursion HasShortUser (without_session token alive)
-short-without token [] all = tt
-short-without token (session ∷ alive) all =
+pub short-without_session : (token : NodeId) (alive : List Session) → AllByRecursion HasShortUser alive → AllByRecursion HasShortUser (without_session token alive)
+short-without_session token [] all = tt
+short-without_session token (session ∷ alive) all =
     elim (is_named token session) as (λ b. AllByRecursion HasShortUser (cond b alive (session ∷ without_session token alive)))
-    [ true ↦ all.1 | false ↦ (all.0, short-without token alive all.1) ]
-
--- a user that a session has is short
-pub user-short : (token : NodeId) (alive : List Session) (session : Session) (user : List ℕ) → AllByRecursion HasShortUser alive → find (is_named token) alive ≡ Some session → session.user ≡ Some user → length user ≤ 256
-user-short token alive session user all is has =
-    let P : Option Session → Type 0 = λ o. IfSome o HasShortUser in
-    let Q : Option (List ℕ) → Type 0 = λ o. IfSome o (λ u. length u ≤ 256) in
-    subst Q has (subst P is (find_has HasShortUser (is_named token) alive all))
-
--- a user who was found has a short name
-pub name-short : (p : User → Bool) (users : List User) (user : User) → AllByRecursion HasShortName users → find p users ≡ Some user → length user.name ≤ 256
-name-short p users user all is =
-    let P : Option User → Type 0 = λ o. IfSome o HasShortName in
-    subst P is (find_has HasShortName p users all)
+    [ true ↦ all.1 | false ↦ (all.0, short-without_session token alive all.1) ]

@@ -13,7 +13,7 @@ use Rattle.ua_session.specs.declared.identity.User.{User}
 use Rattle.ua_session.specs.Users.{Allowed, Claim, Anonymous, Named as ByName, Other, nobody, has_name, judgement_of_user, judgement_of_name, unless_encrypted, judgement}
 use Rattle.ua_session.specs.Sessions.{State, fresh, session_id_of, token_of, is_named, is_full, if_open, user_of_session, with_new, with_user, without_session, IsOrStarved}
 use Rattle.ua_session.specs.History.{Deed, Made, Activated, Closed, made_count, closed_count, was_closed, last_user, IsAlive, session_of, IsValid, HasRoom, Event, Create, Activate, Close, Ask, Does, Runs, after, IsAnswered, AreAnswered}
-use Rattle.ua_session.proofs.Alive.{at, changed, Apart, at_same-set_user, at_other-set_user, at_same-without, at_other-without, length-without, length-set_user, apart-set_user, apart-without, at-append, apart-append}
+use Rattle.ua_session.proofs.Alive.{at, changed, Apart, at_same-with_user, at_other-with_user, at_same-without_session, at_other-without_session, length-without_session, length-with_user, apart-with_user, apart-without_session, at-append, apart-append}
 
 -- a session that is held under a token's number
 pub record Holds (past : List Deed) (n : ℕ) (session : Session) : Type 0 where
@@ -113,12 +113,12 @@ represents-activated past state n user one is there =
     let held_one = is.holds n one there in
     record {
       made = is.made;
-      count = rw (length-set_user (Numeric 1 n) user state.alive) is.count;
-      apart = apart-set_user n user state.alive is.apart;
+      count = rw (length-with_user (Numeric 1 n) user state.alive) is.count;
+      apart = apart-with_user n user state.alive is.apart;
       holds = λ m session found. elim (cases_eq m n) [
         | inl same ↦ (
             let Q : ℕ → Type 0 = λ k. at k (with_user (Numeric 1 n) user state.alive) ≡ Some session in
-            let changed : Some (changed user one) ≡ Some session = sym (at_same-set_user n user state.alive ∙ ap (option_map (changed user)) there) ∙ subst Q same found in
+            let changed : Some (changed user one) ≡ Some session = sym (at_same-with_user n user state.alive ∙ ap (option_map (changed user)) there) ∙ subst Q same found in
             let has : Some user ≡ session.user = ap (λ (o : Option Session). elim o [ None ↦ None | Some s ↦ s.user ]) changed in
             let P : ℕ → Type 0 = λ k. Holds (Activated (n / 2) user ∷ past) k session in
             subst P (sym same) (record {
@@ -127,7 +127,7 @@ represents-activated past state n user one is there =
               user = sym has ∙ sym (cond-true (eqb (n / 2) (n / 2)) (Some user) (last_user (n / 2) past) (eq-eqb (n / 2) (n / 2) refl));
             }))
         | inr ne ↦ (
-            let held_other = is.holds m session (sym (at_other-set_user m n user state.alive ne) ∙ found) in
+            let held_other = is.holds m session (sym (at_other-with_user m n user state.alive ne) ∙ found) in
             let apart = ne_eqb (n / 2) (m / 2) (halves past n m one session held_one held_other ne) in
             record {
               odd = held_other.odd;
@@ -140,8 +140,8 @@ represents-activated past state n user one is there =
           elim (cases_eq (2 * k + 1) n) [
             | inl same ↦ (
                 let P : ℕ → Type 0 = λ m. IsSome (at m (with_user (Numeric 1 n) user state.alive)) in
-                subst P (sym same) (rw (at_same-set_user n user state.alive, there) refl))
-            | inr ne ↦ rw (at_other-set_user (2 * k + 1) n user state.alive ne) still
+                subst P (sym same) (rw (at_same-with_user n user state.alive, there) refl))
+            | inr ne ↦ rw (at_other-with_user (2 * k + 1) n user state.alive ne) still
           ];
       unmade = λ k above.
           let bound = held_one.is_alive.made in
@@ -155,17 +155,17 @@ represents-closed : (past : List Deed) (state : State) (n : ℕ) (one : Session)
     → Represents (Closed (n / 2) ∷ past) (record state { alive = without_session (Numeric 1 n) state.alive })
 represents-closed past state n one is there =
     let held_one = is.holds n one there in
-    let fewer = length-without n state.alive (rw there refl) in
+    let fewer = length-without_session n state.alive (rw there refl) in
     record {
       made = is.made;
       count = omega (arith, is.count, fewer);
-      apart = apart-without n state.alive is.apart;
+      apart = apart-without_session n state.alive is.apart;
       holds = λ m session found. elim (cases_eq m n) [
         | inl same ↦ (
             let Q : ℕ → Type 0 = λ k. at k (without_session (Numeric 1 n) state.alive) ≡ Some session in
-            let gone : None ≡ Some session = sym (at_same-without n state.alive is.apart) ∙ subst Q same found in absurd cc)
+            let gone : None ≡ Some session = sym (at_same-without_session n state.alive is.apart) ∙ subst Q same found in absurd cc)
         | inr ne ↦ (
-            let held_other = is.holds m session (sym (at_other-without m n state.alive ne) ∙ found) in
+            let held_other = is.holds m session (sym (at_other-without_session m n state.alive ne) ∙ found) in
             let apart = ne_eqb (n / 2) (m / 2) (halves past n m one session held_one held_other ne) in
             record {
               odd = held_other.odd;
@@ -178,7 +178,7 @@ represents-closed past state n one is there =
           let still = is.held k (record { first = alive.first; made = alive.made; unclosed = parts.1 }) in
           let other = eqb-false (n / 2) k parts.0 in
           let ne : 2 * k + 1 ≡ n → ⊥ = λ e. other (omega arith) in
-          rw (at_other-without (2 * k + 1) n state.alive ne) still;
+          rw (at_other-without_session (2 * k + 1) n state.alive ne) still;
       unmade = λ k above.
           let bound = held_one.is_alive.made in
           let apart : eqb (n / 2) k ≡ false = ne_eqb (n / 2) k (λ e. omega arith) in

@@ -9,7 +9,7 @@ use Rattle.ua_session.specs.declared.session.Session.{Session}
 use Rattle.ua_session.specs.Users.{Allowed, Claim, judgement}
 use Rattle.ua_session.specs.Sessions.{State, fresh, session_id_of, token_of, is_named, is_full, user_of_session, user_at, with_new, IsOrStarved}
 use Rattle.ua_session.specs.History.{Deed, Made, Activated, Closed, made_count, was_closed, last_user, IsAlive, session_of, IsValid, Event, Create, Activate, Close, Ask, Does, Runs, after, IsAnswered, LeaveAlone}
-use Rattle.ua_session.proofs.Alive.{length-set_user, length-le-without}
+use Rattle.ua_session.proofs.Alive.{length-with_user, length-le-without_session}
 use Rattle.ua_session.proofs.Histories.{Represents, represents-fresh, half, valid, invalid, answering, leaving}
 
 -- ---- the last activation
@@ -204,9 +204,9 @@ bounded-made old false given is answer =
 bounded-after : (old new : State) (event : Event) → IsBounded old → Does old event new → IsBounded new
 bounded-after old new (Create (Ok given)) is does = bounded-along _ new does.leaves (bounded-made old (is_full old) given refl does.answer)
 bounded-after old new (Create (Err fault)) is does = bounded-along old new does.leaves is
-bounded-after old new (Activate token allowed claim (Ok user)) is does = bounded-along _ new does.leaves (record { few = rw (length-set_user token user old.alive) is.few; rare = is.rare })
+bounded-after old new (Activate token allowed claim (Ok user)) is does = bounded-along _ new does.leaves (record { few = rw (length-with_user token user old.alive) is.few; rare = is.rare })
 bounded-after old new (Activate token allowed claim (Err fault)) is does = bounded-along old new does.leaves is
-bounded-after old new (Close token (Ok done)) is does = bounded-along _ new does.leaves (record { few = omega (arith, is.few, length-le-without token old.alive); rare = is.rare })
+bounded-after old new (Close token (Ok done)) is does = bounded-along _ new does.leaves (record { few = omega (arith, is.few, length-le-without_session token old.alive); rare = is.rare })
 bounded-after old new (Close token (Err fault)) is does = bounded-along old new does.leaves is
 bounded-after old new (Ask token result) is does = bounded-along old new does.1 is
 

@@ -16,6 +16,10 @@ pub record Allowed : Type 0 where
   pub anonymous : Bool
   pub named : List User
 
+-- with one user more, the last
+abbrev pub with_added : Allowed → List ℕ → List ℕ → Allowed
+with_added allowed name password = record allowed { named = allowed.named ++ record { name = name; password = password } ∷ [] }
+
 -- An identity without where it lies in memory: no name, or a name with a password and the algorithm that encrypted it, or
 -- something else.
 pub data Claim : Type 0 where

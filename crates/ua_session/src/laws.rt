@@ -1,6 +1,6 @@
 //! What holds of the calls of any connection's sessions, whatever they are, and of the users' judgement.
 
-ghost use Rattle.std.specs.Prelude.{◌≡◌, ◌≢◌, ◌≤◌, ◌↔◌, ◌++◌, [], ◌∷◌, List, ℕ, Option, Some, None, Ok, Err, true, length, unwrap_or};
+ghost use Rattle.std.specs.Prelude.{◌≡◌, ◌≢◌, ◌≤◌, ◌↔◌, ◌++◌, [], ◌∷◌, List, ℕ, Option, Some, Ok, Err, true, length, unwrap_or};
 ghost use Rattle.ua_binary.specs.declared.values.NodeId.{NodeId};
 ghost use Rattle.ua_session.specs.Users.{Allowed, Claim, Anonymous, Named, Other, nobody, judgement, IsFirst};
 ghost use Rattle.ua_session.specs.Sessions.{State, fresh, user_at};

@@ -1,6 +1,6 @@
 //! The sessions of one connection.
 
-ghost use Rattle.std.specs.Prelude.{◌≡◌, length, find, position, IfOk, IfSome};
+ghost use Rattle.std.specs.Prelude.{◌≡◌, find, position, IfOk, IfSome};
 ghost use Rattle.std.specs.List.{AllByRecursion};
 ghost use Rattle.std.specs.Option.{option_copied};
 ghost use Rattle.ua_binary.specs.Binary.{node_of};

@@ -153,7 +153,7 @@ fn other_tokens(rt: HostRuntime) -> Result<(), Fail> {
     Ok(())
 }
 
-/// A name, a password and an algorithm, whether an anonymous user is allowed, and the answer.
+/// A name, a password and an algorithm, and the answer.
 static NAMED: [(Option<&str>, Option<&[u8]>, Option<&str>, Told); 17] = [
     (Some("ann"), Some(b"pw"), None, Ok("ann")),
     (Some("ann"), Some(b"pw"), Some(""), Ok("ann")),
@@ -174,6 +174,22 @@ static NAMED: [(Option<&str>, Option<&[u8]>, Option<&str>, Told); 17] = [
     (Some("eve"), None, None, Ok("eve")),
 ];
 
+/// What is called then, where an anonymous user isn't allowed.
+static UNNAMED: [Call; 5] = [
+    Activate(FIRST, NOBODY, Err(IdentityRejected)),
+    Activate(FIRST, Identity::Other, Err(IdentityInvalid)),
+    Activate(SECOND, Identity::Other, Err(IdInvalid)),
+    Activate(SECOND, NOBODY, Err(IdInvalid)),
+    UserOf(FIRST, Ok("eve")),
+];
+
+/// Whether an identity is answered so, after which ann is the user still where it is refused.
+fn is_judged(sessions: &mut Sessions, users: &Users, identity: Identity<'_>, wanted: Told) -> bool {
+    is_told(sessions.activate(FIRST, ANN, users), Ok("ann"))
+        && is_told(sessions.activate(FIRST, identity, users), wanted)
+        && is_told(sessions.user_of(FIRST), Ok(wanted.unwrap_or("ann")))
+}
+
 #[test]
 fn identities(rt: HostRuntime) -> Result<(), Fail> {
     let users = users_of(rt.alloc(), false).ok().ok_or("memory")?;
@@ -185,18 +201,17 @@ fn identities(rt: HostRuntime) -> Result<(), Fail> {
             password,
             algorithm,
         };
-        assert!(rt; sessions.activate(FIRST, ANN, &users) == Ok("ann"));
         assert!(rt;
-            sessions.activate(FIRST, identity, &users) == wanted,
+            is_judged(&mut sessions, &users, identity, wanted),
             "at {identity:?}"
         );
-        let user = wanted.unwrap_or("ann");
-        assert!(rt; sessions.user_of(FIRST) == Ok(user), "after {identity:?}");
     }
-    assert!(rt; sessions.activate(FIRST, NOBODY, &users) == Err(IdentityRejected));
-    assert!(rt; sessions.activate(FIRST, Identity::Other, &users) == Err(IdentityInvalid));
-    assert!(rt; sessions.activate(SECOND, Identity::Other, &users) == Err(IdInvalid));
-    assert!(rt; sessions.user_of(FIRST) == Ok("eve"));
+    for (i, call) in UNNAMED.iter().enumerate() {
+        assert!(rt;
+            is_answered(&mut sessions, &users, call),
+            "unnamed, call {i}"
+        );
+    }
     Ok(())
 }
 

@@ -1,6 +1,6 @@
 //! Who may activate a session, and as whom.
 
-ghost use Rattle.std.specs.Prelude.{◌≡◌, ◌≤◌, ◌<◌, [], ◌∷◌, ◌++◌, length, find, IfOk, IfErr, IfSome, OnOk};
+ghost use Rattle.std.specs.Prelude.{◌≡◌, ◌≤◌, ◌<◌, [], length, find, IfOk, IfErr, IfSome, OnOk};
 ghost use Rattle.std.specs.List.{AllByRecursion};
 ghost use Rattle.std.specs.Option.{option_copied};
 ghost use Rattle.ua_session.specs.Users.{answer_of, judgement_of_name, has_name, HasShortName, IsUserName};
@@ -34,7 +34,7 @@ impl Model for Users {
 }
 
 impl Users {
-    ghost use Rattle.ua_session.specs.Users.{claim_of, judgement};
+    ghost use Rattle.ua_session.specs.Users.{claim_of, judgement, with_added};
 
     /// No user with a name yet; a user without one is allowed or not. It takes no memory.
     pub fn new(alloc: Global, anonymous: bool) -> Self
@@ -52,7 +52,7 @@ impl Users {
     pub fn add(&mut self, name: &str, password: &[u8]) -> Result<(), SessionFault>
         requires some { 0 < length name.now }
         requires short { length name.now ≤ 256 }
-        ensures ok { OnOk result (self.new ≡ record self.old { named = self.old.named ++ record { name = name.now; password = password.now } ∷ [] }) }
+        ensures ok { OnOk result (self.new ≡ with_added self.old name.now password.now) }
         ensures err { IfErr result (λ fault. (fault ≡ SessionFault.OutOfMemory) × (self.new ≡ self.old)) }
     {
         let name = Text::from_str(self.alloc, name)?;
