@@ -9,3 +9,6 @@ mod replica;
 pub use fault::ExchangeFault;
 pub use laws::{a_refusal_ends_a_merge, batches_are_learned_whole, batches_are_not_empty};
 pub use replica::{Batch, Replica};
+
+#[cfg(test)]
+mod tests;
