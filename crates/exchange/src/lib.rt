@@ -7,7 +7,10 @@ mod laws;
 mod replica;
 
 pub use fault::ExchangeFault;
-pub use laws::{a_refusal_ends_a_merge, batches_are_learned_whole, batches_are_not_empty};
+pub use laws::{
+    a_refusal_ends_a_merge, batches_are_learned_whole, batches_are_not_empty,
+    replicas_hold_first_records, worlds_stay_sound,
+};
 pub use replica::{Batch, Replica};
 
 #[cfg(test)]

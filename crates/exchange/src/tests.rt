@@ -79,11 +79,17 @@ fn batch(alloc: Global, rows: &[Row]) -> Result<Batch, StoreFault> {
     })
 }
 
+fn is_lawful(held: &Record) -> bool
+    ensures { IsTrue result → IsLawfulRecord held.now }
+{
+    held.is_lawful()
+}
+
 /// Whether each of the records is lawful.
 fn are_lawful(records: &[Record]) -> bool
     ensures { IsTrue result → AllByRecursion IsLawfulRecord records.now }
 {
-    records.iter().all(Record::is_lawful)
+    records.iter().all(is_lawful)
 }
 
 /// What a replica answers to a batch.
@@ -301,7 +307,7 @@ fn faults_of_the_store_end_an_answer(rt: HostRuntime) -> Result<(), Fail> {
 }
 
 /// Some first records of replica 2, each of a value of so many bytes.
-fn large_batch(alloc: Global, count: u64, size: usize) -> Result<Batch, StoreFault> {
+fn large_batch(alloc: Global, count: u32, size: usize) -> Result<Batch, StoreFault> {
     let two = replica_number(2)?;
     let mut records = Vec::new(alloc);
     for number in 1..=count {
@@ -309,7 +315,7 @@ fn large_batch(alloc: Global, count: u64, size: usize) -> Result<Batch, StoreFau
         let written = Variant::Scalar(Scalar::ByteString(Some(bytes)));
         push(
             &mut records,
-            record(alloc, two, number, number as i64, written)?,
+            record(alloc, two, u64::from(number), i64::from(number), written)?,
         )?;
     }
     Ok(Batch {
@@ -319,7 +325,7 @@ fn large_batch(alloc: Global, count: u64, size: usize) -> Result<Batch, StoreFau
 
 /// How many records are held, of values of how many bytes, and how many of them a batch has. Beside its
 /// value a record has 48 bytes, and its length 4; the frame has 40 beside its records.
-static SIZES: [(u64, usize, usize); 6] = [
+static SIZES: [(u32, usize, usize); 6] = [
     (1, 1_048_528, 1),
     (3, 1_048_505, 1),
     (3, 1_048_504, 2),
@@ -329,7 +335,7 @@ static SIZES: [(u64, usize, usize); 6] = [
 ];
 
 /// How many records the batch for an empty vector has.
-fn answered(alloc: Global, count: u64, size: usize) -> Result<usize, ExchangeFault> {
+fn answered(alloc: Global, count: u32, size: usize) -> Result<usize, ExchangeFault> {
     let mut replica = list_replica(alloc, 1)?;
     let held = large_batch(alloc, count, size)?;
     merge(&mut replica, &held)?;
