@@ -89,7 +89,12 @@ fn is_lawful(held: &Record) -> bool
 fn are_lawful(records: &[Record]) -> bool
     ensures { IsTrue result → AllByRecursion IsLawfulRecord records.now }
 {
-    records.iter().all(is_lawful)
+    for held in records {
+        if !is_lawful(held) {
+            return false;
+        }
+    }
+    true
 }
 
 /// What a replica answers to a batch.
