@@ -161,6 +161,14 @@ impl Record {
         texts.saturating_add(self.value.size()).saturating_add(31)
     }
 
+    /// How many bytes its spelling takes, or 2^64 - 1 where there are more. It takes no memory.
+    #[tactic(auto, unfolding(crate::specs::Spelling::record_form))]
+    pub fn encoded_size(&self) -> usize
+        ensures { result ≡ saturated (length (record_form.canon self.now)) }
+    {
+        self.size()
+    }
+
     /// Whether its numbers, its user and its value are within the limits of a record.
     fn has_limits(&self) -> bool
         ensures { IsTrue result ↔ HasLimits self.now }

@@ -1,0 +1,3 @@
+pub mod MergeLemmas
+pub mod BatchLemmas
+pub mod WorldLemmas

@@ -1,0 +1,4 @@
+pub mod Fault
+pub mod Batches
+pub mod Merging
+pub mod Worlds
