@@ -1,0 +1,322 @@
+//! Continuation points (Part 4, 7.9): what was asked, and the place where a page ended. Nothing is kept
+//! on the server.
+
+ghost use Rattle.std.specs.Prelude.{◌≡◌, ◌⊎◌, option_map, Ok, Err, if◌then◌else◌};
+ghost use Rattle.ua_binary.specs.Format.{block, Reads, Puts, PutsPart};
+ghost use Rattle.ua_binary.specs.Binary.{node_of};
+ghost use Rattle.ua_binary.specs.declared.fault.BinaryFault.TheVariants as fault;
+ghost use Rattle.hist_read.specs.Point.{flag, short_form, short_node, is_phase_for, is_stamp_for, is_given_for, suits, are_stamp, stamp_of, phase, time, stamp, details, position, IsPoint, point_of, point_in, point};
+
+use crate::query::Details;
+use stamp::{GREATEST_TICK, ReplicaNo, Stamp};
+use ua_binary::{
+    BinaryFault, Cursor, NodeIdRef, or_undone, put_block, put_boolean, put_i64, put_node_id_ref,
+    put_u8, put_u32,
+};
+use uuid::Uuid;
+
+/// What the last item of a page was.
+#[derive(Clone, Copy, Debug, PartialEq, Eq)]
+pub enum Phase {
+    /// The near bound.
+    Near,
+    /// An item behind it.
+    Body,
+}
+
+/// Where a page ended.
+#[derive(Clone, Copy, Debug, PartialEq, Eq)]
+pub struct Position {
+    pub phase: Phase,
+    /// The source time of the last item, at least 1.
+    pub time: i64,
+    /// Of a modification the stamp of its record, of a raw value none.
+    pub stamp: Option<Stamp>,
+    /// How many items were given so far, in case a time is open; else 0.
+    pub given: u32,
+}
+
+/// A continuation point, in the bytes that it was read from.
+#[derive(Clone, Copy, Debug, Drop)]
+pub struct Place<'a> {
+    /// The archive's id.
+    pub archive: Uuid,
+    pub node: NodeIdRef<'a>,
+    /// As the request had them.
+    pub details: Details,
+    pub position: Position,
+}
+
+/// A Boolean whose byte is 0 or 1.
+#[tactic(auto, unfolding(crate::specs::Point::flag))]
+fn read_flag(cursor: &mut Cursor<'_>) -> Result<bool, BinaryFault>
+    ensures { Reads (λ v. v) result cursor.old cursor.new flag.read }
+{
+    let mut next = cursor.fork();
+    let byte = next.u8()?;
+    if byte > 1 {
+        return Err(BinaryFault::BadEncodingByte);
+    }
+    *cursor = next;
+    Ok(byte == 1)
+}
+
+/// A numeric node id behind its first byte, 1 or 2, where that is the shortest form.
+fn read_numeric<'a>(cursor: &mut Cursor<'a>, form: u8) -> Result<NodeIdRef<'a>, BinaryFault>
+    requires { (form ≡ 1) ⊎ (form ≡ 2) }
+    ensures { Reads node_of result cursor.old cursor.new (short_form form).read }
+{
+    let mut next = cursor.fork();
+    let (namespace, id) = if form == 1 {
+        let namespace = next.u8()? as u16;
+        (namespace, next.u16()? as u32)
+    } else {
+        let namespace = next.u16()?;
+        (namespace, next.u32()?)
+    };
+    let is_short = if form == 1 {
+        namespace > 0 || id > 255
+    } else {
+        namespace > 255 || id > 65535
+    };
+    if !is_short {
+        return Err(BinaryFault::BadEncodingByte);
+    }
+    *cursor = next;
+    Ok(NodeIdRef::Numeric(namespace, id))
+}
+
+/// A text id of a node behind its first byte, where it isn't null.
+fn read_named<'a>(cursor: &mut Cursor<'a>) -> Result<NodeIdRef<'a>, BinaryFault>
+    ensures { Reads node_of result cursor.old cursor.new (short_form 3).read }
+{
+    let mut next = cursor.fork();
+    let namespace = next.u16()?;
+    let Some(name) = next.text()? else {
+        return Err(BinaryFault::BadLength);
+    };
+    *cursor = next;
+    Ok(NodeIdRef::Named(namespace, name))
+}
+
+/// A byte id of a node behind its first byte, where it isn't null.
+fn read_opaque<'a>(cursor: &mut Cursor<'a>) -> Result<NodeIdRef<'a>, BinaryFault>
+    ensures { Reads node_of result cursor.old cursor.new (short_form 5).read }
+{
+    let mut next = cursor.fork();
+    let namespace = next.u16()?;
+    let Some(id) = next.bytes()? else {
+        return Err(BinaryFault::BadLength);
+    };
+    *cursor = next;
+    Ok(NodeIdRef::Opaque(namespace, id))
+}
+
+/// A node id in its shortest form, whose text or byte id isn't null.
+#[tactic(auto, unfolding(crate::specs::Point::short_node))]
+fn read_node<'a>(cursor: &mut Cursor<'a>) -> Result<NodeIdRef<'a>, BinaryFault>
+    ensures { Reads node_of result cursor.old cursor.new short_node.read }
+{
+    let mut next = cursor.fork();
+    let form = next.u8()?;
+    let node = match form {
+        0 => NodeIdRef::Numeric(0, next.u8()? as u32),
+        1 | 2 => read_numeric(&mut next, form)?,
+        3 => read_named(&mut next)?,
+        4 => {
+            let namespace = next.u16()?;
+            NodeIdRef::Global(namespace, next.guid()?)
+        }
+        5 => read_opaque(&mut next)?,
+        _ => return Err(BinaryFault::BadEncodingByte),
+    };
+    *cursor = next;
+    Ok(node)
+}
+
+/// What was asked.
+#[tactic(auto, unfolding(crate::specs::Point::details))]
+fn read_details(cursor: &mut Cursor<'_>) -> Result<Details, BinaryFault>
+    ensures { Reads (λ v. v) result cursor.old cursor.new details.read }
+{
+    let mut next = cursor.fork();
+    let modified = read_flag(&mut next)?;
+    let start = next.i64()?;
+    let end = next.i64()?;
+    let count = next.u32()?;
+    let bounds = read_flag(&mut next)?;
+    *cursor = next;
+    Ok(Details {
+        modified,
+        start,
+        end,
+        count,
+        bounds,
+    })
+}
+
+#[tactic(auto, unfolding(crate::specs::Point::phase))]
+fn read_phase(cursor: &mut Cursor<'_>) -> Result<Phase, BinaryFault>
+    ensures { Reads (λ v. v) result cursor.old cursor.new phase.read }
+{
+    let mut next = cursor.fork();
+    let phase = match next.u8()? {
+        1 => Phase::Near,
+        2 => Phase::Body,
+        _ => return Err(BinaryFault::BadEncodingByte),
+    };
+    *cursor = next;
+    Ok(phase)
+}
+
+#[tactic(auto, unfolding(crate::specs::Point::time))]
+fn read_time(cursor: &mut Cursor<'_>) -> Result<i64, BinaryFault>
+    ensures { Reads (λ v. v) result cursor.old cursor.new time.read }
+{
+    let mut next = cursor.fork();
+    let time = next.i64()?;
+    if time < 1 {
+        return Err(BinaryFault::BadEncodingByte);
+    }
+    *cursor = next;
+    Ok(time)
+}
+
+/// The stamp of these parts: none of zeros, and else what a record may have.
+fn stamp_of(tick: i64, origin: u8) -> Result<Option<Stamp>, BinaryFault>
+    ensures { result ≡ (if are_stamp (tick, origin) then Ok (stamp_of (tick, origin)) else Err fault.BadEncodingByte) }
+{
+    if origin == 0 && tick == 0 {
+        return Ok(None);
+    }
+    let Some(origin) = ReplicaNo::new(origin) else {
+        return Err(BinaryFault::BadEncodingByte);
+    };
+    if tick < 1 || tick > GREATEST_TICK {
+        return Err(BinaryFault::BadEncodingByte);
+    }
+    Ok(Some(Stamp { tick, origin }))
+}
+
+#[tactic(auto, unfolding(crate::specs::Point::stamp))]
+fn read_stamp(cursor: &mut Cursor<'_>) -> Result<Option<Stamp>, BinaryFault>
+    ensures { Reads (λ v. v) result cursor.old cursor.new stamp.read }
+{
+    let mut next = cursor.fork();
+    let tick = next.i64()?;
+    let origin = next.u8()?;
+    let stamp = stamp_of(tick, origin)?;
+    *cursor = next;
+    Ok(stamp)
+}
+
+/// Where the page ended.
+#[tactic(auto, unfolding(crate::specs::Point::position))]
+fn read_position(cursor: &mut Cursor<'_>) -> Result<Position, BinaryFault>
+    ensures { Reads (λ v. v) result cursor.old cursor.new position.read }
+{
+    let mut next = cursor.fork();
+    let phase = read_phase(&mut next)?;
+    let time = read_time(&mut next)?;
+    let stamp = read_stamp(&mut next)?;
+    let given = next.u32()?;
+    *cursor = next;
+    Ok(Position {
+        phase,
+        time,
+        stamp,
+        given,
+    })
+}
+
+/// Whether a page of what was asked may have ended in this phase.
+fn is_phase_for(details: &Details, phase: Phase) -> bool
+    ensures { result ≡ is_phase_for details.now phase }
+{
+    match phase {
+        Phase::Near => details.bounds && !details.modified,
+        Phase::Body => true,
+    }
+}
+
+/// Whether a stamp is there just where modifications were asked for.
+fn is_stamp_for(details: &Details, stamp: Option<Stamp>) -> bool
+    ensures { result ≡ is_stamp_for details.now stamp }
+{
+    match stamp {
+        None => !details.modified,
+        Some(_) => details.modified,
+    }
+}
+
+/// Whether so many items may have been given of what was asked.
+fn is_given_for(details: &Details, given: u32) -> bool
+    ensures { result ≡ is_given_for details.now given }
+{
+    if details.start >= 1 && details.end >= 1 {
+        return given == 0;
+    }
+    0 < given && given < details.count
+}
+
+/// Whether a position is one of a page of what was asked.
+fn suits(details: &Details, position: &Position) -> bool
+    ensures { result ≡ suits details.now position.now }
+{
+    is_phase_for(details, position.phase)
+        && is_stamp_for(details, position.stamp)
+        && is_given_for(details, position.given)
+}
+
+/// Reads a continuation point's fields, in front of whatever follows.
+#[tactic(auto, unfolding(crate::specs::Point::point))]
+fn read_place<'a>(cursor: &mut Cursor<'a>) -> Result<Place<'a>, BinaryFault>
+    ensures { Reads point_of result cursor.old cursor.new point.read }
+{
+    let mut next = cursor.fork();
+    if next.u8()? != 1 {
+        return Err(BinaryFault::BadEncodingByte);
+    }
+    let archive = read_archive(&mut next)?;
+    let node = read_node(&mut next)?;
+    let details = read_details(&mut next)?;
+    let position = read_position(&mut next)?;
+    if !suits(&details, &position) {
+        return Err(BinaryFault::BadEncodingByte);
+    }
+    *cursor = next;
+    Ok(Place {
+        archive,
+        node,
+        details,
+        position,
+    })
+}
+
+/// An archive's id.
+fn read_archive(cursor: &mut Cursor<'_>) -> Result<Uuid, BinaryFault>
+    ensures { Reads (λ v. v) result cursor.old cursor.new (block 16).read }
+{
+    let mut next = cursor.fork();
+    let Ok(archive) = Uuid::from_slice(next.block(16)?) else {
+        return Err(BinaryFault::Short);
+    };
+    *cursor = next;
+    Ok(archive)
+}
+
+/// The continuation point that all of the bytes spell, format 1; `None` where they spell none. It takes
+/// no memory. The node stays in the bytes.
+#[tactic(auto, unfolding(crate::specs::Point::point))]
+pub fn read_continuation(bytes: &[u8]) -> Option<Place<'_>>
+    ensures { option_map point_of result ≡ point_in bytes.now }
+{
+    let mut cursor = Cursor::new(bytes);
+    let Ok(place) = read_place(&mut cursor) else {
+        return None;
+    };
+    if !cursor.rest().is_empty() {
+        return None;
+    }
+    Some(place)
+}
