@@ -2,8 +2,10 @@
 //! points that pages end with.
 #![tactic(auto)]
 
+mod laws;
 mod point;
 mod query;
 
-pub use point::{Phase, Place, Position, read_continuation};
+pub use laws::continuation_points_are_told_by_their_bytes;
+pub use point::{Phase, Place, Position, put_continuation, read_continuation};
 pub use query::{Details, Query, TimestampsToReturn};

@@ -5,7 +5,7 @@ ghost use Rattle.std.specs.Prelude.{◌≡◌, ◌⊎◌, option_map, Ok, Err, i
 ghost use Rattle.ua_binary.specs.Format.{block, Reads, Puts, PutsPart};
 ghost use Rattle.ua_binary.specs.Binary.{node_of};
 ghost use Rattle.ua_binary.specs.declared.fault.BinaryFault.TheVariants as fault;
-ghost use Rattle.hist_read.specs.Point.{flag, short_form, short_node, is_phase_for, is_stamp_for, is_given_for, suits, are_stamp, stamp_of, phase, time, stamp, details, position, IsPoint, point_of, point_in, point};
+ghost use Rattle.hist_read.specs.Point.{flag, short_form, short_node, is_phase_for, is_stamp_for, is_given_for, suits, are_stamp, stamp_of, number_of_phase, phase, time, stamp, details, position, IsPoint, point_of, point_in, point};
 
 use crate::query::Details;
 use stamp::{GREATEST_TICK, ReplicaNo, Stamp};
@@ -319,4 +319,101 @@ pub fn read_continuation(bytes: &[u8]) -> Option<Place<'_>>
         return None;
     }
     Some(place)
+}
+
+#[tactic(auto, using(ua_binary::proofs::Kept::kept), unfolding(crate::specs::Point::details, crate::specs::Point::flag, ua_binary::specs::Binary::boolean))]
+fn put_details_parts(out: &mut Vec<u8>, v: &Details) -> Result<(), BinaryFault>
+    ensures { PutsPart fault.OutOfMemory result out.old.items out.new.items (details.canon v.now) }
+{
+    put_boolean(out, v.modified)?;
+    put_i64(out, v.start)?;
+    put_i64(out, v.end)?;
+    put_u32(out, v.count)?;
+    put_boolean(out, v.bounds)?;
+    Ok(())
+}
+
+fn put_details(out: &mut Vec<u8>, v: &Details) -> Result<(), BinaryFault>
+    ensures { Puts fault.OutOfMemory result out.old.items out.new.items (details.canon v.now) }
+{
+    let len = out.len();
+    let put = put_details_parts(out, v);
+    or_undone(put, out, len)
+}
+
+/// A phase's number.
+fn number_of_phase(phase: Phase) -> u8
+    ensures { result ≡ number_of_phase phase }
+{
+    match phase {
+        Phase::Near => 1,
+        Phase::Body => 2,
+    }
+}
+
+#[tactic(auto, using(ua_binary::proofs::Kept::kept), unfolding(crate::specs::Point::stamp))]
+fn put_stamp_parts(out: &mut Vec<u8>, v: Option<Stamp>) -> Result<(), BinaryFault>
+    ensures { PutsPart fault.OutOfMemory result out.old.items out.new.items (stamp.canon v) }
+{
+    let (tick, origin) = match v {
+        None => (0, 0),
+        Some(stamp) => (stamp.tick, stamp.origin.get()),
+    };
+    put_i64(out, tick)?;
+    put_u8(out, origin)?;
+    Ok(())
+}
+
+fn put_stamp(out: &mut Vec<u8>, v: Option<Stamp>) -> Result<(), BinaryFault>
+    ensures { Puts fault.OutOfMemory result out.old.items out.new.items (stamp.canon v) }
+{
+    let len = out.len();
+    let put = put_stamp_parts(out, v);
+    or_undone(put, out, len)
+}
+
+#[tactic(auto, using(ua_binary::proofs::Kept::kept), unfolding(crate::specs::Point::position, crate::specs::Point::phase, crate::specs::Point::time))]
+fn put_position_parts(out: &mut Vec<u8>, v: &Position) -> Result<(), BinaryFault>
+    ensures { PutsPart fault.OutOfMemory result out.old.items out.new.items (position.canon v.now) }
+{
+    put_u8(out, number_of_phase(v.phase))?;
+    put_i64(out, v.time)?;
+    put_stamp(out, v.stamp)?;
+    put_u32(out, v.given)?;
+    Ok(())
+}
+
+fn put_position(out: &mut Vec<u8>, v: &Position) -> Result<(), BinaryFault>
+    ensures { Puts fault.OutOfMemory result out.old.items out.new.items (position.canon v.now) }
+{
+    let len = out.len();
+    let put = put_position_parts(out, v);
+    or_undone(put, out, len)
+}
+
+#[tactic(auto, using(ua_binary::proofs::Kept::kept, crate::proofs::Lawful::written), unfolding(crate::specs::Point::point))]
+fn put_place_parts(out: &mut Vec<u8>, v: &Place<'_>) -> Result<(), BinaryFault>
+    requires { IsPoint (point_of v.now) }
+    ensures { PutsPart fault.OutOfMemory result out.old.items out.new.items (point.canon (point_of v.now)) }
+{
+    put_u8(out, 1)?;
+    put_block(out, v.archive.as_bytes())?;
+    put_node_id_ref(out, v.node)?;
+    put_details(out, &v.details)?;
+    put_position(out, &v.position)?;
+    Ok(())
+}
+
+/// Writes a continuation point, format 1. It has to be one that can be read again: its numbers within
+/// their limits, the stamp there just where modifications were asked for, the near bound as its phase
+/// only where raw values were asked for with bounds, and its count of items 0 where both times are
+/// given, else at least 1 and below the count. Its one error is `OutOfMemory`, and then the vector is as
+/// it was.
+pub fn put_continuation(out: &mut Vec<u8>, v: &Place<'_>) -> Result<(), BinaryFault>
+    requires { IsPoint (point_of v.now) }
+    ensures { Puts fault.OutOfMemory result out.old.items out.new.items (point.canon (point_of v.now)) }
+{
+    let len = out.len();
+    let put = put_place_parts(out, v);
+    or_undone(put, out, len)
 }
