@@ -1,6 +1,8 @@
+pub mod Results
 pub mod SetLemmas
 pub mod ListLemmas
 pub mod Listing
+pub mod Calls
 pub mod Scripting
 pub mod Turning
 pub mod Timing

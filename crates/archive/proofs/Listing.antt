@@ -14,9 +14,6 @@ use Rattle.archive.specs.declared.fault.LearnFault.TheVariants as refused
 use Rattle.archive.specs.Store.{Rests, IsLawfulContent, is_broken, raised, failures, IsOfOpening, Leaves, fault_in, Asks, store_fault_in, answer_to, Learns}
 use Rattle.archive.specs.Listed.{Listed, store_of}
 
-pub err-ok : {A E : Type 0} (r : Result A E) (e : E) (a : A) → r ≡ Err e → r ≡ Ok a → ⊥
-err-ok r e a told other = absurd (cc)
-
 not_opening : IsOfOpening OutOfMemory → ⊥
 not_opening (inl e) = absurd (cc)
 not_opening (inr e) = absurd (cc)

@@ -9,7 +9,7 @@ use Rattle.archive.specs.declared.fault.LearnFault.{LearnFault}
 use Rattle.archive.specs.Store.{Rests, IsLawfulContent, is_broken, failures, IsOfOpening, Leaves, fault_in, Asks, store_fault_in, Learns}
 use Rattle.archive.specs.Listed.{Listed, store_of}
 use Rattle.archive.specs.Scripted.{Scripted, scripted_store, IsScripted, IsOldOrWith}
-use Rattle.archive.proofs.Listing.{err-ok}
+use Rattle.archive.proofs.Results.{err-ok}
 
 not_opening : (f : StoreFault) → IsScripted f → IsOfOpening f → ⊥
 not_opening f s (inl e) = elim s [ inl p ↦ cc | inr q ↦ elim q [ inl p ↦ cc | inr p ↦ cc ] ]

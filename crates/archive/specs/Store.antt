@@ -1,5 +1,6 @@
 -- What an archive keeps, and what its calls leave.
-use Rattle.std.specs.Prelude.{◌≡◌, ◌⊎◌, ℕ, ◌+◌, ◌-◌, ◌^◌, min, Bool, true, false, List, Option, Some, None, IfSome, unwrap_or, Result, Ok, Err, IfOk}
+use Rattle.std.specs.Prelude.{◌≡◌, ◌⊎◌, ◌||◌, ℕ, ◌+◌, ◌-◌, ◌^◌, min, Bool, true, false, List, [], ◌∷◌, Option, Some, None, IfSome, unwrap_or, Result, Ok, Err, IfOk}
+use Rattle.std.specs.List.{list_any, AllByRecursion}
 use Rattle.records.specs.Lists.{Has}
 use Rattle.records.specs.Contents.{Content, IsClosed, Finding, Adds, Holds, Clash, Gap, TickTooFar, TickNotRising, finding, learned, put}
 use Rattle.records.specs.Spelling.{IsLawfulRecord}
@@ -112,3 +113,28 @@ pub record Learns (old new : Store) (r : Record) (result : Result Bool LearnFaul
   pub crash : new.honest → (left : Content) → new.may_hold left
       → old.may_hold left ⊎ ((old.broken ≡ false) × (finding old.content r ≡ Adds) × (left ≡ put r old.content))
   pub leaves : Leaves old new (store_fault_in result)
+
+-- ---- calls in a row
+
+abbrev pub is_break : StoreFault → Bool
+is_break Broken = true
+is_break fault = false
+
+abbrev pub failed_by : List StoreFault → ℕ → ℕ
+failed_by [] failed = failed
+failed_by (fault ∷ faults) failed = failed_by faults (raised 1 failed)
+
+abbrev pub faults_by : Option StoreFault → List StoreFault
+faults_by None = []
+faults_by (Some fault) = fault ∷ []
+
+-- some calls, or none, were made, whose faults of the store were these, in order
+pub record Passes (old new : Store) (faults : List StoreFault) : Type 0 where
+  pub rests : Rests old → Rests new
+  pub own : new.own ≡ old.own
+  pub id : new.id ≡ old.id
+  pub honest : new.honest → old.honest
+  pub failed : new.failed ≡ failed_by faults old.failed
+  pub broken : new.broken ≡ (old.broken || list_any is_break faults)
+  pub met : AllByRecursion (λ f. old.meets f × (IsOfOpening f → ⊥)) faults
+  pub meets : (f : StoreFault) → new.meets f → old.meets f

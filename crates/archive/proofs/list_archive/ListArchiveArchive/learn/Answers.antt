@@ -1,7 +1,8 @@
 use Rattle.std.proofs.Common.{rules, ◌≡◌, ◌∙◌, sym, subst, Err}
 use Rattle.records.specs.Contents.{Content, finding}
 use Rattle.archive.specs.Store.{IsLawfulContent, answer_to}
-use Rattle.archive.proofs.Listing.{answered, err-ok}
+use Rattle.archive.proofs.Listing.{answered}
+use Rattle.archive.proofs.Results.{err-ok}
 use Rattle.archive.proofs.list_archive.ListArchiveArchive.learn.Goals as goal
 
 pub returns-in_err-judge : goal.returns-in_err-judge
