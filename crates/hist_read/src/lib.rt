@@ -2,6 +2,8 @@
 //! points that pages end with.
 #![tactic(auto)]
 
+mod asked;
+mod item;
 mod laws;
 mod point;
 mod query;
