@@ -88,9 +88,13 @@ far_past R node q f = first (filter (λ h. is_past (direction q) f h.time) (live
 abbrev pub far_from : Content → NodeId → Details → ℤ → Option Held
 far_from R node q f = first (filter (λ h. is_from (direction q) f h.time) (lives_in R node q))
 
+-- the value at the far limit or the first one beyond it; beyond it where the origin is the limit
+abbrev pub far_value : Content → NodeId → Details → ℤ → Option Held
+far_value R node q f = if int_eq (origin_time q) f then far_past R node q f else far_from R node q f
+
 abbrev pub far_at : Content → NodeId → Details → ℤ → Option ℤ → Item
 far_at R node q before None = open_bound (direction q) before
-far_at R node q before (Some f) = value_or_missing f (if int_eq (origin_time q) f then far_past R node q f else far_from R node q f)
+far_at R node q before (Some f) = value_or_missing f (far_value R node q f)
 
 -- the far bound, behind an item of this time
 abbrev pub far : Content → NodeId → Details → ℤ → Item

@@ -1,6 +1,8 @@
 //! What was asked, as stretches of time and sizes of pages.
 
 ghost use Rattle.std.specs.Prelude.{◌≡◌, ◌≤◌, ◌&&◌, ◌||◌, IfSome, ℤ, pos, ◌≤ℤ◌, IsTrue, false, not, nat_lt};
+ghost use Rattle.std.specs.Int.{w64};
+ghost use Rattle.std.specs.Int.RustNames.{FitsSigned};
 ghost use Rattle.hist_read.specs.Asking.{is_given, has_both, origin_time, direction};
 ghost use Rattle.hist_read.specs.Reads.{greatest_time, in_body, is_from, is_past_any, limit_at, page_size, given_before, is_spent, given_after};
 ghost use Rattle.archive.specs.Reading.{is_between, is_past};
@@ -135,7 +137,9 @@ pub(crate) fn span_from(direction: Direction, limit: i64) -> Span
 
 /// What reading goes on from.
 pub(crate) fn limit_at(details: &Details, position: &Option<Position>) -> Option<i64>
-    ensures { result ≡ limit_at details.now position.now }
+    ensures limit { result ≡ limit_at details.now position.now }
+    ensures fits { IfSome result (λ t. FitsSigned w64 t) }
+    ensures some { IsTrue (is_given details.now.start || is_given details.now.end) → IfSome position.now (λ p. pos 1 ≤ℤ p.time) → IfSome result (λ t. pos 1 ≤ℤ t) }
 {
     match position {
         None => {
@@ -205,4 +209,17 @@ pub(crate) fn given_after(details: &Details, position: &Option<Position>) -> u32
         return 0;
     }
     given_before(position) + page_size(details, position) as u32
+}
+
+/// The times of the body that are still to come.
+pub(crate) fn span_after(details: &Details, position: &Option<Position>) -> Span
+    requires given { IsTrue (is_given details.now.start || is_given details.now.end) }
+    requires place { IfSome position.now (λ p. pos 1 ≤ℤ p.time) }
+    ensures { (t : ℤ) → pos 1 ≤ℤ t → t ≤ℤ greatest_time → is_between result.from result.to t ≡ (in_body details.now t && is_past_any (direction details.now) (limit_at details.now position.now) t) }
+{
+    let span = details.body();
+    match limit_at(details, position) {
+        None => span,
+        Some(limit) => span.beyond(details.direction(), limit),
+    }
 }

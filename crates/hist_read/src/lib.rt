@@ -3,6 +3,7 @@
 #![tactic(auto)]
 
 mod asked;
+mod bounds;
 mod item;
 mod laws;
 mod point;
