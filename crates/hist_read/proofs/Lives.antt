@@ -1,5 +1,5 @@
 -- Live values and modifications have lawful times, and what the archive answers of them is what a read asks for.
-use Rattle.std.proofs.Common.{◌≡◌, ℕ, ◌+◌, ℤ, pos, ◌≤ℤ◌, int_le, int_lt, Bool, true, false, cond, ◌&&◌, List, [], ◌∷◌, ◌++◌, filter, map, take, length, reverse, slice_get, Option, Some, None, refl, sym, ap, ◌∙◌, subst, arith, inl, inr, FitsSigned, w64}
+use Rattle.std.proofs.Common.{◌≡◌, ℕ, zero, suc, ◌+◌, ℤ, pos, ◌≤ℤ◌, int_le, int_lt, Bool, true, false, cond, ◌&&◌, List, [], ◌∷◌, ◌++◌, filter, map, take, length, reverse, slice_get, Option, Some, None, refl, sym, ap, ◌∙◌, subst, arith, inl, inr, FitsSigned, w64}
 use Rattle.std.specs.Ordering.{int_eq}
 use Rattle.std.proofs.lemmas.Bool.Decides.{nat_tests}
 use Rattle.std.proofs.lemmas.Int.{ints}
@@ -22,7 +22,9 @@ use Rattle.archive.proofs.Timing.{current_from, entry_from}
 use Rattle.archive.proofs.Turning.{has_from_filter_map, has_from_flat_map, has_from_reverse}
 use Rattle.hist_read.specs.Asking.{origin_time, direction}
 use Rattle.hist_read.specs.declared.query.Details.{Details}
-use Rattle.hist_read.specs.Reads.{greatest_time, is_from, in_body, lives_in, body, last, near_at, near_before, far_past, far_from, is_past_any}
+use Rattle.hist_read.specs.declared.point.Position.{Position}
+use Rattle.hist_read.specs.Pages.{body_limit}
+use Rattle.hist_read.specs.Reads.{is_near_alone, limit_at, body_part, page_size, greatest_time, is_from, in_body, lives_in, body, last, near_at, near_before, far_past, far_from, is_past_any}
 use Rattle.hist_read.proofs.Filters.{filter_all, filter_both, filter_same, filter_turned}
 
 abbrev pub IsTime : ℤ → Type 0
@@ -57,6 +59,21 @@ span_reads R node q limit from to lawful span =
     let d = direction q in
     ap (in_direction d) (filter_same _ (λ h. in_body q h.time && is_past_any d limit h.time) (lives R node) (λ h k. let l = lives_lawful R node h lawful k in span h.time l.0 l.1))
     ∙ (sym (filter_turned d _ (lives R node)) ∙ sym (filter_both (λ h. is_past_any d limit h.time) (λ h. in_body q h.time) _))
+
+take_nil : {X : Type 0} (n : ℕ) → ◌≡◌ {A = List X} (take n []) []
+take_nil zero = refl
+take_nil (suc n) = refl
+
+pub body_found : (R : Content) (node : NodeId) (q : Details) (p : Option Position) (from to : ℤ) → IsLawfulContent R → IsSpanOf q (limit_at q p) from to
+    → take (body_limit q p) (range_of R node from to (direction q)) ≡ take (page_size q p + 1) (body_part R node q p)
+body_found R node q p from to lawful span = go (is_near_alone q)
+  where
+    rest : List Held
+    rest = filter (λ h. is_past_any (direction q) (limit_at q p) h.time) (body R node q)
+
+    go : (b : Bool) → take (cond b 0 (page_size q p + 1)) (range_of R node from to (direction q)) ≡ take (page_size q p + 1) (cond b [] rest)
+    go true = sym (take_nil (page_size q p + 1))
+    go false = ap (take (page_size q p + 1)) (span_reads R node q (limit_at q p) from to lawful span)
 
 -- ---- the bounds
 

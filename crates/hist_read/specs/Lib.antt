@@ -1,3 +1,4 @@
 pub mod Asking
 pub mod Point
 pub mod Reads
+pub mod Pages

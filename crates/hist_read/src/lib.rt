@@ -8,6 +8,7 @@ mod item;
 mod laws;
 mod point;
 mod query;
+mod raw;
 
 pub use laws::continuation_points_are_told_by_their_bytes;
 pub use point::{Phase, Place, Position, put_continuation, read_continuation};

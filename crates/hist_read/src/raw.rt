@@ -1,0 +1,131 @@
+//! Pages of raw values.
+
+ghost use Rattle.std.specs.Prelude.{◌≡◌, ◌≤◌, ◌+◌, ◌<◌, ◌||◌, ◌&&◌, ◌++◌, ◌^◌, IsTrue, IfOk, IfSome, IfNone, pos, ◌≤ℤ◌, true, take, length, Ok, Some, None};
+ghost use Rattle.archive.specs.Store.{Asks};
+ghost use Rattle.hist_read.specs.Asking.{is_given, has_both, origin_time};
+ghost use Rattle.hist_read.specs.Reads.{is_near_alone, body_part, far_value, values, item_time, last_time, time_before, open_bound, page_size};
+ghost use Rattle.hist_read.specs.Pages.{IsFound, IsFoundBehind, body_limit, has_far, far_item, row_of};
+
+use crate::asked::{page_size, span_after};
+use crate::bounds::{far_value, near};
+use crate::item::Item;
+use crate::point::Position;
+use crate::query::Details;
+use archive::{Archive, Direction, StoreFault};
+use records::Held;
+use std::alloc::{AllocError, Global};
+use ua_binary::NodeId;
+
+/// What the archive has of a page of raw values.
+#[derive(Drop)]
+pub(crate) struct Found {
+    /// The near bound, where it is due.
+    near: Option<Item>,
+    /// The values behind it, one more than the page has at most.
+    body: Vec<Held>,
+    /// The value at the far limit, where it is due and there is one.
+    far: Option<Held>,
+}
+
+/// Whether the near bound is all that is asked for.
+fn is_near_alone(details: &Details) -> bool
+    ensures { result ≡ is_near_alone details.now }
+{
+    details.bounds && details.count == 1
+}
+
+/// Whether the far bound is asked for.
+fn has_far(details: &Details) -> bool
+    ensures { result ≡ has_far details.now }
+{
+    details.bounds && !is_near_alone(details)
+}
+
+/// How many values are asked for.
+fn body_limit(details: &Details, position: &Option<Position>) -> usize
+    ensures { result ≡ body_limit details.now position.now }
+{
+    if is_near_alone(details) {
+        return 0;
+    }
+    page_size(details, position) + 1
+}
+
+/// The values behind the near bound, one more than the page has at most.
+fn find_body<A: Archive>(
+    alloc: Global,
+    archive: &mut A,
+    node: &NodeId,
+    details: &Details,
+    position: &Option<Position>,
+) -> Result<Vec<Held>, StoreFault>
+    requires given { IsTrue (is_given details.now.start || is_given details.now.end) }
+    requires place { IfSome position.now (λ p. pos 1 ≤ℤ p.time) }
+    ensures { Asks (A.state archive.old) (A.state archive.new) result
+        (λ v. v.items ≡ take (page_size details.now position.now + 1) (body_part (A.state archive.old).content node.now details.now position.now)) }
+{
+    let direction = details.direction();
+    let span = span_after(details, position);
+    let limit = body_limit(details, position);
+    archive.range(alloc, node, span.from, span.to, direction, limit)
+}
+
+/// The values behind the near bound, and the one at the far limit.
+fn find_values<A: Archive>(
+    alloc: Global,
+    archive: &mut A,
+    node: &NodeId,
+    details: &Details,
+    position: &Option<Position>,
+) -> Result<(Vec<Held>, Option<Held>), StoreFault>
+    requires given { IsTrue (is_given details.now.start || is_given details.now.end) }
+    requires place { IfSome position.now (λ p. pos 1 ≤ℤ p.time) }
+    ensures { Asks (A.state archive.old) (A.state archive.new) result (IsFoundBehind (A.state archive.old).content node.now details.now position.now) }
+{
+    let body = find_body(alloc, archive, node, details, position)?;
+    if !has_far(details) || !details.has_both() {
+        return Ok((body, None));
+    }
+    let far = far_value(alloc, archive, node, details)?;
+    Ok((body, far))
+}
+
+/// What the archive has of a page.
+pub(crate) fn find<A: Archive>(
+    alloc: Global,
+    archive: &mut A,
+    node: &NodeId,
+    details: &Details,
+    position: &Option<Position>,
+) -> Result<Found, StoreFault>
+    requires given { IsTrue (is_given details.now.start || is_given details.now.end) }
+    requires place { IfSome position.now (λ p. pos 1 ≤ℤ p.time) }
+    ensures { Asks (A.state archive.old) (A.state archive.new) result (IsFound (A.state archive.old).content node.now details.now position.now) }
+{
+    if position.is_some() || !details.bounds {
+        let (body, far) = find_values(alloc, archive, node, details, position)?;
+        return Ok(Found {
+            near: None,
+            body,
+            far,
+        });
+    }
+    let near = near(alloc, archive, node, details)?;
+    let (body, far) = find_values(alloc, archive, node, details, position)?;
+    Ok(Found {
+        near: Some(near),
+        body,
+        far,
+    })
+}
+
+/// The far bound of an open limit, one second beyond the item before it.
+fn open_bound(direction: Direction, before: i64) -> Item
+    requires { pos 1 ≤ℤ before }
+    ensures { result ≡ open_bound direction before }
+{
+    match direction {
+        Direction::Forward => Item::Missing(before.saturating_add(10_000_000)),
+        Direction::Backward => Item::Missing(before - 10_000_000),
+    }
+}
