@@ -1,9 +1,6 @@
 -- Live values and modifications have lawful times, and what the archive answers of them is what a read asks for.
 use Rattle.std.proofs.Common.{◌≡◌, ℕ, zero, suc, ◌+◌, ℤ, pos, ◌≤ℤ◌, int_le, int_lt, Bool, true, false, cond, ◌&&◌, List, [], ◌∷◌, ◌++◌, filter, map, take, length, reverse, slice_get, Option, Some, None, refl, sym, ap, ◌∙◌, subst, arith, inl, inr, FitsSigned, w64}
-use Rattle.std.specs.Ordering.{int_eq}
-use Rattle.std.proofs.lemmas.Bool.Decides.{nat_tests}
 use Rattle.std.proofs.lemmas.Int.{ints}
-use Rattle.std.proofs.lemmas.List.{reverse-reverse}
 use Rattle.ua_binary.specs.declared.values.NodeId.{NodeId}
 use Rattle.records.specs.Lists.{Has}
 use Rattle.records.specs.Contents.{Content}
@@ -13,18 +10,19 @@ use Rattle.records.specs.declared.record.Record.{Record}
 use Rattle.records.specs.declared.shown.Held.{Held}
 use Rattle.records.specs.declared.shown.Entry.{Entry}
 use Rattle.records.proofs.LatestLemmas.{story_has}
-use Rattle.archive.specs.Reading.{times, lives, log, in_direction, opposite, is_past, is_between, first, range_of, log_of, outside_of, follows}
+use Rattle.archive.specs.Reading.{times, lives, log, in_direction, is_between, first, range_of, log_of, follows}
 use Rattle.archive.specs.Store.{IsLawfulContent}
 use Rattle.archive.specs.declared.reading.Direction.{Direction}
-use Rattle.archive.specs.declared.reading.Direction.TheVariants.{Forward, Backward}
 use Rattle.archive.specs.declared.reading.LogPlace.{LogPlace}
-use Rattle.archive.proofs.Timing.{current_from, entry_from}
+use Rattle.archive.specs.Queries.{IsInRange}
+use Rattle.archive.proofs.Ranges.{range_has}
+use Rattle.archive.proofs.Timing.{current_from, current_time, entry_from}
 use Rattle.archive.proofs.Turning.{has_from_filter_map, has_from_flat_map, has_from_reverse}
 use Rattle.hist_read.specs.Asking.{origin_time, direction}
 use Rattle.hist_read.specs.declared.query.Details.{Details}
 use Rattle.hist_read.specs.declared.point.Position.{Position}
 use Rattle.hist_read.specs.Pages.{body_limit}
-use Rattle.hist_read.specs.Reads.{is_near_alone, limit_at, body_part, page_size, greatest_time, is_from, in_body, lives_in, body, last, near_at, near_before, far_past, far_from, is_past_any}
+use Rattle.hist_read.specs.Reads.{is_near_alone, limit_at, body_part, page_size, greatest_time, in_body, lives_in, body, is_past_any}
 use Rattle.hist_read.proofs.Filters.{filter_all, filter_both, filter_same, filter_turned}
 
 abbrev pub IsTime : ℤ → Type 0
@@ -81,41 +79,20 @@ first_take : {X : Type 0} (xs : List X) → first (take 1 xs) ≡ first xs
 first_take [] = refl
 first_take (x ∷ xs) = refl
 
-reverse_turned : {X : Type 0} (d : Direction) (xs : List X) → reverse (in_direction d xs) ≡ in_direction (opposite d) xs
-reverse_turned Forward xs = refl
-reverse_turned Backward xs = reverse-reverse xs
-
-past_back : (d : Direction) (s t : ℤ) → is_past (opposite d) s t ≡ is_past d t s
-past_back Forward s t = refl
-past_back Backward s t = refl
-
-at_only : (o t : ℤ) → is_between o o t ≡ int_eq t o
-at_only o t = grind (arith, nat_tests, ints)
-
-at_origin : (R : Content) (node : NodeId) (d : Direction) (o : ℤ) → range_of R node o o d ≡ filter (λ h. int_eq h.time o) (in_direction d (lives R node))
-at_origin R node d o = ap (in_direction d) (filter_same _ (λ h. int_eq h.time o) (lives R node) (λ h k. at_only o h.time)) ∙ sym (filter_turned d _ (lives R node))
-
-before_origin : (R : Content) (node : NodeId) (d : Direction) (o : ℤ) → outside_of R node o (opposite d) ≡ last (filter (λ h. is_past d h.time o) (in_direction d (lives R node)))
-before_origin R node d o =
-    ap first (ap (in_direction (opposite d)) (filter_same _ (λ h. is_past d h.time o) (lives R node) (λ h k. past_back d o h.time))
-      ∙ (sym (reverse_turned d _) ∙ ap reverse (sym (filter_turned d _ (lives R node)))))
-
-pub near_at_is : (R : Content) (node : NodeId) (q : Details) → first (take 1 (range_of R node (origin_time q) (origin_time q) (direction q))) ≡ near_at R node q
-near_at_is R node q = first_take _ ∙ ap first (at_origin R node (direction q) (origin_time q))
-
-pub near_before_is : (R : Content) (node : NodeId) (q : Details) → outside_of R node (origin_time q) (opposite (direction q)) ≡ near_before R node q
-near_before_is R node q = before_origin R node (direction q) (origin_time q)
-
-pub far_past_is : (R : Content) (node : NodeId) (q : Details) (f : ℤ) → outside_of R node f (direction q) ≡ far_past R node q f
-far_past_is R node q f = ap first (sym (filter_turned (direction q) _ (lives R node)))
-
-pub far_from_is : (R : Content) (node : NodeId) (q : Details) (f from to : ℤ) → IsLawfulContent R
-    → ((t : ℤ) → pos 1 ≤ℤ t → t ≤ℤ greatest_time → is_between from to t ≡ is_from (direction q) f t)
-    → first (take 1 (range_of R node from to (direction q))) ≡ far_from R node q f
-far_from_is R node q f from to lawful span =
-    first_take _
-      ∙ ap first (ap (in_direction (direction q)) (filter_same _ (λ h. is_from (direction q) f h.time) (lives R node) (λ h k. let l = lives_lawful R node h lawful k in span h.time l.0 l.1))
-        ∙ sym (filter_turned (direction q) _ (lives R node)))
+-- a range of one time has the live value there, if there is one
+pub value_at_is : (R : Content) (node : NodeId) (d : Direction) (t : ℤ) → first (take 1 (range_of R node t t d)) ≡ current R node t
+value_at_is R node d t = first_take _ ∙ go (range_of R node t t d) refl (current R node t) refl
+  where
+    go : (xs : List Held) → range_of R node t t d ≡ xs → (o : Option Held) → current R node t ≡ o → first xs ≡ o
+    go [] e None f = refl
+    go [] e (Some h) f =
+        let own : h.time ≡ t = (current_time R node t h f).1 in
+        let inside : IsInRange R node t t h = record { live = ap (current R node) own ∙ f; low = omega (arith, ints, own); high = omega (arith, ints, own) } in
+        absurd (subst (λ xs. Has xs h) e ((range_has R node t t d h).1 inside))
+    go (x ∷ xs) e o f =
+        let inside = (range_has R node t t d x).0 (subst (λ xs. Has xs x) (sym e) (inl refl)) in
+        let same : x.time ≡ t = omega (arith, ints, inside.low, inside.high) in
+        sym inside.live ∙ (ap (current R node) same ∙ f)
 
 -- ---- modifications
 

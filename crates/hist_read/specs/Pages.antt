@@ -35,6 +35,10 @@ pub record IsFound (R : Content) (node : NodeId) (q : Details) (p : Option Posit
 abbrev pub far_item : Details → Option Held → ℤ → Item
 far_item q value before = if has_both q then value_or_missing q.end value else open_bound (direction q) before
 
+-- the far bound behind these items, where it is due
+abbrev pub far_of : Details → Option Position → (is_due : Bool) → List Item → Option Held → List Item
+far_of q p is_due items value = if is_due then far_item q value (last_time (time_before q p) items) ∷ [] else []
+
 -- what was found, in a row; the far bound where the values end within the page
 abbrev pub row_of : Details → Option Position → List Item → List Held → Option Held → List Item
-row_of q p near body far = (near ++ values body) ++ (if has_far q && nat_le (length body) (page_size q p) then far_item q far (last_time (time_before q p) (near ++ values body)) ∷ [] else [])
+row_of q p near body far = (near ++ values body) ++ far_of q p (has_far q && nat_le (length body) (page_size q p)) (near ++ values body) far

@@ -1,13 +1,15 @@
 -- What a read of a node's history shows (Part 11, ReadRawModifiedDetails): the values or modifications of a stretch of time, its bounds, and
 -- pages of them. Every list is in the direction of the read.
-use Rattle.std.specs.Prelude.{ℕ, ◌+◌, ◌-◌, ◌==◌, min, nat_lt, nat_le, ℤ, pos, ◌+ℤ◌, ◌-ℤ◌, Bool, true, not, ◌&&◌, ◌||◌, if◌then◌else◌, List, [], ◌∷◌, ◌++◌, filter, map, take, length, reverse, Option, Some, None, option_map}
+use Rattle.std.specs.Prelude.{ℕ, ◌+◌, ◌-◌, ◌==◌, min, nat_lt, nat_le, ℤ, pos, negsuc, ◌+ℤ◌, ◌-ℤ◌, Bool, true, not, ◌&&◌, ◌||◌, if◌then◌else◌, List, [], ◌∷◌, ◌++◌, filter, map, take, length, Option, Some, None, option_map}
 use Rattle.std.specs.Ordering.{int_eq}
-use Rattle.std.specs.Int.{int_min}
+use Rattle.std.specs.Int.{int_min, int_max}
 use Rattle.ua_binary.specs.declared.values.NodeId.{NodeId}
 use Rattle.records.specs.Contents.{Content}
+use Rattle.records.specs.Lists.{last}
+use Rattle.records.specs.Records.{current}
 use Rattle.records.specs.declared.shown.Held.{Held}
 use Rattle.records.specs.declared.shown.Entry.{Entry}
-use Rattle.archive.specs.Reading.{lives, log, in_direction, is_past, first, follows, place_of}
+use Rattle.archive.specs.Reading.{lives, log, in_direction, opposite, is_past, follows, place_of, outside_of}
 use Rattle.archive.specs.declared.reading.Direction.{Direction}
 use Rattle.archive.specs.declared.reading.Direction.TheVariants.{Forward, Backward}
 use Rattle.archive.specs.declared.reading.LogPlace.{LogPlace}
@@ -22,6 +24,9 @@ use Rattle.hist_read.specs.declared.item.Item.TheVariants.{Value, Missing}
 -- the greatest Int64
 abbrev pub greatest_time : ℤ
 greatest_time = pos 9223372036854775807
+
+abbrev pub least_time : ℤ
+least_time = negsuc 9223372036854775807
 
 -- ---- the body
 
@@ -45,52 +50,42 @@ body R node q = filter (λ h. in_body q h.time) (lives_in R node q)
 
 -- ---- the bounds
 
-abbrev pub last : {X : Type 0} → List X → Option X
-last xs = first (reverse xs)
-
 abbrev pub or_else : {X : Type 0} → Option X → Option X → Option X
 or_else None y = y
 or_else (Some x) y = Some x
+
+-- the value at a time, else the nearest one beyond it in the direction
+abbrev pub nearest_from : Content → NodeId → Direction → ℤ → Option Held
+nearest_from R node d time = or_else (current R node time) (outside_of R node time d)
 
 abbrev pub value_or_missing : ℤ → Option Held → Item
 value_or_missing time None = Missing time
 value_or_missing time (Some h) = Value h
 
--- the value at the origin
-abbrev pub near_at : Content → NodeId → Details → Option Held
-near_at R node q = first (filter (λ h. int_eq h.time (origin_time q)) (lives_in R node q))
-
--- the last value before it
-abbrev pub near_before : Content → NodeId → Details → Option Held
-near_before R node q = last (filter (λ h. is_past (direction q) h.time (origin_time q)) (lives_in R node q))
-
+-- the value at the origin, else the nearest one against the direction, else none there
 abbrev pub near : Content → NodeId → Details → Item
-near R node q = value_or_missing (origin_time q) (or_else (near_at R node q) (near_before R node q))
+near R node q = value_or_missing (origin_time q) (nearest_from R node (opposite (direction q)) (origin_time q))
 
 abbrev pub item_time : Item → ℤ
 item_time (Value h) = h.time
 item_time (Missing time) = time
 
-abbrev pub last_time : ℤ → List Item → ℤ
-last_time time [] = time
-last_time time (x ∷ xs) = last_time (item_time x) xs
+abbrev pub time_of_last : ℤ → Option Item → ℤ
+time_of_last time None = time
+time_of_last time (Some x) = item_time x
 
--- the far bound of an open limit, one second beyond the item before it
+-- the time of the last item, else this one
+abbrev pub last_time : ℤ → List Item → ℤ
+last_time time items = time_of_last time (last items)
+
+-- the far bound of an open limit, one second beyond the item before it, within an Int64
 abbrev pub open_bound : Direction → ℤ → Item
 open_bound Forward time = Missing (int_min greatest_time (time +ℤ pos 10000000))
-open_bound Backward time = Missing (time -ℤ pos 10000000)
+open_bound Backward time = Missing (int_max least_time (time -ℤ pos 10000000))
 
--- the first value strictly beyond a limit
-abbrev pub far_past : Content → NodeId → Details → ℤ → Option Held
-far_past R node q f = first (filter (λ h. is_past (direction q) f h.time) (lives_in R node q))
-
--- the first value at a limit or beyond it
-abbrev pub far_from : Content → NodeId → Details → ℤ → Option Held
-far_from R node q f = first (filter (λ h. is_from (direction q) f h.time) (lives_in R node q))
-
--- the value at the far limit or the first one beyond it; beyond it where the origin is the limit
+-- the value at the far limit, else the nearest one beyond it; beyond it where the origin is the limit
 abbrev pub far_value : Content → NodeId → Details → ℤ → Option Held
-far_value R node q f = if int_eq (origin_time q) f then far_past R node q f else far_from R node q f
+far_value R node q f = if int_eq (origin_time q) f then outside_of R node f (direction q) else nearest_from R node (direction q) f
 
 abbrev pub far_at : Content → NodeId → Details → ℤ → Option ℤ → Item
 far_at R node q before None = open_bound (direction q) before

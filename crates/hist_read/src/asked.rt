@@ -4,7 +4,7 @@ ghost use Rattle.std.specs.Prelude.{◌≡◌, ◌≤◌, ◌&&◌, ◌||◌, If
 ghost use Rattle.std.specs.Int.{w64};
 ghost use Rattle.std.specs.Int.RustNames.{FitsSigned};
 ghost use Rattle.hist_read.specs.Asking.{is_given, has_both, origin_time, direction};
-ghost use Rattle.hist_read.specs.Reads.{greatest_time, in_body, is_from, is_past_any, limit_at, page_size, given_before, is_spent, given_after};
+ghost use Rattle.hist_read.specs.Reads.{greatest_time, in_body, is_past_any, limit_at, page_size, given_before, is_spent, given_after};
 ghost use Rattle.archive.specs.Reading.{is_between, is_past};
 
 use crate::point::{Phase, Position};
@@ -118,20 +118,6 @@ impl Span {
                 }
             }
         }
-    }
-}
-
-/// The times at a limit or beyond it.
-pub(crate) fn span_from(direction: Direction, limit: i64) -> Span
-    requires { pos 1 ≤ℤ limit }
-    ensures { (t : ℤ) → pos 1 ≤ℤ t → t ≤ℤ greatest_time → is_between result.from result.to t ≡ is_from direction limit t }
-{
-    match direction {
-        Direction::Forward => Span {
-            from: limit,
-            to: i64::MAX,
-        },
-        Direction::Backward => Span { from: 1, to: limit },
     }
 }
 

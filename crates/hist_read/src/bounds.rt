@@ -1,15 +1,14 @@
 //! The values at the bounds of a read.
 
-ghost use Rattle.std.specs.Prelude.{◌≡◌, IsTrue, pos, ◌≤ℤ◌};
+ghost use Rattle.std.specs.Prelude.{◌≡◌};
+ghost use Rattle.records.specs.Records.{current};
 ghost use Rattle.archive.specs.Store.{Asks};
 ghost use Rattle.archive.specs.Reading.{first};
-ghost use Rattle.hist_read.specs.Asking.{is_given, has_both, origin_time};
-ghost use Rattle.hist_read.specs.Reads.{near, near_at, near_before, far_past, far_from, far_value};
+ghost use Rattle.hist_read.specs.Reads.{near, nearest_from, far_value};
 
-use crate::asked::span_from;
 use crate::item::Item;
 use crate::query::Details;
-use archive::{Archive, StoreFault};
+use archive::{Archive, Direction, StoreFault};
 use records::Held;
 use std::alloc::Global;
 use ua_binary::NodeId;
@@ -22,34 +21,36 @@ fn first_of(mut found: Vec<Held>) -> Option<Held>
     found.pop()
 }
 
-/// The value at the origin.
-fn near_at<A: Archive>(
+/// The live value at a time.
+fn value_at<A: Archive>(
     alloc: Global,
     archive: &mut A,
     node: &NodeId,
-    details: &Details,
+    time: i64,
 ) -> Result<Option<Held>, StoreFault>
-    ensures { Asks (A.state archive.old) (A.state archive.new) result (λ h. h ≡ near_at (A.state archive.old).content node.now details.now) }
+    ensures { Asks (A.state archive.old) (A.state archive.new) result (λ h. h ≡ current (A.state archive.old).content node.now time) }
 {
-    let origin = details.origin();
-    let found = archive.range(alloc, node, origin, origin, details.direction(), 1)?;
+    let found = archive.range(alloc, node, time, time, Direction::Forward, 1)?;
     Ok(first_of(found))
 }
 
-/// The last value before the origin.
-fn near_before<A: Archive>(
+/// The live value at a time, else the nearest one beyond it in the direction.
+fn nearest_from<A: Archive>(
     alloc: Global,
     archive: &mut A,
     node: &NodeId,
-    details: &Details,
+    direction: Direction,
+    time: i64,
 ) -> Result<Option<Held>, StoreFault>
-    ensures { Asks (A.state archive.old) (A.state archive.new) result (λ h. h ≡ near_before (A.state archive.old).content node.now details.now) }
+    ensures { Asks (A.state archive.old) (A.state archive.new) result (λ h. h ≡ nearest_from (A.state archive.old).content node.now direction time) }
 {
-    let back = details.direction().opposite();
-    archive.next_outside(alloc, node, details.origin(), back)
+    if let Some(held) = value_at(alloc, archive, node, time)? {
+        return Ok(Some(held));
+    }
+    archive.next_outside(alloc, node, time, direction)
 }
 
-/// The near bound: the value at the origin, else the last one before it, else none there.
+/// The near bound: the value at the origin, else the nearest one against the direction, else none there.
 pub(crate) fn near<A: Archive>(
     alloc: Global,
     archive: &mut A,
@@ -58,59 +59,28 @@ pub(crate) fn near<A: Archive>(
 ) -> Result<Item, StoreFault>
     ensures { Asks (A.state archive.old) (A.state archive.new) result (λ i. i ≡ near (A.state archive.old).content node.now details.now) }
 {
-    if let Some(held) = near_at(alloc, archive, node, details)? {
-        return Ok(Item::Value(held));
-    }
-    match near_before(alloc, archive, node, details)? {
+    let back = details.direction().opposite();
+    let origin = details.origin();
+    match nearest_from(alloc, archive, node, back, origin)? {
         Some(held) => Ok(Item::Value(held)),
-        None => Ok(Item::Missing(details.origin())),
+        None => Ok(Item::Missing(origin)),
     }
 }
 
-/// The first value strictly beyond the end.
-fn far_past<A: Archive>(
-    alloc: Global,
-    archive: &mut A,
-    node: &NodeId,
-    details: &Details,
-) -> Result<Option<Held>, StoreFault>
-    ensures { Asks (A.state archive.old) (A.state archive.new) result (λ h. h ≡ far_past (A.state archive.old).content node.now details.now details.now.end) }
-{
-    let direction = details.direction();
-    let end = details.end;
-    archive.next_outside(alloc, node, end, direction)
-}
-
-/// The first value at the end or beyond it.
-fn far_from<A: Archive>(
-    alloc: Global,
-    archive: &mut A,
-    node: &NodeId,
-    details: &Details,
-) -> Result<Option<Held>, StoreFault>
-    requires { pos 1 ≤ℤ details.now.end }
-    ensures { Asks (A.state archive.old) (A.state archive.new) result (λ h. h ≡ far_from (A.state archive.old).content node.now details.now details.now.end) }
-{
-    let direction = details.direction();
-    let span = span_from(direction, details.end);
-    let found = archive.range(alloc, node, span.from, span.to, direction, 1)?;
-    Ok(first_of(found))
-}
-
-/// The value at the far bound, where both times are given: the first one at the end or beyond it; where
-/// both are equal, strictly beyond it.
+/// The value at the far bound, where both times are given: the one at the end, else the nearest beyond
+/// it; where both times are equal, the nearest beyond it.
 pub(crate) fn far_value<A: Archive>(
     alloc: Global,
     archive: &mut A,
     node: &NodeId,
     details: &Details,
 ) -> Result<Option<Held>, StoreFault>
-    requires { IsTrue (has_both details.now) }
     ensures { Asks (A.state archive.old) (A.state archive.new) result (λ h. h ≡ far_value (A.state archive.old).content node.now details.now details.now.end) }
 {
-    if details.start == details.end {
-        far_past(alloc, archive, node, details)
-    } else {
-        far_from(alloc, archive, node, details)
+    let direction = details.direction();
+    let end = details.end;
+    if details.origin() == end {
+        return archive.next_outside(alloc, node, end, direction);
     }
+    nearest_from(alloc, archive, node, direction, end)
 }

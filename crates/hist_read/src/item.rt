@@ -10,3 +10,18 @@ pub(crate) enum Item {
     /// A bound that is missing at this time.
     Missing(i64),
 }
+
+impl Item {
+    ghost use Rattle.std.specs.Prelude.{◌≡◌};
+    ghost use Rattle.hist_read.specs.Reads.{item_time};
+
+    /// Its source time.
+    pub(crate) fn time(&self) -> i64
+        ensures { result ≡ item_time self.now }
+    {
+        match self {
+            Item::Value(held) => held.time,
+            Item::Missing(time) => *time,
+        }
+    }
+}

@@ -1,10 +1,11 @@
 //! Pages of raw values.
 
 ghost use Rattle.std.specs.Prelude.{◌≡◌, ◌≤◌, ◌+◌, ◌<◌, ◌||◌, ◌&&◌, ◌++◌, ◌^◌, IsTrue, IfOk, IfSome, IfNone, pos, ◌≤ℤ◌, true, take, length, Ok, Some, None};
+ghost use Rattle.std.specs.Option.{option_to_list};
 ghost use Rattle.archive.specs.Store.{Asks};
 ghost use Rattle.hist_read.specs.Asking.{is_given, has_both, origin_time};
 ghost use Rattle.hist_read.specs.Reads.{is_near_alone, body_part, far_value, values, item_time, last_time, time_before, open_bound, page_size};
-ghost use Rattle.hist_read.specs.Pages.{IsFound, IsFoundBehind, body_limit, has_far, far_item, row_of};
+ghost use Rattle.hist_read.specs.Pages.{IsFound, IsFoundBehind, body_limit, has_far, far_item, far_of, row_of};
 
 use crate::asked::{page_size, span_after};
 use crate::bounds::{far_value, near};
@@ -121,11 +122,103 @@ pub(crate) fn find<A: Archive>(
 
 /// The far bound of an open limit, one second beyond the item before it.
 fn open_bound(direction: Direction, before: i64) -> Item
-    requires { pos 1 ≤ℤ before }
     ensures { result ≡ open_bound direction before }
 {
     match direction {
         Direction::Forward => Item::Missing(before.saturating_add(10_000_000)),
-        Direction::Backward => Item::Missing(before - 10_000_000),
+        Direction::Backward => Item::Missing(before.saturating_sub(10_000_000)),
     }
+}
+
+/// The far bound of the value at the far limit, behind an item of this time.
+fn far_item(details: &Details, far: Option<Held>, before: i64) -> Item
+    ensures { result ≡ far_item details.now far before }
+{
+    if !details.has_both() {
+        return open_bound(details.direction(), before);
+    }
+    match far {
+        Some(held) => Item::Value(held),
+        None => Item::Missing(details.end),
+    }
+}
+
+/// Adds values as items.
+fn push_values(items: &mut Vec<Item>, body: Vec<Held>) -> Result<(), AllocError>
+    ensures { IfOk result (λ _. items.new.items ≡ items.old.items ++ values body.items) }
+{
+    for held in body.into_iter() {
+        items.push(Item::Value(held))?;
+    }
+    Ok(())
+}
+
+/// The time of the item that was given last.
+fn time_before(details: &Details, position: &Option<Position>) -> i64
+    ensures { result ≡ time_before details.now position.now }
+{
+    match position {
+        None => details.origin(),
+        Some(p) => p.time,
+    }
+}
+
+/// The time of the last item, else this one.
+fn last_time(items: &[Item], before: i64) -> i64
+    ensures { result ≡ last_time before items.now }
+{
+    match items.last() {
+        Some(item) => item.time(),
+        None => before,
+    }
+}
+
+/// The near bound, where it is due, and the values behind it.
+fn front(
+    alloc: Global,
+    near: Option<Item>,
+    body: Vec<Held>,
+) -> Result<Vec<Item>, AllocError>
+    ensures { IfOk result (λ v. v.items ≡ option_to_list near ++ values body.items) }
+{
+    let mut items = Vec::with_capacity(alloc, body.len())?;
+    if let Some(near) = near {
+        items.push(near)?;
+    }
+    push_values(&mut items, body)?;
+    Ok(items)
+}
+
+/// Adds the far bound, where it is due.
+fn push_far(
+    items: &mut Vec<Item>,
+    far: Option<Held>,
+    is_due: bool,
+    details: &Details,
+    position: &Option<Position>,
+) -> Result<(), AllocError>
+    ensures { IfOk result (λ _. items.new.items ≡ items.old.items ++ far_of details.now position.now is_due items.old.items far) }
+{
+    if !is_due {
+        return Ok(());
+    }
+    let before = last_time(items, time_before(details, position));
+    items.push(far_item(details, far, before))?;
+    Ok(())
+}
+
+/// What was found, in a row; the far bound where the values end within the page.
+pub(crate) fn row(
+    alloc: Global,
+    found: Found,
+    details: &Details,
+    position: &Option<Position>,
+) -> Result<Vec<Item>, AllocError>
+    ensures { IfOk result (λ v. v.items ≡ row_of details.now position.now (option_to_list found.near) found.body.items found.far) }
+{
+    let Found { near, body, far } = found;
+    let is_due = has_far(details) && body.len() <= page_size(details, position);
+    let mut items = front(alloc, near, body)?;
+    push_far(&mut items, far, is_due, details, position)?;
+    Ok(items)
 }
