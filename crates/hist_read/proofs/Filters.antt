@@ -32,7 +32,7 @@ module _ {X : Type 0} where
   filter_reverse p [] = refl
   filter_reverse p (x ∷ xs) =
       ap (filter p) (reverse-append (x ∷ []) xs) ∙ (filter-append p (reverse xs) (x ∷ []) ∙ (ap (λ l. l ++ filter p (x ∷ [])) (filter_reverse p xs)
-        ∙ elim (p x) as (λ b. reverse (filter p xs) ++ cond b (x ∷ []) [] ≡ reverse (cond b (x ∷ filter p xs) (filter p xs))) [ true ↦ sym (reverse-append (x ∷ []) (filter p xs)) | false ↦ append-nil _ ]))
+      ∙ elim (p x) as (λ b. reverse (filter p xs) ++ cond b (x ∷ []) [] ≡ reverse (cond b (x ∷ filter p xs) (filter p xs))) [ true ↦ sym (reverse-append (x ∷ []) (filter p xs)) | false ↦ append-nil _ ]))
 
   pub filter_turned : (d : Direction) (p : X → Bool) (xs : List X) → filter p (in_direction d xs) ≡ in_direction d (filter p xs)
   filter_turned Forward p xs = refl

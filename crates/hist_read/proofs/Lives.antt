@@ -101,5 +101,5 @@ pub log_reads : (R : Content) (node : NodeId) (q : Details) (after : Option LogP
     → log_of R node from to after (direction q) ≡ filter (follows (direction q) after) (filter (λ e. in_body q e.time) (in_direction (direction q) (log R node)))
 log_reads R node q after from to lawful span =
     ap (filter (follows (direction q) after)) (
-      ap (in_direction (direction q)) (filter_same _ (λ e. in_body q e.time) (log R node) (λ e k. let l = log_lawful R node e lawful k in span e.time l.0 l.1))
-      ∙ sym (filter_turned (direction q) _ (log R node)))
+    ap (in_direction (direction q)) (filter_same _ (λ e. in_body q e.time) (log R node) (λ e k. let l = log_lawful R node e lawful k in span e.time l.0 l.1))
+    ∙ sym (filter_turned (direction q) _ (log R node)))

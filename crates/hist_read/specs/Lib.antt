@@ -2,3 +2,4 @@ pub mod Asking
 pub mod Point
 pub mod Reads
 pub mod Pages
+pub mod Finding

@@ -6,11 +6,12 @@ use Rattle.ua_binary.specs.declared.values.NodeId.{NodeId}
 use Rattle.records.specs.Contents.{Content}
 use Rattle.records.specs.declared.shown.Held.{Held}
 use Rattle.hist_read.specs.Asking.{has_both, direction}
-use Rattle.hist_read.specs.Reads.{is_near_alone, near_part, body_part, far_value, value_or_missing, open_bound, values, last_time, time_before, page_size}
+use Rattle.hist_read.specs.Reads.{is_near_alone, near_part, body_part, far_value, value_or_missing, open_bound, values, last_time, time_before, page_size, page, raw, next_place, raw_position}
 use Rattle.hist_read.specs.declared.query.Details.{Details}
 use Rattle.hist_read.specs.declared.point.Position.{Position}
 use Rattle.hist_read.specs.declared.item.Item.{Item}
 use Rattle.hist_read.specs.declared.raw.Found.{Found}
+use Rattle.hist_read.specs.declared.raw.RawPage.{RawPage}
 
 -- how many values are asked for: one more than the page has
 abbrev pub body_limit : Details → Option Position → ℕ
@@ -42,3 +43,8 @@ far_of q p is_due items value = if is_due then far_item q value (last_time (time
 -- what was found, in a row; the far bound where the values end within the page
 abbrev pub row_of : Details → Option Position → List Item → List Held → Option Held → List Item
 row_of q p near body far = (near ++ values body) ++ far_of q p (has_far q && nat_le (length body) (page_size q p)) (near ++ values body) far
+
+-- the page, and the place where it ends, in case another one follows
+pub record IsRawPage (R : Content) (node : NodeId) (q : Details) (p : Option Position) (found : RawPage) : Type 0 where
+  pub items : found.items.items ≡ page q p (raw R node q p)
+  pub next : found.next ≡ next_place (raw_position q p) q p (raw R node q p)

@@ -9,6 +9,7 @@ mod laws;
 mod point;
 mod query;
 mod raw;
+mod setback;
 
 pub use laws::continuation_points_are_told_by_their_bytes;
 pub use point::{Phase, Place, Position, put_continuation, read_continuation};

@@ -1,17 +1,19 @@
 //! Pages of raw values.
 
-ghost use Rattle.std.specs.Prelude.{◌≡◌, ◌≤◌, ◌+◌, ◌<◌, ◌||◌, ◌&&◌, ◌++◌, ◌^◌, IsTrue, IfOk, IfSome, IfNone, pos, ◌≤ℤ◌, true, take, length, Ok, Some, None};
+ghost use Rattle.std.specs.Prelude.{◌≡◌, ◌≤◌, ◌+◌, ◌<◌, ◌||◌, ◌&&◌, ◌++◌, ◌^◌, IsTrue, IfOk, IfSome, IfNone, pos, ◌≤ℤ◌, true, false, take, length, Ok, Some, None};
 ghost use Rattle.std.specs.Option.{option_to_list};
 ghost use Rattle.archive.specs.Store.{Asks};
 ghost use Rattle.hist_read.specs.Asking.{is_given, has_both, origin_time};
-ghost use Rattle.hist_read.specs.Reads.{is_near_alone, body_part, far_value, values, item_time, last_time, time_before, open_bound, page_size};
-ghost use Rattle.hist_read.specs.Pages.{IsFound, IsFoundBehind, body_limit, has_far, far_item, far_of, row_of};
+ghost use Rattle.hist_read.specs.Reads.{is_near_alone, body_part, far_value, values, item_time, last_time, time_before, open_bound, page_size, page, is_spent, next_place, raw_position};
+ghost use Rattle.hist_read.specs.Pages.{IsFound, IsFoundBehind, body_limit, has_far, far_item, far_of, row_of, IsRawPage};
+ghost use Rattle.hist_read.specs.Finding.{Finds};
 
-use crate::asked::{page_size, span_after};
+use crate::asked::{given_after, goes_on, page_size, span_after};
 use crate::bounds::{far_value, near};
 use crate::item::Item;
-use crate::point::Position;
+use crate::point::{Phase, Position};
 use crate::query::Details;
+use crate::setback::Setback;
 use archive::{Archive, Direction, StoreFault};
 use records::Held;
 use std::alloc::{AllocError, Global};
@@ -174,11 +176,7 @@ fn last_time(items: &[Item], before: i64) -> i64
 }
 
 /// The near bound, where it is due, and the values behind it.
-fn front(
-    alloc: Global,
-    near: Option<Item>,
-    body: Vec<Held>,
-) -> Result<Vec<Item>, AllocError>
+fn front(alloc: Global, near: Option<Item>, body: Vec<Held>) -> Result<Vec<Item>, AllocError>
     ensures { IfOk result (λ v. v.items ≡ option_to_list near ++ values body.items) }
 {
     let mut items = Vec::with_capacity(alloc, body.len())?;
@@ -221,4 +219,59 @@ pub(crate) fn row(
     let mut items = front(alloc, near, body)?;
     push_far(&mut items, far, is_due, details, position)?;
     Ok(items)
+}
+
+/// A page of raw values.
+#[derive(Drop)]
+pub(crate) struct RawPage {
+    pub(crate) items: Vec<Item>,
+    /// Where it ends, in case another page follows.
+    pub(crate) next: Option<Position>,
+}
+
+/// The place behind an item, where reading goes on.
+fn raw_position(details: &Details, position: &Option<Position>, item: &Item) -> Position
+    requires { is_spent details.now position.now ≡ false }
+    ensures { result ≡ raw_position details.now position.now item.now }
+{
+    Position {
+        phase: Phase::Body,
+        time: item.time(),
+        stamp: None,
+        given: given_after(details, position),
+    }
+}
+
+/// The page that a row begins with.
+fn page(mut items: Vec<Item>, details: &Details, position: &Option<Position>) -> RawPage
+    ensures items { result.items.items ≡ page details.now position.now items.items }
+    ensures next { result.next ≡ next_place (raw_position details.now position.now) details.now position.now items.items }
+{
+    let goes_on = goes_on(details, position, items.len());
+    items.truncate(page_size(details, position));
+    if !goes_on {
+        return RawPage { items, next: None };
+    }
+    let next = match items.last() {
+        Some(item) => Some(raw_position(details, position, item)),
+        None => None,
+    };
+    RawPage { items, next }
+}
+
+/// Reads a page of raw values.
+pub(crate) fn read_raw<A: Archive>(
+    alloc: Global,
+    archive: &mut A,
+    node: &NodeId,
+    details: &Details,
+    position: &Option<Position>,
+) -> Result<RawPage, Setback>
+    requires given { IsTrue (is_given details.now.start || is_given details.now.end) }
+    requires place { IfSome position.now (λ p. pos 1 ≤ℤ p.time) }
+    ensures { Finds (A.state archive.old) (A.state archive.new) result (IsRawPage (A.state archive.old).content node.now details.now position.now) }
+{
+    let found = find(alloc, archive, node, details, position)?;
+    let items = row(alloc, found, details, position)?;
+    Ok(page(items, details, position))
 }

@@ -21,6 +21,6 @@ returns g c =
     let apart : origin_time q ≡ q.end → ⊥ = λ e. c.if-origin-end.false (ap (of_z w64) (c.origin.ensures ∙ e)) in
     let test : int_eq (origin_time q) q.end ≡ false = not_same (origin_time q) q.end apart in
     asked_so _ _ c.nearest_from.result _ _ c.nearest_from.ensures (λ h lawful is.
-      rw (to_z-of_z w64 q.end fits) at is
-      ∙ (ap (λ d. nearest_from R node d q.end) c.direction-direction.ensures
-        ∙ sym (ap (λ b. cond b (outside_of R node q.end (direction q)) (nearest_from R node (direction q) q.end)) test)))
+    rw (to_z-of_z w64 q.end fits) at is
+    ∙ (ap (λ d. nearest_from R node d q.end) c.direction-direction.ensures
+    ∙ sym (ap (λ b. cond b (outside_of R node q.end (direction q)) (nearest_from R node (direction q) q.end)) test)))

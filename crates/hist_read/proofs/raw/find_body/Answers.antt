@@ -16,7 +16,7 @@ returns g c =
     let fits : FitsSigned w64 from = omega (arith, ints) in
     let fits' : FitsSigned w64 to = omega (arith, ints) in
     asked_so _ _ c.range.result _ _ c.range.ensures (λ v lawful is.
-      rw (to_z-of_z w64 from fits, to_z-of_z w64 to fits') at is
-      ∙ (ap (λ n. take n (range_of R c.args.node.now from to c.direction-direction.result)) c.body_limit-limit.ensures
-        ∙ (ap (λ d. take (body_limit q c.args.position.now) (range_of R c.args.node.now from to d)) c.direction-direction.ensures
-          ∙ body_found R c.args.node.now q c.args.position.now from to lawful c.span_after-span.ensures)))
+    rw (to_z-of_z w64 from fits, to_z-of_z w64 to fits') at is
+    ∙ (ap (λ n. take n (range_of R c.args.node.now from to c.direction-direction.result)) c.body_limit-limit.ensures
+    ∙ (ap (λ d. take (body_limit q c.args.position.now) (range_of R c.args.node.now from to d)) c.direction-direction.ensures
+    ∙ body_found R c.args.node.now q c.args.position.now from to lawful c.span_after-span.ensures)))
