@@ -3,19 +3,21 @@ use Rattle.std.proofs.Common.{◌≡◌, ℕ, ◌+◌, ◌≤◌, ◌<◌, nat_l
 use Rattle.std.specs.Option.{option_to_list}
 use Rattle.std.proofs.lemmas.Bool.{cases_Bool}
 use Rattle.std.proofs.lemmas.Bool.Decides.{nat_tests}
-use Rattle.std.proofs.lemmas.List.{take_all, take-map, take-append-le, take-append-drop, append_assoc, append-nil, length-append, length-take, length-map}
+use Rattle.std.proofs.lemmas.List.{take_all, take-map, take-take, take-append-le, take-append-drop, append_assoc, append-nil, length-append, length-take, length-map}
 use Rattle.ua_binary.specs.declared.values.NodeId.{NodeId}
 use Rattle.records.specs.Contents.{Content}
 use Rattle.records.specs.Lists.{last}
 use Rattle.records.specs.declared.shown.Held.{Held}
+use Rattle.records.specs.declared.shown.Entry.{Entry}
 use Rattle.hist_read.specs.Asking.{has_both, far_limit, direction}
-use Rattle.hist_read.specs.Reads.{is_near_alone, near_part, body_part, far_part, far, far_at, far_value, value_or_missing, open_bound, values, last_time, time_before, before_far, raw, page_size, page, is_spent, goes_on, next_place, raw_position}
+use Rattle.hist_read.specs.Reads.{is_near_alone, near_part, body_part, far_part, far, far_at, far_value, value_or_missing, open_bound, values, last_time, time_before, before_far, raw, page_size, page, is_spent, goes_on, next_place, raw_position, modified, modified_position}
 use Rattle.hist_read.specs.Pages.{IsFound, has_far, far_item, far_of, row_of}
 use Rattle.hist_read.specs.declared.query.Details.{Details}
 use Rattle.hist_read.specs.declared.point.Position.{Position}
 use Rattle.hist_read.specs.declared.item.Item.{Item}
 use Rattle.hist_read.specs.declared.item.Item.TheVariants.{Value}
 use Rattle.hist_read.specs.declared.raw.Found.{Found}
+use Rattle.hist_read.proofs.Filters.{longer}
 
 -- a page of a list with a tail, from one element more than the page
 gathered : {X : Type 0} (n : ℕ) (head body tail : List X) → n < length (head ++ take (n + 1) body) → take n (head ++ take (n + 1) body) ≡ take n (head ++ (body ++ tail))
@@ -112,3 +114,14 @@ module _ (R : Content) (node : NodeId) (q : Details) (p : Option Position) (foun
   row_next =
       ap (λ b. cond (b && not (is_spent q p)) (option_map (raw_position q p) (last (page q p row))) None) row_goes
       ∙ ap (λ l. cond (goes_on q p (raw R node q p)) (option_map (raw_position q p) (last l)) None) row_page
+
+-- ---- modifications
+
+module _ (R : Content) (node : NodeId) (q : Details) (p : Option Position) (xs found : List Entry) (is : found ≡ take (page_size q p + 1) xs) (all : xs ≡ modified R node q p) where
+  pub modified_page : page q p found ≡ page q p (modified R node q p)
+  modified_page = ap (page q p) is ∙ (take-take (page_size q p) (page_size q p + 1) xs (omega arith) ∙ ap (page q p) all)
+
+  pub modified_next : next_place (modified_position q p) q p found ≡ next_place (modified_position q p) q p (modified R node q p)
+  modified_next =
+      ap (λ b. cond (b && not (is_spent q p)) (option_map (modified_position q p) (last (page q p found))) None) (ap (λ l. nat_lt (page_size q p) (length l)) is ∙ (longer (page_size q p) xs ∙ ap (λ l. nat_lt (page_size q p) (length l)) all))
+      ∙ ap (λ l. cond (goes_on q p (modified R node q p)) (option_map (modified_position q p) (last l)) None) modified_page

@@ -6,12 +6,13 @@ use Rattle.ua_binary.specs.declared.values.NodeId.{NodeId}
 use Rattle.records.specs.Contents.{Content}
 use Rattle.records.specs.declared.shown.Held.{Held}
 use Rattle.hist_read.specs.Asking.{has_both, direction}
-use Rattle.hist_read.specs.Reads.{is_near_alone, near_part, body_part, far_value, value_or_missing, open_bound, values, last_time, time_before, page_size, page, raw, next_place, raw_position}
+use Rattle.hist_read.specs.Reads.{is_near_alone, near_part, body_part, far_value, value_or_missing, open_bound, values, last_time, time_before, page_size, page, raw, next_place, raw_position, modified, modified_position}
 use Rattle.hist_read.specs.declared.query.Details.{Details}
 use Rattle.hist_read.specs.declared.point.Position.{Position}
 use Rattle.hist_read.specs.declared.item.Item.{Item}
 use Rattle.hist_read.specs.declared.raw.Found.{Found}
 use Rattle.hist_read.specs.declared.raw.RawPage.{RawPage}
+use Rattle.hist_read.specs.declared.modified.ModifiedPage.{ModifiedPage}
 
 -- how many values are asked for: one more than the page has
 abbrev pub body_limit : Details → Option Position → ℕ
@@ -48,3 +49,8 @@ row_of q p near body far = (near ++ values body) ++ far_of q p (has_far q && nat
 pub record IsRawPage (R : Content) (node : NodeId) (q : Details) (p : Option Position) (found : RawPage) : Type 0 where
   pub items : found.items.items ≡ page q p (raw R node q p)
   pub next : found.next ≡ next_place (raw_position q p) q p (raw R node q p)
+
+-- the same of modifications
+pub record IsModifiedPage (R : Content) (node : NodeId) (q : Details) (p : Option Position) (found : ModifiedPage) : Type 0 where
+  pub items : found.entries.items ≡ page q p (modified R node q p)
+  pub next : found.next ≡ next_place (modified_position q p) q p (modified R node q p)

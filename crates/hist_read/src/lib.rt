@@ -6,6 +6,7 @@ mod asked;
 mod bounds;
 mod item;
 mod laws;
+mod modified;
 mod point;
 mod query;
 mod raw;
