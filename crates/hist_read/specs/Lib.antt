@@ -3,3 +3,5 @@ pub mod Point
 pub mod Reads
 pub mod Pages
 pub mod Finding
+pub mod Showing
+pub mod Node

@@ -4,14 +4,23 @@
 
 mod asked;
 mod bounds;
+mod code;
 mod item;
 mod laws;
 mod modified;
+mod node;
 mod point;
 mod query;
 mod raw;
 mod setback;
+mod showing;
 
+pub use code::ReadCode;
 pub use laws::continuation_points_are_told_by_their_bytes;
+pub use node::{NodeItems, NodeResult};
 pub use point::{Phase, Place, Position, put_continuation, read_continuation};
 pub use query::{Details, Query, TimestampsToReturn};
+pub use showing::Modification;
+
+#[cfg(test)]
+mod tests;

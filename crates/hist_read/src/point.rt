@@ -1,11 +1,11 @@
 //! Continuation points (Part 4, 7.9): what was asked, and the place where a page ended. Nothing is kept
 //! on the server.
 
-ghost use Rattle.std.specs.Prelude.{◌≡◌, ◌⊎◌, option_map, Ok, Err, if◌then◌else◌};
+ghost use Rattle.std.specs.Prelude.{◌≡◌, ◌⊎◌, ◌↔◌, IsTrue, option_map, Ok, Err, if◌then◌else◌};
 ghost use Rattle.ua_binary.specs.Format.{block, Reads, Puts, PutsPart};
-ghost use Rattle.ua_binary.specs.Binary.{node_of};
+ghost use Rattle.ua_binary.specs.Binary.{node_of, IsNodeId};
 ghost use Rattle.ua_binary.specs.declared.fault.BinaryFault.TheVariants as fault;
-ghost use Rattle.hist_read.specs.Point.{flag, short_form, short_node, is_phase_for, is_stamp_for, is_given_for, suits, are_stamp, stamp_of, number_of_phase, phase, time, stamp, details, position, IsPoint, point_of, point_in, point};
+ghost use Rattle.hist_read.specs.Point.{flag, short_form, short_node, is_phase_for, is_stamp_for, is_given_for, suits, are_stamp, stamp_of, number_of_phase, phase, time, stamp, details, position, IsStamp, IsPosition, IsPoint, point_of, point_in, point};
 
 use crate::query::Details;
 use stamp::{GREATEST_TICK, ReplicaNo, Stamp};
@@ -266,6 +266,63 @@ fn suits(details: &Details, position: &Position) -> bool
     is_phase_for(details, position.phase)
         && is_stamp_for(details, position.stamp)
         && is_given_for(details, position.given)
+}
+
+/// Whether a node's id has a spelling.
+#[tactic(auto, using(ua_binary::proofs::Utf8::tested))]
+fn is_spelled(node: NodeIdRef<'_>) -> bool
+    ensures { IsTrue result ↔ IsNodeId (node_of node.entry) }
+{
+    match node {
+        NodeIdRef::Numeric(..) => true,
+        NodeIdRef::Named(_, name) => name.as_bytes().len() < 0x8000_0000,
+        NodeIdRef::Global(..) => true,
+        NodeIdRef::Opaque(_, id) => id.len() < 0x8000_0000,
+    }
+}
+
+/// Whether a stamp's tick is within its limits.
+fn is_stamp(stamp: Option<Stamp>) -> bool
+    ensures { IsTrue result ↔ IsStamp stamp }
+{
+    match stamp {
+        None => true,
+        Some(stamp) => 1 <= stamp.tick && stamp.tick <= GREATEST_TICK,
+    }
+}
+
+/// Whether a position's numbers are within their limits.
+fn is_position(position: &Position) -> bool
+    ensures { IsTrue result ↔ IsPosition position.now }
+{
+    let (time, _given) = (position.time, position.given);
+    1 <= time && is_stamp(position.stamp)
+}
+
+impl Place<'_> {
+    ghost use Rattle.std.specs.Prelude.{IsTrue, ◌↔◌};
+    ghost use Rattle.hist_read.specs.Point.{IsPoint, point_of};
+
+    /// Whether it can be written and read again: its numbers are within their limits, its stamp is there
+    /// just where modifications were asked for, its phase is the near bound's only where raw values were
+    /// asked for with bounds, and its count of items is 0 where both times are given, else at least 1 and
+    /// below the count.
+    pub fn is_well_formed(&self) -> bool
+        ensures { IsTrue result ↔ IsPoint (point_of self.now) }
+    {
+        let Place { details, .. } = self;
+        let Details {
+            start, end, count, ..
+        } = details;
+        let _numbers = (*start, *end, *count);
+        if self.archive.as_bytes().as_slice().len() != 16 {
+            return false;
+        }
+        if !is_spelled(self.node) || !is_position(&self.position) {
+            return false;
+        }
+        suits(&self.details, &self.position)
+    }
 }
 
 /// Reads a continuation point's fields, in front of whatever follows.
