@@ -28,7 +28,7 @@ use Rattle.hist_read.proofs.Filters.{filter_all, filter_both, filter_same, filte
 abbrev pub IsTime : ℤ → Type 0
 IsTime t = (pos 1 ≤ℤ t) × (t ≤ℤ greatest_time)
 
-record_time : (R : Content) (r : Record) → IsLawfulContent R → Has R r → IsTime r.time
+pub record_time : (R : Content) (r : Record) → IsLawfulContent R → Has R r → IsTime r.time
 record_time R r lawful h =
     let of_record = (lawful.records r h).time in
     (of_record.0, omega (arith, ints, of_record.1))

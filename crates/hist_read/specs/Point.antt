@@ -162,3 +162,7 @@ told (Err e) = None
 -- the continuation point that all of these bytes spell, if any
 abbrev pub point_in : List ℕ → Option Point
 point_in bytes = told (whole BadEncodingByte point bytes)
+
+-- a position that a page of what was asked may end at: with these, and a node that can be counted, a point has a spelling
+abbrev pub IsNext : Details → Position → Type 0
+IsNext d p = (pos 1 ≤ℤ p.time) × IsStamp p.stamp × (suits d p ≡ true)

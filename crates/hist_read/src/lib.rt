@@ -17,7 +17,7 @@ mod showing;
 
 pub use code::ReadCode;
 pub use laws::continuation_points_are_told_by_their_bytes;
-pub use node::{NodeItems, NodeResult};
+pub use node::{NodeItems, NodeResult, read_node};
 pub use point::{Phase, Place, Position, put_continuation, read_continuation};
 pub use query::{Details, Query, TimestampsToReturn};
 pub use showing::Modification;

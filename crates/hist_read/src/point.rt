@@ -1,7 +1,7 @@
 //! Continuation points (Part 4, 7.9): what was asked, and the place where a page ended. Nothing is kept
 //! on the server.
 
-ghost use Rattle.std.specs.Prelude.{◌≡◌, ◌⊎◌, ◌↔◌, IsTrue, option_map, Ok, Err, if◌then◌else◌};
+ghost use Rattle.std.specs.Prelude.{◌≡◌, ◌⊎◌, ◌↔◌, IsTrue, IfOk, IfSome, length, pos, ◌≤ℤ◌, option_map, Ok, Err, if◌then◌else◌};
 ghost use Rattle.ua_binary.specs.Format.{block, Reads, Puts, PutsPart};
 ghost use Rattle.ua_binary.specs.Binary.{node_of, IsNodeId};
 ghost use Rattle.ua_binary.specs.declared.fault.BinaryFault.TheVariants as fault;
@@ -171,7 +171,8 @@ fn read_phase(cursor: &mut Cursor<'_>) -> Result<Phase, BinaryFault>
 
 #[tactic(auto, unfolding(crate::specs::Point::time))]
 fn read_time(cursor: &mut Cursor<'_>) -> Result<i64, BinaryFault>
-    ensures { Reads (λ v. v) result cursor.old cursor.new time.read }
+    ensures reads { Reads (λ v. v) result cursor.old cursor.new time.read }
+    ensures late { IfOk result (λ v. pos 1 ≤ℤ v) }
 {
     let mut next = cursor.fork();
     let time = next.i64()?;
@@ -213,7 +214,8 @@ fn read_stamp(cursor: &mut Cursor<'_>) -> Result<Option<Stamp>, BinaryFault>
 /// Where the page ended.
 #[tactic(auto, unfolding(crate::specs::Point::position))]
 fn read_position(cursor: &mut Cursor<'_>) -> Result<Position, BinaryFault>
-    ensures { Reads (λ v. v) result cursor.old cursor.new position.read }
+    ensures reads { Reads (λ v. v) result cursor.old cursor.new position.read }
+    ensures late { IfOk result (λ v. pos 1 ≤ℤ v.time) }
 {
     let mut next = cursor.fork();
     let phase = read_phase(&mut next)?;
@@ -293,32 +295,49 @@ fn is_stamp(stamp: Option<Stamp>) -> bool
 
 /// Whether a position's numbers are within their limits.
 fn is_position(position: &Position) -> bool
-    ensures { IsTrue result ↔ IsPosition position.now }
+    ensures judged { IsTrue result ↔ IsPosition position.now }
+    ensures next { pos 1 ≤ℤ position.now.time → IsStamp position.now.stamp → IsTrue result }
 {
     let (time, _given) = (position.time, position.given);
     1 <= time && is_stamp(position.stamp)
 }
 
+/// How many bytes an id has: 16.
+fn id_length(id: &[u8; 16]) -> usize
+    ensures bytes { result ≡ length id.now }
+    ensures all { result ≡ 16 }
+{
+    id.len()
+}
+
 impl Place<'_> {
     ghost use Rattle.std.specs.Prelude.{IsTrue, ◌↔◌};
-    ghost use Rattle.hist_read.specs.Point.{IsPoint, point_of};
+    ghost use Rattle.ua_binary.specs.Binary.{node_of, IsNodeId};
+    ghost use Rattle.hist_read.specs.Point.{IsPoint, IsNext, point_of};
 
     /// Whether it can be written and read again: its numbers are within their limits, its stamp is there
     /// just where modifications were asked for, its phase is the near bound's only where raw values were
     /// asked for with bounds, and its count of items is 0 where both times are given, else at least 1 and
     /// below the count.
     pub fn is_well_formed(&self) -> bool
-        ensures { IsTrue result ↔ IsPoint (point_of self.now) }
+        ensures judged { IsTrue result ↔ IsPoint (point_of self.now) }
+        ensures next { IsNodeId (node_of self.now.node) → IsNext self.now.details self.now.position → IsTrue result }
     {
         let Place { details, .. } = self;
         let Details {
-            start, end, count, ..
+            start,
+            end,
+            count,
+            ..
         } = details;
         let _numbers = (*start, *end, *count);
-        if self.archive.as_bytes().as_slice().len() != 16 {
+        if id_length(self.archive.as_bytes()) != 16 {
             return false;
         }
-        if !is_spelled(self.node) || !is_position(&self.position) {
+        if !is_spelled(self.node) {
+            return false;
+        }
+        if !is_position(&self.position) {
             return false;
         }
         suits(&self.details, &self.position)
@@ -328,7 +347,8 @@ impl Place<'_> {
 /// Reads a continuation point's fields, in front of whatever follows.
 #[tactic(auto, unfolding(crate::specs::Point::point))]
 fn read_place<'a>(cursor: &mut Cursor<'a>) -> Result<Place<'a>, BinaryFault>
-    ensures { Reads point_of result cursor.old cursor.new point.read }
+    ensures reads { Reads point_of result cursor.old cursor.new point.read }
+    ensures late { IfOk result (λ v. pos 1 ≤ℤ v.position.time) }
 {
     let mut next = cursor.fork();
     if next.u8()? != 1 {
@@ -366,7 +386,8 @@ fn read_archive(cursor: &mut Cursor<'_>) -> Result<Uuid, BinaryFault>
 /// no memory. The node stays in the bytes.
 #[tactic(auto, unfolding(crate::specs::Point::point))]
 pub fn read_continuation(bytes: &[u8]) -> Option<Place<'_>>
-    ensures { option_map point_of result ≡ point_in bytes.now }
+    ensures told { option_map point_of result ≡ point_in bytes.now }
+    ensures late { IfSome result (λ p. pos 1 ≤ℤ p.position.time) }
 {
     let mut cursor = Cursor::new(bytes);
     let Ok(place) = read_place(&mut cursor) else {

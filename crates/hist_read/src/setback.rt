@@ -3,6 +3,7 @@
 ghost use Rattle.std.specs.Prelude.{◌≡◌};
 ghost use Rattle.hist_read.specs.declared.setback.Setback.TheVariants as setback;
 
+use crate::code::ReadCode;
 use archive::StoreFault;
 use std::alloc::AllocError;
 use thiserror::Error;
@@ -16,6 +17,20 @@ pub(crate) enum Setback {
     /// The store gave no answer.
     #[error("{0}")]
     Store(StoreFault),
+}
+
+impl Setback {
+    ghost use Rattle.hist_read.specs.Node.{code_of};
+
+    /// How a read tells it.
+    pub(crate) fn code(self) -> ReadCode
+        ensures { result ≡ code_of self }
+    {
+        match self {
+            Setback::Starved | Setback::Store(StoreFault::OutOfMemory) => ReadCode::BadOutOfMemory,
+            Setback::Store(_) => ReadCode::BadResourceUnavailable,
+        }
+    }
 }
 
 impl From<AllocError> for Setback {

@@ -82,8 +82,16 @@ fn is_rewritten(alloc: Global, bytes: &[u8]) -> bool {
 fn points_are_read_and_written(rt: HostRuntime) -> Result<(), Fail> {
     for (first, second, there) in &PATCHED {
         let bytes = patched(rt.alloc(), *first, *second)?;
-        assert_eq!(rt; read_continuation(&bytes).is_some(), *there, "{first:?} {second:?}");
-        assert_eq!(rt; is_rewritten(rt.alloc(), &bytes), *there, "{first:?} {second:?}");
+        assert_eq!(rt;
+            read_continuation(&bytes).is_some(),
+            *there,
+            "{first:?} {second:?}"
+        );
+        assert_eq!(rt;
+            is_rewritten(rt.alloc(), &bytes),
+            *there,
+            "{first:?} {second:?}"
+        );
     }
     Ok(())
 }
@@ -97,7 +105,12 @@ static NODES: [(&[u8], bool); 12] = [
     (&[2, 0, 1, 0x55, 0, 0, 0], true),
     (&[3, 1, 0, 0xFF, 0xFF, 0xFF, 0xFF], false),
     (&[3, 1, 0, 0, 0, 0, 0], true),
-    (&[4, 1, 0, 1, 2, 3, 4, 5, 6, 7, 8, 9, 10, 11, 12, 13, 14, 15, 16], true),
+    (
+        &[
+            4, 1, 0, 1, 2, 3, 4, 5, 6, 7, 8, 9, 10, 11, 12, 13, 14, 15, 16,
+        ],
+        true,
+    ),
     (&[5, 1, 0, 0xFF, 0xFF, 0xFF, 0xFF], false),
     (&[5, 1, 0, 0, 0, 0, 0], true),
     (&[5, 1, 0, 2, 0, 0, 0, 0x80, 0xFF], true),
@@ -248,22 +261,146 @@ fn are_shown(items: &[Item], shown: &[Shown]) -> bool {
 type RawRead = (i64, i64, u32, bool, &'static [&'static [Shown]]);
 
 static RAW_READS: [RawRead; 16] = [
-    (AT_5_01, AT_5_04, 0, true, &[&[(AT_5_00, false), (AT_5_02, false), (AT_5_03, false), (AT_5_05, false)]]),
-    (AT_5_01, AT_5_04, 0, false, &[&[(AT_5_02, false), (AT_5_03, false)]]),
-    (AT_4_59, AT_5_05, 0, true, &[&[(AT_4_59, true), (AT_5_00, false), (AT_5_02, false), (AT_5_03, false), (AT_5_05, false)]]),
-    (AT_5_05, AT_5_00, 0, false, &[&[(AT_5_05, false), (AT_5_03, false), (AT_5_02, false)]]),
-    (AT_5_00, AT_5_00, 0, true, &[&[(AT_5_00, false), (AT_5_02, false)]]),
+    (
+        AT_5_01,
+        AT_5_04,
+        0,
+        true,
+        &[&[
+            (AT_5_00, false),
+            (AT_5_02, false),
+            (AT_5_03, false),
+            (AT_5_05, false),
+        ]],
+    ),
+    (
+        AT_5_01,
+        AT_5_04,
+        0,
+        false,
+        &[&[(AT_5_02, false), (AT_5_03, false)]],
+    ),
+    (
+        AT_4_59,
+        AT_5_05,
+        0,
+        true,
+        &[&[
+            (AT_4_59, true),
+            (AT_5_00, false),
+            (AT_5_02, false),
+            (AT_5_03, false),
+            (AT_5_05, false),
+        ]],
+    ),
+    (
+        AT_5_05,
+        AT_5_00,
+        0,
+        false,
+        &[&[(AT_5_05, false), (AT_5_03, false), (AT_5_02, false)]],
+    ),
+    (
+        AT_5_00,
+        AT_5_00,
+        0,
+        true,
+        &[&[(AT_5_00, false), (AT_5_02, false)]],
+    ),
     (AT_4_48, AT_4_48, 0, false, &[&[]]),
-    (AT_5_00, AT_5_07, 2, false, &[&[(AT_5_00, false), (AT_5_02, false)], &[(AT_5_03, false), (AT_5_05, false)], &[(AT_5_06, false)]]),
-    (AT_5_00, AT_5_07, 5, false, &[&[(AT_5_00, false), (AT_5_02, false), (AT_5_03, false), (AT_5_05, false), (AT_5_06, false)]]),
-    (0, AT_5_06, 6, true, &[&[(AT_5_06, false), (AT_5_05, false), (AT_5_03, false), (AT_5_02, false), (AT_5_00, false), (179_990_000_000, true)]]),
-    (0, AT_5_06, 5, true, &[&[(AT_5_06, false), (AT_5_05, false), (AT_5_03, false), (AT_5_02, false), (AT_5_00, false)]]),
+    (
+        AT_5_00,
+        AT_5_07,
+        2,
+        false,
+        &[
+            &[(AT_5_00, false), (AT_5_02, false)],
+            &[(AT_5_03, false), (AT_5_05, false)],
+            &[(AT_5_06, false)],
+        ],
+    ),
+    (
+        AT_5_00,
+        AT_5_07,
+        5,
+        false,
+        &[&[
+            (AT_5_00, false),
+            (AT_5_02, false),
+            (AT_5_03, false),
+            (AT_5_05, false),
+            (AT_5_06, false),
+        ]],
+    ),
+    (
+        0,
+        AT_5_06,
+        6,
+        true,
+        &[&[
+            (AT_5_06, false),
+            (AT_5_05, false),
+            (AT_5_03, false),
+            (AT_5_02, false),
+            (AT_5_00, false),
+            (179_990_000_000, true),
+        ]],
+    ),
+    (
+        0,
+        AT_5_06,
+        5,
+        true,
+        &[&[
+            (AT_5_06, false),
+            (AT_5_05, false),
+            (AT_5_03, false),
+            (AT_5_02, false),
+            (AT_5_00, false),
+        ]],
+    ),
     (AT_5_01, AT_5_06, 1, true, &[&[(AT_5_00, false)]]),
-    (AT_5_01, AT_5_05, 2, true, &[&[(AT_5_00, false), (AT_5_02, false)], &[(AT_5_03, false), (AT_5_05, false)]]),
-    (AT_5_05, AT_5_01, 2, true, &[&[(AT_5_05, false), (AT_5_03, false)], &[(AT_5_02, false), (AT_5_00, false)]]),
-    (AT_5_07, AT_5_07, 0, true, &[&[(AT_5_06, false), (AT_5_07, true)]]),
-    (AT_5_05, -7, 9, true, &[&[(AT_5_05, false), (AT_5_06, false), (183_610_000_000, true)]]),
-    (AT_5_03, 0, 2, false, &[&[(AT_5_03, false), (AT_5_05, false)]]),
+    (
+        AT_5_01,
+        AT_5_05,
+        2,
+        true,
+        &[
+            &[(AT_5_00, false), (AT_5_02, false)],
+            &[(AT_5_03, false), (AT_5_05, false)],
+        ],
+    ),
+    (
+        AT_5_05,
+        AT_5_01,
+        2,
+        true,
+        &[
+            &[(AT_5_05, false), (AT_5_03, false)],
+            &[(AT_5_02, false), (AT_5_00, false)],
+        ],
+    ),
+    (
+        AT_5_07,
+        AT_5_07,
+        0,
+        true,
+        &[&[(AT_5_06, false), (AT_5_07, true)]],
+    ),
+    (
+        AT_5_05,
+        -7,
+        9,
+        true,
+        &[&[(AT_5_05, false), (AT_5_06, false), (183_610_000_000, true)]],
+    ),
+    (
+        AT_5_03,
+        0,
+        2,
+        false,
+        &[&[(AT_5_03, false), (AT_5_05, false)]],
+    ),
 ];
 
 /// Backward from the only value.
@@ -364,10 +501,47 @@ fn are_changes(entries: &[Entry], changes: &[Change]) -> bool {
 type ModifiedRead = (i64, i64, u32, &'static [&'static [Change]]);
 
 static MODIFIED_READS: [ModifiedRead; 6] = [
-    (1, 20, 0, &[&[(Insert, 9, 103), (Delete, 8, 102), (Update, 7, 101), (Insert, 7, 100)]]),
-    (1, 20, 3, &[&[(Insert, 9, 103), (Delete, 8, 102), (Update, 7, 101)], &[(Insert, 7, 100)]]),
-    (10, 1, 3, &[&[(Insert, 7, 100), (Update, 7, 101), (Delete, 8, 102)], &[(Insert, 9, 103)]]),
-    (1, 0, 5, &[&[(Insert, 9, 103), (Delete, 8, 102), (Update, 7, 101), (Insert, 7, 100), (Insert, 1, 104)]]),
+    (
+        1,
+        20,
+        0,
+        &[&[
+            (Insert, 9, 103),
+            (Delete, 8, 102),
+            (Update, 7, 101),
+            (Insert, 7, 100),
+        ]],
+    ),
+    (
+        1,
+        20,
+        3,
+        &[
+            &[(Insert, 9, 103), (Delete, 8, 102), (Update, 7, 101)],
+            &[(Insert, 7, 100)],
+        ],
+    ),
+    (
+        10,
+        1,
+        3,
+        &[
+            &[(Insert, 7, 100), (Update, 7, 101), (Delete, 8, 102)],
+            &[(Insert, 9, 103)],
+        ],
+    ),
+    (
+        1,
+        0,
+        5,
+        &[&[
+            (Insert, 9, 103),
+            (Delete, 8, 102),
+            (Update, 7, 101),
+            (Insert, 7, 100),
+            (Insert, 1, 104),
+        ]],
+    ),
     (0, 20, 2, &[&[(Insert, 1, 104), (Insert, 7, 100)]]),
     (11, 20, 0, &[&[]]),
 ];
@@ -387,7 +561,10 @@ fn modified_page(
 }
 
 /// Where the page ends, in case it has these modifications.
-fn end_of_changes(page: Result<ModifiedPage, StoreFault>, wanted: &[Change]) -> Option<Option<Position>> {
+fn end_of_changes(
+    page: Result<ModifiedPage, StoreFault>,
+    wanted: &[Change],
+) -> Option<Option<Position>> {
     match page {
         Ok(found) if are_changes(&found.entries, wanted) => Some(found.next),
         _ => None,
