@@ -1,15 +1,19 @@
+ghost use Rattle.std.specs.Prelude.{IsTrue};
+ghost use Rattle.ua_binary.specs.Binary.{IsShortNode};
+
 use super::*;
 use crate::item::Item;
 use crate::modified::{ModifiedPage, read_modified};
 use crate::raw::{RawPage, read_raw};
 use crate::setback::Setback;
 use HistoryUpdateType::{Delete, Insert, Update};
+use ReadCode::*;
 use archive::{Archive, LearnFault, ListArchive, StoreFault};
 use records::{Entry, HistoryUpdateType, Record};
 use stamp::ReplicaNo;
 use std::alloc::{AllocError, Global};
 use std::test::Fail;
-use ua_binary::{NodeId, Text};
+use ua_binary::{NodeId, Status, Text, Ticks};
 use ua_variant::{DataValue, Scalar, Variant};
 use uuid::Uuid;
 
@@ -601,5 +605,265 @@ fn modified_reads_have_their_pages(rt: HostRuntime) -> Result<(), Fail> {
     for row in &MODIFIED_READS {
         assert!(rt; has_changes(rt.alloc(), &mut archive, row), "{row:?}");
     }
+    Ok(())
+}
+
+// ---- reads of a node
+
+fn is_short(node: &NodeId) -> bool
+    ensures { IsTrue result → IsShortNode node.now }
+{
+    match node {
+        NodeId::Named(_, name) => name.len() < 0x8000_0000,
+        _ => false,
+    }
+}
+
+fn read(
+    alloc: Global,
+    archive: &mut ListArchive,
+    details: Details,
+    stamps: TimestampsToReturn,
+    continuation: Option<&[u8]>,
+) -> Result<NodeResult, AllocError> {
+    let query = Query { details, stamps };
+    let node = node(alloc)?;
+    if is_short(&node) {
+        Ok(read_node(alloc, archive, &node, &query, continuation))
+    } else {
+        Err(AllocError)
+    }
+}
+
+/// A read: modified, start, end, count, bounds, how many bytes of the point it comes with; and its
+/// status, how many items it shows, and whether another page follows.
+type NodeRead = (
+    bool,
+    i64,
+    i64,
+    u32,
+    bool,
+    Option<usize>,
+    ReadCode,
+    usize,
+    bool,
+);
+
+static NODE_READS: [NodeRead; 12] = [
+    (false, AT_5_00, AT_5_07, 2, false, None, Good, 2, true),
+    (false, AT_5_00, AT_5_07, 2, false, Some(69), Good, 2, true),
+    (
+        false,
+        AT_5_00,
+        AT_5_07,
+        2,
+        false,
+        Some(68),
+        BadContinuationPointInvalid,
+        0,
+        false,
+    ),
+    (
+        false,
+        AT_5_00,
+        AT_5_07,
+        3,
+        false,
+        Some(69),
+        BadContinuationPointInvalid,
+        0,
+        false,
+    ),
+    (
+        false,
+        AT_5_00,
+        AT_5_06,
+        2,
+        false,
+        Some(69),
+        BadContinuationPointInvalid,
+        0,
+        false,
+    ),
+    (
+        false,
+        AT_5_00,
+        AT_5_07,
+        2,
+        true,
+        Some(69),
+        BadContinuationPointInvalid,
+        0,
+        false,
+    ),
+    (
+        true,
+        AT_5_00,
+        AT_5_07,
+        2,
+        false,
+        Some(69),
+        BadContinuationPointInvalid,
+        0,
+        false,
+    ),
+    (
+        false, AT_4_48, AT_4_48, 0, false, None, GoodNoData, 0, false,
+    ),
+    (
+        true,
+        AT_5_00,
+        AT_5_07,
+        0,
+        true,
+        Some(1),
+        BadInvalidArgument,
+        0,
+        false,
+    ),
+    (
+        false,
+        0,
+        0,
+        5,
+        true,
+        Some(1),
+        BadHistoryOperationInvalid,
+        0,
+        false,
+    ),
+    (
+        false,
+        AT_5_00,
+        0,
+        0,
+        false,
+        None,
+        BadHistoryOperationInvalid,
+        0,
+        false,
+    ),
+    (true, AT_5_00, AT_5_07, 0, false, None, Good, 5, false),
+];
+
+/// Whether so many items are shown, and none where the read is refused.
+fn has_items(items: &NodeItems, modified: bool, status: ReadCode, count: usize) -> bool {
+    let good = status == Good || status == GoodNoData;
+    match items {
+        NodeItems::Raw(values) => good && !modified && values.len() == count,
+        NodeItems::Modified(values) => good && modified && values.len() == count,
+        NodeItems::Nothing => !good && count == 0,
+    }
+}
+
+/// Whether the read is answered so.
+fn is_answered(alloc: Global, archive: &mut ListArchive, row: &NodeRead) -> bool {
+    let (modified, start, end, count, bounds, given, status, shown, more) = *row;
+    let details = Details {
+        modified,
+        start,
+        end,
+        count,
+        bounds,
+    };
+    let point = match given {
+        Some(n) if n <= 69 => Some(&POINT[..n]),
+        _ => None,
+    };
+    match read(alloc, archive, details, TimestampsToReturn::Source, point) {
+        Ok(told) => {
+            told.status == status
+                && has_items(&told.items, modified, status, shown)
+                && told.continuation.is_some() == more
+        }
+        Err(_) => false,
+    }
+}
+
+#[test]
+fn reads_are_answered(rt: HostRuntime) -> Result<(), Fail> {
+    let mut archive = archive_of(rt.alloc(), &VALUES)?;
+    for row in &NODE_READS {
+        assert!(rt; is_answered(rt.alloc(), &mut archive, row), "{row:?}");
+    }
+    Ok(())
+}
+
+/// Whether the page ends with this point.
+fn has_point(told: &NodeResult, bytes: &[u8]) -> bool {
+    match &told.continuation {
+        Some(point) => point.as_slice() == bytes,
+        None => false,
+    }
+}
+
+/// Whether the item at an index is this Int32, with this status and source time.
+fn has_value(
+    told: &NodeResult,
+    i: usize,
+    value: Option<i32>,
+    status: u32,
+    time: Option<i64>,
+) -> bool {
+    let NodeItems::Raw(values) = &told.items else {
+        return false;
+    };
+    let Some(shown) = values.as_slice().get(i) else {
+        return false;
+    };
+    let same = match &shown.value {
+        Some(Variant::Scalar(Scalar::Int32(n))) => Some(*n) == value,
+        None => value.is_none(),
+        _ => false,
+    };
+    same && shown.status == Some(Status(status)) && shown.source_time == time.map(Ticks)
+}
+
+const fn between(start: i64, end: i64, count: u32, bounds: bool) -> Details {
+    Details {
+        modified: false,
+        start,
+        end,
+        count,
+        bounds,
+    }
+}
+
+#[test]
+fn values_are_shown(rt: HostRuntime) -> Result<(), Fail> {
+    let mut archive = archive_of(rt.alloc(), &VALUES)?;
+    let first = read(
+        rt.alloc(),
+        &mut archive,
+        between(AT_5_00, AT_5_07, 2, false),
+        TimestampsToReturn::Source,
+        None,
+    )?;
+    assert!(rt; has_point(&first, &POINT));
+    let bound = read(
+        rt.alloc(),
+        &mut archive,
+        between(AT_5_07, AT_5_07, 0, true),
+        TimestampsToReturn::Both,
+        None,
+    )?;
+    assert!(rt; has_value(&bound, 1, None, 0x80D7_0000, Some(AT_5_07)));
+    let mut updated = archive_of(rt.alloc(), &UPDATES)?;
+    let extra = read(
+        rt.alloc(),
+        &mut updated,
+        between(1, 11, 0, false),
+        TimestampsToReturn::Source,
+        None,
+    )?;
+    assert!(rt; has_value(&extra, 0, Some(9), 0x408, Some(10)));
+    let server = read(
+        rt.alloc(),
+        &mut updated,
+        between(1, 11, 0, false),
+        TimestampsToReturn::Server,
+        None,
+    )?;
+    assert!(rt; has_value(&server, 0, Some(9), 0x408, None));
     Ok(())
 }
