@@ -16,7 +16,7 @@ mod setback;
 mod showing;
 
 pub use code::ReadCode;
-pub use laws::continuation_points_are_told_by_their_bytes;
+pub use laws::{continuation_points_are_told_by_their_bytes, pages_of_modifications_join};
 pub use node::{NodeItems, NodeResult, read_node};
 pub use point::{Phase, Place, Position, put_continuation, read_continuation};
 pub use query::{Details, Query, TimestampsToReturn};
