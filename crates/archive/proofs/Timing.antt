@@ -41,13 +41,13 @@ held_from extra (Some r) h e = go (is_delete r.asked) e
     go true k = cc
     go false k = (r, refl, cc)
 
-current_from : (R : Content) (node : NodeId) (t : ℤ) (h : Held) → current R node t ≡ Some h → (r : Record) × Has (story R node t) r × (r.time ≡ h.time)
+pub current_from : (R : Content) (node : NodeId) (t : ℤ) (h : Held) → current R node t ≡ Some h → (r : Record) × Has (story R node t) r × (r.time ≡ h.time)
 current_from R node t h e = let r = held_from _ _ h e in (r.0, has_from_get (story R node t) _ r.0 r.1, r.2)
 
 pub current_time : (R : Content) (node : NodeId) (t : ℤ) (h : Held) → current R node t ≡ Some h → Has (times R node) t × (h.time ≡ t)
 current_time R node t h e = let r = current_from R node t h e in (has_time R node t r.0 r.1, sym r.2 ∙ ((story_has R node t r.0).0 r.1).2)
 
-entry_from : (before : Option Record) (rs : List Record) (e : Entry) → Has (entries_after before rs) e → (r : Record) × Has rs r × (r.time ≡ e.time)
+pub entry_from : (before : Option Record) (rs : List Record) (e : Entry) → Has (entries_after before rs) e → (r : Record) × Has rs r × (r.time ≡ e.time)
 entry_from before [] e h = absurd h
 entry_from before (r ∷ rs) e h = elim h [
   | inl same ↦ (r, inl refl, ap (λ (x : Entry). x.time) same)

@@ -8,11 +8,12 @@ ghost use Rattle.std.specs.Option.{option_copied};
 ghost use Rattle.std.specs.Int.{w16, w32, w64};
 ghost use Rattle.std.specs.Int.RustNames.{FitsSigned};
 ghost use Rattle.ua_binary.specs.Format.{Puts, PutsPart, byte, block};
-ghost use Rattle.ua_binary.specs.Binary.{unsigned, signed, sbyte, boolean, byte_string, text, guid, ticks, status, node_id, localized, qualified, extension, IsCounted, IsText, IsGuid, IsBody, IsShortNode, IsNodeId, IsShortLocalized, IsLocalized, IsQualified, IsExtension};
+ghost use Rattle.ua_binary.specs.Binary.{unsigned, signed, sbyte, boolean, byte_string, text, guid, ticks, status, node_id, localized, qualified, extension, IsCounted, IsText, IsGuid, IsBody, IsShortNode, IsNodeId, IsShortLocalized, IsLocalized, IsQualified, IsExtension, node_of};
 
 use crate::fault::BinaryFault;
 use crate::values::{
-    Body, Bytes, ExtensionObject, Guid, LocalizedText, NodeId, QualifiedName, Status, Text, Ticks,
+    Body, Bytes, ExtensionObject, Guid, LocalizedText, NodeId, NodeIdRef, QualifiedName, Status,
+    Text, Ticks,
 };
 
 /// Takes back what a part of a writer put, where it failed: `len` is how long the vector was before.
@@ -230,40 +231,39 @@ pub fn put_guid(out: &mut Vec<u8>, v: &Guid) -> Result<(), BinaryFault>
 }
 
 #[tactic(auto, using(crate::proofs::Kept::kept), unfolding(crate::specs::Binary::node_id))]
-fn put_node_id_parts(out: &mut Vec<u8>, v: &NodeId) -> Result<(), BinaryFault>
-    requires { IsShortNode v.now }
-    ensures puts { PutsPart BinaryFault.OutOfMemory result out.old.items out.new.items (node_id.canon v.now) }
-    ensures spelled { IfOk result (λ _. IsNodeId v.now) }
+fn put_node_id_parts(out: &mut Vec<u8>, v: NodeIdRef<'_>) -> Result<(), BinaryFault>
+    requires { IsShortNode (node_of v) }
+    ensures puts { PutsPart BinaryFault.OutOfMemory result out.old.items out.new.items (node_id.canon (node_of v.entry)) }
 {
     match v {
-        NodeId::Numeric(namespace, id) => {
-            if *namespace == 0 && *id < 256 {
+        NodeIdRef::Numeric(namespace, id) => {
+            if namespace == 0 && id < 256 {
                 put_u8(out, 0)?;
-                put_u8(out, *id as u8)?;
-            } else if *namespace < 256 && *id < 65536 {
+                put_u8(out, id as u8)?;
+            } else if namespace < 256 && id < 65536 {
                 put_u8(out, 1)?;
-                put_u8(out, *namespace as u8)?;
-                put_u16(out, *id as u16)?;
+                put_u8(out, namespace as u8)?;
+                put_u16(out, id as u16)?;
             } else {
                 put_u8(out, 2)?;
-                put_u16(out, *namespace)?;
-                put_u32(out, *id)?;
+                put_u16(out, namespace)?;
+                put_u32(out, id)?;
             }
         }
-        NodeId::Named(namespace, name) => {
+        NodeIdRef::Named(namespace, name) => {
             put_u8(out, 3)?;
-            put_u16(out, *namespace)?;
-            put_text(out, Some(name.as_str()))?;
+            put_u16(out, namespace)?;
+            put_text(out, Some(name))?;
         }
-        NodeId::Global(namespace, id) => {
+        NodeIdRef::Global(namespace, id) => {
             put_u8(out, 4)?;
-            put_u16(out, *namespace)?;
-            put_guid(out, id)?;
+            put_u16(out, namespace)?;
+            put_guid(out, &id)?;
         }
-        NodeId::Opaque(namespace, id) => {
+        NodeIdRef::Opaque(namespace, id) => {
             put_u8(out, 5)?;
-            put_u16(out, *namespace)?;
-            put_bytes(out, Some(id.as_slice()))?;
+            put_u16(out, namespace)?;
+            put_bytes(out, Some(id))?;
         }
     }
     Ok(())
@@ -274,6 +274,14 @@ pub fn put_node_id(out: &mut Vec<u8>, v: &NodeId) -> Result<(), BinaryFault>
     requires { IsShortNode v.now }
     ensures puts { Puts BinaryFault.OutOfMemory result out.old.items out.new.items (node_id.canon v.now) }
     ensures spelled { IfOk result (λ _. IsNodeId v.now) }
+{
+    put_node_id_ref(out, v.as_ref())
+}
+
+/// The same of a NodeId in the bytes that it was read from.
+pub fn put_node_id_ref(out: &mut Vec<u8>, v: NodeIdRef<'_>) -> Result<(), BinaryFault>
+    requires { IsShortNode (node_of v) }
+    ensures puts { Puts BinaryFault.OutOfMemory result out.old.items out.new.items (node_id.canon (node_of v.entry)) }
 {
     let len = out.len();
     let put = put_node_id_parts(out, v);

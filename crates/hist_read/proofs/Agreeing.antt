@@ -1,0 +1,39 @@
+-- The place that a continuation point tells.
+use Rattle.std.proofs.Common.{rules, ◌≡◌, ℕ, Bool, true, false, cond, ◌&&◌, List, Option, Some, None, Result, Ok, Err, refl, sym, ap, ◌∙◌, nat_eq, inl, inr}
+use Rattle.std.proofs.lemmas.Bool.{cases_Bool, and_from, and_parts}
+use Rattle.std.proofs.lemmas.Cmp.{nat_list_eq_equiv}
+use Rattle.std.specs.Cmp.{booleans_Decides, signed_Decides, unsigned_Decides}
+use Rattle.std.specs.Cmp.Lexicographic.{pointwise}
+use Rattle.ua_binary.specs.declared.values.NodeId.{NodeId}
+use Rattle.records.specs.Same.{is_same, same_node, node_code}
+use Rattle.records.proofs.Same.{Decides-is_same}
+use Rattle.ua_variant.proofs.Equal.{IsExact, pairs, through}
+use Rattle.hist_read.specs.contracts.query.DetailsPartialEq as details
+use Rattle.hist_read.specs.declared.query.Details.{Details}
+use Rattle.hist_read.specs.declared.code.ReadCode.TheVariants.{BadContinuationPointInvalid}
+use Rattle.hist_read.specs.Point.{Point, details_of, details_fields}
+use Rattle.hist_read.specs.Node.{IsOfRead, agrees, details_code, place_told}
+
+pub exact_details : IsExact (details.TheImpl.eq-value).it
+exact_details = through details_fields details_of (λ _. refl) (pairs booleans_Decides (pairs signed_Decides (pairs signed_Decides (pairs unsigned_Decides booleans_Decides))))
+
+same_bytes : (a b : List ℕ) → (pointwise nat_eq a b ≡ true → a ≡ b) × (a ≡ b → pointwise nat_eq a b ≡ true)
+same_bytes a b = search rules
+
+module _ (id : List ℕ) (node : NodeId) (q : Details) (p : Point) where
+  told_from : agrees id node q p ≡ true → IsOfRead id node q p
+  told_from e =
+      let one = and_parts (pointwise nat_eq p.archive id) (same_node p.node node && is_same details_code p.details q) e in
+      let two = and_parts (same_node p.node node) (is_same details_code p.details q) one.1 in
+      ((same_bytes p.archive id).0 one.0, (Decides-is_same node_code p.node node).0 two.0, (Decides-is_same details_code p.details q).0 two.1)
+
+  pub told_agreed : IsOfRead id node q p → place_told id node q (Some p) ≡ Ok (Some p.position)
+  told_agreed h =
+      let test : agrees id node q p ≡ true = and_from _ _ ((same_bytes p.archive id).1 h.0) (and_from _ _ ((Decides-is_same node_code p.node node).1 h.1) ((Decides-is_same details_code p.details q).1 h.2)) in
+      ap (λ b. cond b (Ok (Some p.position)) (Err BadContinuationPointInvalid)) test
+
+  pub told_other : (IsOfRead id node q p → ⊥) → place_told id node q (Some p) ≡ Err BadContinuationPointInvalid
+  told_other none = elim (cases_Bool (agrees id node q p)) [
+    | inl e ↦ absurd (none (told_from e))
+    | inr e ↦ ap (λ b. cond b (Ok (Some p.position)) (Err BadContinuationPointInvalid)) e
+  ]

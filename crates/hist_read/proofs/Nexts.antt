@@ -1,0 +1,206 @@
+-- A page of what an archive holds ends at a place that can be written.
+use Rattle.std.proofs.Common.{rules, ◌≡◌, ℕ, zero, suc, ◌+◌, ◌-◌, ◌<◌, ◌≤◌, min, nat_lt, nat_le, ◌==◌, ℤ, pos, ◌≤ℤ◌, int_le, Bool, true, false, cond, ◌&&◌, ◌||◌, not, IsTrue, List, [], ◌∷◌, ◌++◌, map, filter, take, length, reverse, Option, Some, None, IfSome, option_map, refl, sym, ap, ◌∙◌, subst, arith, inl, inr, ◌⊎◌}
+use Rattle.std.proofs.lemmas.Bool.Decides.{nat_tests}
+use Rattle.std.proofs.lemmas.Bool.{cases_Bool, and_parts, and_from}
+use Rattle.std.proofs.lemmas.Int.{ints}
+use Rattle.std.proofs.lemmas.List.{length-append, take-append-le}
+use Rattle.stamp.specs.Limits.{greatest, IsReplica}
+use Rattle.ua_binary.specs.declared.values.NodeId.{NodeId}
+use Rattle.records.specs.Lists.{Has, last}
+use Rattle.records.specs.Contents.{Content}
+use Rattle.records.specs.Records.{current, story, entries, entries_after}
+use Rattle.records.specs.declared.record.Record.{Record}
+use Rattle.records.specs.declared.shown.Held.{Held}
+use Rattle.records.specs.declared.shown.Entry.{Entry}
+use Rattle.records.proofs.LatestLemmas.{story_has}
+use Rattle.records.proofs.Sorting.{has_from_filter}
+use Rattle.archive.specs.Reading.{times, lives, log, in_direction, opposite, is_past, outside_of, follows, place_of}
+use Rattle.archive.specs.Store.{IsLawfulContent}
+use Rattle.archive.specs.declared.reading.Direction.{Direction}
+use Rattle.archive.proofs.Timing.{has_from_get, current_from}
+use Rattle.archive.proofs.Turning.{has_from_flat_map, has_from_reverse, has-in_direction}
+use Rattle.hist_read.specs.Asking.{is_given, has_both, origin_time, direction}
+use Rattle.hist_read.specs.Point.{IsNext, IsStamp, is_given_for}
+use Rattle.hist_read.specs.Reads.{or_else, nearest_from, value_or_missing, near, item_time, is_near_alone, near_part, limit_at, is_past_any, in_body, lives_in, body, body_part, values, far, far_part, last_time, time_before, before_far, raw, modified, place_at, given_before, page_size, is_spent, page, goes_on, given_after, raw_position, modified_position, next_place}
+use Rattle.hist_read.specs.declared.query.Details.{Details}
+use Rattle.hist_read.specs.declared.point.Position.{Position}
+use Rattle.hist_read.specs.declared.item.Item.{Item}
+use Rattle.hist_read.specs.declared.item.Item.TheVariants.{Value, Missing}
+use Rattle.hist_read.proofs.Lives.{IsTime, record_time, lives_lawful, log_lawful}
+
+-- ---- members
+
+has_take : {X : Type 0} (n : ℕ) (xs : List X) (x : X) → Has (take n xs) x → Has xs x
+has_take zero [] x h = absurd h
+has_take zero (y ∷ ys) x h = absurd h
+has_take (suc n) [] x h = absurd h
+has_take (suc n) (y ∷ ys) x h = elim h [ inl e ↦ inl e | inr k ↦ inr (has_take n ys x k) ]
+
+has_from_append : {X : Type 0} (xs ys : List X) (x : X) → Has (xs ++ ys) x → Has xs x ⊎ Has ys x
+has_from_append [] ys x h = inr h
+has_from_append (y ∷ xs) ys x h = elim h [ inl e ↦ inl (inl e) | inr k ↦ elim (has_from_append xs ys x k) [ inl i ↦ inl (inr i) | inr j ↦ inr j ] ]
+
+has_from_map : {X Y : Type 0} (f : X → Y) (xs : List X) (y : Y) → Has (map f xs) y → (x : X) × Has xs x × (f x ≡ y)
+has_from_map f [] y h = absurd h
+has_from_map f (x ∷ xs) y h = elim h [ inl e ↦ (x, inl refl, e) | inr k ↦ let s = has_from_map f xs y k in (s.0, inr s.1, s.2) ]
+
+-- ---- how many were given
+
+positive : (g n count : ℕ) → n ≡ cond (count == 0) 1000 (min 1000 (count - g)) → nat_le count (g + n) ≡ false → nat_lt 0 (g + n) ≡ true
+positive g n count e s = grind (arith, nat_tests)
+
+given_lawful : (q : Details) (p : Option Position) → is_spent q p ≡ false → is_given_for q (given_after q p) ≡ true
+given_lawful q p spent = go (has_both q) refl spent
+  where
+    sum : ℕ
+    sum = given_before p + page_size q p
+
+    go : (b : Bool) → has_both q ≡ b → (not b && nat_le q.count sum) ≡ false → cond b (cond b 0 sum == 0) (nat_lt 0 (cond b 0 sum) && nat_lt (cond b 0 sum) q.count) ≡ true
+    go true e s = refl
+    go false e s =
+        let size : page_size q p ≡ cond (q.count == 0) 1000 (min 1000 (q.count - given_before p)) = ap (λ b. cond (q.count == 0) 1000 (min 1000 (cond b q.count (q.count - given_before p)))) e in
+        let within : nat_lt sum q.count ≡ true = grind (arith, nat_tests, s) in
+        and_from _ _ (positive (given_before p) (page_size q p) q.count size s) within
+
+module _ (R : Content) (node : NodeId) (q : Details) (p : Option Position) (lawful : IsLawfulContent R) where
+  -- ---- raw values
+
+  module _ (given : IsTrue (is_given q.start || is_given q.end)) where
+    origin_late : pos 1 ≤ℤ origin_time q
+    origin_late = go (is_given q.start) refl given
+      where
+        go : (b : Bool) → is_given q.start ≡ b → IsTrue (b || is_given q.end) → pos 1 ≤ℤ cond b q.start q.end
+        go true e g = grind (arith, ints, nat_tests, e)
+        go false e g = grind (arith, ints, nat_tests, g)
+
+    current_late : (t : ℤ) (h : Held) → current R node t ≡ Some h → pos 1 ≤ℤ h.time
+    current_late t h e = let r = current_from R node t h e in (subst IsTime r.2 (record_time R r.0 lawful ((story_has R node t r.0).0 r.1).0)).0
+
+    outside_late : (t : ℤ) (d : Direction) (h : Held) → outside_of R node t d ≡ Some h → pos 1 ≤ℤ h.time
+    outside_late t d h e =
+        let there = (has-in_direction d (filter (λ x. is_past d t x.time) (lives R node)) h).0 (has_from_get _ 0 h e) in
+        (lives_lawful R node h lawful (has_from_filter (λ (x : Held). is_past d t x.time) (lives R node) h there).0).0
+
+    nearest_late : (t : ℤ) (d : Direction) (h : Held) → nearest_from R node d t ≡ Some h → pos 1 ≤ℤ h.time
+    nearest_late t d h e = go (current R node t) refl e
+      where
+        go : (o : Option Held) → current R node t ≡ o → or_else o (outside_of R node t d) ≡ Some h → pos 1 ≤ℤ h.time
+        go None f e = outside_late t d h e
+        go (Some x) f e = current_late t h (f ∙ e)
+
+    near_late : pos 1 ≤ℤ item_time (near R node q)
+    near_late = go (nearest_from R node (opposite (direction q)) (origin_time q)) refl
+      where
+        go : (o : Option Held) → nearest_from R node (opposite (direction q)) (origin_time q) ≡ o → pos 1 ≤ℤ item_time (value_or_missing (origin_time q) o)
+        go None e = origin_late
+        go (Some h) e = nearest_late (origin_time q) (opposite (direction q)) h e
+
+    near_in : (p : Option Position) (x : Item) → Has (near_part R node q p) x → pos 1 ≤ℤ item_time x
+    near_in (Some p) x h = absurd h
+    near_in None x h = go q.bounds h
+      where
+        go : (b : Bool) → Has (cond b (near R node q ∷ []) []) x → pos 1 ≤ℤ item_time x
+        go true i = elim i [ inl e ↦ subst (λ y. pos 1 ≤ℤ item_time y) e near_late | inr k ↦ absurd k ]
+        go false i = absurd i
+
+    body_late : (h : Held) → Has (body_part R node q p) h → pos 1 ≤ℤ h.time
+    body_late h k = go (is_near_alone q) k
+      where
+        rest : List Held
+        rest = filter (λ x. is_past_any (direction q) (limit_at q p) x.time) (body R node q)
+
+        go : (b : Bool) → Has (cond b [] rest) h → pos 1 ≤ℤ h.time
+        go true i = absurd i
+        go false i =
+            let one = (has_from_filter (λ (x : Held). is_past_any (direction q) (limit_at q p) x.time) (body R node q) h i).0 in
+            let two = (has_from_filter (λ (x : Held). in_body q x.time) (lives_in R node q) h one).0 in
+            (lives_lawful R node h lawful ((has-in_direction (direction q) (lives R node) h).0 two)).0
+
+    item_late : (x : Item) → Has (before_far R node q p) x → pos 1 ≤ℤ item_time x
+    item_late x h = elim (has_from_append (near_part R node q p) (values (body_part R node q p)) x h) [
+      | inl i ↦ near_in p x i
+      | inr j ↦ let s = has_from_map (λ h. Value h) (body_part R node q p) x j in subst (λ y. pos 1 ≤ℤ item_time y) s.2 (body_late s.0 s.1)
+    ]
+
+    far_short : (before : ℤ) → length (far_part R node q before) ≤ 1
+    far_short before = go (q.bounds && not (is_near_alone q))
+      where
+        go : (b : Bool) → length (cond b (far R node q before ∷ []) []) ≤ 1
+        go true = omega arith
+        go false = omega arith
+
+    -- the last item of a page that isn't the last one stands before the far bound
+    ends_before : (x : Item) → nat_lt (page_size q p) (length (raw R node q p)) ≡ true → last (page q p (raw R node q p)) ≡ Some x → Has (before_far R node q p) x
+    ends_before x more e =
+        let n = page_size q p in
+        let front = before_far R node q p in
+        let tail = far_part R node q (last_time (time_before q p) front) in
+        let short = far_short (last_time (time_before q p) front) in
+        let sum : length (raw R node q p) ≡ length front + length tail = length-append front tail in
+        let beyond : n < length (raw R node q p) = grind (arith, nat_tests, more) in
+        let fits : n ≤ length front = omega (arith, sum, beyond, short) in
+        has_take n front x (subst (λ l. Has l x) (take-append-le n front tail fits) (has_from_get (page q p (raw R node q p)) _ x e))
+
+    pub raw_next : q.modified ≡ false → IfSome (next_place (raw_position q p) q p (raw R node q p)) (IsNext q)
+    raw_next plain = go (goes_on q p (raw R node q p)) refl
+      where
+        S : List Item
+        S = raw R node q p
+
+        at : goes_on q p S ≡ true → (o : Option Item) → last (page q p S) ≡ o → IfSome (option_map (raw_position q p) o) (IsNext q)
+        at on None e = tt
+        at on (Some x) e =
+            let tests = and_parts (nat_lt (page_size q p) (length S)) (not (is_spent q p)) on in
+            let unspent : is_spent q p ≡ false = grind (arith, nat_tests, tests.1) in
+            (item_late x (ends_before x tests.0 e), tt, and_from _ _ (ap not plain) (given_lawful q p unspent))
+
+        go : (b : Bool) → goes_on q p S ≡ b → IfSome (cond b (option_map (raw_position q p) (last (page q p S))) None) (IsNext q)
+        go false e = tt
+        go true e = at e (last (page q p S)) refl
+
+  -- ---- modifications
+
+  pub record IsLate (e : Entry) : Type 0 where
+    pub time : pos 1 ≤ℤ e.time
+    pub low : pos 1 ≤ℤ e.tick
+    pub high : e.tick ≤ℤ pos greatest
+    pub origin : IsReplica e.origin
+
+  entry_late : (before : Option Record) (rs : List Record) (e : Entry) → ((r : Record) → Has rs r → Has R r) → Has (entries_after before rs) e → IsLate e
+  entry_late before [] e all h = absurd h
+  entry_late before (r ∷ rs) e all h = elim h [
+    | inl same ↦
+        let there = all r (inl refl) in
+        let ticks = lawful.closed.ticks r there in
+        subst IsLate same (record { time = (record_time R r lawful there).0; low = ticks.0; high = ticks.1; origin = (lawful.records r there).origin })
+    | inr k ↦ entry_late (Some r) rs e (λ s i. all s (inr i)) k
+  ]
+
+  log_late : (e : Entry) → Has (log R node) e → IsLate e
+  log_late e h =
+      let t = has_from_flat_map (λ t. reverse (entries R node t)) (times R node) e h in
+      entry_late None (story R node t.0) e (λ r i. ((story_has R node t.0 r).0 i).0) (has_from_reverse (entries R node t.0) e t.2)
+
+  modified_late : (e : Entry) → Has (modified R node q p) e → IsLate e
+  modified_late e h =
+      let one = (has_from_filter (follows (direction q) (place_at p)) _ e h).0 in
+      let two = (has_from_filter (λ (x : Entry). in_body q x.time) (in_direction (direction q) (log R node)) e one).0 in
+      log_late e ((has-in_direction (direction q) (log R node) e).0 two)
+
+  pub modified_next_lawful : q.modified ≡ true → IfSome (next_place (modified_position q p) q p (modified R node q p)) (IsNext q)
+  modified_next_lawful asked = go (goes_on q p (modified R node q p)) refl
+    where
+      S : List Entry
+      S = modified R node q p
+
+      at : goes_on q p S ≡ true → (o : Option Entry) → last (page q p S) ≡ o → IfSome (option_map (modified_position q p) o) (IsNext q)
+      at on None e = tt
+      at on (Some x) e =
+          let tests = and_parts (nat_lt (page_size q p) (length S)) (not (is_spent q p)) on in
+          let unspent : is_spent q p ≡ false = grind (arith, nat_tests, tests.1) in
+          let late = modified_late x (has_take (page_size q p) S x (has_from_get (page q p S) _ x e)) in
+          (late.time, (late.low, late.high, late.origin), and_from _ _ asked (given_lawful q p unspent))
+
+      go : (b : Bool) → goes_on q p S ≡ b → IfSome (cond b (option_map (modified_position q p) (last (page q p S))) None) (IsNext q)
+      go false e = tt
+      go true e = at e (last (page q p S)) refl

@@ -1,0 +1,24 @@
+-- What a read of history asks for (Part 11, ReadRawModifiedDetails).
+use Rattle.std.specs.Prelude.{ℤ, pos, int_le, int_lt, Bool, not, ◌&&◌, Option, Some, None, if◌then◌else◌}
+use Rattle.archive.specs.declared.reading.Direction.{Direction}
+use Rattle.archive.specs.declared.reading.Direction.TheVariants.{Forward, Backward}
+use Rattle.hist_read.specs.declared.query.Details.{Details}
+
+-- a time below 1 isn't given
+abbrev pub is_given : ℤ → Bool
+is_given time = int_le (pos 1) time
+
+abbrev pub has_both : Details → Bool
+has_both d = is_given d.start && is_given d.end
+
+-- where reading begins
+abbrev pub origin_time : Details → ℤ
+origin_time d = if is_given d.start then d.start else d.end
+
+-- where it ends, in case both times are given
+abbrev pub far_limit : Details → Option ℤ
+far_limit d = if has_both d then Some d.end else None
+
+-- backward where the end is before the start, or no start is given
+abbrev pub direction : Details → Direction
+direction d = if is_given d.start && not (is_given d.end && int_lt d.end d.start) then Forward else Backward

@@ -1,0 +1,7 @@
+pub mod Asking
+pub mod Point
+pub mod Reads
+pub mod Pages
+pub mod Finding
+pub mod Showing
+pub mod Node

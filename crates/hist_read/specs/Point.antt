@@ -1,0 +1,168 @@
+-- A continuation point as bytes, format 1: the byte 1, archive, node, what was asked, and the place where the page ended (Part 4, 7.9).
+use Rattle.std.specs.Prelude.{◌≡◌, ℕ, ◌^◌, ◌<◌, nat_lt, nat_le, ◌==◌, ℤ, pos, ◌≤ℤ◌, int_le, Bool, true, not, ◌&&◌, List, [], length, Option, Some, None, unwrap_or, is_some, Result, Ok, Err, if◌then◌else◌}
+use Rattle.std.specs.Ordering.{int_eq}
+use Rattle.std.specs.Int.{w16, w32, w64}
+use Rattle.std.specs.Int.RustNames.{FitsSigned}
+use Rattle.stamp.specs.Limits.{greatest, IsReplica}
+use Rattle.stamp.specs.declared.stamps.Stamp.{Stamp}
+use Rattle.ua_binary.specs.declared.fault.BinaryFault.{BinaryFault}
+use Rattle.ua_binary.specs.declared.fault.BinaryFault.TheVariants.{BadEncodingByte, BadLength}
+use Rattle.ua_binary.specs.declared.values.NodeId.{NodeId}
+use Rattle.ua_binary.specs.declared.values.NodeId.TheVariants.{Named, Opaque}
+use Rattle.ua_binary.specs.Format.{Format, byte, block, ◌▸◌, chosen, headed, standing_for, passing, fitting, refused, whole}
+use Rattle.ua_binary.specs.Binary.{unsigned, signed, text, byte_string, two_byte_node, four_byte_node, numeric_node, global_node, named_parts, opaque_parts, node_form_of, node_of, IsNodeId}
+use Rattle.hist_read.specs.declared.query.Details.{Details}
+use Rattle.hist_read.specs.declared.point.Phase.{Phase}
+use Rattle.hist_read.specs.declared.point.Phase.TheVariants.{Near, Body}
+use Rattle.hist_read.specs.declared.point.Position.{Position}
+use Rattle.hist_read.specs.declared.point.Place.{Place}
+use Rattle.hist_read.specs.Asking.{has_both}
+
+-- ---- spellings of which there is one
+
+-- 0 is false and 1 is true
+unfoldable pub flag : Format BinaryFault Bool
+flag = fitting (λ _. Unit {0}) (standing_for (λ b. b == 1) (λ v. if v then 1 else 0) (passing (λ b. nat_lt b 2) BadEncodingByte byte))
+
+-- a node in its shortest form; a text or byte id that isn't null
+abbrev pub short_form : ℕ → Format BinaryFault NodeId
+short_form form =
+    chosen (form == 0) two_byte_node (
+    chosen (form == 1) (passing (λ v. node_form_of v == 1) BadEncodingByte four_byte_node) (
+    chosen (form == 2) (passing (λ v. node_form_of v == 2) BadEncodingByte numeric_node) (
+    chosen (form == 3) (standing_for (λ p. Named p.0 (unwrap_or p.1 [])) named_parts (unsigned w16 ▸ passing is_some BadLength text)) (
+    chosen (form == 4) global_node (
+    chosen (form == 5) (standing_for (λ p. Opaque p.0 (unwrap_or p.1 [])) opaque_parts (unsigned w16 ▸ passing is_some BadLength byte_string)) (
+    refused BadEncodingByte))))))
+
+unfoldable pub short_node : Format BinaryFault NodeId
+short_node = fitting IsNodeId (headed node_form_of byte short_form)
+
+-- ---- what was asked
+
+abbrev pub DetailsFields : Type 0
+DetailsFields = Bool × (ℤ × (ℤ × (ℕ × Bool)))
+
+abbrev pub details_of : DetailsFields → Details
+details_of fields = record { modified = fields.0; start = fields.1.0; end = fields.1.1.0; count = fields.1.1.1.0; bounds = fields.1.1.1.1 }
+
+abbrev pub details_fields : Details → DetailsFields
+details_fields d = (d.modified, (d.start, (d.end, (d.count, d.bounds))))
+
+abbrev pub IsDetails : Details → Type 0
+IsDetails d = FitsSigned w64 d.start × FitsSigned w64 d.end × (d.count < 2 ^ 32)
+
+-- modified, start, end, count, bounds, as the request has them
+unfoldable pub details : Format BinaryFault Details
+details = fitting IsDetails (standing_for details_of details_fields (flag ▸ signed w64 ▸ signed w64 ▸ unsigned w32 ▸ flag))
+
+-- ---- where the page ended
+
+abbrev pub number_of_phase : Phase → ℕ
+number_of_phase Near = 1
+number_of_phase Body = 2
+
+unfoldable pub phase : Format BinaryFault Phase
+phase = fitting (λ _. Unit {0}) (standing_for (λ n. if n == 1 then Near else Body) number_of_phase (passing (λ n. nat_le 1 n && nat_le n 2) BadEncodingByte byte))
+
+unfoldable pub time : Format BinaryFault ℤ
+time = fitting (λ t. (pos 1 ≤ℤ t) × FitsSigned w64 t) (passing (λ t. int_le (pos 1) t) BadEncodingByte (signed w64))
+
+-- zeros for none, else a record's tick and origin
+abbrev pub are_stamp : ℤ × ℕ → Bool
+are_stamp fields = if fields.1 == 0 then int_eq fields.0 (pos 0) else (nat_le fields.1 64 && (int_le (pos 1) fields.0 && int_le fields.0 (pos greatest)))
+
+abbrev pub stamp_of : ℤ × ℕ → Option Stamp
+stamp_of fields = if fields.1 == 0 then None else Some (record { tick = fields.0; origin = fields.1 })
+
+abbrev pub stamp_fields : Option Stamp → ℤ × ℕ
+stamp_fields None = (pos 0, 0)
+stamp_fields (Some s) = (s.tick, s.origin)
+
+abbrev pub IsStamp : Option Stamp → Type 0
+IsStamp None = Unit {0}
+IsStamp (Some s) = (pos 1 ≤ℤ s.tick) × (s.tick ≤ℤ pos greatest) × IsReplica s.origin
+
+unfoldable pub stamp : Format BinaryFault (Option Stamp)
+stamp = fitting IsStamp (standing_for stamp_of stamp_fields (passing are_stamp BadEncodingByte (signed w64 ▸ byte)))
+
+abbrev pub PositionFields : Type 0
+PositionFields = Phase × (ℤ × (Option Stamp × ℕ))
+
+abbrev pub position_of : PositionFields → Position
+position_of fields = record { phase = fields.0; time = fields.1.0; stamp = fields.1.1.0; given = fields.1.1.1 }
+
+abbrev pub position_fields : Position → PositionFields
+position_fields p = (p.phase, (p.time, (p.stamp, p.given)))
+
+abbrev pub IsPosition : Position → Type 0
+IsPosition p = (pos 1 ≤ℤ p.time) × FitsSigned w64 p.time × IsStamp p.stamp × (p.given < 2 ^ 32)
+
+-- phase, time, stamp, and how many items were given
+unfoldable pub position : Format BinaryFault Position
+position = fitting IsPosition (standing_for position_of position_fields (phase ▸ time ▸ stamp ▸ unsigned w32))
+
+-- ---- what suits what was asked
+
+-- the near bound may have been the last item only where raw values are asked for with their bounds
+abbrev pub is_phase_for : Details → Phase → Bool
+is_phase_for d Near = d.bounds && not d.modified
+is_phase_for d Body = true
+
+-- a modification has its record's stamp, a raw value none
+abbrev pub is_stamp_for : Details → Option Stamp → Bool
+is_stamp_for d None = not d.modified
+is_stamp_for d (Some s) = d.modified
+
+-- none are counted where both times are given; else one at least was given, and fewer than are asked for
+abbrev pub is_given_for : Details → ℕ → Bool
+is_given_for d given = if has_both d then given == 0 else (nat_lt 0 given && nat_lt given d.count)
+
+abbrev pub suits : Details → Position → Bool
+suits d p = is_phase_for d p.phase && (is_stamp_for d p.stamp && is_given_for d p.given)
+
+-- ---- the whole
+
+-- a continuation point's fields behind its first byte
+pub record Point : Type 0 where
+  pub archive : List ℕ
+  pub node : NodeId
+  pub details : Details
+  pub position : Position
+
+-- a borrowed one as these
+abbrev pub point_of : Place → Point
+point_of p = record { archive = p.archive; node = node_of p.node; details = p.details; position = p.position }
+
+abbrev pub PointFields : Type 0
+PointFields = ℕ × (List ℕ × (NodeId × (Details × Position)))
+
+abbrev pub fields_of : Point → PointFields
+fields_of p = (1, (p.archive, (p.node, (p.details, p.position))))
+
+abbrev pub of_fields : PointFields → Point
+of_fields fields = record { archive = fields.1.0; node = fields.1.1.0; details = fields.1.1.1.0; position = fields.1.1.1.1 }
+
+-- what has a spelling
+pub record IsPoint (p : Point) : Type 0 where
+  pub archive : length p.archive ≡ 16
+  pub node : IsNodeId p.node
+  pub details : IsDetails p.details
+  pub position : IsPosition p.position
+  pub suits : suits p.details p.position ≡ true
+
+unfoldable pub point : Format BinaryFault Point
+point = fitting IsPoint (passing (λ p. suits p.details p.position) BadEncodingByte
+    (standing_for of_fields fields_of (passing (λ n. n == 1) BadEncodingByte byte ▸ block 16 ▸ short_node ▸ details ▸ position)))
+
+abbrev pub told : {A E : Type 0} → Result A E → Option A
+told (Ok a) = Some a
+told (Err e) = None
+
+-- the continuation point that all of these bytes spell, if any
+abbrev pub point_in : List ℕ → Option Point
+point_in bytes = told (whole BadEncodingByte point bytes)
+
+-- a position that a page of what was asked may end at: with these, and a node that can be counted, a point has a spelling
+abbrev pub IsNext : Details → Position → Type 0
+IsNext d p = (pos 1 ≤ℤ p.time) × IsStamp p.stamp × (suits d p ≡ true)

@@ -1,0 +1,192 @@
+-- What a read of a node's history shows (Part 11, ReadRawModifiedDetails): the values or modifications of a stretch of time, its bounds, and
+-- pages of them. Every list is in the direction of the read.
+use Rattle.std.specs.Prelude.{ℕ, ◌+◌, ◌-◌, ◌==◌, min, nat_lt, nat_le, ℤ, pos, negsuc, ◌+ℤ◌, ◌-ℤ◌, Bool, true, not, ◌&&◌, ◌||◌, if◌then◌else◌, List, [], ◌∷◌, ◌++◌, filter, map, take, length, Option, Some, None, option_map}
+use Rattle.std.specs.Ordering.{int_eq}
+use Rattle.std.specs.Int.{int_min, int_max}
+use Rattle.ua_binary.specs.declared.values.NodeId.{NodeId}
+use Rattle.records.specs.Contents.{Content}
+use Rattle.records.specs.Lists.{last}
+use Rattle.records.specs.Records.{current}
+use Rattle.records.specs.declared.shown.Held.{Held}
+use Rattle.records.specs.declared.shown.Entry.{Entry}
+use Rattle.archive.specs.Reading.{lives, log, in_direction, opposite, is_past, follows, place_of, outside_of}
+use Rattle.archive.specs.declared.reading.Direction.{Direction}
+use Rattle.archive.specs.declared.reading.Direction.TheVariants.{Forward, Backward}
+use Rattle.archive.specs.declared.reading.LogPlace.{LogPlace}
+use Rattle.hist_read.specs.Asking.{has_both, origin_time, far_limit, direction}
+use Rattle.hist_read.specs.declared.query.Details.{Details}
+use Rattle.hist_read.specs.declared.point.Phase.{Phase}
+use Rattle.hist_read.specs.declared.point.Phase.TheVariants.{Near, Body}
+use Rattle.hist_read.specs.declared.point.Position.{Position}
+use Rattle.hist_read.specs.declared.item.Item.{Item}
+use Rattle.hist_read.specs.declared.item.Item.TheVariants.{Value, Missing}
+
+-- the greatest Int64
+abbrev pub greatest_time : ℤ
+greatest_time = pos 9223372036854775807
+
+abbrev pub least_time : ℤ
+least_time = negsuc 9223372036854775807
+
+-- ---- the body
+
+-- at a limit or beyond it
+abbrev pub is_from : Direction → ℤ → ℤ → Bool
+is_from d limit time = int_eq time limit || is_past d limit time
+
+-- from the origin, which is in it, to the far limit, which isn't; the one instant where both are equal
+abbrev pub in_body_of : Direction → ℤ → Option ℤ → ℤ → Bool
+in_body_of d o None time = is_from d o time
+in_body_of d o (Some f) time = if int_eq o f then int_eq time o else is_from d o time && is_past d time f
+
+abbrev pub in_body : Details → ℤ → Bool
+in_body q = in_body_of (direction q) (origin_time q) (far_limit q)
+
+abbrev pub lives_in : Content → NodeId → Details → List Held
+lives_in R node q = in_direction (direction q) (lives R node)
+
+abbrev pub body : Content → NodeId → Details → List Held
+body R node q = filter (λ h. in_body q h.time) (lives_in R node q)
+
+-- ---- the bounds
+
+abbrev pub or_else : {X : Type 0} → Option X → Option X → Option X
+or_else None y = y
+or_else (Some x) y = Some x
+
+-- the value at a time, else the nearest one beyond it in the direction
+abbrev pub nearest_from : Content → NodeId → Direction → ℤ → Option Held
+nearest_from R node d time = or_else (current R node time) (outside_of R node time d)
+
+abbrev pub value_or_missing : ℤ → Option Held → Item
+value_or_missing time None = Missing time
+value_or_missing time (Some h) = Value h
+
+-- the value at the origin, else the nearest one against the direction, else none there
+abbrev pub near : Content → NodeId → Details → Item
+near R node q = value_or_missing (origin_time q) (nearest_from R node (opposite (direction q)) (origin_time q))
+
+abbrev pub item_time : Item → ℤ
+item_time (Value h) = h.time
+item_time (Missing time) = time
+
+abbrev pub time_of_last : ℤ → Option Item → ℤ
+time_of_last time None = time
+time_of_last time (Some x) = item_time x
+
+-- the time of the last item, else this one
+abbrev pub last_time : ℤ → List Item → ℤ
+last_time time items = time_of_last time (last items)
+
+-- the far bound of an open limit, one second beyond the item before it, within an Int64
+abbrev pub open_bound : Direction → ℤ → Item
+open_bound Forward time = Missing (int_min greatest_time (time +ℤ pos 10000000))
+open_bound Backward time = Missing (int_max least_time (time -ℤ pos 10000000))
+
+-- the value at the far limit, else the nearest one beyond it; beyond it where the origin is the limit
+abbrev pub far_value : Content → NodeId → Details → ℤ → Option Held
+far_value R node q f = if int_eq (origin_time q) f then outside_of R node f (direction q) else nearest_from R node (direction q) f
+
+abbrev pub far_at : Content → NodeId → Details → ℤ → Option ℤ → Item
+far_at R node q before None = open_bound (direction q) before
+far_at R node q before (Some f) = value_or_missing f (far_value R node q f)
+
+-- the far bound, behind an item of this time
+abbrev pub far : Content → NodeId → Details → ℤ → Item
+far R node q before = far_at R node q before (far_limit q)
+
+-- ---- raw values: what is still to come
+
+-- bounds asked for with count 1: the near bound is all
+abbrev pub is_near_alone : Details → Bool
+is_near_alone q = q.bounds && q.count == 1
+
+-- the near bound, where it wasn't given yet
+abbrev pub near_part : Content → NodeId → Details → Option Position → List Item
+near_part R node q None = if q.bounds then near R node q ∷ [] else []
+near_part R node q (Some p) = []
+
+-- beyond which time the values are still to come; with bounds the value at the origin is the near bound's
+abbrev pub limit_behind : Details → Phase → ℤ → ℤ
+limit_behind q Near time = origin_time q
+limit_behind q Body time = time
+
+abbrev pub limit_at : Details → Option Position → Option ℤ
+limit_at q None = if q.bounds then Some (origin_time q) else None
+limit_at q (Some p) = Some (limit_behind q p.phase p.time)
+
+-- beyond a limit, where there is one
+abbrev pub is_past_any : Direction → Option ℤ → ℤ → Bool
+is_past_any d None time = true
+is_past_any d (Some limit) time = is_past d limit time
+
+-- the values of the body that are still to come
+abbrev pub body_part : Content → NodeId → Details → Option Position → List Held
+body_part R node q p = if is_near_alone q then [] else filter (λ h. is_past_any (direction q) (limit_at q p) h.time) (body R node q)
+
+abbrev pub values : List Held → List Item
+values = map (λ h. Value h)
+
+-- the far bound, behind items of which the last has this time
+abbrev pub far_part : Content → NodeId → Details → ℤ → List Item
+far_part R node q before = if q.bounds && not (is_near_alone q) then far R node q before ∷ [] else []
+
+-- the time of the item that was given last
+abbrev pub time_before : Details → Option Position → ℤ
+time_before q None = origin_time q
+time_before q (Some p) = p.time
+
+abbrev pub before_far : Content → NodeId → Details → Option Position → List Item
+before_far R node q p = near_part R node q p ++ values (body_part R node q p)
+
+-- the items of a raw read that follow a place, or all of them
+abbrev pub raw : Content → NodeId → Details → Option Position → List Item
+raw R node q p = before_far R node q p ++ far_part R node q (last_time (time_before q p) (before_far R node q p))
+
+-- ---- modifications: what is still to come
+
+abbrev pub log_place : Position → Option LogPlace
+log_place p = option_map (λ s. record { time = p.time; stamp = s }) p.stamp
+
+abbrev pub place_at : Option Position → Option LogPlace
+place_at None = None
+place_at (Some p) = log_place p
+
+-- the modifications of the body's times that follow a place, or all of them
+abbrev pub modified : Content → NodeId → Details → Option Position → List Entry
+modified R node q p = filter (follows (direction q) (place_at p)) (filter (λ e. in_body q e.time) (in_direction (direction q) (log R node)))
+
+-- ---- pages
+
+abbrev pub given_before : Option Position → ℕ
+given_before None = 0
+given_before (Some p) = p.given
+
+-- the most items of a page: 1,000; the count limits each page where both times are given, and else the whole
+abbrev pub page_size : Details → Option Position → ℕ
+page_size q p = if q.count == 0 then 1000 else min 1000 (if has_both q then q.count else q.count - given_before p)
+
+-- no more than the count, where a time is open
+abbrev pub is_spent : Details → Option Position → Bool
+is_spent q p = not (has_both q) && nat_le q.count (given_before p + page_size q p)
+
+abbrev pub page : {X : Type 0} → Details → Option Position → List X → List X
+page q p items = take (page_size q p) items
+
+-- a further page exists where something follows and the total isn't spent
+abbrev pub goes_on : {X : Type 0} → Details → Option Position → List X → Bool
+goes_on q p items = nat_lt (page_size q p) (length items) && not (is_spent q p)
+
+-- how many items were given with this page
+abbrev pub given_after : Details → Option Position → ℕ
+given_after q p = if has_both q then 0 else given_before p + page_size q p
+
+-- the place where a page ends behind which another one exists
+abbrev pub raw_position : Details → Option Position → Item → Position
+raw_position q p x = record { phase = Body; time = item_time x; stamp = None; given = given_after q p }
+
+abbrev pub modified_position : Details → Option Position → Entry → Position
+modified_position q p e = record { phase = Body; time = e.time; stamp = Some (place_of e).stamp; given = given_after q p }
+
+abbrev pub next_place : {X : Type 0} → (X → Position) → Details → Option Position → List X → Option Position
+next_place position_of q p items = if goes_on q p items then option_map position_of (last (page q p items)) else None

@@ -1,0 +1,55 @@
+-- How values and modifications are shown (Part 4, 7.11; Part 11, HistoryData and HistoryModifiedData).
+use Rattle.std.specs.Prelude.{ℕ, ℤ, Bool, if◌then◌else◌, List, map, Option, Some, None, bit_or}
+use Rattle.ua_binary.specs.declared.values.Ticks.{Ticks}
+use Rattle.ua_binary.specs.declared.values.Status.{Status}
+use Rattle.ua_variant.specs.declared.data.DataValue.{DataValue}
+use Rattle.records.specs.declared.shown.Held.{Held}
+use Rattle.records.specs.declared.shown.Entry.{Entry}
+use Rattle.hist_read.specs.declared.item.Item.{Item}
+use Rattle.hist_read.specs.declared.item.Item.TheVariants.{Value, Missing}
+use Rattle.hist_read.specs.declared.query.TimestampsToReturn.{TimestampsToReturn}
+use Rattle.hist_read.specs.declared.query.TimestampsToReturn.TheVariants.{Source, Server, Both}
+use Rattle.hist_read.specs.declared.showing.Modification.{Modification}
+
+abbrev pub bits_of : Option Status → ℕ
+bits_of None = 0
+bits_of (Some s) = s.0
+
+-- the bits ExtraData and the info type DataValue beside those of the status (Part 11, StatusCodes)
+abbrev pub with_extra : Option Status → Option Status
+with_extra s = Some (record { 0 = bit_or (bits_of s) 1032 })
+
+abbrev pub at_time : ℤ → DataValue → DataValue
+at_time time v = record { value = v.value; status = v.status; source_time = Some (record { 0 = time }); source_pico = v.source_pico; server_time = v.server_time; server_pico = v.server_pico }
+
+abbrev pub no_value : DataValue
+no_value = record { value = None; status = None; source_time = None; source_pico = None; server_time = None; server_pico = None }
+
+abbrev pub with_status : Option Status → DataValue → DataValue
+with_status status v = record { value = v.value; status = status; source_time = v.source_time; source_pico = v.source_pico; server_time = v.server_time; server_pico = v.server_pico }
+
+-- Bad_BoundNotFound
+abbrev pub bound_not_found : Status
+bound_not_found = record { 0 = 2161573888 }
+
+-- a live value as it is stored, with its source time; a missing bound has its time alone
+abbrev pub item_value : Item → DataValue
+item_value (Value h) = at_time h.time (with_status (if h.extra then with_extra h.value.status else h.value.status) h.value)
+item_value (Missing time) = at_time time (with_status (Some bound_not_found) no_value)
+
+-- a modification's value, else its source time alone
+abbrev pub entry_value : ℤ → Option DataValue → DataValue
+entry_value time None = at_time time no_value
+entry_value time (Some v) = at_time time v
+
+-- the times that were asked for
+abbrev pub with_stamps : TimestampsToReturn → DataValue → DataValue
+with_stamps Source v = record { value = v.value; status = v.status; source_time = v.source_time; source_pico = v.source_pico; server_time = None; server_pico = None }
+with_stamps Server v = record { value = v.value; status = v.status; source_time = None; source_pico = None; server_time = v.server_time; server_pico = v.server_pico }
+with_stamps Both v = v
+
+abbrev pub shown : TimestampsToReturn → Item → DataValue
+shown stamps x = with_stamps stamps (item_value x)
+
+abbrev pub shown_entry : TimestampsToReturn → Entry → Modification
+shown_entry stamps e = record { value = with_stamps stamps (entry_value e.time e.value); tick = e.tick; kind = e.kind; user = e.user }

@@ -1,0 +1,27 @@
+//! Items of a raw read.
+
+use records::Held;
+
+/// An item of a raw read.
+#[derive(Debug, Drop, PartialEq, Eq)]
+pub(crate) enum Item {
+    /// A live value.
+    Value(Held),
+    /// A bound that is missing at this time.
+    Missing(i64),
+}
+
+impl Item {
+    ghost use Rattle.std.specs.Prelude.{◌≡◌};
+    ghost use Rattle.hist_read.specs.Reads.{item_time};
+
+    /// Its source time.
+    pub(crate) fn time(&self) -> i64
+        ensures { result ≡ item_time self.now }
+    {
+        match self {
+            Item::Value(held) => held.time,
+            Item::Missing(time) => *time,
+        }
+    }
+}

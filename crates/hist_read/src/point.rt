@@ -1,0 +1,497 @@
+//! Continuation points (Part 4, 7.9): what was asked, and the place where a page ended. Nothing is kept
+//! on the server.
+
+ghost use Rattle.std.specs.Prelude.{◌≡◌, ◌⊎◌, ◌↔◌, IsTrue, IfOk, IfSome, length, pos, ◌≤ℤ◌, option_map, Ok, Err, if◌then◌else◌};
+ghost use Rattle.ua_binary.specs.Format.{block, Reads, Puts, PutsPart};
+ghost use Rattle.ua_binary.specs.Binary.{node_of, IsNodeId};
+ghost use Rattle.ua_binary.specs.declared.fault.BinaryFault.TheVariants as fault;
+ghost use Rattle.hist_read.specs.Point.{flag, short_form, short_node, is_phase_for, is_stamp_for, is_given_for, suits, are_stamp, stamp_of, number_of_phase, phase, time, stamp, details, position, IsStamp, IsPosition, IsPoint, point_of, point_in, point};
+
+use crate::query::Details;
+use stamp::{GREATEST_TICK, ReplicaNo, Stamp};
+use ua_binary::{
+    BinaryFault, Cursor, NodeIdRef, or_undone, put_block, put_boolean, put_i64, put_node_id_ref,
+    put_u8, put_u32,
+};
+use uuid::Uuid;
+
+/// What the last item of a page was.
+#[derive(Clone, Copy, Debug, PartialEq, Eq)]
+pub enum Phase {
+    /// The near bound.
+    Near,
+    /// An item behind it.
+    Body,
+}
+
+/// Where a page ended.
+#[derive(Clone, Copy, Debug, PartialEq, Eq)]
+pub struct Position {
+    pub phase: Phase,
+    /// The source time of the last item, at least 1.
+    pub time: i64,
+    /// Of a modification the stamp of its record, of a raw value none.
+    pub stamp: Option<Stamp>,
+    /// How many items were given so far, in case a time is open; else 0.
+    pub given: u32,
+}
+
+/// A continuation point, in the bytes that it was read from.
+#[derive(Clone, Copy, Debug, Drop)]
+pub struct Place<'a> {
+    /// The archive's id.
+    pub archive: Uuid,
+    pub node: NodeIdRef<'a>,
+    /// As the request had them.
+    pub details: Details,
+    pub position: Position,
+}
+
+/// A Boolean whose byte is 0 or 1.
+#[tactic(auto, unfolding(crate::specs::Point::flag))]
+fn read_flag(cursor: &mut Cursor<'_>) -> Result<bool, BinaryFault>
+    ensures { Reads (λ v. v) result cursor.old cursor.new flag.read }
+{
+    let mut next = cursor.fork();
+    let byte = next.u8()?;
+    if byte > 1 {
+        return Err(BinaryFault::BadEncodingByte);
+    }
+    *cursor = next;
+    Ok(byte == 1)
+}
+
+/// A numeric node id behind its first byte, 1 or 2, where that is the shortest form.
+fn read_numeric<'a>(cursor: &mut Cursor<'a>, form: u8) -> Result<NodeIdRef<'a>, BinaryFault>
+    requires { (form ≡ 1) ⊎ (form ≡ 2) }
+    ensures { Reads node_of result cursor.old cursor.new (short_form form).read }
+{
+    let mut next = cursor.fork();
+    let (namespace, id) = if form == 1 {
+        let namespace = next.u8()? as u16;
+        (namespace, next.u16()? as u32)
+    } else {
+        let namespace = next.u16()?;
+        (namespace, next.u32()?)
+    };
+    let is_short = if form == 1 {
+        namespace > 0 || id > 255
+    } else {
+        namespace > 255 || id > 65535
+    };
+    if !is_short {
+        return Err(BinaryFault::BadEncodingByte);
+    }
+    *cursor = next;
+    Ok(NodeIdRef::Numeric(namespace, id))
+}
+
+/// A text id of a node behind its first byte, where it isn't null.
+fn read_named<'a>(cursor: &mut Cursor<'a>) -> Result<NodeIdRef<'a>, BinaryFault>
+    ensures { Reads node_of result cursor.old cursor.new (short_form 3).read }
+{
+    let mut next = cursor.fork();
+    let namespace = next.u16()?;
+    let Some(name) = next.text()? else {
+        return Err(BinaryFault::BadLength);
+    };
+    *cursor = next;
+    Ok(NodeIdRef::Named(namespace, name))
+}
+
+/// A byte id of a node behind its first byte, where it isn't null.
+fn read_opaque<'a>(cursor: &mut Cursor<'a>) -> Result<NodeIdRef<'a>, BinaryFault>
+    ensures { Reads node_of result cursor.old cursor.new (short_form 5).read }
+{
+    let mut next = cursor.fork();
+    let namespace = next.u16()?;
+    let Some(id) = next.bytes()? else {
+        return Err(BinaryFault::BadLength);
+    };
+    *cursor = next;
+    Ok(NodeIdRef::Opaque(namespace, id))
+}
+
+/// A node id in its shortest form, whose text or byte id isn't null.
+#[tactic(auto, unfolding(crate::specs::Point::short_node))]
+fn read_node<'a>(cursor: &mut Cursor<'a>) -> Result<NodeIdRef<'a>, BinaryFault>
+    ensures { Reads node_of result cursor.old cursor.new short_node.read }
+{
+    let mut next = cursor.fork();
+    let form = next.u8()?;
+    let node = match form {
+        0 => NodeIdRef::Numeric(0, next.u8()? as u32),
+        1 | 2 => read_numeric(&mut next, form)?,
+        3 => read_named(&mut next)?,
+        4 => {
+            let namespace = next.u16()?;
+            NodeIdRef::Global(namespace, next.guid()?)
+        }
+        5 => read_opaque(&mut next)?,
+        _ => return Err(BinaryFault::BadEncodingByte),
+    };
+    *cursor = next;
+    Ok(node)
+}
+
+/// What was asked.
+#[tactic(auto, unfolding(crate::specs::Point::details))]
+fn read_details(cursor: &mut Cursor<'_>) -> Result<Details, BinaryFault>
+    ensures { Reads (λ v. v) result cursor.old cursor.new details.read }
+{
+    let mut next = cursor.fork();
+    let modified = read_flag(&mut next)?;
+    let start = next.i64()?;
+    let end = next.i64()?;
+    let count = next.u32()?;
+    let bounds = read_flag(&mut next)?;
+    *cursor = next;
+    Ok(Details {
+        modified,
+        start,
+        end,
+        count,
+        bounds,
+    })
+}
+
+#[tactic(auto, unfolding(crate::specs::Point::phase))]
+fn read_phase(cursor: &mut Cursor<'_>) -> Result<Phase, BinaryFault>
+    ensures { Reads (λ v. v) result cursor.old cursor.new phase.read }
+{
+    let mut next = cursor.fork();
+    let phase = match next.u8()? {
+        1 => Phase::Near,
+        2 => Phase::Body,
+        _ => return Err(BinaryFault::BadEncodingByte),
+    };
+    *cursor = next;
+    Ok(phase)
+}
+
+#[tactic(auto, unfolding(crate::specs::Point::time))]
+fn read_time(cursor: &mut Cursor<'_>) -> Result<i64, BinaryFault>
+    ensures reads { Reads (λ v. v) result cursor.old cursor.new time.read }
+    ensures late { IfOk result (λ v. pos 1 ≤ℤ v) }
+{
+    let mut next = cursor.fork();
+    let time = next.i64()?;
+    if time < 1 {
+        return Err(BinaryFault::BadEncodingByte);
+    }
+    *cursor = next;
+    Ok(time)
+}
+
+/// The stamp of these parts: none of zeros, and else what a record may have.
+fn stamp_of(tick: i64, origin: u8) -> Result<Option<Stamp>, BinaryFault>
+    ensures { result ≡ (if are_stamp (tick, origin) then Ok (stamp_of (tick, origin)) else Err fault.BadEncodingByte) }
+{
+    if origin == 0 && tick == 0 {
+        return Ok(None);
+    }
+    let Some(origin) = ReplicaNo::new(origin) else {
+        return Err(BinaryFault::BadEncodingByte);
+    };
+    if tick < 1 || tick > GREATEST_TICK {
+        return Err(BinaryFault::BadEncodingByte);
+    }
+    Ok(Some(Stamp { tick, origin }))
+}
+
+#[tactic(auto, unfolding(crate::specs::Point::stamp))]
+fn read_stamp(cursor: &mut Cursor<'_>) -> Result<Option<Stamp>, BinaryFault>
+    ensures { Reads (λ v. v) result cursor.old cursor.new stamp.read }
+{
+    let mut next = cursor.fork();
+    let tick = next.i64()?;
+    let origin = next.u8()?;
+    let stamp = stamp_of(tick, origin)?;
+    *cursor = next;
+    Ok(stamp)
+}
+
+/// Where the page ended.
+#[tactic(auto, unfolding(crate::specs::Point::position))]
+fn read_position(cursor: &mut Cursor<'_>) -> Result<Position, BinaryFault>
+    ensures reads { Reads (λ v. v) result cursor.old cursor.new position.read }
+    ensures late { IfOk result (λ v. pos 1 ≤ℤ v.time) }
+{
+    let mut next = cursor.fork();
+    let phase = read_phase(&mut next)?;
+    let time = read_time(&mut next)?;
+    let stamp = read_stamp(&mut next)?;
+    let given = next.u32()?;
+    *cursor = next;
+    Ok(Position {
+        phase,
+        time,
+        stamp,
+        given,
+    })
+}
+
+/// Whether a page of what was asked may have ended in this phase.
+fn is_phase_for(details: &Details, phase: Phase) -> bool
+    ensures { result ≡ is_phase_for details.now phase }
+{
+    match phase {
+        Phase::Near => details.bounds && !details.modified,
+        Phase::Body => true,
+    }
+}
+
+/// Whether a stamp is there just where modifications were asked for.
+fn is_stamp_for(details: &Details, stamp: Option<Stamp>) -> bool
+    ensures { result ≡ is_stamp_for details.now stamp }
+{
+    match stamp {
+        None => !details.modified,
+        Some(_) => details.modified,
+    }
+}
+
+/// Whether so many items may have been given of what was asked.
+fn is_given_for(details: &Details, given: u32) -> bool
+    ensures { result ≡ is_given_for details.now given }
+{
+    if details.start >= 1 && details.end >= 1 {
+        return given == 0;
+    }
+    0 < given && given < details.count
+}
+
+/// Whether a position is one of a page of what was asked.
+fn suits(details: &Details, position: &Position) -> bool
+    ensures { result ≡ suits details.now position.now }
+{
+    is_phase_for(details, position.phase)
+        && is_stamp_for(details, position.stamp)
+        && is_given_for(details, position.given)
+}
+
+/// Whether a node's id has a spelling.
+#[tactic(auto, using(ua_binary::proofs::Utf8::tested))]
+fn is_spelled(node: NodeIdRef<'_>) -> bool
+    ensures { IsTrue result ↔ IsNodeId (node_of node.entry) }
+{
+    match node {
+        NodeIdRef::Numeric(..) => true,
+        NodeIdRef::Named(_, name) => name.as_bytes().len() < 0x8000_0000,
+        NodeIdRef::Global(..) => true,
+        NodeIdRef::Opaque(_, id) => id.len() < 0x8000_0000,
+    }
+}
+
+/// Whether a stamp's tick is within its limits.
+fn is_stamp(stamp: Option<Stamp>) -> bool
+    ensures { IsTrue result ↔ IsStamp stamp }
+{
+    match stamp {
+        None => true,
+        Some(stamp) => 1 <= stamp.tick && stamp.tick <= GREATEST_TICK,
+    }
+}
+
+/// Whether a position's numbers are within their limits.
+fn is_position(position: &Position) -> bool
+    ensures judged { IsTrue result ↔ IsPosition position.now }
+    ensures next { pos 1 ≤ℤ position.now.time → IsStamp position.now.stamp → IsTrue result }
+{
+    let (time, _given) = (position.time, position.given);
+    1 <= time && is_stamp(position.stamp)
+}
+
+/// How many bytes an id has: 16.
+fn id_length(id: &[u8; 16]) -> usize
+    ensures bytes { result ≡ length id.now }
+    ensures all { result ≡ 16 }
+{
+    id.len()
+}
+
+impl Place<'_> {
+    ghost use Rattle.std.specs.Prelude.{IsTrue, ◌↔◌};
+    ghost use Rattle.ua_binary.specs.Binary.{node_of, IsNodeId};
+    ghost use Rattle.hist_read.specs.Point.{IsPoint, IsNext, point_of};
+
+    /// Whether it can be written and read again: its numbers are within their limits, its stamp is there
+    /// just where modifications were asked for, its phase is the near bound's only where raw values were
+    /// asked for with bounds, and its count of items is 0 where both times are given, else at least 1 and
+    /// below the count.
+    pub fn is_well_formed(&self) -> bool
+        ensures judged { IsTrue result ↔ IsPoint (point_of self.now) }
+        ensures next { IsNodeId (node_of self.now.node) → IsNext self.now.details self.now.position → IsTrue result }
+    {
+        let Place { details, .. } = self;
+        let Details {
+            start,
+            end,
+            count,
+            ..
+        } = details;
+        let _numbers = (*start, *end, *count);
+        if id_length(self.archive.as_bytes()) != 16 {
+            return false;
+        }
+        if !is_spelled(self.node) {
+            return false;
+        }
+        if !is_position(&self.position) {
+            return false;
+        }
+        suits(&self.details, &self.position)
+    }
+}
+
+/// Reads a continuation point's fields, in front of whatever follows.
+#[tactic(auto, unfolding(crate::specs::Point::point))]
+fn read_place<'a>(cursor: &mut Cursor<'a>) -> Result<Place<'a>, BinaryFault>
+    ensures reads { Reads point_of result cursor.old cursor.new point.read }
+    ensures late { IfOk result (λ v. pos 1 ≤ℤ v.position.time) }
+{
+    let mut next = cursor.fork();
+    if next.u8()? != 1 {
+        return Err(BinaryFault::BadEncodingByte);
+    }
+    let archive = read_archive(&mut next)?;
+    let node = read_node(&mut next)?;
+    let details = read_details(&mut next)?;
+    let position = read_position(&mut next)?;
+    if !suits(&details, &position) {
+        return Err(BinaryFault::BadEncodingByte);
+    }
+    *cursor = next;
+    Ok(Place {
+        archive,
+        node,
+        details,
+        position,
+    })
+}
+
+/// An archive's id.
+fn read_archive(cursor: &mut Cursor<'_>) -> Result<Uuid, BinaryFault>
+    ensures { Reads (λ v. v) result cursor.old cursor.new (block 16).read }
+{
+    let mut next = cursor.fork();
+    let Ok(archive) = Uuid::from_slice(next.block(16)?) else {
+        return Err(BinaryFault::Short);
+    };
+    *cursor = next;
+    Ok(archive)
+}
+
+/// The continuation point that all of the bytes spell, format 1; `None` where they spell none. It takes
+/// no memory. The node stays in the bytes.
+#[tactic(auto, unfolding(crate::specs::Point::point))]
+pub fn read_continuation(bytes: &[u8]) -> Option<Place<'_>>
+    ensures told { option_map point_of result ≡ point_in bytes.now }
+    ensures late { IfSome result (λ p. pos 1 ≤ℤ p.position.time) }
+{
+    let mut cursor = Cursor::new(bytes);
+    let Ok(place) = read_place(&mut cursor) else {
+        return None;
+    };
+    if !cursor.rest().is_empty() {
+        return None;
+    }
+    Some(place)
+}
+
+#[tactic(auto, using(ua_binary::proofs::Kept::kept), unfolding(crate::specs::Point::details, crate::specs::Point::flag, ua_binary::specs::Binary::boolean))]
+fn put_details_parts(out: &mut Vec<u8>, v: &Details) -> Result<(), BinaryFault>
+    ensures { PutsPart fault.OutOfMemory result out.old.items out.new.items (details.canon v.now) }
+{
+    put_boolean(out, v.modified)?;
+    put_i64(out, v.start)?;
+    put_i64(out, v.end)?;
+    put_u32(out, v.count)?;
+    put_boolean(out, v.bounds)?;
+    Ok(())
+}
+
+fn put_details(out: &mut Vec<u8>, v: &Details) -> Result<(), BinaryFault>
+    ensures { Puts fault.OutOfMemory result out.old.items out.new.items (details.canon v.now) }
+{
+    let len = out.len();
+    let put = put_details_parts(out, v);
+    or_undone(put, out, len)
+}
+
+/// A phase's number.
+fn number_of_phase(phase: Phase) -> u8
+    ensures { result ≡ number_of_phase phase }
+{
+    match phase {
+        Phase::Near => 1,
+        Phase::Body => 2,
+    }
+}
+
+#[tactic(auto, using(ua_binary::proofs::Kept::kept), unfolding(crate::specs::Point::stamp))]
+fn put_stamp_parts(out: &mut Vec<u8>, v: Option<Stamp>) -> Result<(), BinaryFault>
+    ensures { PutsPart fault.OutOfMemory result out.old.items out.new.items (stamp.canon v) }
+{
+    let (tick, origin) = match v {
+        None => (0, 0),
+        Some(stamp) => (stamp.tick, stamp.origin.get()),
+    };
+    put_i64(out, tick)?;
+    put_u8(out, origin)?;
+    Ok(())
+}
+
+fn put_stamp(out: &mut Vec<u8>, v: Option<Stamp>) -> Result<(), BinaryFault>
+    ensures { Puts fault.OutOfMemory result out.old.items out.new.items (stamp.canon v) }
+{
+    let len = out.len();
+    let put = put_stamp_parts(out, v);
+    or_undone(put, out, len)
+}
+
+#[tactic(auto, using(ua_binary::proofs::Kept::kept), unfolding(crate::specs::Point::position, crate::specs::Point::phase, crate::specs::Point::time))]
+fn put_position_parts(out: &mut Vec<u8>, v: &Position) -> Result<(), BinaryFault>
+    ensures { PutsPart fault.OutOfMemory result out.old.items out.new.items (position.canon v.now) }
+{
+    put_u8(out, number_of_phase(v.phase))?;
+    put_i64(out, v.time)?;
+    put_stamp(out, v.stamp)?;
+    put_u32(out, v.given)?;
+    Ok(())
+}
+
+fn put_position(out: &mut Vec<u8>, v: &Position) -> Result<(), BinaryFault>
+    ensures { Puts fault.OutOfMemory result out.old.items out.new.items (position.canon v.now) }
+{
+    let len = out.len();
+    let put = put_position_parts(out, v);
+    or_undone(put, out, len)
+}
+
+#[tactic(auto, using(ua_binary::proofs::Kept::kept, crate::proofs::Lawful::written), unfolding(crate::specs::Point::point))]
+fn put_place_parts(out: &mut Vec<u8>, v: &Place<'_>) -> Result<(), BinaryFault>
+    requires { IsPoint (point_of v.now) }
+    ensures { PutsPart fault.OutOfMemory result out.old.items out.new.items (point.canon (point_of v.now)) }
+{
+    put_u8(out, 1)?;
+    put_block(out, v.archive.as_bytes())?;
+    put_node_id_ref(out, v.node)?;
+    put_details(out, &v.details)?;
+    put_position(out, &v.position)?;
+    Ok(())
+}
+
+/// Writes a continuation point, format 1. It has to be one that can be read again: its numbers within
+/// their limits, the stamp there just where modifications were asked for, the near bound as its phase
+/// only where raw values were asked for with bounds, and its count of items 0 where both times are
+/// given, else at least 1 and below the count. Its one error is `OutOfMemory`, and then the vector is as
+/// it was.
+pub fn put_continuation(out: &mut Vec<u8>, v: &Place<'_>) -> Result<(), BinaryFault>
+    requires { IsPoint (point_of v.now) }
+    ensures { Puts fault.OutOfMemory result out.old.items out.new.items (point.canon (point_of v.now)) }
+{
+    let len = out.len();
+    let put = put_place_parts(out, v);
+    or_undone(put, out, len)
+}

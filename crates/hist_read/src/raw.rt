@@ -1,0 +1,277 @@
+//! Pages of raw values.
+
+ghost use Rattle.std.specs.Prelude.{◌≡◌, ◌≤◌, ◌+◌, ◌<◌, ◌||◌, ◌&&◌, ◌++◌, ◌^◌, IsTrue, IfOk, IfSome, IfNone, pos, ◌≤ℤ◌, true, false, take, length, Ok, Some, None};
+ghost use Rattle.std.specs.Option.{option_to_list};
+ghost use Rattle.archive.specs.Store.{Asks};
+ghost use Rattle.hist_read.specs.Asking.{is_given, has_both, origin_time};
+ghost use Rattle.hist_read.specs.Reads.{is_near_alone, body_part, far_value, values, item_time, last_time, time_before, open_bound, page_size, page, is_spent, next_place, raw_position};
+ghost use Rattle.hist_read.specs.Pages.{IsFound, IsFoundBehind, body_limit, has_far, far_item, far_of, row_of, IsRawPage};
+ghost use Rattle.hist_read.specs.Finding.{Finds};
+
+use crate::asked::{given_after, goes_on, page_size, span_after};
+use crate::bounds::{far_value, near};
+use crate::item::Item;
+use crate::point::{Phase, Position};
+use crate::query::Details;
+use crate::setback::Setback;
+use archive::{Archive, Direction, StoreFault};
+use records::Held;
+use std::alloc::{AllocError, Global};
+use ua_binary::NodeId;
+
+/// What the archive has of a page of raw values.
+#[derive(Drop)]
+pub(crate) struct Found {
+    /// The near bound, where it is due.
+    near: Option<Item>,
+    /// The values behind it, one more than the page has at most.
+    body: Vec<Held>,
+    /// The value at the far limit, where it is due and there is one.
+    far: Option<Held>,
+}
+
+/// Whether the near bound is all that is asked for.
+fn is_near_alone(details: &Details) -> bool
+    ensures { result ≡ is_near_alone details.now }
+{
+    details.bounds && details.count == 1
+}
+
+/// Whether the far bound is asked for.
+fn has_far(details: &Details) -> bool
+    ensures { result ≡ has_far details.now }
+{
+    details.bounds && !is_near_alone(details)
+}
+
+/// How many values are asked for.
+fn body_limit(details: &Details, position: &Option<Position>) -> usize
+    ensures { result ≡ body_limit details.now position.now }
+{
+    if is_near_alone(details) {
+        return 0;
+    }
+    page_size(details, position) + 1
+}
+
+/// The values behind the near bound, one more than the page has at most.
+fn find_body<A: Archive>(
+    alloc: Global,
+    archive: &mut A,
+    node: &NodeId,
+    details: &Details,
+    position: &Option<Position>,
+) -> Result<Vec<Held>, StoreFault>
+    requires given { IsTrue (is_given details.now.start || is_given details.now.end) }
+    requires place { IfSome position.now (λ p. pos 1 ≤ℤ p.time) }
+    ensures { Asks (A.state archive.old) (A.state archive.new) result
+        (λ v. v.items ≡ take (page_size details.now position.now + 1) (body_part (A.state archive.old).content node.now details.now position.now)) }
+{
+    let direction = details.direction();
+    let span = span_after(details, position);
+    let limit = body_limit(details, position);
+    archive.range(alloc, node, span.from, span.to, direction, limit)
+}
+
+/// The values behind the near bound, and the one at the far limit.
+fn find_values<A: Archive>(
+    alloc: Global,
+    archive: &mut A,
+    node: &NodeId,
+    details: &Details,
+    position: &Option<Position>,
+) -> Result<(Vec<Held>, Option<Held>), StoreFault>
+    requires given { IsTrue (is_given details.now.start || is_given details.now.end) }
+    requires place { IfSome position.now (λ p. pos 1 ≤ℤ p.time) }
+    ensures { Asks (A.state archive.old) (A.state archive.new) result (IsFoundBehind (A.state archive.old).content node.now details.now position.now) }
+{
+    let body = find_body(alloc, archive, node, details, position)?;
+    if !has_far(details) || !details.has_both() {
+        return Ok((body, None));
+    }
+    let far = far_value(alloc, archive, node, details)?;
+    Ok((body, far))
+}
+
+/// What the archive has of a page.
+pub(crate) fn find<A: Archive>(
+    alloc: Global,
+    archive: &mut A,
+    node: &NodeId,
+    details: &Details,
+    position: &Option<Position>,
+) -> Result<Found, StoreFault>
+    requires given { IsTrue (is_given details.now.start || is_given details.now.end) }
+    requires place { IfSome position.now (λ p. pos 1 ≤ℤ p.time) }
+    ensures { Asks (A.state archive.old) (A.state archive.new) result (IsFound (A.state archive.old).content node.now details.now position.now) }
+{
+    if position.is_some() || !details.bounds {
+        let (body, far) = find_values(alloc, archive, node, details, position)?;
+        return Ok(Found {
+            near: None,
+            body,
+            far,
+        });
+    }
+    let near = near(alloc, archive, node, details)?;
+    let (body, far) = find_values(alloc, archive, node, details, position)?;
+    Ok(Found {
+        near: Some(near),
+        body,
+        far,
+    })
+}
+
+/// The far bound of an open limit, one second beyond the item before it.
+fn open_bound(direction: Direction, before: i64) -> Item
+    ensures { result ≡ open_bound direction before }
+{
+    match direction {
+        Direction::Forward => Item::Missing(before.saturating_add(10_000_000)),
+        Direction::Backward => Item::Missing(before.saturating_sub(10_000_000)),
+    }
+}
+
+/// The far bound of the value at the far limit, behind an item of this time.
+fn far_item(details: &Details, far: Option<Held>, before: i64) -> Item
+    ensures { result ≡ far_item details.now far before }
+{
+    if !details.has_both() {
+        return open_bound(details.direction(), before);
+    }
+    match far {
+        Some(held) => Item::Value(held),
+        None => Item::Missing(details.end),
+    }
+}
+
+/// Adds values as items.
+fn push_values(items: &mut Vec<Item>, body: Vec<Held>) -> Result<(), AllocError>
+    ensures { IfOk result (λ _. items.new.items ≡ items.old.items ++ values body.items) }
+{
+    for held in body.into_iter() {
+        items.push(Item::Value(held))?;
+    }
+    Ok(())
+}
+
+/// The time of the item that was given last.
+fn time_before(details: &Details, position: &Option<Position>) -> i64
+    ensures { result ≡ time_before details.now position.now }
+{
+    match position {
+        None => details.origin(),
+        Some(p) => p.time,
+    }
+}
+
+/// The time of the last item, else this one.
+fn last_time(items: &[Item], before: i64) -> i64
+    ensures { result ≡ last_time before items.now }
+{
+    match items.last() {
+        Some(item) => item.time(),
+        None => before,
+    }
+}
+
+/// The near bound, where it is due, and the values behind it.
+fn front(alloc: Global, near: Option<Item>, body: Vec<Held>) -> Result<Vec<Item>, AllocError>
+    ensures { IfOk result (λ v. v.items ≡ option_to_list near ++ values body.items) }
+{
+    let mut items = Vec::with_capacity(alloc, body.len())?;
+    if let Some(near) = near {
+        items.push(near)?;
+    }
+    push_values(&mut items, body)?;
+    Ok(items)
+}
+
+/// Adds the far bound, where it is due.
+fn push_far(
+    items: &mut Vec<Item>,
+    far: Option<Held>,
+    is_due: bool,
+    details: &Details,
+    position: &Option<Position>,
+) -> Result<(), AllocError>
+    ensures { IfOk result (λ _. items.new.items ≡ items.old.items ++ far_of details.now position.now is_due items.old.items far) }
+{
+    if !is_due {
+        return Ok(());
+    }
+    let before = last_time(items, time_before(details, position));
+    items.push(far_item(details, far, before))?;
+    Ok(())
+}
+
+/// What was found, in a row; the far bound where the values end within the page.
+pub(crate) fn row(
+    alloc: Global,
+    found: Found,
+    details: &Details,
+    position: &Option<Position>,
+) -> Result<Vec<Item>, AllocError>
+    ensures { IfOk result (λ v. v.items ≡ row_of details.now position.now (option_to_list found.near) found.body.items found.far) }
+{
+    let Found { near, body, far } = found;
+    let is_due = has_far(details) && body.len() <= page_size(details, position);
+    let mut items = front(alloc, near, body)?;
+    push_far(&mut items, far, is_due, details, position)?;
+    Ok(items)
+}
+
+/// A page of raw values.
+#[derive(Drop)]
+pub(crate) struct RawPage {
+    pub(crate) items: Vec<Item>,
+    /// Where it ends, in case another page follows.
+    pub(crate) next: Option<Position>,
+}
+
+/// The place behind an item, where reading goes on.
+fn raw_position(details: &Details, position: &Option<Position>, item: &Item) -> Position
+    requires { is_spent details.now position.now ≡ false }
+    ensures { result ≡ raw_position details.now position.now item.now }
+{
+    Position {
+        phase: Phase::Body,
+        time: item.time(),
+        stamp: None,
+        given: given_after(details, position),
+    }
+}
+
+/// The page that a row begins with.
+fn page(mut items: Vec<Item>, details: &Details, position: &Option<Position>) -> RawPage
+    ensures items { result.items.items ≡ page details.now position.now items.items }
+    ensures next { result.next ≡ next_place (raw_position details.now position.now) details.now position.now items.items }
+{
+    let goes_on = goes_on(details, position, items.len());
+    items.truncate(page_size(details, position));
+    if !goes_on {
+        return RawPage { items, next: None };
+    }
+    let next = match items.last() {
+        Some(item) => Some(raw_position(details, position, item)),
+        None => None,
+    };
+    RawPage { items, next }
+}
+
+/// Reads a page of raw values.
+pub(crate) fn read_raw<A: Archive>(
+    alloc: Global,
+    archive: &mut A,
+    node: &NodeId,
+    details: &Details,
+    position: &Option<Position>,
+) -> Result<RawPage, Setback>
+    requires given { IsTrue (is_given details.now.start || is_given details.now.end) }
+    requires place { IfSome position.now (λ p. pos 1 ≤ℤ p.time) }
+    ensures { Finds (A.state archive.old) (A.state archive.new) result (IsRawPage (A.state archive.old).content node.now details.now position.now) }
+{
+    let found = find(alloc, archive, node, details, position)?;
+    let items = row(alloc, found, details, position)?;
+    Ok(page(items, details, position))
+}
