@@ -23,7 +23,7 @@ use Rattle.exchange.specs.Merging.{AreLearned}
 use Rattle.exchange.proofs.MergeLemmas.{turn_learned}
 use Rattle.archive.specs.declared.fault.StoreFault.{StoreFault}
 use Rattle.archive.specs.Store.{Store, Asks, fault_in, faults_by}
-use Rattle.archive.proofs.Calls.{passes-leaves}
+use Rattle.archive.proofs.Calls.{passes-leaves, in_use}
 use Rattle.hist_update.specs.Updates.{Keeps}
 use Rattle.exchange.specs.declared.fault.ExchangeFault.TheVariants as exchange
 use Rattle.exchange.specs.declared.replica.Batch.{Batch}
@@ -132,38 +132,6 @@ batch_for R v own xs batch n room is told all e within f fits greatest = elim (c
           | inr g ↦ greatest k (grind (arith, nat_tests)) (omega (arith, ap records_length first, f, h, vector_short own is))
         ]
 
--- ---- the call
-
-keeps : {A : Type 0} (a b : Store) (result : Result A StoreFault) (P : A → Type 0) → Asks a b result P → Keeps a b (faults_by (fault_in result))
-keeps a b result P asks = record { content = asks.kept; crash = asks.crash; passes = passes-leaves a b (fault_in result) asks.leaves }
-
--- the store failed
-pub answer-fails : {A : Type 0} (a b : Store) (v : ℕ → ℕ) (fault : StoreFault) (P : A → Type 0) → Asks a b (Err fault) P → Answers a b v (Err (exchange.Store fault))
-answer-fails a b v fault P asks = record {
-  batch = λ h. tt;
-  only = tt;
-  ended = λ e. ap (λ f. Err (exchange.Store f)) (same_Some _ _ (asks.leaves.ended e));
-  keeps = keeps a b (Err fault) P asks;
-}
-
--- memory was wanting
-pub answer-starves : {A : Type 0} (a b : Store) (v : ℕ → ℕ) (x : A) (P : A → Type 0) → Asks a b (Ok x) P → Answers a b v (Err exchange.OutOfMemory)
-answer-starves a b v x P asks = record {
-  batch = λ h. tt;
-  only = tt;
-  ended = λ e. absurd (none-some _ (asks.leaves.ended e));
-  keeps = keeps a b (Ok x) P asks;
-}
-
--- a batch was made
-pub answer-made : {A : Type 0} (a b : Store) (v : ℕ → ℕ) (x : A) (P : A → Type 0) (batch : Batch) → Asks a b (Ok x) P → (P x → IsBatchFor a.content v batch.records) → Answers a b v (Ok batch)
-answer-made a b v x P batch asks made = record {
-  batch = λ h. made (asks.answer h);
-  only = tt;
-  ended = λ e. absurd (none-some _ (asks.leaves.ended e));
-  keeps = keeps a b (Ok x) P asks;
-}
-
 -- ---- laws
 
 record_bytes : (r : Record) → IsLawfulRecord r → length (record_form.canon r) ≤ longest
@@ -195,3 +163,38 @@ batch_learned R S batch closed closed' same is = turn_learned batch R (turn R S 
 
 pub batch_added : (R S : Content) (batch : List Record) → IsClosed R → IsClosed S → AreCompatible R S → IsBatchFor S (vec R) batch → length (merged batch R) ≡ length R + length batch
 batch_added R S batch closed closed' same is = turn_length batch R (turn R S batch closed closed' same is)
+
+-- ---- the call
+
+keeps : {A : Type 0} (a b : Store) (result : Result A StoreFault) (P : A → Type 0) → Asks a b result P → Keeps a b (faults_by (fault_in result))
+keeps a b result P asks = record { content = asks.kept; crash = asks.crash; passes = passes-leaves a b (fault_in result) asks.leaves }
+
+-- the store failed
+pub answer-fails : {A : Type 0} (a b : Store) (v : ℕ → ℕ) (fault : StoreFault) (P : A → Type 0) → Asks a b (Err fault) P → Answers a b v (Err (exchange.Store fault))
+answer-fails a b v fault P asks = record {
+  batch = λ h. tt;
+  some = λ h. tt;
+  only = tt;
+  ended = λ e. ap (λ f. Err (exchange.Store f)) (same_Some _ _ (asks.leaves.ended e));
+  keeps = keeps a b (Err fault) P asks;
+}
+
+-- memory was wanting
+pub answer-starves : {A : Type 0} (a b : Store) (v : ℕ → ℕ) (x : A) (P : A → Type 0) → Asks a b (Ok x) P → Answers a b v (Err exchange.OutOfMemory)
+answer-starves a b v x P asks = record {
+  batch = λ h. tt;
+  some = λ h. tt;
+  only = tt;
+  ended = λ e. absurd (none-some _ (asks.leaves.ended e));
+  keeps = keeps a b (Ok x) P asks;
+}
+
+-- a batch was made
+pub answer-made : {A : Type 0} (a b : Store) (v : ℕ → ℕ) (x : A) (P : A → Type 0) (batch : Batch) → Asks a b (Ok x) P → (P x → IsBatchFor a.content v batch.records) → Answers a b v (Ok batch)
+answer-made a b v x P batch asks made = record {
+  batch = λ h. made (asks.answer h);
+  some = λ h r has beyond. some_fits a.content v batch.records r (asks.leaves.before (asks.leaves.honest h) (in_use a b asks.leaves)).lawful (made (asks.answer h)) has beyond;
+  only = tt;
+  ended = λ e. absurd (none-some _ (asks.leaves.ended e));
+  keeps = keeps a b (Ok x) P asks;
+}
