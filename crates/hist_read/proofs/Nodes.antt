@@ -2,10 +2,13 @@
 use Rattle.std.proofs.Common.{◌≡◌, ℕ, Bool, true, false, List, [], ◌∷◌, map, Option, Some, None, Result, Ok, Err, IfOk, IfSome, option_map, refl, sym, ap, ◌∙◌}
 use Rattle.archive.specs.Store.{Store, IsLawfulContent}
 use Rattle.ua_binary.specs.declared.values.NodeId.{NodeId}
+use Rattle.std.proofs.lemmas.Option.{none-some}
+use Rattle.archive.specs.declared.fault.StoreFault.TheVariants.{Broken}
 use Rattle.hist_read.specs.declared.code.ReadCode.{ReadCode}
+use Rattle.hist_read.specs.declared.code.ReadCode.TheVariants.{BadResourceUnavailable}
 use Rattle.hist_read.specs.declared.node.NodeItems.{NodeItems}
 use Rattle.hist_read.specs.declared.node.NodeResult.{NodeResult}
-use Rattle.hist_read.specs.Finding.{Finds}
+use Rattle.hist_read.specs.Finding.{Finds, fault_met}
 use Rattle.hist_read.specs.declared.setback.Setback.{Setback}
 use Rattle.hist_read.specs.declared.setback.Setback.TheVariants as setback
 use Rattle.hist_read.specs.Node.{status_of, refused, code_of, Reads}
@@ -42,3 +45,9 @@ pub found_reads : (a b : Store) (r : Result NodeResult Setback) (page wanted res
 found_reads a b (Ok x) page wanted result p same e = record { answered = λ h. e ∙ (p.answer h ∙ same); kept = p.kept; crash = p.crash; passes = passes-leaves a b None p.leaves }
 found_reads a b (Err setback.Starved) page wanted result p same e = record { answered = λ h. e; kept = p.kept; crash = p.crash; passes = passes-leaves a b None p.leaves }
 found_reads a b (Err (setback.Store fault)) page wanted result p same e = record { answered = λ h. e; kept = p.kept; crash = p.crash; passes = passes-leaves a b (Some fault) p.leaves }
+
+-- a fault of a broken archive is told
+pub broken_told : (r : Result NodeResult Setback) → fault_met r ≡ Some Broken → shown_of r ≡ refused BadResourceUnavailable
+broken_told (Ok x) e = absurd (none-some _ e)
+broken_told (Err setback.Starved) e = absurd (none-some _ e)
+broken_told (Err (setback.Store fault)) e = let same : fault ≡ Broken = cc in ap (λ f. refused (code_of (setback.Store f))) same

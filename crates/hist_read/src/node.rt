@@ -4,6 +4,7 @@ ghost use Rattle.std.specs.Prelude.{◌≡◌, ◌↔◌, IsTrue, ◌||◌, pos,
 ghost use Rattle.std.specs.Option.{option_copied};
 ghost use Rattle.ua_binary.specs.Binary.{node_of, IsNodeId, IsShortNode};
 ghost use Rattle.hist_read.specs.declared.setback.Setback.{Setback as Met};
+ghost use Rattle.hist_read.specs.declared.code.ReadCode.TheVariants.{BadResourceUnavailable};
 ghost use Rattle.hist_read.specs.Asking.{is_given};
 ghost use Rattle.hist_read.specs.Point.{point_in, point_of, point, IsPoint, IsNext};
 ghost use Rattle.hist_read.specs.Node.{is_enough, IsOfRead, place_in, judged, refused, status_of, point_at, raw_result, modified_result, page_result, answer, Reads};
@@ -274,7 +275,8 @@ fn page_result<A: Archive>(
 /// end and count (`BadHistoryOperationInvalid`); a continuation point that isn't well formed, or is one
 /// of another archive, node or query (`BadContinuationPointInvalid`). Then the store is read, and a fault
 /// of it is told by `BadOutOfMemory`, as is want of memory here, or by `BadResourceUnavailable`. A bad
-/// status has neither items nor a point, and no call changes the content. An empty page is `GoodNoData`.
+/// status has neither items nor a point, and no call changes the content. Of a broken archive each read
+/// that isn't refused is `BadResourceUnavailable`. An empty page is `GoodNoData`.
 /// The node's id has less than 2^31 bytes.
 pub fn read_node<A: Archive>(
     alloc: Global,
@@ -286,6 +288,7 @@ pub fn read_node<A: Archive>(
     requires { IsShortNode node.now }
     ensures refused { IfErr (judged (A.state archive.old).id node.now query.now.details (option_copied continuation.entry)) (λ code. (result ≡ refused code) × (archive.new ≡ archive.old)) }
     ensures reads { (met : Option Met) × Reads (A.state archive.old) (A.state archive.new) (answer (A.state archive.old).content (A.state archive.old).id node.now query.now (option_copied continuation.entry)) result met }
+    ensures ended { (A.state archive.old).broken ≡ true → IfOk (judged (A.state archive.old).id node.now query.now.details (option_copied continuation.entry)) (λ _. result ≡ refused BadResourceUnavailable) }
 {
     let id = archive.id();
     let position = match judge(id, node, &query.details, continuation) {
