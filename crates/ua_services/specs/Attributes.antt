@@ -1,4 +1,4 @@
--- What a Read asks and answers (Part 4, 5.10.2).
+-- What a Read asks and answers (Part 4, 5.11.2).
 use Rattle.std.specs.Prelude.{◌<◌, ◌^◌, ℕ, ℤ, pos, List, [], ◌∷◌, length, map, All, Option, Some, None, if◌then◌else◌}
 use Rattle.std.specs.Option.{option_copied}
 use Rattle.std.specs.Ordering.{int_eq}

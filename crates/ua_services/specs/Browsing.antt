@@ -1,4 +1,4 @@
--- What a Browse asks and answers (Part 4, 5.8.2).
+-- What a Browse asks and answers (Part 4, 5.9.2).
 use Rattle.std.specs.Prelude.{◌<◌, ◌^◌, ℕ, ℤ, pos, List, length, map, All, Option, Some, None, Bool, if◌then◌else◌}
 use Rattle.std.specs.Ordering.{int_eq}
 use Rattle.std.specs.Int.{w32}

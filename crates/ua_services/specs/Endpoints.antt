@@ -1,4 +1,4 @@
--- Endpoints, and the request for them (Part 4, 5.4.4, 7.2, 7.14 and 7.42).
+-- Endpoints, and the request for them (Part 4, 5.5.4, 7.2, 7.14 and 7.42).
 use Rattle.std.specs.Prelude.{ℕ, ◌<◌, ◌^◌, ℤ, pos, List, [], length, map, All, Option, None}
 use Rattle.std.specs.Option.{option_copied}
 use Rattle.std.specs.Int.{w32}

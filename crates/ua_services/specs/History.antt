@@ -1,4 +1,4 @@
--- What a HistoryRead asks and answers (Part 4, 5.10.3; Part 11, 6.4 and 6.5).
+-- What a HistoryRead asks and answers (Part 4, 5.11.3; Part 11, 6.4 and 6.5).
 use Rattle.std.specs.Prelude.{◌<◌, ◌^◌, ℕ, ℤ, pos, List, [], length, map, All, Bool, false, Option, Some, None}
 use Rattle.std.specs.Option.{option_copied}
 use Rattle.std.specs.Int.{w32, w64}

@@ -1,4 +1,4 @@
--- Sessions: how one is made, activated and closed (Part 4, 5.6.2 to 5.6.4), and who a client says that it is (7.36).
+-- Sessions: how one is made, activated and closed (Part 4, 5.7.2 to 5.7.4), and who a client says that it is (7.41).
 use Rattle.std.specs.Prelude.{◌≡◌, ℕ, ◌<◌, ◌^◌, List, length, map, Option, None, Bool, if◌then◌else◌}
 use Rattle.std.specs.Option.{option_copied}
 use Rattle.std.specs.Int.{w32}

@@ -1,4 +1,4 @@
--- What a HistoryUpdate asks and answers (Part 4, 5.10.5; Part 11, 6.8).
+-- What a HistoryUpdate asks and answers (Part 4, 5.11.5; Part 11, 6.8).
 use Rattle.std.specs.Prelude.{◌<◌, ◌^◌, ℤ, pos, List, [], length, map, All, Bool, false}
 use Rattle.std.specs.Int.{w32}
 use Rattle.ua_binary.specs.declared.fault.BinaryFault.{BinaryFault}

@@ -1,4 +1,4 @@
-//! What a Read asks and answers (Part 4, 5.10.2).
+//! What a Read asks and answers (Part 4, 5.11.2).
 
 ghost use Rattle.std.specs.Prelude.{◌≡◌, length, map, IfOk};
 ghost use Rattle.ua_binary.specs.Format.{Puts, PutsPart, Reads, ReadsUnless, saturated};
@@ -46,7 +46,7 @@ pub struct ReadValueId<'a> {
     pub data_encoding: QualifiedRef<'a>,
 }
 
-/// What a Read asks (Part 4, 5.10.2).
+/// What a Read asks (Part 4, 5.11.2).
 #[derive(Debug, Drop)]
 pub struct ReadRequest<'a> {
     /// None where the number says none of the four.
@@ -90,7 +90,7 @@ impl<'a> Decode<'a> for ReadValueId<'a> {
     }
 }
 
-/// Reads a Read request (Part 4, 5.10.2) behind its header: a Double, the greatest age, which isn't
+/// Reads a Read request (Part 4, 5.11.2) behind its header: a Double, the greatest age, which isn't
 /// kept, the moments that are wanted, and an array of what is read. A fault is that of the leftmost
 /// field that has no spelling, or `OutOfMemory`, and leaves the cursor where it was.
 #[tactic(auto, unfolding(crate::specs::Attributes::read_request))]
@@ -155,7 +155,7 @@ fn put_read_parts(out: &mut Vec<u8>, values: &[DataValue]) -> Result<(), BinaryF
     Ok(())
 }
 
-/// Writes a Read response (Part 4, 5.10.2) behind its header: the array of the values, whose
+/// Writes a Read response (Part 4, 5.11.2) behind its header: the array of the values, whose
 /// picoseconds are at most 9,999, and a null one of diagnostics. Its one error is `OutOfMemory`, and
 /// then the vector is as it was. What was written has a spelling.
 pub fn put_read_response(out: &mut Vec<u8>, values: &[DataValue]) -> Result<(), BinaryFault>

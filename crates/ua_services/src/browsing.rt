@@ -1,4 +1,4 @@
-//! What a Browse asks and answers (Part 4, 5.8.2).
+//! What a Browse asks and answers (Part 4, 5.9.2).
 
 ghost use Rattle.std.specs.Prelude.{◌≡◌, map, IfOk};
 ghost use Rattle.ua_binary.specs.Format.{Puts, PutsPart, Reads, ReadsUnless};
@@ -70,7 +70,7 @@ impl NodeClass {
     }
 }
 
-/// What is browsed (Part 4, 5.8.2), in the bytes that it was read from.
+/// What is browsed (Part 4, 5.9.2), in the bytes that it was read from.
 #[derive(Clone, Copy, Debug, Drop)]
 pub struct BrowseDescription<'a> {
     pub node_id: NodeIdRef<'a>,
@@ -85,7 +85,7 @@ pub struct BrowseDescription<'a> {
     pub result_mask: u32,
 }
 
-/// What a Browse asks (Part 4, 5.8.2).
+/// What a Browse asks (Part 4, 5.9.2).
 #[derive(Debug, Drop)]
 pub struct BrowseRequest<'a> {
     pub nodes: Vec<BrowseDescription<'a>>,
@@ -163,7 +163,7 @@ impl<'a> Decode<'a> for BrowseDescription<'a> {
     }
 }
 
-/// Reads a Browse request (Part 4, 5.8.2) behind its header: a view, the most references, neither of
+/// Reads a Browse request (Part 4, 5.9.2) behind its header: a view, the most references, neither of
 /// which is kept, and an array of what is browsed. A fault is that of the leftmost field that has no
 /// spelling, or `OutOfMemory`, and leaves the cursor where it was.
 #[tactic(auto, unfolding(crate::specs::Browsing::browse_request))]
@@ -287,7 +287,7 @@ fn put_browse_parts(out: &mut Vec<u8>, results: &[BrowseResult]) -> Result<(), B
     Ok(())
 }
 
-/// Writes a Browse response (Part 4, 5.8.2) behind its header: the array of the results, and a null one
+/// Writes a Browse response (Part 4, 5.9.2) behind its header: the array of the results, and a null one
 /// of diagnostics. Its one error is `OutOfMemory`, and then the vector is as it was. What was written
 /// has a spelling.
 pub fn put_browse_response(out: &mut Vec<u8>, results: &[BrowseResult]) -> Result<(), BinaryFault>

@@ -1,4 +1,4 @@
-//! Endpoints, and the request for them (Part 4, 5.4.4, 7.2, 7.14 and 7.42).
+//! Endpoints, and the request for them (Part 4, 5.5.4, 7.2, 7.14 and 7.42).
 
 ghost use Rattle.std.specs.Prelude.{◌≡◌, ◌<◌, ◌^◌, length, map, IfOk};
 ghost use Rattle.ua_binary.specs.Format.{ReadsUnless, Puts, PutsPart, saturated};
@@ -293,7 +293,7 @@ impl Encode for EndpointDescription {
     }
 }
 
-/// What a GetEndpoints request asks (Part 4, 5.4.4), in the bytes that it was read from.
+/// What a GetEndpoints request asks (Part 4, 5.5.4), in the bytes that it was read from.
 #[derive(Debug, Drop)]
 pub struct GetEndpointsRequest<'a> {
     /// The URL that the client used.
@@ -302,7 +302,7 @@ pub struct GetEndpointsRequest<'a> {
     pub profile_uris: Vec<Option<&'a str>>,
 }
 
-/// Reads a GetEndpoints request (Part 4, 5.4.4) behind its header: a String and two arrays of Strings,
+/// Reads a GetEndpoints request (Part 4, 5.5.4) behind its header: a String and two arrays of Strings,
 /// of which the first, the locales, isn't kept. A fault is that of the leftmost field that has no
 /// spelling, or `OutOfMemory`, and leaves the cursor where it was.
 #[tactic(auto, unfolding(crate::specs::Endpoints::get_endpoints_request))]
@@ -323,7 +323,7 @@ pub fn read_get_endpoints_request<'a>(
     })
 }
 
-/// Writes a GetEndpoints response (Part 4, 5.4.4) behind its header: the array of the endpoints. Its one
+/// Writes a GetEndpoints response (Part 4, 5.5.4) behind its header: the array of the endpoints. Its one
 /// error is `OutOfMemory`, and then the vector is as it was. What was written has a spelling.
 #[tactic(auto, unfolding(crate::specs::Endpoints::get_endpoints_response))]
 pub fn put_get_endpoints_response(

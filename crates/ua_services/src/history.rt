@@ -1,4 +1,4 @@
-//! What a HistoryRead asks and answers (Part 4, 5.10.3; Part 11, 6.4 and 6.5).
+//! What a HistoryRead asks and answers (Part 4, 5.11.3; Part 11, 6.4 and 6.5).
 
 ghost use Rattle.std.specs.Prelude.{◌≡◌, ◌<◌, ◌^◌, ◌++◌, ◌∷◌, [], pos, length, map, IfOk};
 ghost use Rattle.std.specs.Option.{option_copied};
@@ -40,7 +40,7 @@ pub enum HistoryReadDetails {
     Other,
 }
 
-/// What is read of history (Part 4, 5.10.3), in the bytes that it was read from.
+/// What is read of history (Part 4, 5.11.3), in the bytes that it was read from.
 #[derive(Clone, Copy, Debug, Drop)]
 pub struct HistoryReadValueId<'a> {
     pub node_id: NodeIdRef<'a>,
@@ -52,7 +52,7 @@ pub struct HistoryReadValueId<'a> {
     pub continuation_point: Option<&'a [u8]>,
 }
 
-/// What a HistoryRead asks (Part 4, 5.10.3).
+/// What a HistoryRead asks (Part 4, 5.11.3).
 #[derive(Debug, Drop)]
 pub struct HistoryReadRequest<'a> {
     pub details: HistoryReadDetails,
@@ -106,7 +106,7 @@ pub enum HistoryData {
     Modified(Listing<DataValue>, Listing<ModificationInfo>),
 }
 
-/// What the read of one node is answered (Part 4, 5.10.3).
+/// What the read of one node is answered (Part 4, 5.11.3).
 #[derive(Debug, Drop, PartialEq, Eq)]
 pub struct HistoryReadResult {
     pub status: Status,
@@ -203,7 +203,7 @@ impl<'a> Decode<'a> for HistoryReadValueId<'a> {
     }
 }
 
-/// Reads a HistoryRead request (Part 4, 5.10.3) behind its header: an extension object, of which
+/// Reads a HistoryRead request (Part 4, 5.11.3) behind its header: an extension object, of which
 /// ReadRawModifiedDetails are looked into and fill the body, the moments that are wanted, a Boolean and
 /// an array of what is read. A fault is that of the leftmost field that has no spelling, or
 /// `OutOfMemory`, and leaves the cursor where it was.
@@ -437,7 +437,7 @@ fn put_history_read_parts(
     Ok(())
 }
 
-/// Writes a HistoryRead response (Part 4, 5.10.3) behind its header: the array of the results, whose
+/// Writes a HistoryRead response (Part 4, 5.11.3) behind its header: the array of the results, whose
 /// bodies can be counted and whose picoseconds are at most 9,999, and a null one of diagnostics. Its
 /// one error is `OutOfMemory`, and then the vector is as it was. What was written has a spelling.
 pub fn put_history_read_response(

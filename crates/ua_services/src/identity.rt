@@ -1,4 +1,4 @@
-//! Who a client says that it is (Part 4, 7.36).
+//! Who a client says that it is (Part 4, 7.41).
 
 ghost use Rattle.ua_binary.specs.Format.{Reads};
 ghost use Rattle.ua_binary.specs.Binary.{node_of};
@@ -7,7 +7,7 @@ ghost use Rattle.ua_services.specs.Sessions.{identity_of, anonymous_form, user_n
 use crate::structure::{is_type, read_binary_body};
 use ua_binary::{BinaryFault, BodyRef, Cursor, NodeIdRef};
 
-/// A client's identity token (Part 4, 7.36), in the bytes that it was read from.
+/// A client's identity token (Part 4, 7.41), in the bytes that it was read from.
 #[derive(Clone, Copy, Debug, Drop)]
 pub enum IdentityToken<'a> {
     /// An AnonymousIdentityToken, or the null extension object: type i=0 without a body.
@@ -73,7 +73,7 @@ fn read_unknown<'a>(
     }
 }
 
-/// An identity in an extension object (Part 4, 7.36): the id of its type, and a body that a token of a
+/// An identity in an extension object (Part 4, 7.41): the id of its type, and a body that a token of a
 /// known type fills. A body of another kind than bytes, and bytes behind the token, are
 /// `BadEncodingByte` there.
 #[tactic(auto, unfolding(crate::specs::Sessions::user_identity))]

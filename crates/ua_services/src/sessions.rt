@@ -1,4 +1,4 @@
-//! How sessions are made, activated and closed (Part 4, 5.6.2 to 5.6.4).
+//! How sessions are made, activated and closed (Part 4, 5.7.2 to 5.7.4).
 
 ghost use Rattle.std.specs.Prelude.{◌≡◌, IfOk};
 ghost use Rattle.ua_binary.specs.Format.{Reads, Puts, PutsPart};
@@ -10,7 +10,7 @@ use crate::many::{put_many, put_null_array};
 use crate::skipping::{skip_application, skip_certificates, skip_signature, skip_texts};
 use ua_binary::{BinaryFault, Cursor, Encode, NodeId, or_undone, put_bytes, put_node_id, put_text};
 
-/// What a CreateSession request asks (Part 4, 5.6.2), in the bytes that it was read from. The client's
+/// What a CreateSession request asks (Part 4, 5.7.2), in the bytes that it was read from. The client's
 /// description, nonce and certificate aren't kept, since no policy with signatures is served.
 #[derive(Clone, Copy, Debug, Drop)]
 pub struct CreateSessionRequest<'a> {
@@ -22,7 +22,7 @@ pub struct CreateSessionRequest<'a> {
     pub timeout: [u8; 8],
 }
 
-/// What a CreateSession response says (Part 4, 5.6.2).
+/// What a CreateSession response says (Part 4, 5.7.2).
 #[derive(Debug, Drop)]
 pub struct CreateSessionResponse<'a> {
     pub session_id: NodeId,
@@ -35,20 +35,20 @@ pub struct CreateSessionResponse<'a> {
     pub max_request_size: u32,
 }
 
-/// What an ActivateSession request asks (Part 4, 5.6.3), in the bytes that it was read from.
+/// What an ActivateSession request asks (Part 4, 5.7.3), in the bytes that it was read from.
 #[derive(Clone, Copy, Debug, Drop)]
 pub struct ActivateSessionRequest<'a> {
     pub user_identity: IdentityToken<'a>,
 }
 
-/// What a CloseSession request asks (Part 4, 5.6.4).
+/// What a CloseSession request asks (Part 4, 5.7.4).
 #[derive(Clone, Copy, Debug, PartialEq, Eq)]
 pub struct CloseSessionRequest {
     /// Whether the session's subscriptions end with it.
     pub delete_subscriptions: bool,
 }
 
-/// Reads a CreateSession request (Part 4, 5.6.2) behind its header: an ApplicationDescription, three
+/// Reads a CreateSession request (Part 4, 5.7.2) behind its header: an ApplicationDescription, three
 /// Strings, two ByteStrings, a Double and a UInt32. A fault is that of the leftmost field that has no
 /// spelling, and leaves the cursor where it was. It takes no memory.
 #[tactic(auto, unfolding(crate::specs::Sessions::create_session_request))]
@@ -96,7 +96,7 @@ fn put_create_session_parts(
     Ok(())
 }
 
-/// Writes a CreateSession response (Part 4, 5.6.2) behind its header: two NodeIds, a Double, a null
+/// Writes a CreateSession response (Part 4, 5.7.2) behind its header: two NodeIds, a Double, a null
 /// nonce and certificate, the endpoints, null software certificates and a null signature, and a UInt32.
 /// Its one error is `OutOfMemory`, and then the vector is as it was. What was written has a spelling.
 pub fn put_create_session_response(
@@ -112,7 +112,7 @@ pub fn put_create_session_response(
     or_undone(put, out, len)
 }
 
-/// Reads an ActivateSession request (Part 4, 5.6.3) behind its header: a signature, software
+/// Reads an ActivateSession request (Part 4, 5.7.3) behind its header: a signature, software
 /// certificates, locales, the identity and its signature, of which the identity is kept. A fault is
 /// that of the leftmost field that has no spelling, and leaves the cursor where it was. It takes no
 /// memory.
@@ -142,7 +142,7 @@ fn put_activate_session_parts(out: &mut Vec<u8>) -> Result<(), BinaryFault>
     Ok(())
 }
 
-/// Writes an ActivateSession response (Part 4, 5.6.3) behind its header: a null nonce, and null arrays
+/// Writes an ActivateSession response (Part 4, 5.7.3) behind its header: a null nonce, and null arrays
 /// of results and of diagnostics. Its one error is `OutOfMemory`, and then the vector is as it was.
 pub fn put_activate_session_response(out: &mut Vec<u8>) -> Result<(), BinaryFault>
     ensures { Puts BinaryFault.OutOfMemory result out.old.items out.new.items (activate_session_response.canon tt) }
@@ -152,7 +152,7 @@ pub fn put_activate_session_response(out: &mut Vec<u8>) -> Result<(), BinaryFaul
     or_undone(put, out, len)
 }
 
-/// Reads a CloseSession request (Part 4, 5.6.4) behind its header: a Boolean. Its one fault is `Short`,
+/// Reads a CloseSession request (Part 4, 5.7.4) behind its header: a Boolean. Its one fault is `Short`,
 /// which leaves the cursor where it was. It takes no memory.
 #[tactic(auto, unfolding(crate::specs::Sessions::close_session_request))]
 pub fn read_close_session_request(

@@ -33,7 +33,7 @@ fn skip_certificate(cursor: &mut Cursor<'_>) -> Result<(), BinaryFault>
     Ok(())
 }
 
-/// An array of software certificates (Part 4, 7.37).
+/// An array of software certificates (Part 4, 7.38).
 #[tactic(auto, using(crate::proofs::Skipped::skipped), unfolding(ua_binary::specs::Binary::array))]
 pub(crate) fn skip_certificates(cursor: &mut Cursor<'_>) -> Result<(), BinaryFault>
     ensures { Reads (λ x. x) result cursor.old cursor.new (unkept_array signed_software_certificate).read }
@@ -47,7 +47,7 @@ pub(crate) fn skip_certificates(cursor: &mut Cursor<'_>) -> Result<(), BinaryFau
     Ok(())
 }
 
-/// A signature (Part 4, 7.36): the algorithm and the bytes.
+/// A signature (Part 4, 7.37): the algorithm and the bytes.
 pub(crate) fn skip_signature(cursor: &mut Cursor<'_>) -> Result<(), BinaryFault>
     ensures { Reads (λ x. x) result cursor.old cursor.new (unkept no_signature signature_data).read }
 {

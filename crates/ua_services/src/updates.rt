@@ -1,4 +1,4 @@
-//! What a HistoryUpdate asks and answers (Part 4, 5.10.5; Part 11, 6.8).
+//! What a HistoryUpdate asks and answers (Part 4, 5.11.5; Part 11, 6.8).
 
 ghost use Rattle.std.specs.Prelude.{◌≡◌, map, IfOk};
 ghost use Rattle.ua_binary.specs.Format.{Puts, PutsPart, Reads, ReadsUnless};
@@ -50,13 +50,13 @@ pub enum HistoryUpdateDetails<'a> {
     Other,
 }
 
-/// What a HistoryUpdate asks (Part 4, 5.10.5).
+/// What a HistoryUpdate asks (Part 4, 5.11.5).
 #[derive(Debug, Drop)]
 pub struct HistoryUpdateRequest<'a> {
     pub details: Vec<HistoryUpdateDetails<'a>>,
 }
 
-/// What one of the details of a HistoryUpdate is answered (Part 4, 5.10.5). Its diagnostics are written
+/// What one of the details of a HistoryUpdate is answered (Part 4, 5.11.5). Its diagnostics are written
 /// as a null array.
 #[derive(Debug, Drop, PartialEq, Eq)]
 pub struct HistoryUpdateResult {
@@ -171,7 +171,7 @@ impl<'a> Decode<'a> for HistoryUpdateDetails<'a> {
     }
 }
 
-/// Reads a HistoryUpdate request (Part 4, 5.10.5) behind its header: an array of extension objects, of
+/// Reads a HistoryUpdate request (Part 4, 5.11.5) behind its header: an array of extension objects, of
 /// which UpdateDataDetails, DeleteRawModifiedDetails and DeleteAtTimeDetails are looked into, and fill
 /// their bodies. A fault is that of the leftmost field that has no spelling, or `OutOfMemory`, and
 /// leaves the cursor where it was.
@@ -236,7 +236,7 @@ fn put_history_update_parts(
     Ok(())
 }
 
-/// Writes a HistoryUpdate response (Part 4, 5.10.5) behind its header: the array of the results, and a
+/// Writes a HistoryUpdate response (Part 4, 5.11.5) behind its header: the array of the results, and a
 /// null one of diagnostics. Its one error is `OutOfMemory`, and then the vector is as it was. What was
 /// written has a spelling.
 pub fn put_history_update_response(
