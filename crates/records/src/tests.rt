@@ -282,12 +282,13 @@ fn is_copied(record: &Record) -> Result<bool, AllocError> {
     Ok(copy == *record)
 }
 
-/// Whether a record is written as these bytes, lawful and copied.
+/// Whether a record is written as these bytes, counted, lawful and copied.
 fn is_kept(alloc: Global, record: &Record, bytes: &[u8]) -> Result<bool, AllocError>
     requires { IsRecord record.now }
 {
     let copied = is_copied(record)?;
-    Ok(copied && record.is_lawful() && is_written(alloc, record, bytes))
+    let counted = record.encoded_size() == bytes.len();
+    Ok(copied && counted && record.is_lawful() && is_written(alloc, record, bytes))
 }
 
 /// Whether the bytes are read as a record that is written as these bytes, and copied.
