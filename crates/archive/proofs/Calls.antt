@@ -1,94 +1,14 @@
 -- Calls of an archive, one after the other.
-use Rattle.std.proofs.Common.{◌≡◌, ℕ, Bool, true, false, ◌||◌, List, [], ◌∷◌, ◌++◌, Option, Some, None, IfSome, Result, Ok, Err, IfOk, refl, sym, ap, ◌∙◌}
+use Rattle.std.proofs.Common.{◌≡◌, ℕ, Bool, true, false, ◌||◌, List, [], ◌∷◌, ◌++◌, Option, Some, None, Result, Ok, Err, IfOk, refl, sym, ap, ◌∙◌}
 use Rattle.std.proofs.lemmas.Option.{none-some}
 use Rattle.std.proofs.Math.Bool.{or-false}
 use Rattle.std.specs.List.{list_any, AllByRecursion}
 use Rattle.archive.specs.declared.fault.StoreFault.{StoreFault}
 use Rattle.archive.specs.declared.fault.StoreFault.TheVariants.{OutOfMemory, Refused, WrongReplica, WrongArchive, Broken}
-use Rattle.archive.specs.Store.{Store, Leaves, Asks, fault_in, is_broken, failures, raised, IsOfOpening, is_break, failed_by, faults_by, Passes}
-
--- ---- a call without a fault, and the next one
-
--- what the next one leaves, both leave
-pub leaves-then : (a b c : Store) (fault : Option StoreFault) → Leaves a b None → Leaves b c fault → Leaves a c fault
-leaves-then a b c fault p q = record {
-  before = p.before;
-  after = q.after;
-  own = q.own ∙ p.own;
-  id = q.id ∙ p.id;
-  honest = λ h. p.honest (q.honest h);
-  failed = q.failed ∙ ap (λ n. failures n fault) p.failed;
-  broken = q.broken;
-  ended = λ e. absurd (none-some _ (p.ended e));
-  met = met fault q.met;
-  meets = λ f m. p.meets f (q.meets f m);
-  some = q.some;
-}
-  where
-    met : (o : Option StoreFault) → IfSome o (λ f. b.meets f × (IsOfOpening f → ⊥)) → IfSome o (λ f. a.meets f × (IsOfOpening f → ⊥))
-    met None m = tt
-    met (Some f) m = (p.meets f m.0, m.1)
-
--- what both were answered, over the content before them
-pub asks-then : {A B : Type 0} (a b c : Store) (x : A) (r : Result B StoreFault) (P : A → Type 0) (Q S : B → Type 0)
-    → Asks a b (Ok x) P → Asks b c r Q → (c.honest → b.content ≡ a.content → P x → IfOk r Q → IfOk r S) → Asks a c r S
-asks-then a b c x r P Q S p q go = record {
-  answer = λ h. go h (p.kept (q.leaves.honest h) p.leaves.broken) (p.answer (q.leaves.honest h)) (q.answer h);
-  kept = λ h u. q.kept h u ∙ p.kept (q.leaves.honest h) p.leaves.broken;
-  crash = λ h left m. p.crash (q.leaves.honest h) left (q.crash h left m);
-  leaves = leaves-then a b c (fault_in r) p.leaves q.leaves;
-}
-
--- a fault is the same, whatever was asked for
-pub asks-failed : {A B : Type 0} (a b : Store) (fault : StoreFault) (P : A → Type 0) (Q : B → Type 0) → Asks {A = A} a b (Err fault) P → Asks {A = B} a b (Err fault) Q
-asks-failed a b fault P Q p = record { answer = λ h. tt; kept = p.kept; crash = p.crash; leaves = p.leaves }
-
--- the second of two gave a fault
-pub asks-second : {A B C : Type 0} (a b c : Store) (x : A) (fault : StoreFault) (P : A → Type 0) (Q : B → Type 0) (S : C → Type 0)
-    → Asks a b (Ok x) P → Asks {A = B} b c (Err fault) Q → Asks {A = C} a c (Err fault) S
-asks-second a b c x fault P Q S p q = asks-then a b c x (Err fault) P S S p (asks-failed b c fault Q S q) (λ h k px e. e)
-
--- an answered call was one of a store in use
-pub in_use : (a b : Store) → Leaves a b None → a.broken ≡ false
-in_use a b p = go a.broken refl
-  where
-    go : (x : Bool) → a.broken ≡ x → a.broken ≡ false
-    go true e = absurd (none-some _ (p.ended e))
-    go false e = e
+use Rattle.archive.specs.Store.{Store, Leaves, Asks, fault_in, raised, IsOfOpening, is_break, failed_by, faults_by, Passes}
+use Rattle.archive.specs.Listed.{is_broken}
 
 -- ---- any calls in a row
-
-break_of : (o : Option StoreFault) → is_broken o ≡ list_any is_break (faults_by o)
-break_of None = refl
-break_of (Some OutOfMemory) = refl
-break_of (Some Refused) = refl
-break_of (Some WrongReplica) = refl
-break_of (Some WrongArchive) = refl
-break_of (Some Broken) = refl
-
-pub passes-leaves : (a b : Store) (fault : Option StoreFault) → Leaves a b fault → Passes a b (faults_by fault)
-passes-leaves a b fault p = record {
-  rests = λ r. p.after;
-  own = p.own;
-  id = p.id;
-  honest = p.honest;
-  failed = failed fault p.failed;
-  broken = broken a.broken refl;
-  met = met fault p.met;
-  meets = p.meets;
-}
-  where
-    failed : (o : Option StoreFault) → b.failed ≡ failures a.failed o → b.failed ≡ failed_by (faults_by o) a.failed
-    failed None e = e
-    failed (Some f) e = e
-
-    broken : (x : Bool) → a.broken ≡ x → b.broken ≡ (a.broken || list_any is_break (faults_by fault))
-    broken true e = p.broken ∙ (ap is_broken (p.ended e) ∙ sym (ap (λ y. y || list_any is_break (faults_by fault)) e))
-    broken false e = p.broken ∙ (break_of fault ∙ sym (ap (λ y. y || list_any is_break (faults_by fault)) e))
-
-    met : (o : Option StoreFault) → IfSome o (λ f. a.meets f × (IsOfOpening f → ⊥)) → AllByRecursion (λ f. a.meets f × (IsOfOpening f → ⊥)) (faults_by o)
-    met None m = tt
-    met (Some f) m = (m, tt)
 
 -- no call
 pub passes-none : (a : Store) → Passes a a []
@@ -121,3 +41,66 @@ passes-then a b c faults more p q = record {
   met = met-append a b p.meets faults more p.met q.met;
   meets = λ f m. p.meets f (q.meets f m);
 }
+
+pub passes-leaves : (a b : Store) (fault : Option StoreFault) → Leaves a b fault → Passes a b (faults_by fault)
+passes-leaves a b fault p = p.passes
+
+-- ---- a call without a fault, and the next one
+
+-- what the next one leaves, both leave
+pub leaves-then : (a b c : Store) (fault : Option StoreFault) → Leaves a b None → Leaves b c fault → Leaves a c fault
+leaves-then a b c fault p q = record {
+  before = p.before;
+  after = q.after;
+  passes = passes-then a b c [] (faults_by fault) p.passes q.passes;
+  ended = λ e. absurd (none-some _ (p.ended e));
+  some = q.some;
+}
+
+break_of : (o : Option StoreFault) → list_any is_break (faults_by o) ≡ is_broken o
+break_of None = refl
+break_of (Some OutOfMemory) = refl
+break_of (Some Refused) = refl
+break_of (Some WrongReplica) = refl
+break_of (Some WrongArchive) = refl
+break_of (Some Broken) = refl
+
+-- the store is broken behind a call where its fault says so
+pub broken-by : (a b : Store) (fault : Option StoreFault) → Leaves a b fault → b.broken ≡ is_broken fault
+broken-by a b fault p = go a.broken refl
+  where
+    go : (x : Bool) → a.broken ≡ x → b.broken ≡ is_broken fault
+    go true e = p.passes.broken ∙ (ap (λ y. y || list_any is_break (faults_by fault)) e ∙ sym (ap is_broken (p.ended e)))
+    go false e = p.passes.broken ∙ (ap (λ y. y || list_any is_break (faults_by fault)) e ∙ break_of fault)
+
+-- an answered call was one of a store in use, and leaves it so
+pub in_use : (a b : Store) → Leaves a b None → a.broken ≡ false
+in_use a b p = go a.broken refl
+  where
+    go : (x : Bool) → a.broken ≡ x → a.broken ≡ false
+    go true e = absurd (none-some _ (p.ended e))
+    go false e = e
+
+pub left_in_use : (a b : Store) → Leaves a b None → b.broken ≡ false
+left_in_use a b p = broken-by a b None p
+
+-- what both were answered, over the content before them
+pub asks-then : {A B : Type 0} (a b c : Store) (x : A) (r : Result B StoreFault) (P : A → Type 0) (Q S : B → Type 0)
+    → Asks a b (Ok x) P → Asks b c r Q → (c.honest → b.content ≡ a.content → P x → IfOk r Q → IfOk r S) → Asks a c r S
+asks-then a b c x r P Q S p q go =
+    let before : c.honest → b.honest = q.leaves.passes.honest in
+    let same : c.honest → b.content ≡ a.content = λ h. p.stays.content (before h) (left_in_use a b p.leaves) in
+    record {
+      answer = λ h. go h (same h) (p.answer (before h)) (q.answer h);
+      stays = record { content = λ h u. q.stays.content h u ∙ same h; crash = λ h left m. p.stays.crash (before h) left (q.stays.crash h left m) };
+      leaves = leaves-then a b c (fault_in r) p.leaves q.leaves;
+    }
+
+-- a fault is the same, whatever was asked for
+pub asks-failed : {A B : Type 0} (a b : Store) (fault : StoreFault) (P : A → Type 0) (Q : B → Type 0) → Asks {A = A} a b (Err fault) P → Asks {A = B} a b (Err fault) Q
+asks-failed a b fault P Q p = record { answer = λ h. tt; stays = p.stays; leaves = p.leaves }
+
+-- the second of two gave a fault
+pub asks-second : {A B C : Type 0} (a b c : Store) (x : A) (fault : StoreFault) (P : A → Type 0) (Q : B → Type 0) (S : C → Type 0)
+    → Asks a b (Ok x) P → Asks {A = B} b c (Err fault) Q → Asks {A = C} a c (Err fault) S
+asks-second a b c x fault P Q S p q = asks-then a b c x (Err fault) P S S p (asks-failed b c fault Q S q) (λ h k px e. e)

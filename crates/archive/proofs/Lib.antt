@@ -9,3 +9,6 @@ pub mod Timing
 pub mod Ranges
 pub mod Logs
 pub mod Resuming
+pub mod Cutting
+pub mod Vectors
+pub mod Acting

@@ -1,5 +1,6 @@
 -- An archive in memory meets the contract.
-use Rattle.std.proofs.Common.{◌≡◌, ◌≢◌, Bool, true, false, Option, Some, None, IfSome, unwrap_or, Result, Ok, Err, IfOk, IfErr, refl, sym, ap, ◌∙◌, subst, inl, inr}
+use Rattle.std.proofs.Common.{◌≡◌, ◌≢◌, Bool, true, false, [], ◌∷◌, Option, Some, None, IfSome, unwrap_or, Result, Ok, Err, IfOk, IfErr, refl, sym, ap, ◌∙◌, subst, inl, inr}
+use Rattle.std.specs.List.{list_any, AllByRecursion}
 use Rattle.std.proofs.lemmas.Bool.{true≢false}
 use Rattle.std.proofs.lemmas.Option.{none-some}
 use Rattle.records.specs.Spelling.{IsLawfulRecord}
@@ -11,14 +12,14 @@ use Rattle.archive.specs.declared.fault.StoreFault.{StoreFault}
 use Rattle.archive.specs.declared.fault.StoreFault.TheVariants.{OutOfMemory}
 use Rattle.archive.specs.declared.fault.LearnFault.{LearnFault}
 use Rattle.archive.specs.declared.fault.LearnFault.TheVariants as refused
-use Rattle.archive.specs.Store.{Rests, IsLawfulContent, is_broken, raised, failures, IsOfOpening, Leaves, fault_in, Asks, store_fault_in, answer_to, Learns}
-use Rattle.archive.specs.Listed.{Listed, store_of}
+use Rattle.archive.specs.Store.{Rests, IsLawfulContent, raised, IsOfOpening, is_break, failed_by, faults_by, Leaves, fault_in, Asks, store_fault_in, answer_to, Learns}
+use Rattle.archive.specs.Listed.{Listed, store_of, failures}
 
 not_opening : IsOfOpening OutOfMemory → ⊥
 not_opening (inl e) = absurd (cc)
 not_opening (inr e) = absurd (cc)
 
-rests : (a : Listed) → IsLawfulContent a.records → Rests (store_of a)
+pub rests : (a : Listed) → IsLawfulContent a.records → Rests (store_of a)
 rests a lawful honest used = record { lawful = lawful; stays = refl; only = λ left e. e }
 
 leaves : (a b : Listed) (fault : Option StoreFault) → IsLawfulContent a.records → IsLawfulContent b.records → b.number ≡ a.number → b.id ≡ a.id
@@ -26,24 +27,22 @@ leaves : (a b : Listed) (fault : Option StoreFault) → IsLawfulContent a.record
 leaves a b fault was is own id memory count = record {
   before = rests a was;
   after = rests b is;
-  own = own;
-  id = id;
-  honest = λ h. h;
-  failed = count;
-  broken = unbroken fault memory;
+  passes = record { rests = λ _. rests b is; own = own; id = id; honest = λ h. h; failed = counted fault count; broken = unbroken fault memory; met = met fault memory; meets = λ f e. e };
   ended = λ e. absurd (true≢false (sym e));
-  met = met fault memory;
-  meets = λ f e. e;
   some = λ h none. none b.records refl;
 }
   where
-    unbroken : (o : Option StoreFault) → IfSome o (λ f. f ≡ OutOfMemory) → false ≡ is_broken o
-    unbroken None m = refl
-    unbroken (Some f) m = ap (λ g. is_broken (Some g)) (sym m)
+    counted : (o : Option StoreFault) → b.faults ≡ failures a.faults o → b.faults ≡ failed_by (faults_by o) a.faults
+    counted None e = e
+    counted (Some f) e = e
 
-    met : (o : Option StoreFault) → IfSome o (λ f. f ≡ OutOfMemory) → IfSome o (λ f. (f ≡ OutOfMemory) × (IsOfOpening f → ⊥))
+    unbroken : (o : Option StoreFault) → IfSome o (λ f. f ≡ OutOfMemory) → false ≡ list_any is_break (faults_by o)
+    unbroken None m = refl
+    unbroken (Some f) m = ap (λ g. list_any is_break (g ∷ [])) (sym m)
+
+    met : (o : Option StoreFault) → IfSome o (λ f. f ≡ OutOfMemory) → AllByRecursion (λ f. (f ≡ OutOfMemory) × (IsOfOpening f → ⊥)) (faults_by o)
     met None m = tt
-    met (Some f) m = (m, subst (λ g. IsOfOpening g → ⊥) (sym m) not_opening)
+    met (Some f) m = ((m, subst (λ g. IsOfOpening g → ⊥) (sym m) not_opening), tt)
 
 pub lawful_put : (R : Content) (r : Record) → IsLawfulContent R → IsLawfulRecord r → finding R r ≡ Adds → IsLawfulContent (put r R)
 lawful_put R r lawful spelled adds = record {
@@ -53,8 +52,8 @@ lawful_put R r lawful spelled adds = record {
 
 asked_by : {A : Type 0} (a : Listed) (answer : Result A StoreFault) → IsLawfulContent a.records → IfErr answer (λ e. e ≡ OutOfMemory)
     → (IsAnswer : A → Type 0) → IfOk answer IsAnswer → Asks (store_of a) (store_of (record a { faults = failures a.faults (fault_in answer) })) answer IsAnswer
-asked_by a (Ok v) lawful memory P h = record { answer = λ _. h; kept = λ _ _. refl; crash = λ _ left e. e; leaves = leaves a a None lawful lawful refl refl tt refl }
-asked_by a (Err f) lawful memory P h = record { answer = λ _. h; kept = λ _ _. refl; crash = λ _ left e. e; leaves = leaves a (record a { faults = failures a.faults (Some f) }) (Some f) lawful lawful refl refl memory refl }
+asked_by a (Ok v) lawful memory P h = record { answer = λ _. h; stays = record { content = λ _ _. refl; crash = λ _ left e. e }; leaves = leaves a a None lawful lawful refl refl tt refl }
+asked_by a (Err f) lawful memory P h = record { answer = λ _. h; stays = record { content = λ _ _. refl; crash = λ _ left e. e }; leaves = leaves a (record a { faults = failures a.faults (Some f) }) (Some f) lawful lawful refl refl memory refl }
 
 -- a query was answered, and a fault was counted
 pub asked : {A : Type 0} (a b : Listed) (answer result : Result A StoreFault) → IsLawfulContent a.records → IfErr answer (λ e. e ≡ OutOfMemory)

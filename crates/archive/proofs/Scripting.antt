@@ -1,22 +1,30 @@
 -- An archive that fails where it is told to meets the contract.
-use Rattle.std.proofs.Common.{◌≡◌, Bool, true, false, Option, Some, None, IfSome, unwrap_or, Result, Ok, Err, IfErr, refl, sym, ap, ◌∙◌, subst, inl, inr}
+use Rattle.std.proofs.Common.{◌≡◌, ℕ, Bool, true, false, ◌||◌, [], ◌∷◌, Option, Some, None, IfSome, unwrap_or, Result, Ok, Err, IfErr, refl, sym, ap, ◌∙◌, subst, inl, inr}
+use Rattle.std.proofs.Math.Bool.{or-false}
+use Rattle.std.specs.List.{list_any, AllByRecursion}
+use Rattle.std.proofs.lemmas.Option.{none-some}
 use Rattle.std.proofs.lemmas.Bool.{true≢false}
 use Rattle.records.specs.declared.record.Record.{Record}
 use Rattle.records.specs.Contents.{Finding, Adds, Holds, Clash, Gap, TickTooFar, TickNotRising, finding, after_finding}
 use Rattle.archive.specs.declared.fault.StoreFault.{StoreFault}
 use Rattle.archive.specs.declared.fault.StoreFault.TheVariants.{OutOfMemory, Broken}
 use Rattle.archive.specs.declared.fault.LearnFault.{LearnFault}
-use Rattle.archive.specs.Store.{Rests, IsLawfulContent, is_broken, failures, IsOfOpening, Leaves, fault_in, Asks, store_fault_in, Learns}
-use Rattle.archive.specs.Listed.{Listed, store_of}
-use Rattle.archive.specs.Scripted.{Scripted, scripted_store, IsScripted, IsOldOrWith}
+use Rattle.archive.specs.Store.{Rests, IsLawfulContent, IsOfOpening, is_break, failed_by, faults_by, Leaves, fault_in, Asks, store_fault_in, Learns}
+use Rattle.archive.specs.Listed.{Listed, store_of, failures, is_broken}
+use Rattle.archive.specs.Scripted.{Scripted, scripted_store, IsScripted, IsOldOrWith, Follows}
 use Rattle.archive.proofs.Results.{err-ok}
 
 not_opening : (f : StoreFault) → IsScripted f → IsOfOpening f → ⊥
 not_opening f s (inl e) = elim s [ inl p ↦ cc | inr q ↦ elim q [ inl p ↦ cc | inr p ↦ cc ] ]
 not_opening f s (inr e) = elim s [ inl p ↦ cc | inr q ↦ elim q [ inl p ↦ cc | inr p ↦ cc ] ]
 
-rests : (a : Scripted) → IsLawfulContent a.inner.records → Rests (scripted_store a)
+pub rests : (a : Scripted) → IsLawfulContent a.inner.records → Rests (scripted_store a)
 rests a lawful honest used = record { lawful = lawful; stays = refl; only = λ left e. e }
+
+-- a broken store answers Broken
+breaks : (f : StoreFault) (x : Bool) → (x ≡ true → f ≡ Broken) → (x || list_any is_break (f ∷ [])) ≡ is_broken (Some f)
+breaks f true ended = sym (ap (λ g. is_broken (Some g)) (ended refl))
+breaks f false ended = or-false (is_break f)
 
 -- the script's own fault
 leaves_fault : (a b : Scripted) (f : StoreFault) → IsLawfulContent a.inner.records → IsLawfulContent b.inner.records → b.inner.number ≡ a.inner.number → b.inner.id ≡ a.inner.id
@@ -24,14 +32,8 @@ leaves_fault : (a b : Scripted) (f : StoreFault) → IsLawfulContent a.inner.rec
 leaves_fault a b f was is own id broken count ended scripted = record {
   before = rests a was;
   after = rests b is;
-  own = own;
-  id = id;
-  honest = λ h. h;
-  failed = count;
-  broken = broken;
+  passes = record { rests = λ _. rests b is; own = own; id = id; honest = λ h. h; failed = count; broken = broken ∙ sym (breaks f a.broken ended); met = ((scripted, not_opening f scripted), tt); meets = λ g e. e };
   ended = λ e. ap (λ g. Some g) (ended e);
-  met = (scripted, not_opening f scripted);
-  meets = λ g e. e;
   some = λ h none. none b.inner.records refl;
 }
 
@@ -41,20 +43,27 @@ leaves_inner : (a b : Scripted) (fault : Option StoreFault) → a.broken ≡ fal
 leaves_inner a b fault used still count l = record {
   before = rests a (l.before tt refl).lawful;
   after = rests b (l.after tt refl).lawful;
-  own = l.own;
-  id = l.id;
-  honest = λ h. h;
-  failed = count;
-  broken = still ∙ l.broken;
+  passes = record {
+    rests = λ _. rests b (l.after tt refl).lawful;
+    own = l.passes.own;
+    id = l.passes.id;
+    honest = λ h. h;
+    failed = counted fault count;
+    broken = still ∙ (l.passes.broken ∙ sym (ap (λ x. x || list_any is_break (faults_by fault)) used));
+    met = met fault l.passes.met;
+    meets = λ g e. e;
+  };
   ended = λ e. absurd (true≢false (sym e ∙ used));
-  met = met fault l.met;
-  meets = λ g e. e;
   some = λ h none. none b.inner.records refl;
 }
   where
-    met : (o : Option StoreFault) → IfSome o (λ f. (f ≡ OutOfMemory) × (IsOfOpening f → ⊥)) → IfSome o (λ f. IsScripted f × (IsOfOpening f → ⊥))
+    counted : (o : Option StoreFault) → b.faults ≡ failures a.faults o → b.faults ≡ failed_by (faults_by o) a.faults
+    counted None e = e
+    counted (Some f) e = e
+
+    met : (o : Option StoreFault) → AllByRecursion (λ f. (f ≡ OutOfMemory) × (IsOfOpening f → ⊥)) (faults_by o) → AllByRecursion (λ f. IsScripted f × (IsOfOpening f → ⊥)) (faults_by o)
     met None m = tt
-    met (Some f) m = (inl m.0, m.1)
+    met (Some f) m = ((inl m.0.0, m.0.1), tt)
 
 same_err : (x y : StoreFault) (r : Result Unit StoreFault) → r ≡ Err x → r ≡ Err y → x ≡ y
 same_err x y r p q = cc
@@ -68,8 +77,7 @@ stopped {A} a b began f result P lawful inner broken count ended met e told = su
     asks : Asks (scripted_store a) (scripted_store b) (Err f) P
     asks = record {
       answer = λ h. tt;
-      kept = λ h u. ap (λ (i : Listed). i.records) inner;
-      crash = λ h left p. p ∙ ap (λ (i : Listed). i.records) inner;
+      stays = record { content = λ h u. ap (λ (i : Listed). i.records) inner; crash = λ h left p. p ∙ ap (λ (i : Listed). i.records) inner };
       leaves = leaves_fault a b f lawful (subst (λ (i : Listed). IsLawfulContent i.records) (sym inner) lawful) (ap (λ (i : Listed). i.number) inner) (ap (λ (i : Listed). i.id) inner)
           (broken ∙ ap (λ o. is_broken (fault_in o)) e) (count ∙ ap (λ o. failures a.faults (fault_in o)) e) (λ p. same_err f Broken began e (ended p)) (subst (λ (o : Result Unit StoreFault). IfErr o IsScripted) e met);
     }
@@ -88,8 +96,10 @@ pub passed : {A : Type 0} (a b d : Scripted) (i : Listed) (began : Result Unit S
     → Asks (scripted_store a) (scripted_store d) result IsAnswer
 passed a b d i began answer result P inner broken count ended e asks told after = subst (λ x. Asks (scripted_store a) (scripted_store d) x P) (sym told) (record {
   answer = λ h. asks.answer tt;
-  kept = λ h u. ap (λ (x : Scripted). x.inner.records) after ∙ (asks.kept tt refl ∙ ap (λ (x : Listed). x.records) inner);
-  crash = λ h left p. asks.crash tt left (p ∙ ap (λ (x : Scripted). x.inner.records) after) ∙ ap (λ (x : Listed). x.records) inner;
+  stays = record {
+    content = λ h u. ap (λ (x : Scripted). x.inner.records) after ∙ (asks.stays.content tt refl ∙ ap (λ (x : Listed). x.records) inner);
+    crash = λ h left p. asks.stays.crash tt left (p ∙ ap (λ (x : Scripted). x.inner.records) after) ∙ ap (λ (x : Listed). x.records) inner;
+  };
   leaves = leaves_inner a d (fault_in answer) (unbroken a began ended e) still counted within;
 })
   where
@@ -128,7 +138,41 @@ old_or_with a b r result learns = go (store_fault_in result) refl (learns.kept t
     go None e k = by (finding a.records r) refl (learns.answered tt e).1
     go (Some f) e k = inl k
 
-pub ruleset queries = (stopped, passed)
+-- ---- the script
+
+only_memory : (a b : Listed) (fault : Option StoreFault) → Leaves (store_of a) (store_of b) fault → IfSome fault (λ f. f ≡ OutOfMemory)
+only_memory a b fault l = go fault l.passes.met
+  where
+    go : (o : Option StoreFault) → AllByRecursion (λ f. (f ≡ OutOfMemory) × (IsOfOpening f → ⊥)) (faults_by o) → IfSome o (λ f. f ≡ OutOfMemory)
+    go None m = tt
+    go (Some f) m = m.0.0
+
+-- a call that the script let through is answered by the archive inside
+let_through : (a b d : Scripted) (i : Listed) (m limit : ℕ) (is_learn : Bool) (fault : Option StoreFault) → Follows a b is_learn limit None
+    → d ≡ record b { inner = i; faults = m } → IfSome fault (λ f. f ≡ OutOfMemory) → Follows a d is_learn limit fault
+let_through a b d i m limit is_learn fault p e memory = record {
+  noted = ap (λ (x : Scripted). x.greatest_limit) e ∙ p.noted;
+  counted = λ u. ap (λ (x : Scripted). x.countdown) e ∙ p.counted u;
+  failure = ap (λ (x : Scripted). x.failure) e ∙ p.failure;
+  alone = ap (λ (x : Scripted). x.learns_alone) e ∙ p.alone;
+  due = λ u h. absurd (none-some _ (p.due u h));
+  other = λ u h. memory;
+}
+
+-- a query that the archive inside answered follows the script
+pub followed : {A : Type 0} (a b d : Scripted) (i : Listed) (limit : ℕ) (began : Result Unit StoreFault) (answer result : Result A StoreFault) (IsAnswer : A → Type 0)
+    → Follows a b false limit (fault_in began) → began ≡ Ok tt → Asks (store_of b.inner) (store_of i) answer IsAnswer → result ≡ answer → d ≡ record b { inner = i; faults = failures b.faults (fault_in answer) }
+    → Follows a d false limit (fault_in result)
+followed a b d i limit began answer result P p e asks told after =
+    let_through a b d i _ limit false (fault_in result) (subst (λ (o : Result Unit StoreFault). Follows a b false limit (fault_in o)) e p) after
+    (subst (λ o. IfSome (fault_in o) (λ f. f ≡ OutOfMemory)) (sym told) (only_memory b.inner i (fault_in answer) asks.leaves))
+
+-- a query that the script stopped follows it
+pub halted : {A : Type 0} (a b : Scripted) (limit : ℕ) (is_learn : Bool) (began : Result Unit StoreFault) (f : StoreFault) (result : Result A StoreFault)
+    → Follows a b is_learn limit (fault_in began) → began ≡ Err f → result ≡ Err f → Follows a b is_learn limit (fault_in result)
+halted a b limit is_learn began f result p e told = subst (Follows a b is_learn limit) (ap (λ (o : Result Unit StoreFault). fault_in o) e ∙ sym (ap fault_in told)) p
+
+pub ruleset queries = (stopped, passed, followed, halted)
 
 -- a call that the script let through leaves the store as it was
 pub begun : (a b c : Scripted) (r : Record) (began : Result Unit StoreFault) (result : Result Bool LearnFault) → b.inner ≡ a.inner

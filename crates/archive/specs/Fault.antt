@@ -1,11 +1,16 @@
--- The numbers of faults, as scripts and logs show them.
-use Rattle.std.specs.Prelude.{ℕ}
+-- The numbers of faults, as scripts and logs show them, and what answers tell of them.
+use Rattle.std.specs.Prelude.{ℕ, Option, Some, None}
+use Rattle.ua_binary.specs.declared.codes.Status.{Status}
+use Rattle.ua_binary.specs.declared.codes.TheConstants.Status.{BAD_OUT_OF_MEMORY, BAD_RESOURCE_UNAVAILABLE}
 use Rattle.records.specs.declared.fault.RecordFault.{RecordFault}
 use Rattle.records.specs.declared.fault.RecordFault.TheVariants as memory
 use Rattle.archive.specs.declared.fault.StoreFault.{StoreFault}
 use Rattle.archive.specs.declared.fault.StoreFault.TheVariants as store
 use Rattle.archive.specs.declared.fault.LearnFault.{LearnFault}
 use Rattle.archive.specs.declared.fault.LearnFault.TheVariants as learn
+use Rattle.archive.specs.declared.setback.Setback.{Setback}
+use Rattle.archive.specs.declared.setback.Setback.TheVariants as setback
+use Rattle.archive.specs.Store.{Mark, Fine, Starved, Met}
 
 abbrev pub store_number : StoreFault → ℕ
 store_number store.OutOfMemory = 1
@@ -25,3 +30,23 @@ learn_number (learn.Store fault) = 5
 abbrev pub of_record : RecordFault → StoreFault
 of_record memory.OutOfMemory = store.OutOfMemory
 of_record fault = store.Refused
+
+-- ---- what is told of what came in the way of a step
+
+-- want of memory, the store's too, and other faults of the store (Part 4, 7.39)
+abbrev pub status_of : StoreFault → Status
+status_of store.OutOfMemory = BAD_OUT_OF_MEMORY
+status_of fault = BAD_RESOURCE_UNAVAILABLE
+
+abbrev pub status_told : Mark → Option Status
+status_told Fine = None
+status_told Starved = Some BAD_OUT_OF_MEMORY
+status_told (Met fault) = Some (status_of fault)
+
+abbrev pub mark_of : Setback → Mark
+mark_of setback.Starved = Starved
+mark_of (setback.Store fault) = Met fault
+
+abbrev pub code_of : Setback → Status
+code_of setback.Starved = BAD_OUT_OF_MEMORY
+code_of (setback.Store fault) = status_of fault

@@ -1,9 +1,10 @@
 -- An archive in memory.
-use Rattle.std.specs.Prelude.{◌≡◌, ◌==◌, ⊤, ℕ, ℤ, pos, false, List, if◌then◌else◌}
+use Rattle.std.specs.Prelude.{◌≡◌, ◌==◌, ⊤, ℕ, ℤ, pos, Bool, false, List, Option, Some, None, if◌then◌else◌}
 use Rattle.records.specs.Contents.{Content}
 use Rattle.records.specs.declared.record.Record.{Record}
+use Rattle.archive.specs.declared.fault.StoreFault.{StoreFault}
 use Rattle.archive.specs.declared.fault.StoreFault.TheVariants.{OutOfMemory}
-use Rattle.archive.specs.Store.{Store}
+use Rattle.archive.specs.Store.{Store, raised, is_break}
 
 pub record Listed : Type 0 where
   pub id : List ℕ
@@ -23,6 +24,15 @@ store_of a = record {
   may_hold = λ left. left ≡ a.records;
   meets = λ fault. fault ≡ OutOfMemory;
 }
+
+-- a fault, if any, is counted
+abbrev pub failures : ℕ → Option StoreFault → ℕ
+failures failed None = failed
+failures failed (Some fault) = raised 1 failed
+
+abbrev pub is_broken : Option StoreFault → Bool
+is_broken None = false
+is_broken (Some fault) = is_break fault
 
 abbrev pub tick_from : ℕ → Record → ℤ
 tick_from origin r = if r.origin == origin then r.tick else pos 0

@@ -1,5 +1,5 @@
 -- What an archive keeps, and what its calls leave.
-use Rattle.std.specs.Prelude.{◌≡◌, ◌⊎◌, ◌||◌, ℕ, ◌+◌, ◌-◌, ◌^◌, min, Bool, true, false, List, [], ◌∷◌, Option, Some, None, IfSome, unwrap_or, Result, Ok, Err, IfOk}
+use Rattle.std.specs.Prelude.{◌≡◌, ◌⊎◌, ◌||◌, ℕ, ◌+◌, ◌-◌, ◌^◌, min, Bool, true, false, List, [], ◌∷◌, ◌++◌, Option, Some, None, IfSome, unwrap_or, Result, Ok, Err, IfOk}
 use Rattle.std.specs.List.{list_any, AllByRecursion}
 use Rattle.records.specs.Lists.{Has}
 use Rattle.records.specs.Contents.{Content, IsClosed, Finding, Adds, Holds, Clash, Gap, TickTooFar, TickNotRising, finding, learned, put}
@@ -43,38 +43,70 @@ pub record IsSettled (s : Store) : Type 0 where
 abbrev pub Rests : Store → Type 0
 Rests s = s.honest → s.broken ≡ false → IsSettled s
 
--- ---- what every call leaves, by the fault of the store that it answered, if any
+-- ---- what comes in the way
 
-abbrev pub is_broken : Option StoreFault → Bool
-is_broken (Some Broken) = true
-is_broken fault = false
+-- nothing came in the way of a step, or memory was wanting, or the store met a fault
+pub data Mark : Type 0 where
+  Fine : Mark
+  Starved : Mark
+  Met : StoreFault → Mark
+
+abbrev pub faults_in : Mark → List StoreFault
+faults_in (Met fault) = fault ∷ []
+faults_in mark = []
+
+-- the faults of the store among what came in the way of some steps, in order
+abbrev pub faults_of : List Mark → List StoreFault
+faults_of [] = []
+faults_of (mark ∷ marks) = faults_in mark ++ faults_of marks
+
+abbrev pub faults_by : Option StoreFault → List StoreFault
+faults_by None = []
+faults_by (Some fault) = fault ∷ []
+
+-- ---- what calls leave
 
 -- so many faults more; the count stops at 2^64 - 1
 abbrev pub raised : ℕ → ℕ → ℕ
 raised n failed = min (failed + n) (2 ^ 64 - 1)
 
 -- each fault is counted
-abbrev pub failures : ℕ → Option StoreFault → ℕ
-failures failed None = failed
-failures failed (Some fault) = raised 1 failed
+abbrev pub failed_by : List StoreFault → ℕ → ℕ
+failed_by [] failed = failed
+failed_by (fault ∷ faults) failed = failed_by faults (raised 1 failed)
+
+abbrev pub is_break : StoreFault → Bool
+is_break Broken = true
+is_break fault = false
 
 -- faults of opening alone
 abbrev pub IsOfOpening : StoreFault → Type 0
 IsOfOpening fault = (fault ≡ WrongReplica) ⊎ (fault ≡ WrongArchive)
 
-pub record Leaves (old new : Store) (fault : Option StoreFault) : Type 0 where
-  pub before : Rests old
-  pub after : Rests new
+-- some calls, or none, were made, whose faults of the store were these, in order
+pub record Passes (old new : Store) (faults : List StoreFault) : Type 0 where
+  pub rests : Rests old → Rests new
   pub own : new.own ≡ old.own
   pub id : new.id ≡ old.id
   pub honest : new.honest → old.honest
-  pub failed : new.failed ≡ failures old.failed fault
-  pub broken : new.broken ≡ is_broken fault
-  pub ended : old.broken ≡ true → fault ≡ Some Broken
-  pub met : IfSome fault (λ f. old.meets f × (IsOfOpening f → ⊥))
+  pub failed : new.failed ≡ failed_by faults old.failed
+  pub broken : new.broken ≡ (old.broken || list_any is_break faults)
+  pub met : AllByRecursion (λ f. old.meets f × (IsOfOpening f → ⊥)) faults
   pub meets : (f : StoreFault) → new.meets f → old.meets f
+
+-- one call was made, and answered this fault of the store, if any
+pub record Leaves (old new : Store) (fault : Option StoreFault) : Type 0 where
+  pub before : Rests old
+  pub after : Rests new
+  pub passes : Passes old new (faults_by fault)
+  pub ended : old.broken ≡ true → fault ≡ Some Broken
   -- behind Broken too an opening finds something
   pub some : new.honest → ((left : Content) → new.may_hold left → ⊥) → ⊥
+
+-- the content stays, and a crash leaves nothing that it couldn't leave before
+pub record Stays (old new : Store) : Type 0 where
+  pub content : new.honest → new.broken ≡ false → new.content ≡ old.content
+  pub crash : new.honest → (left : Content) → new.may_hold left → old.may_hold left
 
 -- ---- queries
 
@@ -85,8 +117,7 @@ fault_in (Err fault) = Some fault
 -- a query's answer is such a one, or a fault of the store came; the content stays
 pub record Asks {A : Type 0} (old new : Store) (result : Result A StoreFault) (IsAnswer : A → Type 0) : Type 0 where
   pub answer : new.honest → IfOk result IsAnswer
-  pub kept : new.honest → new.broken ≡ false → new.content ≡ old.content
-  pub crash : new.honest → (left : Content) → new.may_hold left → old.may_hold left
+  pub stays : Stays old new
   pub leaves : Leaves old new (fault_in result)
 
 -- ---- learning
@@ -114,27 +145,13 @@ pub record Learns (old new : Store) (r : Record) (result : Result Bool LearnFaul
       → old.may_hold left ⊎ ((old.broken ≡ false) × (finding old.content r ≡ Adds) × (left ≡ put r old.content))
   pub leaves : Leaves old new (store_fault_in result)
 
--- ---- calls in a row
+-- ---- what is held, through any calls
 
-abbrev pub is_break : StoreFault → Bool
-is_break Broken = true
-is_break fault = false
+-- what an opening may find where R is held: R; behind a break also R with the one record that was being learned
+abbrev pub MayBeFound : (broken : Bool) → Content → Content → Type 0
+MayBeFound broken R left = (left ≡ R) ⊎ ((broken ≡ true) × (r : Record) × (finding R r ≡ Adds) × (left ≡ put r R))
 
-abbrev pub failed_by : List StoreFault → ℕ → ℕ
-failed_by [] failed = failed
-failed_by (fault ∷ faults) failed = failed_by faults (raised 1 failed)
-
-abbrev pub faults_by : Option StoreFault → List StoreFault
-faults_by None = []
-faults_by (Some fault) = fault ∷ []
-
--- some calls, or none, were made, whose faults of the store were these, in order
-pub record Passes (old new : Store) (faults : List StoreFault) : Type 0 where
-  pub rests : Rests old → Rests new
-  pub own : new.own ≡ old.own
-  pub id : new.id ≡ old.id
-  pub honest : new.honest → old.honest
-  pub failed : new.failed ≡ failed_by faults old.failed
-  pub broken : new.broken ≡ (old.broken || list_any is_break faults)
-  pub met : AllByRecursion (λ f. old.meets f × (IsOfOpening f → ⊥)) faults
-  pub meets : (f : StoreFault) → new.meets f → old.meets f
+-- the archive holds R
+pub record HasContent (s : Store) (R : Content) : Type 0 where
+  pub content : s.broken ≡ false → s.content ≡ R
+  pub found : (left : Content) → s.may_hold left → MayBeFound s.broken R left

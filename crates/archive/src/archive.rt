@@ -2,7 +2,7 @@
 
 use crate::fault::{LearnFault, StoreFault};
 use crate::reading::{Direction, LogPlace};
-use records::{Entry, Held, Record};
+use records::{Entry, Held, Moment, Record};
 use stamp::{ReplicaNo, Vector};
 use std::alloc::Global;
 use ua_binary::NodeId;
@@ -19,10 +19,10 @@ pub trait Archive {
     ghost use Rattle.std.specs.Prelude.{◌≡◌, ⊤, ℕ, take};
     ghost use Rattle.stamp.specs.Numbers.{number_of};
     ghost use Rattle.records.specs.Records.{story, missing};
-    ghost use Rattle.records.specs.Contents.{vec, top};
+    ghost use Rattle.records.specs.Contents.{vec, top, cut};
     ghost use Rattle.records.specs.Spelling.{IsLawfulRecord};
     ghost use Rattle.archive.specs.Reading.{range_of, log_of, outside_of};
-    ghost use Rattle.archive.specs.Store.{Store, Asks, Learns};
+    ghost use Rattle.archive.specs.Store.{Store, Rests, Asks, Learns};
 
     ghost state: { Self → Store };
 
@@ -30,9 +30,11 @@ pub trait Archive {
     fn id(&self) -> Uuid
         ensures { result ≡ (state self.now).id };
 
-    /// The number of this replica. It reads no store.
+    /// The number of this replica. It reads no store. As long as the store is used, the content is lawful,
+    /// and a crash leaves it as it is.
     fn number(&self) -> ReplicaNo
-        ensures { result ≡ (state self.now).own };
+        ensures own { result ≡ (state self.now).own }
+        ensures rests { Rests (state self.now) };
 
     /// How many calls answered a fault of the store, at most 2^64 - 1. It reads no store.
     fn faults(&self) -> u64
@@ -47,7 +49,7 @@ pub trait Archive {
         ensures { Asks (state self.old) (state self.new) result (λ t. t ≡ top (state self.old).content) };
 
     /// The records of a node and a source time, in the order of their stamps.
-    fn at(&mut self, alloc: Global, node: &NodeId, time: i64) -> Result<Vec<Record>, StoreFault>
+    fn at(&mut self, alloc: Global, node: &NodeId, time: Moment) -> Result<Vec<Record>, StoreFault>
         ensures { Asks (state self.old) (state self.new) result (λ v. v.items ≡ story (state self.old).content node.now time) };
 
     /// The first `limit` of a node's live values from one source time to another, both included, in
@@ -56,12 +58,13 @@ pub trait Archive {
         &mut self,
         alloc: Global,
         node: &NodeId,
-        from: i64,
-        to: i64,
+        from: Moment,
+        to: Moment,
         direction: Direction,
         limit: usize,
+        within: &Vector,
     ) -> Result<Vec<Held>, StoreFault>
-        ensures { Asks (state self.old) (state self.new) result (λ v. v.items ≡ take limit (range_of (state self.old).content node.now from to direction)) };
+        ensures { Asks (state self.old) (state self.new) result (λ v. v.items ≡ take limit (range_of (cut (state self.old).content (number_of within.now)) node.now from to direction)) };
 
     /// The first `limit` of a node's modifications from one source time to another, both included, in
     /// the direction, that stand behind a place, where one is given. There is one for each record,
@@ -70,13 +73,14 @@ pub trait Archive {
         &mut self,
         alloc: Global,
         node: &NodeId,
-        from: i64,
-        to: i64,
+        from: Moment,
+        to: Moment,
         after: Option<LogPlace>,
         direction: Direction,
         limit: usize,
+        within: &Vector,
     ) -> Result<Vec<Entry>, StoreFault>
-        ensures { Asks (state self.old) (state self.new) result (λ v. v.items ≡ take limit (log_of (state self.old).content node.now from to after direction)) };
+        ensures { Asks (state self.old) (state self.new) result (λ v. v.items ≡ take limit (log_of (cut (state self.old).content (number_of within.now)) node.now from to after direction)) };
 
     /// A node's live value that is nearest to a source time, strictly beyond it in the direction;
     /// `None` where there is none.
@@ -84,10 +88,11 @@ pub trait Archive {
         &mut self,
         alloc: Global,
         node: &NodeId,
-        time: i64,
+        time: Moment,
         direction: Direction,
+        within: &Vector,
     ) -> Result<Option<Held>, StoreFault>
-        ensures { Asks (state self.old) (state self.new) result (λ h. h ≡ outside_of (state self.old).content node.now time direction) };
+        ensures { Asks (state self.old) (state self.new) result (λ h. h ≡ outside_of (cut (state self.old).content (number_of within.now)) node.now time direction) };
 
     /// The first `limit` of the records that a vector lacks, by origin and number.
     fn since(

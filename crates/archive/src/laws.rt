@@ -1,15 +1,27 @@
 //! Laws of the queries. Each function's contract is a law, and its body is empty.
 
-ghost use Rattle.std.specs.Prelude.{◌≡◌, ◌↔◌, ℕ, ◌+◌, ℤ, true, drop, slice_get, Option, Some, None};
+ghost use Rattle.std.specs.Prelude.{◌≡◌, ◌↔◌, ℕ, ◌+◌, ℤ, true, false, drop, slice_get, List, [], ◌∷◌, Bool, Option, Some, None, unwrap_or, Result};
 ghost use Rattle.ua_binary.specs.declared.values.NodeId.{NodeId};
 ghost use Rattle.records.specs.Lists.{Has, IsPairwise};
-ghost use Rattle.records.specs.Contents.{Content, IsClosed};
+ghost use Rattle.records.specs.Contents.{Content, IsClosed, finding, learned};
+ghost use Rattle.records.specs.declared.record.Record.{Record};
 ghost use Rattle.records.specs.declared.shown.Held.{Held};
 ghost use Rattle.records.specs.declared.shown.Entry.{Entry};
 ghost use Rattle.archive.specs.Reading.{is_past, follows, place_of, range_of, log_of, outside_of};
 ghost use Rattle.archive.specs.Queries.{IsInRange, IsInLog, IsNearest, HasNonePast};
 ghost use Rattle.archive.specs.declared.reading.Direction.{Direction};
 ghost use Rattle.archive.specs.declared.reading.LogPlace.{LogPlace};
+ghost use Rattle.archive.specs.declared.fault.StoreFault.{StoreFault};
+ghost use Rattle.archive.specs.declared.fault.StoreFault.TheVariants as store;
+ghost use Rattle.archive.specs.declared.fault.LearnFault.{LearnFault};
+ghost use Rattle.archive.specs.Store.{Rests, Stays, Passes, Learns, store_fault_in, answer_to, Fine, Met, HasContent};
+ghost use Rattle.archive.specs.Steps.{step, Acts};
+ghost use Rattle.archive.specs.Listed.{Listed};
+ghost use Rattle.archive.specs.Scripted.{Scripted};
+
+use crate::archive::Archive;
+use crate::list_archive::ListArchive;
+use crate::scripted::ScriptedArchive;
 
 /// A range has the live values between its two times and no others, each once: in its direction, each
 /// is strictly beyond those before it.
@@ -36,4 +48,27 @@ pub fn logs_have_the_modifications()
 pub fn outside_is_the_nearest()
     ensures nearest { (R : Content) (node : NodeId) (time : ℤ) (d : Direction) (h : Held) → (outside_of R node time d ≡ Some h) ↔ IsNearest R node time d h }
     ensures none { (R : Content) (node : NodeId) (time : ℤ) (d : Direction) → (outside_of R node time d ≡ None) ↔ HasNonePast R node time d }
+{}
+
+/// An archive in memory returns what was written to it, in every state, and its one fault is want of
+/// memory; it is never broken. A script breaks it, and doesn't make it lie.
+pub fn memory_is_honest()
+    ensures listed { (a : Listed) → (⟦<ListArchive as Archive>⟧.state a).honest }
+    ensures unbroken { (a : Listed) → (⟦<ListArchive as Archive>⟧.state a).broken ≡ false }
+    ensures memory { (a : Listed) (f : StoreFault) → (⟦<ListArchive as Archive>⟧.state a).meets f → f ≡ store.OutOfMemory }
+    ensures scripted { (a : Scripted) → (⟦<ScriptedArchive as Archive>⟧.state a).honest }
+{}
+
+/// An archive in use holds its content; what it holds stays through each call that leaves the content as
+/// it is; and a call of `learn` answers what the record meets in what is held, and adds it there or
+/// nothing. A fault of the store leaves what is held, and behind a break an opening finds that, or that
+/// with the one record.
+pub fn what_is_held_goes_on<A: Archive>()
+    ensures begins { (a : A) → Rests (A.state a) → (A.state a).honest → (A.state a).broken ≡ false → HasContent (A.state a) (A.state a).content }
+    ensures stays { (a b : A) (faults : List StoreFault) (R : Content) → Stays (A.state a) (A.state b) → Passes (A.state a) (A.state b) faults → (A.state b).honest
+        → HasContent (A.state a) R → HasContent (A.state b) R }
+    ensures learned { (a b : A) (r : Record) (result : Result Bool LearnFault) → Learns (A.state a) (A.state b) r result → store_fault_in result ≡ None
+        → Acts (A.state a) (A.state b) (Fine ∷ []) (λ R. step (λ _. (answer_to (finding R r), unwrap_or (learned R r) R))) result }
+    ensures unlearned { (a b : A) (r : Record) (result : Result Bool LearnFault) (fault : StoreFault) → Learns (A.state a) (A.state b) r result → store_fault_in result ≡ Some fault
+        → Acts (A.state a) (A.state b) (Met fault ∷ []) (λ R. step (λ _. (result, R))) result }
 {}

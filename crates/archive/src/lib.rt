@@ -9,13 +9,18 @@ mod laws;
 mod list_archive;
 mod reading;
 mod scripted;
+mod setback;
 
 pub use archive::Archive;
 pub use fault::{LearnFault, StoreFault};
-pub use laws::{logs_have_the_modifications, outside_is_the_nearest, ranges_have_the_live_values};
+pub use laws::{
+    logs_have_the_modifications, memory_is_honest, outside_is_the_nearest,
+    ranges_have_the_live_values, what_is_held_goes_on,
+};
 pub use list_archive::ListArchive;
 pub use reading::{Direction, LogPlace};
 pub use scripted::{Failure, ScriptedArchive};
+pub use setback::Setback;
 
 #[cfg(test)]
 mod tests;

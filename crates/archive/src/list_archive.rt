@@ -1,13 +1,13 @@
 //! An archive in memory, as one list of records.
 
-ghost use Rattle.std.specs.Prelude.{◌≡◌, ◌≤◌, ◌++◌, ◌∷◌, ℕ, [], length, take, filter, map, reverse, IfOk, IfErr, OnOk, OnErr};
+ghost use Rattle.std.specs.Prelude.{◌≡◌, ◌≤◌, not, ◌++◌, ◌∷◌, ℕ, [], length, take, filter, map, reverse, IfOk, IfErr, OnOk, OnErr};
 ghost use Rattle.std.specs.List.{insert, filter_map, flat_map, cons_option, list_any};
 ghost use Rattle.stamp.specs.Numbers.{number_of};
 ghost use Rattle.records.specs.Lists.{Has, IsApart};
 ghost use Rattle.records.specs.declared.record.Record.{Record};
 ghost use Rattle.stamp.specs.Limits.{greatest};
-ghost use Rattle.records.specs.Records.{stamp_cmp, name_cmp, current, entries, story, missing};
-ghost use Rattle.records.specs.Contents.{Content, vec, top, last_tick, put, finding, number_from};
+ghost use Rattle.records.specs.Records.{stamp_cmp, name_cmp, current, entries, story, missing, is_beyond};
+ghost use Rattle.records.specs.Contents.{Content, vec, top, last_tick, put, finding, number_from, cut};
 ghost use Rattle.records.specs.Same.{same_record, same_node};
 ghost use Rattle.archive.specs.Reading.{is_of, times, lives, log, in_direction, is_between, is_past, follows, range_of, log_of, outside_of};
 ghost use Rattle.archive.specs.Store.{IsLawfulContent, answer_to};
@@ -17,7 +17,7 @@ ghost use Rattle.archive.specs.declared.fault.StoreFault.TheVariants as store;
 use crate::archive::Archive;
 use crate::fault::{LearnFault, StoreFault};
 use crate::reading::{Direction, LogPlace};
-use records::{Entry, Held, Record, current_of, entries_of, missing_of, story_of};
+use records::{Entry, Held, Moment, Record, current_of, entries_of, missing_of, story_of};
 use stamp::{GREATEST_TICK, ReplicaNo, Stamp, Vector};
 use std::alloc::Global;
 use std::marker::Model;
@@ -195,7 +195,7 @@ fn push<T: Drop>(list: &mut Vec<T>, item: T) -> Result<(), StoreFault>
 }
 
 /// The source times at which a node has records, in order, each once.
-fn times_of(alloc: Global, records: &[Record], node: &NodeId) -> Result<Vec<i64>, StoreFault>
+fn times_of(alloc: Global, records: &[Record], node: &NodeId) -> Result<Vec<Moment>, StoreFault>
     ensures value { IfOk result (λ v. v.items ≡ times records.now node.now) }
     ensures memory { IfErr result (λ e. e ≡ store.OutOfMemory) }
 {
@@ -225,7 +225,7 @@ fn lives_at(
     alloc: Global,
     records: &[Record],
     node: &NodeId,
-    times: &[i64],
+    times: &[Moment],
 ) -> Result<Vec<Held>, StoreFault>
     requires { IsApart stamp_cmp records.now }
     ensures value { IfOk result (λ v. v.items ≡ filter_map (current records.now node.now) times.now) }
@@ -253,7 +253,7 @@ fn log_at(
     alloc: Global,
     records: &[Record],
     node: &NodeId,
-    times: &[i64],
+    times: &[Moment],
 ) -> Result<Vec<Entry>, StoreFault>
     requires { IsApart stamp_cmp records.now }
     ensures value { IfOk result (λ v. v.items ≡ flat_map (λ t. reverse (entries records.now node.now t)) times.now) }
@@ -286,19 +286,19 @@ fn turn<T>(direction: Direction, items: &mut Vec<T>)
     }
 }
 
-fn keep_lives_between(found: &mut Vec<Held>, from: i64, to: i64)
+fn keep_lives_between(found: &mut Vec<Held>, from: Moment, to: Moment)
     ensures { found.new.items ≡ filter (λ h. is_between from to h.time) found.old.items }
 {
     found.retain(|h| from <= h.time && h.time <= to);
 }
 
-fn keep_lives_past(found: &mut Vec<Held>, direction: Direction, limit: i64)
+fn keep_lives_past(found: &mut Vec<Held>, direction: Direction, limit: Moment)
     ensures { found.new.items ≡ filter (λ h. is_past direction limit h.time) found.old.items }
 {
     found.retain(|h| direction.is_past(limit, h.time));
 }
 
-fn keep_entries_between(found: &mut Vec<Entry>, from: i64, to: i64)
+fn keep_entries_between(found: &mut Vec<Entry>, from: Moment, to: Moment)
     ensures { found.new.items ≡ filter (λ e. is_between from to e.time) found.old.items }
 {
     found.retain(|e| from <= e.time && e.time <= to);
@@ -327,41 +327,75 @@ fn keep_entries_after(found: &mut Vec<Entry>, direction: Direction, after: Optio
     found.retain(|e| follows(direction, after, e));
 }
 
+/// Whether a vector covers a record.
+fn is_covered(within: &Vector, r: &Record) -> bool
+    ensures { result ≡ not (is_beyond (number_of within.now) r.now) }
+{
+    within.covers(r.origin, r.number)
+}
+
+fn copy_of(r: &Record) -> Result<Record, StoreFault>
+    ensures value { IfOk result (λ v. v ≡ r.now) }
+    ensures memory { IfErr result (λ e. e ≡ store.OutOfMemory) }
+{
+    Ok(r.try_clone()?)
+}
+
+/// The records that a vector covers.
+fn covered(alloc: Global, records: &[Record], within: &Vector) -> Result<Vec<Record>, StoreFault>
+    ensures value { IfOk result (λ v. v.items ≡ cut records.now (number_of within.now)) }
+    ensures memory { IfErr result (λ e. e ≡ store.OutOfMemory) }
+{
+    let mut found = Vec::new(alloc);
+    for r in records {
+        if is_covered(within, r) {
+            push(&mut found, copy_of(r)?)?;
+        }
+    }
+    Ok(found)
+}
+
+#[tactic(auto, using(crate::proofs::Cutting::apart_cut))]
 fn range_in(
     alloc: Global,
     records: &[Record],
     node: &NodeId,
-    from: i64,
-    to: i64,
+    from: Moment,
+    to: Moment,
     direction: Direction,
     limit: usize,
+    within: &Vector,
 ) -> Result<Vec<Held>, StoreFault>
     requires { IsApart stamp_cmp records.now }
-    ensures value { IfOk result (λ v. v.items ≡ take limit (range_of records.now node.now from to direction)) }
+    ensures value { IfOk result (λ v. v.items ≡ take limit (range_of (cut records.now (number_of within.now)) node.now from to direction)) }
     ensures memory { IfErr result (λ e. e ≡ store.OutOfMemory) }
 {
-    let mut found = lives_of(alloc, records, node)?;
+    let records = covered(alloc, records, within)?;
+    let mut found = lives_of(alloc, &records, node)?;
     keep_lives_between(&mut found, from, to);
     turn(direction, &mut found);
     found.truncate(limit);
     Ok(found)
 }
 
+#[tactic(auto, using(crate::proofs::Cutting::apart_cut))]
 fn log_in(
     alloc: Global,
     records: &[Record],
     node: &NodeId,
-    from: i64,
-    to: i64,
+    from: Moment,
+    to: Moment,
     after: Option<LogPlace>,
     direction: Direction,
     limit: usize,
+    within: &Vector,
 ) -> Result<Vec<Entry>, StoreFault>
     requires { IsApart stamp_cmp records.now }
-    ensures value { IfOk result (λ v. v.items ≡ take limit (log_of records.now node.now from to after direction)) }
+    ensures value { IfOk result (λ v. v.items ≡ take limit (log_of (cut records.now (number_of within.now)) node.now from to after direction)) }
     ensures memory { IfErr result (λ e. e ≡ store.OutOfMemory) }
 {
-    let mut found = log_of_node(alloc, records, node)?;
+    let records = covered(alloc, records, within)?;
+    let mut found = log_of_node(alloc, &records, node)?;
     keep_entries_between(&mut found, from, to);
     turn(direction, &mut found);
     keep_entries_after(&mut found, direction, after);
@@ -369,18 +403,21 @@ fn log_in(
     Ok(found)
 }
 
+#[tactic(auto, using(crate::proofs::Cutting::apart_cut))]
 fn outside_in(
     alloc: Global,
     records: &[Record],
     node: &NodeId,
-    time: i64,
+    time: Moment,
     direction: Direction,
+    within: &Vector,
 ) -> Result<Option<Held>, StoreFault>
     requires { IsApart stamp_cmp records.now }
-    ensures value { IfOk result (λ h. h ≡ outside_of records.now node.now time direction) }
+    ensures value { IfOk result (λ h. h ≡ outside_of (cut records.now (number_of within.now)) node.now time direction) }
     ensures memory { IfErr result (λ e. e ≡ store.OutOfMemory) }
 {
-    let mut found = lives_of(alloc, records, node)?;
+    let records = covered(alloc, records, within)?;
+    let mut found = lives_of(alloc, &records, node)?;
     keep_lives_past(&mut found, direction, time);
     turn(direction, &mut found);
     found.truncate(1);
@@ -391,7 +428,7 @@ fn at_in(
     alloc: Global,
     records: &[Record],
     node: &NodeId,
-    time: i64,
+    time: Moment,
 ) -> Result<Vec<Record>, StoreFault>
     requires { IsApart stamp_cmp records.now }
     ensures value { IfOk result (λ v. v.items ≡ story records.now node.now time) }
@@ -419,8 +456,8 @@ impl ListArchive {
     ghost use Rattle.records.specs.Records.{stamp_cmp, name_cmp};
     ghost use Rattle.records.specs.Contents.{finding, Adds};
     ghost use Rattle.records.specs.Spelling.{IsLawfulRecord};
-    ghost use Rattle.archive.specs.Store.{IsLawfulContent, Learns, failures, fault_in};
-    ghost use Rattle.archive.specs.Listed.{store_of};
+    ghost use Rattle.archive.specs.Store.{IsLawfulContent, Learns, fault_in};
+    ghost use Rattle.archive.specs.Listed.{store_of, failures};
     ghost use Rattle.archive.specs.declared.fault.StoreFault.TheVariants as store;
 
     /// Its content is lawful, which this call says and does nothing.
@@ -496,7 +533,12 @@ impl Archive for ListArchive {
         self.told(Ok(top))
     }
 
-    fn at(&mut self, alloc: Global, node: &NodeId, time: i64) -> Result<Vec<Record>, StoreFault> {
+    fn at(
+        &mut self,
+        alloc: Global,
+        node: &NodeId,
+        time: Moment,
+    ) -> Result<Vec<Record>, StoreFault> {
         let answer = at_in(alloc, self.held(), node, time);
         self.told(answer)
     }
@@ -505,12 +547,13 @@ impl Archive for ListArchive {
         &mut self,
         alloc: Global,
         node: &NodeId,
-        from: i64,
-        to: i64,
+        from: Moment,
+        to: Moment,
         direction: Direction,
         limit: usize,
+        within: &Vector,
     ) -> Result<Vec<Held>, StoreFault> {
-        let answer = range_in(alloc, self.held(), node, from, to, direction, limit);
+        let answer = range_in(alloc, self.held(), node, from, to, direction, limit, within);
         self.told(answer)
     }
 
@@ -518,13 +561,24 @@ impl Archive for ListArchive {
         &mut self,
         alloc: Global,
         node: &NodeId,
-        from: i64,
-        to: i64,
+        from: Moment,
+        to: Moment,
         after: Option<LogPlace>,
         direction: Direction,
         limit: usize,
+        within: &Vector,
     ) -> Result<Vec<Entry>, StoreFault> {
-        let answer = log_in(alloc, self.held(), node, from, to, after, direction, limit);
+        let answer = log_in(
+            alloc,
+            self.held(),
+            node,
+            from,
+            to,
+            after,
+            direction,
+            limit,
+            within,
+        );
         self.told(answer)
     }
 
@@ -532,10 +586,11 @@ impl Archive for ListArchive {
         &mut self,
         alloc: Global,
         node: &NodeId,
-        time: i64,
+        time: Moment,
         direction: Direction,
+        within: &Vector,
     ) -> Result<Option<Held>, StoreFault> {
-        let answer = outside_in(alloc, self.held(), node, time, direction);
+        let answer = outside_in(alloc, self.held(), node, time, direction, within);
         self.told(answer)
     }
 

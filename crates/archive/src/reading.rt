@@ -2,6 +2,7 @@
 
 ghost use Rattle.std.specs.Prelude.{◌≡◌};
 
+use records::Moment;
 use stamp::Stamp;
 
 /// The way in which times are read.
@@ -16,8 +17,8 @@ pub enum Direction {
 /// The place of a modification among those of its node.
 #[derive(Clone, Copy, Debug, PartialEq, Eq)]
 pub struct LogPlace {
-    /// The source time, in steps of 100 ns since 1601.
-    pub time: i64,
+    /// The source time, with its picoseconds.
+    pub time: Moment,
     /// The stamp of the record that made it.
     pub stamp: Stamp,
 }
@@ -36,7 +37,7 @@ impl Direction {
     }
 
     /// Whether a time is strictly beyond a limit.
-    pub fn is_past(self, limit: i64, time: i64) -> bool
+    pub fn is_past(self, limit: Moment, time: Moment) -> bool
         ensures { result ≡ is_past self limit time }
     {
         match self {

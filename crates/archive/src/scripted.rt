@@ -5,7 +5,7 @@ use crate::archive::Archive;
 use crate::fault::{LearnFault, StoreFault};
 use crate::list_archive::ListArchive;
 use crate::reading::{Direction, LogPlace};
-use records::{Entry, Held, Record};
+use records::{Entry, Held, Moment, Record};
 use stamp::{ReplicaNo, Vector};
 use std::alloc::Global;
 use std::marker::Model;
@@ -30,6 +30,7 @@ pub enum Failure {
 #[derive(Debug, Drop)]
 pub struct ScriptedArchive {
     inner: ListArchive,
+    learns_alone: bool,
     countdown: u64,
     failure: Failure,
     broken: bool,
@@ -42,15 +43,16 @@ impl Model for ScriptedArchive {
 
     ghost Value = { Scripted };
 
-    ghost view = { λ a. record { inner = a.inner; countdown = a.countdown; failure = a.failure; broken = a.broken; faults = a.faults; greatest_limit = a.greatest_limit } };
+    ghost view = { λ a. record { inner = a.inner; learns_alone = a.learns_alone; countdown = a.countdown; failure = a.failure; broken = a.broken; faults = a.faults; greatest_limit = a.greatest_limit } };
 }
 
 impl ScriptedArchive {
-    ghost use Rattle.std.specs.Prelude.{◌≡◌, [], false, true, Err, Some, IfErr};
-    ghost use Rattle.archive.specs.Store.{IsLawfulContent, failures, fault_in, is_broken};
+    ghost use Rattle.std.specs.Prelude.{◌≡◌, ◌-◌, [], false, true, Err, Some, IfErr, if◌then◌else◌};
+    ghost use Rattle.std.specs.Prelude.{IfSome};
+    ghost use Rattle.archive.specs.Store.{IsLawfulContent, fault_in, store_fault_in};
     ghost use Rattle.archive.specs.Store.{Learns};
-    ghost use Rattle.archive.specs.Scripted.{IsScripted, IsOldOrWith, scripted_store};
-    ghost use Rattle.archive.specs.declared.scripted.Failure.TheVariants.{BrokenAfter};
+    ghost use Rattle.archive.specs.Listed.{failures, is_broken};
+    ghost use Rattle.archive.specs.Scripted.{IsScripted, IsOldOrWith, scripted_store, fault_of, is_counted, is_due, Follows};
     ghost use Rattle.records.specs.Spelling.{IsLawfulRecord};
     ghost use Rattle.archive.specs.declared.fault.StoreFault.TheVariants as store;
 
@@ -63,11 +65,34 @@ impl ScriptedArchive {
         call: u64,
         failure: Failure,
     ) -> ScriptedArchive
-        ensures { result ≡ record { inner = record { id = id; number = number; records = []; faults = 0 }; countdown = call; failure = failure; broken = false; faults = 0; greatest_limit = 0 } }
+        ensures { result ≡ record { inner = record { id = id; number = number; records = []; faults = 0 }; learns_alone = false; countdown = call; failure = failure; broken = false; faults = 0; greatest_limit = 0 } }
     {
         ScriptedArchive {
             inner: ListArchive::new(alloc, id, number),
+            learns_alone: false,
             countdown: call,
+            failure,
+            broken: false,
+            faults: 0,
+            greatest_limit: 0,
+        }
+    }
+
+    /// An archive of this id and replica that holds nothing. Its `learn`-th call of `learn` fails so,
+    /// counted from 1; 0 is none.
+    pub fn failing_to_learn(
+        alloc: Global,
+        id: Uuid,
+        number: ReplicaNo,
+        learn: u64,
+        failure: Failure,
+    ) -> ScriptedArchive
+        ensures { result ≡ record { inner = record { id = id; number = number; records = []; faults = 0 }; learns_alone = true; countdown = learn; failure = failure; broken = false; faults = 0; greatest_limit = 0 } }
+    {
+        ScriptedArchive {
+            inner: ListArchive::new(alloc, id, number),
+            learns_alone: true,
+            countdown: learn,
             failure,
             broken: false,
             faults: 0,
@@ -82,13 +107,14 @@ impl ScriptedArchive {
         self.greatest_limit
     }
 
-    /// Whether this call is the scripted one.
-    fn is_due(&mut self) -> bool
-        ensures inner { self.new.inner ≡ self.old.inner }
-        ensures broken { self.new.broken ≡ self.old.broken }
-        ensures faults { self.new.faults ≡ self.old.faults }
-        ensures failure { self.new.failure ≡ self.old.failure }
+    /// Whether this call is the scripted one; it is counted.
+    fn is_due(&mut self, is_learn: bool) -> bool
+        ensures due { result ≡ is_due self.old is_learn }
+        ensures left { self.new ≡ record self.old { countdown = if is_counted self.old is_learn then self.old.countdown - 1 else self.old.countdown } }
     {
+        if !is_learn && self.learns_alone {
+            return false;
+        }
         let due = self.countdown == 1;
         self.countdown = self.countdown.saturating_sub(1);
         due
@@ -97,9 +123,7 @@ impl ScriptedArchive {
     /// Counts a fault, and breaks behind `Broken`.
     fn fails(&mut self, fault: StoreFault) -> StoreFault
         ensures same { result ≡ fault }
-        ensures inner { self.new.inner ≡ self.old.inner }
-        ensures broken { self.new.broken ≡ is_broken (Some fault) }
-        ensures faults { self.new.faults ≡ failures self.old.faults (Some fault) }
+        ensures left { self.new ≡ record self.old { broken = is_broken (Some fault); faults = failures self.old.faults (Some fault) } }
     {
         self.broken = fault == StoreFault::Broken;
         self.faults = self.faults.saturating_add(1);
@@ -108,8 +132,8 @@ impl ScriptedArchive {
 
     /// The fault of the script.
     fn scripted(&self) -> StoreFault
+        ensures fault { result ≡ fault_of self.now.failure }
         ensures scripted { IsScripted result }
-        ensures after { self.now.failure ≡ BrokenAfter → result ≡ store.Broken }
     {
         match self.failure {
             Failure::OutOfMemory => StoreFault::OutOfMemory,
@@ -119,21 +143,21 @@ impl ScriptedArchive {
     }
 
     /// Notes the limit of a query, 0 for a call without one, and goes on to the archive, or fails.
-    fn begin(&mut self, limit: usize) -> Result<(), StoreFault>
+    fn begin(&mut self, limit: usize, is_learn: bool) -> Result<(), StoreFault>
         ensures lawful { IsLawfulContent self.old.inner.records }
         ensures inner { self.new.inner ≡ self.old.inner }
         ensures broken { self.new.broken ≡ is_broken (fault_in result) }
         ensures faults { self.new.faults ≡ failures self.old.faults (fault_in result) }
         ensures ended { self.old.broken ≡ true → result ≡ Err store.Broken }
         ensures met { IfErr result IsScripted }
-        ensures after { IfErr result (λ f. self.old.failure ≡ BrokenAfter → f ≡ store.Broken) }
+        ensures follows { Follows self.old self.new is_learn limit (fault_in result) }
     {
         self.inner.is_lawful();
         self.greatest_limit = self.greatest_limit.max(limit);
         if self.broken {
             return Err(self.fails(StoreFault::Broken));
         }
-        if self.is_due() {
+        if self.is_due(is_learn) {
             let fault = self.scripted();
             return Err(self.fails(fault));
         }
@@ -158,8 +182,7 @@ impl ScriptedArchive {
         ensures lawful { IsLawfulContent self.new.inner.records }
         ensures number { self.new.inner.number ≡ self.old.inner.number }
         ensures id { self.new.inner.id ≡ self.old.inner.id }
-        ensures broken { self.new.broken ≡ self.old.broken }
-        ensures faults { self.new.faults ≡ self.old.faults }
+        ensures left { self.new ≡ record self.old { inner = self.new.inner } }
         ensures records { IsOldOrWith candidate.now self.old.inner.records self.new.inner.records }
     {
         let _answer = self.inner.learn(candidate);
@@ -170,7 +193,9 @@ impl ScriptedArchive {
     fn learn_told(&mut self, candidate: &Record) -> Result<bool, LearnFault>
         requires lawful { IsLawfulRecord candidate.now }
         requires used { self.old.broken ≡ false }
-        ensures { Learns (scripted_store self.old) (scripted_store self.new) candidate.now result }
+        ensures learns { Learns (scripted_store self.old) (scripted_store self.new) candidate.now result }
+        ensures left { self.new ≡ record self.old { inner = self.new.inner; faults = self.new.faults } }
+        ensures memory { IfSome (store_fault_in result) (λ f. f ≡ store.OutOfMemory) }
     {
         let answer = self.inner.learn(candidate);
         if let Err(LearnFault::Store(_)) = answer {
@@ -181,7 +206,14 @@ impl ScriptedArchive {
 }
 
 impl Archive for ScriptedArchive {
-    ghost use Rattle.archive.specs.Scripted.{scripted_store};
+    ghost use Rattle.std.specs.Prelude.{◌≡◌, ⊤, ℕ, take, true, false};
+    ghost use Rattle.stamp.specs.Numbers.{number_of};
+    ghost use Rattle.records.specs.Records.{story, missing};
+    ghost use Rattle.records.specs.Contents.{vec, top, cut};
+    ghost use Rattle.records.specs.Spelling.{IsLawfulRecord};
+    ghost use Rattle.archive.specs.Reading.{range_of, log_of, outside_of};
+    ghost use Rattle.archive.specs.Store.{Asks, Learns, fault_in, store_fault_in};
+    ghost use Rattle.archive.specs.Scripted.{scripted_store, Follows};
 
     ghost state = { scripted_store };
 
@@ -198,22 +230,31 @@ impl Archive for ScriptedArchive {
     }
 
     #[tactic(auto, using(crate::proofs::Scripting::queries))]
-    fn vector(&mut self) -> Result<Vector, StoreFault> {
-        self.begin(0)?;
+    fn vector(&mut self) -> Result<Vector, StoreFault>
+        ensures asks { Asks (scripted_store self.old) (scripted_store self.new) result (λ v. (replica : ℕ) → number_of v replica ≡ vec self.old.inner.records replica) }
+        ensures follows { Follows self.old self.new false 0 (fault_in result) }
+    {
+        self.begin(0, false)?;
         let answer = self.inner.vector();
         self.told(answer)
     }
 
     #[tactic(auto, using(crate::proofs::Scripting::queries))]
-    fn top(&mut self) -> Result<i64, StoreFault> {
-        self.begin(0)?;
+    fn top(&mut self) -> Result<i64, StoreFault>
+        ensures asks { Asks (scripted_store self.old) (scripted_store self.new) result (λ t. t ≡ top self.old.inner.records) }
+        ensures follows { Follows self.old self.new false 0 (fault_in result) }
+    {
+        self.begin(0, false)?;
         let answer = self.inner.top();
         self.told(answer)
     }
 
     #[tactic(auto, using(crate::proofs::Scripting::queries))]
-    fn at(&mut self, alloc: Global, node: &NodeId, time: i64) -> Result<Vec<Record>, StoreFault> {
-        self.begin(0)?;
+    fn at(&mut self, alloc: Global, node: &NodeId, time: Moment) -> Result<Vec<Record>, StoreFault>
+        ensures asks { Asks (scripted_store self.old) (scripted_store self.new) result (λ v. v.items ≡ story self.old.inner.records node.now time) }
+        ensures follows { Follows self.old self.new false 0 (fault_in result) }
+    {
+        self.begin(0, false)?;
         let answer = self.inner.at(alloc, node, time);
         self.told(answer)
     }
@@ -223,13 +264,19 @@ impl Archive for ScriptedArchive {
         &mut self,
         alloc: Global,
         node: &NodeId,
-        from: i64,
-        to: i64,
+        from: Moment,
+        to: Moment,
         direction: Direction,
         limit: usize,
-    ) -> Result<Vec<Held>, StoreFault> {
-        self.begin(limit)?;
-        let answer = self.inner.range(alloc, node, from, to, direction, limit);
+        within: &Vector,
+    ) -> Result<Vec<Held>, StoreFault>
+        ensures asks { Asks (scripted_store self.old) (scripted_store self.new) result (λ v. v.items ≡ take limit (range_of (cut self.old.inner.records (number_of within.now)) node.now from to direction)) }
+        ensures follows { Follows self.old self.new false limit (fault_in result) }
+    {
+        self.begin(limit, false)?;
+        let answer = self
+            .inner
+            .range(alloc, node, from, to, direction, limit, within);
         self.told(answer)
     }
 
@@ -238,16 +285,20 @@ impl Archive for ScriptedArchive {
         &mut self,
         alloc: Global,
         node: &NodeId,
-        from: i64,
-        to: i64,
+        from: Moment,
+        to: Moment,
         after: Option<LogPlace>,
         direction: Direction,
         limit: usize,
-    ) -> Result<Vec<Entry>, StoreFault> {
-        self.begin(limit)?;
+        within: &Vector,
+    ) -> Result<Vec<Entry>, StoreFault>
+        ensures asks { Asks (scripted_store self.old) (scripted_store self.new) result (λ v. v.items ≡ take limit (log_of (cut self.old.inner.records (number_of within.now)) node.now from to after direction)) }
+        ensures follows { Follows self.old self.new false limit (fault_in result) }
+    {
+        self.begin(limit, false)?;
         let answer = self
             .inner
-            .log(alloc, node, from, to, after, direction, limit);
+            .log(alloc, node, from, to, after, direction, limit, within);
         self.told(answer)
     }
 
@@ -256,11 +307,17 @@ impl Archive for ScriptedArchive {
         &mut self,
         alloc: Global,
         node: &NodeId,
-        time: i64,
+        time: Moment,
         direction: Direction,
-    ) -> Result<Option<Held>, StoreFault> {
-        self.begin(0)?;
-        let answer = self.inner.next_outside(alloc, node, time, direction);
+        within: &Vector,
+    ) -> Result<Option<Held>, StoreFault>
+        ensures asks { Asks (scripted_store self.old) (scripted_store self.new) result (λ h. h ≡ outside_of (cut self.old.inner.records (number_of within.now)) node.now time direction) }
+        ensures follows { Follows self.old self.new false 0 (fault_in result) }
+    {
+        self.begin(0, false)?;
+        let answer = self
+            .inner
+            .next_outside(alloc, node, time, direction, within);
         self.told(answer)
     }
 
@@ -270,16 +327,23 @@ impl Archive for ScriptedArchive {
         alloc: Global,
         vector: &Vector,
         limit: usize,
-    ) -> Result<Vec<Record>, StoreFault> {
-        self.begin(limit)?;
+    ) -> Result<Vec<Record>, StoreFault>
+        ensures asks { Asks (scripted_store self.old) (scripted_store self.new) result (λ v. v.items ≡ missing self.old.inner.records (number_of vector.now) limit) }
+        ensures follows { Follows self.old self.new false limit (fault_in result) }
+    {
+        self.begin(limit, false)?;
         let answer = self.inner.since(alloc, vector, limit);
         self.told(answer)
     }
 
-    fn learn(&mut self, candidate: &Record) -> Result<bool, LearnFault> {
+    fn learn(&mut self, candidate: &Record) -> Result<bool, LearnFault>
+        requires { IsLawfulRecord candidate.now }
+        ensures learns { Learns (scripted_store self.old) (scripted_store self.new) candidate.now result }
+        ensures follows { Follows self.old self.new true 0 (store_fault_in result) }
+    {
         let breaks_after = self.failure == Failure::BrokenAfter && !self.broken;
-        if let Err(fault) = self.begin(0) {
-            if breaks_after {
+        if let Err(fault) = self.begin(0, true) {
+            if breaks_after && fault == StoreFault::Broken {
                 self.learn_untold(candidate);
             }
             return Err(LearnFault::Store(fault));
@@ -288,8 +352,11 @@ impl Archive for ScriptedArchive {
     }
 
     #[tactic(auto, using(crate::proofs::Scripting::queries))]
-    fn reload(&mut self) -> Result<(), StoreFault> {
-        self.begin(0)?;
+    fn reload(&mut self) -> Result<(), StoreFault>
+        ensures asks { Asks (scripted_store self.old) (scripted_store self.new) result (λ u. ⊤) }
+        ensures follows { Follows self.old self.new false 0 (fault_in result) }
+    {
+        self.begin(0, false)?;
         let answer = self.inner.reload();
         self.told(answer)
     }

@@ -1,7 +1,7 @@
 use super::*;
 use Direction::{Backward, Forward};
 use HistoryUpdateType::{Delete, Insert, Replace, Update};
-use records::{Entry, Held, HistoryUpdateType, Record};
+use records::{Entry, Held, HistoryUpdateType, Moment, Record};
 use stamp::{ReplicaNo, Stamp, Vector};
 use std::alloc::{AllocError, Global};
 use std::test::Fail;
@@ -39,7 +39,7 @@ fn record(alloc: Global, row: &Row) -> Result<Record, StoreFault> {
         number,
         tick,
         node,
-        time,
+        time: Moment::at(time),
         asked,
         user,
         value: value(written),
@@ -190,11 +190,11 @@ fn is_int(v: &DataValue, n: i32) -> bool {
     }
 }
 
-/// Whether these are live values with these numbers, of which 9 and 1 stand beside other records.
+/// Whether these are live values with these numbers, of which 9, 8 and 1 stand beside other records.
 fn are_lives(lives: &[Held], numbers: &[i32]) -> bool {
     let mut same = lives.len() == numbers.len();
     for (held, n) in lives.iter().zip(numbers) {
-        same = same && is_int(&held.value, *n) && held.extra == (*n == 9 || *n == 1);
+        same = same && is_int(&held.value, *n) && held.extra == (*n == 9 || *n == 8 || *n == 1);
     }
     same
 }
@@ -216,8 +216,17 @@ static RANGES: [(i64, i64, Direction, usize, &[i32]); 12] = [
 
 fn gives_ranges<A: Archive>(alloc: Global, archive: &mut A) -> Result<bool, StoreFault> {
     let node = node(alloc)?;
+    let all = archive.vector()?;
     for (from, to, direction, limit, wanted) in &RANGES {
-        let lives = archive.range(alloc, &node, *from, *to, *direction, *limit)?;
+        let lives = archive.range(
+            alloc,
+            &node,
+            Moment::at(*from),
+            Moment::at(*to),
+            *direction,
+            *limit,
+            &all,
+        )?;
         if !are_lives(&lives, wanted) {
             return Ok(false);
         }
@@ -246,8 +255,9 @@ fn is_next(next: Option<Held>, wanted: &[i32]) -> bool {
 
 fn gives_next<A: Archive>(alloc: Global, archive: &mut A) -> Result<bool, StoreFault> {
     let node = node(alloc)?;
+    let all = archive.vector()?;
     for (time, direction, wanted) in &OUTSIDE {
-        let next = archive.next_outside(alloc, &node, *time, *direction)?;
+        let next = archive.next_outside(alloc, &node, Moment::at(*time), *direction, &all)?;
         if !is_next(next, wanted) {
             return Ok(false);
         }
@@ -363,17 +373,59 @@ fn place(place: Option<(i64, i64, u8)>) -> Option<LogPlace> {
     let (time, tick, origin) = place?;
     let origin = ReplicaNo::new(origin)?;
     Some(LogPlace {
-        time,
+        time: Moment::at(time),
         stamp: Stamp { tick, origin },
     })
 }
 
 fn gives_logs<A: Archive>(alloc: Global, archive: &mut A) -> Result<bool, StoreFault> {
     let node = node(alloc)?;
+    let all = archive.vector()?;
     for (from, to, after, direction, limit, wanted) in &LOGS {
         let after = place(*after);
-        let entries = archive.log(alloc, &node, *from, *to, after, *direction, *limit)?;
+        let entries = archive.log(
+            alloc,
+            &node,
+            Moment::at(*from),
+            Moment::at(*to),
+            after,
+            *direction,
+            *limit,
+            &all,
+        )?;
         if !are_entries(&entries, wanted) {
+            return Ok(false);
+        }
+    }
+    Ok(true)
+}
+
+/// How many records of replica 1 are looked at, what is live from 1 to 19, what is live next behind 0,
+/// and how many modifications there are.
+static SNAPSHOTS: [(u64, &[i32], &[i32], usize); 6] = [
+    (0, &[], &[], 0),
+    (1, &[7], &[7], 1),
+    (2, &[8], &[8], 2),
+    (3, &[], &[], 3),
+    (4, &[9], &[9], 4),
+    (9, &[9], &[9], 4),
+];
+
+fn gives_snapshots<A: Archive>(alloc: Global, archive: &mut A) -> Result<bool, StoreFault> {
+    let node = node(alloc)?;
+    let (from, to) = (Moment::at(1), Moment::at(19));
+    let Some(one) = ReplicaNo::new(1) else {
+        return Ok(false);
+    };
+    for (number, live, next, count) in &SNAPSHOTS {
+        let mut within = Vector::new();
+        if *number <= 9 {
+            within.raise(one, *number);
+        }
+        let lives = archive.range(alloc, &node, from, to, Forward, 9, &within)?;
+        let outside = archive.next_outside(alloc, &node, Moment::at(0), Forward, &within)?;
+        let log = archive.log(alloc, &node, from, to, None, Forward, 9, &within)?;
+        if !(are_lives(&lives, live) && is_next(outside, next) && log.len() == *count) {
             return Ok(false);
         }
     }
@@ -399,7 +451,7 @@ static STORIES: [(i64, &[(u8, u64)]); 4] = [
 fn gives_stories<A: Archive>(alloc: Global, archive: &mut A) -> Result<bool, StoreFault> {
     let node = node(alloc)?;
     for (time, wanted) in &STORIES {
-        let records = archive.at(alloc, &node, *time)?;
+        let records = archive.at(alloc, &node, Moment::at(*time))?;
         if !are_records(&records, wanted) {
             return Ok(false);
         }
@@ -442,6 +494,7 @@ fn answers<A: Archive>(alloc: Global, archive: &mut A) -> Result<bool, Fail> {
         gives_ranges(alloc, archive)?
             && gives_next(alloc, archive)?
             && gives_logs(alloc, archive)?
+            && gives_snapshots(alloc, archive)?
             && gives_stories(alloc, archive)?
             && gives_missing(alloc, archive)?,
     )
@@ -513,5 +566,13 @@ fn numbers_of_faults(rt: HostRuntime) {
 #[test]
 fn directions(rt: HostRuntime) {
     assert!(rt; Forward.opposite() == Backward && Backward.opposite() == Forward);
-    assert!(rt; Forward.is_past(1, 2) && !Forward.is_past(2, 2) && Backward.is_past(2, 1));
+    let (one, two) = (Moment::at(1), Moment::at(2));
+    assert!(rt;
+        Forward.is_past(one, two) && !Forward.is_past(two, two) && Backward.is_past(two, one)
+    );
+    let close = Moment { ticks: 1, pico: 5 };
+    assert!(rt;
+        Forward.is_past(one, close) && Forward.is_past(close, two) && !Backward.is_past(close, two)
+    );
+    assert!(rt; close.ticks == 1 && close.pico == 5);
 }

@@ -5,7 +5,7 @@ ghost use Rattle.records.specs.Spelling.{IsLawfulRecord};
 use super::*;
 use HistoryUpdateType::{Insert, Replace};
 use archive::{Archive, Direction, Failure, LearnFault, ListArchive, ScriptedArchive, StoreFault};
-use records::{Entry, Held, HistoryUpdateType, Record};
+use records::{Entry, Held, HistoryUpdateType, Moment, Record};
 use stamp::{ReplicaNo, Vector};
 use std::alloc::{AllocError, Global};
 use std::test::Fail;
@@ -45,7 +45,7 @@ fn record(
         number,
         tick,
         node,
-        time: 10,
+        time: Moment::at(10),
         asked: Insert,
         user,
         value: value(written),
@@ -165,12 +165,23 @@ fn is_live_alone(lives: &[Held], written: i32) -> bool {
 /// Whether 8 is live, and the modifications are a replacement of 7 and the insert of it.
 fn shows_both(alloc: Global, replica: &mut Replica<ListArchive>) -> Result<bool, StoreFault> {
     let node = node(alloc)?;
-    let log = replica
-        .archive
-        .log(alloc, &node, 1, 100, None, Direction::Forward, 9)?;
-    let lives = replica
-        .archive
-        .range(alloc, &node, 1, 100, Direction::Forward, 9)?;
+    let log = replica.archive.log(
+        alloc,
+        &node,
+        Moment::at(1),
+        Moment::at(100),
+        None,
+        Direction::Forward,
+        9,
+    )?;
+    let lives = replica.archive.range(
+        alloc,
+        &node,
+        Moment::at(1),
+        Moment::at(100),
+        Direction::Forward,
+        9,
+    )?;
     Ok(are_entries(&log, &[(Replace, 7), (Insert, 7)]) && is_live_alone(&lives, 8))
 }
 
@@ -329,13 +340,13 @@ fn large_batch(alloc: Global, count: u32, size: usize) -> Result<Batch, StoreFau
 }
 
 /// How many records are held, of values of how many bytes, and how many of them a batch has. Beside its
-/// value a record has 48 bytes, and its length 4; the frame has 40 beside its records.
+/// value a record has 50 bytes, and its length 4; the frame has 40 beside its records.
 static SIZES: [(u32, usize, usize); 6] = [
     (1, 1_048_528, 1),
-    (3, 1_048_505, 1),
-    (3, 1_048_504, 2),
-    (3, 698_986, 2),
-    (3, 698_985, 3),
+    (3, 1_048_503, 1),
+    (3, 1_048_502, 2),
+    (3, 698_984, 2),
+    (3, 698_983, 3),
     (1001, 5, 1000),
 ];
 

@@ -1,5 +1,5 @@
 -- A page, and what follows it.
-use Rattle.std.proofs.Common.{◌≡◌, ℕ, zero, suc, ◌+◌, ◌-◌, ◌<◌, ◌≤◌, nat_lt, ℤ, pos, ◌≤ℤ◌, Bool, true, false, cond, ◌&&◌, not, List, [], ◌∷◌, ◌++◌, take, drop, length, slice_get, Option, Some, None, option_map, refl, sym, ap, ◌∙◌, subst, arith}
+use Rattle.std.proofs.Common.{◌≡◌, ℕ, zero, suc, ◌+◌, ◌-◌, ◌<◌, nat_lt, ℤ, ◌≤ℤ◌, Bool, true, false, cond, not, List, [], ◌∷◌, ◌++◌, take, drop, length, slice_get, Option, Some, None, option_map, refl, sym, ap, ◌∙◌, arith}
 use Rattle.std.proofs.lemmas.Bool.Decides.{nat_tests}
 use Rattle.std.proofs.lemmas.Bool.{and_parts}
 use Rattle.std.proofs.lemmas.List.{length-take, take-append-drop}
@@ -11,7 +11,7 @@ use Rattle.records.specs.declared.shown.Entry.{Entry}
 use Rattle.archive.specs.Reading.{is_between, log_of, place_of}
 use Rattle.archive.specs.Store.{IsLawfulContent}
 use Rattle.archive.proofs.Resuming.{log_resumes}
-use Rattle.hist_read.specs.Asking.{direction}
+use Rattle.hist_read.specs.Asking.{first_time, direction}
 use Rattle.hist_read.specs.Reads.{greatest_time, in_body, place_at, modified, modified_position, page_size, page, is_spent, goes_on, next_place}
 use Rattle.hist_read.specs.declared.query.Details.{Details}
 use Rattle.hist_read.specs.declared.point.Position.{Position}
@@ -31,7 +31,7 @@ last_of_take (suc n) xs x h e =
     got zero (suc n) (x ∷ xs) h = refl
     got (suc k) (suc n) (x ∷ xs) h = got k n xs (omega arith)
 
-module _ (R : Content) (node : NodeId) (q : Details) (from to : ℤ) (lawful : IsLawfulContent R) (span : (t : ℤ) → pos 1 ≤ℤ t → t ≤ℤ greatest_time → is_between from to t ≡ in_body q t) where
+module _ (R : Content) (node : NodeId) (q : Details) (from to : ℤ) (lawful : IsLawfulContent R) (span : (t : ℤ) → first_time ≤ℤ t → t ≤ℤ greatest_time → is_between from to t ≡ in_body q t) where
   module _ (p : Option Position) where
     abbrev S : List Entry
     S = modified R node q p

@@ -1,24 +1,24 @@
 -- The format of continuation points is lawful.
-use Rattle.std.proofs.Common.{◌≡◌, ℕ, zero, suc, ◌*◌, ◌<◌, ◌≤◌, ◌^◌, nat_lt, nat_le, ℤ, pos, ◌≤ℤ◌, int_le, Bool, true, false, cond, List, length, Option, Some, None, ltb, inl, inr, ◌++◌, refl, sym, ap, ◌∙◌, arith, not, ◌&&◌, ◌==◌}
+use Rattle.std.proofs.Common.{◌≡◌, ℕ, ◌<◌, ◌^◌, nat_lt, nat_le, ℤ, pos, ◌≤ℤ◌, int_le, Bool, true, false, cond, Option, Some, None, ltb, inl, inr, ◌++◌, refl, sym, ap, arith, ◌&&◌, ◌==◌}
 use Rattle.std.proofs.lemmas.Bool.Decides.{nat_tests}
-use Rattle.std.proofs.lemmas.Bool.{cases_Bool, eqb-true, ltb-true}
+use Rattle.std.proofs.lemmas.Bool.{le-leb, cases_Bool, eqb-true, ltb-true}
 use Rattle.std.proofs.lemmas.Int.{ints}
-use Rattle.std.specs.Int.{w16, w32, w64}
+use Rattle.std.specs.Int.{w64}
 use Rattle.std.specs.Int.RustNames.{FitsSigned}
 use Rattle.stamp.specs.declared.stamps.Stamp.{Stamp}
 use Rattle.ua_binary.specs.declared.fault.BinaryFault.{BinaryFault}
 use Rattle.ua_binary.specs.declared.fault.BinaryFault.TheVariants.{BadEncodingByte, BadLength}
 use Rattle.ua_binary.specs.declared.values.NodeId.{NodeId}
 use Rattle.ua_binary.specs.declared.values.NodeId.TheVariants.{Numeric, Named, Global, Opaque}
-use Rattle.ua_binary.specs.Format.{Format, IsLawful, byte, chosen, passing}
+use Rattle.ua_binary.specs.Format.{Format, IsLawful, byte, chosen}
 use Rattle.ua_binary.specs.Binary.{unsigned, signed, text, byte_string, guid, IsNodeId, IsShortNode, node_form, node_form_of, node_id}
 use Rattle.ua_binary.proofs.Combined.{byte_lawful, block_lawful, refused_lawful, then_lawful, chosen_lawful, headed_lawful, standing_lawful, passing_lawful, fitting_lawful}
 use Rattle.ua_binary.proofs.Lawful.{u16_lawful, u32_lawful, i64_lawful, text_lawful, byte_string_lawful, guid_lawful}
-use Rattle.hist_read.specs.declared.query.Details.{Details}
+use Rattle.records.specs.Moments.{moment, ticks_of, pico_of, whole_again, pico_within}
+use Rattle.hist_read.specs.Asking.{first_time}
 use Rattle.hist_read.specs.declared.point.Phase.{Phase}
 use Rattle.hist_read.specs.declared.point.Phase.TheVariants.{Near, Body}
-use Rattle.hist_read.specs.declared.point.Position.{Position}
-use Rattle.hist_read.specs.Point.{flag, short_form, short_node, IsDetails, details, details_of, details_fields, phase, time, stamp, IsStamp, stamp_of, stamp_fields, are_stamp, IsPosition, position, position_of, position_fields, number_of_phase, IsPoint, Point, point, of_fields, fields_of, suits}
+use Rattle.hist_read.specs.Point.{flag, short_form, short_node, IsDetails, details, details_of, details_fields, phase, time, stamp, IsStamp, stamp_of, stamp_fields, are_stamp, IsPosition, position, position_of, position_fields, number_of_phase, IsPoint, point, of_fields, fields_of}
 
 -- ---- spellings of which there is one
 
@@ -92,8 +92,15 @@ at_least_one : (t : ℤ) → pos 1 ≤ℤ t → int_le (pos 1) t ≡ true
 at_least_one t h = grind (arith, ints, nat_tests)
 
 pub time_lawful : IsLawful time
-unfolding time signed
-time_lawful = fitting_lawful _ (λ t h. (h.1, at_least_one t h.0)) (passing_lawful _ BadEncodingByte i64_lawful)
+unfolding time signed unsigned
+time_lawful = fitting_lawful _ time_fits (standing_lawful _ _ (then_lawful (passing_lawful _ BadEncodingByte i64_lawful) (passing_lawful _ BadEncodingByte u16_lawful)))
+  where
+    time_fits : (t : ℤ) → (first_time ≤ℤ t) × FitsSigned w64 (ticks_of t)
+        → ((FitsSigned w64 (ticks_of t) × (int_le (pos 1) (ticks_of t) ≡ true)) × ((pico_of t < 2 ^ 16) × (nat_le (pico_of t) 9999 ≡ true))) × (t ≡ moment (ticks_of t) (pico_of t))
+    time_fits t h =
+        let few = pico_within t in
+        let late : pos 1 ≤ℤ ticks_of t = omega (arith, ints, h.0, few, whole_again t) in
+        (((h.1, at_least_one (ticks_of t) late), (omega (arith, few), le-leb (pico_of t) 9999 few)), sym (whole_again t))
 
 stamp_fits : (s : Option Stamp) → IsStamp s → ((FitsSigned w64 (stamp_fields s).0 × ((stamp_fields s).1 < 2 ^ 8)) × (are_stamp (stamp_fields s) ≡ true)) × (s ≡ stamp_of (stamp_fields s))
 stamp_fits None h = (((omega (arith, ints), omega arith), refl), refl)

@@ -1,11 +1,10 @@
 -- Live values and modifications have lawful times, and what the archive answers of them is what a read asks for.
-use Rattle.std.proofs.Common.{◌≡◌, ℕ, zero, suc, ◌+◌, ℤ, pos, ◌≤ℤ◌, int_le, int_lt, Bool, true, false, cond, ◌&&◌, List, [], ◌∷◌, ◌++◌, filter, map, take, length, reverse, slice_get, Option, Some, None, refl, sym, ap, ◌∙◌, subst, arith, inl, inr, FitsSigned, w64}
+use Rattle.std.proofs.Common.{◌≡◌, ℕ, zero, suc, ◌+◌, ℤ, ◌≤ℤ◌, Bool, true, false, cond, ◌&&◌, List, [], ◌∷◌, filter, take, reverse, Option, Some, None, refl, sym, ap, ◌∙◌, subst, arith, inl}
 use Rattle.std.proofs.lemmas.Int.{ints}
 use Rattle.ua_binary.specs.declared.values.NodeId.{NodeId}
 use Rattle.records.specs.Lists.{Has}
 use Rattle.records.specs.Contents.{Content}
 use Rattle.records.specs.Records.{current, entries, story}
-use Rattle.records.specs.Spelling.{IsLawfulRecord}
 use Rattle.records.specs.declared.record.Record.{Record}
 use Rattle.records.specs.declared.shown.Held.{Held}
 use Rattle.records.specs.declared.shown.Entry.{Entry}
@@ -18,20 +17,21 @@ use Rattle.archive.specs.Queries.{IsInRange}
 use Rattle.archive.proofs.Ranges.{range_has}
 use Rattle.archive.proofs.Timing.{current_from, current_time, entry_from}
 use Rattle.archive.proofs.Turning.{has_from_filter_map, has_from_flat_map, has_from_reverse}
-use Rattle.hist_read.specs.Asking.{origin_time, direction}
+use Rattle.hist_read.specs.Asking.{first_time, direction}
+use Rattle.records.specs.Moments.{whole_again, pico_within}
 use Rattle.hist_read.specs.declared.query.Details.{Details}
 use Rattle.hist_read.specs.declared.point.Position.{Position}
 use Rattle.hist_read.specs.Pages.{body_limit}
-use Rattle.hist_read.specs.Reads.{is_near_alone, limit_at, body_part, page_size, greatest_time, in_body, lives_in, body, is_past_any}
-use Rattle.hist_read.proofs.Filters.{filter_all, filter_both, filter_same, filter_turned}
+use Rattle.hist_read.specs.Reads.{is_near_alone, limit_at, body_part, page_size, greatest_time, in_body, body, is_past_any}
+use Rattle.hist_read.proofs.Filters.{filter_both, filter_same, filter_turned}
 
 abbrev pub IsTime : ℤ → Type 0
-IsTime t = (pos 1 ≤ℤ t) × (t ≤ℤ greatest_time)
+IsTime t = (first_time ≤ℤ t) × (t ≤ℤ greatest_time)
 
 pub record_time : (R : Content) (r : Record) → IsLawfulContent R → Has R r → IsTime r.time
 record_time R r lawful h =
     let of_record = (lawful.records r h).time in
-    (of_record.0, omega (arith, ints, of_record.1))
+    (omega (arith, ints, of_record.0, whole_again r.time, pico_within r.time), omega (arith, ints, of_record.1, whole_again r.time, pico_within r.time))
 
 pub lives_lawful : (R : Content) (node : NodeId) (h : Held) → IsLawfulContent R → Has (lives R node) h → IsTime h.time
 lives_lawful R node h lawful k =
@@ -49,7 +49,7 @@ log_lawful R node e lawful h =
 
 -- the times of a span are those of the body that are beyond a limit
 abbrev pub IsSpanOf : Details → Option ℤ → ℤ → ℤ → Type 0
-IsSpanOf q limit from to = (t : ℤ) → pos 1 ≤ℤ t → t ≤ℤ greatest_time → is_between from to t ≡ (in_body q t && is_past_any (direction q) limit t)
+IsSpanOf q limit from to = (t : ℤ) → first_time ≤ℤ t → t ≤ℤ greatest_time → is_between from to t ≡ (in_body q t && is_past_any (direction q) limit t)
 
 pub span_reads : (R : Content) (node : NodeId) (q : Details) (limit : Option ℤ) (from to : ℤ) → IsLawfulContent R → IsSpanOf q limit from to
     → range_of R node from to (direction q) ≡ filter (λ h. is_past_any (direction q) limit h.time) (body R node q)
@@ -97,7 +97,7 @@ value_at_is R node d t = first_take _ ∙ go (range_of R node t t d) refl (curre
 -- ---- modifications
 
 pub log_reads : (R : Content) (node : NodeId) (q : Details) (after : Option LogPlace) (from to : ℤ) → IsLawfulContent R
-    → ((t : ℤ) → pos 1 ≤ℤ t → t ≤ℤ greatest_time → is_between from to t ≡ in_body q t)
+    → ((t : ℤ) → first_time ≤ℤ t → t ≤ℤ greatest_time → is_between from to t ≡ in_body q t)
     → log_of R node from to after (direction q) ≡ filter (follows (direction q) after) (filter (λ e. in_body q e.time) (in_direction (direction q) (log R node)))
 log_reads R node q after from to lawful span =
     ap (filter (follows (direction q) after)) (

@@ -1,7 +1,7 @@
 -- A page of what an archive holds ends at a place that can be written.
-use Rattle.std.proofs.Common.{rules, ◌≡◌, ℕ, zero, suc, ◌+◌, ◌-◌, ◌<◌, ◌≤◌, min, nat_lt, nat_le, ◌==◌, ℤ, pos, ◌≤ℤ◌, int_le, Bool, true, false, cond, ◌&&◌, ◌||◌, not, IsTrue, List, [], ◌∷◌, ◌++◌, map, filter, take, length, reverse, Option, Some, None, IfSome, option_map, refl, sym, ap, ◌∙◌, subst, arith, inl, inr, ◌⊎◌}
+use Rattle.std.proofs.Common.{◌≡◌, ℕ, zero, suc, ◌+◌, ◌-◌, ◌<◌, ◌≤◌, min, nat_lt, nat_le, ◌==◌, ℤ, pos, ◌≤ℤ◌, Bool, true, false, cond, ◌&&◌, ◌||◌, not, IsTrue, List, [], ◌∷◌, ◌++◌, map, filter, take, length, reverse, Option, Some, None, IfSome, option_map, refl, ap, ◌∙◌, subst, arith, inl, inr, ◌⊎◌}
 use Rattle.std.proofs.lemmas.Bool.Decides.{nat_tests}
-use Rattle.std.proofs.lemmas.Bool.{cases_Bool, and_parts, and_from}
+use Rattle.std.proofs.lemmas.Bool.{and_parts, and_from}
 use Rattle.std.proofs.lemmas.Int.{ints}
 use Rattle.std.proofs.lemmas.List.{length-append, take-append-le}
 use Rattle.stamp.specs.Limits.{greatest, IsReplica}
@@ -14,19 +14,20 @@ use Rattle.records.specs.declared.shown.Held.{Held}
 use Rattle.records.specs.declared.shown.Entry.{Entry}
 use Rattle.records.proofs.LatestLemmas.{story_has}
 use Rattle.records.proofs.Sorting.{has_from_filter}
-use Rattle.archive.specs.Reading.{times, lives, log, in_direction, opposite, is_past, outside_of, follows, place_of}
+use Rattle.archive.specs.Reading.{times, lives, log, in_direction, opposite, is_past, outside_of, follows}
 use Rattle.archive.specs.Store.{IsLawfulContent}
 use Rattle.archive.specs.declared.reading.Direction.{Direction}
 use Rattle.archive.proofs.Timing.{has_from_get, current_from}
 use Rattle.archive.proofs.Turning.{has_from_flat_map, has_from_reverse, has-in_direction}
-use Rattle.hist_read.specs.Asking.{is_given, has_both, origin_time, direction}
-use Rattle.hist_read.specs.Point.{IsNext, IsStamp, is_given_for}
+use Rattle.hist_read.specs.Asking.{is_given, has_both, first_time, origin_time, direction}
+use Rattle.records.specs.Moments.{moment}
+use Rattle.hist_read.specs.Point.{IsNext, is_given_for}
 use Rattle.hist_read.specs.Reads.{or_else, nearest_from, value_or_missing, near, item_time, is_near_alone, near_part, limit_at, is_past_any, in_body, lives_in, body, body_part, values, far, far_part, last_time, time_before, before_far, raw, modified, place_at, given_before, page_size, is_spent, page, goes_on, given_after, raw_position, modified_position, next_place}
 use Rattle.hist_read.specs.declared.query.Details.{Details}
 use Rattle.hist_read.specs.declared.point.Position.{Position}
 use Rattle.hist_read.specs.declared.item.Item.{Item}
-use Rattle.hist_read.specs.declared.item.Item.TheVariants.{Value, Missing}
-use Rattle.hist_read.proofs.Lives.{IsTime, record_time, lives_lawful, log_lawful}
+use Rattle.hist_read.specs.declared.item.Item.TheVariants.{Value}
+use Rattle.hist_read.proofs.Lives.{IsTime, record_time, lives_lawful}
 
 -- ---- members
 
@@ -66,60 +67,60 @@ module _ (R : Content) (node : NodeId) (q : Details) (p : Option Position) (lawf
   -- ---- raw values
 
   module _ (given : IsTrue (is_given q.start || is_given q.end)) where
-    origin_late : pos 1 ≤ℤ origin_time q
+    origin_late : first_time ≤ℤ origin_time q
     origin_late = go (is_given q.start) refl given
       where
-        go : (b : Bool) → is_given q.start ≡ b → IsTrue (b || is_given q.end) → pos 1 ≤ℤ cond b q.start q.end
+        go : (b : Bool) → is_given q.start ≡ b → IsTrue (b || is_given q.end) → first_time ≤ℤ moment (cond b q.start q.end) 0
         go true e g = grind (arith, ints, nat_tests, e)
         go false e g = grind (arith, ints, nat_tests, g)
 
-    current_late : (t : ℤ) (h : Held) → current R node t ≡ Some h → pos 1 ≤ℤ h.time
+    current_late : (t : ℤ) (h : Held) → current R node t ≡ Some h → first_time ≤ℤ h.time
     current_late t h e = let r = current_from R node t h e in (subst IsTime r.2 (record_time R r.0 lawful ((story_has R node t r.0).0 r.1).0)).0
 
-    outside_late : (t : ℤ) (d : Direction) (h : Held) → outside_of R node t d ≡ Some h → pos 1 ≤ℤ h.time
+    outside_late : (t : ℤ) (d : Direction) (h : Held) → outside_of R node t d ≡ Some h → first_time ≤ℤ h.time
     outside_late t d h e =
         let there = (has-in_direction d (filter (λ x. is_past d t x.time) (lives R node)) h).0 (has_from_get _ 0 h e) in
         (lives_lawful R node h lawful (has_from_filter (λ (x : Held). is_past d t x.time) (lives R node) h there).0).0
 
-    nearest_late : (t : ℤ) (d : Direction) (h : Held) → nearest_from R node d t ≡ Some h → pos 1 ≤ℤ h.time
+    nearest_late : (t : ℤ) (d : Direction) (h : Held) → nearest_from R node d t ≡ Some h → first_time ≤ℤ h.time
     nearest_late t d h e = go (current R node t) refl e
       where
-        go : (o : Option Held) → current R node t ≡ o → or_else o (outside_of R node t d) ≡ Some h → pos 1 ≤ℤ h.time
+        go : (o : Option Held) → current R node t ≡ o → or_else o (outside_of R node t d) ≡ Some h → first_time ≤ℤ h.time
         go None f e = outside_late t d h e
         go (Some x) f e = current_late t h (f ∙ e)
 
-    near_late : pos 1 ≤ℤ item_time (near R node q)
+    near_late : first_time ≤ℤ item_time (near R node q)
     near_late = go (nearest_from R node (opposite (direction q)) (origin_time q)) refl
       where
-        go : (o : Option Held) → nearest_from R node (opposite (direction q)) (origin_time q) ≡ o → pos 1 ≤ℤ item_time (value_or_missing (origin_time q) o)
+        go : (o : Option Held) → nearest_from R node (opposite (direction q)) (origin_time q) ≡ o → first_time ≤ℤ item_time (value_or_missing (origin_time q) o)
         go None e = origin_late
         go (Some h) e = nearest_late (origin_time q) (opposite (direction q)) h e
 
-    near_in : (p : Option Position) (x : Item) → Has (near_part R node q p) x → pos 1 ≤ℤ item_time x
+    near_in : (p : Option Position) (x : Item) → Has (near_part R node q p) x → first_time ≤ℤ item_time x
     near_in (Some p) x h = absurd h
     near_in None x h = go q.bounds h
       where
-        go : (b : Bool) → Has (cond b (near R node q ∷ []) []) x → pos 1 ≤ℤ item_time x
-        go true i = elim i [ inl e ↦ subst (λ y. pos 1 ≤ℤ item_time y) e near_late | inr k ↦ absurd k ]
+        go : (b : Bool) → Has (cond b (near R node q ∷ []) []) x → first_time ≤ℤ item_time x
+        go true i = elim i [ inl e ↦ subst (λ y. first_time ≤ℤ item_time y) e near_late | inr k ↦ absurd k ]
         go false i = absurd i
 
-    body_late : (h : Held) → Has (body_part R node q p) h → pos 1 ≤ℤ h.time
+    body_late : (h : Held) → Has (body_part R node q p) h → first_time ≤ℤ h.time
     body_late h k = go (is_near_alone q) k
       where
         rest : List Held
         rest = filter (λ x. is_past_any (direction q) (limit_at q p) x.time) (body R node q)
 
-        go : (b : Bool) → Has (cond b [] rest) h → pos 1 ≤ℤ h.time
+        go : (b : Bool) → Has (cond b [] rest) h → first_time ≤ℤ h.time
         go true i = absurd i
         go false i =
             let one = (has_from_filter (λ (x : Held). is_past_any (direction q) (limit_at q p) x.time) (body R node q) h i).0 in
             let two = (has_from_filter (λ (x : Held). in_body q x.time) (lives_in R node q) h one).0 in
             (lives_lawful R node h lawful ((has-in_direction (direction q) (lives R node) h).0 two)).0
 
-    item_late : (x : Item) → Has (before_far R node q p) x → pos 1 ≤ℤ item_time x
+    item_late : (x : Item) → Has (before_far R node q p) x → first_time ≤ℤ item_time x
     item_late x h = elim (has_from_append (near_part R node q p) (values (body_part R node q p)) x h) [
       | inl i ↦ near_in p x i
-      | inr j ↦ let s = has_from_map (λ h. Value h) (body_part R node q p) x j in subst (λ y. pos 1 ≤ℤ item_time y) s.2 (body_late s.0 s.1)
+      | inr j ↦ let s = has_from_map (λ h. Value h) (body_part R node q p) x j in subst (λ y. first_time ≤ℤ item_time y) s.2 (body_late s.0 s.1)
     ]
 
     far_short : (before : ℤ) → length (far_part R node q before) ≤ 1
@@ -161,7 +162,7 @@ module _ (R : Content) (node : NodeId) (q : Details) (p : Option Position) (lawf
   -- ---- modifications
 
   pub record IsLate (e : Entry) : Type 0 where
-    pub time : pos 1 ≤ℤ e.time
+    pub time : first_time ≤ℤ e.time
     pub low : pos 1 ≤ℤ e.tick
     pub high : e.tick ≤ℤ pos greatest
     pub origin : IsReplica e.origin

@@ -1,5 +1,5 @@
 -- What was found makes the page.
-use Rattle.std.proofs.Common.{◌≡◌, ℕ, ◌+◌, ◌≤◌, ◌<◌, nat_lt, nat_le, ℤ, Bool, true, false, cond, not, ◌&&◌, List, [], ◌∷◌, ◌++◌, map, take, drop, length, Option, Some, None, option_map, refl, sym, ap, ◌∙◌, subst, arith, inl, inr}
+use Rattle.std.proofs.Common.{◌≡◌, ℕ, ◌+◌, ◌≤◌, ◌<◌, nat_lt, nat_le, ℤ, Bool, true, false, cond, not, ◌&&◌, List, [], ◌∷◌, ◌++◌, take, drop, length, Option, Some, None, option_map, refl, sym, ap, ◌∙◌, arith, inl, inr}
 use Rattle.std.specs.Option.{option_to_list}
 use Rattle.std.proofs.lemmas.Bool.{cases_Bool}
 use Rattle.std.proofs.lemmas.Bool.Decides.{nat_tests}
@@ -9,8 +9,8 @@ use Rattle.records.specs.Contents.{Content}
 use Rattle.records.specs.Lists.{last}
 use Rattle.records.specs.declared.shown.Held.{Held}
 use Rattle.records.specs.declared.shown.Entry.{Entry}
-use Rattle.hist_read.specs.Asking.{has_both, far_limit, direction}
-use Rattle.hist_read.specs.Reads.{is_near_alone, near_part, body_part, far_part, far, far_at, far_value, value_or_missing, open_bound, values, last_time, time_before, before_far, raw, page_size, page, is_spent, goes_on, next_place, raw_position, modified, modified_position}
+use Rattle.hist_read.specs.Asking.{has_both, direction, end_time}
+use Rattle.hist_read.specs.Reads.{near_part, body_part, far_part, far, far_at, value_or_missing, open_bound, values, last_time, time_before, before_far, raw, page_size, page, is_spent, goes_on, next_place, raw_position, modified, modified_position}
 use Rattle.hist_read.specs.Pages.{IsFound, has_far, far_item, far_of, row_of}
 use Rattle.hist_read.specs.declared.query.Details.{Details}
 use Rattle.hist_read.specs.declared.point.Position.{Position}
@@ -40,8 +40,8 @@ module _ (R : Content) (node : NodeId) (q : Details) (p : Option Position) (foun
   far_is : (before : ℤ) → has_far q ≡ true → far_item q found.far before ≡ far R node q before
   far_is before due = go (has_both q) refl
     where
-      go : (b : Bool) → has_both q ≡ b → cond b (value_or_missing q.end found.far) (open_bound (direction q) before) ≡ far_at R node q before (cond b (Some q.end) None)
-      go true e = ap (value_or_missing q.end) (is.far e due)
+      go : (b : Bool) → has_both q ≡ b → cond b (value_or_missing (end_time q) found.far) (open_bound (direction q) before) ≡ far_at R node q before (cond b (Some (end_time q)) None)
+      go true e = ap (value_or_missing (end_time q)) (is.far e due)
       go false e = refl
 
   far_part_is : (before : ℤ) → cond (has_far q && true) (far_item q found.far before ∷ []) [] ≡ far_part R node q before

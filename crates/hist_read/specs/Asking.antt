@@ -1,5 +1,6 @@
 -- What a read of history asks for (Part 11, ReadRawModifiedDetails).
 use Rattle.std.specs.Prelude.{ℤ, pos, int_le, int_lt, Bool, not, ◌&&◌, Option, Some, None, if◌then◌else◌}
+use Rattle.records.specs.Moments.{moment}
 use Rattle.archive.specs.declared.reading.Direction.{Direction}
 use Rattle.archive.specs.declared.reading.Direction.TheVariants.{Forward, Backward}
 use Rattle.hist_read.specs.declared.query.Details.{Details}
@@ -11,13 +12,20 @@ is_given time = int_le (pos 1) time
 abbrev pub has_both : Details → Bool
 has_both d = is_given d.start && is_given d.end
 
+-- the first moment of the time 1
+abbrev pub first_time : ℤ
+first_time = moment (pos 1) 0
+
 -- where reading begins
 abbrev pub origin_time : Details → ℤ
-origin_time d = if is_given d.start then d.start else d.end
+origin_time d = moment (if is_given d.start then d.start else d.end) 0
+
+abbrev pub end_time : Details → ℤ
+end_time d = moment d.end 0
 
 -- where it ends, in case both times are given
 abbrev pub far_limit : Details → Option ℤ
-far_limit d = if has_both d then Some d.end else None
+far_limit d = if has_both d then Some (end_time d) else None
 
 -- backward where the end is before the start, or no start is given
 abbrev pub direction : Details → Direction

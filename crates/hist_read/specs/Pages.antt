@@ -1,11 +1,11 @@
 -- How a page of raw values is made of what the archive answers.
-use Rattle.std.specs.Prelude.{◌≡◌, Vec, ℕ, ◌+◌, nat_le, ℤ, Bool, true, not, ◌&&◌, if◌then◌else◌, List, [], ◌∷◌, ◌++◌, take, length, Option, Some, None}
+use Rattle.std.specs.Prelude.{◌≡◌, Vec, ℕ, ◌+◌, nat_le, ℤ, Bool, true, not, ◌&&◌, if◌then◌else◌, List, [], ◌∷◌, ◌++◌, take, length, Option}
 use Rattle.std.specs.Global.{Global}
 use Rattle.std.specs.Option.{option_to_list}
 use Rattle.ua_binary.specs.declared.values.NodeId.{NodeId}
 use Rattle.records.specs.Contents.{Content}
 use Rattle.records.specs.declared.shown.Held.{Held}
-use Rattle.hist_read.specs.Asking.{has_both, direction}
+use Rattle.hist_read.specs.Asking.{has_both, end_time, direction}
 use Rattle.hist_read.specs.Reads.{is_near_alone, near_part, body_part, far_value, value_or_missing, open_bound, values, last_time, time_before, page_size, page, raw, next_place, raw_position, modified, modified_position}
 use Rattle.hist_read.specs.declared.query.Details.{Details}
 use Rattle.hist_read.specs.declared.point.Position.{Position}
@@ -25,17 +25,17 @@ has_far q = q.bounds && not (is_near_alone q)
 -- the values behind the near bound, one more than the page has, and the one at the far limit
 pub record IsFoundBehind (R : Content) (node : NodeId) (q : Details) (p : Option Position) (found : Vec Held Global × Option Held) : Type 0 where
   pub body : found.0.items ≡ take (page_size q p + 1) (body_part R node q p)
-  pub far : has_both q ≡ true → has_far q ≡ true → found.1 ≡ far_value R node q q.end
+  pub far : has_both q ≡ true → has_far q ≡ true → found.1 ≡ far_value R node q (end_time q)
 
 -- the near bound, one value more than the page has, and the value at the far limit
 pub record IsFound (R : Content) (node : NodeId) (q : Details) (p : Option Position) (found : Found) : Type 0 where
   pub near : option_to_list found.near ≡ near_part R node q p
   pub body : found.body.items ≡ take (page_size q p + 1) (body_part R node q p)
-  pub far : has_both q ≡ true → has_far q ≡ true → found.far ≡ far_value R node q q.end
+  pub far : has_both q ≡ true → has_far q ≡ true → found.far ≡ far_value R node q (end_time q)
 
 -- the far bound of the value at the far limit, behind an item of this time
 abbrev pub far_item : Details → Option Held → ℤ → Item
-far_item q value before = if has_both q then value_or_missing q.end value else open_bound (direction q) before
+far_item q value before = if has_both q then value_or_missing (end_time q) value else open_bound (direction q) before
 
 -- the far bound behind these items, where it is due
 abbrev pub far_of : Details → Option Position → (is_due : Bool) → List Item → Option Held → List Item

@@ -16,7 +16,8 @@ use Rattle.hist_read.specs.declared.point.Phase.{Phase}
 use Rattle.hist_read.specs.declared.point.Phase.TheVariants.{Near, Body}
 use Rattle.hist_read.specs.declared.point.Position.{Position}
 use Rattle.hist_read.specs.declared.point.Place.{Place}
-use Rattle.hist_read.specs.Asking.{has_both}
+use Rattle.hist_read.specs.Asking.{has_both, first_time}
+use Rattle.records.specs.Moments.{moment, ticks_of, pico_of}
 
 -- ---- spellings of which there is one
 
@@ -66,7 +67,7 @@ unfoldable pub phase : Format BinaryFault Phase
 phase = fitting (λ _. Unit {0}) (standing_for (λ n. if n == 1 then Near else Body) number_of_phase (passing (λ n. nat_le 1 n && nat_le n 2) BadEncodingByte byte))
 
 unfoldable pub time : Format BinaryFault ℤ
-time = fitting (λ t. (pos 1 ≤ℤ t) × FitsSigned w64 t) (passing (λ t. int_le (pos 1) t) BadEncodingByte (signed w64))
+time = fitting (λ t. (first_time ≤ℤ t) × FitsSigned w64 (ticks_of t)) (standing_for (λ p. moment p.0 p.1) (λ t. (ticks_of t, pico_of t)) (passing (λ t. int_le (pos 1) t) BadEncodingByte (signed w64) ▸ passing (λ n. nat_le n 9999) BadEncodingByte (unsigned w16)))
 
 -- zeros for none, else a record's tick and origin
 abbrev pub are_stamp : ℤ × ℕ → Bool
@@ -96,7 +97,7 @@ abbrev pub position_fields : Position → PositionFields
 position_fields p = (p.phase, (p.time, (p.stamp, p.given)))
 
 abbrev pub IsPosition : Position → Type 0
-IsPosition p = (pos 1 ≤ℤ p.time) × FitsSigned w64 p.time × IsStamp p.stamp × (p.given < 2 ^ 32)
+IsPosition p = (first_time ≤ℤ p.time) × FitsSigned w64 (ticks_of p.time) × IsStamp p.stamp × (p.given < 2 ^ 32)
 
 -- phase, time, stamp, and how many items were given
 unfoldable pub position : Format BinaryFault Position
@@ -165,4 +166,4 @@ point_in bytes = told (whole BadEncodingByte point bytes)
 
 -- a position that a page of what was asked may end at: with these, and a node that can be counted, a point has a spelling
 abbrev pub IsNext : Details → Position → Type 0
-IsNext d p = (pos 1 ≤ℤ p.time) × IsStamp p.stamp × (suits d p ≡ true)
+IsNext d p = (first_time ≤ℤ p.time) × IsStamp p.stamp × (suits d p ≡ true)

@@ -4,12 +4,13 @@ use Rattle.std.specs.Prelude.{ℕ, ◌+◌, ◌-◌, ◌==◌, min, nat_lt, nat_
 use Rattle.std.specs.Ordering.{int_eq}
 use Rattle.std.specs.Int.{int_min, int_max}
 use Rattle.ua_binary.specs.declared.values.NodeId.{NodeId}
+use Rattle.records.specs.Moments.{moment, ticks_of}
 use Rattle.records.specs.Contents.{Content}
 use Rattle.records.specs.Lists.{last}
 use Rattle.records.specs.Records.{current}
 use Rattle.records.specs.declared.shown.Held.{Held}
 use Rattle.records.specs.declared.shown.Entry.{Entry}
-use Rattle.archive.specs.Reading.{lives, log, in_direction, opposite, is_past, follows, place_of, outside_of}
+use Rattle.archive.specs.Reading.{lives, log, in_direction, opposite, is_between, is_past, follows, place_of, outside_of}
 use Rattle.archive.specs.declared.reading.Direction.{Direction}
 use Rattle.archive.specs.declared.reading.Direction.TheVariants.{Forward, Backward}
 use Rattle.archive.specs.declared.reading.LogPlace.{LogPlace}
@@ -21,12 +22,19 @@ use Rattle.hist_read.specs.declared.point.Position.{Position}
 use Rattle.hist_read.specs.declared.item.Item.{Item}
 use Rattle.hist_read.specs.declared.item.Item.TheVariants.{Value, Missing}
 
--- the greatest Int64
-abbrev pub greatest_time : ℤ
-greatest_time = pos 9223372036854775807
+-- the greatest Int64 and the least one
+abbrev pub greatest_ticks : ℤ
+greatest_ticks = pos 9223372036854775807
 
-abbrev pub least_time : ℤ
-least_time = negsuc 9223372036854775807
+abbrev pub least_ticks : ℤ
+least_ticks = negsuc 9223372036854775807
+
+abbrev pub greatest_time : ℤ
+greatest_time = moment greatest_ticks 9999
+
+-- the last moment of the time of which this is the first
+abbrev pub last_within : ℤ → ℤ
+last_within first = first +ℤ pos 9999
 
 -- ---- the body
 
@@ -34,10 +42,10 @@ least_time = negsuc 9223372036854775807
 abbrev pub is_from : Direction → ℤ → ℤ → Bool
 is_from d limit time = int_eq time limit || is_past d limit time
 
--- from the origin, which is in it, to the far limit, which isn't; the one instant where both are equal
+-- from the origin, which is in it, to the far limit, which isn't; all moments of the one time where both are equal
 abbrev pub in_body_of : Direction → ℤ → Option ℤ → ℤ → Bool
 in_body_of d o None time = is_from d o time
-in_body_of d o (Some f) time = if int_eq o f then int_eq time o else is_from d o time && is_past d time f
+in_body_of d o (Some f) time = if int_eq o f then is_between o (last_within o) time else is_from d o time && is_past d time f
 
 abbrev pub in_body : Details → ℤ → Bool
 in_body q = in_body_of (direction q) (origin_time q) (far_limit q)
@@ -80,12 +88,12 @@ last_time time items = time_of_last time (last items)
 
 -- the far bound of an open limit, one second beyond the item before it, within an Int64
 abbrev pub open_bound : Direction → ℤ → Item
-open_bound Forward time = Missing (int_min greatest_time (time +ℤ pos 10000000))
-open_bound Backward time = Missing (int_max least_time (time -ℤ pos 10000000))
+open_bound Forward time = Missing (moment (int_min greatest_ticks (ticks_of time +ℤ pos 10000000)) 0)
+open_bound Backward time = Missing (moment (int_max least_ticks (ticks_of time -ℤ pos 10000000)) 0)
 
 -- the value at the far limit, else the nearest one beyond it; beyond it where the origin is the limit
 abbrev pub far_value : Content → NodeId → Details → ℤ → Option Held
-far_value R node q f = if int_eq (origin_time q) f then outside_of R node f (direction q) else nearest_from R node (direction q) f
+far_value R node q f = if int_eq (origin_time q) f then outside_of R node (last_within f) (direction q) else nearest_from R node (direction q) f
 
 abbrev pub far_at : Content → NodeId → Details → ℤ → Option ℤ → Item
 far_at R node q before None = open_bound (direction q) before

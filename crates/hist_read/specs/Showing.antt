@@ -1,9 +1,8 @@
 -- How values and modifications are shown (Part 4, 7.11; Part 11, HistoryData and HistoryModifiedData).
-use Rattle.std.specs.Prelude.{ℕ, ℤ, Bool, if◌then◌else◌, List, map, Option, Some, None, bit_or}
-use Rattle.ua_binary.specs.declared.values.Ticks.{Ticks}
-use Rattle.ua_binary.specs.declared.values.Status.{Status}
+use Rattle.std.specs.Prelude.{ℕ, ℤ, if◌then◌else◌, Option, Some, None, bit_or}
+use Rattle.ua_binary.specs.declared.codes.Status.{Status}
 use Rattle.ua_variant.specs.declared.data.DataValue.{DataValue}
-use Rattle.records.specs.declared.shown.Held.{Held}
+use Rattle.records.specs.Moments.{ticks_of}
 use Rattle.records.specs.declared.shown.Entry.{Entry}
 use Rattle.hist_read.specs.declared.item.Item.{Item}
 use Rattle.hist_read.specs.declared.item.Item.TheVariants.{Value, Missing}
@@ -20,7 +19,7 @@ abbrev pub with_extra : Option Status → Option Status
 with_extra s = Some (record { 0 = bit_or (bits_of s) 1032 })
 
 abbrev pub at_time : ℤ → DataValue → DataValue
-at_time time v = record { value = v.value; status = v.status; source_time = Some (record { 0 = time }); source_pico = v.source_pico; server_time = v.server_time; server_pico = v.server_pico }
+at_time time v = record { value = v.value; status = v.status; source_time = Some (record { 0 = ticks_of time }); source_pico = v.source_pico; server_time = v.server_time; server_pico = v.server_pico }
 
 abbrev pub no_value : DataValue
 no_value = record { value = None; status = None; source_time = None; source_pico = None; server_time = None; server_pico = None }

@@ -1,28 +1,74 @@
 //! What was asked, as stretches of time and sizes of pages.
 
-ghost use Rattle.std.specs.Prelude.{◌≡◌, ◌≤◌, ◌&&◌, ◌||◌, IfSome, ℤ, pos, ◌≤ℤ◌, IsTrue, false, not, nat_lt};
-ghost use Rattle.std.specs.Int.{w64};
-ghost use Rattle.std.specs.Int.RustNames.{FitsSigned};
-ghost use Rattle.hist_read.specs.Asking.{is_given, has_both, origin_time, direction};
+ghost use Rattle.std.specs.Prelude.{◌≡◌, ◌≤◌, ◌&&◌, ◌||◌, IfSome, ℤ, pos, ◌≤ℤ◌, ◌<ℤ◌, ◌+ℤ◌, ◌-ℤ◌, IsTrue, false, not, nat_lt};
+ghost use Rattle.records.specs.Moments.{moment};
+ghost use Rattle.hist_read.specs.Asking.{is_given, has_both, first_time, origin_time, direction};
 ghost use Rattle.hist_read.specs.Reads.{greatest_time, in_body, is_past_any, limit_at, page_size, given_before, is_spent, given_after};
 ghost use Rattle.archive.specs.Reading.{is_between, is_past};
 
 use crate::point::{Phase, Position};
 use crate::query::Details;
 use archive::Direction;
+use records::Moment;
 
 /// The most items of a page.
 const LARGEST_PAGE: usize = 1000;
 
-/// From one time to another, both included; none where the first is the later one.
+/// From one moment to another, both included; none where the first is the later one.
 #[derive(Clone, Copy, Debug, PartialEq, Eq)]
 pub(crate) struct Span {
-    pub(crate) from: i64,
-    pub(crate) to: i64,
+    pub(crate) from: Moment,
+    pub(crate) to: Moment,
+}
+
+/// The last moment of a time.
+fn last_within(time: i64) -> Moment
+    ensures { result ≡ moment time 9999 }
+{
+    Moment {
+        ticks: time,
+        pico: 9999,
+    }
+}
+
+/// The moment right behind one.
+fn next(time: Moment) -> Moment
+    requires { time <ℤ greatest_time }
+    ensures { result ≡ time +ℤ pos 1 }
+{
+    if time.pico < 9999 {
+        Moment {
+            ticks: time.ticks,
+            pico: time.pico + 1,
+        }
+    } else {
+        Moment {
+            ticks: time.ticks + 1,
+            pico: 0,
+        }
+    }
+}
+
+/// The moment right before one.
+fn previous(time: Moment) -> Moment
+    requires { first_time ≤ℤ time }
+    ensures { result ≡ time -ℤ pos 1 }
+{
+    if time.pico > 0 {
+        Moment {
+            ticks: time.ticks,
+            pico: time.pico - 1,
+        }
+    } else {
+        Moment {
+            ticks: time.ticks - 1,
+            pico: 9999,
+        }
+    }
 }
 
 impl Details {
-    ghost use Rattle.hist_read.specs.Asking.{has_both, origin_time, direction};
+    ghost use Rattle.hist_read.specs.Asking.{has_both, first_time, origin_time, direction};
     ghost use Rattle.hist_read.specs.Reads.{greatest_time, in_body};
 
     /// Whether both times are given.
@@ -33,13 +79,13 @@ impl Details {
     }
 
     /// Where reading begins.
-    pub(crate) fn origin(&self) -> i64
+    pub(crate) fn origin(&self) -> Moment
         ensures { result ≡ origin_time self.now }
     {
         if self.start >= 1 {
-            self.start
+            Moment::at(self.start)
         } else {
-            self.end
+            Moment::at(self.end)
         }
     }
 
@@ -54,53 +100,60 @@ impl Details {
         }
     }
 
-    /// The times of the body.
+    /// The moments of the body.
+    #[tactic(auto, using(records::specs::Moments::whole_again, records::specs::Moments::pico_within))]
     pub(crate) fn body(&self) -> Span
         requires { IsTrue (is_given self.now.start || is_given self.now.end) }
-        ensures { (t : ℤ) → pos 1 ≤ℤ t → t ≤ℤ greatest_time → is_between result.from result.to t ≡ in_body self.now t }
+        ensures { (t : ℤ) → first_time ≤ℤ t → t ≤ℤ greatest_time → is_between result.from result.to t ≡ in_body self.now t }
     {
         if self.end < 1 {
             Span {
-                from: self.start,
-                to: i64::MAX,
+                from: Moment::at(self.start),
+                to: last_within(i64::MAX),
             }
         } else if self.start < 1 {
             Span {
-                from: 1,
-                to: self.end,
+                from: Moment::at(1),
+                to: Moment::at(self.end),
             }
         } else if self.start == self.end {
             Span {
-                from: self.start,
-                to: self.start,
+                from: Moment::at(self.start),
+                to: last_within(self.start),
             }
         } else if self.start < self.end {
             Span {
-                from: self.start,
-                to: self.end - 1,
+                from: Moment::at(self.start),
+                to: last_within(self.end - 1),
             }
         } else {
             Span {
-                from: self.end + 1,
-                to: self.start,
+                from: Moment {
+                    ticks: self.end,
+                    pico: 1,
+                },
+                to: Moment::at(self.start),
             }
         }
     }
 }
 
 impl Span {
-    /// Its times that are beyond a limit.
-    fn beyond(&self, direction: Direction, limit: i64) -> Span
-        requires { pos 1 ≤ℤ limit }
+    /// Its moments that are beyond a limit.
+    fn beyond(&self, direction: Direction, limit: Moment) -> Span
+        requires { first_time ≤ℤ limit }
         ensures { (t : ℤ) → t ≤ℤ greatest_time → is_between result.from result.to t ≡ (is_between self.now.from self.now.to t && is_past direction limit t) }
     {
         match direction {
             Direction::Forward => {
-                if limit == i64::MAX {
-                    Span { from: 1, to: 0 }
+                if limit == last_within(i64::MAX) {
+                    Span {
+                        from: Moment::at(1),
+                        to: Moment::at(0),
+                    }
                 } else if self.from <= limit {
                     Span {
-                        from: limit + 1,
+                        from: next(limit),
                         to: self.to,
                     }
                 } else {
@@ -111,7 +164,7 @@ impl Span {
                 if limit <= self.to {
                     Span {
                         from: self.from,
-                        to: limit - 1,
+                        to: previous(limit),
                     }
                 } else {
                     *self
@@ -122,10 +175,9 @@ impl Span {
 }
 
 /// What reading goes on from.
-pub(crate) fn limit_at(details: &Details, position: &Option<Position>) -> Option<i64>
+pub(crate) fn limit_at(details: &Details, position: &Option<Position>) -> Option<Moment>
     ensures limit { result ≡ limit_at details.now position.now }
-    ensures fits { IfSome result (λ t. FitsSigned w64 t) }
-    ensures some { IsTrue (is_given details.now.start || is_given details.now.end) → IfSome position.now (λ p. pos 1 ≤ℤ p.time) → IfSome result (λ t. pos 1 ≤ℤ t) }
+    ensures some { IsTrue (is_given details.now.start || is_given details.now.end) → IfSome position.now (λ p. first_time ≤ℤ p.time) → IfSome result (λ t. first_time ≤ℤ t) }
 {
     match position {
         None => {
@@ -200,8 +252,8 @@ pub(crate) fn given_after(details: &Details, position: &Option<Position>) -> u32
 /// The times of the body that are still to come.
 pub(crate) fn span_after(details: &Details, position: &Option<Position>) -> Span
     requires given { IsTrue (is_given details.now.start || is_given details.now.end) }
-    requires place { IfSome position.now (λ p. pos 1 ≤ℤ p.time) }
-    ensures { (t : ℤ) → pos 1 ≤ℤ t → t ≤ℤ greatest_time → is_between result.from result.to t ≡ (in_body details.now t && is_past_any (direction details.now) (limit_at details.now position.now) t) }
+    requires place { IfSome position.now (λ p. first_time ≤ℤ p.time) }
+    ensures { (t : ℤ) → first_time ≤ℤ t → t ≤ℤ greatest_time → is_between result.from result.to t ≡ (in_body details.now t && is_past_any (direction details.now) (limit_at details.now position.now) t) }
 {
     let span = details.body();
     match limit_at(details, position) {

@@ -4,12 +4,13 @@ ghost use Rattle.std.specs.Prelude.{◌≡◌};
 ghost use Rattle.records.specs.Records.{current};
 ghost use Rattle.archive.specs.Store.{Asks};
 ghost use Rattle.archive.specs.Reading.{first};
+ghost use Rattle.hist_read.specs.Asking.{end_time};
 ghost use Rattle.hist_read.specs.Reads.{near, nearest_from, far_value};
 
 use crate::item::Item;
 use crate::query::Details;
 use archive::{Archive, Direction, StoreFault};
-use records::Held;
+use records::{Held, Moment};
 use std::alloc::Global;
 use ua_binary::NodeId;
 
@@ -26,7 +27,7 @@ fn value_at<A: Archive>(
     alloc: Global,
     archive: &mut A,
     node: &NodeId,
-    time: i64,
+    time: Moment,
 ) -> Result<Option<Held>, StoreFault>
     ensures { Asks (A.state archive.old) (A.state archive.new) result (λ h. h ≡ current (A.state archive.old).content node.now time) }
 {
@@ -40,7 +41,7 @@ fn nearest_from<A: Archive>(
     archive: &mut A,
     node: &NodeId,
     direction: Direction,
-    time: i64,
+    time: Moment,
 ) -> Result<Option<Held>, StoreFault>
     ensures { Asks (A.state archive.old) (A.state archive.new) result (λ h. h ≡ nearest_from (A.state archive.old).content node.now direction time) }
 {
@@ -75,12 +76,16 @@ pub(crate) fn far_value<A: Archive>(
     node: &NodeId,
     details: &Details,
 ) -> Result<Option<Held>, StoreFault>
-    ensures { Asks (A.state archive.old) (A.state archive.new) result (λ h. h ≡ far_value (A.state archive.old).content node.now details.now details.now.end) }
+    ensures { Asks (A.state archive.old) (A.state archive.new) result (λ h. h ≡ far_value (A.state archive.old).content node.now details.now (end_time details.now)) }
 {
     let direction = details.direction();
-    let end = details.end;
+    let end = Moment::at(details.end);
     if details.origin() == end {
-        return archive.next_outside(alloc, node, end, direction);
+        let last = Moment {
+            ticks: details.end,
+            pico: 9999,
+        };
+        return archive.next_outside(alloc, node, last, direction);
     }
     nearest_from(alloc, archive, node, direction, end)
 }

@@ -5,7 +5,7 @@ ghost use Rattle.std.specs.Option.{option_copied};
 ghost use Rattle.ua_binary.specs.Binary.{node_of, IsNodeId, IsShortNode};
 ghost use Rattle.hist_read.specs.declared.setback.Setback.{Setback as Met};
 ghost use Rattle.hist_read.specs.declared.code.ReadCode.TheVariants.{BadResourceUnavailable};
-ghost use Rattle.hist_read.specs.Asking.{is_given};
+ghost use Rattle.hist_read.specs.Asking.{is_given, first_time};
 ghost use Rattle.hist_read.specs.Point.{point_in, point_of, point, IsPoint, IsNext};
 ghost use Rattle.hist_read.specs.Node.{is_enough, IsOfRead, place_in, judged, refused, status_of, point_at, raw_result, modified_result, page_result, answer, Reads};
 ghost use Rattle.hist_read.specs.Finding.{Finds};
@@ -115,7 +115,7 @@ fn place_in(
     continuation: Option<&[u8]>,
 ) -> Result<Option<Position>, ReadCode>
     ensures told { result ≡ place_in id node.now details.now (option_copied continuation.entry) }
-    ensures late { IfOk result (λ o. IfSome o (λ p. pos 1 ≤ℤ p.time)) }
+    ensures late { IfOk result (λ o. IfSome o (λ p. first_time ≤ℤ p.time)) }
 {
     let Some(bytes) = continuation else {
         return Ok(None);
@@ -138,7 +138,7 @@ fn judge(
 ) -> Result<Option<Position>, ReadCode>
     ensures told { result ≡ judged id node.now details.now (option_copied continuation.entry) }
     ensures given { IfOk result (λ _. IsTrue (is_given details.now.start || is_given details.now.end)) }
-    ensures late { IfOk result (λ o. IfSome o (λ p. pos 1 ≤ℤ p.time)) }
+    ensures late { IfOk result (λ o. IfSome o (λ p. first_time ≤ℤ p.time)) }
 {
     if details.modified && details.bounds {
         return Err(ReadCode::BadInvalidArgument);
@@ -209,7 +209,7 @@ fn raw_result<A: Archive>(
 ) -> Result<NodeResult, Setback>
     requires node { IsShortNode node.now }
     requires given { IsTrue (is_given query.now.details.start || is_given query.now.details.end) }
-    requires place { IfSome position.now (λ p. pos 1 ≤ℤ p.time) }
+    requires place { IfSome position.now (λ p. first_time ≤ℤ p.time) }
     requires raw { query.now.details.modified ≡ false }
     ensures { Finds (A.state archive.old) (A.state archive.new) result (λ r. r ≡ raw_result (A.state archive.old).content (A.state archive.old).id node.now query.now position.now) }
 {
@@ -258,7 +258,7 @@ fn page_result<A: Archive>(
 ) -> Result<NodeResult, Setback>
     requires node { IsShortNode node.now }
     requires given { IsTrue (is_given query.now.details.start || is_given query.now.details.end) }
-    requires place { IfSome position.now (λ p. pos 1 ≤ℤ p.time) }
+    requires place { IfSome position.now (λ p. first_time ≤ℤ p.time) }
     ensures { Finds (A.state archive.old) (A.state archive.new) result (λ r. r ≡ page_result (A.state archive.old).content (A.state archive.old).id node.now query.now position.now) }
 {
     if query.details.modified {

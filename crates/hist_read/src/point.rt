@@ -2,16 +2,18 @@
 //! on the server.
 
 ghost use Rattle.std.specs.Prelude.{◌≡◌, ◌⊎◌, ◌↔◌, IsTrue, IfOk, IfSome, length, pos, ◌≤ℤ◌, option_map, Ok, Err, if◌then◌else◌};
+ghost use Rattle.hist_read.specs.Asking.{first_time};
 ghost use Rattle.ua_binary.specs.Format.{block, Reads, Puts, PutsPart};
 ghost use Rattle.ua_binary.specs.Binary.{node_of, IsNodeId};
 ghost use Rattle.ua_binary.specs.declared.fault.BinaryFault.TheVariants as fault;
 ghost use Rattle.hist_read.specs.Point.{flag, short_form, short_node, is_phase_for, is_stamp_for, is_given_for, suits, are_stamp, stamp_of, number_of_phase, phase, time, stamp, details, position, IsStamp, IsPosition, IsPoint, point_of, point_in, point};
 
 use crate::query::Details;
+use records::Moment;
 use stamp::{GREATEST_TICK, ReplicaNo, Stamp};
 use ua_binary::{
     BinaryFault, Cursor, NodeIdRef, or_undone, put_block, put_boolean, put_i64, put_node_id_ref,
-    put_u8, put_u32,
+    put_u8, put_u16, put_u32,
 };
 use uuid::Uuid;
 
@@ -28,8 +30,8 @@ pub enum Phase {
 #[derive(Clone, Copy, Debug, PartialEq, Eq)]
 pub struct Position {
     pub phase: Phase,
-    /// The source time of the last item, at least 1.
-    pub time: i64,
+    /// The moment of the last item, of a time of at least 1.
+    pub time: Moment,
     /// Of a modification the stamp of its record, of a raw value none.
     pub stamp: Option<Stamp>,
     /// How many items were given so far, in case a time is open; else 0.
@@ -170,17 +172,21 @@ fn read_phase(cursor: &mut Cursor<'_>) -> Result<Phase, BinaryFault>
 }
 
 #[tactic(auto, unfolding(crate::specs::Point::time))]
-fn read_time(cursor: &mut Cursor<'_>) -> Result<i64, BinaryFault>
+fn read_time(cursor: &mut Cursor<'_>) -> Result<Moment, BinaryFault>
     ensures reads { Reads (λ v. v) result cursor.old cursor.new time.read }
-    ensures late { IfOk result (λ v. pos 1 ≤ℤ v) }
+    ensures late { IfOk result (λ v. first_time ≤ℤ v) }
 {
     let mut next = cursor.fork();
-    let time = next.i64()?;
-    if time < 1 {
+    let ticks = next.i64()?;
+    if ticks < 1 {
+        return Err(BinaryFault::BadEncodingByte);
+    }
+    let pico = next.u16()?;
+    if pico > 9999 {
         return Err(BinaryFault::BadEncodingByte);
     }
     *cursor = next;
-    Ok(time)
+    Ok(Moment { ticks, pico })
 }
 
 /// The stamp of these parts: none of zeros, and else what a record may have.
@@ -215,7 +221,7 @@ fn read_stamp(cursor: &mut Cursor<'_>) -> Result<Option<Stamp>, BinaryFault>
 #[tactic(auto, unfolding(crate::specs::Point::position))]
 fn read_position(cursor: &mut Cursor<'_>) -> Result<Position, BinaryFault>
     ensures reads { Reads (λ v. v) result cursor.old cursor.new position.read }
-    ensures late { IfOk result (λ v. pos 1 ≤ℤ v.time) }
+    ensures late { IfOk result (λ v. first_time ≤ℤ v.time) }
 {
     let mut next = cursor.fork();
     let phase = read_phase(&mut next)?;
@@ -296,10 +302,10 @@ fn is_stamp(stamp: Option<Stamp>) -> bool
 /// Whether a position's numbers are within their limits.
 fn is_position(position: &Position) -> bool
     ensures judged { IsTrue result ↔ IsPosition position.now }
-    ensures next { pos 1 ≤ℤ position.now.time → IsStamp position.now.stamp → IsTrue result }
+    ensures next { first_time ≤ℤ position.now.time → IsStamp position.now.stamp → IsTrue result }
 {
-    let (time, _given) = (position.time, position.given);
-    1 <= time && is_stamp(position.stamp)
+    let (_ticks, _given) = (position.time.ticks(), position.given);
+    Moment::at(1) <= position.time && is_stamp(position.stamp)
 }
 
 /// How many bytes an id has: 16.
@@ -348,7 +354,7 @@ impl Place<'_> {
 #[tactic(auto, unfolding(crate::specs::Point::point))]
 fn read_place<'a>(cursor: &mut Cursor<'a>) -> Result<Place<'a>, BinaryFault>
     ensures reads { Reads point_of result cursor.old cursor.new point.read }
-    ensures late { IfOk result (λ v. pos 1 ≤ℤ v.position.time) }
+    ensures late { IfOk result (λ v. first_time ≤ℤ v.position.time) }
 {
     let mut next = cursor.fork();
     if next.u8()? != 1 {
@@ -387,7 +393,7 @@ fn read_archive(cursor: &mut Cursor<'_>) -> Result<Uuid, BinaryFault>
 #[tactic(auto, unfolding(crate::specs::Point::point))]
 pub fn read_continuation(bytes: &[u8]) -> Option<Place<'_>>
     ensures told { option_map point_of result ≡ point_in bytes.now }
-    ensures late { IfSome result (λ p. pos 1 ≤ℤ p.position.time) }
+    ensures late { IfSome result (λ p. first_time ≤ℤ p.position.time) }
 {
     let mut cursor = Cursor::new(bytes);
     let Ok(place) = read_place(&mut cursor) else {
@@ -450,12 +456,28 @@ fn put_stamp(out: &mut Vec<u8>, v: Option<Stamp>) -> Result<(), BinaryFault>
     or_undone(put, out, len)
 }
 
-#[tactic(auto, using(ua_binary::proofs::Kept::kept), unfolding(crate::specs::Point::position, crate::specs::Point::phase, crate::specs::Point::time))]
+#[tactic(auto, using(ua_binary::proofs::Kept::kept), unfolding(crate::specs::Point::time))]
+fn put_time_parts(out: &mut Vec<u8>, v: Moment) -> Result<(), BinaryFault>
+    ensures { PutsPart fault.OutOfMemory result out.old.items out.new.items (time.canon v) }
+{
+    put_i64(out, v.ticks())?;
+    put_u16(out, v.pico())
+}
+
+fn put_time(out: &mut Vec<u8>, v: Moment) -> Result<(), BinaryFault>
+    ensures { Puts fault.OutOfMemory result out.old.items out.new.items (time.canon v) }
+{
+    let len = out.len();
+    let put = put_time_parts(out, v);
+    or_undone(put, out, len)
+}
+
+#[tactic(auto, using(ua_binary::proofs::Kept::kept), unfolding(crate::specs::Point::position, crate::specs::Point::phase))]
 fn put_position_parts(out: &mut Vec<u8>, v: &Position) -> Result<(), BinaryFault>
     ensures { PutsPart fault.OutOfMemory result out.old.items out.new.items (position.canon v.now) }
 {
     put_u8(out, number_of_phase(v.phase))?;
-    put_i64(out, v.time)?;
+    put_time(out, v.time)?;
     put_stamp(out, v.stamp)?;
     put_u32(out, v.given)?;
     Ok(())

@@ -3,7 +3,7 @@
 ghost use Rattle.std.specs.Prelude.{◌≡◌, ◌≤◌, ◌+◌, ◌<◌, ◌||◌, ◌&&◌, ◌++◌, ◌^◌, IsTrue, IfOk, IfSome, IfNone, pos, ◌≤ℤ◌, true, false, take, length, Ok, Some, None};
 ghost use Rattle.std.specs.Option.{option_to_list};
 ghost use Rattle.archive.specs.Store.{Asks};
-ghost use Rattle.hist_read.specs.Asking.{is_given, has_both, origin_time};
+ghost use Rattle.hist_read.specs.Asking.{is_given, has_both, first_time, origin_time};
 ghost use Rattle.hist_read.specs.Reads.{is_near_alone, body_part, far_value, values, item_time, last_time, time_before, open_bound, page_size, page, is_spent, next_place, raw_position};
 ghost use Rattle.hist_read.specs.Pages.{IsFound, IsFoundBehind, body_limit, has_far, far_item, far_of, row_of, IsRawPage};
 ghost use Rattle.hist_read.specs.Finding.{Finds};
@@ -15,7 +15,7 @@ use crate::point::{Phase, Position};
 use crate::query::Details;
 use crate::setback::Setback;
 use archive::{Archive, Direction, StoreFault};
-use records::Held;
+use records::{Held, Moment};
 use std::alloc::{AllocError, Global};
 use ua_binary::NodeId;
 
@@ -63,7 +63,7 @@ fn find_body<A: Archive>(
     position: &Option<Position>,
 ) -> Result<Vec<Held>, StoreFault>
     requires given { IsTrue (is_given details.now.start || is_given details.now.end) }
-    requires place { IfSome position.now (λ p. pos 1 ≤ℤ p.time) }
+    requires place { IfSome position.now (λ p. first_time ≤ℤ p.time) }
     ensures { Asks (A.state archive.old) (A.state archive.new) result
         (λ v. v.items ≡ take (page_size details.now position.now + 1) (body_part (A.state archive.old).content node.now details.now position.now)) }
 {
@@ -82,7 +82,7 @@ fn find_values<A: Archive>(
     position: &Option<Position>,
 ) -> Result<(Vec<Held>, Option<Held>), StoreFault>
     requires given { IsTrue (is_given details.now.start || is_given details.now.end) }
-    requires place { IfSome position.now (λ p. pos 1 ≤ℤ p.time) }
+    requires place { IfSome position.now (λ p. first_time ≤ℤ p.time) }
     ensures { Asks (A.state archive.old) (A.state archive.new) result (IsFoundBehind (A.state archive.old).content node.now details.now position.now) }
 {
     let body = find_body(alloc, archive, node, details, position)?;
@@ -102,7 +102,7 @@ pub(crate) fn find<A: Archive>(
     position: &Option<Position>,
 ) -> Result<Found, StoreFault>
     requires given { IsTrue (is_given details.now.start || is_given details.now.end) }
-    requires place { IfSome position.now (λ p. pos 1 ≤ℤ p.time) }
+    requires place { IfSome position.now (λ p. first_time ≤ℤ p.time) }
     ensures { Asks (A.state archive.old) (A.state archive.new) result (IsFound (A.state archive.old).content node.now details.now position.now) }
 {
     if position.is_some() || !details.bounds {
@@ -123,17 +123,21 @@ pub(crate) fn find<A: Archive>(
 }
 
 /// The far bound of an open limit, one second beyond the item before it.
-fn open_bound(direction: Direction, before: i64) -> Item
+fn open_bound(direction: Direction, before: Moment) -> Item
     ensures { result ≡ open_bound direction before }
 {
     match direction {
-        Direction::Forward => Item::Missing(before.saturating_add(10_000_000)),
-        Direction::Backward => Item::Missing(before.saturating_sub(10_000_000)),
+        Direction::Forward => {
+            Item::Missing(Moment::at(before.ticks().saturating_add(10_000_000)))
+        },
+        Direction::Backward => {
+            Item::Missing(Moment::at(before.ticks().saturating_sub(10_000_000)))
+        },
     }
 }
 
 /// The far bound of the value at the far limit, behind an item of this time.
-fn far_item(details: &Details, far: Option<Held>, before: i64) -> Item
+fn far_item(details: &Details, far: Option<Held>, before: Moment) -> Item
     ensures { result ≡ far_item details.now far before }
 {
     if !details.has_both() {
@@ -141,7 +145,7 @@ fn far_item(details: &Details, far: Option<Held>, before: i64) -> Item
     }
     match far {
         Some(held) => Item::Value(held),
-        None => Item::Missing(details.end),
+        None => Item::Missing(Moment::at(details.end)),
     }
 }
 
@@ -156,7 +160,7 @@ fn push_values(items: &mut Vec<Item>, body: Vec<Held>) -> Result<(), AllocError>
 }
 
 /// The time of the item that was given last.
-fn time_before(details: &Details, position: &Option<Position>) -> i64
+fn time_before(details: &Details, position: &Option<Position>) -> Moment
     ensures { result ≡ time_before details.now position.now }
 {
     match position {
@@ -166,7 +170,7 @@ fn time_before(details: &Details, position: &Option<Position>) -> i64
 }
 
 /// The time of the last item, else this one.
-fn last_time(items: &[Item], before: i64) -> i64
+fn last_time(items: &[Item], before: Moment) -> Moment
     ensures { result ≡ last_time before items.now }
 {
     match items.last() {
@@ -268,7 +272,7 @@ pub(crate) fn read_raw<A: Archive>(
     position: &Option<Position>,
 ) -> Result<RawPage, Setback>
     requires given { IsTrue (is_given details.now.start || is_given details.now.end) }
-    requires place { IfSome position.now (λ p. pos 1 ≤ℤ p.time) }
+    requires place { IfSome position.now (λ p. first_time ≤ℤ p.time) }
     ensures { Finds (A.state archive.old) (A.state archive.new) result (IsRawPage (A.state archive.old).content node.now details.now position.now) }
 {
     let found = find(alloc, archive, node, details, position)?;

@@ -6,7 +6,7 @@ ghost use Rattle.hist_read.specs.Showing.{bits_of, with_extra, at_time, with_sta
 
 use crate::item::Item;
 use crate::query::TimestampsToReturn;
-use records::{Entry, Held, HistoryUpdateType};
+use records::{Entry, Held, HistoryUpdateType, Moment};
 use std::alloc::{AllocError, Global};
 use ua_binary::{Status, Text, Ticks};
 use ua_variant::DataValue;
@@ -58,7 +58,7 @@ fn held_value(held: Held) -> DataValue
     DataValue {
         value,
         status: if extra { with_extra(status) } else { status },
-        source_time: Some(Ticks(time)),
+        source_time: Some(Ticks(time.ticks())),
         source_pico,
         server_time,
         server_pico,
@@ -66,13 +66,13 @@ fn held_value(held: Held) -> DataValue
 }
 
 /// Nothing but a status and a source time.
-fn without_value(status: Option<Status>, time: i64) -> DataValue
+fn without_value(status: Option<Status>, time: Moment) -> DataValue
     ensures { result ≡ at_time time (with_status status no_value) }
 {
     DataValue {
         value: None,
         status,
-        source_time: Some(Ticks(time)),
+        source_time: Some(Ticks(time.ticks())),
         source_pico: None,
         server_time: None,
         server_pico: None,
@@ -90,14 +90,14 @@ fn item_value(item: Item) -> DataValue
 }
 
 /// A modification's value with its source time, else that alone.
-fn entry_value(time: i64, value: Option<DataValue>) -> DataValue
+fn entry_value(time: Moment, value: Option<DataValue>) -> DataValue
     ensures { result ≡ entry_value time value }
 {
     let Some(value) = value else {
         return without_value(None, time);
     };
     DataValue {
-        source_time: Some(Ticks(time)),
+        source_time: Some(Ticks(time.ticks())),
         ..value
     }
 }

@@ -9,7 +9,7 @@ use crate::setback::Setback;
 use HistoryUpdateType::{Delete, Insert, Update};
 use ReadCode::*;
 use archive::{Archive, LearnFault, ListArchive, StoreFault};
-use records::{Entry, HistoryUpdateType, Record};
+use records::{Entry, HistoryUpdateType, Moment, Record};
 use stamp::ReplicaNo;
 use std::alloc::{AllocError, Global};
 use std::test::Fail;
@@ -20,10 +20,10 @@ use uuid::Uuid;
 // ---- continuation points
 
 /// Of ns=1;s=T, from 5:00 to 5:07, two a page: the place behind 5:02.
-static POINT: [u8; 69] = [
+static POINT: [u8; 71] = [
     1, 0, 0, 0, 0, 0, 0, 0, 0, 0, 0, 0, 0, 0, 0, 0, 0, 3, 1, 0, 1, 0, 0, 0, 0x54, 0, 0, 8, 0xD6,
     0xE8, 0x29, 0, 0, 0, 0, 0xF2, 0x2C, 0xE3, 0x2A, 0, 0, 0, 2, 0, 0, 0, 0, 2, 0, 0x94, 0x5C, 0x30,
-    0x2A, 0, 0, 0, 0, 0, 0, 0, 0, 0, 0, 0, 0, 0, 0, 0, 0,
+    0x2A, 0, 0, 0, 0, 0, 0, 0, 0, 0, 0, 0, 0, 0, 0, 0, 0, 0, 0,
 ];
 
 /// The bytes from one index to another are this one.
@@ -43,7 +43,7 @@ static PATCHED: [(Patch, Patch, bool); 24] = [
     ((24, 25, 0xFF), NONE, false),
     ((25, 26, 1), NONE, false),
     ((25, 26, 2), NONE, false),
-    ((25, 26, 1), (60, 65, 1), true),
+    ((25, 26, 1), (62, 67, 1), true),
     ((46, 47, 1), NONE, true),
     ((46, 47, 2), NONE, false),
     ((47, 48, 0), NONE, false),
@@ -52,11 +52,11 @@ static PATCHED: [(Patch, Patch, bool); 24] = [
     ((47, 48, 3), NONE, false),
     ((48, 56, 0), NONE, false),
     ((55, 56, 0x80), NONE, false),
-    ((56, 57, 1), (64, 65, 1), false),
-    ((56, 57, 1), (25, 26, 1), false),
-    ((64, 65, 65), (25, 57, 1), false),
-    ((65, 66, 1), NONE, false),
-    ((65, 66, 1), (26, 34, 0), true),
+    ((58, 59, 1), (66, 67, 1), false),
+    ((58, 59, 1), (25, 26, 1), false),
+    ((66, 67, 65), (25, 59, 1), false),
+    ((67, 68, 1), NONE, false),
+    ((67, 68, 1), (26, 34, 0), true),
 ];
 
 fn patched(alloc: Global, first: Patch, second: Patch) -> Result<Vec<u8>, AllocError> {
@@ -184,7 +184,7 @@ fn record(alloc: Global, row: &Row) -> Result<Record, StoreFault> {
         number,
         tick,
         node,
-        time,
+        time: Moment::at(time),
         asked,
         user,
         value: value(written),
@@ -248,8 +248,8 @@ type Shown = (i64, bool);
 
 fn is_shown(item: &Item, shown: Shown) -> bool {
     match item {
-        Item::Value(held) => held.time == shown.0 && !shown.1 && !held.extra,
-        Item::Missing(time) => *time == shown.0 && shown.1,
+        Item::Value(held) => held.time == Moment::at(shown.0) && !shown.1 && !held.extra,
+        Item::Missing(time) => *time == Moment::at(shown.0) && shown.1,
     }
 }
 
@@ -419,7 +419,7 @@ fn raw_page(
 ) -> Result<RawPage, Setback> {
     let placed = match position {
         None => true,
-        Some(p) => p.time >= 1,
+        Some(p) => p.time >= Moment::at(1),
     };
     if (details.start < 1 && details.end < 1) || !placed {
         return Err(Setback::Starved);
@@ -651,7 +651,7 @@ type NodeRead = (
 
 static NODE_READS: [NodeRead; 12] = [
     (false, AT_5_00, AT_5_07, 2, false, None, Good, 2, true),
-    (false, AT_5_00, AT_5_07, 2, false, Some(69), Good, 2, true),
+    (false, AT_5_00, AT_5_07, 2, false, Some(71), Good, 2, true),
     (
         false,
         AT_5_00,
@@ -669,7 +669,7 @@ static NODE_READS: [NodeRead; 12] = [
         AT_5_07,
         3,
         false,
-        Some(69),
+        Some(71),
         BadContinuationPointInvalid,
         0,
         false,
@@ -680,7 +680,7 @@ static NODE_READS: [NodeRead; 12] = [
         AT_5_06,
         2,
         false,
-        Some(69),
+        Some(71),
         BadContinuationPointInvalid,
         0,
         false,
@@ -691,7 +691,7 @@ static NODE_READS: [NodeRead; 12] = [
         AT_5_07,
         2,
         true,
-        Some(69),
+        Some(71),
         BadContinuationPointInvalid,
         0,
         false,
@@ -702,7 +702,7 @@ static NODE_READS: [NodeRead; 12] = [
         AT_5_07,
         2,
         false,
-        Some(69),
+        Some(71),
         BadContinuationPointInvalid,
         0,
         false,
@@ -767,7 +767,7 @@ fn is_answered(alloc: Global, archive: &mut ListArchive, row: &NodeRead) -> bool
         bounds,
     };
     let point = match given {
-        Some(n) if n <= 69 => Some(&POINT[..n]),
+        Some(n) if n <= 71 => Some(&POINT[..n]),
         _ => None,
     };
     match read(alloc, archive, details, TimestampsToReturn::Source, point) {

@@ -5,8 +5,8 @@ use Rattle.std.proofs.lemmas.Bool.{true≢false}
 use Rattle.std.proofs.lemmas.Option.{none-some, same_Some}
 use Rattle.stamp.specs.Limits.{lift}
 use Rattle.records.specs.declared.record.Record.{Record}
-use Rattle.records.specs.declared.record.HistoryUpdateType.{HistoryUpdateType}
-use Rattle.records.specs.declared.record.HistoryUpdateType.TheVariants.{Insert, Replace, Update, Delete}
+use Rattle.ua_variant.specs.declared.update_type.HistoryUpdateType.{HistoryUpdateType}
+use Rattle.ua_variant.specs.declared.update_type.HistoryUpdateType.TheVariants.{Insert, Replace, Update, Delete}
 use Rattle.records.specs.Lists.{Has}
 use Rattle.records.specs.Contents.{Content, top, put, IsClosed, IsWithin}
 use Rattle.records.proofs.PutLemmas.{has-put}
@@ -17,6 +17,7 @@ use Rattle.hist_update.specs.declared.code.UpdateCode.{UpdateCode}
 use Rattle.hist_update.specs.declared.code.UpdateCode.TheVariants.{BadOutOfMemory, BadResourceUnavailable, BadEncodingLimitsExceeded, BadInvalidTimestamp, BadTypeMismatch, BadEntryExists, BadNoEntryExists}
 use Rattle.hist_update.specs.declared.request.Request.{Request}
 use Rattle.hist_update.specs.Codes.{code_of_fault}
+use Rattle.records.specs.Moments.{ticks_of}
 use Rattle.hist_update.specs.Outcome.{Operation, Write, DeleteAt, Change, Outcome, Refused, Added, change_by, written, timed, typed, fits, source_time, is_too_long, writing, deletion, outcome, outcome_of, judged, stamped, conflict, done, is_live, after}
 use Rattle.hist_update.specs.Updates.{Mark, Fine, Starved, Met, Step, code_by, left_by, updated, Stands, AreEnded}
 use Rattle.hist_update.specs.Laws.{IsBad, IsGood, IsRecordOf, IsAnsweredAt}
@@ -51,7 +52,7 @@ bad_as : (a code : UpdateCode) → IsBad a → a ≡ code → IsBad code
 bad_as a code h e = subst IsBad e h
 
 change_bad : (request : Request) (own : ℕ) (op : Operation) (code : UpdateCode) → change_by request own op ≡ Err code → IsBad code
-change_bad request own (DeleteAt time) code e = go (int_lt time (pos 1)) e
+change_bad request own (DeleteAt time) code e = go (int_lt (ticks_of time) (pos 1)) e
   where
     go : (x : Bool) → (if x then Err BadInvalidTimestamp else Ok (deletion time)) ≡ Err code → IsBad code
     go true h = bad_as BadInvalidTimestamp code (omega arith) (same_fault _ _ h)

@@ -9,6 +9,7 @@ use Rattle.std.specs.Int.{w64}
 use Rattle.std.specs.Int.RustNames.{FitsSigned}
 use Rattle.stamp.specs.Limits.{IsReplica}
 use Rattle.records.specs.declared.record.Record.{Record}
+use Rattle.records.specs.Moments.{ticks_of}
 use Rattle.records.specs.Spelling.{IsLawfulRecord}
 use Rattle.hist_update.specs.Outcome.{id_length}
 use Rattle.hist_update.specs.Setbacks.{IsDraft, is_long}
@@ -19,7 +20,7 @@ short_node (Named ns name) h = omega (arith, h)
 short_node (Global ns id) h = tt
 short_node (Opaque ns id) h = omega (arith, h)
 
-pub draft_lawful : (r : Record) → IsReplica r.origin → FitsSigned w64 r.time → (IsShortNode r.node → IsNodeId r.node) → is_utf8 r.user ≡ true → IsDraft r → is_long r ≡ false → IsLawfulRecord r
+pub draft_lawful : (r : Record) → IsReplica r.origin → FitsSigned w64 (ticks_of r.time) → (IsShortNode r.node → IsNodeId r.node) → is_utf8 r.user ≡ true → IsDraft r → is_long r ≡ false → IsLawfulRecord r
 draft_lawful r origin fits spelled text d e = record { origin = origin; number = d.number; node = spelled (short_node r.node d.node); time = (d.time, fits); user = (d.user, text); value = d.value; suits = d.suits; size = ltb-false _ _ e }
 
 pub lawful_short : (r : Record) → IsLawfulRecord r → is_long r ≡ false

@@ -1,5 +1,5 @@
 -- A content of lawful records has no others behind some operations.
-use Rattle.std.proofs.Common.{◌≡◌, ℕ, ◌+◌, ℤ, pos, ◌≤ℤ◌, Bool, true, false, List, [], ◌∷◌, Option, Some, None, IfSome, Result, Ok, Err, refl, sym, subst, arith}
+use Rattle.std.proofs.Common.{◌≡◌, ℕ, ◌+◌, ◌≤◌, unwrap_or, ℤ, pos, ◌≤ℤ◌, Bool, true, false, List, [], ◌∷◌, Option, Some, None, IfSome, Result, Ok, Err, refl, sym, subst, arith}
 use Rattle.std.specs.Prelude.{if◌then◌else◌, int_lt}
 use Rattle.std.specs.Int.{w64}
 use Rattle.std.specs.Int.RustNames.{FitsSigned}
@@ -9,7 +9,8 @@ use Rattle.std.proofs.lemmas.Bool.{ltb-false}
 use Rattle.std.proofs.lemmas.Option.{none-some, same_Some}
 use Rattle.stamp.specs.Limits.{IsReplica}
 use Rattle.ua_binary.specs.declared.values.Ticks.{Ticks}
-use Rattle.ua_variant.specs.DataValue.{IsDataValue}
+use Rattle.ua_variant.specs.DataValue.{IsDataValue, IsPicoseconds}
+use Rattle.records.specs.Moments.{moment, ticks_of, ticks_again}
 use Rattle.records.specs.declared.record.Record.{Record}
 use Rattle.records.specs.Contents.{Content, vec}
 use Rattle.records.specs.Spelling.{IsLawfulRecord, is_value_for}
@@ -20,7 +21,7 @@ use Rattle.archive.proofs.Listing.{lawful_put}
 use Rattle.hist_update.specs.declared.code.UpdateCode.{UpdateCode}
 use Rattle.hist_update.specs.declared.code.UpdateCode.TheVariants.{BadEncodingLimitsExceeded, BadInvalidTimestamp}
 use Rattle.hist_update.specs.declared.request.Request.{Request}
-use Rattle.hist_update.specs.Outcome.{Operation, Write, DeleteAt, Change, Outcome, Refused, Added, IsRequest, change_by, written, timed, typed, fits, source_time, is_too_long, writing, deletion, outcome, record_by}
+use Rattle.hist_update.specs.Outcome.{Operation, Write, DeleteAt, Change, Outcome, Refused, Added, IsRequest, change_by, written, timed, typed, fits, source_time, source_pico, is_too_long, writing, deletion, outcome, record_by}
 use Rattle.hist_update.specs.Updates.{Mark, Fine, Starved, Met, Step, left_by, updated}
 use Rattle.hist_update.specs.Laws.{IsSpelled, IsOperation}
 use Rattle.hist_update.proofs.Deletions.{deletion_short}
@@ -28,8 +29,8 @@ use Rattle.hist_update.proofs.Operating.{is_new}
 use Rattle.hist_update.proofs.NewRecords.{made, new_next}
 
 record IsChange (request : Request) (own : ℕ) (change : Change) : Type 0 where
-  pub time : pos 1 ≤ℤ change.time
-  pub fits : FitsSigned w64 change.time
+  pub time : pos 1 ≤ℤ ticks_of change.time
+  pub fits : FitsSigned w64 (ticks_of change.time)
   pub value : IsDataValue change.value
   pub suits : is_value_for change.asked change.value ≡ true
   pub short : is_too_long request own change ≡ false
@@ -40,18 +41,27 @@ same_change a b e = cc
 no_change : {X : Type 0} (code : UpdateCode) (a : Change) → ◌≡◌ {A = Result Change UpdateCode} (Err code) (Ok a) → X
 no_change code a e = absurd (cc)
 
-sourced : (o : Option Ticks) (t : ℤ) → IfSome o (λ s. FitsSigned w64 s.0) → option_and_then (λ (s : Ticks). if int_lt s.0 (pos 1) then None else Some s.0) o ≡ Some t → (pos 1 ≤ℤ t) × FitsSigned w64 t
-sourced None t fits e = absurd (none-some _ e)
-sourced (Some s) t fits e = go (int_lt s.0 (pos 1)) refl e
+abbrev IsTime : ℤ → Type 0
+IsTime t = (pos 1 ≤ℤ ticks_of t) × FitsSigned w64 (ticks_of t)
+
+sourced : (o : Option Ticks) (p : ℕ) (t : ℤ) → p ≤ 9999 → IfSome o (λ s. FitsSigned w64 s.0) → option_and_then (λ (s : Ticks). if int_lt s.0 (pos 1) then None else Some (moment s.0 p)) o ≡ Some t → IsTime t
+sourced None p t few fits e = absurd (none-some _ e)
+sourced (Some s) p t few fits e = go (int_lt s.0 (pos 1)) refl e
   where
-    go : (x : Bool) → int_lt s.0 (pos 1) ≡ x → (if x then None else Some s.0) ≡ Some t → (pos 1 ≤ℤ t) × FitsSigned w64 t
-    go true p h = absurd (none-some _ h)
-    go false p h = subst (λ u. (pos 1 ≤ℤ u) × FitsSigned w64 u) (same_Some _ _ h) (le_from_not _ _ p, fits)
+    go : (x : Bool) → int_lt s.0 (pos 1) ≡ x → (if x then None else Some (moment s.0 p)) ≡ Some t → IsTime t
+    go true q h = absurd (none-some _ h)
+    go false q h =
+        let same = ticks_again s.0 p few in
+        subst IsTime (same_Some _ _ h) (subst (λ u. pos 1 ≤ℤ u) (sym same) (le_from_not _ _ q), subst (λ u. FitsSigned w64 u) (sym same) fits)
+
+few_by : (o : Option ℕ) → IfSome o IsPicoseconds → unwrap_or o 0 ≤ 9999
+few_by None h = omega arith
+few_by (Some n) h = h
 
 is_change : (request : Request) (own : ℕ) (op : Operation) (change : Change) → IsRequest request → IsSpelled request → IsOperation op → change_by request own op ≡ Ok change → IsChange request own change
-is_change request own (DeleteAt time) change lawful spelled fits e = go (int_lt time (pos 1)) refl e
+is_change request own (DeleteAt time) change lawful spelled fits e = go (int_lt (ticks_of time) (pos 1)) refl e
   where
-    go : (x : Bool) → int_lt time (pos 1) ≡ x → (if x then Err BadInvalidTimestamp else Ok (deletion time)) ≡ Ok change → IsChange request own change
+    go : (x : Bool) → int_lt (ticks_of time) (pos 1) ≡ x → (if x then Err BadInvalidTimestamp else Ok (deletion time)) ≡ Ok change → IsChange request own change
     go true p h = no_change _ _ h
     go false p h = subst (IsChange request own) (same_change _ _ h) (record {
       time = le_from_not _ _ p;
@@ -62,7 +72,7 @@ is_change request own (DeleteAt time) change lawful spelled fits e = go (int_lt 
     })
 is_change request own (Write asked type v) change lawful spelled is e = by_time (source_time v) refl e
   where
-    by_size : (t : ℤ) → (pos 1 ≤ℤ t) × FitsSigned w64 t → (x : Bool) → is_too_long request own (writing asked v t) ≡ x
+    by_size : (t : ℤ) → IsTime t → (x : Bool) → is_too_long request own (writing asked v t) ≡ x
         → (if x then Err BadEncodingLimitsExceeded else Ok (writing asked v t)) ≡ Ok change → IsChange request own change
     by_size t at true p h = no_change _ _ h
     by_size t at false p h = subst (IsChange request own) (same_change _ _ h) (record {
@@ -73,13 +83,13 @@ is_change request own (Write asked type v) change lawful spelled is e = by_time 
       short = p;
     })
 
-    by_type : (t : ℤ) → (pos 1 ≤ℤ t) × FitsSigned w64 t → (x : Bool) → written request own asked v (typed x t) ≡ Ok change → IsChange request own change
+    by_type : (t : ℤ) → IsTime t → (x : Bool) → written request own asked v (typed x t) ≡ Ok change → IsChange request own change
     by_type t at true h = by_size t at (is_too_long request own (writing asked v t)) refl h
     by_type t at false h = no_change _ _ h
 
     by_time : (o : Option ℤ) → source_time v ≡ o → written request own asked v (timed type v o) ≡ Ok change → IsChange request own change
     by_time None p h = no_change _ _ h
-    by_time (Some t) p h = by_type t (sourced v.source_time t is.1.2 p) (fits type v.value) h
+    by_time (Some t) p h = by_type t (sourced v.source_time (source_pico v) t (few_by v.source_pico is.1.3) is.1.2 p) (fits type v.value) h
 
 lawful_new : (R : Content) (own : ℕ) (request : Request) (op : Operation) (code : UpdateCode) (r : Record) → IsReplica own → IsRequest request → IsSpelled request → IsOperation op → IsLawfulContent R
     → outcome R own request op ≡ Added code r → IsLawfulRecord r

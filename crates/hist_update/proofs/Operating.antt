@@ -9,7 +9,7 @@ use Rattle.stamp.specs.Limits.{greatest, lift}
 use Rattle.records.specs.declared.record.Record.{Record}
 use Rattle.records.specs.Spelling.{longest}
 use Rattle.records.specs.Records.{is_delete}
-use Rattle.records.specs.declared.record.HistoryUpdateType.{HistoryUpdateType}
+use Rattle.ua_variant.specs.declared.update_type.HistoryUpdateType.{HistoryUpdateType}
 use Rattle.ua_binary.specs.Binary.{IsNodeId}
 use Rattle.ua_binary.specs.declared.values.Ticks.{Ticks}
 use Rattle.ua_variant.specs.declared.data.DataValue.{DataValue}
@@ -31,7 +31,8 @@ use Rattle.hist_update.specs.declared.setback.Setback.{Setback}
 use Rattle.hist_update.specs.declared.setback.Setback.TheVariants as setback
 use Rattle.hist_update.specs.declared.request.Request.{Request}
 use Rattle.hist_update.specs.declared.operate.Place.{Place}
-use Rattle.hist_update.specs.Outcome.{Operation, Write, DeleteAt, IsRequest, deletion, writing, written, source_time, fits, typed, timed, time_judged, Change, Outcome, Refused, Added, change_by, sized, outcome, outcome_of, judged, stamped, is_live, is_too_long, conflict, done, record_by, code_in, after}
+use Rattle.records.specs.Moments.{moment, ticks_of, whole_again, pico_within}
+use Rattle.hist_update.specs.Outcome.{Operation, Write, DeleteAt, IsRequest, deletion, writing, written, source_time, source_pico, fits, typed, timed, time_judged, Change, Outcome, Refused, Added, change_by, sized, outcome, outcome_of, judged, stamped, is_live, is_too_long, conflict, done, record_by, code_in, after}
 use Rattle.hist_update.specs.Updates.{Fine, Starved, Met}
 use Rattle.hist_update.specs.Setbacks.{Operates, IsPlace, candidate_of, is_long, refusal_by, refusal, told, Submits, IsDraft, IsNumber}
 use Rattle.archive.proofs.Results.{err-ok}
@@ -265,24 +266,27 @@ settled-submitted a b c request op change place result asked p e (answer, learns
 ok_same : (a b : ℤ) (r : Result ℤ UpdateCode) → r ≡ Ok a → r ≡ Ok b → a ≡ b
 ok_same a b s d e = sym (ap (λ r. elim r [ Ok x ↦ x | Err f ↦ a ]) d) ∙ ap (λ r. elim r [ Ok x ↦ x | Err f ↦ a ]) e
 
-sourced : (o : Option Ticks) (t : ℤ) → option_and_then (λ (s : Ticks). if int_lt s.0 (pos 1) then None else Some s.0) o ≡ Some t → pos 1 ≤ℤ t
-sourced None t e = absurd (none-some _ e)
-sourced (Some s) t e = go (int_lt s.0 (pos 1)) refl e
-  where
-    go : (x : Bool) → int_lt s.0 (pos 1) ≡ x → (if x then None else Some s.0) ≡ Some t → pos 1 ≤ℤ t
-    go true p h = absurd (none-some _ h)
-    go false p h = subst (λ u. pos 1 ≤ℤ u) (same_Some _ _ h) (le_from_not _ _ p)
+not_below : (s m : ℤ) (p : ℕ) → moment s p ≡ m → pos 1 ≤ℤ s → pos 1 ≤ℤ ticks_of m
+not_below s m p e h = omega (arith, ints, e, h, whole_again m, pico_within m)
 
-judged_time : (type : ValueType) (v : DataValue) (time : ℤ) → time_judged type v ≡ Ok time → pos 1 ≤ℤ time
+sourced : (o : Option Ticks) (p : ℕ) (t : ℤ) → option_and_then (λ (s : Ticks). if int_lt s.0 (pos 1) then None else Some (moment s.0 p)) o ≡ Some t → pos 1 ≤ℤ ticks_of t
+sourced None p t e = absurd (none-some _ e)
+sourced (Some s) p t e = go (int_lt s.0 (pos 1)) refl e
+  where
+    go : (x : Bool) → int_lt s.0 (pos 1) ≡ x → (if x then None else Some (moment s.0 p)) ≡ Some t → pos 1 ≤ℤ ticks_of t
+    go true q h = absurd (none-some _ h)
+    go false q h = not_below s.0 t p (same_Some _ _ h) (le_from_not _ _ q)
+
+judged_time : (type : ValueType) (v : DataValue) (time : ℤ) → time_judged type v ≡ Ok time → pos 1 ≤ℤ ticks_of time
 judged_time type v time e = go (source_time v) refl e
   where
     typed_so : (x : Bool) (t : ℤ) → typed x t ≡ Ok time → t ≡ time
     typed_so true t h = ok_same t time (Ok t) refl h
     typed_so false t h = absurd (err-ok _ _ _ refl h)
 
-    go : (o : Option ℤ) → source_time v ≡ o → timed type v o ≡ Ok time → pos 1 ≤ℤ time
+    go : (o : Option ℤ) → source_time v ≡ o → timed type v o ≡ Ok time → pos 1 ≤ℤ ticks_of time
     go None p h = absurd (err-ok _ _ _ refl h)
-    go (Some t) p h = subst (λ u. pos 1 ≤ℤ u) (typed_so (fits type v.value) t h) (sourced v.source_time t p)
+    go (Some t) p h = subst (λ u. pos 1 ≤ℤ ticks_of u) (typed_so (fits type v.value) t h) (sourced v.source_time (source_pico v) t p)
 
 pub write_draft : (request : Request) (place : Place) (asked : HistoryUpdateType) (type : ValueType) (v : DataValue) (time : ℤ)
     → IsRequest request → IsNumber place → is_delete asked ≡ false → IsDataValue v → time_judged type v ≡ Ok time → IsDraft (candidate_of request place (writing asked v time))
@@ -319,6 +323,6 @@ settled state x y z request op change place r result asked p is refused submitte
     go None e f s =
         settled-submitted (state x) (state y) (state z) request op change place result asked p (ap (λ w. refusal w place) (sym is) ∙ e) (subst (λ w. Submits (state y) (state z) w (done w.asked place.live) result) is s)
 
-pub deleted_by : (request : Request) (own : ℕ) (time : ℤ) → IsNodeId request.node → IsRequest request → int_lt time (pos 1) ≡ false → change_by request own (DeleteAt time) ≡ sized request own (deletion time)
+pub deleted_by : (request : Request) (own : ℕ) (time : ℤ) → IsNodeId request.node → IsRequest request → int_lt (ticks_of time) (pos 1) ≡ false → change_by request own (DeleteAt time) ≡ sized request own (deletion time)
 deleted_by request own time spelled lawful late =
     ap (λ x. if x then Err BadInvalidTimestamp else Ok (deletion time)) late ∙ sym (ap (λ x. if x then Err BadEncodingLimitsExceeded else Ok (deletion time)) (deletion_short request own time spelled lawful))

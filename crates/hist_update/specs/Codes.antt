@@ -3,8 +3,8 @@ use Rattle.std.specs.Prelude.{ℕ, nat_lt, ℤ, pos, Option, Some, None, ◌==�
 use Rattle.std.specs.Ordering.{int_eq}
 use Rattle.archive.specs.declared.fault.StoreFault.{StoreFault}
 use Rattle.archive.specs.declared.fault.StoreFault.TheVariants.{OutOfMemory}
-use Rattle.records.specs.declared.record.HistoryUpdateType.{HistoryUpdateType}
-use Rattle.records.specs.declared.record.HistoryUpdateType.TheVariants.{Insert, Replace, Update}
+use Rattle.ua_variant.specs.declared.update_type.HistoryUpdateType.{HistoryUpdateType}
+use Rattle.ua_variant.specs.declared.update_type.HistoryUpdateType.TheVariants.{Insert, Replace, Update}
 use Rattle.hist_update.specs.declared.code.UpdateCode.{UpdateCode}
 use Rattle.hist_update.specs.declared.code.UpdateCode.TheVariants.{Good, GoodEntryInserted, GoodEntryReplaced, BadOutOfMemory, BadResourceUnavailable, BadEncodingLimitsExceeded, BadNothingToDo, BadTooManyOperations, BadInvalidTimestamp, BadHistoryOperationInvalid, BadHistoryOperationUnsupported, BadTypeMismatch, BadNoData, BadEntryExists, BadNoEntryExists, BadInvalidTimestampArgument}
 

@@ -6,6 +6,7 @@ use Rattle.std.specs.Str.{is_utf8}
 use Rattle.ua_binary.specs.Binary.{IsNodeId}
 use Rattle.ua_binary.specs.declared.values.NodeId.{NodeId}
 use Rattle.ua_variant.specs.DataValue.{IsDataValue}
+use Rattle.records.specs.Moments.{ticks_of}
 use Rattle.records.specs.Contents.{Content}
 use Rattle.records.specs.Records.{is_delete}
 use Rattle.records.specs.declared.record.Record.{Record}
@@ -43,11 +44,11 @@ pub record IsSpelled (request : Request) : Type 0 where
 
 abbrev pub IsOperation : Operation → Type 0
 IsOperation (Write asked type v) = (is_delete asked ≡ false) × IsDataValue v
-IsOperation (DeleteAt time) = FitsSigned w64 time
+IsOperation (DeleteAt time) = FitsSigned w64 (ticks_of time)
 
--- from start up to but without end, or at the one instant where both are equal
+-- the moments from start up to but without end, or all moments of the one time where both are equal
 abbrev pub IsInStretch : ℤ → ℤ → ℤ → Type 0
-IsInStretch start end_ time = (start ≤ℤ time) × ((time <ℤ end_) ⊎ ((start ≡ end_) × (time ≡ start)))
+IsInStretch start end_ time = (start ≤ℤ ticks_of time) × ((ticks_of time <ℤ end_) ⊎ ((start ≡ end_) × (ticks_of time ≡ start)))
 
 abbrev pub IsDoomed : Content → NodeId → ℤ → ℤ → ℤ → Type 0
 IsDoomed R node start end_ time = (is_live R node time ≡ true) × IsInStretch start end_ time

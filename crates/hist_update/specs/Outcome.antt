@@ -1,5 +1,5 @@
 -- What one operation of an update comes to over a content (Part 11, HistoryUpdate): a code, and the record that it adds, if any.
-use Rattle.std.specs.Prelude.{ℕ, ◌≤◌, ◌+◌, nat_lt, ℤ, pos, int_lt, Bool, true, false, if◌then◌else◌, length, Option, Some, None, is_some, Result, Ok, Err}
+use Rattle.std.specs.Prelude.{ℕ, ◌≤◌, ◌+◌, nat_lt, ℤ, pos, int_lt, Bool, true, false, if◌then◌else◌, length, Option, Some, None, is_some, unwrap_or, Result, Ok, Err}
 use Rattle.std.specs.Option.{option_and_then}
 use Rattle.stamp.specs.Limits.{lift}
 use Rattle.ua_binary.specs.declared.values.NodeId.{NodeId}
@@ -10,15 +10,16 @@ use Rattle.ua_variant.specs.declared.value.Variant.{Variant}
 use Rattle.ua_variant.specs.declared.value.ValueType.{ValueType}
 use Rattle.records.specs.Contents.{Content, vec, top, put}
 use Rattle.records.specs.Records.{current}
+use Rattle.records.specs.Moments.{moment, ticks_of}
 use Rattle.records.specs.Spelling.{empty, fields, longest}
 use Rattle.records.specs.declared.record.Record.{Record}
-use Rattle.records.specs.declared.record.HistoryUpdateType.{HistoryUpdateType}
-use Rattle.records.specs.declared.record.HistoryUpdateType.TheVariants.{Insert, Replace, Delete}
+use Rattle.ua_variant.specs.declared.update_type.HistoryUpdateType.{HistoryUpdateType}
+use Rattle.ua_variant.specs.declared.update_type.HistoryUpdateType.TheVariants.{Insert, Replace, Delete}
 use Rattle.hist_update.specs.declared.request.Request.{Request}
 use Rattle.hist_update.specs.declared.code.UpdateCode.{UpdateCode}
 use Rattle.hist_update.specs.declared.code.UpdateCode.TheVariants.{Good, GoodEntryInserted, GoodEntryReplaced, BadResourceUnavailable, BadEncodingLimitsExceeded, BadInvalidTimestamp, BadTypeMismatch, BadEntryExists, BadNoEntryExists}
 
--- a write of one value to a node of this type, or a delete at one source time
+-- a write of one value to a node of this type, or a delete at one moment
 pub data Operation : Type 0 where
   Write : (asked : HistoryUpdateType) → ValueType → DataValue → Operation
   DeleteAt : ℤ → Operation
@@ -45,9 +46,13 @@ pub record IsRequest (request : Request) : Type 0 where
 
 -- ---- what is refused whatever is held
 
--- the source time, where there is one of at least 1
+-- the picoseconds, 0 where there are none
+abbrev pub source_pico : DataValue → ℕ
+source_pico v = unwrap_or v.source_pico 0
+
+-- the moment, where there is a source time of at least 1
 abbrev pub source_time : DataValue → Option ℤ
-source_time v = option_and_then (λ t. if int_lt t.0 (pos 1) then None else Some t.0) v.source_time
+source_time v = option_and_then (λ t. if int_lt t.0 (pos 1) then None else Some (moment t.0 (source_pico v))) v.source_time
 
 -- a value that isn't there fits each type, as a null one does
 abbrev pub fits : ValueType → Option Variant → Bool
@@ -87,7 +92,7 @@ written request own asked v (Ok time) = sized request own (writing asked v time)
 -- the change that an operation asks for
 abbrev pub change_by : Request → ℕ → Operation → Result Change UpdateCode
 change_by request own (Write asked type v) = written request own asked v (time_judged type v)
-change_by request own (DeleteAt time) = if int_lt time (pos 1) then Err BadInvalidTimestamp else Ok (deletion time)
+change_by request own (DeleteAt time) = if int_lt (ticks_of time) (pos 1) then Err BadInvalidTimestamp else Ok (deletion time)
 
 -- ---- what a content makes of it
 

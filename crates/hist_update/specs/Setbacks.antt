@@ -2,6 +2,7 @@
 use Rattle.std.specs.Prelude.{◌≡◌, ◌⊎◌, ◌+◌, ◌≤◌, min, nat_lt, ℤ, pos, ◌≤ℤ◌, Bool, true, false, List, map, length, Option, Some, None, unwrap_or, Result, Ok, Err, IsErr}
 use Rattle.stamp.specs.Limits.{greatest, lift}
 use Rattle.ua_variant.specs.DataValue.{IsDataValue}
+use Rattle.records.specs.Moments.{ticks_of}
 use Rattle.records.specs.Contents.{Content, vec, top}
 use Rattle.records.specs.Spelling.{fields, longest, is_value_for}
 use Rattle.records.specs.declared.record.Record.{Record}
@@ -67,7 +68,7 @@ candidate_of request place change = record_by request place.origin place.number 
 pub record IsDraft (r : Record) : Type 0 where
   pub number : (1 ≤ r.number) × (r.number ≤ greatest)
   pub node : id_length r.node ≤ 256
-  pub time : pos 1 ≤ℤ r.time
+  pub time : pos 1 ≤ℤ ticks_of r.time
   pub user : length r.user ≤ 256
   pub value : IsDataValue r.value
   pub suits : is_value_for r.asked r.value ≡ true

@@ -5,7 +5,8 @@ use Rattle.std.specs.List.{list_any}
 use Rattle.ua_binary.specs.declared.values.NodeId.{NodeId}
 use Rattle.ua_variant.specs.declared.data.DataValue.{DataValue}
 use Rattle.ua_variant.specs.declared.value.ValueType.{ValueType}
-use Rattle.records.specs.declared.record.HistoryUpdateType.{HistoryUpdateType}
+use Rattle.ua_variant.specs.declared.update_type.HistoryUpdateType.{HistoryUpdateType}
+use Rattle.records.specs.Moments.{moment}
 use Rattle.records.specs.Contents.{Content}
 use Rattle.archive.specs.declared.fault.StoreFault.{StoreFault}
 use Rattle.archive.specs.declared.fault.StoreFault.TheVariants.{Broken}
@@ -91,13 +92,17 @@ pub record Updates (old new : Store) (request : Request) (operations : List Oper
 
 -- ---- a delete of all values of a stretch of time
 
--- the last source time of it: its end isn't in it, but for the one instant where both are equal
-abbrev pub last_of : ℤ → ℤ → ℤ
-last_of start end_ = if int_eq start end_ then end_ else end_ -ℤ pos 1
+-- the moments of these times, without picoseconds
+abbrev pub moments_at : List ℤ → List ℤ
+moments_at times = map (λ t. moment t 0) times
 
--- the source times of the node's live values from start up to but without end
+-- the last moment of it: its end isn't in it, but for the one time where both are equal
+abbrev pub last_of : ℤ → ℤ → ℤ
+last_of start end_ = moment (if int_eq start end_ then end_ else end_ -ℤ pos 1) 9999
+
+-- the moments of the node's live values from start up to but without end
 abbrev pub doomed : Content → NodeId → ℤ → ℤ → List ℤ
-doomed R node start end_ = map (λ h. h.time) (range_of R node start (last_of start end_) Forward)
+doomed R node start end_ = map (λ h. h.time) (range_of R node (moment start 0) (last_of start end_) Forward)
 
 -- why it is refused before the archive is asked
 abbrev pub stretch_refusal : Bool → ℤ → ℤ → Option UpdateCode

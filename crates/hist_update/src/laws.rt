@@ -8,7 +8,7 @@ ghost use Rattle.records.specs.Lists.{Has, IsPairwise, last};
 ghost use Rattle.records.specs.Contents.{Content, IsClosed, IsNext, IsWithin, put};
 ghost use Rattle.records.specs.Records.{is_delete, story, current};
 ghost use Rattle.records.specs.declared.record.Record.{Record};
-ghost use Rattle.records.specs.declared.record.HistoryUpdateType.TheVariants.{Insert, Replace};
+ghost use Rattle.ua_variant.specs.declared.update_type.HistoryUpdateType.TheVariants.{Insert, Replace};
 ghost use Rattle.records.specs.declared.shown.Held.{Held};
 ghost use Rattle.archive.specs.Store.{IsLawfulContent};
 ghost use Rattle.hist_update.specs.declared.code.UpdateCode.{UpdateCode};
@@ -71,8 +71,8 @@ pub fn updates_keep_contents_lawful()
         → IsLawfulContent R → IsLawfulContent (updated R own q steps) }
 {}
 
-/// The source times that a delete of a stretch of time deletes at: those of the node's live values
-/// from its start up to but without its end, or at the one instant, each once, in order.
+/// The moments that a delete of a stretch of time deletes at: those of the node's live values from its
+/// start up to but without its end, or all of the one time, each once, in order.
 pub fn stretches_have_the_live_times()
     ensures members { (R : Content) (node : NodeId) (start end_ time : ℤ) → Has (doomed R node start end_) time ↔ IsDoomed R node start end_ time }
     ensures order { (R : Content) (node : NodeId) (start end_ : ℤ) → IsPairwise (λ a b. a <ℤ b) (doomed R node start end_) }

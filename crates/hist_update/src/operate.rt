@@ -1,15 +1,13 @@
-//! One operation: a write of one value, or a delete at one source time.
+//! One operation: a write of one value, or a delete at one moment.
 
-ghost use Rattle.std.specs.Prelude.{◌≡◌, ◌+◌, min, is_some, IfOk, IfSome, IfNone, false, Ok, Err, None};
-ghost use Rattle.std.specs.Int.{w64};
-ghost use Rattle.std.specs.Int.RustNames.{FitsSigned};
+ghost use Rattle.std.specs.Prelude.{◌≡◌, ◌+◌, ◌≤◌, min, is_some, IfOk, IfSome, IfNone, false, Ok, Err, None};
 ghost use Rattle.stamp.specs.Limits.{greatest, lift};
 ghost use Rattle.records.specs.Records.{held, current, is_delete};
 ghost use Rattle.records.specs.Spelling.{empty, IsLawfulRecord};
 ghost use Rattle.records.specs.Contents.{vec, top};
 ghost use Rattle.archive.specs.Store.{Store, Asks};
-ghost use Rattle.ua_variant.specs.DataValue.{IsDataValue};
-ghost use Rattle.hist_update.specs.Outcome.{IsRequest, Write, DeleteAt, fits, source_time, time_judged, conflict, done, is_live, writing, deletion, record_by};
+ghost use Rattle.ua_variant.specs.DataValue.{IsDataValue, IsPicoseconds};
+ghost use Rattle.hist_update.specs.Outcome.{IsRequest, Write, DeleteAt, fits, source_time, source_pico, time_judged, conflict, done, is_live, writing, deletion, record_by};
 ghost use Rattle.hist_update.specs.Setbacks.{Operates, IsPlace, IsNumber, candidate_of, IsDraft, is_long, refusal, Submits};
 ghost use Rattle.hist_update.specs.declared.code.UpdateCode.TheVariants as code;
 ghost use Rattle.hist_update.specs.declared.setback.Setback.TheVariants as setback;
@@ -18,7 +16,7 @@ use crate::code::UpdateCode;
 use crate::request::Request;
 use crate::setback::Setback;
 use archive::{Archive, StoreFault};
-use records::{HistoryUpdateType, Record};
+use records::{HistoryUpdateType, Moment, Record};
 use stamp::{GREATEST_NUMBER, GREATEST_TICK, ReplicaNo, lift};
 use std::alloc::{AllocError, Global};
 use ua_binary::TryClone;
@@ -44,12 +42,12 @@ fn is_write_last(story: &[Record]) -> bool
     }
 }
 
-/// Asks the archive where a change at this source time is to go.
+/// Asks the archive where a change at this moment is to go.
 fn survey<A: Archive>(
     alloc: Global,
     archive: &mut A,
     request: &Request,
-    time: i64,
+    time: Moment,
 ) -> Result<Place, StoreFault>
     ensures number { IfOk result IsNumber }
     ensures asks { Asks (A.state archive.old) (A.state archive.new) result (IsPlace (A.state archive.old) request.now time) }
@@ -103,21 +101,37 @@ fn fits(value_type: ValueType, value: &Option<Variant>) -> bool
     }
 }
 
-/// The source time of a value, where there is one of at least 1.
-fn source_time(value: &DataValue) -> Option<i64>
-    ensures time { result ≡ source_time value.now }
-    ensures fits { IfSome result (λ t. FitsSigned w64 t) }
+/// The source picoseconds of a value, 0 where it has none.
+fn source_pico(value: &DataValue) -> u16
+    requires { IfSome value.now.source_pico IsPicoseconds }
+    ensures pico { result ≡ source_pico value.now }
+    ensures within { result ≤ 9999 }
 {
+    match value.source_pico {
+        Some(pico) => pico,
+        None => 0,
+    }
+}
+
+/// The moment of a value, where it has a source time of at least 1.
+fn source_time(value: &DataValue) -> Option<Moment>
+    requires { IfSome value.now.source_pico IsPicoseconds }
+    ensures { result ≡ source_time value.now }
+{
+    let pico = source_pico(value);
     match value.source_time {
-        Some(ticks) if ticks.0 >= 1 => Some(ticks.0),
+        Some(ticks) if ticks.0 >= 1 => Some(Moment {
+            ticks: ticks.0,
+            pico,
+        }),
         _ => None,
     }
 }
 
-/// The source time of a value that may be written to a node of this type.
-fn judge(value_type: ValueType, value: &DataValue) -> Result<i64, UpdateCode>
-    ensures judged { result ≡ time_judged value_type value.now }
-    ensures fits { IfOk result (λ t. FitsSigned w64 t) }
+/// The moment of a value that may be written to a node of this type.
+fn judge(value_type: ValueType, value: &DataValue) -> Result<Moment, UpdateCode>
+    requires { IfSome value.now.source_pico IsPicoseconds }
+    ensures { result ≡ time_judged value_type value.now }
 {
     let Some(time) = source_time(value) else {
         return Err(UpdateCode::BadInvalidTimestamp);
@@ -162,7 +176,7 @@ impl Request {
     fn record(
         &self,
         place: &Place,
-        time: i64,
+        time: Moment,
         asked: HistoryUpdateType,
         value: DataValue,
     ) -> Result<Record, AllocError>
@@ -186,7 +200,7 @@ impl Request {
     fn write(
         &self,
         place: &Place,
-        time: i64,
+        time: Moment,
         asked: HistoryUpdateType,
         value: &DataValue,
     ) -> Result<Record, AllocError>
@@ -204,7 +218,7 @@ fn is_long(candidate: &Record) -> bool
     ensures tested { result ≡ is_long candidate.now }
     ensures lawful { result ≡ false → IsLawfulRecord candidate.now }
 {
-    let (_origin, _time) = (candidate.origin.get(), candidate.time);
+    let (_origin, _time) = (candidate.origin.get(), candidate.time.ticks());
     let (_node, _user) = (candidate.node.as_ref(), candidate.user.as_str());
     !candidate.is_lawful()
 }
@@ -281,17 +295,17 @@ pub(crate) fn write<A: Archive>(
     settle(archive, &candidate, &place)
 }
 
-/// Deletes what is live at one source time.
+/// Deletes what is live at one moment.
 pub(crate) fn delete<A: Archive>(
     alloc: Global,
     archive: &mut A,
     request: &Request,
-    time: i64,
+    time: Moment,
 ) -> Result<UpdateCode, Setback>
     requires { IsRequest request.now }
     ensures { Operates (A.state archive.old) (A.state archive.new) request.now (DeleteAt time) result }
 {
-    if time < 1 {
+    if time.ticks() < 1 {
         return Err(Setback::Refused(UpdateCode::BadInvalidTimestamp));
     }
     let _node = request.node.as_ref();

@@ -7,7 +7,7 @@ use super::*;
 use HistoryUpdateType::{Delete, Insert, Update};
 use UpdateCode::*;
 use archive::{Archive, Direction, Failure, ListArchive, ScriptedArchive, StoreFault};
-use records::{Entry, Held, HistoryUpdateType, Record};
+use records::{Entry, Held, HistoryUpdateType, Moment, Record};
 use stamp::ReplicaNo;
 use std::alloc::{AllocError, Global};
 use std::test::Fail;
@@ -56,7 +56,11 @@ fn is_request(request: &Request) -> bool
 fn is_spelled(value: &DataValue) -> bool
     ensures { IsTrue result → IsDataValue value.now }
 {
-    value.source_pico.is_none() && value.server_pico.is_none() && value.size() < 0x8000_0000
+    let close = match value.source_pico {
+        Some(pico) => pico <= 9999,
+        None => true,
+    };
+    close && value.server_pico.is_none() && value.size() < 0x8000_0000
 }
 
 fn are_spelled(values: &[DataValue]) -> bool
@@ -205,7 +209,7 @@ fn has_story<A: Archive>(
     wanted: &[(HistoryUpdateType, i64)],
 ) -> Result<bool, StoreFault> {
     let request = request(alloc, 0)?;
-    let story = archive.at(alloc, &request.node, time)?;
+    let story = archive.at(alloc, &request.node, Moment::at(time))?;
     Ok(is_story(&story, wanted))
 }
 
@@ -250,7 +254,7 @@ fn first_record(alloc: Global) -> Result<Record, StoreFault> {
         number: 1,
         tick: 100,
         node: request.node,
-        time: 10,
+        time: Moment::at(10),
         asked: Insert,
         user: request.user,
         value: value(int(7), None),
@@ -260,7 +264,7 @@ fn first_record(alloc: Global) -> Result<Record, StoreFault> {
 /// Whether the archive holds the record of the first insert, and no other at its time.
 fn has_first<A: Archive>(alloc: Global, archive: &mut A) -> Result<bool, StoreFault> {
     let wanted = first_record(alloc)?;
-    let story = archive.at(alloc, &wanted.node, 10)?;
+    let story = archive.at(alloc, &wanted.node, Moment::at(10))?;
     Ok(story.len() == 1 && story[0] == wanted)
 }
 
@@ -269,8 +273,23 @@ static SHOWN: [(HistoryUpdateType, i32); 4] = [(Insert, 9), (Delete, 8), (Update
 /// Whether the modifications and the live values from 1 to 100 are those of the two lists of operations.
 fn shows_all<A: Archive>(alloc: Global, archive: &mut A) -> Result<bool, StoreFault> {
     let request = request(alloc, 0)?;
-    let log = archive.log(alloc, &request.node, 1, 100, None, Direction::Forward, 9)?;
-    let lives = archive.range(alloc, &request.node, 1, 100, Direction::Forward, 9)?;
+    let log = archive.log(
+        alloc,
+        &request.node,
+        Moment::at(1),
+        Moment::at(100),
+        None,
+        Direction::Forward,
+        9,
+    )?;
+    let lives = archive.range(
+        alloc,
+        &request.node,
+        Moment::at(1),
+        Moment::at(100),
+        Direction::Forward,
+        9,
+    )?;
     Ok(are_entries(&log, &SHOWN) && is_live_alone(&lives, 9))
 }
 
@@ -300,7 +319,7 @@ fn last_record(alloc: Global) -> Result<Record, StoreFault> {
         number: 1,
         tick: 4_611_686_018_427_387_903,
         node: request.node,
-        time: 30,
+        time: Moment::at(30),
         asked: Insert,
         user: request.user,
         value: value(int(1), None),
@@ -683,5 +702,55 @@ fn failed_deletes_have_their_status(rt: HostRuntime) -> Result<(), Fail> {
             "{call} {failure:?}"
         );
     }
+    Ok(())
+}
+
+/// Whether an insert of a value at 10 with these picoseconds is answered so.
+fn inserts_close<A: Archive>(
+    alloc: Global,
+    archive: &mut A,
+    pico: u16,
+    written: i32,
+) -> Result<UpdateCode, AllocError> {
+    let mut close = value(int(written), Some(10));
+    close.source_pico = Some(pico);
+    let told = update(alloc, archive, 100, INT32, 1, &[close])?;
+    match told.codes.as_slice() {
+        [code] => Ok(*code),
+        _ => Err(AllocError),
+    }
+}
+
+/// How many values are live at 10.
+fn live_at_10<A: Archive>(alloc: Global, archive: &mut A) -> Result<usize, StoreFault> {
+    let request = request(alloc, 0)?;
+    let to = Moment {
+        ticks: 10,
+        pico: 9999,
+    };
+    let lives = archive.range(
+        alloc,
+        &request.node,
+        Moment::at(10),
+        to,
+        Direction::Forward,
+        9,
+    )?;
+    Ok(lives.len())
+}
+
+#[test]
+fn moments_are_apart(rt: HostRuntime) -> Result<(), Fail> {
+    let alloc = rt.alloc();
+    let mut archive = list_archive(alloc)?;
+    assert!(rt; inserts_close(alloc, &mut archive, 0, 7)? == GoodEntryInserted);
+    assert!(rt; inserts_close(alloc, &mut archive, 5, 8)? == GoodEntryInserted);
+    assert!(rt; inserts_close(alloc, &mut archive, 5, 9)? == BadEntryExists);
+    assert!(rt; live_at_10(alloc, &mut archive)? == 2);
+    let deleted = delete(alloc, &mut archive, 100, &[10])?;
+    assert!(rt; is_told(&deleted, Good, 1, Good));
+    assert!(rt; live_at_10(alloc, &mut archive)? == 1);
+    assert!(rt; erases(alloc, &mut archive, &[(false, 10, 10, Good, 1)])?);
+    assert!(rt; live_at_10(alloc, &mut archive)? == 0);
     Ok(())
 }

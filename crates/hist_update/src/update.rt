@@ -3,13 +3,11 @@
 ghost use Rattle.std.specs.Prelude.{◌≡◌, ◌≤◌, ◌≤ℤ◌, pos, [], map, length, IfOk, None, false, vec_capacity};
 ghost use Rattle.std.specs.List.{AllByRecursion};
 ghost use Rattle.ua_variant.specs.DataValue.{IsDataValue};
-ghost use Rattle.std.specs.Int.{w64};
-ghost use Rattle.std.specs.Int.RustNames.{FitsSigned};
 ghost use Rattle.hist_update.specs.Codes.{asked_by, count_refusal, first_other};
 ghost use Rattle.hist_update.specs.Outcome.{IsRequest, Write, DeleteAt};
 ghost use Rattle.records.specs.Records.{is_delete};
 ghost use Rattle.hist_update.specs.Setbacks.{code_told, AnswersListed, AnswersLives};
-ghost use Rattle.hist_update.specs.Updates.{Updates, AnswersList, AnswersStretch, data_refusal, writes, last_of, stretch_refusal, listing_refusal};
+ghost use Rattle.hist_update.specs.Updates.{Updates, AnswersList, AnswersStretch, data_refusal, writes, moments_at, last_of, stretch_refusal, listing_refusal};
 
 use crate::code::UpdateCode;
 use crate::operate::{delete, write};
@@ -17,7 +15,7 @@ use crate::request::Request;
 use crate::result::UpdateResult;
 use crate::setback::Setback;
 use archive::{Archive, Direction};
-use records::{Held, HistoryUpdateType};
+use records::{Held, HistoryUpdateType, Moment};
 use std::alloc::{AllocError, Global};
 use ua_binary::Listing;
 use ua_variant::{DataValue, ValueType};
@@ -86,7 +84,7 @@ fn delete_each<A: Archive>(
     alloc: Global,
     archive: &mut A,
     request: &Request,
-    times: &[i64],
+    times: &[Moment],
     codes: &mut Vec<UpdateCode>,
 )
     requires request { IsRequest request.now }
@@ -106,7 +104,7 @@ fn delete_each<A: Archive>(
 /// 1,000, and BadOutOfMemory where there is no memory for the codes: then nothing was changed and there
 /// are no codes. Otherwise the status is Good, and each value has a code of its own: BadInvalidTimestamp
 /// without a source time of at least 1, BadTypeMismatch, BadEncodingLimitsExceeded where its record has
-/// more than 1,048,576 bytes, BadEntryExists, BadNoEntryExists, BadResourceUnavailable where no tick is
+/// more than 1,048,578 bytes, BadEntryExists, BadNoEntryExists, BadResourceUnavailable where no tick is
 /// left, BadOutOfMemory, BadResourceUnavailable for another fault of the store, GoodEntryInserted or
 /// GoodEntryReplaced. A value of a Bad code changed nothing, save that behind a break of the store its
 /// record may stand.
@@ -140,16 +138,12 @@ pub fn update_data<A: Archive>(
     }
 }
 
-/// Deletes what is live at each of 1 to 1,000 source times, in order (Part 11, DeleteAtTimeDetails).
-/// The status is BadNothingToDo for no time, BadTooManyOperations for more than 1,000, BadOutOfMemory
-/// where there is no memory for the codes; then nothing was changed and there are no codes. Otherwise it
-/// is Good, and each time has a code of its own: BadInvalidTimestamp below 1, BadNoEntryExists where
-/// none is live, those of a tick, memory and the store as for a value, or Good.
-pub fn delete_at<A: Archive>(
+/// Deletes what is live at each of 1 to 1,000 moments, in order.
+fn delete_moments<A: Archive>(
     alloc: Global,
     archive: &mut A,
     request: &Request,
-    times: &[i64],
+    times: &[Moment],
 ) -> UpdateResult
     requires { IsRequest request.now }
     ensures { AnswersList A.state archive.old archive.new request.now (count_refusal (length times.now)) (map DeleteAt times.now) result }
@@ -167,8 +161,42 @@ pub fn delete_at<A: Archive>(
     }
 }
 
-/// The source times of live values.
-fn times_of(alloc: Global, lives: &[Held]) -> Result<Vec<i64>, AllocError>
+/// The moments of these times, without picoseconds.
+fn moments_at(alloc: Global, times: &[i64]) -> Result<Vec<Moment>, AllocError>
+    ensures { IfOk result (λ v. v.items ≡ moments_at times.now) }
+{
+    let mut moments = Vec::with_capacity(alloc, times.len())?;
+    for time in times {
+        moments.push(Moment::at(*time))?;
+    }
+    Ok(moments)
+}
+
+/// Deletes what is live at each of 1 to 1,000 source times, without picoseconds, in order (Part 11, DeleteAtTimeDetails).
+/// The status is BadNothingToDo for no time, BadTooManyOperations for more than 1,000, BadOutOfMemory
+/// where there is no memory for the codes; then nothing was changed and there are no codes. Otherwise it
+/// is Good, and each time has a code of its own: BadInvalidTimestamp below 1, BadNoEntryExists where
+/// none is live, those of a tick, memory and the store as for a value, or Good.
+pub fn delete_at<A: Archive>(
+    alloc: Global,
+    archive: &mut A,
+    request: &Request,
+    times: &[i64],
+) -> UpdateResult
+    requires { IsRequest request.now }
+    ensures { AnswersList A.state archive.old archive.new request.now (count_refusal (length times.now)) (map DeleteAt (moments_at times.now)) result }
+{
+    if let Some(code) = count_refusal(times.len()) {
+        return UpdateResult::refused(alloc, code);
+    }
+    match moments_at(alloc, times) {
+        Ok(moments) => delete_moments(alloc, archive, request, &moments),
+        Err(_) => UpdateResult::refused(alloc, UpdateCode::BadOutOfMemory),
+    }
+}
+
+/// The moments of live values.
+fn times_of(alloc: Global, lives: &[Held]) -> Result<Vec<Moment>, AllocError>
     ensures { IfOk result (λ v. v.items ≡ map (λ h. h.time) lives.now) }
 {
     let mut times = Vec::with_capacity(alloc, lives.len())?;
@@ -190,12 +218,12 @@ fn first_other(codes: &[UpdateCode]) -> UpdateCode
     UpdateCode::Good
 }
 
-/// Deletes at the source times of a listing.
+/// Deletes at the moments of a listing.
 fn delete_listed<A: Archive>(
     alloc: Global,
     archive: &mut A,
     request: &Request,
-    times: &[i64],
+    times: &[Moment],
 ) -> UpdateResult
     requires { IsRequest request.now }
     ensures { AnswersListed A.state archive.old archive.new request.now (listing_refusal times.now) times.now result }
@@ -203,7 +231,7 @@ fn delete_listed<A: Archive>(
     if times.is_empty() {
         return UpdateResult::refused(alloc, UpdateCode::BadNoData);
     }
-    let deleted = delete_at(alloc, archive, request, times);
+    let deleted = delete_moments(alloc, archive, request, times);
     if deleted.status != UpdateCode::Good {
         return deleted;
     }
@@ -243,18 +271,18 @@ fn stretch_refusal(modified: bool, start: i64, end: i64) -> Option<UpdateCode>
     None
 }
 
-/// The last source time of a stretch of time.
-fn last_of(start: i64, end: i64) -> i64
+/// The last moment of a stretch of time.
+fn last_of(start: i64, end: i64) -> Moment
     requires start { pos 1 ≤ℤ start }
     requires end { start ≤ℤ end }
-    ensures last { result ≡ last_of start end }
-    ensures fits { FitsSigned w64 result }
+    ensures { result ≡ last_of start end }
 {
-    if start == end { end } else { end - 1 }
+    let ticks = if start == end { end } else { end - 1 };
+    Moment { ticks, pico: 9999 }
 }
 
-/// Deletes a node's live values from `start` up to but without `end`, or at the one instant where
-/// both are equal, ascending, each by an operation of its own (Part 11, DeleteRawModifiedDetails). The
+/// Deletes a node's live values from `start` up to but without `end`, or at all moments of the one time
+/// where both are equal, ascending, each by an operation of its own (Part 11, DeleteRawModifiedDetails). The
 /// status is BadHistoryOperationUnsupported where modifications are asked for,
 /// BadInvalidTimestampArgument for a time below 1 or a start behind the end, BadNoData where none is
 /// live, BadTooManyOperations for more than 1,000, the code of a fault that the listing met, and
@@ -278,7 +306,7 @@ pub fn delete_raw<A: Archive>(
     match archive.range(
         alloc,
         &request.node,
-        start,
+        Moment::at(start),
         last,
         Direction::Forward,
         MOST + 1,

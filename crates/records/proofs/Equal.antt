@@ -7,7 +7,7 @@ use Rattle.ua_binary.specs.contracts.values.NodeIdPartialEq as node
 use Rattle.ua_binary.specs.declared.values.NodeId.{NodeId}
 use Rattle.ua_variant.proofs.Equal.{IsExact, pairs, through, nodes, data_values}
 use Rattle.stamp.specs.contracts.stamps.ReplicaNoPartialEq as replica
-use Rattle.records.specs.contracts.record.HistoryUpdateTypePartialEq as asked
+use Rattle.ua_variant.specs.contracts.update_type.HistoryUpdateTypePartialEq as asked
 use Rattle.records.specs.contracts.record.RecordPartialEq as whole
 use Rattle.records.specs.declared.record.Record.{Record}
 use Rattle.records.specs.Same.{same_record, same_node, record_code, node_code}

@@ -6,8 +6,8 @@ use Rattle.std.proofs.Common.{add-one}
 use Rattle.records.specs.declared.record.Record.{Record}
 use Rattle.records.specs.declared.shown.Entry.{Entry}
 use Rattle.records.specs.declared.shown.Held.{Held}
-use Rattle.records.specs.declared.record.HistoryUpdateType.{HistoryUpdateType}
-use Rattle.records.specs.declared.record.HistoryUpdateType.TheVariants.{Insert, Replace, Update, Delete}
+use Rattle.ua_variant.specs.declared.update_type.HistoryUpdateType.{HistoryUpdateType}
+use Rattle.ua_variant.specs.declared.update_type.HistoryUpdateType.TheVariants.{Insert, Replace, Update, Delete}
 use Rattle.records.specs.Lists.{Has, last}
 use Rattle.records.specs.Same.{node_code}
 use Rattle.records.specs.Records.{stamp_cmp, is_at, story, held_of, is_delete, write, kind, entry, entries_after}

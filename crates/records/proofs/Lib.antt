@@ -1,6 +1,7 @@
 pub mod Sorting
 pub mod Orders
 pub mod Same
+pub mod Moments
 pub mod RecordLemmas
 pub mod ContentLemmas
 pub mod PutLemmas

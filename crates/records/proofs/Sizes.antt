@@ -12,18 +12,23 @@ use Rattle.ua_binary.proofs.Sizes.{text_length}
 use Rattle.ua_variant.specs.DataValue.{data_value, IsDataValue, IsShortData}
 use Rattle.ua_variant.specs.Variant.{IsShortVariant}
 use Rattle.records.specs.declared.record.Record.{Record}
-use Rattle.records.specs.declared.record.HistoryUpdateType.{HistoryUpdateType}
+use Rattle.ua_variant.specs.declared.update_type.HistoryUpdateType.{HistoryUpdateType}
+use Rattle.records.specs.Moments.{ticks_of}
 use Rattle.records.specs.Spelling.{time, asked, user, front, value, parts_of, fields, longest, HasLimits, IsLawfulRecord}
 
-late_length : (t : ℤ) (a : HistoryUpdateType) (u : List ℕ) → length ((time ▸ asked ▸ user).canon (t, (a, u))) ≡ 13 + length u
-unfolding Rattle.ua_binary.specs.Binary.signed Rattle.ua_binary.specs.Binary.unsigned
-late_length t a u = omega (arith, text_length u)
+time_length : (t : ℤ) → length (time.canon t) ≡ 10
+unfolding time Rattle.ua_binary.specs.Binary.signed Rattle.ua_binary.specs.Binary.unsigned
+time_length t = omega arith
 
-front_length : (r : Record) → length (front.canon (parts_of r).0) ≡ 31 + (length (node_id.canon r.node) + length r.user)
+late_length : (t : ℤ) (a : HistoryUpdateType) (u : List ℕ) → length ((time ▸ asked ▸ user).canon (t, (a, u))) ≡ 15 + length u
+unfolding Rattle.ua_binary.specs.Binary.signed Rattle.ua_binary.specs.Binary.unsigned
+late_length t a u = omega (arith, length-append (time.canon t) ((asked ▸ user).canon (a, u)), time_length t, text_length u)
+
+front_length : (r : Record) → length (front.canon (parts_of r).0) ≡ 33 + (length (node_id.canon r.node) + length r.user)
 unfolding Rattle.ua_binary.specs.Binary.signed Rattle.ua_binary.specs.Binary.unsigned
 front_length r = omega (arith, length-append (node_id.canon r.node) ((time ▸ asked ▸ user).canon (r.time, (r.asked, r.user))), late_length r.time r.asked r.user)
 
-pub fields_length : (r : Record) → length (fields.canon r) ≡ 31 + (length (node_id.canon r.node) + length r.user) + length (data_value.canon r.value)
+pub fields_length : (r : Record) → length (fields.canon r) ≡ 33 + (length (node_id.canon r.node) + length r.user) + length (data_value.canon r.value)
 unfolding fields
 fields_length r = omega (arith, length-append (front.canon (parts_of r).0) (data_value.canon r.value), front_length r)
 
@@ -31,7 +36,7 @@ small : (r : Record) → length (fields.canon r) ≤ longest → (length (node_i
 small r h = (omega (arith, fields_length r, h), omega (arith, fields_length r, h))
 
 -- what passes the tests has a spelling
-pub lawful_by : (r : Record) → IsReplica r.origin → FitsSigned w64 r.time → is_utf8 r.user ≡ true
+pub lawful_by : (r : Record) → IsReplica r.origin → FitsSigned w64 (ticks_of r.time) → is_utf8 r.user ≡ true
     → (length (node_id.canon r.node) < 2 ^ 31 → IsShortNode r.node) → (IsShortNode r.node → IsNodeId r.node)
     → (length (data_value.canon r.value) < 2 ^ 31 → IfSome r.value.value IsShortVariant) → (IsShortData r.value → IsDataValue r.value)
     → HasLimits r → length (fields.canon r) ≤ longest → IsLawfulRecord r

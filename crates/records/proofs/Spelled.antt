@@ -11,17 +11,19 @@ use Rattle.stamp.specs.Limits.{greatest}
 use Rattle.ua_binary.specs.Format.{Format, IsLawful, ◌▸◌, standing_for, passing, raised, whole}
 use Rattle.ua_binary.specs.Binary.{IsCounted, node_id, text}
 use Rattle.ua_binary.proofs.Combined.{bind_ok, passed_ok, guard_ok, Found, byte_lawful, then_lawful, standing_lawful, passing_lawful, fitting_lawful, raised_lawful}
-use Rattle.ua_binary.proofs.Lawful.{u64_lawful, i64_lawful, node_id_lawful, text_lawful}
+use Rattle.ua_binary.proofs.Lawful.{u16_lawful, u64_lawful, i64_lawful, node_id_lawful, text_lawful}
 use Rattle.ua_binary.proofs.Spelled.{whole_found, whole_only}
 use Rattle.ua_binary.proofs.Counted.{SpellsOnly, any_only, then_only, standing_only, passing_only, raised_only, text_only, node_id_only, read_only}
 use Rattle.ua_variant.proofs.Masks.{data_value_lawful}
 use Rattle.ua_variant.proofs.Short.{data_value_only}
 use Rattle.records.specs.declared.record.Record.{Record}
-use Rattle.records.specs.declared.record.HistoryUpdateType.{HistoryUpdateType}
-use Rattle.records.specs.declared.record.HistoryUpdateType.TheVariants.{Insert, Replace, Update, Delete}
+use Rattle.ua_variant.specs.declared.update_type.HistoryUpdateType.{HistoryUpdateType}
+use Rattle.ua_variant.specs.declared.update_type.HistoryUpdateType.TheVariants.{Insert, Replace, Update, Delete}
 use Rattle.records.specs.declared.fault.RecordFault.TheVariants.{Binary, BadField, NotCanonical}
 use Rattle.records.specs.Fault.{binary_fault}
-use Rattle.records.specs.Spelling.{at_most, canonical, version, origin, number, tick, node, time, number_of_asked, asked_of_number, asked, is_user, user, is_value_for, value, front, record_of, parts_of, fields, longest, IsLawfulRecord, IsRecord, IsTick, HasSpelledParts, record_form, record_at, IsShortRecord}
+use Rattle.records.specs.Moments.{ticks_of, pico_of, ticks_again, whole_again, pico_within}
+use Rattle.ua_variant.specs.UpdateType.{update_number}
+use Rattle.records.specs.Spelling.{at_most, canonical, version, origin, number, tick, ticks, pico, node, time, asked_of_number, asked, is_user, user, is_value_for, value, front, record_of, parts_of, fields, longest, IsLawfulRecord, IsRecord, IsTick, HasSpelledParts, record_form, record_at, IsShortRecord}
 
 -- ---- two formats of formats
 
@@ -55,6 +57,10 @@ canonical_lawful e {f} p = record {
 
 -- ---- the fields
 
+time_lawful : IsLawful time
+unfolding time
+time_lawful = standing_lawful _ _ (then_lawful (passing_lawful _ _ (raised_lawful _ i64_lawful)) (passing_lawful _ _ (raised_lawful _ u16_lawful)))
+
 front_lawful : IsLawful front
 front_lawful =
     then_lawful (passing_lawful _ _ (raised_lawful _ byte_lawful)) (
@@ -62,7 +68,7 @@ front_lawful =
     then_lawful (passing_lawful _ _ (raised_lawful _ u64_lawful)) (
     then_lawful (passing_lawful _ _ (raised_lawful _ i64_lawful)) (
     then_lawful (raised_lawful _ node_id_lawful) (
-    then_lawful (passing_lawful _ _ (raised_lawful _ i64_lawful)) (
+    then_lawful time_lawful (
     then_lawful (standing_lawful _ _ (passing_lawful _ _ (raised_lawful _ byte_lawful)))
     (standing_lawful _ _ (passing_lawful _ _ (raised_lawful _ text_lawful)))))))))
 
@@ -72,7 +78,7 @@ fields_lawful = passing_lawful _ _ (standing_lawful record_of parts_of (then_law
 
 -- ---- what has a spelling
 
-asked_again : (a : HistoryUpdateType) → (((number_of_asked a < 2 ^ 8) × ((nat_le 1 (number_of_asked a) && nat_le (number_of_asked a) 4) ≡ true)) × (a ≡ asked_of_number (number_of_asked a)))
+asked_again : (a : HistoryUpdateType) → (((update_number a < 2 ^ 8) × ((nat_le 1 (update_number a) && nat_le (update_number a) 4) ≡ true)) × (a ≡ asked_of_number (update_number a)))
 asked_again Insert = ((omega arith, refl), refl)
 asked_again Replace = ((omega arith, refl), refl)
 asked_again Update = ((omega arith, refl), refl)
@@ -93,9 +99,15 @@ tick_fits t h = (omega (arith, ints, h.0, h.1), and_from _ _ (at_least_one t h.0
 abbrev later_front : Record → ℤ × (HistoryUpdateType × List ℕ)
 later_front r = (r.time, (r.asked, r.user))
 
+time_fits : (t : ℤ) → pos 1 ≤ℤ ticks_of t → FitsSigned w64 (ticks_of t) → time.Fits t
+unfolding time Rattle.ua_binary.specs.Binary.signed Rattle.ua_binary.specs.Binary.unsigned
+time_fits t h fits =
+    let small = pico_within t in
+    (((fits, at_least_one (ticks_of t) h), (omega (arith, small), le-leb (pico_of t) 9999 small)), sym (whole_again t))
+
 later_fits : (r : Record) → IsLawfulRecord r → (time ▸ asked ▸ user).Fits (later_front r)
-unfolding Rattle.ua_binary.specs.Binary.signed Rattle.ua_binary.specs.Binary.text
-later_fits r l = ((l.time.1, at_least_one r.time l.time.0), (asked_again r.asked, (((omega (arith, l.user.0), l.user.1), le-leb (length r.user) 256 l.user.0), refl)))
+unfolding Rattle.ua_binary.specs.Binary.text
+later_fits r l = (time_fits r.time l.time.0 l.time.1, (asked_again r.asked, (((omega (arith, l.user.0), l.user.1), le-leb (length r.user) 256 l.user.0), refl)))
 
 front_fits : (r : Record) → IsRecord r → front.Fits (parts_of r).0
 unfolding Rattle.ua_binary.specs.Binary.unsigned Rattle.ua_binary.specs.Binary.signed Rattle.ua_binary.specs.Binary.node_id
@@ -163,7 +175,7 @@ record_short r h = fields_only.holds (fields.canon r) r (fields_lawful.written r
 
 -- what the tests tell
 abbrev IsTested : Record → Type 0
-IsTested r = ((1 ≤ r.number) × (r.number ≤ greatest)) × (IsTick r.tick × ((pos 1 ≤ℤ r.time) × (length r.user ≤ 256)))
+IsTested r = ((1 ≤ r.number) × (r.number ≤ greatest)) × (IsTick r.tick × ((pos 1 ≤ℤ ticks_of r.time) × (length r.user ≤ 256)))
 
 from_one : (n most : ℕ) → (nat_le 1 n && nat_le n most) ≡ true → (1 ≤ n) × (n ≤ most)
 from_one n most e = let parts = and_parts _ _ e in (leb-true _ _ parts.0, leb-true _ _ parts.1)
@@ -187,8 +199,15 @@ number_tested = record { holds = λ bytes n s. from_one n greatest s.1 }
 tick_tested : SpellsOnly tick IsTick
 tick_tested = record { holds = λ bytes t s. from_tick t s.1 }
 
-time_tested : SpellsOnly time (λ t. pos 1 ≤ℤ t)
-time_tested = record { holds = λ bytes t s. is_positive t s.1 }
+ticks_tested : SpellsOnly ticks (λ t. pos 1 ≤ℤ t)
+ticks_tested = record { holds = λ bytes t s. is_positive t s.1 }
+
+pico_tested : SpellsOnly pico (λ n. n ≤ 9999)
+pico_tested = record { holds = λ bytes n s. leb-true n 9999 s.1 }
+
+time_tested : SpellsOnly time (λ t. pos 1 ≤ℤ ticks_of t)
+unfolding time
+time_tested = standing_only _ _ (then_only ticks_tested pico_tested) (λ u h. subst (λ t. pos 1 ≤ℤ t) (sym (ticks_again u.0 u.1 h.1)) h.0)
 
 user_passed : SpellsOnly (passing is_user BadField (raised binary_fault text)) (λ name. is_user name ≡ true)
 user_passed = record { holds = λ bytes name s. s.1 }

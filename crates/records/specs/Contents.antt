@@ -1,6 +1,6 @@
 -- Contents: what an archive holds, its merging, and where each record is found.
-use Rattle.std.specs.Prelude.{◌≡◌, ℕ, ◌+◌, ◌≤◌, ◌<◌, ◌==◌, nat_lt, nat_le, max, ℤ, pos, ◌≤ℤ◌, ◌<ℤ◌, int_lt, int_le, Bool, true, false, not, if◌then◌else◌, List, [], ◌∷◌, ◌++◌, filter, slice_get, Option, Some, None, ◌⊎◌, ⊤}
-use Rattle.std.specs.List.{list_any}
+use Rattle.std.specs.Prelude.{◌≡◌, ℕ, ◌+◌, ◌≤◌, ◌<◌, ◌==◌, nat_lt, nat_le, max, ℤ, pos, ◌≤ℤ◌, ◌<ℤ◌, int_lt, int_le, Bool, true, false, not, if◌then◌else◌, List, [], ◌∷◌, ◌++◌, filter, map, slice_get, Option, Some, None, ◌⊎◌, ⊤}
+use Rattle.std.specs.List.{list_any, range_with_len}
 use Rattle.std.specs.declared.cmp.Ordering.TheVariants.{Less}
 use Rattle.std.specs.Ordering.{is_eq}
 use Rattle.std.specs.Option.{option_map_or}
@@ -10,7 +10,7 @@ use Rattle.records.specs.Lists.{insert_sorted, sort_by, last, Has, Rises}
 use Rattle.records.specs.Same.{same_record}
 use Rattle.records.specs.Records.{name_cmp, stamp_cmp, is_beyond, is_delete, story, current, entries}
 use Rattle.records.specs.declared.record.Record.{Record}
-use Rattle.records.specs.declared.record.HistoryUpdateType.TheVariants.{Delete}
+use Rattle.ua_variant.specs.declared.update_type.HistoryUpdateType.TheVariants.{Delete}
 use Rattle.records.specs.declared.shown.Held.{Held}
 use Rattle.records.specs.declared.shown.Entry.{Entry}
 
@@ -27,6 +27,10 @@ number_from origin r = if r.origin == origin then r.number else 0
 abbrev pub vec : Content → ℕ → ℕ
 vec [] origin = 0
 vec (r ∷ R) origin = max (number_from origin r) (vec R origin)
+
+-- the numbers of replicas 1 to 64 in this order, as a vector has them
+unfoldable pub numbers_of : Content → List ℕ
+numbers_of R = map (vec R) (range_with_len 1 64)
 
 -- the greatest tick, 0 where there is none
 abbrev pub top : Content → ℤ

@@ -1,5 +1,6 @@
 pub mod Lists
 pub mod Same
+pub mod Moments
 pub mod Records
 pub mod Contents
 pub mod Fault

@@ -1,21 +1,23 @@
--- A record as bytes, format 1: the byte 1, and its fields one after the other. Only the spelling that is written is one.
+-- A record as bytes, format 2: the byte 2, and its fields one after the other. Only the spelling that is written is one.
 use Rattle.std.specs.Prelude.{◌≡◌, ℕ, ◌+◌, ◌^◌, ◌<◌, ◌≤◌, nat_lt, nat_le, ◌==◌, ℤ, pos, ◌≤ℤ◌, int_le, Bool, true, false, not, ◌&&◌, ◌||◌, List, [], ◌++◌, length, Option, Some, None, IfSome, is_some, unwrap_or, Result, Ok, Err, if◌then◌else◌}
-use Rattle.std.specs.Int.{w64}
+use Rattle.std.specs.Int.{w16, w64}
 use Rattle.std.specs.Int.RustNames.{FitsSigned}
 use Rattle.std.specs.Str.{is_utf8, bytes_eq}
 use Rattle.stamp.specs.Limits.{greatest, IsReplica}
 use Rattle.ua_binary.specs.Format.{Format, byte, ◌▸◌, standing_for, passing, fitting, raised, whole, ◌>>=◌}
 use Rattle.ua_binary.specs.Binary.{unsigned, signed, text, node_id, IsNodeId, IsShortNode}
 use Rattle.ua_binary.specs.declared.values.NodeId.{NodeId}
+use Rattle.ua_variant.specs.UpdateType.{update_number}
 use Rattle.ua_variant.specs.declared.data.DataValue.{DataValue}
 use Rattle.ua_variant.specs.DataValue.{data_value, IsDataValue, IsShortData, IsPicoseconds}
 use Rattle.records.specs.declared.fault.RecordFault.{RecordFault}
 use Rattle.records.specs.declared.fault.RecordFault.TheVariants.{Binary, BadField, NotCanonical}
 use Rattle.records.specs.declared.record.Record.{Record}
-use Rattle.records.specs.declared.record.HistoryUpdateType.{HistoryUpdateType}
-use Rattle.records.specs.declared.record.HistoryUpdateType.TheVariants.{Insert, Replace, Update, Delete}
+use Rattle.ua_variant.specs.declared.update_type.HistoryUpdateType.{HistoryUpdateType}
+use Rattle.ua_variant.specs.declared.update_type.HistoryUpdateType.TheVariants.{Insert, Replace, Update, Delete}
 use Rattle.records.specs.Fault.{binary_fault, value_fault}
 use Rattle.records.specs.Records.{is_delete}
+use Rattle.records.specs.Moments.{moment, ticks_of, pico_of}
 
 -- ---- two formats of formats
 
@@ -41,7 +43,7 @@ canonical e f = record {
 
 -- the format's number
 abbrev pub version : Format RecordFault ℕ
-version = passing (λ n. n == 1) BadField (raised binary_fault byte)
+version = passing (λ n. n == 2) BadField (raised binary_fault byte)
 
 abbrev pub origin : Format RecordFault ℕ
 origin = passing (λ n. nat_le 1 n && nat_le n 64) BadField (raised binary_fault byte)
@@ -55,20 +57,21 @@ tick = passing (λ t. int_le (pos 1) t && int_le t (pos greatest)) BadField (rai
 abbrev pub node : Format RecordFault NodeId
 node = raised binary_fault node_id
 
-abbrev pub time : Format RecordFault ℤ
-time = passing (λ t. int_le (pos 1) t) BadField (raised binary_fault (signed w64))
+abbrev pub ticks : Format RecordFault ℤ
+ticks = passing (λ t. int_le (pos 1) t) BadField (raised binary_fault (signed w64))
 
-abbrev pub number_of_asked : HistoryUpdateType → ℕ
-number_of_asked Insert = 1
-number_of_asked Replace = 2
-number_of_asked Update = 3
-number_of_asked Delete = 4
+abbrev pub pico : Format RecordFault ℕ
+pico = passing (λ n. nat_le n 9999) BadField (raised binary_fault (unsigned w16))
+
+-- a moment: its ticks, and then its picoseconds
+unfoldable pub time : Format RecordFault ℤ
+time = standing_for (λ p. moment p.0 p.1) (λ t. (ticks_of t, pico_of t)) (ticks ▸ pico)
 
 abbrev pub asked_of_number : ℕ → HistoryUpdateType
 asked_of_number n = if n == 1 then Insert else if n == 2 then Replace else if n == 3 then Update else Delete
 
 abbrev pub asked : Format RecordFault HistoryUpdateType
-asked = standing_for asked_of_number number_of_asked (passing (λ n. nat_le 1 n && nat_le n 4) BadField (raised binary_fault byte))
+asked = standing_for asked_of_number update_number (passing (λ n. nat_le 1 n && nat_le n 4) BadField (raised binary_fault byte))
 
 abbrev pub is_user : Option (List ℕ) → Bool
 is_user None = false
@@ -104,7 +107,7 @@ abbrev pub empty : DataValue
 empty = record { value = None; status = None; source_time = None; source_pico = None; server_time = None; server_pico = None }
 
 abbrev pub parts_of : Record → Front × DataValue
-parts_of r = ((1, (r.origin, (r.number, (r.tick, (r.node, (r.time, (r.asked, r.user))))))), r.value)
+parts_of r = ((2, (r.origin, (r.number, (r.tick, (r.node, (r.time, (r.asked, r.user))))))), r.value)
 
 -- the fields one after the other, in any of their spellings
 unfoldable pub fields : Format RecordFault Record
@@ -114,14 +117,14 @@ fields = passing (λ r. is_value_for r.asked r.value) BadField (standing_for rec
 
 -- the most bytes of a record
 abbrev pub longest : ℕ
-longest = 1048576
+longest = 1048578
 
 -- what a record has to be, its tick aside, to have a spelling
 pub record IsLawfulRecord (r : Record) : Type 0 where
   pub origin : IsReplica r.origin
   pub number : (1 ≤ r.number) × (r.number ≤ greatest)
   pub node : IsNodeId r.node
-  pub time : (pos 1 ≤ℤ r.time) × FitsSigned w64 r.time
+  pub time : (pos 1 ≤ℤ ticks_of r.time) × FitsSigned w64 (ticks_of r.time)
   pub user : (length r.user ≤ 256) × (is_utf8 r.user ≡ true)
   pub value : IsDataValue r.value
   pub suits : is_value_for r.asked r.value ≡ true
@@ -131,14 +134,14 @@ pub record IsLawfulRecord (r : Record) : Type 0 where
 pub record HasSpelledParts (r : Record) : Type 0 where
   pub origin : IsReplica r.origin
   pub node : IsNodeId r.node
-  pub time : FitsSigned w64 r.time
+  pub time : FitsSigned w64 (ticks_of r.time)
   pub user : is_utf8 r.user ≡ true
   pub value : IsDataValue r.value
 
 -- what a record's own tests ask, its size aside
 pub record HasLimits (r : Record) : Type 0 where
   pub number : (1 ≤ r.number) × (r.number ≤ greatest)
-  pub time : pos 1 ≤ℤ r.time
+  pub time : pos 1 ≤ℤ ticks_of r.time
   pub user : length r.user ≤ 256
   pub picoseconds : IfSome r.value.source_pico IsPicoseconds × IfSome r.value.server_pico IsPicoseconds
   pub suits : is_value_for r.asked r.value ≡ true

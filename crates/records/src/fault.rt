@@ -14,7 +14,7 @@ pub enum RecordFault {
     /// The bytes break the binary encoding, or go on behind the record.
     #[error("the bytes are not a record in the binary encoding")]
     Binary,
-    /// A field is outside its limits, or the record is longer than 1,048,576 bytes.
+    /// A field is outside its limits, or the record is longer than 1,048,578 bytes.
     #[error("a field of the record is outside its limits")]
     BadField,
     /// The record is not spelled as it is written.

@@ -1,24 +1,25 @@
 //! The fields of a record.
 
-ghost use Rattle.std.specs.Prelude.{◌≡◌};
+ghost use Rattle.std.specs.Prelude.{◌≡◌, ◌≤◌, IfOk};
 ghost use Rattle.ua_binary.specs.Binary.{node_of};
 ghost use Rattle.ua_binary.specs.Format.{Reads, ReadsPart};
 ghost use Rattle.records.specs.declared.fault.RecordFault.TheVariants as fault;
-ghost use Rattle.records.specs.Spelling.{version, origin, number, tick, time, asked, user, front};
+ghost use Rattle.records.specs.Spelling.{version, origin, number, tick, ticks, pico, time, asked, user, front};
 
 use crate::fault::RecordFault;
-use crate::record::{HistoryUpdateType, Record};
+use crate::moment::Moment;
+use crate::record::Record;
 use stamp::{GREATEST_NUMBER, GREATEST_TICK, ReplicaNo};
 use std::alloc::Global;
 use ua_binary::{Cursor, NodeId, NodeIdRef, Text};
-use ua_variant::DataValue;
+use ua_variant::{DataValue, HistoryUpdateType};
 
 fn read_version(cursor: &mut Cursor<'_>) -> Result<u8, RecordFault>
     ensures { Reads (λ v. v) result cursor.old cursor.new version.read }
 {
     let mut next = cursor.fork();
     let version = next.u8()?;
-    if version != 1 {
+    if version != 2 {
         return Err(RecordFault::BadField);
     }
     *cursor = next;
@@ -61,16 +62,40 @@ fn read_tick(cursor: &mut Cursor<'_>) -> Result<i64, RecordFault>
     Ok(tick)
 }
 
-fn read_time(cursor: &mut Cursor<'_>) -> Result<i64, RecordFault>
-    ensures { Reads (λ v. v) result cursor.old cursor.new time.read }
+fn read_ticks(cursor: &mut Cursor<'_>) -> Result<i64, RecordFault>
+    ensures { Reads (λ v. v) result cursor.old cursor.new ticks.read }
 {
     let mut next = cursor.fork();
-    let time = next.i64()?;
-    if time < 1 {
+    let ticks = next.i64()?;
+    if ticks < 1 {
         return Err(RecordFault::BadField);
     }
     *cursor = next;
-    Ok(time)
+    Ok(ticks)
+}
+
+fn read_pico(cursor: &mut Cursor<'_>) -> Result<u16, RecordFault>
+    ensures picoseconds { Reads (λ v. v) result cursor.old cursor.new pico.read }
+    ensures within { IfOk result (λ n. n ≤ 9999) }
+{
+    let mut next = cursor.fork();
+    let pico = next.u16()?;
+    if pico > 9999 {
+        return Err(RecordFault::BadField);
+    }
+    *cursor = next;
+    Ok(pico)
+}
+
+#[tactic(auto, unfolding(crate::specs::Spelling::time))]
+fn read_time(cursor: &mut Cursor<'_>) -> Result<Moment, RecordFault>
+    ensures { Reads (λ v. v) result cursor.old cursor.new time.read }
+{
+    let mut next = cursor.fork();
+    let ticks = read_ticks(&mut next)?;
+    let pico = read_pico(&mut next)?;
+    *cursor = next;
+    Ok(Moment { ticks, pico })
 }
 
 fn read_asked(cursor: &mut Cursor<'_>) -> Result<HistoryUpdateType, RecordFault>
@@ -106,7 +131,7 @@ fn read_user<'a>(cursor: &mut Cursor<'a>) -> Result<&'a str, RecordFault>
 #[derive(Clone, Copy, Drop)]
 struct Update<'a> {
     node: NodeIdRef<'a>,
-    time: i64,
+    time: Moment,
     asked: HistoryUpdateType,
     user: &'a str,
 }
@@ -138,7 +163,7 @@ pub(crate) struct Front {
     number: u64,
     tick: i64,
     node: NodeId,
-    time: i64,
+    time: Moment,
     pub(crate) asked: HistoryUpdateType,
     user: Text,
 }
@@ -148,13 +173,16 @@ impl Front {
 
     /// An error leaves the cursor anywhere.
     pub(crate) fn read(alloc: Global, cursor: &mut Cursor<'_>) -> Result<Front, RecordFault>
-        ensures { ReadsPart fault.OutOfMemory (λ f. (1, (f.origin, (f.number, (f.tick, (f.node, (f.time, (f.asked, f.user)))))))) result cursor.old cursor.new front.read }
+        ensures { ReadsPart fault.OutOfMemory (λ f. (2, (f.origin, (f.number, (f.tick, (f.node, (f.time, (f.asked, f.user)))))))) result cursor.old cursor.new front.read }
     {
         read_version(cursor)?;
         let origin = read_origin(cursor)?;
         let number = read_number(cursor)?;
         let tick = read_tick(cursor)?;
-        let update = Update::read(cursor)?;
+        let update = match Update::read(cursor) {
+            Ok(update) => update,
+            Err(fault) => return Err(fault),
+        };
         let node = update.node.to_owned(alloc)?;
         let user = Text::from_str(alloc, update.user)?;
         Ok(Front {

@@ -15,6 +15,7 @@ ghost use Rattle.records.specs.declared.shown.Held.{Held};
 ghost use Rattle.ua_binary.specs.declared.values.NodeId.{NodeId};
 ghost use Rattle.records.specs.declared.record.Record.{Record};
 ghost use Rattle.records.specs.Same.{same_record};
+ghost use Rattle.records.specs.Moments.{moment, ticks_of, pico_of};
 
 use crate::record::Record as OwnRecord;
 
@@ -205,6 +206,17 @@ pub fn each_refusal_has_its_meaning()
     ensures tick_too_far { (R : Content) (r : Record) → (finding R r ≡ TickTooFar) ↔ ((r.number ≡ vec R r.origin + 1) × (pos greatest <ℤ r.tick)) }
     ensures tick_not_rising { (R : Content) (r : Record) → (finding R r ≡ TickNotRising)
         ↔ ((r.number ≡ vec R r.origin + 1) × (r.tick ≤ℤ pos greatest) × (r.tick ≤ℤ last_tick R r.origin)) }
+{}
+
+/// A moment is one integer, which tells its ticks and its picoseconds, and they tell it: moments are
+/// ordered by ticks, and within a tick by picoseconds.
+#[tactic(auto, using(crate::proofs::Moments::moments))]
+pub fn moments_are_ticks_and_picoseconds()
+    ensures ticks { (t : ℤ) (p : ℕ) → p ≤ 9999 → ticks_of (moment t p) ≡ t }
+    ensures pico { (t : ℤ) (p : ℕ) → p ≤ 9999 → pico_of (moment t p) ≡ p }
+    ensures whole { (m : ℤ) → moment (ticks_of m) (pico_of m) ≡ m }
+    ensures within { (m : ℤ) → pico_of m ≤ 9999 }
+    ensures order { (a b : ℤ) (p q : ℕ) → p ≤ 9999 → q ≤ 9999 → (moment a p <ℤ moment b q) ↔ ((a <ℤ b) ⊎ ((a ≡ b) × (p < q))) }
 {}
 
 /// The bytes of a record: what is spelled is read and nothing else is, what is written is a spelling,

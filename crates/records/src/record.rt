@@ -1,18 +1,10 @@
 //! Records of writes and deletes.
 
+use crate::moment::Moment;
 use stamp::ReplicaNo;
 use std::alloc::AllocError;
 use ua_binary::{NodeId, Text, TryClone};
-use ua_variant::DataValue;
-
-/// What an update asked for, and what it did (Part 11, HistoryUpdateType).
-#[derive(Clone, Copy, Debug, PartialEq, Eq)]
-pub enum HistoryUpdateType {
-    Insert,
-    Replace,
-    Update,
-    Delete,
-}
+use ua_variant::{DataValue, HistoryUpdateType};
 
 /// A write or a delete of the value at a node and a source time. Its origin and number name it among
 /// all records; its tick and origin are its stamp, by which records are ordered.
@@ -26,8 +18,8 @@ pub struct Record {
     /// 1 to 2^62 - 1.
     pub tick: i64,
     pub node: NodeId,
-    /// The source time, in steps of 100 ns since 1601; at least 1.
-    pub time: i64,
+    /// The source time, with its picoseconds; its ticks are at least 1.
+    pub time: Moment,
     /// Which update was asked for.
     pub asked: HistoryUpdateType,
     /// Who asked, in at most 256 bytes.

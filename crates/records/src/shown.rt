@@ -1,16 +1,16 @@
 //! What records show: live values and modifications.
 
-use crate::record::HistoryUpdateType;
+use crate::moment::Moment;
 use stamp::ReplicaNo;
 use std::alloc::AllocError;
 use ua_binary::{Text, TryClone};
-use ua_variant::DataValue;
+use ua_variant::{DataValue, HistoryUpdateType};
 
 /// A live value.
 #[derive(Debug, Drop, PartialEq, Eq)]
 pub struct Held {
-    /// The source time, in steps of 100 ns since 1601.
-    pub time: i64,
+    /// The source time, with its picoseconds.
+    pub time: Moment,
     /// The value, without its source time.
     pub value: DataValue,
     /// Whether two or more records stand at its node and source time.
@@ -31,8 +31,8 @@ impl TryClone for Held {
 /// A modification as it is shown (Part 11, ModificationInfo).
 #[derive(Debug, Drop, PartialEq, Eq)]
 pub struct Entry {
-    /// The source time, in steps of 100 ns since 1601.
-    pub time: i64,
+    /// The source time, with its picoseconds.
+    pub time: Moment,
     /// The value that it took the place of, else its own; none for a delete of nothing.
     pub value: Option<DataValue>,
     /// What it did.

@@ -1,33 +1,36 @@
-//! Records as bytes, format 1: the byte 1, the fields, and nothing that is spelled in another way
+//! Records as bytes, format 2: the byte 2, the fields, and nothing that is spelled in another way
 //! than it is written.
 
 ghost use Rattle.std.specs.Prelude.{◌≡◌, ◌<◌, ◌^◌, ℕ, List, length, IfOk, MatchResult, Ok, Err, true};
 ghost use Rattle.std.specs.Str.{bytes_eq};
 ghost use Rattle.ua_binary.specs.Format.{Puts, PutsPart, ReadsPart, ReadsUnless, passing};
 ghost use Rattle.records.specs.declared.fault.RecordFault.TheVariants as fault;
-ghost use Rattle.records.specs.Spelling.{is_value_for, fields, value, record_form, record_at, front, parts_of, IsRecord, IsShortRecord, GivesUnless, HasSpelledParts};
+ghost use Rattle.records.specs.Spelling.{is_value_for, fields, value, time, record_form, record_at, front, parts_of, IsRecord, IsShortRecord, GivesUnless, HasSpelledParts};
 ghost use Rattle.std.specs.Prelude.{◌↔◌, IsTrue, IfSome};
 ghost use Rattle.ua_binary.specs.Format.{saturated};
 ghost use Rattle.ua_variant.specs.DataValue.{data_value, IsDataValue, IsPicoseconds, IsShortData};
 ghost use Rattle.ua_variant.specs.Variant.{IsShortVariant};
 ghost use Rattle.std.specs.Int.{w64};
 ghost use Rattle.std.specs.Int.RustNames.{FitsSigned};
+ghost use Rattle.records.specs.Moments.{ticks_of};
 ghost use Rattle.std.specs.Str.{is_utf8};
 ghost use Rattle.stamp.specs.Limits.{IsReplica};
 ghost use Rattle.ua_binary.specs.Binary.{node_id, IsNodeId, IsShortNode};
 
 use crate::fault::RecordFault;
 use crate::fields::Front;
-use crate::record::{HistoryUpdateType, Record};
+use crate::moment::Moment;
+use crate::record::Record;
 use stamp::GREATEST_NUMBER;
 use std::alloc::Global;
 use ua_binary::{
-    BinaryFault, Cursor, Encode, or_undone, put_i64, put_node_id, put_text, put_u8, put_u64,
+    BinaryFault, Cursor, Encode, or_undone, put_i64, put_node_id, put_text, put_u8, put_u16,
+    put_u64,
 };
-use ua_variant::{DataValue, put_data_value, read_data_value};
+use ua_variant::{DataValue, HistoryUpdateType, put_data_value, read_data_value};
 
 /// The most bytes of a record.
-const LONGEST: usize = 1_048_576;
+const LONGEST: usize = 1_048_578;
 
 /// Whether a delete's value is the empty one, and a write's has no source time.
 fn is_value_for(asked: HistoryUpdateType, v: &DataValue) -> bool
@@ -78,20 +81,23 @@ fn read_fields(alloc: Global, cursor: &mut Cursor<'_>) -> Result<Record, RecordF
     Ok(record)
 }
 
-impl HistoryUpdateType {
-    ghost use Rattle.records.specs.Spelling.{number_of_asked};
+#[tactic(auto, using(ua_binary::proofs::Kept::kept), unfolding(crate::specs::Spelling::time))]
+fn put_time_parts(out: &mut Vec<u8>, moment: Moment) -> Result<(), BinaryFault>
+    ensures puts { PutsPart BinaryFault.OutOfMemory result out.old.items out.new.items (time.canon moment) }
+    ensures spelled { IfOk result (λ _. FitsSigned w64 (ticks_of moment)) }
+{
+    put_i64(out, moment.ticks())?;
+    put_u16(out, moment.pico())
+}
 
-    /// Its number, from 1 to 4 (Part 11, HistoryUpdateType).
-    pub fn number(self) -> u8
-        ensures { result ≡ number_of_asked self }
-    {
-        match self {
-            HistoryUpdateType::Insert => 1,
-            HistoryUpdateType::Replace => 2,
-            HistoryUpdateType::Update => 3,
-            HistoryUpdateType::Delete => 4,
-        }
-    }
+/// A moment: its ticks, and then its picoseconds.
+fn put_time(out: &mut Vec<u8>, moment: Moment) -> Result<(), BinaryFault>
+    ensures puts { Puts BinaryFault.OutOfMemory result out.old.items out.new.items (time.canon moment) }
+    ensures spelled { IfOk result (λ _. FitsSigned w64 (ticks_of moment)) }
+{
+    let len = out.len();
+    let put = put_time_parts(out, moment);
+    or_undone(put, out, len)
 }
 
 #[tactic(auto, using(ua_binary::proofs::Kept::kept))]
@@ -99,15 +105,14 @@ fn put_front(out: &mut Vec<u8>, r: &Record) -> Result<(), BinaryFault>
     requires node { IsShortNode r.now.node }
     requires user { length r.now.user < 2 ^ 31 }
     ensures puts { PutsPart BinaryFault.OutOfMemory result out.old.items out.new.items (front.canon (parts_of r.now).0) }
-    ensures spelled { IfOk result (λ _. IsReplica r.now.origin × IsNodeId r.now.node × FitsSigned w64 r.now.time × (is_utf8 r.now.user ≡ true)) }
+    ensures spelled { IfOk result (λ _. IsReplica r.now.origin × IsNodeId r.now.node × FitsSigned w64 (ticks_of r.now.time) × (is_utf8 r.now.user ≡ true)) }
 {
-    put_u8(out, 1)?;
+    put_u8(out, 2)?;
     put_u8(out, r.origin.get())?;
     put_u64(out, r.number)?;
     put_i64(out, r.tick)?;
     put_node_id(out, &r.node)?;
-    let time = &r.time;
-    put_i64(out, *time)?;
+    put_time(out, r.time)?;
     put_u8(out, r.asked.number())?;
     put_text(out, Some(r.user.as_str()))?;
     Ok(())
@@ -130,7 +135,7 @@ fn is_written_so(alloc: Global, r: &Record, bytes: &[u8]) -> Result<bool, Record
     ensures same { MatchResult result (λ same. same ≡ bytes_eq bytes.now (fields.canon r.now)) (λ e. e ≡ fault.OutOfMemory) }
     ensures spelled { IfOk result (λ _. HasSpelledParts r.now) }
 {
-    let mut out = Vec::new(alloc);
+    let mut out = Vec::with_capacity(alloc, bytes.len())?;
     put_fields(&mut out, r)?;
     Ok(bytes == out.as_slice())
 }
@@ -158,7 +163,7 @@ impl Record {
         ensures value_spelled { IsShortData self.now.value → IsDataValue self.now.value }
     {
         let texts = self.node.size().saturating_add(self.user.len());
-        texts.saturating_add(self.value.size()).saturating_add(31)
+        texts.saturating_add(self.value.size()).saturating_add(33)
     }
 
     /// How many bytes its spelling takes, or 2^64 - 1 where there are more. It takes no memory.
@@ -177,7 +182,7 @@ impl Record {
         let exact = are_picoseconds(value.source_pico) && are_picoseconds(value.server_pico);
         self.number >= 1
             && self.number <= GREATEST_NUMBER
-            && self.time >= 1
+            && self.time.ticks() >= 1
             && self.user.len() <= 256
             && exact
             && is_value_for(self.asked, value)
@@ -185,7 +190,7 @@ impl Record {
 
     /// Whether it has a spelling, its tick aside: its number is 1 to 2^62 - 1, its source time at least
     /// 1, its user at most 256 bytes long; a delete's value is empty, and another's has no source time
-    /// and picoseconds of at most 9,999; and it takes at most 1,048,576 bytes. It takes no memory.
+    /// and picoseconds of at most 9,999; and it takes at most 1,048,578 bytes. It takes no memory.
     #[tactic(auto, using(crate::proofs::Sizes::lawfulness))]
     pub fn is_lawful(&self) -> bool
         ensures { IsTrue result ↔ IsLawfulRecord self.now }
@@ -196,7 +201,7 @@ impl Record {
             user,
             ..
         } = self;
-        let _time = *time;
+        let _time = time.ticks();
         let (_origin, _user) = (origin.get(), user.as_str());
         let size = self.size();
         if !self.has_limits() {
@@ -228,7 +233,7 @@ fn judge_spelling(alloc: Global, r: &Record, bytes: &[u8], rest: &[u8]) -> Resul
 
 /// Reads the record that all of the bytes spell. The fields are judged one after the other: one that
 /// isn't spelled is `Binary`, one outside its limits `BadField`. Then bytes behind the record are
-/// `Binary`, more than 1,048,576 of them `BadField`, and another spelling than the one that is written
+/// `Binary`, more than 1,048,578 of them `BadField`, and another spelling than the one that is written
 /// is `NotCanonical`. `OutOfMemory` may come at any of these. What is read may be written.
 pub fn read_record(alloc: Global, bytes: &[u8]) -> Result<Record, RecordFault>
     ensures reads { GivesUnless fault.OutOfMemory result (record_at bytes.now) }
@@ -240,7 +245,7 @@ pub fn read_record(alloc: Global, bytes: &[u8]) -> Result<Record, RecordFault>
     Ok(r)
 }
 
-/// Writes a record, format 1. Its one error is `OutOfMemory`, and then the vector is as it was.
+/// Writes a record, format 2. Its one error is `OutOfMemory`, and then the vector is as it was.
 #[tactic(auto, using(crate::proofs::Spelled::record_short), unfolding(crate::specs::Spelling::record_form))]
 pub fn put_record(out: &mut Vec<u8>, r: &Record) -> Result<(), RecordFault>
     requires { IsRecord r.now }

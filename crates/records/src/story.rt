@@ -11,12 +11,13 @@ ghost use Rattle.records.specs.Same.{same_node};
 ghost use Rattle.records.specs.declared.fault.RecordFault.TheVariants as fault;
 
 use crate::fault::RecordFault;
-use crate::record::{HistoryUpdateType, Record};
+use crate::moment::Moment;
+use crate::record::Record;
 use crate::shown::{Entry, Held};
 use stamp::Vector;
 use std::alloc::{AllocError, Global};
 use ua_binary::{Listing, NodeId, TryClone};
-use ua_variant::DataValue;
+use ua_variant::{DataValue, HistoryUpdateType};
 
 fn push_copy(found: &mut Vec<Record>, r: &Record) -> Result<(), AllocError>
     ensures { IfOk result (λ _. found.new.items ≡ found.old.items ++ r.now ∷ []) }
@@ -36,10 +37,10 @@ fn same_node(a: &NodeId, b: &NodeId) -> bool
 impl Record {
     ghost use Rattle.records.specs.Records.{is_at};
 
-    fn is_at(&self, node: &NodeId, time: i64) -> bool
+    fn is_at(&self, node: &NodeId, time: Moment) -> bool
         ensures { result ≡ is_at node.now time self.now }
     {
-        same_node(&self.node, node) && self.time == time
+        self.time == time && same_node(&self.node, node)
     }
 }
 
@@ -48,7 +49,7 @@ fn found_at(
     alloc: Global,
     records: &[Record],
     node: &NodeId,
-    time: i64,
+    time: Moment,
 ) -> Result<Vec<Record>, AllocError>
     ensures { IfOk result (λ v. v.items ≡ filter (is_at node.now time) records.now) }
 {
@@ -66,7 +67,7 @@ fn sorted_at(
     alloc: Global,
     records: &[Record],
     node: &NodeId,
-    time: i64,
+    time: Moment,
 ) -> Result<Vec<Record>, AllocError>
     requires { IsApart stamp_cmp records.now }
     ensures { IfOk result (λ v. v.items ≡ story records.now node.now time) }
@@ -82,7 +83,7 @@ pub fn story_of(
     alloc: Global,
     records: &[Record],
     node: &NodeId,
-    time: i64,
+    time: Moment,
 ) -> Result<Listing<Record>, RecordFault>
     requires { IsApart stamp_cmp records.now }
     ensures { MatchResult result (λ v. v ≡ story records.now node.now time) (λ e. e ≡ fault.OutOfMemory) }
@@ -114,7 +115,7 @@ pub fn current_of(
     alloc: Global,
     records: &[Record],
     node: &NodeId,
-    time: i64,
+    time: Moment,
 ) -> Result<Option<Held>, RecordFault>
     requires { IsApart stamp_cmp records.now }
     ensures { MatchResult result (λ v. v ≡ current records.now node.now time) (λ e. e ≡ fault.OutOfMemory) }
@@ -191,7 +192,7 @@ pub fn entries_of(
     alloc: Global,
     records: &[Record],
     node: &NodeId,
-    time: i64,
+    time: Moment,
 ) -> Result<Listing<Entry>, RecordFault>
     requires { IsApart stamp_cmp records.now }
     ensures { MatchResult result (λ v. v ≡ entries records.now node.now time) (λ e. e ≡ fault.OutOfMemory) }

@@ -12,9 +12,9 @@ use ua_binary::{NodeId, Text, TryClone};
 use ua_variant::{DataValue, Scalar, Variant};
 
 /// Insert 7 at source time 10 of node ns=1;s=T, the first record of replica 1, with tick 100.
-const INSERT_7: [u8; 48] = [
-    1, 1, 1, 0, 0, 0, 0, 0, 0, 0, 100, 0, 0, 0, 0, 0, 0, 0, 3, 1, 0, 1, 0, 0, 0, b'T', 10, 0, 0, 0,
-    0, 0, 0, 0, 1, 3, 0, 0, 0, b'a', b'n', b'n', 1, 6, 7, 0, 0, 0,
+const INSERT_7: [u8; 50] = [
+    2, 1, 1, 0, 0, 0, 0, 0, 0, 0, 100, 0, 0, 0, 0, 0, 0, 0, 3, 1, 0, 1, 0, 0, 0, b'T', 10, 0, 0, 0,
+    0, 0, 0, 0, 0, 0, 1, 3, 0, 0, 0, b'a', b'n', b'n', 1, 6, 7, 0, 0, 0,
 ];
 
 fn node(alloc: Global) -> Result<NodeId, AllocError> {
@@ -42,7 +42,7 @@ fn record(
         number: 1,
         tick,
         node,
-        time: 10,
+        time: Moment::at(10),
         asked,
         user,
         value: DataValue {
@@ -85,7 +85,9 @@ fn are_shown(entries: &[Entry], shown: &[(HistoryUpdateType, Option<i32>)]) -> b
 /// Whether this is the live value at source time 10, with another record beside it.
 fn is_live(held: &Option<Held>, live: Option<i32>) -> bool {
     match (held, live) {
-        (Some(held), Some(n)) => is_int(&held.value, n) && held.extra && held.time == 10,
+        (Some(held), Some(n)) => is_int(&held.value, n)
+            && held.extra
+            && held.time == Moment::at(10),
         (None, None) => true,
         _ => false,
     }
@@ -96,7 +98,7 @@ fn shows_live(alloc: Global, records: &[Record], live: Option<i32>) -> Result<bo
     requires { IsApart stamp_cmp records.now }
 {
     let node = node(alloc)?;
-    let held = current_of(alloc, records, &node, 10)?;
+    let held = current_of(alloc, records, &node, Moment::at(10))?;
     Ok(is_live(&held, live))
 }
 
@@ -109,7 +111,7 @@ fn shows_entries(
     requires { IsApart stamp_cmp records.now }
 {
     let node = node(alloc)?;
-    let entries = entries_of(alloc, records, &node, 10)?;
+    let entries = entries_of(alloc, records, &node, Moment::at(10))?;
     Ok(are_shown(entries.as_slice(), shown))
 }
 
@@ -304,8 +306,8 @@ fn records_there_and_back(rt: HostRuntime) -> Result<(), Fail> {
     let spelled = [
         INSERT_7.as_slice(),
         &[
-            1, 64, 255, 255, 255, 255, 255, 255, 255, 63, 255, 255, 255, 255, 255, 255, 255, 63, 0,
-            85, 255, 255, 255, 255, 255, 255, 255, 127, 4, 0, 0, 0, 0, 0,
+            2, 64, 255, 255, 255, 255, 255, 255, 255, 63, 255, 255, 255, 255, 255, 255, 255, 63, 0,
+            85, 255, 255, 255, 255, 255, 255, 255, 127, 15, 39, 4, 0, 0, 0, 0, 0,
         ],
     ];
     for bytes in spelled {
@@ -369,7 +371,7 @@ fn fault_of_changed(
 #[test]
 fn refused_records(rt: HostRuntime) -> Result<(), Fail> {
     let refused = [
-        (0usize, 2u8, RecordFault::BadField),
+        (0usize, 1u8, RecordFault::BadField),
         (1, 0, RecordFault::BadField),
         (1, 65, RecordFault::BadField),
         (2, 0, RecordFault::BadField),
@@ -379,19 +381,20 @@ fn refused_records(rt: HostRuntime) -> Result<(), Fail> {
         (18, 6, RecordFault::Binary),
         (25, 255, RecordFault::Binary),
         (33, 255, RecordFault::BadField),
-        (34, 0, RecordFault::BadField),
-        (34, 5, RecordFault::BadField),
-        (34, 4, RecordFault::BadField),
-        (39, 255, RecordFault::Binary),
-        (42, 64, RecordFault::Binary),
-        (43, 70, RecordFault::Binary),
-        (48, 0, RecordFault::Binary),
+        (35, 40, RecordFault::BadField),
+        (36, 0, RecordFault::BadField),
+        (36, 5, RecordFault::BadField),
+        (36, 4, RecordFault::BadField),
+        (41, 255, RecordFault::Binary),
+        (44, 64, RecordFault::Binary),
+        (45, 70, RecordFault::Binary),
+        (50, 0, RecordFault::Binary),
     ];
     for (place, byte, fault) in refused {
         let got = fault_of_changed(rt.alloc(), place, byte)?;
         assert!(rt; got == Some(fault), "{byte} at {place}");
     }
-    for end in 0..48 {
+    for end in 0..50 {
         assert!(rt; fault_of(rt.alloc(), &INSERT_7[..end]) == Some(RecordFault::Binary));
     }
     Ok(())
@@ -399,30 +402,33 @@ fn refused_records(rt: HostRuntime) -> Result<(), Fail> {
 
 #[test]
 fn records_spelled_otherwise(rt: HostRuntime) -> Result<(), Fail> {
-    let front = [1u8, 1, 1, 0, 0, 0, 0, 0, 0, 0, 100, 0, 0, 0, 0, 0, 0, 0];
+    let front = [2u8, 1, 1, 0, 0, 0, 0, 0, 0, 0, 100, 0, 0, 0, 0, 0, 0, 0];
     let otherwise = [
         (
-            [0, 85, 10, 0, 0, 0, 0, 0, 0, 0, 1, 0, 0, 0, 0, 1, 1, 2].as_slice(),
-            RecordFault::NotCanonical,
-        ),
-        (
-            &[1, 0, 85, 0, 10, 0, 0, 0, 0, 0, 0, 0, 1, 0, 0, 0, 0, 1, 1, 1],
+            [0, 85, 10, 0, 0, 0, 0, 0, 0, 0, 0, 0, 1, 0, 0, 0, 0, 1, 1, 2].as_slice(),
             RecordFault::NotCanonical,
         ),
         (
             &[
-                0, 85, 10, 0, 0, 0, 0, 0, 0, 0, 1, 255, 255, 255, 255, 1, 1, 1,
+                1, 0, 85, 0, 10, 0, 0, 0, 0, 0, 0, 0, 0, 0, 1, 0, 0, 0, 0, 1, 1, 1,
+            ],
+            RecordFault::NotCanonical,
+        ),
+        (
+            &[
+                0, 85, 10, 0, 0, 0, 0, 0, 0, 0, 0, 0, 1, 255, 255, 255, 255, 1, 1, 1,
             ],
             RecordFault::BadField,
         ),
         (
             &[
-                0, 85, 10, 0, 0, 0, 0, 0, 0, 0, 1, 0, 0, 0, 0, 5, 1, 1, 10, 0, 0, 0, 0, 0, 0, 0,
+                0, 85, 10, 0, 0, 0, 0, 0, 0, 0, 0, 0, 1, 0, 0, 0, 0, 5, 1, 1, 10, 0, 0, 0, 0, 0, 0,
+                0,
             ],
             RecordFault::BadField,
         ),
         (
-            &[0, 85, 10, 0, 0, 0, 0, 0, 0, 0, 1, 0, 0, 0, 0, 64],
+            &[0, 85, 10, 0, 0, 0, 0, 0, 0, 0, 0, 0, 1, 0, 0, 0, 0, 64],
             RecordFault::Binary,
         ),
     ];
@@ -442,6 +448,40 @@ fn fault_of_both(
     let mut bytes = Vec::from_slice(alloc, front)?;
     bytes.extend_from_slice(rest)?;
     Ok(fault_of(alloc, &bytes))
+}
+
+/// Whether the moments of replica 1's and replica 2's records at one tick are told apart, each with a
+/// live value of its own.
+fn are_apart(alloc: Global, one: ReplicaNo, two: ReplicaNo) -> Result<bool, Fail> {
+    let insert_7 = record(alloc, one, 100, HistoryUpdateType::Insert, Some(7))?;
+    let insert_8 = record(alloc, two, 100, HistoryUpdateType::Insert, Some(8))?;
+    let node = node(alloc)?;
+    let close = Moment { ticks: 10, pico: 5 };
+    let later = Record {
+        time: close,
+        ..insert_8
+    };
+    let first = story_of(alloc, &[insert_7], &node, close)?;
+    let second = story_of(alloc, &[later], &node, close)?;
+    Ok(first.is_empty() && second.len() == 1)
+}
+
+#[test]
+fn moments(rt: HostRuntime) -> Result<(), Fail> {
+    let (Some(one), Some(two)) = (ReplicaNo::new(1), ReplicaNo::new(2)) else {
+        return Ok(());
+    };
+    assert!(rt; are_apart(rt.alloc(), one, two)?);
+    assert!(rt; Moment::new(10, 10_000).is_none());
+    assert!(rt; Moment::new(10, 5) == Some(Moment { ticks: 10, pico: 5 }));
+    assert!(rt; Moment::at(-1) < Moment { ticks: -1, pico: 1 });
+    assert!(rt;
+        Moment {
+            ticks: -1,
+            pico: 9999
+        } < Moment::at(0)
+    );
+    Ok(())
 }
 
 #[test]

@@ -8,7 +8,7 @@ use Rattle.ua_binary.specs.declared.fault.BinaryFault.{BinaryFault}
 use Rattle.ua_binary.specs.declared.fault.BinaryFault.TheVariants.{Short, BadLength, BadUtf8, BadEncodingByte}
 use Rattle.ua_binary.specs.declared.values.Guid.{Guid}
 use Rattle.ua_binary.specs.declared.values.Ticks.{Ticks}
-use Rattle.ua_binary.specs.declared.values.Status.{Status}
+use Rattle.ua_binary.specs.declared.codes.Status.{Status}
 use Rattle.ua_binary.specs.declared.values.NodeId.{NodeId}
 use Rattle.ua_binary.specs.declared.values.NodeId.TheVariants.{Numeric, Named, Global, Opaque}
 use Rattle.ua_binary.specs.declared.values.NodeIdRef.{NodeIdRef}

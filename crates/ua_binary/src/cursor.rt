@@ -6,10 +6,9 @@ ghost use Rattle.std.specs.Int.{w16, w32, w64};
 ghost use Rattle.ua_binary.specs.Format.{Reads, byte, block};
 ghost use Rattle.ua_binary.specs.Binary.{unsigned, signed, sbyte, boolean, byte_string, count_at, text, guid, ticks, status, node_id, node_of, localized, localized_of, is_text, qualified, qualified_of, body, body_of, extension, extension_of};
 
+use crate::codes::Status;
 use crate::fault::BinaryFault;
-use crate::values::{
-    BodyRef, ExtensionRef, Guid, LocalizedRef, NodeIdRef, QualifiedRef, Status, Ticks,
-};
+use crate::values::{BodyRef, ExtensionRef, Guid, LocalizedRef, NodeIdRef, QualifiedRef, Ticks};
 use std::marker::Model;
 use std::str;
 

@@ -10,10 +10,11 @@ ghost use Rattle.std.specs.Int.RustNames.{FitsSigned};
 ghost use Rattle.ua_binary.specs.Format.{Puts, PutsPart, byte, block};
 ghost use Rattle.ua_binary.specs.Binary.{unsigned, signed, sbyte, boolean, byte_string, text, guid, ticks, status, node_id, localized, qualified, extension, IsCounted, IsText, IsGuid, IsBody, IsShortNode, IsNodeId, IsShortLocalized, IsLocalized, IsQualified, IsExtension, node_of};
 
+use crate::codes::Status;
 use crate::fault::BinaryFault;
 use crate::values::{
-    Body, Bytes, ExtensionObject, Guid, LocalizedText, NodeId, NodeIdRef, QualifiedName, Status,
-    Text, Ticks,
+    Body, Bytes, ExtensionObject, Guid, LocalizedText, NodeId, NodeIdRef, QualifiedName, Text,
+    Ticks,
 };
 
 /// Takes back what a part of a writer put, where it failed: `len` is how long the vector was before.

@@ -248,16 +248,6 @@ impl TryClone for Ticks {
     }
 }
 
-/// A status code (Part 6, 5.2.2.11), as its 32 bits.
-#[derive(Clone, Copy, Debug, PartialEq, Eq)]
-pub struct Status(pub u32);
-
-impl TryClone for Status {
-    fn try_clone(&self) -> Result<Status, AllocError> {
-        Ok(*self)
-    }
-}
-
 /// The name of a node (Part 6, 5.2.2.9): the index of its namespace, and its id there.
 #[derive(Debug, Drop, PartialEq, Eq)]
 pub enum NodeId {

@@ -7,7 +7,7 @@ use Rattle.std.specs.Int.RustNames.{FitsSigned}
 use Rattle.ua_binary.specs.declared.fault.BinaryFault.{BinaryFault}
 use Rattle.ua_binary.specs.declared.fault.BinaryFault.TheVariants.{BadEncodingByte}
 use Rattle.ua_binary.specs.declared.values.Ticks.{Ticks}
-use Rattle.ua_binary.specs.declared.values.Status.{Status}
+use Rattle.ua_binary.specs.declared.codes.Status.{Status}
 use Rattle.ua_binary.specs.declared.values.NodeId.{NodeId}
 use Rattle.ua_binary.specs.declared.values.NodeId.TheVariants.{Numeric}
 use Rattle.ua_binary.specs.declared.values.Body.TheVariants.{Absent}

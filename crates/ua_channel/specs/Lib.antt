@@ -1,3 +1,4 @@
+pub mod Message
 pub mod Fault
 pub mod Headers
 pub mod Placed

@@ -4,6 +4,7 @@ use Rattle.std.specs.Str.{bytes_eq}
 use Rattle.std.specs.Ordering.{int_eq}
 use Rattle.ua_binary.specs.declared.fault.BinaryFault.{BinaryFault}
 use Rattle.ua_binary.specs.Format.{◌>>=◌, Reading, with_fault, raised, whole}
+use Rattle.ua_binary.specs.Rules.{checked}
 use Rattle.uacp.specs.declared.types.Kind.{Kind}
 use Rattle.uacp.specs.declared.types.Kind.TheVariants.{Hello, Open, Close, Message}
 use Rattle.uacp.specs.declared.types.Letter.{Letter}
@@ -116,11 +117,6 @@ heard_of past = record {
 }
 
 -- ---- the rules
-
--- each rule holds, or else the fault of the first that doesn't
-abbrev pub checked : List (Bool × ChannelFault) → Result (Unit {0}) ChannelFault
-checked [] = Ok tt
-checked (rule ∷ rules) = if rule.0 then checked rules else Err rule.1
 
 -- the first sequence number is taken as it comes; the next one is greater by one, or, near the end of the numbers, begins anew below 1,024
 abbrev pub follows : Option ℕ → ℕ → Bool

@@ -1,5 +1,5 @@
 -- What a channel writes: the answer to an opening, and messages in chunks (Part 6, 6.7.2).
-use Rattle.std.specs.Prelude.{◌≡◌, ◌<◌, ◌≤◌, ◌⊎◌, ◌+◌, ◌-◌, ◌*◌, ◌%◌, ℕ, List, [], ◌∷◌, ◌++◌, length, take, Some, Result, Ok, Err, if◌then◌else◌, ◌==◌}
+use Rattle.std.specs.Prelude.{◌≡◌, ◌<◌, ◌≤◌, ◌⊎◌, ◌+◌, ◌-◌, ◌*◌, ◌%◌, ℕ, List, [], ◌∷◌, ◌++◌, length, take, Some, Result, Ok, Err, Bool, nat_le, ◌&&◌, ◌||◌, if◌then◌else◌, ◌==◌}
 use Rattle.ua_binary.specs.declared.values.Ticks.{Ticks}
 use Rattle.ua_binary.specs.declared.fault.BinaryFault.{BinaryFault}
 use Rattle.ua_binary.specs.declared.fault.BinaryFault.TheVariants as binary
@@ -8,7 +8,7 @@ use Rattle.ua_channel.specs.declared.fault.ChannelFault.TheVariants.{OutOfMemory
 use Rattle.uacp.specs.declared.types.Kind.TheVariants.{Open, Message}
 use Rattle.uacp.specs.declared.types.Letter.{Letter}
 use Rattle.uacp.specs.declared.types.Letter.TheVariants.{Final, More}
-use Rattle.uacp.specs.Split.{IsSplit}
+use Rattle.uacp.specs.Split.{pieces_of}
 use Rattle.uacp.specs.Stream.{Piece}
 use Rattle.ua_channel.specs.declared.taken.OpenRequest.{OpenRequest}
 use Rattle.ua_channel.specs.Headers.{policy_none, security_header, sequence_header, message_header, open_response, chunk_of}
@@ -62,10 +62,13 @@ abbrev pub Writes : {T : Type 0} → State → List ℕ → ℕ → Result T Cha
 Writes old bytes count (Ok _) before now new = (now ≡ before ++ bytes) × (new ≡ record old { next = number_after old.next count })
 Writes old bytes count (Err fault) before now new = (fault ≡ OutOfMemory) × (now ≡ before) × (new ≡ old)
 
--- a message is written in the chunks of its pieces, with the greatest token of the MSG chunks that were taken
-abbrev pub Wraps : {T : Type 0} → State → ℕ → List ℕ → Result T ChannelFault → List ℕ → List ℕ → State → Type 0
-Wraps old request body result before now new = (pieces : List (List ℕ)) × IsSplit (old.limit - 24) body pieces
-    × Writes old (chunks_of old.heard.token request old.next pieces) (length pieces) result before now new
+-- the bytes of a message in the chunks of its pieces, with the greatest token of the MSG chunks that were taken
+abbrev pub message_bytes : State → ℕ → List ℕ → List ℕ
+message_bytes state request body = chunks_of state.heard.token request state.next (pieces_of (state.limit - 24) body)
+
+-- how many chunks these are
+abbrev pub chunk_count : State → List ℕ → ℕ
+chunk_count state body = length (pieces_of (state.limit - 24) body)
 
 -- no piece has more bytes than this
 abbrev pub AreShort : ℕ → List (List ℕ) → Type 0
@@ -80,13 +83,11 @@ abbrev pub PutsChunks : ℕ → ℕ → ℕ → List (List ℕ) → Result ℕ B
 PutsChunks token request number pieces (Ok next) before now = (now ≡ before ++ chunks_of token request number pieces) × (next ≡ number_after number (length pieces)) × IsNumber next
 PutsChunks token request number pieces (Err fault) before now = (fault ≡ binary.OutOfMemory) × (take (length before) now ≡ before)
 
--- a limit, 0 being none
-abbrev pub IsWithinLimit : ℕ → ℕ → Type 0
-IsWithinLimit n limit = (limit ≡ 0) ⊎ (n ≤ limit)
+-- within a limit, of which 0 is none
+abbrev pub is_within : ℕ → ℕ → Bool
+is_within limit n = limit == 0 || nat_le n limit
 
 -- a message of n bytes is at most 16,777,216 bytes long, and within what the client takes: its bytes, and its chunks, each with as many bytes of
 -- the message as there is room for
-pub record IsFitting (state : State) (n : ℕ) : Type 0 where
-  pub most : n ≤ 16777216
-  pub bytes : IsWithinLimit n state.max_message
-  pub chunks : (state.max_chunks ≡ 0) ⊎ (n ≤ state.max_chunks * (state.limit - 24))
+abbrev pub is_fitting : State → ℕ → Bool
+is_fitting state n = nat_le n 16777216 && (is_within state.max_message n && (state.max_chunks == 0 || nat_le n (state.max_chunks * (state.limit - 24))))

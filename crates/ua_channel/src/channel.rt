@@ -1,7 +1,7 @@
 //! A secure channel under the policy None (Part 6, 6.7): the messages of a chunk list, and messages in
 //! chunks.
 
-ghost use Rattle.std.specs.Prelude.{◌≡◌, ◌<◌, ◌↔◌, IsTrue};
+ghost use Rattle.std.specs.Prelude.{◌≡◌, ◌<◌};
 
 use crate::fault::ChannelFault;
 use crate::inbound::Inbound;
@@ -38,7 +38,7 @@ impl Model for Channel {
 impl Channel {
     ghost use Rattle.std.specs.Prelude.{IfOk};
     ghost use Rattle.ua_channel.specs.Taking.{fresh, piece_of, Takes, IsReady, LeavesReady};
-    ghost use Rattle.ua_channel.specs.Sending.{opened_chunk, Writes, Wraps, IsFitting};
+    ghost use Rattle.ua_channel.specs.Sending.{opened_chunk, Writes, message_bytes, chunk_count, is_fitting};
 
     /// A channel that isn't open yet, between a client and a server that greeted each other so. A send
     /// size below 25 is read as 25, so that each chunk has a byte of its message. It takes no memory.
@@ -66,7 +66,7 @@ impl Channel {
     /// has bytes of a message; that chunk isn't taken, and the channel is as it was. After an opening
     /// or a whole message the channel is ready, so that `wrap` may be called.
     #[tactic(auto, using(crate::proofs::Takings::refusing))]
-    pub fn take(&mut self, chunk: Chunk<'_>) -> Result<Taken, ChannelFault>
+    pub fn take<'a>(&mut self, chunk: Chunk<'a>) -> Result<Taken<'a>, ChannelFault>
         ensures takes { Takes self.old (piece_of chunk.entry) result self.new }
         ensures ready { IfOk result (λ taken. LeavesReady taken self.new) }
     {
@@ -114,10 +114,12 @@ impl Channel {
         out: &mut Vec<u8>,
     ) -> Result<(), ChannelFault>
         requires { IsReady self.old }
-        ensures { Wraps self.old request_id body.now result out.old.items out.new.items self.new }
+        ensures { Writes self.old (message_bytes self.old request_id body.now) (chunk_count self.old body.now) result out.old.items out.new.items self.new }
     {
         let len = out.len();
         let pieces = split(body, self.limit as usize);
+        let chunks = body.len() / (self.limit as usize - 24) + 1;
+        out.reserve(chunks.saturating_mul(24).saturating_add(body.len()))?;
         match put_chunks(self.inbound.token(), request_id, self.next, pieces, out) {
             Ok(next) => {
                 self.next = next;
@@ -133,7 +135,7 @@ impl Channel {
     /// Whether a message of n bytes may be sent: it has at most 16,777,216 bytes, and the bytes and
     /// the chunks that the client takes. It takes no memory.
     pub fn fits(&self, n: usize) -> bool
-        ensures { IsTrue result ↔ IsFitting self.now n }
+        ensures { result ≡ is_fitting self.now n }
     {
         if n > 16_777_216 {
             return false;

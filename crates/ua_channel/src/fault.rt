@@ -5,6 +5,7 @@ ghost use Rattle.ua_channel.specs.declared.fault.ChannelFault.TheVariants.{OutOf
 
 use std::alloc::AllocError;
 use thiserror::Error;
+use ua_binary::Status;
 
 /// Why a chunk is refused. All but `OutOfMemory` end the channel.
 #[derive(Clone, Copy, Debug, PartialEq, Eq, Error)]
@@ -63,19 +64,20 @@ impl ChannelFault {
     }
 
     /// The status code that an Error tells the client (Part 6, 7.1.2.5).
-    pub fn code(self) -> u32
+    pub fn code(self) -> Status
         ensures { result ≡ code_of self }
     {
         match self {
-            ChannelFault::Policy => 0x8055_0000,
-            ChannelFault::Mode => 0x8054_0000,
-            ChannelFault::RequestType => 0x8053_0000,
-            ChannelFault::ChannelId => 0x8022_0000,
-            ChannelFault::Token => 0x8087_0000,
-            ChannelFault::Sequence => 0x8088_0000,
-            ChannelFault::TooManyChunks | ChannelFault::TooLarge => 0x8080_0000,
-            ChannelFault::Decoding => 0x8007_0000,
-            ChannelFault::OutOfMemory => 0x8003_0000,
+            ChannelFault::Policy => Status::BAD_SECURITY_POLICY_REJECTED,
+            ChannelFault::Mode => Status::BAD_SECURITY_MODE_REJECTED,
+            ChannelFault::RequestType => Status::BAD_REQUEST_TYPE_INVALID,
+            ChannelFault::ChannelId => Status::BAD_SECURE_CHANNEL_ID_INVALID,
+            ChannelFault::Token => Status::BAD_SECURE_CHANNEL_TOKEN_UNKNOWN,
+            ChannelFault::Sequence => Status::BAD_SEQUENCE_NUMBER_INVALID,
+            ChannelFault::TooManyChunks | ChannelFault::TooLarge =>
+                Status::BAD_TCP_MESSAGE_TOO_LARGE,
+            ChannelFault::Decoding => Status::BAD_DECODING_ERROR,
+            ChannelFault::OutOfMemory => Status::BAD_OUT_OF_MEMORY,
         }
     }
 }

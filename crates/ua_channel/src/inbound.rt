@@ -6,6 +6,7 @@ use crate::fault::ChannelFault;
 use crate::headers::{
     Asked, Numbers, read_message_header, read_security_header, read_sequence_header,
 };
+use crate::message::{Lies, Message};
 use crate::placed::{PlacedChunk, is_due_type, is_known, is_next, is_policy_none, read_asked};
 use crate::taken::{OpenRequest, Taken};
 use std::alloc::Global;
@@ -48,7 +49,8 @@ impl Model for Inbound {
 impl Inbound {
     ghost use Rattle.std.specs.Option.{option_copied};
     ghost use Rattle.std.specs.Prelude.{true, max, Some, IfOk, OnOk, ◌<◌, []};
-    ghost use Rattle.ua_channel.specs.Placed.{Says, heard_of, checked, number_rules, size_rules, security_rules, sequence_rules, asked_rules, opening_judged, message_judged, closing_judged, judged};
+    ghost use Rattle.ua_binary.specs.Rules.{checked};
+    ghost use Rattle.ua_channel.specs.Placed.{Says, heard_of, number_rules, size_rules, security_rules, sequence_rules, asked_rules, opening_judged, message_judged, closing_judged, judged};
     ghost use Rattle.ua_channel.specs.Taking.{piece_of, placed_of, with_none_open, IsJudged, HasRoom, HasRoomFor, Accepts};
 
     pub(crate) fn new(alloc: Global) -> Self
@@ -242,7 +244,7 @@ impl Inbound {
     }
 
     /// Takes a chunk that is well placed. The one fault is `OutOfMemory`, which changes nothing.
-    pub(crate) fn accept(&mut self, placed: PlacedChunk<'_>) -> Result<Taken, ChannelFault>
+    pub(crate) fn accept<'a>(&mut self, placed: PlacedChunk<'a>) -> Result<Taken<'a>, ChannelFault>
         requires { HasRoom self.old (placed_of placed) }
         ensures { Accepts self.old (placed_of placed.entry) result self.new }
     {
@@ -268,14 +270,14 @@ impl Inbound {
         }
     }
 
-    fn accept_message(
+    fn accept_message<'a>(
         &mut self,
         letter: Letter,
         numbers: Numbers,
-        body: &[u8],
-    ) -> Result<Taken, ChannelFault>
+        body: &'a [u8],
+    ) -> Result<Taken<'a>, ChannelFault>
         requires { HasRoom self.old (Says letter numbers body.now) }
-        ensures { Accepts self.old (Says letter numbers body.now) result self.new }
+        ensures { Accepts self.old (Says letter numbers body.entry.now) result self.new }
     {
         match letter {
             Letter::Abort => {
@@ -290,10 +292,17 @@ impl Inbound {
                 self.request_id = numbers.request_id;
                 Ok(Taken::Nothing)
             }
+            Letter::Final if self.bytes.is_empty() => {
+                self.note(&numbers);
+                let _empty = self.close_message();
+                let message = Message::new(Lies::InChunk(body));
+                Ok(Taken::Message(numbers.request_id, message))
+            }
             Letter::Final => {
                 self.bytes.extend_from_slice(body)?;
                 self.note(&numbers);
-                Ok(Taken::Message(numbers.request_id, self.close_message()))
+                let message = Message::new(Lies::Joined(self.close_message()));
+                Ok(Taken::Message(numbers.request_id, message))
             }
         }
     }

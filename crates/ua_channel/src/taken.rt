@@ -1,7 +1,6 @@
 //! What a channel answers to a chunk.
 
-use std::alloc::AllocError;
-use ua_binary::{Bytes, TryClone};
+use crate::message::Message;
 
 /// A request that opens the channel or renews its token (Part 4, 5.6.2).
 #[derive(Clone, Copy, Debug, PartialEq, Eq)]
@@ -17,28 +16,16 @@ pub struct OpenRequest {
 }
 
 /// What a chunk came to.
-#[derive(Debug, PartialEq, Eq, Drop)]
-pub enum Taken {
+#[derive(Debug, Drop)]
+pub enum Taken<'a> {
     /// More chunks of its message follow.
     Nothing,
     /// A request to open or renew the channel, to be answered by `put_opened`.
     Opening(OpenRequest),
     /// The last chunk of a message: its request id, and the bodies of its chunks, joined.
-    Message(u32, Bytes),
+    Message(u32, Message<'a>),
     /// The message with this request id, if one was open, is given up.
     Aborted(u32),
     /// The client closed the channel.
     Closed,
-}
-
-impl TryClone for Taken {
-    fn try_clone(&self) -> Result<Taken, AllocError> {
-        Ok(match self {
-            Taken::Nothing => Taken::Nothing,
-            Taken::Opening(request) => Taken::Opening(*request),
-            Taken::Message(request_id, bytes) => { Taken::Message(*request_id, bytes.try_clone()?) }
-            Taken::Aborted(request_id) => Taken::Aborted(*request_id),
-            Taken::Closed => Taken::Closed,
-        })
-    }
 }

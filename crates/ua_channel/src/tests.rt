@@ -30,14 +30,14 @@ fn channel_of(alloc: Global, max_message: u32, max_chunks: u32) -> Channel {
 
 /// What a chunk came to: 0 nothing, 1 an opening, 2 a message, 3 one given up, 4 closed; the request
 /// id or the token; the bytes and the first of them.
-fn shown(taken: Taken) -> (u8, u32, usize, u8) {
+fn shown(taken: Taken<'_>) -> (u8, u32, usize, u8) {
     match taken {
         Taken::Nothing => (0, 0, 0, 0),
         Taken::Opening(request) => (1, request.token, 0, 0),
         Taken::Message(request_id, bytes) => (
             2,
             request_id,
-            bytes.len(),
+            bytes.as_slice().len(),
             bytes.as_slice().first().copied().unwrap_or(0),
         ),
         Taken::Aborted(request_id) => (3, request_id, 0, 0),
@@ -399,7 +399,7 @@ fn tells_faults(rt: HostRuntime) {
         (ChannelFault::OutOfMemory, 10, 0x8003_0000),
     ] {
         assert_eq!(rt;
-            (fault.number(), fault.code()),
+            (fault.number(), fault.code().0),
             (number, code),
             "of {fault}"
         );

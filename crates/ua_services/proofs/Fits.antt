@@ -1,5 +1,5 @@
 -- What is written has a spelling: enumerations, and arrays of what has one.
-use Rattle.std.proofs.Common.{◌≡◌, ℕ, ◌<◌, ◌^◌, ◌+◌, ℤ, List, [], ◌∷◌, ◌++◌, length, map, Bool, Option, None, Result, Ok, Err, IfOk, refl, arith}
+use Rattle.std.proofs.Common.{◌≡◌, ℕ, ◌<◌, ◌^◌, ◌+◌, ℤ, pos, List, [], ◌∷◌, ◌++◌, length, map, Bool, Option, None, Result, Ok, Err, IfOk, refl, arith}
 use Rattle.std.proofs.lemmas.Int.{ints}
 use Rattle.std.proofs.lemmas.List.Elements.{recursion_from_All}
 use Rattle.std.proofs.lemmas.List.{length-map, length-append, map-id}
@@ -12,13 +12,14 @@ use Rattle.ua_binary.specs.declared.values.LocalizedText.{LocalizedText}
 use Rattle.ua_binary.specs.declared.values.NodeId.{NodeId}
 use Rattle.ua_binary.specs.declared.values.QualifiedName.{QualifiedName}
 use Rattle.ua_binary.specs.declared.values.Ticks.{Ticks}
-use Rattle.ua_services.specs.History.{update_number, HistoryFields, IsHistoryRead, history_read_result}
-use Rattle.ua_services.specs.declared.history.HistoryUpdateType.{HistoryUpdateType}
-use Rattle.ua_services.specs.declared.history.HistoryUpdateType.TheVariants.{Insert, Replace, Update, Delete}
+use Rattle.ua_variant.specs.UpdateType.{update_number}
+use Rattle.ua_services.specs.History.{HistoryFields, IsHistoryRead, history_read_result}
+use Rattle.ua_variant.specs.declared.update_type.HistoryUpdateType.{HistoryUpdateType}
+use Rattle.ua_variant.specs.declared.update_type.HistoryUpdateType.TheVariants.{Insert, Replace, Update, Delete}
 use Rattle.ua_services.specs.Browsing.{class_number, ReferenceFields, reference_description}
 use Rattle.ua_services.specs.declared.browsing.NodeClass.{NodeClass}
 use Rattle.ua_services.specs.declared.browsing.NodeClass.TheVariants.{Unspecified, Object, Variable, Method, ObjectType, VariableType, ReferenceType, DataType, View}
-use Rattle.ua_binary.specs.declared.values.Status.{Status}
+use Rattle.ua_binary.specs.declared.codes.Status.{Status}
 use Rattle.ua_binary.proofs.Sizes.{byte_string_length, no_byte_string_length, text_length, no_text_length, array_length}
 use Rattle.ua_variant.specs.DataValue.{data_value, IsDataValue}
 use Rattle.ua_variant.specs.declared.data.DataValue.{DataValue}
@@ -95,7 +96,7 @@ pub qualified_is : (v : QualifiedName) → qualified.Fits v → IsQualified v
 unfolding qualified
 qualified_is v h = h
 
-pub class_fits : (c : NodeClass) → FitsSigned w32 (class_number c)
+pub class_fits : (c : NodeClass) → FitsSigned w32 (pos (class_number c))
 class_fits Unspecified = omega (arith, ints)
 class_fits Object = omega (arith, ints)
 class_fits Variable = omega (arith, ints)
@@ -110,7 +111,7 @@ pub data_fits : (v : DataValue) → IsDataValue v → data_value.Fits v
 unfolding data_value
 data_fits v h = h
 
-pub update_fits : (t : HistoryUpdateType) → FitsSigned w32 (update_number t)
+pub update_fits : (t : HistoryUpdateType) → FitsSigned w32 (pos (update_number t))
 update_fits Insert = omega (arith, ints)
 update_fits Replace = omega (arith, ints)
 update_fits Update = omega (arith, ints)

@@ -6,3 +6,4 @@ pub mod UpdatesLawful
 pub mod ReadsLawful
 pub mod Canons
 pub mod HistoryLawful
+pub mod ShortUpdates

@@ -7,7 +7,7 @@ use Rattle.ua_binary.specs.declared.fault.BinaryFault.{BinaryFault}
 use Rattle.ua_binary.specs.declared.values.NodeId.{NodeId}
 use Rattle.ua_binary.specs.declared.values.NodeId.TheVariants.{Numeric}
 use Rattle.ua_binary.specs.declared.values.Ticks.{Ticks}
-use Rattle.ua_binary.specs.declared.values.Status.{Status}
+use Rattle.ua_binary.specs.declared.codes.Status.{Status}
 use Rattle.ua_binary.specs.declared.values.QualifiedName.{QualifiedName}
 use Rattle.ua_binary.specs.declared.values.LocalizedText.{LocalizedText}
 use Rattle.ua_binary.specs.Format.{Format, ◌▸◌, standing_for, fitting}
@@ -59,23 +59,23 @@ browse_request = unkept no_view view_description ▹ unkept 0 (unsigned w32) ▹
 
 -- ---- the response
 
-abbrev pub class_number : NodeClass → ℤ
-class_number Unspecified = pos 0
-class_number Object = pos 1
-class_number Variable = pos 2
-class_number Method = pos 4
-class_number ObjectType = pos 8
-class_number VariableType = pos 16
-class_number ReferenceType = pos 32
-class_number DataType = pos 64
-class_number View = pos 128
+abbrev pub class_number : NodeClass → ℕ
+class_number Unspecified = 0
+class_number Object = 1
+class_number Variable = 2
+class_number Method = 4
+class_number ObjectType = 8
+class_number VariableType = 16
+class_number ReferenceType = 32
+class_number DataType = 64
+class_number View = 128
 
 -- reference type, whether it is a forward one, node, browse name, display name, class, type definition
 abbrev pub ReferenceFields : Type 0
 ReferenceFields = NodeId × (Bool × (NodeId × (QualifiedName × (LocalizedText × (ℤ × NodeId)))))
 
 abbrev pub reference_fields : ReferenceDescription → ReferenceFields
-reference_fields r = (r.reference_type_id, (r.is_forward, (r.node_id, (r.browse_name, (r.display_name, (class_number r.node_class, r.type_definition))))))
+reference_fields r = (r.reference_type_id, (r.is_forward, (r.node_id, (r.browse_name, (r.display_name, (pos (class_number r.node_class), r.type_definition))))))
 
 abbrev pub IsReference : ReferenceFields → Type 0
 IsReference v = IsNodeId v.0 × IsNodeId v.1.1.0 × IsQualified v.1.1.1.0 × IsLocalized v.1.1.1.1.0 × FitsSigned w32 v.1.1.1.1.1.0 × IsNodeId v.1.1.1.1.1.1

@@ -7,7 +7,7 @@ use Rattle.ua_binary.specs.declared.fault.BinaryFault.{BinaryFault}
 use Rattle.ua_binary.specs.declared.values.NodeId.{NodeId}
 use Rattle.ua_binary.specs.declared.values.NodeId.TheVariants.{Numeric}
 use Rattle.ua_binary.specs.declared.values.Ticks.{Ticks}
-use Rattle.ua_binary.specs.declared.values.Status.{Status}
+use Rattle.ua_binary.specs.declared.codes.Status.{Status}
 use Rattle.ua_binary.specs.declared.values.QualifiedName.{QualifiedName}
 use Rattle.ua_binary.specs.declared.values.Body.TheVariants.{Absent}
 use Rattle.ua_binary.specs.Format.{Format, ◌▸◌, chosen, headed, standing_for, fitting}
@@ -26,8 +26,7 @@ use Rattle.ua_services.specs.declared.history.HistoryReadDetails.{HistoryReadDet
 use Rattle.ua_services.specs.declared.history.HistoryReadDetails.TheVariants.{ReadRawModified, Other}
 use Rattle.ua_services.specs.declared.history.HistoryReadValueId.{HistoryReadValueId}
 use Rattle.ua_services.specs.declared.history.HistoryReadRequest.{HistoryReadRequest}
-use Rattle.ua_services.specs.declared.history.HistoryUpdateType.{HistoryUpdateType}
-use Rattle.ua_services.specs.declared.history.HistoryUpdateType.TheVariants.{Insert, Replace, Update, Delete}
+use Rattle.ua_variant.specs.UpdateType.{update_number}
 use Rattle.ua_services.specs.declared.history.ModificationInfo.{ModificationInfo}
 use Rattle.ua_services.specs.declared.history.HistoryData.{HistoryData}
 use Rattle.ua_services.specs.declared.history.HistoryData.TheVariants as owned
@@ -97,18 +96,12 @@ history_read_request = history_read_details ▸ timestamps ▸ boolean ▸ many 
 
 -- ---- the response
 
-abbrev pub update_number : HistoryUpdateType → ℤ
-update_number Insert = pos 1
-update_number Replace = pos 2
-update_number Update = pos 3
-update_number Delete = pos 4
-
 -- when a value was modified, how, and by whom
 abbrev pub InfoFields : Type 0
 InfoFields = Ticks × (ℤ × Option (List ℕ))
 
 abbrev pub info_fields : ModificationInfo → InfoFields
-info_fields v = (v.modification_time, (update_number v.update_type, v.user_name))
+info_fields v = (v.modification_time, (pos (update_number v.update_type), v.user_name))
 
 abbrev pub IsInfo : InfoFields → Type 0
 IsInfo v = FitsSigned w64 v.0.0 × FitsSigned w32 v.1.0 × IsText v.1.1

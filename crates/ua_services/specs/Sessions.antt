@@ -12,24 +12,11 @@ use Rattle.ua_binary.specs.Binary.{unsigned, boolean, text, byte_string, node_id
 use Rattle.ua_services.specs.Unkept.{unkept, ◌▹◌, ◌◃◌, many, AreFew, unkept_array, null}
 use Rattle.ua_services.specs.Structure.{is_type, structure}
 use Rattle.ua_services.specs.Endpoints.{no_application, application_description, EndpointFields, endpoint_fields, endpoint_description, AreShortEndpoints}
-use Rattle.ua_services.specs.declared.identity.IdentityToken.{IdentityToken}
-use Rattle.ua_services.specs.declared.identity.IdentityToken.TheVariants as lent
+use Rattle.ua_session.specs.Users.{Claim, Anonymous, Named, Other}
 use Rattle.ua_services.specs.declared.sessions.CreateSessionRequest.{CreateSessionRequest}
 use Rattle.ua_services.specs.declared.sessions.CreateSessionResponse.{CreateSessionResponse}
 
 -- ---- identities
-
--- who a client says that it is: nobody, a user by name, password and the algorithm that the password is encrypted with, or something else
-pub data Identity : Type 0 where
-  Nobody : Identity
-  User : Option (List ℕ) → Option (List ℕ) → Option (List ℕ) → Identity
-  Other : Identity
-
--- a borrowed token as this
-abbrev pub identity_of : IdentityToken → Identity
-identity_of lent.Anonymous = Nobody
-identity_of (lent.UserName name password algorithm) = User (option_copied name) (option_copied password) (option_copied algorithm)
-identity_of lent.Other = Other
 
 -- policy id
 unfoldable pub anonymous_identity_token : Format BinaryFault (Unit {0})
@@ -39,8 +26,8 @@ anonymous_identity_token = unkept None text
 abbrev pub UserParts : Type 0
 UserParts = Option (List ℕ) × (Option (List ℕ) × Option (List ℕ))
 
-abbrev pub user_parts : Identity → UserParts
-user_parts (User name password algorithm) = (name, (password, algorithm))
+abbrev pub user_parts : Claim → UserParts
+user_parts (Named name password algorithm) = (name, (password, algorithm))
 user_parts _ = (None, (None, None))
 
 -- policy id, user name, password, algorithm of encryption
@@ -48,31 +35,31 @@ unfoldable pub user_name_identity_token : Format BinaryFault UserParts
 user_name_identity_token = unkept None text ▹ text ▸ byte_string ▸ text
 
 -- of a type that isn't known here: the null type without a body is nobody's
-abbrev pub unknown_identity : NodeId → Body → Identity
-unknown_identity id Absent = if is_type 0 id then Nobody else Other
+abbrev pub unknown_identity : NodeId → Body → Claim
+unknown_identity id Absent = if is_type 0 id then Anonymous else Other
 unknown_identity id _ = Other
 
-abbrev pub anonymous_form : Format BinaryFault Identity
-anonymous_form = standing_for (λ _. Nobody) (λ _. tt) (structure anonymous_identity_token)
+abbrev pub anonymous_form : Format BinaryFault Claim
+anonymous_form = standing_for (λ _. Anonymous) (λ _. tt) (structure anonymous_identity_token)
 
-abbrev pub user_name_form : Format BinaryFault Identity
-user_name_form = standing_for (λ p. User p.0 p.1.0 p.1.1) user_parts (structure user_name_identity_token)
+abbrev pub user_name_form : Format BinaryFault Claim
+user_name_form = standing_for (λ p. Named p.0 p.1.0 p.1.1) user_parts (structure user_name_identity_token)
 
-abbrev pub unknown_form : NodeId → Format BinaryFault Identity
+abbrev pub unknown_form : NodeId → Format BinaryFault Claim
 unknown_form id = standing_for (unknown_identity id) (λ _. Absent) body
 
 -- what the type calls for: 321 an AnonymousIdentityToken, 324 a UserNameIdentityToken; each fills its body
-abbrev pub identity_form : NodeId → Format BinaryFault Identity
+abbrev pub identity_form : NodeId → Format BinaryFault Claim
 identity_form id = chosen (is_type 321 id) anonymous_form (chosen (is_type 324 id) user_name_form (unknown_form id))
 
 -- the type that is written: the null one of nobody, and that of a certificate for what is something else
-abbrev pub identity_type : Identity → NodeId
-identity_type Nobody = Numeric 0 0
-identity_type (User _ _ _) = Numeric 0 324
+abbrev pub identity_type : Claim → NodeId
+identity_type Anonymous = Numeric 0 0
+identity_type (Named _ _ _) = Numeric 0 324
 identity_type Other = Numeric 0 327
 
 -- a type, and what it calls for
-unfoldable pub user_identity : Format BinaryFault Identity
+unfoldable pub user_identity : Format BinaryFault Claim
 user_identity = headed identity_type node_id identity_form
 
 -- ---- signatures and certificates
@@ -107,7 +94,7 @@ abbrev pub SessionMade : Type 0
 SessionMade = NodeId × (NodeId × (List ℕ × (List EndpointFields × ℕ)))
 
 abbrev pub session_made : CreateSessionResponse → SessionMade
-session_made r = (r.session_id, (r.authentication_token, (r.timeout, (map endpoint_fields r.endpoints.now, r.max_request_size))))
+session_made r = (r.session_id, (r.authentication_token, (r.timeout, (map endpoint_fields r.endpoints.items, r.max_request_size))))
 
 abbrev pub IsSessionMade : SessionMade → Type 0
 IsSessionMade v = IsNodeId v.0 × IsNodeId v.1.0 × (length v.1.1.0 ≡ 8) × AreFew endpoint_description v.1.1.1.0 × (v.1.1.1.1 < 2 ^ 32)
@@ -119,12 +106,12 @@ create_session_response =
     ▸ unkept_array signed_software_certificate ▹ unkept no_signature signature_data ▹ unsigned w32)
 
 abbrev pub IsShortSession : CreateSessionResponse → Type 0
-IsShortSession r = IsShortNode r.session_id × IsShortNode r.authentication_token × AreShortEndpoints r.endpoints.now
+IsShortSession r = IsShortNode r.session_id × IsShortNode r.authentication_token × AreShortEndpoints r.endpoints.items
 
 -- ---- ActivateSession and CloseSession
 
 -- signature, software certificates, locales, identity, signature of the token
-unfoldable pub activate_session_request : Format BinaryFault Identity
+unfoldable pub activate_session_request : Format BinaryFault Claim
 activate_session_request =
     unkept no_signature signature_data ▹ unkept_array signed_software_certificate ▹ unkept_array text ▹ user_identity ◃ unkept no_signature signature_data
 

@@ -1,11 +1,12 @@
 -- What a HistoryUpdate asks and answers (Part 4, 5.11.5; Part 11, 6.8).
 use Rattle.std.specs.Prelude.{◌<◌, ◌^◌, ℤ, pos, List, [], length, map, All, Bool, false}
+use Rattle.std.specs.List.{AllByRecursion}
 use Rattle.std.specs.Int.{w32}
 use Rattle.ua_binary.specs.declared.fault.BinaryFault.{BinaryFault}
 use Rattle.ua_binary.specs.declared.values.NodeId.{NodeId}
 use Rattle.ua_binary.specs.declared.values.NodeId.TheVariants.{Numeric}
 use Rattle.ua_binary.specs.declared.values.Ticks.{Ticks}
-use Rattle.ua_binary.specs.declared.values.Status.{Status}
+use Rattle.ua_binary.specs.declared.codes.Status.{Status}
 use Rattle.ua_binary.specs.declared.values.Body.TheVariants.{Absent}
 use Rattle.ua_binary.specs.Format.{Format, ◌▸◌, chosen, headed, standing_for, fitting}
 use Rattle.ua_binary.specs.Binary.{signed, boolean, node_id, node_of, ticks, status, body, array}
@@ -13,7 +14,7 @@ use Rattle.ua_variant.specs.declared.fault.VariantFault.{VariantFault}
 use Rattle.ua_variant.specs.declared.data.DataValue.{DataValue}
 use Rattle.ua_variant.specs.Raise.{variant_fault}
 use Rattle.ua_variant.specs.Variant.{raise}
-use Rattle.ua_variant.specs.DataValue.{data_value}
+use Rattle.ua_variant.specs.DataValue.{data_value, IsShortData}
 use Rattle.ua_services.specs.Unkept.{◌◃◌, many, AreFew, null}
 use Rattle.ua_services.specs.Structure.{is_type, structure, structure_with_values}
 use Rattle.ua_services.specs.declared.updates.UpdateDataDetails.{UpdateDataDetails}
@@ -111,6 +112,11 @@ unfoldable pub history_update_details : Format VariantFault Details
 history_update_details = headed details_type (raise node_id) details_form
 
 -- ---- HistoryUpdate
+
+-- its values may be written again
+abbrev pub HasShortValues : Details → Type 0
+HasShortValues (UpdateData d) = AllByRecursion IsShortData d.1.1
+HasShortValues details = Unit {0}
 
 -- the details, each by itself
 unfoldable pub history_update_request : Format VariantFault (List Details)

@@ -52,8 +52,8 @@ pub enum NodeClass {
 impl NodeClass {
     ghost use Rattle.ua_services.specs.Browsing.{class_number};
 
-    /// Its number on the wire: 0, or a bit of a mask of classes.
-    pub fn number(self) -> i32
+    /// Its number: 0, or a bit of a mask of classes.
+    pub fn number(self) -> u8
         ensures { result ≡ class_number self }
     {
         match self {
@@ -228,7 +228,7 @@ impl Encode for ReferenceDescription {
         put_node_id(out, &self.node_id)?;
         put_qualified(out, &self.browse_name)?;
         put_localized(out, &self.display_name)?;
-        put_i32(out, self.node_class.number())?;
+        put_i32(out, i32::from(self.node_class.number()))?;
         put_node_id(out, &self.type_definition)?;
         Ok(())
     }

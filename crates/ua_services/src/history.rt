@@ -18,7 +18,7 @@ use ua_binary::{
     Text, Ticks, TryClone, or_undone, put_count, put_i32, put_node_id, put_owned_bytes,
     put_owned_text, put_status, put_ticks, put_u8, read_array,
 };
-use ua_variant::DataValue;
+use ua_variant::{DataValue, HistoryUpdateType};
 
 /// A range of time whose values, or their modifications, are read (Part 11, 6.4.3). A moment below 1,
 /// and a count of 0, aren't given; whether enough is given isn't looked at.
@@ -61,31 +61,6 @@ pub struct HistoryReadRequest<'a> {
     /// Whether the continuation points are only given back.
     pub release_continuation_points: bool,
     pub nodes: Vec<HistoryReadValueId<'a>>,
-}
-
-/// How a value was modified (Part 11, 6.5.3).
-#[derive(Clone, Copy, Debug, PartialEq, Eq)]
-pub enum HistoryUpdateType {
-    Insert,
-    Replace,
-    Update,
-    Delete,
-}
-
-impl HistoryUpdateType {
-    ghost use Rattle.ua_services.specs.History.{update_number};
-
-    /// Its number on the wire, from 1 to 4.
-    fn number(self) -> i32
-        ensures { result ≡ update_number self }
-    {
-        match self {
-            HistoryUpdateType::Insert => 1,
-            HistoryUpdateType::Replace => 2,
-            HistoryUpdateType::Update => 3,
-            HistoryUpdateType::Delete => 4,
-        }
-    }
 }
 
 /// When, how and by whom a value was modified (Part 11, 6.5.3).
@@ -278,7 +253,7 @@ impl Encode for ModificationInfo {
     #[tactic(auto, using(ua_binary::proofs::Kept::kept, crate::proofs::Fits::fits), unfolding(crate::specs::History::modification_info))]
     fn put_parts(&self, out: &mut Vec<u8>) -> Result<(), BinaryFault> {
         put_ticks(out, self.modification_time)?;
-        put_i32(out, self.update_type.number())?;
+        put_i32(out, i32::from(self.update_type.number()))?;
         put_owned_text(out, &self.user_name)?;
         Ok(())
     }
@@ -374,7 +349,10 @@ fn put_history_data(out: &mut Vec<u8>, v: &HistoryData) -> Result<(), BinaryFaul
 }
 
 #[tactic(auto, using(ua_binary::proofs::Kept::kept), unfolding(crate::specs::History::history_read_result))]
-fn put_history_result_parts(out: &mut Vec<u8>, v: &HistoryReadResult) -> Result<(), BinaryFault>
+fn put_history_read_result_parts(
+    out: &mut Vec<u8>,
+    v: &HistoryReadResult,
+) -> Result<(), BinaryFault>
     requires { IsShortHistoryRead v.now }
     ensures puts { PutsPart BinaryFault.OutOfMemory result out.old.items out.new.items (history_read_result.canon (history_fields v.now)) }
     ensures spelled { IfOk result (λ _. IsHistoryRead (history_fields v.now)) }
@@ -385,14 +363,15 @@ fn put_history_result_parts(out: &mut Vec<u8>, v: &HistoryReadResult) -> Result<
     Ok(())
 }
 
-/// One result.
-fn put_history_result(out: &mut Vec<u8>, v: &HistoryReadResult) -> Result<(), BinaryFault>
+/// Writes what the read of one node is answered (Part 4, 5.11.3): its status, its continuation point, and
+/// what was read in an extension object. The one error is `OutOfMemory`, which leaves the vector as it was.
+pub fn put_history_read_result(out: &mut Vec<u8>, v: &HistoryReadResult) -> Result<(), BinaryFault>
     requires { IsShortHistoryRead v.now }
     ensures puts { Puts BinaryFault.OutOfMemory result out.old.items out.new.items (history_read_result.canon (history_fields v.now)) }
     ensures spelled { IfOk result (λ _. IsHistoryRead (history_fields v.now)) }
 {
     let len = out.len();
-    let put = put_history_result_parts(out, v);
+    let put = put_history_read_result_parts(out, v);
     or_undone(put, out, len)
 }
 
@@ -407,7 +386,7 @@ fn put_history_results_parts(
 {
     put_count(out, results.len())?;
     for v in results {
-        put_history_result(out, v)?;
+        put_history_read_result(out, v)?;
     }
     Ok(())
 }

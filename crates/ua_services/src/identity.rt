@@ -2,31 +2,17 @@
 
 ghost use Rattle.ua_binary.specs.Format.{Reads};
 ghost use Rattle.ua_binary.specs.Binary.{node_of};
-ghost use Rattle.ua_services.specs.Sessions.{identity_of, anonymous_form, user_name_form, unknown_form, user_identity};
+ghost use Rattle.ua_session.specs.Users.{claim_of};
+ghost use Rattle.ua_services.specs.Sessions.{anonymous_form, user_name_form, unknown_form, user_identity};
 
 use crate::structure::{is_type, read_binary_body};
 use ua_binary::{BinaryFault, BodyRef, Cursor, NodeIdRef};
-
-/// A client's identity token (Part 4, 7.41), in the bytes that it was read from.
-#[derive(Clone, Copy, Debug, Drop)]
-pub enum IdentityToken<'a> {
-    /// An AnonymousIdentityToken, or the null extension object: type i=0 without a body.
-    Anonymous,
-    /// A UserNameIdentityToken.
-    UserName {
-        name: Option<&'a str>,
-        password: Option<&'a [u8]>,
-        /// The URI of the algorithm by which the password is encrypted.
-        algorithm: Option<&'a str>,
-    },
-    /// A token of another type; its body wasn't looked into.
-    Other,
-}
+use ua_session::Identity;
 
 /// The body of an AnonymousIdentityToken; the policy id isn't looked at.
 #[tactic(auto, unfolding(crate::specs::Sessions::anonymous_identity_token))]
-fn read_anonymous<'a>(cursor: &mut Cursor<'a>) -> Result<IdentityToken<'a>, BinaryFault>
-    ensures { Reads identity_of result cursor.old cursor.new anonymous_form.read }
+fn read_anonymous<'a>(cursor: &mut Cursor<'a>) -> Result<Identity<'a>, BinaryFault>
+    ensures { Reads claim_of result cursor.old cursor.new anonymous_form.read }
 {
     let mut next = cursor.fork();
     let mut body = read_binary_body(&mut next)?;
@@ -35,13 +21,13 @@ fn read_anonymous<'a>(cursor: &mut Cursor<'a>) -> Result<IdentityToken<'a>, Bina
         return Err(BinaryFault::BadEncodingByte);
     }
     *cursor = next;
-    Ok(IdentityToken::Anonymous)
+    Ok(Identity::Anonymous)
 }
 
 /// The body of a UserNameIdentityToken; the policy id isn't looked at.
 #[tactic(auto, unfolding(crate::specs::Sessions::user_name_identity_token))]
-fn read_user_name<'a>(cursor: &mut Cursor<'a>) -> Result<IdentityToken<'a>, BinaryFault>
-    ensures { Reads identity_of result cursor.old cursor.new user_name_form.read }
+fn read_user_name<'a>(cursor: &mut Cursor<'a>) -> Result<Identity<'a>, BinaryFault>
+    ensures { Reads claim_of result cursor.old cursor.new user_name_form.read }
 {
     let mut next = cursor.fork();
     let mut body = read_binary_body(&mut next)?;
@@ -53,7 +39,7 @@ fn read_user_name<'a>(cursor: &mut Cursor<'a>) -> Result<IdentityToken<'a>, Bina
         return Err(BinaryFault::BadEncodingByte);
     }
     *cursor = next;
-    Ok(IdentityToken::UserName {
+    Ok(Identity::Named {
         name,
         password,
         algorithm,
@@ -64,12 +50,12 @@ fn read_user_name<'a>(cursor: &mut Cursor<'a>) -> Result<IdentityToken<'a>, Bina
 fn read_unknown<'a>(
     cursor: &mut Cursor<'a>,
     type_id: &NodeIdRef<'_>,
-) -> Result<IdentityToken<'a>, BinaryFault>
-    ensures { Reads identity_of result cursor.old cursor.new (unknown_form (node_of type_id.now)).read }
+) -> Result<Identity<'a>, BinaryFault>
+    ensures { Reads claim_of result cursor.old cursor.new (unknown_form (node_of type_id.now)).read }
 {
     match cursor.body()? {
-        BodyRef::Absent if is_type(0, type_id) => Ok(IdentityToken::Anonymous),
-        _ => Ok(IdentityToken::Other),
+        BodyRef::Absent if is_type(0, type_id) => Ok(Identity::Anonymous),
+        _ => Ok(Identity::Other),
     }
 }
 
@@ -77,10 +63,8 @@ fn read_unknown<'a>(
 /// known type fills. A body of another kind than bytes, and bytes behind the token, are
 /// `BadEncodingByte` there.
 #[tactic(auto, unfolding(crate::specs::Sessions::user_identity))]
-pub(crate) fn read_user_identity<'a>(
-    cursor: &mut Cursor<'a>,
-) -> Result<IdentityToken<'a>, BinaryFault>
-    ensures { Reads identity_of result cursor.old cursor.new user_identity.read }
+pub(crate) fn read_user_identity<'a>(cursor: &mut Cursor<'a>) -> Result<Identity<'a>, BinaryFault>
+    ensures { Reads claim_of result cursor.old cursor.new user_identity.read }
 {
     let mut next = cursor.fork();
     let type_id = next.node_id()?;

@@ -32,10 +32,9 @@ pub use endpoints::{
 };
 pub use history::{
     HistoryData, HistoryReadDetails, HistoryReadRequest, HistoryReadResult, HistoryReadValueId,
-    HistoryUpdateType, ModificationInfo, ReadRawModifiedDetails, put_history_read_response,
+    ModificationInfo, ReadRawModifiedDetails, put_history_read_response, put_history_read_result,
     read_history_read_request,
 };
-pub use identity::IdentityToken;
 pub use laws::{formats_are_lawful, formats_are_prefix_free};
 pub use sessions::{
     ActivateSessionRequest, CloseSessionRequest, CreateSessionRequest, CreateSessionResponse,

@@ -2,13 +2,15 @@
 
 ghost use Rattle.std.specs.Prelude.{◌≡◌, IfOk};
 ghost use Rattle.ua_binary.specs.Format.{Reads, Puts, PutsPart};
-ghost use Rattle.ua_services.specs.Sessions.{session_asked, create_session_request, session_made, IsShortSession, IsSessionMade, create_session_response, identity_of, activate_session_request, activate_session_response, close_session_request};
+ghost use Rattle.ua_session.specs.Users.{claim_of};
+ghost use Rattle.ua_services.specs.Sessions.{session_asked, create_session_request, session_made, IsShortSession, IsSessionMade, create_session_response, activate_session_request, activate_session_response, close_session_request};
 
 use crate::endpoints::EndpointDescription;
-use crate::identity::{IdentityToken, read_user_identity};
+use crate::identity::read_user_identity;
 use crate::many::{put_many, put_null_array};
 use crate::skipping::{skip_application, skip_certificates, skip_signature, skip_texts};
 use ua_binary::{BinaryFault, Cursor, Encode, NodeId, or_undone, put_bytes, put_node_id, put_text};
+use ua_session::Identity;
 
 /// What a CreateSession request asks (Part 4, 5.7.2), in the bytes that it was read from. The client's
 /// description, nonce and certificate aren't kept, since no policy with signatures is served.
@@ -24,13 +26,13 @@ pub struct CreateSessionRequest<'a> {
 
 /// What a CreateSession response says (Part 4, 5.7.2).
 #[derive(Debug, Drop)]
-pub struct CreateSessionResponse<'a> {
+pub struct CreateSessionResponse {
     pub session_id: NodeId,
     /// What the client shows with each request.
     pub authentication_token: NodeId,
     /// The bytes of a Double: in milliseconds, how long the session lives without a request.
     pub timeout: [u8; 8],
-    pub endpoints: &'a [EndpointDescription],
+    pub endpoints: Vec<EndpointDescription>,
     /// The most bytes of a request; 0 is no limit.
     pub max_request_size: u32,
 }
@@ -38,7 +40,7 @@ pub struct CreateSessionResponse<'a> {
 /// What an ActivateSession request asks (Part 4, 5.7.3), in the bytes that it was read from.
 #[derive(Clone, Copy, Debug, Drop)]
 pub struct ActivateSessionRequest<'a> {
-    pub user_identity: IdentityToken<'a>,
+    pub user_identity: Identity<'a>,
 }
 
 /// What a CloseSession request asks (Part 4, 5.7.4).
@@ -75,10 +77,7 @@ pub fn read_create_session_request<'a>(
 }
 
 #[tactic(auto, using(ua_binary::proofs::Kept::kept, crate::proofs::Fits::fits), unfolding(crate::specs::Sessions::create_session_response))]
-fn put_create_session_parts(
-    out: &mut Vec<u8>,
-    v: &CreateSessionResponse<'_>,
-) -> Result<(), BinaryFault>
+fn put_create_session_parts(out: &mut Vec<u8>, v: &CreateSessionResponse) -> Result<(), BinaryFault>
     requires { IsShortSession v.now }
     ensures puts { PutsPart BinaryFault.OutOfMemory result out.old.items out.new.items (create_session_response.canon (session_made v.now)) }
     ensures spelled { IfOk result (λ _. IsSessionMade (session_made v.now)) }
@@ -88,7 +87,7 @@ fn put_create_session_parts(
     v.timeout.put(out)?;
     put_bytes(out, None)?;
     put_bytes(out, None)?;
-    put_many(out, v.endpoints)?;
+    put_many(out, &v.endpoints)?;
     put_null_array(out)?;
     put_text(out, None)?;
     put_bytes(out, None)?;
@@ -101,7 +100,7 @@ fn put_create_session_parts(
 /// Its one error is `OutOfMemory`, and then the vector is as it was. What was written has a spelling.
 pub fn put_create_session_response(
     out: &mut Vec<u8>,
-    v: &CreateSessionResponse<'_>,
+    v: &CreateSessionResponse,
 ) -> Result<(), BinaryFault>
     requires { IsShortSession v.now }
     ensures puts { Puts BinaryFault.OutOfMemory result out.old.items out.new.items (create_session_response.canon (session_made v.now)) }
@@ -120,7 +119,7 @@ pub fn put_create_session_response(
 pub fn read_activate_session_request<'a>(
     cursor: &mut Cursor<'a>,
 ) -> Result<ActivateSessionRequest<'a>, BinaryFault>
-    ensures { Reads (λ r. identity_of r.user_identity) result cursor.old cursor.new activate_session_request.read }
+    ensures { Reads (λ r. claim_of r.user_identity) result cursor.old cursor.new activate_session_request.read }
 {
     let mut next = cursor.fork();
     skip_signature(&mut next)?;

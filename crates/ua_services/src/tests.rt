@@ -349,8 +349,8 @@ fn is_copied(endpoint: &EndpointDescription) -> bool {
 }
 
 /// Whether a session of these endpoints is written as these bytes round theirs.
-fn is_session_written(alloc: Global, endpoints: &[EndpointDescription]) -> bool {
-    if array_size(endpoints) != ENDPOINTS.len() {
+fn is_session_written(alloc: Global, endpoints: Vec<EndpointDescription>) -> bool {
+    if array_size(endpoints.as_slice()) != ENDPOINTS.len() {
         return false;
     }
     let made = CreateSessionResponse {
@@ -377,7 +377,7 @@ fn written_endpoints(rt: HostRuntime) -> Result<(), AllocError> {
     assert_eq!(rt; none.as_slice(), [0, 0, 0, 0].as_slice());
     let endpoints = endpoints(rt.alloc())?;
     assert!(rt; are_endpoints_written(rt.alloc(), endpoints.as_slice(), ENDPOINTS));
-    assert!(rt; is_session_written(rt.alloc(), endpoints.as_slice()));
+    assert!(rt; is_session_written(rt.alloc(), endpoints));
     Ok(())
 }
 

@@ -2,7 +2,8 @@
 
 ghost use Rattle.std.specs.Prelude.{◌≡◌, map, IfOk};
 ghost use Rattle.ua_binary.specs.Format.{Puts, PutsPart, Reads, ReadsUnless};
-ghost use Rattle.ua_services.specs.Updates.{Details, details_of, update_data_form, delete_raw_modified_form, delete_at_time_form, other_form, history_update_details, history_update_request, UpdateFields, update_fields, IsUpdated, history_update_result, IsShortUpdate, AreShortUpdates, AreUpdated, history_update_response};
+ghost use Rattle.std.specs.List.{AllByRecursion};
+ghost use Rattle.ua_services.specs.Updates.{Details, HasShortValues, details_of, update_data_form, delete_raw_modified_form, delete_at_time_form, other_form, history_update_details, history_update_request, UpdateFields, update_fields, IsUpdated, history_update_result, IsShortUpdate, AreShortUpdates, AreUpdated, history_update_response};
 
 use crate::many::{many_size, put_many, put_null_array};
 use crate::structure::{is_type, read_binary_body};
@@ -174,13 +175,14 @@ impl<'a> Decode<'a> for HistoryUpdateDetails<'a> {
 /// Reads a HistoryUpdate request (Part 4, 5.11.5) behind its header: an array of extension objects, of
 /// which UpdateDataDetails, DeleteRawModifiedDetails and DeleteAtTimeDetails are looked into, and fill
 /// their bodies. A fault is that of the leftmost field that has no spelling, or `OutOfMemory`, and
-/// leaves the cursor where it was.
+/// leaves the cursor where it was. Values that are read may be written again.
 #[tactic(auto, unfolding(crate::specs::Updates::history_update_request))]
 pub fn read_history_update_request<'a>(
     alloc: Global,
     cursor: &mut Cursor<'a>,
 ) -> Result<HistoryUpdateRequest<'a>, VariantFault>
-    ensures { ReadsUnless VariantFault.OutOfMemory (λ r. map details_of r.details.items) result cursor.old cursor.new history_update_request.read }
+    ensures reads { ReadsUnless VariantFault.OutOfMemory (λ r. map details_of r.details.items) result cursor.old cursor.new history_update_request.read }
+    ensures short { IfOk result (λ r. AllByRecursion HasShortValues (map details_of r.details.items)) }
 {
     let details = read_array(alloc, cursor)?;
     Ok(HistoryUpdateRequest { details })

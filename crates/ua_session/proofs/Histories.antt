@@ -11,7 +11,8 @@ use Rattle.ua_session.specs.declared.fault.SessionFault.TheVariants.{TooMany, Id
 use Rattle.ua_session.specs.declared.session.Session.{Session}
 use Rattle.ua_session.specs.declared.identity.User.{User}
 use Rattle.ua_session.specs.Users.{Allowed, Claim, Anonymous, Named as ByName, Other, nobody, has_name, judgement_of_user, judgement_of_name, unless_encrypted, judgement}
-use Rattle.ua_session.specs.Sessions.{State, fresh, session_id_of, token_of, is_named, is_full, if_open, user_of_session, with_new, with_user, without_session, IsOrStarved}
+use Rattle.ua_binary.specs.Format.{IsOrStarved}
+use Rattle.ua_session.specs.Sessions.{State, fresh, session_id_of, token_of, is_named, is_full, if_open, user_of_session, with_new, with_user, without_session}
 use Rattle.ua_session.specs.History.{Deed, Made, Activated, Closed, made_count, closed_count, was_closed, last_user, IsAlive, session_of, IsValid, HasRoom, Event, Create, Activate, Close, Ask, Does, Runs, after, IsAnswered, AreAnswered}
 use Rattle.ua_session.proofs.Alive.{at, changed, Apart, at_same-with_user, at_other-with_user, at_same-without_session, at_other-without_session, length-without_session, length-with_user, apart-with_user, apart-without_session, at-append, apart-append}
 
@@ -287,7 +288,7 @@ no_room past old is full room =
     ]
 
 creating : (past : List Deed) (old : State) (full : Bool) (result : Result (NodeId × NodeId) SessionFault) → Represents past old → is_full old ≡ full
-    → IsOrStarved (cond full (Err TooMany) (Ok (session_id_of (old.made + 1), token_of (old.made + 1)))) result → IsAnswered past (Create result)
+    → IsOrStarved OutOfMemory (cond full (Err TooMany) (Ok (session_id_of (old.made + 1), token_of (old.made + 1)))) result → IsAnswered past (Create result)
 creating past old true (Ok given) is full answer = absurd cc
 creating past old true (Err TooMany) is full answer = no_room past old is full
 creating past old true (Err fault) is full answer = cc
@@ -296,7 +297,7 @@ creating past old false (Err OutOfMemory) is full answer = has_room past old is 
 creating past old false (Err fault) is full answer = cc
 
 activating : (past : List Deed) (old : State) (token : NodeId) (allowed : Allowed) (claim : Claim) (o : Option Session) (j : Result (List ℕ) SessionFault) (result : Result (List ℕ) SessionFault)
-    → Represents past old → find (is_named token) old.alive ≡ o → judgement allowed claim ≡ j → IsOrStarved (if_open o j) result → IsAnswered past (Activate token allowed claim result)
+    → Represents past old → find (is_named token) old.alive ≡ o → judgement allowed claim ≡ j → IsOrStarved OutOfMemory (if_open o j) result → IsAnswered past (Activate token allowed claim result)
 activating past old token allowed claim None j (Ok user) is found judges answer = absurd cc
 activating past old token allowed claim None j (Err IdInvalid) is found judges answer = invalid past old token is found
 activating past old token allowed claim None j (Err fault) is found judges answer = absurd cc
@@ -351,7 +352,7 @@ leaves-closed past old token session is found =
     let Q : ℕ → Type 0 = λ k. Represents (Closed k ∷ past) (record old { alive = without_session (token_of (session_of token)) old.alive }) in
     subst P (sym named.is_token) (subst Q (half (session_of token)) (represents-closed past old (2 * session_of token + 1) session is named.there))
 
-goes-activate : (past : List Deed) (old : State) (token : NodeId) (user : List ℕ) (o : Option Session) (j : Result (List ℕ) SessionFault) → Represents past old → find (is_named token) old.alive ≡ o → IsOrStarved (if_open o j) (Ok user)
+goes-activate : (past : List Deed) (old : State) (token : NodeId) (user : List ℕ) (o : Option Session) (j : Result (List ℕ) SessionFault) → Represents past old → find (is_named token) old.alive ≡ o → IsOrStarved OutOfMemory (if_open o j) (Ok user)
     → Represents (Activated (session_of token) user ∷ past) (record old { alive = with_user token user old.alive })
 goes-activate past old token user None j is found answer = absurd cc
 goes-activate past old token user (Some session) j is found answer = leaves-activated past old token user session is found

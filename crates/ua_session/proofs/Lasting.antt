@@ -4,10 +4,11 @@ use Rattle.std.specs.Option.{ok_or}
 use Rattle.std.proofs.lemmas.Bool.{eq-eqb, ne_eqb, or_parts, or_from, or_left, or_right, leb-false, cond-true, cond-false, true≢false}
 use Rattle.ua_binary.specs.Binary.{numbers_of}
 use Rattle.ua_binary.specs.declared.values.NodeId.{NodeId}
-use Rattle.ua_session.specs.declared.fault.SessionFault.TheVariants.{TooMany, IdInvalid, NotActivated}
+use Rattle.ua_session.specs.declared.fault.SessionFault.TheVariants.{OutOfMemory, TooMany, IdInvalid, NotActivated}
 use Rattle.ua_session.specs.declared.session.Session.{Session}
 use Rattle.ua_session.specs.Users.{Allowed, Claim, judgement}
-use Rattle.ua_session.specs.Sessions.{State, fresh, session_id_of, token_of, is_named, is_full, user_of_session, user_at, with_new, IsOrStarved}
+use Rattle.ua_binary.specs.Format.{IsOrStarved}
+use Rattle.ua_session.specs.Sessions.{State, fresh, session_id_of, token_of, is_named, is_full, user_of_session, user_at, with_new}
 use Rattle.ua_session.specs.History.{Deed, Made, Activated, Closed, made_count, was_closed, last_user, IsAlive, session_of, IsValid, Event, Create, Activate, Close, Ask, Does, Runs, after, IsAnswered, LeaveAlone}
 use Rattle.ua_session.proofs.Alive.{length-with_user, length-le-without_session}
 use Rattle.ua_session.proofs.Histories.{Represents, represents-fresh, half, valid, invalid, answering, leaving}
@@ -192,7 +193,7 @@ bounded-along : (state new : State) → new ≡ state → IsBounded state → Is
 bounded-along state new same is = subst IsBounded (sym same) is
 
 bounded-made : (old : State) (full : Bool) (given : NodeId × NodeId) → is_full old ≡ full
-    → IsOrStarved (cond full (Err TooMany) (Ok (session_id_of (old.made + 1), token_of (old.made + 1)))) (Ok given) → IsBounded (with_new old)
+    → IsOrStarved OutOfMemory (cond full (Err TooMany) (Ok (session_id_of (old.made + 1), token_of (old.made + 1)))) (Ok given) → IsBounded (with_new old)
 bounded-made old true given is answer = absurd cc
 bounded-made old false given is answer =
     let new : Session = record { token = 2 * (old.made + 1) + 1; user = None } in

@@ -1,5 +1,7 @@
 -- What a fault is called outside: by its number, and by the status code that a response tells (Part 4, StatusCode).
 use Rattle.std.specs.Prelude.{ℕ}
+use Rattle.ua_binary.specs.declared.codes.Status.{Status}
+use Rattle.ua_binary.specs.declared.codes.TheConstants.Status.{BAD_OUT_OF_MEMORY, BAD_IDENTITY_TOKEN_INVALID, BAD_IDENTITY_TOKEN_REJECTED, BAD_SESSION_ID_INVALID, BAD_SESSION_NOT_ACTIVATED, BAD_TOO_MANY_SESSIONS}
 use Rattle.ua_session.specs.declared.fault.SessionFault.{SessionFault}
 use Rattle.ua_session.specs.declared.fault.SessionFault.TheVariants.{TooMany, IdInvalid, NotActivated, IdentityInvalid, IdentityRejected, OutOfMemory}
 
@@ -11,12 +13,10 @@ number_of IdentityInvalid = 4
 number_of IdentityRejected = 5
 number_of OutOfMemory = 6
 
--- Bad_TooManySessions, Bad_SessionIdInvalid, Bad_SessionNotActivated, Bad_IdentityTokenInvalid, Bad_IdentityTokenRejected,
--- Bad_OutOfMemory
-abbrev pub code_of : SessionFault → ℕ
-code_of TooMany = 0x80560000
-code_of IdInvalid = 0x80250000
-code_of NotActivated = 0x80270000
-code_of IdentityInvalid = 0x80200000
-code_of IdentityRejected = 0x80210000
-code_of OutOfMemory = 0x80030000
+abbrev pub code_of : SessionFault → Status
+code_of TooMany = BAD_TOO_MANY_SESSIONS
+code_of IdInvalid = BAD_SESSION_ID_INVALID
+code_of NotActivated = BAD_SESSION_NOT_ACTIVATED
+code_of IdentityInvalid = BAD_IDENTITY_TOKEN_INVALID
+code_of IdentityRejected = BAD_IDENTITY_TOKEN_REJECTED
+code_of OutOfMemory = BAD_OUT_OF_MEMORY

@@ -1,6 +1,7 @@
 -- What the sessions of a connection are, and what each call answers and leaves (Part 4, 5.7).
 use Rattle.std.specs.Prelude.{◌≡◌, ◌≤◌, ◌+◌, ◌*◌, ℕ, Bool, false, List, [], ◌∷◌, ◌++◌, length, ◌==◌, ◌&&◌, ◌||◌, nat_le, Option, None, Some, IfSome, Result, Ok, Err, MatchResult, find, if◌then◌else◌}
 use Rattle.std.specs.Option.{ok_or}
+use Rattle.ua_binary.specs.Format.{IsOrStarved}
 use Rattle.ua_binary.specs.declared.values.NodeId.{NodeId}
 use Rattle.ua_binary.specs.declared.values.NodeId.TheVariants.{Numeric}
 use Rattle.ua_session.specs.declared.fault.SessionFault.{SessionFault}
@@ -77,17 +78,12 @@ without_session token (session ∷ alive) = if is_named token session then alive
 
 -- ---- the calls
 
--- a good answer, or want of memory in its place; a refusal is exact
-abbrev pub IsOrStarved : {A : Type 0} → Result A SessionFault → Result A SessionFault → Type 0
-IsOrStarved (Ok answer) result = MatchResult result (λ given. given ≡ answer) (λ fault. fault ≡ OutOfMemory)
-IsOrStarved (Err fault) result = result ≡ Err fault
-
 pub record Creates (old : State) (result : Result (NodeId × NodeId) SessionFault) (new : State) : Type 0 where
-  pub answer : IsOrStarved (create_answer old) result
+  pub answer : IsOrStarved OutOfMemory (create_answer old) result
   pub leaves : MatchResult result (λ _. new ≡ with_new old) (λ _. new ≡ old)
 
 pub record Activates (old : State) (token : NodeId) (allowed : Allowed) (claim : Claim) (result : Result (List ℕ) SessionFault) (new : State) : Type 0 where
-  pub answer : IsOrStarved (activate_answer old token allowed claim) result
+  pub answer : IsOrStarved OutOfMemory (activate_answer old token allowed claim) result
   pub leaves : MatchResult result (λ user. new ≡ record old { alive = with_user token user old.alive }) (λ _. new ≡ old)
 
 pub record Closes (old : State) (token : NodeId) (result : Result (Unit {0}) SessionFault) (new : State) : Type 0 where

@@ -1,5 +1,5 @@
 -- Which users there are, and as whom an identity is allowed (Part 4, 5.7.3).
-use Rattle.std.specs.Prelude.{◌≡◌, ◌≢◌, ◌≤◌, ℕ, Bool, true, List, [], ◌∷◌, ◌++◌, length, codes, nat_eq, Option, None, Some, Result, Ok, Err, find, unwrap_or, if◌then◌else◌}
+use Rattle.std.specs.Prelude.{◌≡◌, ◌≢◌, ◌≤◌, ℕ, Bool, true, List, [], ◌∷◌, ◌++◌, length, codes, nat_eq, nat_lt, Option, None, Some, Result, Ok, Err, find, unwrap_or, if◌then◌else◌}
 use Rattle.std.specs.List.{AllByRecursion}
 use Rattle.std.specs.Borrow.{Bor}
 use Rattle.std.specs.Option.{option_copied}
@@ -15,6 +15,10 @@ use Rattle.ua_session.specs.declared.identity.Identity.TheVariants as lent
 pub record Allowed : Type 0 where
   pub anonymous : Bool
   pub named : List User
+
+-- whether there is a user with a name
+abbrev pub has_some_named : Allowed → Bool
+has_some_named allowed = nat_lt 0 (length allowed.named)
 
 -- with one user more, the last
 abbrev pub with_added : Allowed → List ℕ → List ℕ → Allowed

@@ -5,6 +5,7 @@ ghost use Rattle.ua_session.specs.declared.fault.SessionFault.TheVariants.{OutOf
 
 use std::alloc::{AllocError, AllocFailed};
 use thiserror::Error;
+use ua_binary::Status;
 
 /// Why a call of a session service is refused (Part 4, 5.7). Each leaves the sessions as they were.
 #[derive(Clone, Copy, Debug, PartialEq, Eq, Error)]
@@ -47,16 +48,16 @@ impl SessionFault {
     }
 
     /// The status code that a response tells the client (Part 4, StatusCode).
-    pub fn code(self) -> u32
+    pub fn code(self) -> Status
         ensures { result ≡ code_of self }
     {
         match self {
-            SessionFault::TooMany => 0x8056_0000,
-            SessionFault::IdInvalid => 0x8025_0000,
-            SessionFault::NotActivated => 0x8027_0000,
-            SessionFault::IdentityInvalid => 0x8020_0000,
-            SessionFault::IdentityRejected => 0x8021_0000,
-            SessionFault::OutOfMemory => 0x8003_0000,
+            SessionFault::TooMany => Status::BAD_TOO_MANY_SESSIONS,
+            SessionFault::IdInvalid => Status::BAD_SESSION_ID_INVALID,
+            SessionFault::NotActivated => Status::BAD_SESSION_NOT_ACTIVATED,
+            SessionFault::IdentityInvalid => Status::BAD_IDENTITY_TOKEN_INVALID,
+            SessionFault::IdentityRejected => Status::BAD_IDENTITY_TOKEN_REJECTED,
+            SessionFault::OutOfMemory => Status::BAD_OUT_OF_MEMORY,
         }
     }
 }
@@ -74,5 +75,16 @@ impl<T: Drop> From<AllocFailed<T>> for SessionFault {
 
     fn from(_cause: AllocFailed<T>) -> SessionFault {
         SessionFault::OutOfMemory
+    }
+}
+
+/// The code that a response tells.
+impl From<SessionFault> for Status {
+    ghost use Rattle.ua_session.specs.Fault.{code_of};
+
+    ghost from_gives = { λ fault status. status ≡ code_of fault };
+
+    fn from(fault: SessionFault) -> Status {
+        fault.code()
     }
 }

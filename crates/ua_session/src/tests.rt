@@ -272,7 +272,7 @@ fn faults(rt: HostRuntime) {
     ];
     for (fault, number, code) in faults {
         assert!(rt;
-            fault.number() == number && fault.code() == code,
+            fault.number() == number && fault.code().0 == code,
             "at {fault}"
         );
     }

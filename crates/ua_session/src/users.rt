@@ -34,7 +34,7 @@ impl Model for Users {
 }
 
 impl Users {
-    ghost use Rattle.ua_session.specs.Users.{claim_of, judgement, with_added};
+    ghost use Rattle.ua_session.specs.Users.{claim_of, judgement, with_added, has_some_named};
 
     /// No user with a name yet; a user without one is allowed or not. It takes no memory.
     pub fn new(alloc: Global, anonymous: bool) -> Self
@@ -45,6 +45,20 @@ impl Users {
             anonymous,
             named: Vec::new(alloc),
         }
+    }
+
+    /// Whether a user without a name is allowed.
+    pub fn allows_anonymous(&self) -> bool
+        ensures { result ≡ self.now.anonymous }
+    {
+        self.anonymous
+    }
+
+    /// Whether there is a user with a name.
+    pub fn has_named(&self) -> bool
+        ensures { result ≡ has_some_named self.now }
+    {
+        !self.named.is_empty()
     }
 
     /// Adds a user, whose name has 1 to 256 bytes. Of two equal names the first one counts. The one error

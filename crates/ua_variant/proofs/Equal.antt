@@ -6,7 +6,7 @@ use Rattle.std.specs.Cmp.Lexicographic.{pointwise}
 use Rattle.std.specs.Option.{option_eq}
 use Rattle.std.proofs.lemmas.Bool.Decides.{Decides-and, Decides-like}
 use Rattle.std.proofs.lemmas.Slice.Eq.{slice_eq-Decides}
-use Rattle.ua_binary.specs.contracts.values.StatusPartialEq as status
+use Rattle.ua_binary.specs.contracts.codes.StatusPartialEq as status
 use Rattle.ua_binary.specs.contracts.values.TicksPartialEq as ticks
 use Rattle.ua_binary.specs.contracts.values.GuidPartialEq as guid
 use Rattle.ua_binary.specs.contracts.values.NodeIdPartialEq as node

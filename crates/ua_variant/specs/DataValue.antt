@@ -6,7 +6,7 @@ use Rattle.ua_binary.specs.Format.{Format, refused, byte, ◌▸◌, chosen, hea
 use Rattle.ua_binary.specs.Binary.{unsigned, ticks, status}
 use Rattle.ua_binary.specs.declared.fault.BinaryFault.{BinaryFault}
 use Rattle.ua_binary.specs.declared.values.Ticks.{Ticks}
-use Rattle.ua_binary.specs.declared.values.Status.{Status}
+use Rattle.ua_binary.specs.declared.codes.Status.{Status}
 use Rattle.ua_variant.specs.declared.fault.VariantFault.{VariantFault}
 use Rattle.ua_variant.specs.declared.fault.VariantFault.TheVariants.{BadEncodingByte}
 use Rattle.ua_variant.specs.Variant.{raise, variant, IsVariant, IsShortVariant}

@@ -2,6 +2,8 @@
 use Rattle.std.specs.Prelude.{ℕ}
 use Rattle.ua_binary.specs.declared.fault.BinaryFault.{BinaryFault}
 use Rattle.ua_binary.specs.declared.fault.BinaryFault.TheVariants as binary
+use Rattle.ua_binary.specs.declared.codes.Status.{Status}
+use Rattle.ua_binary.specs.declared.codes.TheConstants.Status.{BAD_OUT_OF_MEMORY, BAD_DECODING_ERROR}
 use Rattle.ua_variant.specs.declared.fault.VariantFault.{VariantFault}
 use Rattle.ua_variant.specs.declared.fault.VariantFault.TheVariants.{Short, BadLength, BadUtf8, BadEncodingByte, OutOfMemory, TypeUnsupported}
 
@@ -21,3 +23,8 @@ number_of BadUtf8 = 3
 number_of BadEncodingByte = 4
 number_of OutOfMemory = 5
 number_of TypeUnsupported = 6
+
+-- want of memory has a code of its own
+abbrev pub status_of : VariantFault → Status
+status_of OutOfMemory = BAD_OUT_OF_MEMORY
+status_of fault = BAD_DECODING_ERROR

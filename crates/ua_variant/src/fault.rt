@@ -4,7 +4,7 @@ ghost use Rattle.std.specs.Prelude.{◌≡◌};
 ghost use Rattle.ua_variant.specs.Raise.{variant_fault};
 
 use thiserror::Error;
-use ua_binary::{BinaryFault, Fault};
+use ua_binary::{BinaryFault, Fault, Status};
 
 /// Why a value was not read, by the leftmost field that is not spelled there, or why it was not
 /// written.
@@ -67,5 +67,19 @@ impl Fault for VariantFault {
 
     fn tell(fault: BinaryFault) -> VariantFault {
         VariantFault::from(fault)
+    }
+}
+
+/// Want of memory stays what it is, and every other fault of the encoding is Bad_DecodingError.
+impl From<VariantFault> for Status {
+    ghost use Rattle.ua_variant.specs.Raise.{status_of};
+
+    ghost from_gives = { λ fault status. status ≡ status_of fault };
+
+    fn from(fault: VariantFault) -> Status {
+        match fault {
+            VariantFault::OutOfMemory => Status::BAD_OUT_OF_MEMORY,
+            _ => Status::BAD_DECODING_ERROR,
+        }
     }
 }

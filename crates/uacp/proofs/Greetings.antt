@@ -3,7 +3,7 @@ use Rattle.std.proofs.Common.{◌≡◌, ℕ, List, length, Bool, true, false, c
 use Rattle.std.specs.Prelude.{◌↔◌}
 use Rattle.ua_binary.specs.Format.{Reading, IsLawful, IsPrefixFree, raised, with_fault, ◌>>=◌}
 use Rattle.ua_binary.proofs.Combined.{exactly_lawful, then_lawful, standing_lawful, raised_lawful}
-use Rattle.ua_binary.proofs.Lawful.{u32_lawful, text_lawful}
+use Rattle.ua_binary.proofs.Lawful.{u32_lawful, status_lawful, text_lawful}
 use Rattle.ua_binary.proofs.Spelled.{prefix_free, whole_found, whole_only}
 use Rattle.ua_binary.specs.declared.fault.BinaryFault.{BinaryFault}
 use Rattle.uacp.specs.declared.types.UacpFault.{UacpFault}
@@ -22,7 +22,7 @@ acknowledge_lawful = standing_lawful _ _ (then_lawful (exactly_lawful _ _) (then
 
 pub error_lawful : IsLawful error
 unfolding error
-error_lawful = standing_lawful _ _ (then_lawful (exactly_lawful _ _) (then_lawful (exactly_lawful _ _) (then_lawful u32_lawful (exactly_lawful _ _))))
+error_lawful = standing_lawful _ _ (then_lawful (exactly_lawful _ _) (then_lawful (exactly_lawful _ _) (then_lawful status_lawful (exactly_lawful _ _))))
 
 pub hello_alone : IsPrefixFree hello
 hello_alone = prefix_free hello_lawful

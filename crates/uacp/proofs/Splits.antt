@@ -1,7 +1,7 @@
 -- A body and its pieces.
-use Rattle.std.proofs.Common.{◌≡◌, ◌≢◌, ℕ, zero, suc, ◌<◌, ◌≤◌, Bool, true, false, cond, List, [], ◌∷◌, ◌++◌, length, take, drop, nat_le, refl, ap, ◌∙◌, arith}
+use Rattle.std.proofs.Common.{◌≡◌, ◌≢◌, ℕ, zero, suc, ◌<◌, ◌≤◌, Bool, true, false, cond, List, [], ◌∷◌, ◌++◌, length, take, drop, nat_le, refl, sym, subst, ap, ◌∙◌, arith}
 use Rattle.std.specs.Prelude.{IsTrue, ◌↔◌}
-use Rattle.std.proofs.lemmas.List.{length-drop, length-take, take-append-drop, append-nil}
+use Rattle.std.proofs.lemmas.List.{length-drop, length-take, take-append-drop, append-nil, length-append, take_at, drop_at}
 use Rattle.std.proofs.lemmas.Bool.Decides.{nat_tests}
 use Rattle.uacp.specs.Split.{joined, AreFull, IsSplit, pieces_within, pieces_of, left_of}
 
@@ -85,6 +85,44 @@ pub pieces_split : (size : ℕ) (body : List ℕ) → 0 < size → IsSplit size 
 unfolding pieces_of
 pieces_split size [] some = refl
 pieces_split size (byte ∷ body) some = (joined-within (length (byte ∷ body)) size (byte ∷ body), full-within (length (byte ∷ body)) size (byte ∷ body) some (omega arith) (omega arith))
+
+-- ---- a body has one list of pieces
+
+full_some : (size : ℕ) (piece : List ℕ) (pieces : List (List ℕ)) → AreFull size (piece ∷ pieces) → 0 < length (joined (piece ∷ pieces))
+full_some size piece [] full = omega (arith, length-append piece [], full.0)
+full_some size piece (next ∷ pieces) full = omega (arith, length-append piece (joined (next ∷ pieces)), full_some size next pieces full.1)
+
+full_one : (size : ℕ) (pieces others : List (List ℕ)) → joined pieces ≡ joined others → AreFull size pieces → AreFull size others → pieces ≡ others
+full_one size [] [] same full fulls = refl
+full_one size [] (other ∷ others) same full fulls =
+    let some = full_some size other others fulls in
+    let none = ap (length {A = ℕ}) same in absurd (omega arith)
+full_one size (piece ∷ pieces) [] same full fulls =
+    let some = full_some size piece pieces full in
+    let none = ap (length {A = ℕ}) same in absurd (omega arith)
+full_one size (piece ∷ []) (other ∷ []) same full fulls = ap (λ (p : List ℕ). p ∷ []) (sym (append-nil piece) ∙ same ∙ append-nil other)
+full_one size (piece ∷ []) (other ∷ next ∷ others) same full fulls =
+    let more = full_some size next others fulls.1 in
+    let long = ap (length {A = ℕ}) same in
+    absurd (omega (arith, length-append piece [], length-append other (joined (next ∷ others)), full.1, fulls.0))
+full_one size (piece ∷ next ∷ pieces) (other ∷ []) same full fulls =
+    let more = full_some size next pieces full.1 in
+    let long = ap (length {A = ℕ}) same in
+    absurd (omega (arith, length-append other [], length-append piece (joined (next ∷ pieces)), full.0, fulls.1))
+full_one size (piece ∷ next ∷ pieces) (other ∷ second ∷ others) same full fulls =
+    let first : piece ≡ other = sym (take_at piece (joined (next ∷ pieces)) size full.0) ∙ ap (take size) same ∙ take_at other (joined (second ∷ others)) size fulls.0 in
+    let rest : joined (next ∷ pieces) ≡ joined (second ∷ others) = sym (drop_at piece (joined (next ∷ pieces)) size full.0) ∙ ap (drop size) same ∙ drop_at other (joined (second ∷ others)) size fulls.0 in
+    let later = full_one size (next ∷ pieces) (second ∷ others) rest full.1 fulls.1 in
+    ap (λ (p : List ℕ). p ∷ next ∷ pieces) first ∙ ap (λ (ps : List (List ℕ)). other ∷ ps) later
+
+split_one : (size : ℕ) (body : List ℕ) (pieces others : List (List ℕ)) → IsSplit size body pieces → IsSplit size body others → pieces ≡ others
+split_one size [] pieces others is so = is ∙ sym so
+split_one size (byte ∷ body) pieces others is so = full_one size pieces others (is.0 ∙ sym so.0) is.1 so.1
+
+pub pieces_one : (size : ℕ) (body : List ℕ) (pieces : List (List ℕ)) → 0 < size → IsSplit size body pieces ↔ (pieces ≡ pieces_of size body)
+pieces_one size body pieces some =
+    let is = pieces_split size body some in
+    (λ split. split_one size body pieces (pieces_of size body) split is, λ same. subst (IsSplit size body) (sym same) is)
 
 -- none is left once it is over, and before that there is one
 pub none_left : (over : Bool) (size : ℕ) (bytes : List ℕ) → IsTrue over ↔ (left_of over size bytes ≡ [])

@@ -1,5 +1,7 @@
 -- What a fault is called outside: by its number, and by the status code that an Error tells (Part 6, 7.1.2.5 and 7.1.5).
 use Rattle.std.specs.Prelude.{ℕ}
+use Rattle.ua_binary.specs.declared.codes.Status.{Status}
+use Rattle.ua_binary.specs.declared.codes.TheConstants.Status.{BAD_OUT_OF_MEMORY, BAD_DECODING_ERROR, BAD_TCP_MESSAGE_TYPE_INVALID, BAD_TCP_MESSAGE_TOO_LARGE, BAD_CONNECTION_REJECTED}
 use Rattle.ua_binary.specs.declared.fault.BinaryFault.{BinaryFault}
 use Rattle.ua_binary.specs.declared.fault.BinaryFault.TheVariants as binary
 use Rattle.uacp.specs.declared.types.UacpFault.{UacpFault}
@@ -13,14 +15,13 @@ number_of HelloInvalid = 4
 number_of BuffersTooSmall = 5
 number_of OutOfMemory = 6
 
--- Bad_TcpMessageTypeInvalid, Bad_TcpMessageTooLarge, Bad_DecodingError, Bad_ConnectionRejected, Bad_OutOfMemory
-abbrev pub code_of : UacpFault → ℕ
-code_of TypeInvalid = 0x807E0000
-code_of TooLarge = 0x80800000
-code_of SizeTooSmall = 0x80070000
-code_of HelloInvalid = 0x80070000
-code_of BuffersTooSmall = 0x80AC0000
-code_of OutOfMemory = 0x80030000
+abbrev pub code_of : UacpFault → Status
+code_of TypeInvalid = BAD_TCP_MESSAGE_TYPE_INVALID
+code_of TooLarge = BAD_TCP_MESSAGE_TOO_LARGE
+code_of SizeTooSmall = BAD_DECODING_ERROR
+code_of HelloInvalid = BAD_DECODING_ERROR
+code_of BuffersTooSmall = BAD_CONNECTION_REJECTED
+code_of OutOfMemory = BAD_OUT_OF_MEMORY
 
 -- a fault of the encoding, as the greeting tells it
 abbrev pub fault_of : BinaryFault → UacpFault

@@ -5,7 +5,7 @@ ghost use Rattle.ua_binary.specs.Format.{Reads, Puts, PutsPart};
 ghost use Rattle.uacp.specs.Greeting.{hello, hello_at, ack_of, acknowledge, error};
 
 use crate::types::UacpFault;
-use ua_binary::{BinaryFault, Cursor, or_undone, put_block, put_u32};
+use ua_binary::{BinaryFault, Cursor, Status, or_undone, put_block, put_status, put_u32};
 
 /// What a client asks for (Part 6, 7.1.2.3). Its URL is not kept.
 #[derive(Clone, Copy, Debug, PartialEq, Eq)]
@@ -108,19 +108,19 @@ pub fn put_ack(out: &mut Vec<u8>, ack: &Ack) -> Result<(), UacpFault>
 
 /// An error leaves a part.
 #[tactic(auto, using(ua_binary::proofs::Kept::kept), unfolding(crate::specs::Greeting::error))]
-fn put_error_parts(out: &mut Vec<u8>, code: u32) -> Result<(), BinaryFault>
+fn put_error_parts(out: &mut Vec<u8>, code: Status) -> Result<(), BinaryFault>
     ensures { PutsPart BinaryFault.OutOfMemory result out.old.items out.new.items (error.canon code) }
 {
     put_block(out, b"ERRF")?;
     put_u32(out, 16)?;
-    put_u32(out, code)?;
+    put_status(out, code)?;
     put_u32(out, u32::MAX)?;
     Ok(())
 }
 
 /// Appends an Error with this status code and a null reason (Part 6, 7.1.2.5): 16 bytes, the header
 /// among them. The one error is `OutOfMemory`, which leaves the vector as it was.
-pub fn put_error(out: &mut Vec<u8>, code: u32) -> Result<(), UacpFault>
+pub fn put_error(out: &mut Vec<u8>, code: Status) -> Result<(), UacpFault>
     ensures { Puts UacpFault.OutOfMemory result out.old.items out.new.items (error.canon code) }
 {
     let len = out.len();

@@ -62,18 +62,26 @@ impl Intake {
         self.limit = receive_size;
     }
 
+    /// Drops what was given out once that is half of the bytes, so that each byte is moved a bounded
+    /// number of times.
+    fn shed(&mut self)
+        ensures { self.new ≡ self.old }
+    {
+        let given = self.given;
+        if self.bytes.len() - given <= given {
+            let left = self.bytes.len() - given;
+            self.bytes.copy_within(given.., 0);
+            self.bytes.truncate(left);
+            self.given = 0;
+        }
+    }
+
     /// Takes the next piece of the stream. The one error is `OutOfMemory`, which changes nothing.
     pub fn feed(&mut self, piece: &[u8]) -> Result<(), UacpFault>
         ensures ok { OnOk result (Does self.old (Fed piece.now) self.new) }
         ensures err { IfErr result (λ fault. (fault ≡ UacpFault.OutOfMemory) × (self.new ≡ self.old)) }
     {
-        // What was given out goes once it is half of the bytes, so that each byte is moved a
-        // bounded number of times.
-        let given = self.given;
-        if self.bytes.len() - given <= given {
-            let _ = self.bytes.drain(..given);
-            self.given = 0;
-        }
+        self.shed();
         self.bytes.extend_from_slice(piece)?;
         Ok(())
     }

@@ -1,7 +1,7 @@
 //! What holds of the greeting's formats and of every stream, whatever is fed and in whatever
 //! pieces.
 
-ghost use Rattle.std.specs.Prelude.{◌≡◌, ◌↔◌, ◌≤◌, ◌++◌, [], ◌∷◌, Bool, List, Option, None, Some, Ok, Err, ℕ, false, length, take};
+ghost use Rattle.std.specs.Prelude.{◌≡◌, ◌↔◌, ◌≤◌, ◌<◌, ◌++◌, [], ◌∷◌, Bool, List, Option, None, Some, Ok, Err, ℕ, false, length, take};
 ghost use Rattle.ua_binary.specs.Format.{IsLawful, IsPrefixFree};
 ghost use Rattle.uacp.specs.declared.greeting.Hello.{Hello};
 ghost use Rattle.uacp.specs.declared.types.UacpFault.{UacpFault as Fault};
@@ -10,6 +10,7 @@ ghost use Rattle.uacp.specs.declared.types.Header.{Header};
 ghost use Rattle.uacp.specs.Chunks.{cut};
 ghost use Rattle.uacp.specs.Stream.{Piece, piece_at, header_of, IsChunk, IsPartial, IsFault, AreChunks, Splits};
 ghost use Rattle.uacp.specs.Held.{Held, fresh};
+ghost use Rattle.uacp.specs.Split.{IsSplit, pieces_of};
 ghost use Rattle.uacp.specs.Run.{Event, Refused, Runs, fed_of, given_of, limits_of, ended, OnlyRefuses};
 
 use crate::types::UacpFault;
@@ -95,4 +96,11 @@ pub fn pieces_do_not_matter()
         → fed_of events ≡ fed_of events'
         → ((k : ℕ) → k ≤ length (given_of events) → limits_of 65536 events k ≡ limits_of 65536 events' k)
         → (given_of events ≡ given_of events') × (held.waiting ≡ held'.waiting) × (fault ≡ fault') }
+{}
+
+/// The pieces of a body are its one split: joined they are the body, each but the last is full, and the
+/// last one isn't empty; an empty body is one empty piece.
+#[tactic(auto, using(crate::proofs::Splits::pieces_one))]
+pub fn bodies_have_one_split()
+    ensures { (size : ℕ) (body : List ℕ) (pieces : List (List ℕ)) → 0 < size → IsSplit size body pieces ↔ (pieces ≡ pieces_of size body) }
 {}

@@ -2,7 +2,7 @@
 
 ghost use Rattle.std.specs.Prelude.{◌≡◌, ◌↔◌, ◌-◌, ◌<◌, [], List, ℕ, IsTrue};
 ghost use Rattle.std.specs.Iterator.{YieldsFirstRef, item_count};
-ghost use Rattle.uacp.specs.Split.{IsSplit, left_of};
+ghost use Rattle.uacp.specs.Split.{IsSplit, pieces_of, left_of};
 
 use std::marker::Model;
 
@@ -60,7 +60,8 @@ impl<'a> Iterator for Pieces<'a> {
 #[tactic(auto, using(crate::proofs::Splits::pieces_split))]
 pub fn split(body: &[u8], limit: usize) -> Pieces<'_>
     requires { 24 < limit }
-    ensures { IsSplit (limit - 24) body.entry.now result }
+    ensures value { result ≡ pieces_of (limit - 24) body.entry.now }
+    ensures split { IsSplit (limit - 24) body.entry.now result }
 {
     Pieces {
         rest: body,

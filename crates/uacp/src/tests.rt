@@ -306,7 +306,7 @@ fn tells_faults(rt: HostRuntime) -> Result<(), Fail> {
         (UacpFault::OutOfMemory, 6, 0x8003_0000, [0, 0, 3, 0x80]),
     ] {
         assert_eq!(rt; fault.number(), number, "of {fault}");
-        assert_eq!(rt; fault.code(), code, "of {fault}");
+        assert_eq!(rt; fault.code().0, code, "of {fault}");
         let mut out = vec![in rt.alloc(); 1, 2]?;
         put_error(&mut out, fault.code()).ok().ok_or("memory")?;
         assert_eq!(rt; out.len(), 18);

@@ -1,6 +1,5 @@
-use Rattle.std.proofs.Common.{◌≡◌, ℤ, pos, ◌≤ℤ◌, Bool, ◌&&◌, ap, ◌∙◌, sym, Option, Some, arith, FitsSigned, w64}
-use Rattle.std.proofs.lemmas.Int.{ints, to_z-of_z}
-use Rattle.archive.specs.Reading.{is_between, is_past}
+use Rattle.std.proofs.Common.{◌≡◌, ℤ, Bool, ◌&&◌, refl, ap, ◌∙◌}
+use Rattle.archive.specs.Reading.{is_past}
 use Rattle.archive.specs.declared.reading.Direction.{Direction}
 use Rattle.hist_read.specs.Asking.{direction}
 use Rattle.hist_read.specs.Reads.{in_body, is_past_any}
@@ -12,6 +11,5 @@ narrow_step a b r d d' u v t p q s w = p ∙ (ap (λ x. x && is_past d u t) q �
 pub returns-in-Some : goal.returns-in-Some
 returns-in-Some c =
     λ t low high.
-    let fits : FitsSigned w64 c.in-Some.limit = c.in-Some.ensures.fits in
-    let step = narrow_step _ _ _ _ _ _ _ t (c.beyond.ensures t high) (c.body-span.ensures t low high) c.direction.ensures (to_z-of_z w64 c.in-Some.limit fits) in
+    let step = narrow_step _ _ _ _ _ _ _ t (c.beyond.ensures t high) (c.body-span.ensures t low high) c.direction.ensures refl in
     step ∙ ap (λ o. in_body c.args.details.now t && is_past_any (direction c.args.details.now) o t) c.in-Some.ensures.limit

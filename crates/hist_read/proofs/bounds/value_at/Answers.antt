@@ -1,5 +1,4 @@
-use Rattle.std.proofs.Common.{◌≡◌, ◌∙◌, ap, arith, FitsSigned, w64}
-use Rattle.std.proofs.lemmas.Int.{ints, to_z-of_z}
+use Rattle.std.proofs.Common.{◌∙◌, ap}
 use Rattle.archive.specs.Reading.{first}
 use Rattle.archive.specs.declared.reading.Direction.TheVariants.{Forward}
 use Rattle.hist_read.proofs.Lives.{value_at_is}
@@ -10,4 +9,4 @@ pub returns : goal.returns
 returns g c =
     asked_as _ _ _ c.first_of.result _ _ c.in_ok-found.ensures (λ lawful is.
     c.first_of.ensures
-    ∙ (ap first (rw (to_z-of_z w64 c.args.time c.ranges.time) at is) ∙ value_at_is (g.A.Archive.state c.args.archive.now).content c.args.node.now Forward c.args.time))
+    ∙ (ap first (is) ∙ value_at_is (g.A.Archive.state c.args.archive.now).content c.args.node.now Forward c.args.time))

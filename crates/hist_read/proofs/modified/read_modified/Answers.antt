@@ -1,8 +1,7 @@
-use Rattle.std.proofs.Common.{◌≡◌, ◌+◌, ◌∙◌, ap, take, arith, FitsSigned, w64}
-use Rattle.std.proofs.lemmas.Int.{ints, to_z-of_z}
+use Rattle.std.proofs.Common.{◌≡◌, ◌+◌, ◌∙◌, ap, take}
 use Rattle.archive.specs.Reading.{log_of}
 use Rattle.hist_read.specs.Asking.{direction}
-use Rattle.hist_read.specs.Reads.{page, page_size, place_at, next_place, modified_position}
+use Rattle.hist_read.specs.Reads.{page_size, place_at}
 use Rattle.hist_read.proofs.Lives.{log_reads}
 use Rattle.hist_read.proofs.Askings.{asked_as}
 use Rattle.hist_read.proofs.Paging.{modified_page, modified_next}
@@ -17,11 +16,9 @@ returns g c =
     let from = c.body-span.result.from in
     let to = c.body-span.result.to in
     let entries = c.in_ok-entries.entries.items in
-    let fits : FitsSigned w64 from = omega (arith, ints) in
-    let fits' : FitsSigned w64 to = omega (arith, ints) in
     asked_as _ _ c.in_ok-entries.entries c.page.result _ _ c.in_ok-entries.ensures (λ lawful is.
     let found : entries ≡ take (page_size q p + 1) (log_of R node from to (place_at p) (direction q)) =
-    rw (to_z-of_z w64 from fits, to_z-of_z w64 to fits') at is
+    is
     ∙ (ap (λ d. take (c.page_size-limit.result + 1) (log_of R node from to c.place_at-after.result d)) c.direction-direction.ensures
     ∙ (ap (λ a. take (c.page_size-limit.result + 1) (log_of R node from to a (direction q))) c.place_at-after.ensures
     ∙ ap (λ n. take (n + 1) (log_of R node from to (place_at p) (direction q))) c.page_size-limit.ensures.value)) in

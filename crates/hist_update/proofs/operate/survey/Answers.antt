@@ -1,9 +1,7 @@
-use Rattle.std.proofs.Common.{rules, ◌≡◌, Err, w64}
+use Rattle.std.proofs.Common.{rules, ◌≡◌, Err}
 use Rattle.archive.specs.Store.{Asks}
 use Rattle.hist_update.specs.Setbacks.{IsPlace}
-use Rattle.std.proofs.Common.{subst, sym, ◌∙◌, ap}
-use Rattle.std.proofs.lemmas.Int.{to_z-of_z}
-use Rattle.records.specs.Records.{story}
+use Rattle.std.proofs.Common.{subst, sym}
 use Rattle.archive.proofs.Calls.{asks-second}
 use Rattle.hist_update.proofs.Surveys.{surveyed}
 use Rattle.hist_update.proofs.operate.survey.Goals as goal
@@ -15,4 +13,4 @@ returns-in_err-vector-clause-asks g c =
     (asks-second _ _ _ _ _ _ _ _ (c.in_ok-story.ensures) (asks-second _ _ _ _ _ _ _ (λ p. IsPlace (g.A.Archive.state c.args.archive.now) c.args.request.now c.args.time p) (c.in_ok-top.ensures) (c.in_err-vector.ensures)))
 
 pub returns-clause-asks : goal.returns-clause-asks
-returns-clause-asks g c = surveyed _ _ _ _ _ _ c.in_ok-story.story.items c.in_ok-top.field-0 c.in_ok-vector.field-0 _ _ _ (c.in_ok-story.ensures) (λ e. e ∙ ap (λ t. story (g.A.Archive.state c.args.archive.now).content c.args.request.now.node t) (to_z-of_z w64 c.args.time c.ranges.time)) (c.in_ok-top.ensures) (c.in_ok-vector.ensures) (search rules) c.number-origin.ensures (search rules) (search rules)
+returns-clause-asks g c = surveyed _ _ _ _ _ _ c.in_ok-story.story.items c.in_ok-top.field-0 c.in_ok-vector.field-0 _ _ _ (c.in_ok-story.ensures) (λ e. e) (c.in_ok-top.ensures) (c.in_ok-vector.ensures) (search rules) c.number-origin.ensures (search rules) (search rules)

@@ -1,14 +1,13 @@
-use Rattle.std.proofs.Common.{rules, ◌≡◌, Err, w64}
+use Rattle.std.proofs.Common.{rules, ◌≡◌, Err}
 use Rattle.hist_update.specs.Outcome.{Write, writing}
 use Rattle.hist_update.specs.Setbacks.{candidate_of, Operates, IsDraft}
 use Rattle.hist_update.specs.declared.setback.Setback.TheVariants as setback
 use Rattle.hist_update.proofs.Operating.{refused-early, draft-starved, write_draft, written_by, unwritten, settled}
 use Rattle.std.proofs.Common.{subst, sym}
-use Rattle.std.proofs.lemmas.Int.{to_z-of_z}
 use Rattle.hist_update.proofs.operate.write.Goals as goal
 
 pub returns-in-Err : goal.returns-in-Err
-returns-in-Err g c = refused-early _ _ _ _ (unwritten c.args.request.now (g.A.Archive.state c.args.archive.now).own c.args.asked c.args.value_type c.args.value.now c.in-Err.code (sym (c.in-Err.ensures).judged))
+returns-in-Err g c = refused-early _ _ _ _ (unwritten c.args.request.now (g.A.Archive.state c.args.archive.now).own c.args.asked c.args.value_type c.args.value.now c.in-Err.code (sym c.in-Err.ensures))
 
 pub returns-in_err-candidate : goal.returns-in_err-candidate
 returns-in_err-candidate g c =
@@ -18,14 +17,12 @@ returns-in_err-candidate g c =
 
 pub settle-requires : goal.settle-requires
 settle-requires g c =
-    let same = to_z-of_z w64 c.in-Ok.time (c.in-Ok.ensures).fits in
-    let is = rw same at c.in_ok-candidate.ensures in
-    subst IsDraft (sym {b = candidate_of c.args.request.now c.in_ok-place.place (writing c.args.asked c.args.value.now c.in-Ok.time)} is) (write_draft c.args.request.now c.in_ok-place.place c.args.asked c.args.value_type c.args.value.now c.in-Ok.time c.requires.request (c.in_ok-place.ensures).number c.requires.asked c.requires.value (sym (c.in-Ok.ensures).judged))
+    let is = c.in_ok-candidate.ensures in
+    subst IsDraft (sym {b = candidate_of c.args.request.now c.in_ok-place.place (writing c.args.asked c.args.value.now c.in-Ok.time)} is) (write_draft c.args.request.now c.in_ok-place.place c.args.asked c.args.value_type c.args.value.now c.in-Ok.time c.requires.request (c.in_ok-place.ensures).number c.requires.asked c.requires.value (sym c.in-Ok.ensures))
 
 pub returns : goal.returns
 returns g c =
-    let same = to_z-of_z w64 c.in-Ok.time (c.in-Ok.ensures).fits in
-    let is = rw same at c.in_ok-candidate.ensures in
-    let asks = rw same at (c.in_ok-place.ensures).asks in
+    let is = c.in_ok-candidate.ensures in
+    let asks = (c.in_ok-place.ensures).asks in
     settled g.A.Archive.state c.args.archive.now c.survey.new.archive c.settle.new.archive c.args.request.now (Write c.args.asked c.args.value_type c.args.value.now) (writing c.args.asked c.args.value.now c.in-Ok.time) c.in_ok-place.place c.in_ok-candidate.candidate c.settle.result
-    (written_by c.args.request.now (g.A.Archive.state c.args.archive.now).own c.args.asked c.args.value_type c.args.value.now c.in-Ok.time (sym (c.in-Ok.ensures).judged)) asks is c.settle.ensures.refused c.settle.ensures.submitted
+    (written_by c.args.request.now (g.A.Archive.state c.args.archive.now).own c.args.asked c.args.value_type c.args.value.now c.in-Ok.time (sym c.in-Ok.ensures)) asks is c.settle.ensures.refused c.settle.ensures.submitted

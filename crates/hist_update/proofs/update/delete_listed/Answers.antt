@@ -14,7 +14,7 @@ unflip false e = sym e
 pub returns : goal.returns
 returns g c =
     let some : c.args.times.now ≢ [] = search rules in
-    let good : c.delete_at-deleted.result.status ≡ Good = same_true the_type (search rules) _ _ (unflip _ (sym c.if-ne.ensures)) in
-    deleted-all g.A.Archive.state c.args.archive.now c.delete_at-deleted.new.archive c.args.request.now (listing_refusal c.args.times.now) c.args.times.now c.delete_at-deleted.result
-    (subst (λ r. AnswersList g.A.Archive.state c.args.archive.now c.delete_at-deleted.new.archive c.args.request.now r (map DeleteAt c.args.times.now) c.delete_at-deleted.result) (listed-counted c.args.times.now some) c.delete_at-deleted.ensures)
-    (refused-bad c.args.times.now) good (record { status = c.first_other.result; codes = c.delete_at-deleted.result.codes }) (search rules) refl
+    let good : c.delete_moments-deleted.result.status ≡ Good = same_true the_type (search rules) _ _ (unflip _ (sym c.if-ne.ensures)) in
+    deleted-all g.A.Archive.state c.args.archive.now c.delete_moments-deleted.new.archive c.args.request.now (listing_refusal c.args.times.now) c.args.times.now c.delete_moments-deleted.result
+    (subst (λ r. AnswersList g.A.Archive.state c.args.archive.now c.delete_moments-deleted.new.archive c.args.request.now r (map DeleteAt c.args.times.now) c.delete_moments-deleted.result) (listed-counted c.args.times.now some) c.delete_moments-deleted.ensures)
+    (refused-bad c.args.times.now) good (record { status = c.first_other.result; codes = c.delete_moments-deleted.result.codes }) (search rules) refl

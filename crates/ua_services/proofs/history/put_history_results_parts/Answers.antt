@@ -15,5 +15,5 @@ returns-clause-spelled c =
 pub loop-v-preserved : goal.loop-v-preserved
 loop-v-preserved c = record {
   puts = grind (arith, common_steps);
-  spelled = All-more (λ r. history_read_result.Fits (history_fields r)) c.args.results.now c.loop-v.v-index c.v-item.result c.loop-v-test.true c.loop-v.invariant.spelled (subst (λ r. history_read_result.Fits (history_fields r)) c.v-item.is (history_fits _ (c.in_ok-put_history_result.ensures.spelled)));
+  spelled = All-more (λ r. history_read_result.Fits (history_fields r)) c.args.results.now c.loop-v.v-index c.v-item.result c.loop-v-test.true c.loop-v.invariant.spelled (subst (λ r. history_read_result.Fits (history_fields r)) c.v-item.is (history_fits _ (c.in_ok-put_history_read_result.ensures.spelled)));
 }

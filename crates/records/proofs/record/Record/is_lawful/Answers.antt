@@ -5,6 +5,7 @@ use Rattle.std.specs.Int.RustNames.{FitsSigned}
 use Rattle.std.proofs.lemmas.Bool.{leb-true, le-leb}
 use Rattle.stamp.specs.Limits.{IsReplica}
 use Rattle.std.specs.Str.{is_utf8}
+use Rattle.records.specs.Moments.{ticks_of}
 use Rattle.records.specs.Spelling.{HasLimits}
 use Rattle.records.proofs.Sizes.{lawful_by}
 use Rattle.records.proofs.record.Record.is_lawful.Goals as goal
@@ -12,7 +13,7 @@ use Rattle.records.proofs.record.Record.is_lawful.Goals as goal
 pub returns : goal.returns
 returns c =
     let limits : HasLimits c.args.self.now = search rules in
-    let fits : FitsSigned w64 c.args.self.now.time = search rules in
+    let fits : FitsSigned w64 (ticks_of c.args.self.now.time) = search rules in
     let utf8 : is_utf8 c.args.self.now.user ≡ true = search rules in
     let origin : IsReplica c.args.self.now.origin = search rules in
     let said = c.size-size.ensures in (

@@ -1,0 +1,41 @@
+-- Steps that something may come in the way of, and steps over an archive.
+use Rattle.std.specs.Prelude.{◌≡◌, List, [], ◌∷◌, ◌++◌}
+use Rattle.records.specs.Contents.{Content}
+use Rattle.archive.specs.Store.{Store, Mark, Fine, faults_of, Passes, HasContent}
+
+-- what depends on what comes in the way of its steps: by a mark for each of them, its value, and the marks that are left
+abbrev pub Marked : Type 0 → Type 0
+Marked A = List Mark → (A × List Mark)
+
+abbrev pub give : {A : Type 0} → A → Marked A
+give a marks = (a, marks)
+
+-- one step, by its mark; where none is left, nothing came in its way
+abbrev pub step : {A : Type 0} → (Mark → A) → Marked A
+step f [] = (f Fine, [])
+step f (mark ∷ marks) = (f mark, marks)
+
+-- some steps, and then those that their value leads to
+abbrev pub and_then : {A B : Type 0} → Marked A → (A → Marked B) → Marked B
+and_then first more marks = let a = first marks in more a.0 a.1
+
+-- the steps of each item of a list, over what those before it left: the values, and what is left
+abbrev pub each : {X Y S : Type 0} → (X → S → Marked (Y × S)) → List X → S → Marked (List Y × S)
+each f [] s marks = (([], s), marks)
+each f (x ∷ xs) s marks =
+    let here = f x s marks in
+    let later = each f xs here.0.1 here.1 in
+    ((here.0.0 ∷ later.0.0, later.0.1), later.1)
+
+-- by these marks, which are as many as it has steps, the value is a
+pub record Does {A : Type 0} (marked : Marked A) (used : List Mark) (a : A) : Type 0 where
+  pub does : (later : List Mark) → marked (used ++ later) ≡ (a, later)
+
+-- calls were made, in whose way this came; of each content that was held before them, To says one that is held now
+pub record Moves (old new : Store) (used : List Mark) (To : Content → Content → Type 0) : Type 0 where
+  pub passes : Passes old new (faults_of used)
+  pub acts : new.honest → (R : Content) → HasContent old R → (S : Content) × To R S × HasContent new S
+
+-- they answer, and leave, what the steps f say of what was held
+abbrev pub Acts : {X : Type 0} → Store → Store → List Mark → (Content → Marked (X × Content)) → X → Type 0
+Acts old new used f answer = Moves old new used (λ R S. Does (f R) used (answer, S))

@@ -1,0 +1,113 @@
+-- What the services do, by what the sessions' calls promise.
+use Rattle.std.proofs.Common.{◌≡◌, ◌⊎◌, inl, inr, ◌∙◌, ℕ, List, [], ◌∷◌, Some, None, Ok, Err, refl, sym, ap, subst}
+use Rattle.std.specs.Prelude.{Result, Option}
+use Rattle.ua_binary.specs.declared.codes.Status.{Status}
+use Rattle.ua_binary.specs.declared.codes.TheConstants.Status.{BAD_OUT_OF_MEMORY, BAD_DECODING_ERROR}
+use Rattle.ua_binary.specs.declared.values.NodeId.{NodeId}
+use Rattle.ua_binary.specs.declared.values.Ticks.{Ticks}
+use Rattle.ua_binary.specs.Format.{IsOrStarved}
+use Rattle.ua_session.specs.declared.fault.SessionFault.{SessionFault}
+use Rattle.ua_session.specs.declared.fault.SessionFault.TheVariants.{OutOfMemory}
+use Rattle.ua_session.specs.Fault.{code_of}
+use Rattle.ua_session.specs.Sessions.{State}
+use Rattle.records.specs.Contents.{Content}
+use Rattle.archive.specs.Store.{Mark, Fine, Starved, faults_of}
+use Rattle.archive.specs.Steps.{Marked, step, Does}
+use Rattle.historian.specs.declared.service.Service.{Service}
+use Rattle.historian.specs.declared.answer.Answer.{Answer as Made}
+use Rattle.historian.specs.Answers.{Answer, Response}
+use Rattle.historian.specs.Requests.{Call, call_in}
+use Rattle.historian.specs.Services.{Site, Outcome, called, served, answered_call}
+use Rattle.historian.specs.Telling.{Asks, answer_of, Tells, PerformsHere}
+
+-- a call that was read is served
+pub does-read : (site : Site) (now : Ticks) (token : NodeId) (o : Option Call) (call : Call) (sessions : State) (R : Content) (used : List Mark) (outcome : Outcome) → o ≡ Some call
+    → Does (served site now token call sessions R) used outcome → Does (answered_call site now token o sessions R) (Fine ∷ used) outcome
+does-read site now token o call sessions R used outcome is does =
+    subst (λ o. Does (answered_call site now token o sessions R) (Fine ∷ used) outcome) (sym is) (record { does = λ later. does.does later })
+
+-- none fills the bytes
+pub does-unread : (site : Site) (now : Ticks) (token : NodeId) (o : Option Call) (sessions : State) (R : Content) → o ≡ None
+    → Does (answered_call site now token o sessions R) (Fine ∷ []) ((Err BAD_DECODING_ERROR, sessions), R)
+does-unread site now token o sessions R is =
+    subst (λ o. Does (answered_call site now token o sessions R) (Fine ∷ []) ((Err BAD_DECODING_ERROR, sessions), R)) (sym is) (record { does = λ later. refl })
+
+-- memory for reading is wanting
+pub does-starved : (site : Site) (now : Ticks) (token : NodeId) (o : Option Call) (sessions : State) (R : Content)
+    → Does (answered_call site now token o sessions R) (Starved ∷ []) ((Err BAD_OUT_OF_MEMORY, sessions), R)
+does-starved site now token o sessions R = record { does = λ later. refl }
+
+-- the call can't be read, or memory for that is wanting
+pub performs-unread : {T : Type 0} (site : Site) (now : Ticks) (token : NodeId) (sessions : State) (service : Service) (call : T → Call) (bytes : List ℕ) (status : Status) (result : Result Made Status)
+    → Asks service call bytes (Err status) → result ≡ Err status → PerformsHere (answered_call site now token (call_in service bytes) sessions) sessions result
+performs-unread {T} site now token sessions service call bytes status result asks is =
+    let P : Result Made Status → Type 0 = PerformsHere (answered_call site now token (call_in service bytes) sessions) sessions in
+    subst P (sym is) (elim asks [
+      | inl bad ↦ (Fine ∷ [], Err BAD_DECODING_ERROR, refl, λ R. does-unread site now token (call_in service bytes) sessions R bad.1, inl (ap Err (sym bad.0)))
+      | inr starved ↦ (Starved ∷ [], Err BAD_OUT_OF_MEMORY, refl, λ R. does-starved site now token (call_in service bytes) sessions R, inr starved)
+    ])
+
+-- it is read and served
+pub performs-read : (site : Site) (now : Ticks) (token : NodeId) (sessions new : State) (service : Service) (call : Call) (bytes : List ℕ) (used : List Mark) (told : Response) (result : Result Made Status)
+    → call_in service bytes ≡ Some call → faults_of used ≡ [] → ((R : Content) → Does (served site now token call sessions R) used ((told, new), R)) → Tells told result
+    → PerformsHere (answered_call site now token (call_in service bytes) sessions) new result
+performs-read site now token sessions new service call bytes used told result is faultless does tells =
+    (Fine ∷ used, told, faultless, λ R. does-read site now token (call_in service bytes) call sessions R used ((told, new), R) is (does R), tells)
+
+-- ---- calls of the sessions
+
+abbrev pub stepped : (Mark → Response × State) → Content → Marked Outcome
+stepped f R = step (λ mark. (f mark, R))
+
+pub does-stepped : (f : Mark → Response × State) (mark : Mark) (told : Response) (new : State) (R : Content) → f mark ≡ (told, new) → Does (stepped f R) (mark ∷ []) ((told, new), R)
+does-stepped f mark told new R is = record { does = λ later. ap (λ (x : Response × State). let r : Outcome × List Mark = ((x, R), later) in r) is }
+
+pub called-done : {A : Type 0} (sessions : State) (done : A → Answer × State) (answer : Result A SessionFault) (a : A) → IsOrStarved OutOfMemory answer (Ok a)
+    → called sessions done answer Fine ≡ (Ok (done a).0, (done a).1)
+called-done sessions done (Ok b) a is = ap (λ x. called sessions done (Ok x) Fine) (sym is)
+called-done sessions done (Err fault) a is = absurd cc
+
+-- a call that is refused, or for which memory is wanting
+pub called-refused : {A : Type 0} (sessions : State) (done : A → Answer × State) (answer : Result A SessionFault) (fault : SessionFault) → IsOrStarved OutOfMemory answer (Err fault)
+    → (mark : Mark) × (faults_of (mark ∷ []) ≡ []) × (called sessions done answer mark ≡ (Err (code_of fault), sessions))
+called-refused sessions done (Ok b) fault is = (Starved, refl, ap (λ f. let r : Response × State = (Err (code_of f), sessions) in r) (sym is))
+called-refused {A} sessions done (Err other) fault is =
+    let same : other ≡ fault = cc in
+    (Fine, refl, ap (λ f. let r : Response × State = (Err (code_of f), sessions) in r) same)
+
+-- memory was wanting before the call
+pub performs-starved : (site : Site) (now : Ticks) (token : NodeId) (sessions : State) (service : Service) (bytes : List ℕ) (status : Status) (result : Result Made Status) → status ≡ BAD_OUT_OF_MEMORY → result ≡ Err status
+    → PerformsHere (answered_call site now token (call_in service bytes) sessions) sessions result
+performs-starved site now token sessions service bytes status result starved is =
+    let P : Result Made Status → Type 0 = PerformsHere (answered_call site now token (call_in service bytes) sessions) sessions in
+    subst P (sym is) (Starved ∷ [], Err BAD_OUT_OF_MEMORY, refl, λ R. does-starved site now token (call_in service bytes) sessions R, inr starved)
+
+-- a call of the sessions was made
+pub performs-called : (site : Site) (now : Ticks) (token : NodeId) (sessions new : State) (service : Service) (call : Call) (bytes : List ℕ) (f : Mark → Response × State) (mark : Mark) (told : Response) (result : Result Made Status)
+    → call_in service bytes ≡ Some call → ((R : Content) (marks : List Mark) → served site now token call sessions R marks ≡ stepped f R marks) → faults_of (mark ∷ []) ≡ [] → f mark ≡ (told, new) → Tells told result
+    → PerformsHere (answered_call site now token (call_in service bytes) sessions) new result
+performs-called site now token sessions new service call bytes f mark told result is same faultless does tells =
+    performs-read site now token sessions new service call bytes (mark ∷ []) told result is faultless
+    (λ R. record { does = λ later. same R (mark ∷ later) ∙ (does-stepped f mark told new R does).does later }) tells
+
+-- a call that was refused, or for which memory was wanting
+pub performs-refused : {A : Type 0} (site : Site) (now : Ticks) (token : NodeId) (sessions new : State) (service : Service) (call : Call) (bytes : List ℕ) (done : A → Answer × State) (answer : Result A SessionFault)
+    (fault : SessionFault) (status : Status) (result : Result Made Status)
+    → call_in service bytes ≡ Some call → ((R : Content) (marks : List Mark) → served site now token call sessions R marks ≡ stepped (called sessions done answer) R marks) → IsOrStarved OutOfMemory answer (Err fault) → new ≡ sessions
+    → status ≡ code_of fault → result ≡ Err status → PerformsHere (answered_call site now token (call_in service bytes) sessions) new result
+performs-refused {A} site now token sessions new service call bytes done answer fault status result is same refused stays code err =
+    let r = called-refused sessions done answer fault refused in
+    let P : State → Type 0 = λ s. PerformsHere (answered_call site now token (call_in service bytes) sessions) s result in
+    let Q : Result Made Status → Type 0 = λ x. PerformsHere (answered_call site now token (call_in service bytes) sessions) sessions x in
+    subst P (sym stays) (subst Q (sym err)
+    (performs-called site now token sessions sessions service call bytes (called sessions done answer) r.0 (Err (code_of fault)) (Err status) is same r.1 r.2 (inl (ap Err (sym code)))))
+
+-- one that was done
+pub performs-done : {A : Type 0} (site : Site) (now : Ticks) (token : NodeId) (sessions new : State) (service : Service) (call : Call) (bytes : List ℕ) (done : A → Answer × State) (answer : Result A SessionFault)
+    (a : A) (made : Made)
+    → call_in service bytes ≡ Some call → ((R : Content) (marks : List Mark) → served site now token call sessions R marks ≡ stepped (called sessions done answer) R marks) → IsOrStarved OutOfMemory answer (Ok a) → new ≡ (done a).1
+    → (done a).0 ≡ answer_of made → PerformsHere (answered_call site now token (call_in service bytes) sessions) new (Ok made)
+performs-done {A} site now token sessions new service call bytes done answer a made is same given leaves tells =
+    let P : State → Type 0 = λ s. PerformsHere (answered_call site now token (call_in service bytes) sessions) s (Ok made) in
+    subst P (sym leaves)
+    (performs-called site now token sessions (done a).1 service call bytes (called sessions done answer) Fine (Ok (done a).0) (Ok made) is same refl (called-done sessions done answer a given) (ap Ok tells))

@@ -1,0 +1,67 @@
+-- What the services answer, and the responses that tell it (Part 4, 7.34 and 7.35).
+use Rattle.std.specs.Prelude.{ℕ, List, [], ◌++◌, map, Result, Ok, Err}
+use Rattle.ua_binary.specs.declared.codes.Status.{Status}
+use Rattle.ua_binary.specs.declared.codes.TheConstants.Status.{GOOD}
+use Rattle.ua_binary.specs.declared.values.NodeId.TheVariants.{Numeric}
+use Rattle.ua_binary.specs.declared.values.Ticks.{Ticks}
+use Rattle.ua_binary.specs.Binary.{node_id}
+use Rattle.ua_variant.specs.declared.data.DataValue.{DataValue}
+use Rattle.ua_channel.specs.Headers.{response_header}
+use Rattle.ua_services.specs.Endpoints.{EndpointFields, get_endpoints_response}
+use Rattle.ua_services.specs.Sessions.{SessionMade, create_session_response, activate_session_response}
+use Rattle.ua_services.specs.Browsing.{browsed_fields, browse_response}
+use Rattle.ua_services.specs.Attributes.{read_response}
+use Rattle.ua_services.specs.Updates.{update_fields, history_update_response}
+use Rattle.ua_services.specs.History.{history_fields, history_read_response}
+use Rattle.ua_services.specs.declared.browsing.BrowseResult.{BrowseResult}
+use Rattle.ua_services.specs.declared.updates.HistoryUpdateResult.{HistoryUpdateResult}
+use Rattle.ua_services.specs.declared.history.HistoryReadResult.{HistoryReadResult}
+
+-- what a service answers
+pub data Answer : Type 0 where
+  Endpoints : List EndpointFields → Answer
+  Created : SessionMade → Answer
+  Activated : Answer
+  Closed : Answer
+  Browsed : List BrowseResult → Answer
+  Values : List DataValue → Answer
+  Updated : List HistoryUpdateResult → Answer
+  Histories : List HistoryReadResult → Answer
+
+-- its answer, or the code that refuses the request
+abbrev pub Response : Type 0
+Response = Result Answer Status
+
+-- the type id of the structure that carries it
+abbrev pub type_of : Answer → ℕ
+type_of (Endpoints endpoints) = 431
+type_of (Created made) = 464
+type_of Activated = 470
+type_of Closed = 476
+type_of (Browsed results) = 530
+type_of (Values values) = 634
+type_of (Updated results) = 703
+type_of (Histories results) = 667
+
+-- what that has behind its header
+abbrev pub body_of : Answer → List ℕ
+body_of (Endpoints endpoints) = get_endpoints_response.canon endpoints
+body_of (Created made) = create_session_response.canon made
+body_of Activated = activate_session_response.canon tt
+body_of Closed = []
+body_of (Browsed results) = browse_response.canon (map browsed_fields results)
+body_of (Values values) = read_response.canon values
+body_of (Updated results) = history_update_response.canon (map update_fields results)
+body_of (Histories results) = history_read_response.canon (map history_fields results)
+
+-- what each response begins with: a type id, the moment, the request's handle, a status
+abbrev pub head : ℕ → Ticks → ℕ → Status → List ℕ
+head type now handle status = node_id.canon (Numeric 0 type) ++ response_header.canon (now, (handle, status))
+
+-- a refusal is told by a ServiceFault, which is the head alone
+abbrev pub service_fault : Ticks → ℕ → Status → List ℕ
+service_fault now handle status = head 397 now handle status
+
+abbrev pub response : Ticks → ℕ → Response → List ℕ
+response now handle (Ok answer) = head (type_of answer) now handle GOOD ++ body_of answer
+response now handle (Err status) = service_fault now handle status

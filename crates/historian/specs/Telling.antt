@@ -1,0 +1,60 @@
+-- How the services' functions tell what they came to.
+use Rattle.std.specs.Prelude.{◌≡◌, ◌⊎◌, ◌<◌, ◌^◌, ℕ, List, [], ◌∷◌, map, Option, Some, None, Result, Ok, Err}
+use Rattle.ua_binary.specs.declared.codes.Status.{Status}
+use Rattle.ua_binary.specs.declared.codes.TheConstants.Status.{BAD_OUT_OF_MEMORY, BAD_DECODING_ERROR}
+use Rattle.ua_services.specs.Endpoints.{endpoint_fields, AreShortEndpoints}
+use Rattle.ua_services.specs.Sessions.{session_made, IsShortSession}
+use Rattle.ua_services.specs.Browsing.{AreShortBrowsed}
+use Rattle.ua_services.specs.Attributes.{AreShortValues}
+use Rattle.ua_services.specs.Updates.{AreShortUpdates}
+use Rattle.ua_services.specs.History.{AreShortHistoryReads}
+use Rattle.ua_session.specs.Sessions.{State}
+use Rattle.records.specs.Contents.{Content}
+use Rattle.archive.specs.Store.{Store, Mark, faults_of}
+use Rattle.archive.specs.Steps.{Marked, Does, Acts}
+use Rattle.historian.specs.declared.service.Service.{Service}
+use Rattle.historian.specs.declared.answer.Answer.{Answer as Made}
+use Rattle.historian.specs.declared.answer.Answer.TheVariants as made
+use Rattle.historian.specs.Answers.{Answer, Endpoints, Created, Activated, Closed, Browsed, Values, Updated, Histories, Response}
+use Rattle.historian.specs.Requests.{Call, call_in}
+use Rattle.historian.specs.Services.{Outcome}
+
+-- a request was read, or none fills the bytes, or memory was wanting
+abbrev pub Asks : {T : Type 0} → Service → (T → Call) → List ℕ → Result T Status → Type 0
+Asks service call bytes (Ok request) = call_in service bytes ≡ Some (call request)
+Asks service call bytes (Err status) = ((status ≡ BAD_DECODING_ERROR) × (call_in service bytes ≡ None)) ⊎ (status ≡ BAD_OUT_OF_MEMORY)
+
+-- an answer of the code as one of the services
+abbrev pub answer_of : Made → Answer
+answer_of (made.Endpoints endpoints) = Endpoints (map endpoint_fields endpoints.items)
+answer_of (made.Created session) = Created (session_made session)
+answer_of made.Activated = Activated
+answer_of made.Closed = Closed
+answer_of (made.Browsed results) = Browsed results.items
+answer_of (made.Values values) = Values values.items
+answer_of (made.Updated results) = Updated results.items
+answer_of (made.Histories results) = Histories results.items
+
+-- it can be written
+abbrev pub IsShort : Made → Type 0
+IsShort (made.Endpoints endpoints) = AreShortEndpoints endpoints.items
+IsShort (made.Created session) = IsShortSession session
+IsShort made.Activated = Unit {0}
+IsShort made.Closed = Unit {0}
+IsShort (made.Browsed results) = AreShortBrowsed results.items
+IsShort (made.Values values) = AreShortValues values.items
+IsShort (made.Updated results) = AreShortUpdates results.items
+IsShort (made.Histories results) = AreShortHistoryReads results.items
+
+-- the answer was made; or it is told why there is none, or that memory was wanting
+abbrev pub Tells : Response → Result Made Status → Type 0
+Tells told (Ok answer) = told ≡ Ok (answer_of answer)
+Tells told (Err status) = (told ≡ Err status) ⊎ (status ≡ BAD_OUT_OF_MEMORY)
+
+-- a service was performed over an archive, and what it came to is told
+abbrev pub Performs : Store → Store → (Content → Marked Outcome) → State → Result Made Status → Type 0
+Performs old new service sessions result = (used : List Mark) × (told : Response) × Acts old new used service (told, sessions) × Tells told result
+
+-- the same of a service that asks no archive
+abbrev pub PerformsHere : (Content → Marked Outcome) → State → Result Made Status → Type 0
+PerformsHere service sessions result = (used : List Mark) × (told : Response) × (faults_of used ≡ []) × ((R : Content) → Does (service R) used ((told, sessions), R)) × Tells told result

@@ -1,0 +1,75 @@
+//! What the services answer, and the responses that tell it (Part 4, 7.34).
+
+ghost use Rattle.std.specs.Prelude.{◌≡◌, ◌++◌, Ok, OnOk, IfErr};
+ghost use Rattle.historian.specs.Answers.{type_of, body_of, response};
+ghost use Rattle.historian.specs.Telling.{answer_of, IsShort};
+
+use crate::responses::put_head;
+use ua_binary::{BinaryFault, Status, Ticks};
+use ua_services::{
+    BrowseResult, CreateSessionResponse, EndpointDescription, HistoryReadResult,
+    HistoryUpdateResult, put_activate_session_response, put_browse_response,
+    put_create_session_response, put_get_endpoints_response, put_history_read_response,
+    put_history_update_response, put_read_response,
+};
+use ua_variant::DataValue;
+
+/// What a service answers.
+#[derive(Debug, Drop)]
+pub(crate) enum Answer {
+    Endpoints(Vec<EndpointDescription>),
+    Created(CreateSessionResponse),
+    Activated,
+    Closed,
+    Browsed(Vec<BrowseResult>),
+    Values(Vec<DataValue>),
+    Updated(Vec<HistoryUpdateResult>),
+    Histories(Vec<HistoryReadResult>),
+}
+
+impl Answer {
+    /// The type id of the structure that carries it.
+    fn type_id(&self) -> u32
+        ensures { result ≡ type_of (answer_of self.now) }
+    {
+        match self {
+            Answer::Endpoints(_) => 431,
+            Answer::Created(..) => 464,
+            Answer::Activated => 470,
+            Answer::Closed => 476,
+            Answer::Browsed(_) => 530,
+            Answer::Values(_) => 634,
+            Answer::Updated(_) => 703,
+            Answer::Histories(_) => 667,
+        }
+    }
+
+    /// Appends what the response has behind its header. The one error is `OutOfMemory`.
+    fn put_body(&self, out: &mut Vec<u8>) -> Result<(), BinaryFault>
+        requires { IsShort self.now }
+        ensures ok { OnOk result (out.new.items ≡ out.old.items ++ body_of (answer_of self.now)) }
+        ensures err { IfErr result (λ fault. fault ≡ BinaryFault.OutOfMemory) }
+    {
+        match self {
+            Answer::Endpoints(endpoints) => put_get_endpoints_response(out, endpoints),
+            Answer::Created(session) => put_create_session_response(out, session),
+            Answer::Activated => put_activate_session_response(out),
+            Answer::Closed => Ok(()),
+            Answer::Browsed(results) => put_browse_response(out, results),
+            Answer::Values(values) => put_read_response(out, values),
+            Answer::Updated(results) => put_history_update_response(out, results),
+            Answer::Histories(results) => put_history_read_response(out, results),
+        }
+    }
+
+    /// Appends the response to a request with this handle. The one error is `OutOfMemory`, which may leave
+    /// a part.
+    pub(crate) fn put(&self, out: &mut Vec<u8>, now: Ticks, handle: u32) -> Result<(), BinaryFault>
+        requires { IsShort self.now }
+        ensures ok { OnOk result (out.new.items ≡ out.old.items ++ response now handle (Ok (answer_of self.now))) }
+        ensures err { IfErr result (λ fault. fault ≡ BinaryFault.OutOfMemory) }
+    {
+        put_head(out, self.type_id(), now, handle, Status::GOOD)?;
+        self.put_body(out)
+    }
+}

@@ -1,0 +1,15 @@
+//! The services of the historian (Part 4; Part 11, Historical Access): what each message of a client is
+//! answered, over any archive.
+#![tactic(auto)]
+
+mod answer;
+mod endpoints;
+mod message;
+mod requests;
+mod responses;
+mod service;
+mod sessions;
+
+pub use message::answer_message;
+pub use responses::put_service_fault;
+pub use service::handle_of;

@@ -1,0 +1,106 @@
+//! Messages of a client, and their answers (Part 4, 7.33 to 7.35).
+
+ghost use Rattle.std.specs.Prelude.{◌≡◌, [], List, IfOk, OnOk};
+ghost use Rattle.ua_binary.specs.Binary.{node_of};
+ghost use Rattle.archive.specs.Store.{Mark};
+ghost use Rattle.archive.specs.Steps.{Acts};
+ghost use Rattle.historian.specs.Answers.{Response, response};
+ghost use Rattle.historian.specs.Requests.{call_in, handle_of};
+ghost use Rattle.historian.specs.Services.{site_of, answered_call, answered};
+ghost use Rattle.historian.specs.Telling.{IsShort, Performs};
+
+use crate::answer::Answer;
+use crate::responses::put_service_fault;
+use crate::service::{Service, handle_of, service_of};
+use crate::sessions::{activate_session, close_session, create_session, get_endpoints};
+use archive::Archive;
+use std::alloc::{AllocError, Global};
+use ua_binary::{Cursor, NodeIdRef, Status, Ticks};
+use ua_channel::read_request_header;
+use ua_session::Sessions;
+use ua_settings::Settings;
+
+/// Performs a service, by the token of the request's header and what stands behind that.
+fn serve<A: Archive>(
+    alloc: Global,
+    settings: &Settings,
+    archive: &mut A,
+    sessions: &mut Sessions,
+    now: Ticks,
+    service: Service,
+    token: NodeIdRef<'_>,
+    request: Cursor<'_>,
+) -> Result<Answer, Status>
+    ensures performs { Performs (A.state archive.old) (A.state archive.new)
+        (answered_call (site_of settings.now (A.state archive.old)) now (node_of token.entry) (call_in service request.entry) sessions.old) sessions.new result }
+    ensures short { IfOk result IsShort }
+{
+    match service {
+        Service::GetEndpoints => get_endpoints(alloc, settings, request),
+        Service::CreateSession => create_session(alloc, settings, sessions, request),
+        Service::ActivateSession => activate_session(settings, sessions, token, request),
+        Service::CloseSession => close_session(sessions, token, request),
+        _ => Err(Status::BAD_DECODING_ERROR),
+    }
+}
+
+/// Performs what a message asks, in the order type id, header, body, session, what the service asks.
+fn perform<A: Archive>(
+    alloc: Global,
+    settings: &Settings,
+    archive: &mut A,
+    sessions: &mut Sessions,
+    now: Ticks,
+    message: &[u8],
+) -> Result<Answer, Status>
+    ensures performs { Performs (A.state archive.old) (A.state archive.new) (answered (site_of settings.now (A.state archive.old)) now message.now sessions.old) sessions.new result }
+    ensures short { IfOk result IsShort }
+{
+    let mut request = Cursor::new(message);
+    let type_id = request.node_id()?;
+    let Some(service) = service_of(type_id) else {
+        return Err(Status::BAD_SERVICE_UNSUPPORTED);
+    };
+    let header = read_request_header(&mut request)?;
+    serve(
+        alloc,
+        settings,
+        archive,
+        sessions,
+        now,
+        service,
+        header.token,
+        request,
+    )
+}
+
+/// Answers a message of a client: performs what it asks, and makes the bytes of the response in `body`, which is empty.
+///
+/// Where the type id can't be read, the service isn't served, or the header or the body can't be read, where the session
+/// isn't there or wasn't activated, and where the service refuses the request as a whole, the response is a ServiceFault
+/// that says so. The one error is want of memory for the response; what the service did stands then.
+pub fn answer_message<A: Archive>(
+    alloc: Global,
+    settings: &Settings,
+    archive: &mut A,
+    sessions: &mut Sessions,
+    now: Ticks,
+    message: &[u8],
+    body: &mut Vec<u8>,
+) -> Result<(), AllocError>
+    requires { body.old.items ≡ [] }
+    ensures { (used : List Mark) × (told : Response)
+        × Acts (A.state archive.old) (A.state archive.new) used (answered (site_of settings.now (A.state archive.old)) now message.now sessions.old) (told, sessions.new)
+        × OnOk result (body.new.items ≡ response now (handle_of message.now) told) }
+{
+    let handle = handle_of(message);
+    let put = match perform(alloc, settings, archive, sessions, now, message) {
+        Ok(answer) => answer.put(body, now, handle),
+        Err(Status::BAD_OUT_OF_MEMORY) => return Err(AllocError),
+        Err(status) => put_service_fault(body, now, handle, status),
+    };
+    match put {
+        Ok(()) => Ok(()),
+        Err(_) => Err(AllocError),
+    }
+}

@@ -1,0 +1,68 @@
+//! Requests, each read by itself: what the service is asked by the bytes behind the header, all of them.
+
+ghost use Rattle.std.specs.Prelude.{◌≡◌, map};
+ghost use Rattle.ua_session.specs.Users.{claim_of};
+ghost use Rattle.ua_services.specs.Endpoints.{endpoints_asked};
+ghost use Rattle.ua_services.specs.Browsing.{browse_fields};
+ghost use Rattle.ua_services.specs.Attributes.{read_asked};
+ghost use Rattle.ua_services.specs.History.{history_asked};
+ghost use Rattle.historian.specs.declared.service.Service.TheVariants as service;
+ghost use Rattle.historian.specs.Requests.{GetEndpoints, CreateSession, ActivateSession, CloseSession, Browse, Read, HistoryRead, nothing_left};
+ghost use Rattle.historian.specs.Telling.{Asks};
+
+use std::alloc::Global;
+use ua_binary::{Cursor, Status};
+use ua_services::{
+    ActivateSessionRequest, CreateSessionRequest, GetEndpointsRequest,
+    read_activate_session_request, read_close_session_request, read_create_session_request,
+    read_get_endpoints_request,
+};
+
+/// Refuses bytes that stand behind a request.
+fn refuse_more(cursor: &Cursor<'_>) -> Result<(), Status>
+    ensures { result ≡ nothing_left cursor.now }
+{
+    if cursor.rest().is_empty() {
+        Ok(())
+    } else {
+        Err(Status::BAD_DECODING_ERROR)
+    }
+}
+
+pub(crate) fn endpoints_request<'a>(
+    alloc: Global,
+    mut request: Cursor<'a>,
+) -> Result<GetEndpointsRequest<'a>, Status>
+    ensures { Asks service.GetEndpoints (λ asked. GetEndpoints (endpoints_asked asked).1) request.entry result }
+{
+    let asked = read_get_endpoints_request(alloc, &mut request)?;
+    refuse_more(&request)?;
+    Ok(asked)
+}
+
+pub(crate) fn creation_request<'a>(
+    mut request: Cursor<'a>,
+) -> Result<CreateSessionRequest<'a>, Status>
+    ensures { Asks service.CreateSession (λ asked. CreateSession asked.timeout) request.entry result }
+{
+    let asked = read_create_session_request(&mut request)?;
+    refuse_more(&request)?;
+    Ok(asked)
+}
+
+pub(crate) fn activation_request<'a>(
+    mut request: Cursor<'a>,
+) -> Result<ActivateSessionRequest<'a>, Status>
+    ensures { Asks service.ActivateSession (λ asked. ActivateSession (claim_of asked.user_identity)) request.entry result }
+{
+    let asked = read_activate_session_request(&mut request)?;
+    refuse_more(&request)?;
+    Ok(asked)
+}
+
+pub(crate) fn closing_request(mut request: Cursor<'_>) -> Result<(), Status>
+    ensures { Asks service.CloseSession (λ _. CloseSession) request.entry result }
+{
+    let _asked = read_close_session_request(&mut request)?;
+    refuse_more(&request)
+}

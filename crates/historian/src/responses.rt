@@ -1,0 +1,41 @@
+//! What every response begins with (Part 4, 7.34 and 7.35).
+
+ghost use Rattle.std.specs.Prelude.{◌≡◌, ◌++◌, OnOk, IfErr};
+ghost use Rattle.historian.specs.Answers.{head, service_fault};
+
+use ua_binary::{BinaryFault, NodeId, Status, Ticks, put_node_id};
+use ua_channel::put_response_header;
+
+/// The type id of a ServiceFault.
+const SERVICE_FAULT: u32 = 397;
+
+/// Appends what every response begins with: its type id, the moment, the request's handle and a status.
+/// The one error is `OutOfMemory`, which may leave a part.
+pub(crate) fn put_head(
+    out: &mut Vec<u8>,
+    type_id: u32,
+    now: Ticks,
+    handle: u32,
+    status: Status,
+) -> Result<(), BinaryFault>
+    ensures ok { OnOk result (out.new.items ≡ out.old.items ++ head type_id now handle status) }
+    ensures err { IfErr result (λ fault. fault ≡ BinaryFault.OutOfMemory) }
+{
+    put_node_id(out, &NodeId::Numeric(0, type_id))?;
+    put_response_header(now, handle, status, out)?;
+    Ok(())
+}
+
+/// Appends a ServiceFault with this status (Part 4, 7.35). The one error is `OutOfMemory`, which may leave a
+/// part.
+pub fn put_service_fault(
+    out: &mut Vec<u8>,
+    now: Ticks,
+    handle: u32,
+    status: Status,
+) -> Result<(), BinaryFault>
+    ensures ok { OnOk result (out.new.items ≡ out.old.items ++ service_fault now handle status) }
+    ensures err { IfErr result (λ fault. fault ≡ BinaryFault.OutOfMemory) }
+{
+    put_head(out, SERVICE_FAULT, now, handle, status)
+}

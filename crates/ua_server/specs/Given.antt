@@ -1,0 +1,49 @@
+-- What an answering gets from outside: what comes in the way of its steps, and the time.
+use Rattle.std.specs.Prelude.{◌≡◌, ℤ, pos, Bool, true, false, List, [], ◌∷◌, ◌++◌, if◌then◌else◌}
+use Rattle.ua_binary.specs.declared.values.Ticks.{Ticks}
+use Rattle.archive.specs.Store.{Mark, Starved}
+use Rattle.archive.specs.Steps.{Marked, step}
+
+-- a mark for each step that something may come in the way of, and the readings of the clock
+pub record Outside : Type 0 where
+  pub marks : List Mark
+  pub readings : List ℤ
+
+-- what was used, before what is left for later
+abbrev pub before : Outside → Outside → Outside
+before used later = record { marks = used.marks ++ later.marks; readings = used.readings ++ later.readings }
+
+-- what depends on the outside: its value, and what of the outside is left
+abbrev pub Given : Type 0 → Type 0
+Given A = Outside → (A × Outside)
+
+abbrev pub give : {A : Type 0} → A → Given A
+give a outside = (a, outside)
+
+-- some steps, and then those that their value leads to
+abbrev pub and_then : {A B : Type 0} → Given A → (A → Given B) → Given B
+and_then first more outside = let a = first outside in more a.0 a.1
+
+-- steps that don't ask for the time
+abbrev pub by_marks : {A : Type 0} → Marked A → Given A
+by_marks marked outside = let a = marked outside.marks in (a.0, record outside { marks = a.1 })
+
+abbrev pub is_starved : Mark → Bool
+is_starved Starved = true
+is_starved mark = false
+
+-- a step that takes memory: the first where memory is there, the second where it is wanting
+abbrev pub made : {A : Type 0} → Given A → Given A → Given A
+made went starved = and_then (by_marks (step is_starved)) (λ starves. if starves then starved else went)
+
+-- the next reading; where none is left it is 0
+abbrev pub next_reading : List ℤ → (Ticks × List ℤ)
+next_reading [] = (record { 0 = pos 0 }, [])
+next_reading (now ∷ readings) = (record { 0 = now }, readings)
+
+abbrev pub clock : Given Ticks
+clock outside = let r = next_reading outside.readings in (r.0, record outside { readings = r.1 })
+
+-- by this, and no more, of the outside the value is a
+pub record Does {A : Type 0} (given : Given A) (used : Outside) (a : A) : Type 0 where
+  pub does : (later : Outside) → given (before used later) ≡ (a, later)

@@ -1,0 +1,33 @@
+-- What a server is set to.
+use Rattle.std.specs.Prelude.{◌≤◌, List, [], ℕ, length, replicate, codes, true, Option, None, IfSome}
+use Rattle.ua_session.specs.Users.{Allowed}
+use Rattle.ua_space.specs.declared.layout.Layout.{Layout}
+
+-- the archive's id, the number of this replica of it, and the file of its store, none for memory; where the server listens, the URL of its
+-- endpoint, the URI of the application; who may use it; and its nodes
+pub record Values : Type 0 where
+  pub archive : List ℕ
+  pub replica : ℕ
+  pub store : Option (List ℕ)
+  pub listen : List ℕ
+  pub url : List ℕ
+  pub application : List ℕ
+  pub users : Allowed
+  pub space : Layout
+
+-- without settings: replica 1 of the archive whose id is all zeros, in memory; any user without a name; no variables
+unfoldable pub bare : Values
+bare = record {
+  archive = replicate 16 0;
+  replica = 1;
+  store = None;
+  listen = codes "127.0.0.1:4840";
+  url = codes "opc.tcp://localhost:4840";
+  application = codes "urn:uahist";
+  users = record { anonymous = true; named = [] };
+  space = record { namespace = codes "urn:uahist:archive"; folders = []; variables = [] };
+}
+
+-- a text of settings has at most 65,536 bytes
+abbrev pub IsShort : List ℕ → Type 0
+IsShort text = length text ≤ 65536

@@ -1,0 +1,136 @@
+//! The settings of a server.
+
+ghost use Rattle.std.specs.Prelude.{◌≡◌, IfOk, IfErr, IfSome, ℕ, List, Option};
+ghost use Rattle.std.specs.Option.{option_copied};
+ghost use Rattle.ua_session.specs.Users.{Allowed};
+ghost use Rattle.ua_space.specs.declared.layout.Layout.{Layout};
+ghost use Rattle.ua_settings.specs.Settings.{bare, IsShort};
+
+use crate::fault::SettingsFault;
+use stamp::ReplicaNo;
+use std::alloc::Global;
+use std::marker::Model;
+use ua_binary::Text;
+use ua_session::Users;
+use ua_space::{Plan, Space};
+use uuid::Uuid;
+
+/// What a server is set to. Each text has at most 65,536 bytes.
+#[derive(Debug, Drop)]
+pub struct Settings {
+    archive: Uuid,
+    replica: ReplicaNo,
+    store: Option<Text>,
+    listen: Text,
+    url: Text,
+    application: Text,
+    users: Users,
+    space: Space,
+}
+
+impl Model for Settings {
+    ghost use Rattle.ua_settings.specs.Settings.{Values, IsShort};
+
+    ghost Value = { Values };
+
+    ghost view = { λ s. record { archive = s.archive; replica = s.replica; store = s.store; listen = s.listen; url = s.url; application = s.application; users = s.users; space = s.space } };
+
+    ghost invariant = { λ s. IsShort s.url × IsShort s.application };
+}
+
+impl Settings {
+    /// The settings of a server that was given none: replica 1 of the archive whose id is all zeros, in
+    /// memory; `opc.tcp://localhost:4840`, the application `urn:uahist`, the namespace `urn:uahist:archive`
+    /// without variables, and any user without a name. The one error is `OutOfMemory`.
+    #[tactic(auto, unfolding(crate::specs::Settings::bare))]
+    pub fn bare(alloc: Global) -> Result<Settings, SettingsFault>
+        ensures ok { IfOk result (λ settings. settings ≡ bare) }
+        ensures err { IfErr result (λ fault. fault ≡ SettingsFault.OutOfMemory) }
+    {
+        let Some(replica) = ReplicaNo::new(1) else {
+            return Err(SettingsFault::OutOfMemory);
+        };
+        let listen = Text::from_str(alloc, "127.0.0.1:4840")?;
+        let url = Text::from_str(alloc, "opc.tcp://localhost:4840")?;
+        let application = Text::from_str(alloc, "urn:uahist")?;
+        let plan = Plan {
+            namespace: "urn:uahist:archive",
+            folders: &[],
+            variables: &[],
+        };
+        let Ok(space) = Space::build(alloc, &plan) else {
+            return Err(SettingsFault::OutOfMemory);
+        };
+        Ok(Settings {
+            archive: Uuid::nil(),
+            replica,
+            store: None,
+            listen,
+            url,
+            application,
+            users: Users::new(alloc, true),
+            space,
+        })
+    }
+
+    /// The id of the archive.
+    pub fn archive(&self) -> Uuid
+        ensures { result ≡ self.now.archive }
+    {
+        self.archive
+    }
+
+    /// The number of this replica of it.
+    pub fn replica(&self) -> ReplicaNo
+        ensures { result ≡ self.now.replica }
+    {
+        self.replica
+    }
+
+    /// The file of its store; none for memory.
+    pub fn store(&self) -> Option<&str>
+        ensures { option_copied result ≡ self.now.store }
+    {
+        match &self.store {
+            None => None,
+            Some(path) => Some(path.as_str()),
+        }
+    }
+
+    /// Where the server listens.
+    pub fn listen(&self) -> &str
+        ensures { result.now ≡ self.now.listen }
+    {
+        self.listen.as_str()
+    }
+
+    /// The URL of the server's endpoint.
+    pub fn url(&self) -> &str
+        ensures same { result.now ≡ self.now.url }
+        ensures short { IsShort result.now }
+    {
+        self.url.as_str()
+    }
+
+    /// The URI of the application.
+    pub fn application(&self) -> &str
+        ensures same { result.now ≡ self.now.application }
+        ensures short { IsShort result.now }
+    {
+        self.application.as_str()
+    }
+
+    /// Who may activate a session.
+    pub fn users(&self) -> &Users
+        ensures { result.now ≡ self.now.users }
+    {
+        &self.users
+    }
+
+    /// The nodes of the server.
+    pub fn space(&self) -> &Space
+        ensures { result.now ≡ self.now.space }
+    {
+        &self.space
+    }
+}

@@ -1,0 +1,4 @@
+pub mod Ids
+pub mod Nodes
+pub mod Found
+pub mod Hanging

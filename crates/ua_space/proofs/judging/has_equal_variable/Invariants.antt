@@ -1,0 +1,6 @@
+use Rattle.std.proofs.Common.{◌≡◌, drop, map}
+use Rattle.ua_space.specs.Plan.{have_equal, variable_id}
+use Rattle.ua_space.proofs.judging.has_equal_variable.Given as goal
+
+abbrev pub invariant-loop-i : goal.invariant-loop-i
+invariant-loop-i l = have_equal (map variable_id l.variables) ≡ have_equal (map variable_id (drop l.i l.variables))

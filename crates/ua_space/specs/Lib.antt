@@ -1,0 +1,5 @@
+pub mod Fault
+pub mod Plan
+pub mod Space
+pub mod Attributes
+pub mod References

@@ -1,0 +1,165 @@
+-- The references of the nodes (Part 3, 4.3.4 and 7), and what a browse finds of them (Part 4, 5.9.2).
+use Rattle.std.specs.Prelude.{ℕ, Bool, true, false, not, ◌==◌, ◌&&◌, ◌||◌, List, [], ◌∷◌, ◌++◌, map, filter, nat_eq, Option, None, Some, option_map, option_to_list, find, is_none, Result, Ok, Err, if◌then◌else◌}
+use Rattle.std.specs.List.{list_any}
+use Rattle.std.specs.Cmp.Lexicographic.{pointwise}
+use Rattle.ua_binary.specs.declared.values.NodeId.{NodeId}
+use Rattle.ua_binary.specs.declared.values.NodeId.TheVariants.{Numeric}
+use Rattle.ua_binary.specs.declared.values.QualifiedName.{QualifiedName}
+use Rattle.ua_binary.specs.declared.values.LocalizedText.{LocalizedText}
+use Rattle.ua_variant.specs.DataValue.{has}
+use Rattle.ua_binary.specs.declared.codes.Status.{Status}
+use Rattle.ua_binary.specs.declared.codes.TheConstants.Status.{BAD_NODE_ID_UNKNOWN, BAD_BROWSE_DIRECTION_INVALID, BAD_REFERENCE_TYPE_ID_INVALID}
+use Rattle.ua_space.specs.declared.node.Variable.{Variable}
+use Rattle.ua_space.specs.declared.link.ReferenceType.{ReferenceType}
+use Rattle.ua_space.specs.declared.link.ReferenceType.TheVariants.{Organizes, HasTypeDefinition}
+use Rattle.ua_space.specs.declared.link.Link.{Link as Lent}
+use Rattle.ua_services.specs.declared.browsing.BrowseDirection.{BrowseDirection}
+use Rattle.ua_services.specs.declared.browsing.BrowseDirection.TheVariants.{Forward, Inverse, Both}
+use Rattle.ua_services.specs.declared.browsing.ReferenceDescription.{ReferenceDescription}
+use Rattle.ua_services.specs.declared.browsing.NodeClass.{NodeClass}
+use Rattle.ua_services.specs.declared.browsing.NodeClass.TheVariants.{Unspecified}
+use Rattle.ua_services.specs.Browsing.{BrowseFields, class_number}
+use Rattle.ua_space.specs.declared.layout.Layout.{Layout}
+use Rattle.ua_space.specs.Space.{Node, Root, Objects, OfFolder, OfVariable, FolderType, BaseDataVariableType, id_of, node_of, class_of, browse_name_of, display_name_of, has_folder_id, node_at}
+
+-- ---- the references of a node
+
+-- a reference from a node, and the node that it leads to
+pub record Link : Type 0 where
+  pub reference_type : ReferenceType
+  pub is_forward : Bool
+  pub target : Node
+
+-- one of the code without where its target lies in memory
+abbrev pub link_of : Lent → Link
+link_of link = record { reference_type = link.reference_type; is_forward = link.is_forward; target = node_of link.target }
+
+-- the objects that hang below a node, in the order of the plan
+abbrev pub objects_below : Layout → Node → List Node
+objects_below space Root = Objects ∷ []
+objects_below space Objects = map OfFolder space.folders
+objects_below space _ = []
+
+-- whether a variable hangs below a node: below its folder, or below Objects where it has none
+abbrev pub holds : Node → Variable → Bool
+holds Objects variable = is_none variable.folder
+holds (OfFolder folder) variable = elim (variable.folder) [ None ↦ false | Some id ↦ pointwise nat_eq id folder.id ]
+holds _ variable = false
+
+-- what hangs below a node: objects before variables, each in the order of the plan
+abbrev pub children : Layout → Node → List Node
+children space node = objects_below space node ++ map OfVariable (filter (holds node) space.variables)
+
+abbrev pub type_definition : Node → Option Node
+type_definition Root = Some FolderType
+type_definition Objects = Some FolderType
+type_definition (OfFolder folder) = Some FolderType
+type_definition (OfVariable variable) = Some BaseDataVariableType
+type_definition _ = None
+
+-- the folder of this id; none: Objects
+abbrev pub folder_node : Layout → Option (List ℕ) → Option Node
+folder_node space None = Some Objects
+folder_node space (Some id) = option_map OfFolder (find (has_folder_id id) space.folders)
+
+abbrev pub parent : Layout → Node → Option Node
+parent space Objects = Some Root
+parent space (OfFolder folder) = Some Objects
+parent space (OfVariable variable) = folder_node space variable.folder
+parent space _ = None
+
+abbrev pub organizes : Bool → Node → Link
+organizes is_forward node = record { reference_type = Organizes; is_forward = is_forward; target = node }
+
+abbrev pub is_defined_by : Node → Link
+is_defined_by type = record { reference_type = HasTypeDefinition; is_forward = true; target = type }
+
+-- to the children, to the type definition, and back to the parent
+abbrev pub references : Layout → Node → List Link
+references space node = map (organizes true) (children space node) ++ map is_defined_by (option_to_list (type_definition node)) ++ map (organizes false) (option_to_list (parent space node))
+
+-- ---- which references a browse follows
+
+abbrev pub type_number : ReferenceType → ℕ
+type_number Organizes = 35
+type_number HasTypeDefinition = 40
+
+abbrev pub type_id : ReferenceType → NodeId
+type_id reference_type = Numeric 0 (type_number reference_type)
+
+abbrev pub in_standard : NodeId → Option ℕ
+in_standard (Numeric namespace id) = if namespace == 0 then Some id else None
+in_standard _ = None
+
+-- No type, then References, NonHierarchicalReferences, HierarchicalReferences, HasChild, Organizes, HasTypeDefinition,
+-- Aggregates, HasSubtype, HasProperty and HasComponent (Part 5).
+abbrev pub asked_types : List ℕ
+asked_types = 0 ∷ 31 ∷ 32 ∷ 33 ∷ 34 ∷ 35 ∷ 40 ∷ 44 ∷ 45 ∷ 46 ∷ 47 ∷ []
+
+abbrev pub is_reference_type : NodeId → Bool
+is_reference_type id = elim (in_standard id) [ None ↦ false | Some number ↦ list_any (nat_eq number) asked_types ]
+
+-- of which types a type is a subtype: HierarchicalReferences and References, NonHierarchicalReferences and References
+abbrev pub supertypes : ReferenceType → List ℕ
+supertypes Organizes = 33 ∷ 31 ∷ []
+supertypes HasTypeDefinition = 32 ∷ 31 ∷ []
+
+-- the asked type is no type at all, or this one, or one of which this is a subtype, where subtypes count
+abbrev pub is_of_type : NodeId → Bool → ReferenceType → Bool
+is_of_type id subtypes reference_type = elim (in_standard id) [
+  | None ↦ false
+  | Some number ↦
+      number == 0 || number == type_number reference_type || subtypes && list_any (nat_eq number) (supertypes reference_type)
+]
+
+abbrev pub is_along : BrowseDirection → Bool → Bool
+is_along Forward is_forward = is_forward
+is_along Inverse is_forward = not is_forward
+is_along Both is_forward = true
+
+-- each class is a bit, and no bit at all asks for all classes
+abbrev pub is_of_class : ℕ → NodeClass → Bool
+is_of_class mask class = mask == 0 || has mask (class_number class)
+
+abbrev pub is_followed : BrowseDirection → BrowseFields → Link → Bool
+is_followed direction d link = is_along direction link.is_forward && is_of_type d.1.1.0 d.1.1.1.0 link.reference_type && is_of_class d.1.1.1.1.0 (class_of link.target)
+
+-- ---- what is told of a reference
+
+abbrev pub no_node : NodeId
+no_node = Numeric 0 0
+
+abbrev pub no_name : QualifiedName
+no_name = record { namespace = 0; name = None }
+
+abbrev pub no_text : LocalizedText
+no_text = record { locale = None; text = None }
+
+abbrev pub definition_id : Node → NodeId
+definition_id node = elim (type_definition node) [ None ↦ no_node | Some type ↦ id_of type ]
+
+-- the fields whose bits are set (Part 4, 5.9.2); the others are null, false, Unspecified or empty
+abbrev pub told : ℕ → Link → ReferenceDescription
+told mask link = record {
+  reference_type_id = if has mask 1 then type_id link.reference_type else no_node;
+  is_forward = has mask 2 && link.is_forward;
+  node_id = id_of link.target;
+  node_class = if has mask 4 then class_of link.target else Unspecified;
+  browse_name = if has mask 8 then browse_name_of link.target else no_name;
+  display_name = if has mask 16 then display_name_of link.target else no_text;
+  type_definition = if has mask 32 then definition_id link.target else no_node;
+}
+
+-- ---- a browse
+
+-- A description is a node, a direction, a reference type, whether its subtypes count, the classes and the fields that are wanted. Of a node that was
+-- looked for, in a direction where the number asked is one:
+abbrev pub browsed : Layout → BrowseFields → Option Node → Option BrowseDirection → Result (List ReferenceDescription) Status
+browsed space d None direction = Err BAD_NODE_ID_UNKNOWN
+browsed space d (Some node) None = Err BAD_BROWSE_DIRECTION_INVALID
+browsed space d (Some node) (Some direction) =
+    if is_reference_type d.1.1.0 then Ok (map (told d.1.1.1.1.1) (filter (is_followed direction d) (references space node)))
+    else Err BAD_REFERENCE_TYPE_ID_INVALID
+
+abbrev pub browse_at : Layout → BrowseFields → Result (List ReferenceDescription) Status
+browse_at space d = browsed space d (node_at space d.0) d.1.0

@@ -1,0 +1,133 @@
+-- The nodes of an address space (Part 3, 5): what each is, its id, its class and its names.
+use Rattle.std.specs.Prelude.{◌≤◌, ℕ, Bool, false, ◌==◌, ◌&&◌, List, [], ◌∷◌, ◌++◌, length, map, codes, nat_eq, Option, None, Some, find}
+use Rattle.std.specs.Cmp.Lexicographic.{pointwise}
+use Rattle.ua_binary.specs.declared.values.NodeId.{NodeId}
+use Rattle.ua_binary.specs.declared.values.NodeId.TheVariants.{Numeric, Named}
+use Rattle.ua_binary.specs.declared.values.QualifiedName.{QualifiedName}
+use Rattle.ua_binary.specs.declared.values.LocalizedText.{LocalizedText}
+use Rattle.ua_variant.specs.declared.value.ValueType.{ValueType}
+use Rattle.ua_space.specs.declared.node.Folder.{Folder}
+use Rattle.ua_space.specs.declared.node.Variable.{Variable}
+use Rattle.ua_space.specs.declared.layout.Layout.{Layout}
+use Rattle.ua_services.specs.declared.browsing.NodeClass.{NodeClass}
+use Rattle.ua_services.specs.declared.browsing.NodeClass.TheVariants as class
+use Rattle.ua_space.specs.declared.node.Node.{Node as Lent}
+use Rattle.ua_space.specs.declared.node.Node.TheVariants as lent
+
+-- A node. The last two are types, which references lead to; they are no nodes of the space.
+pub data Node : Type 0 where
+  Root : Node
+  Objects : Node
+  NamespaceArray : Node
+  State : Node
+  OfFolder : Folder → Node
+  OfVariable : Variable → Node
+  FolderType : Node
+  BaseDataVariableType : Node
+
+-- a node of the code without where it lies in memory
+abbrev pub node_of : Lent → Node
+node_of lent.Root = Root
+node_of lent.Objects = Objects
+node_of lent.NamespaceArray = NamespaceArray
+node_of lent.State = State
+node_of (lent.Folder folder) = OfFolder folder.now
+node_of (lent.Variable variable) = OfVariable variable.now
+node_of lent.FolderType = FolderType
+node_of lent.BaseDataVariableType = BaseDataVariableType
+
+-- those of namespace 0
+abbrev pub standard_nodes : List Node
+standard_nodes = Root ∷ Objects ∷ NamespaceArray ∷ State ∷ []
+
+-- those of the plan
+abbrev pub planned_nodes : Layout → List Node
+planned_nodes space = map OfFolder space.folders ++ map OfVariable space.variables
+
+-- all nodes of a space
+abbrev pub nodes : Layout → List Node
+nodes space = standard_nodes ++ planned_nodes space
+
+-- ---- attributes that each node has (Part 3, 5.2)
+
+abbrev pub id_of : Node → NodeId
+id_of Root = Numeric 0 84
+id_of Objects = Numeric 0 85
+id_of NamespaceArray = Numeric 0 2255
+id_of State = Numeric 0 2259
+id_of (OfFolder folder) = Named 1 folder.id
+id_of (OfVariable variable) = Named 1 variable.id
+id_of FolderType = Numeric 0 61
+id_of BaseDataVariableType = Numeric 0 63
+
+abbrev pub class_of : Node → NodeClass
+class_of Root = class.Object
+class_of Objects = class.Object
+class_of NamespaceArray = class.Variable
+class_of State = class.Variable
+class_of (OfFolder folder) = class.Object
+class_of (OfVariable variable) = class.Variable
+class_of FolderType = class.ObjectType
+class_of BaseDataVariableType = class.VariableType
+
+abbrev pub name_of : Node → List ℕ
+name_of Root = codes "Root"
+name_of Objects = codes "Objects"
+name_of NamespaceArray = codes "NamespaceArray"
+name_of State = codes "State"
+name_of (OfFolder folder) = folder.name
+name_of (OfVariable variable) = variable.name
+name_of FolderType = codes "FolderType"
+name_of BaseDataVariableType = codes "BaseDataVariableType"
+
+-- folders and variables are in the plan's namespace, the others in that of the standard
+abbrev pub namespace_of : Node → ℕ
+namespace_of (OfFolder folder) = 1
+namespace_of (OfVariable variable) = 1
+namespace_of _ = 0
+
+abbrev pub browse_name_of : Node → QualifiedName
+browse_name_of node = record { namespace = namespace_of node; name = Some (name_of node) }
+
+-- the name, in no language
+abbrev pub display_name_of : Node → LocalizedText
+display_name_of node = record { locale = None; text = Some (name_of node) }
+
+-- ---- the node of an id
+
+abbrev pub has_folder_id : List ℕ → Folder → Bool
+has_folder_id id folder = pointwise nat_eq folder.id id
+
+abbrev pub has_variable_id : List ℕ → Variable → Bool
+has_variable_id id variable = pointwise nat_eq variable.id id
+
+-- whether two ids are the same; a GUID or an opaque id is no node's
+abbrev pub is_same_id : NodeId → NodeId → Bool
+is_same_id (Numeric m i) (Numeric n j) = m == n && i == j
+is_same_id (Named m a) (Named n b) = m == n && pointwise nat_eq a b
+is_same_id _ _ = false
+
+-- the node of this id among these
+abbrev pub node_in : List Node → NodeId → Option Node
+node_in some id = find (λ node. is_same_id (id_of node) id) some
+
+abbrev pub node_at : Layout → NodeId → Option Node
+node_at space id = node_in (nodes space) id
+
+-- the type of the variable of the plan that has this id
+abbrev pub type_of_node : Option Node → Option ValueType
+type_of_node (Some (OfVariable variable)) = Some variable.value_type
+type_of_node _ = None
+
+abbrev pub value_type_at : Layout → NodeId → Option ValueType
+value_type_at space id = type_of_node (node_at space id)
+
+-- ---- what each variable keeps
+
+abbrev pub HasShortId : Variable → Type 0
+HasShortId variable = length variable.id ≤ 256
+
+-- an id of at most 256 bytes
+abbrev pub IsShortId : NodeId → Type 0
+IsShortId (Named namespace name) = length name ≤ 256
+IsShortId _ = Unit {0}

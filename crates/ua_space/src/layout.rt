@@ -1,0 +1,75 @@
+//! What a space is made of, and the node of an id.
+
+ghost use Rattle.std.specs.Prelude.{◌≡◌, find, nat_eq, option_map, option_copied};
+ghost use Rattle.std.specs.Cmp.Lexicographic.{pointwise};
+ghost use Rattle.ua_binary.specs.Binary.{node_of as id_of_lent};
+
+use crate::node::{Folder, NAMESPACE, Node, STANDARD, Variable};
+use ua_binary::{Listing, NodeIdRef, Text};
+
+/// The URI of namespace 1, and the folders and variables in the order of the plan.
+#[derive(Debug, Drop)]
+pub(crate) struct Layout {
+    pub namespace: Text,
+    pub folders: Listing<Folder>,
+    pub variables: Listing<Variable>,
+}
+
+impl Layout {
+    ghost use Rattle.ua_binary.specs.declared.values.NodeId.TheVariants.{Named};
+    ghost use Rattle.ua_space.specs.Space.{node_at, node_in, planned_nodes, node_of, has_folder_id, has_variable_id};
+
+    /// The node of this id.
+    #[tactic(auto, using(crate::proofs::Nodes::anywhere))]
+    pub fn find(&self, id: NodeIdRef<'_>) -> Option<Node<'_>>
+        ensures { option_map node_of result ≡ node_at self.now (id_of_lent id.entry) }
+    {
+        match id {
+            NodeIdRef::Numeric(namespace, number) => {
+                if namespace == STANDARD {
+                    Node::standard(number)
+                } else {
+                    None
+                }
+            }
+            NodeIdRef::Named(namespace, id) => {
+                if namespace == NAMESPACE {
+                    self.find_planned(id)
+                } else {
+                    None
+                }
+            }
+            NodeIdRef::Global(..) | NodeIdRef::Opaque(..) => None,
+        }
+    }
+
+    /// The folder or variable of this id.
+    #[tactic(auto, using(crate::proofs::Nodes::planned))]
+    fn find_planned(&self, id: &str) -> Option<Node<'_>>
+        ensures { option_map node_of result ≡ node_in (planned_nodes self.now) (Named 1 id.now) }
+    {
+        match self.find_folder(id) {
+            Some(folder) => Some(Node::Folder(folder)),
+            None => match self.find_variable(id) {
+                Some(variable) => Some(Node::Variable(variable)),
+                None => None,
+            },
+        }
+    }
+
+    /// The folder of this id.
+    pub fn find_folder(&self, id: &str) -> Option<&Folder>
+        ensures { option_copied result ≡ find (has_folder_id id.now) self.now.folders }
+    {
+        self.folders.iter().find(|folder| folder.id.as_str() == id)
+    }
+
+    /// The variable of this id.
+    fn find_variable(&self, id: &str) -> Option<&Variable>
+        ensures { option_copied result ≡ find (has_variable_id id.now) self.now.variables }
+    {
+        self.variables
+            .iter()
+            .find(|variable| variable.id.as_str() == id)
+    }
+}
