@@ -6,19 +6,24 @@ use Rattle.ua_binary.specs.declared.codes.TheConstants.Status.{BAD_OUT_OF_MEMORY
 use Rattle.ua_binary.specs.declared.values.NodeId.{NodeId}
 use Rattle.ua_binary.specs.declared.values.Ticks.{Ticks}
 use Rattle.ua_binary.specs.Format.{IsOrStarved}
+use Rattle.ua_binary.specs.Fault.{status_of}
+use Rattle.ua_binary.specs.declared.fault.BinaryFault.{BinaryFault}
+use Rattle.ua_binary.specs.declared.fault.BinaryFault.TheVariants as binary
 use Rattle.ua_session.specs.declared.fault.SessionFault.{SessionFault}
 use Rattle.ua_session.specs.declared.fault.SessionFault.TheVariants.{OutOfMemory}
 use Rattle.ua_session.specs.Fault.{code_of}
 use Rattle.ua_session.specs.Sessions.{State}
 use Rattle.records.specs.Contents.{Content}
-use Rattle.archive.specs.Store.{Mark, Fine, Starved, faults_of}
+use Rattle.archive.specs.Store.{Store, Mark, Fine, Starved, faults_of, Passes}
+use Rattle.archive.proofs.Calls.{passes-none}
 use Rattle.archive.specs.Steps.{Marked, step, Does}
 use Rattle.historian.specs.declared.service.Service.{Service}
+use Rattle.historian.specs.declared.service.Service.TheVariants as service
 use Rattle.historian.specs.declared.answer.Answer.{Answer as Made}
 use Rattle.historian.specs.Answers.{Answer, Response}
-use Rattle.historian.specs.Requests.{Call, call_in}
-use Rattle.historian.specs.Services.{Site, Outcome, called, served, answered_call}
-use Rattle.historian.specs.Telling.{Asks, answer_of, Tells, PerformsHere}
+use Rattle.historian.specs.Requests.{Call, call_in, request_in}
+use Rattle.historian.specs.Services.{Site, Outcome, called, served, answered_call, answered_request, answered}
+use Rattle.historian.specs.Telling.{Asks, answer_of, Tells, Performs, PerformsHere}
 
 -- a call that was read is served
 pub does-read : (site : Site) (now : Ticks) (token : NodeId) (o : Option Call) (call : Call) (sessions : State) (R : Content) (used : List Mark) (outcome : Outcome) → o ≡ Some call
@@ -111,3 +116,46 @@ performs-done {A} site now token sessions new service call bytes done answer a m
     let P : State → Type 0 = λ s. PerformsHere (answered_call site now token (call_in service bytes) sessions) s (Ok made) in
     subst P (sym leaves)
     (performs-called site now token sessions (done a).1 service call bytes (called sessions done answer) Fine (Ok (done a).0) (Ok made) is same refl (called-done sessions done answer a given) (ap Ok tells))
+
+-- ---- the archive isn't asked
+
+pub performs-here : (s : Store) (service : Content → Marked Outcome) (sessions : State) (result : Result Made Status) → PerformsHere service sessions result → Performs s s service sessions result
+performs-here s service sessions result (used, told, faultless, does, tells) = (
+  used,
+  told,
+  record { passes = subst (Passes s s) (sym faultless) (passes-none s); acts = λ honest R h. (R, does R, h) },
+  tells,
+)
+
+-- ---- messages
+
+pub told-unread : (fault : BinaryFault) → (status_of fault ≡ BAD_DECODING_ERROR) ⊎ (status_of fault ≡ BAD_OUT_OF_MEMORY)
+told-unread binary.OutOfMemory = inr refl
+told-unread fault = inl refl
+
+-- a message that is no request
+pub performs-none : (s : Store) (site : Site) (now : Ticks) (message : List ℕ) (sessions : State) (why status : Status) (result : Result Made Status)
+    → request_in message ≡ Err why → (status ≡ why) ⊎ (status ≡ BAD_OUT_OF_MEMORY) → result ≡ Err status → Performs s s (answered site now message sessions) sessions result
+performs-none s site now message sessions why status result none told is =
+    let P : Result Made Status → Type 0 = Performs s s (answered site now message sessions) sessions in
+    let does : (R : Content) → Does (answered site now message sessions R) [] ((Err why, sessions), R) = λ R. subst (λ q. Does (answered_request site now q sessions R) [] ((Err why, sessions), R)) (sym none) (record { does = λ later. refl }) in
+    subst P (sym is) (performs-here s (answered site now message sessions) sessions (Err status)
+    ([], Err why, refl, does, elim told [ inl same ↦ inl (ap Err (sym same)) | inr starved ↦ inr starved ]))
+
+none_of : (asked : Service) (bytes : List ℕ) → (asked ≡ service.GetEndpoints → ⊥) → (asked ≡ service.CreateSession → ⊥) → (asked ≡ service.ActivateSession → ⊥) → (asked ≡ service.CloseSession → ⊥) → call_in asked bytes ≡ None
+none_of service.GetEndpoints bytes a b c d = absurd (a refl)
+none_of service.CreateSession bytes a b c d = absurd (b refl)
+none_of service.ActivateSession bytes a b c d = absurd (c refl)
+none_of service.CloseSession bytes a b c d = absurd (d refl)
+none_of service.Browse bytes a b c d = refl
+none_of service.Read bytes a b c d = refl
+none_of service.HistoryRead bytes a b c d = refl
+none_of service.HistoryUpdate bytes a b c d = refl
+
+-- a service that isn't served yet
+pub performs-unserved : (s : Store) (site : Site) (now : Ticks) (token : NodeId) (asked : Service) (bytes : List ℕ) (sessions : State)
+    → (asked ≡ service.GetEndpoints → ⊥) → (asked ≡ service.CreateSession → ⊥) → (asked ≡ service.ActivateSession → ⊥) → (asked ≡ service.CloseSession → ⊥)
+    → Performs s s (answered_call site now token (call_in asked bytes) sessions) sessions (Err BAD_DECODING_ERROR)
+performs-unserved s site now token asked bytes sessions a b c d =
+    performs-here s (answered_call site now token (call_in asked bytes) sessions) sessions (Err BAD_DECODING_ERROR)
+    (Fine ∷ [], Err BAD_DECODING_ERROR, refl, λ R. does-unread site now token (call_in asked bytes) sessions R (none_of asked bytes a b c d), inl refl)

@@ -1,0 +1,48 @@
+use Rattle.std.proofs.Common.{◌≡◌, ℕ, List, None, refl, sym, subst}
+use Rattle.std.specs.Prelude.{Result}
+use Rattle.ua_binary.specs.declared.codes.Status.{Status}
+use Rattle.ua_binary.specs.Binary.{node_of}
+use Rattle.ua_session.specs.Sessions.{State}
+use Rattle.archive.specs.Store.{Store}
+use Rattle.historian.specs.declared.service.Service.{Service}
+use Rattle.historian.specs.declared.service.Service.TheVariants as service
+use Rattle.historian.specs.declared.answer.Answer.{Answer as Made}
+use Rattle.historian.specs.Requests.{call_in}
+use Rattle.historian.specs.Services.{site_of, answered_call}
+use Rattle.historian.specs.Telling.{Performs}
+use Rattle.historian.proofs.Performing.{performs-here, performs-unserved}
+use Rattle.historian.proofs.message.serve.Goals as goal
+
+pub returns-in-GetEndpoints-clause-performs : goal.returns-in-GetEndpoints-clause-performs
+returns-in-GetEndpoints-clause-performs g c =
+    let s = g.A.Archive.state c.args.archive.now in
+    let site = site_of c.args.settings.now s in
+    let P : Service → Type 0 = λ service. Performs s s (answered_call site c.args.now (node_of c.args.token) (call_in service c.args.request) c.args.sessions.now) c.args.sessions.now c.get_endpoints.result in
+    subst P (sym c.in-GetEndpoints.is) (performs-here s (answered_call site c.args.now (node_of c.args.token) (call_in service.GetEndpoints c.args.request) c.args.sessions.now) c.args.sessions.now c.get_endpoints.result (c.get_endpoints.ensures.performs site c.args.now (node_of c.args.token) c.args.sessions.now refl))
+
+pub returns-in-CreateSession-clause-performs : goal.returns-in-CreateSession-clause-performs
+returns-in-CreateSession-clause-performs g c =
+    let s = g.A.Archive.state c.args.archive.now in
+    let site = site_of c.args.settings.now s in
+    let P : Service → Type 0 = λ service. Performs s s (answered_call site c.args.now (node_of c.args.token) (call_in service c.args.request) c.args.sessions.now) c.create_session.new.sessions c.create_session.result in
+    subst P (sym c.in-CreateSession.is) (performs-here s (answered_call site c.args.now (node_of c.args.token) (call_in service.CreateSession c.args.request) c.args.sessions.now) c.create_session.new.sessions c.create_session.result (c.create_session.ensures.performs site c.args.now (node_of c.args.token) refl))
+
+pub returns-in-ActivateSession-clause-performs : goal.returns-in-ActivateSession-clause-performs
+returns-in-ActivateSession-clause-performs g c =
+    let s = g.A.Archive.state c.args.archive.now in
+    let site = site_of c.args.settings.now s in
+    let P : Service → Type 0 = λ service. Performs s s (answered_call site c.args.now (node_of c.args.token) (call_in service c.args.request) c.args.sessions.now) c.activate_session.new.sessions c.activate_session.result in
+    subst P (sym c.in-ActivateSession.is) (performs-here s (answered_call site c.args.now (node_of c.args.token) (call_in service.ActivateSession c.args.request) c.args.sessions.now) c.activate_session.new.sessions c.activate_session.result (c.activate_session.ensures.performs site c.args.now refl))
+
+pub returns-in-CloseSession-clause-performs : goal.returns-in-CloseSession-clause-performs
+returns-in-CloseSession-clause-performs g c =
+    let s = g.A.Archive.state c.args.archive.now in
+    let site = site_of c.args.settings.now s in
+    let P : Service → Type 0 = λ service. Performs s s (answered_call site c.args.now (node_of c.args.token) (call_in service c.args.request) c.args.sessions.now) c.close_session.new.sessions c.close_session.result in
+    subst P (sym c.in-CloseSession.is) (performs-here s (answered_call site c.args.now (node_of c.args.token) (call_in service.CloseSession c.args.request) c.args.sessions.now) c.close_session.new.sessions c.close_session.result (c.close_session.ensures.performs site c.args.now))
+
+pub returns-in_default-clause-performs : goal.returns-in_default-clause-performs
+returns-in_default-clause-performs g c =
+    let s = g.A.Archive.state c.args.archive.now in
+    let d = c.in_default in
+    performs-unserved s (site_of c.args.settings.now s) c.args.now (node_of c.args.token) c.args.service c.args.request c.args.sessions.now d.not-GetEndpoints d.not-CreateSession d.not-ActivateSession d.not-CloseSession
