@@ -8,14 +8,15 @@ use Rattle.ua_binary.specs.declared.values.NodeId.{NodeId}
 use Rattle.records.specs.Same.{is_same, same_node, node_code}
 use Rattle.records.proofs.Same.{Decides-is_same}
 use Rattle.ua_variant.proofs.Equal.{IsExact, pairs, through}
-use Rattle.hist_read.specs.contracts.query.DetailsPartialEq as details
-use Rattle.hist_read.specs.declared.query.Details.{Details}
-use Rattle.hist_read.specs.declared.code.ReadCode.TheVariants.{BadContinuationPointInvalid}
-use Rattle.hist_read.specs.Point.{Point, details_of, details_fields}
+use Rattle.ua_services.specs.contracts.history.ReadRawModifiedDetailsPartialEq as details
+use Rattle.ua_services.specs.declared.history.ReadRawModifiedDetails.{ReadRawModifiedDetails as Details}
+use Rattle.ua_binary.specs.declared.codes.TheConstants.Status.{BAD_CONTINUATION_POINT_INVALID}
+use Rattle.ua_services.specs.History.{raw_of, raw_fields}
+use Rattle.hist_read.specs.Point.{Point}
 use Rattle.hist_read.specs.Node.{IsOfRead, agrees, details_code, place_told}
 
 pub exact_details : IsExact (details.TheImpl.eq-value).it
-exact_details = through details_fields details_of (λ _. refl) (pairs booleans_Decides (pairs signed_Decides (pairs signed_Decides (pairs unsigned_Decides booleans_Decides))))
+exact_details = through raw_fields raw_of (λ _. refl) (pairs booleans_Decides (pairs signed_Decides (pairs signed_Decides (pairs unsigned_Decides booleans_Decides))))
 
 same_bytes : (a b : List ℕ) → (pointwise nat_eq a b ≡ true → a ≡ b) × (a ≡ b → pointwise nat_eq a b ≡ true)
 same_bytes a b = search rules
@@ -27,13 +28,13 @@ module _ (id : List ℕ) (node : NodeId) (q : Details) (p : Point) where
       let two = and_parts (same_node p.node node) (is_same details_code p.details q) one.1 in
       ((same_bytes p.archive id).0 one.0, (Decides-is_same node_code p.node node).0 two.0, (Decides-is_same details_code p.details q).0 two.1)
 
-  pub told_agreed : IsOfRead id node q p → place_told id node q (Some p) ≡ Ok (Some p.position)
+  pub told_agreed : IsOfRead id node q p → place_told id node q (Some p) ≡ Ok (Some (p.position, p.vector))
   told_agreed h =
       let test : agrees id node q p ≡ true = and_from _ _ ((same_bytes p.archive id).1 h.0) (and_from _ _ ((Decides-is_same node_code p.node node).1 h.1) ((Decides-is_same details_code p.details q).1 h.2)) in
-      ap (λ b. cond b (Ok (Some p.position)) (Err BadContinuationPointInvalid)) test
+      ap (λ b. cond b (Ok (Some (p.position, p.vector))) (Err BAD_CONTINUATION_POINT_INVALID)) test
 
-  pub told_other : (IsOfRead id node q p → ⊥) → place_told id node q (Some p) ≡ Err BadContinuationPointInvalid
+  pub told_other : (IsOfRead id node q p → ⊥) → place_told id node q (Some p) ≡ Err BAD_CONTINUATION_POINT_INVALID
   told_other none = elim (cases_Bool (agrees id node q p)) [
     | inl e ↦ absurd (none (told_from e))
-    | inr e ↦ ap (λ b. cond b (Ok (Some p.position)) (Err BadContinuationPointInvalid)) e
+    | inr e ↦ ap (λ b. cond b (Ok (Some (p.position, p.vector))) (Err BAD_CONTINUATION_POINT_INVALID)) e
   ]

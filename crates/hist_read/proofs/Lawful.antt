@@ -11,14 +11,17 @@ use Rattle.ua_binary.specs.declared.fault.BinaryFault.TheVariants.{BadEncodingBy
 use Rattle.ua_binary.specs.declared.values.NodeId.{NodeId}
 use Rattle.ua_binary.specs.declared.values.NodeId.TheVariants.{Numeric, Named, Global, Opaque}
 use Rattle.ua_binary.specs.Format.{Format, IsLawful, byte, chosen}
-use Rattle.ua_binary.specs.Binary.{unsigned, signed, text, byte_string, guid, IsNodeId, IsShortNode, node_form, node_form_of, node_id}
-use Rattle.ua_binary.proofs.Combined.{byte_lawful, block_lawful, refused_lawful, then_lawful, chosen_lawful, headed_lawful, standing_lawful, passing_lawful, fitting_lawful}
-use Rattle.ua_binary.proofs.Lawful.{u16_lawful, u32_lawful, i64_lawful, text_lawful, byte_string_lawful, guid_lawful}
+use Rattle.ua_binary.specs.Binary.{unsigned, signed, ticks, text, byte_string, guid, IsNodeId, IsShortNode, node_form, node_form_of, node_id}
+use Rattle.ua_binary.proofs.Combined.{byte_lawful, block_lawful, refused_lawful, then_lawful, chosen_lawful, headed_lawful, standing_lawful, passing_lawful, fitting_lawful, raised_lawful}
+use Rattle.ua_binary.proofs.Lawful.{u16_lawful, u32_lawful, i64_lawful, ticks_lawful, text_lawful, byte_string_lawful, guid_lawful}
 use Rattle.records.specs.Moments.{moment, ticks_of, pico_of, whole_again, pico_within}
 use Rattle.hist_read.specs.Asking.{first_time}
 use Rattle.hist_read.specs.declared.point.Phase.{Phase}
 use Rattle.hist_read.specs.declared.point.Phase.TheVariants.{Near, Body}
-use Rattle.hist_read.specs.Point.{flag, short_form, short_node, IsDetails, details, details_of, details_fields, phase, time, stamp, IsStamp, stamp_of, stamp_fields, are_stamp, IsPosition, position, position_of, position_fields, number_of_phase, IsPoint, point, of_fields, fields_of}
+use Rattle.stamp.specs.Vector.{vector}
+use Rattle.stamp.proofs.Lawful.{vector_lawful}
+use Rattle.ua_services.specs.History.{raw_of, raw_fields}
+use Rattle.hist_read.specs.Point.{flag, short_form, short_node, IsDetails, details, phase, time, stamp, IsStamp, stamp_of, stamp_fields, are_stamp, IsPosition, position, position_of, position_fields, number_of_phase, IsPoint, point, of_fields, fields_of}
 
 -- ---- spellings of which there is one
 
@@ -76,9 +79,9 @@ short_node_lawful = fitting_lawful IsNodeId short_fits (headed_lawful node_form_
 -- ---- the parts
 
 pub details_lawful : IsLawful details
-unfolding details flag signed unsigned
+unfolding details flag ticks unsigned
 details_lawful = fitting_lawful IsDetails (λ v h. ((tt, (h.0, (h.1, (h.2, tt)))), refl))
-    (standing_lawful details_of details_fields (then_lawful flag_lawful (then_lawful i64_lawful (then_lawful i64_lawful (then_lawful u32_lawful flag_lawful)))))
+    (standing_lawful raw_of raw_fields (then_lawful flag_lawful (then_lawful ticks_lawful (then_lawful ticks_lawful (then_lawful u32_lawful flag_lawful)))))
 
 phase_fits : (p : Phase) → ((number_of_phase p < 2 ^ 8) × ((nat_le 1 (number_of_phase p) && nat_le (number_of_phase p) 2) ≡ true)) × (p ≡ cond (number_of_phase p == 1) Near Body)
 phase_fits Near = ((omega arith, refl), refl)
@@ -124,9 +127,9 @@ position_lawful = fitting_lawful IsPosition (λ v h. ((tt, ((h.0, h.1), (h.2, h.
     (standing_lawful position_of position_fields (then_lawful phase_lawful (then_lawful time_lawful (then_lawful stamp_lawful u32_lawful))))
 
 pub point_lawful : IsLawful point
-unfolding point short_node details position
-point_lawful = fitting_lawful IsPoint (λ v h. (((((omega arith, refl), (h.archive, (h.node, (h.details, h.position)))), refl)), h.suits))
-    (passing_lawful _ BadEncodingByte (standing_lawful of_fields fields_of (then_lawful (passing_lawful _ BadEncodingByte byte_lawful) (then_lawful (block_lawful 16) (then_lawful short_node_lawful (then_lawful details_lawful position_lawful))))))
+unfolding point short_node details position vector
+point_lawful = fitting_lawful IsPoint (λ v h. (((((omega arith, refl), (h.archive, (h.node, (h.details, (h.position, h.vector))))), refl)), h.suits))
+    (passing_lawful _ BadEncodingByte (standing_lawful of_fields fields_of (then_lawful (passing_lawful _ BadEncodingByte byte_lawful) (then_lawful (block_lawful 16) (then_lawful short_node_lawful (then_lawful details_lawful (then_lawful position_lawful (raised_lawful _ vector_lawful))))))))
 
 pub ruleset lawful = (point_lawful, short_node_lawful)
 

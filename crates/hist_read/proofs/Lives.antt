@@ -19,7 +19,7 @@ use Rattle.archive.proofs.Timing.{current_from, current_time, entry_from}
 use Rattle.archive.proofs.Turning.{has_from_filter_map, has_from_flat_map, has_from_reverse}
 use Rattle.hist_read.specs.Asking.{first_time, direction}
 use Rattle.records.specs.Moments.{whole_again, pico_within}
-use Rattle.hist_read.specs.declared.query.Details.{Details}
+use Rattle.ua_services.specs.declared.history.ReadRawModifiedDetails.{ReadRawModifiedDetails as Details}
 use Rattle.hist_read.specs.declared.point.Position.{Position}
 use Rattle.hist_read.specs.Pages.{body_limit}
 use Rattle.hist_read.specs.Reads.{is_near_alone, limit_at, body_part, page_size, greatest_time, in_body, body, is_past_any}

@@ -23,7 +23,7 @@ use Rattle.hist_read.specs.Asking.{is_given, has_both, first_time, origin_time, 
 use Rattle.records.specs.Moments.{moment}
 use Rattle.hist_read.specs.Point.{IsNext, is_given_for}
 use Rattle.hist_read.specs.Reads.{or_else, nearest_from, value_or_missing, near, item_time, is_near_alone, near_part, limit_at, is_past_any, in_body, lives_in, body, body_part, values, far, far_part, last_time, time_before, before_far, raw, modified, place_at, given_before, page_size, is_spent, page, goes_on, given_after, raw_position, modified_position, next_place}
-use Rattle.hist_read.specs.declared.query.Details.{Details}
+use Rattle.ua_services.specs.declared.history.ReadRawModifiedDetails.{ReadRawModifiedDetails as Details}
 use Rattle.hist_read.specs.declared.point.Position.{Position}
 use Rattle.hist_read.specs.declared.item.Item.{Item}
 use Rattle.hist_read.specs.declared.item.Item.TheVariants.{Value}
@@ -56,21 +56,21 @@ given_lawful q p spent = go (has_both q) refl spent
     sum : ℕ
     sum = given_before p + page_size q p
 
-    go : (b : Bool) → has_both q ≡ b → (not b && nat_le q.count sum) ≡ false → cond b (cond b 0 sum == 0) (nat_lt 0 (cond b 0 sum) && nat_lt (cond b 0 sum) q.count) ≡ true
+    go : (b : Bool) → has_both q ≡ b → (not b && nat_le q.num_values_per_node sum) ≡ false → cond b (cond b 0 sum == 0) (nat_lt 0 (cond b 0 sum) && nat_lt (cond b 0 sum) q.num_values_per_node) ≡ true
     go true e s = refl
     go false e s =
-        let size : page_size q p ≡ cond (q.count == 0) 1000 (min 1000 (q.count - given_before p)) = ap (λ b. cond (q.count == 0) 1000 (min 1000 (cond b q.count (q.count - given_before p)))) e in
-        let within : nat_lt sum q.count ≡ true = grind (arith, nat_tests, s) in
-        and_from _ _ (positive (given_before p) (page_size q p) q.count size s) within
+        let size : page_size q p ≡ cond (q.num_values_per_node == 0) 1000 (min 1000 (q.num_values_per_node - given_before p)) = ap (λ b. cond (q.num_values_per_node == 0) 1000 (min 1000 (cond b q.num_values_per_node (q.num_values_per_node - given_before p)))) e in
+        let within : nat_lt sum q.num_values_per_node ≡ true = grind (arith, nat_tests, s) in
+        and_from _ _ (positive (given_before p) (page_size q p) q.num_values_per_node size s) within
 
 module _ (R : Content) (node : NodeId) (q : Details) (p : Option Position) (lawful : IsLawfulContent R) where
   -- ---- raw values
 
-  module _ (given : IsTrue (is_given q.start || is_given q.end)) where
+  module _ (given : IsTrue (is_given q.start_time.0 || is_given q.end_time.0)) where
     origin_late : first_time ≤ℤ origin_time q
-    origin_late = go (is_given q.start) refl given
+    origin_late = go (is_given q.start_time.0) refl given
       where
-        go : (b : Bool) → is_given q.start ≡ b → IsTrue (b || is_given q.end) → first_time ≤ℤ moment (cond b q.start q.end) 0
+        go : (b : Bool) → is_given q.start_time.0 ≡ b → IsTrue (b || is_given q.end_time.0) → first_time ≤ℤ moment (cond b q.start_time.0 q.end_time.0) 0
         go true e g = grind (arith, ints, nat_tests, e)
         go false e g = grind (arith, ints, nat_tests, g)
 
@@ -98,7 +98,7 @@ module _ (R : Content) (node : NodeId) (q : Details) (p : Option Position) (lawf
 
     near_in : (p : Option Position) (x : Item) → Has (near_part R node q p) x → first_time ≤ℤ item_time x
     near_in (Some p) x h = absurd h
-    near_in None x h = go q.bounds h
+    near_in None x h = go q.return_bounds h
       where
         go : (b : Bool) → Has (cond b (near R node q ∷ []) []) x → first_time ≤ℤ item_time x
         go true i = elim i [ inl e ↦ subst (λ y. first_time ≤ℤ item_time y) e near_late | inr k ↦ absurd k ]
@@ -124,7 +124,7 @@ module _ (R : Content) (node : NodeId) (q : Details) (p : Option Position) (lawf
     ]
 
     far_short : (before : ℤ) → length (far_part R node q before) ≤ 1
-    far_short before = go (q.bounds && not (is_near_alone q))
+    far_short before = go (q.return_bounds && not (is_near_alone q))
       where
         go : (b : Bool) → length (cond b (far R node q before ∷ []) []) ≤ 1
         go true = omega arith
@@ -142,7 +142,7 @@ module _ (R : Content) (node : NodeId) (q : Details) (p : Option Position) (lawf
         let fits : n ≤ length front = omega (arith, sum, beyond, short) in
         has_take n front x (subst (λ l. Has l x) (take-append-le n front tail fits) (has_from_get (page q p (raw R node q p)) _ x e))
 
-    pub raw_next : q.modified ≡ false → IfSome (next_place (raw_position q p) q p (raw R node q p)) (IsNext q)
+    pub raw_next : q.is_read_modified ≡ false → IfSome (next_place (raw_position q p) q p (raw R node q p)) (IsNext q)
     raw_next plain = go (goes_on q p (raw R node q p)) refl
       where
         S : List Item
@@ -188,7 +188,7 @@ module _ (R : Content) (node : NodeId) (q : Details) (p : Option Position) (lawf
       let two = (has_from_filter (λ (x : Entry). in_body q x.time) (in_direction (direction q) (log R node)) e one).0 in
       log_late e ((has-in_direction (direction q) (log R node) e).0 two)
 
-  pub modified_next_lawful : q.modified ≡ true → IfSome (next_place (modified_position q p) q p (modified R node q p)) (IsNext q)
+  pub modified_next_lawful : q.is_read_modified ≡ true → IfSome (next_place (modified_position q p) q p (modified R node q p)) (IsNext q)
   modified_next_lawful asked = go (goes_on q p (modified R node q p)) refl
     where
       S : List Entry

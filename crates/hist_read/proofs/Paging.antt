@@ -12,7 +12,7 @@ use Rattle.records.specs.declared.shown.Entry.{Entry}
 use Rattle.hist_read.specs.Asking.{has_both, direction, end_time}
 use Rattle.hist_read.specs.Reads.{near_part, body_part, far_part, far, far_at, value_or_missing, open_bound, values, last_time, time_before, before_far, raw, page_size, page, is_spent, goes_on, next_place, raw_position, modified, modified_position}
 use Rattle.hist_read.specs.Pages.{IsFound, has_far, far_item, far_of, row_of}
-use Rattle.hist_read.specs.declared.query.Details.{Details}
+use Rattle.ua_services.specs.declared.history.ReadRawModifiedDetails.{ReadRawModifiedDetails as Details}
 use Rattle.hist_read.specs.declared.point.Position.{Position}
 use Rattle.hist_read.specs.declared.item.Item.{Item}
 use Rattle.hist_read.specs.declared.item.Item.TheVariants.{Value}

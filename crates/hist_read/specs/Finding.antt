@@ -1,10 +1,9 @@
 -- What a read does to the archive.
-use Rattle.std.specs.Prelude.{◌≡◌, Bool, false, Option, Some, None, Result, Ok, Err, IfOk}
-use Rattle.records.specs.Contents.{Content}
+use Rattle.std.specs.Prelude.{Option, Some, None, Result, Ok, Err, IfOk}
 use Rattle.archive.specs.declared.fault.StoreFault.{StoreFault}
-use Rattle.archive.specs.Store.{Store, Leaves}
-use Rattle.hist_read.specs.declared.setback.Setback.{Setback}
-use Rattle.hist_read.specs.declared.setback.Setback.TheVariants as setback
+use Rattle.archive.specs.declared.setback.Setback.{Setback}
+use Rattle.archive.specs.declared.setback.Setback.TheVariants as setback
+use Rattle.archive.specs.Store.{Store, Leaves, Stays}
 
 -- the fault of the store that was met
 abbrev pub fault_met : {X : Type 0} → Result X Setback → Option StoreFault
@@ -14,6 +13,5 @@ fault_met result = None
 -- the archive was asked: the answer is such a one, or memory was wanting, or a fault of the store came; the content stays
 pub record Finds {X : Type 0} (old new : Store) (result : Result X Setback) (IsAnswer : X → Type 0) : Type 0 where
   pub answer : new.honest → IfOk result IsAnswer
-  pub kept : new.honest → new.broken ≡ false → new.content ≡ old.content
-  pub crash : new.honest → (left : Content) → new.may_hold left → old.may_hold left
+  pub stays : Stays old new
   pub leaves : Leaves old new (fault_met result)

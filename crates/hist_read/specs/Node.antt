@@ -1,43 +1,32 @@
 -- What a read of a node's history is answered (Part 11, HistoryRead).
-use Rattle.std.specs.Prelude.{◌≡◌, ℕ, ◌==◌, nat_eq, Bool, false, not, ◌&&◌, ◌||◌, if◌then◌else◌, List, [], ◌∷◌, map, Option, Some, None, option_map, Result, Ok, Err}
+use Rattle.std.specs.Prelude.{◌≡◌, ◌==◌, nat_eq, nat_le, Bool, not, ◌&&◌, ◌||◌, ℕ, if◌then◌else◌, List, [], ◌∷◌, map, Option, Some, None, option_map, Result, Ok, Err}
 use Rattle.std.specs.Cmp.Lexicographic.{pointwise}
 use base.Stored.{Coded}
+use Rattle.stamp.specs.Numbers.{number_of}
 use Rattle.ua_binary.specs.declared.values.NodeId.{NodeId}
-use Rattle.records.specs.Contents.{Content}
+use Rattle.ua_binary.specs.declared.codes.Status.{Status}
+use Rattle.ua_binary.specs.declared.codes.TheConstants.Status.{GOOD, GOOD_NO_DATA, BAD_OUT_OF_MEMORY, BAD_CONTINUATION_POINT_INVALID, BAD_HISTORY_OPERATION_INVALID, BAD_INVALID_ARGUMENT}
+use Rattle.ua_services.specs.declared.history.ReadRawModifiedDetails.{ReadRawModifiedDetails as Details}
+use Rattle.ua_services.specs.contracts.history.ReadRawModifiedDetails as details
+use Rattle.ua_services.specs.declared.history.HistoryReadResult.{HistoryReadResult}
+use Rattle.ua_services.specs.declared.history.HistoryData.TheVariants.{Raw, Modified, Nothing}
+use Rattle.records.specs.Contents.{Content, numbers_of, cut}
 use Rattle.records.specs.Same.{is_same, same_node}
-use Rattle.archive.specs.declared.fault.StoreFault.{StoreFault}
-use Rattle.archive.specs.declared.fault.StoreFault.TheVariants.{OutOfMemory}
-use Rattle.archive.specs.Store.{Store, Passes, faults_by}
-use Rattle.hist_read.specs.declared.query.Details.{Details}
-use Rattle.hist_read.specs.contracts.query.Details as details
+use Rattle.archive.specs.Fault.{status_of}
+use Rattle.archive.specs.Store.{Mark, Fine, Starved, Met}
+use Rattle.archive.specs.Steps.{Marked, give, step}
 use Rattle.hist_read.specs.declared.query.Query.{Query}
 use Rattle.hist_read.specs.declared.point.Position.{Position}
-use Rattle.hist_read.specs.declared.setback.Setback.{Setback}
-use Rattle.hist_read.specs.declared.setback.Setback.TheVariants as setback
-use Rattle.hist_read.specs.declared.code.ReadCode.{ReadCode}
-use Rattle.hist_read.specs.declared.code.ReadCode.TheVariants.{Good, GoodNoData, BadOutOfMemory, BadResourceUnavailable, BadContinuationPointInvalid, BadHistoryOperationInvalid, BadInvalidArgument}
-use Rattle.hist_read.specs.declared.node.NodeResult.{NodeResult}
-use Rattle.hist_read.specs.declared.node.NodeItems.{NodeItems}
-use Rattle.hist_read.specs.declared.node.NodeItems.TheVariants.{Raw, Modified, Nothing}
 use Rattle.hist_read.specs.Asking.{is_given}
 use Rattle.hist_read.specs.Point.{Point, point, point_in}
 use Rattle.hist_read.specs.Reads.{page, raw, raw_position, modified, modified_position, next_place}
-use Rattle.hist_read.specs.Showing.{shown, shown_entry}
-
-abbrev pub number_of_code : ReadCode → ℕ
-number_of_code Good = 0
-number_of_code GoodNoData = 10813440
-number_of_code BadOutOfMemory = 2147680256
-number_of_code BadResourceUnavailable = 2147745792
-number_of_code BadContinuationPointInvalid = 2152333312
-number_of_code BadHistoryOperationInvalid = 2154889216
-number_of_code BadInvalidArgument = 2158690304
+use Rattle.hist_read.specs.Showing.{shown, shown_entry, info}
 
 -- ---- what is refused, and where reading begins
 
 -- two at least of start, end and count are given
 abbrev pub is_enough : Details → Bool
-is_enough q = if is_given q.start then is_given q.end || not (q.count == 0) else is_given q.end && not (q.count == 0)
+is_enough q = if is_given q.start_time.0 then is_given q.end_time.0 || not (q.num_values_per_node == 0) else is_given q.end_time.0 && not (q.num_values_per_node == 0)
 
 abbrev pub details_code : Coded Details
 details_code = details.the_row.coded
@@ -49,78 +38,83 @@ IsOfRead id node q p = (p.archive ≡ id) × (p.node ≡ node) × (p.details ≡
 abbrev pub agrees : List ℕ → NodeId → Details → Point → Bool
 agrees id node q p = pointwise nat_eq p.archive id && (same_node p.node node && is_same details_code p.details q)
 
-abbrev pub place_told : List ℕ → NodeId → Details → Option Point → Result (Option Position) ReadCode
-place_told id node q None = Err BadContinuationPointInvalid
-place_told id node q (Some p) = if agrees id node q p then Ok (Some p.position) else Err BadContinuationPointInvalid
+-- where reading goes on: behind this place, of what the vector of the first page covers
+abbrev pub Behind : Type 0
+Behind = Position × List ℕ
+
+abbrev pub place_told : List ℕ → NodeId → Details → Option Point → Result (Option Behind) Status
+place_told id node q None = Err BAD_CONTINUATION_POINT_INVALID
+place_told id node q (Some p) = if agrees id node q p then Ok (Some (p.position, p.vector)) else Err BAD_CONTINUATION_POINT_INVALID
 
 -- the place that a continuation point tells, if there is one
-abbrev pub place_in : List ℕ → NodeId → Details → Option (List ℕ) → Result (Option Position) ReadCode
+abbrev pub place_in : List ℕ → NodeId → Details → Option (List ℕ) → Result (Option Behind) Status
 place_in id node q None = Ok None
 place_in id node q (Some bytes) = place_told id node q (point_in bytes)
 
--- the place behind which reading goes on, or why the read is refused
-abbrev pub judged : List ℕ → NodeId → Details → Option (List ℕ) → Result (Option Position) ReadCode
+-- where reading goes on, or why the read is refused, whatever is held
+abbrev pub judged : List ℕ → NodeId → Details → Option (List ℕ) → Result (Option Behind) Status
 judged id node q continuation =
-    if q.modified && q.bounds then Err BadInvalidArgument else
-    if not (is_enough q) then Err BadHistoryOperationInvalid else
+    if q.is_read_modified && q.return_bounds then Err BAD_INVALID_ARGUMENT else
+    if not (is_enough q) then Err BAD_HISTORY_OPERATION_INVALID else
     place_in id node q continuation
 
--- ---- the answer
+-- ---- a page
 
-abbrev pub refused : ReadCode → NodeResult
-refused code = record { status = code; continuation = None; items = Nothing }
+abbrev pub refused : Status → HistoryReadResult
+refused status = record { status = status; continuation_point = None; history_data = Nothing }
 
-abbrev pub status_of : {X : Type 0} → List X → ReadCode
-status_of [] = GoodNoData
-status_of (x ∷ xs) = Good
+abbrev pub status_for : {X : Type 0} → List X → Status
+status_for [] = GOOD_NO_DATA
+status_for (x ∷ xs) = GOOD
 
--- the continuation point of a place
-abbrev pub point_at : List ℕ → NodeId → Details → Position → List ℕ
-point_at id node q p = point.canon (record { archive = id; node = node; details = q; position = p })
+-- the continuation point of a place, of reading what this vector covers
+abbrev pub point_at : List ℕ → NodeId → Details → List ℕ → Position → List ℕ
+point_at id node q v p = point.canon (record { archive = id; node = node; details = q; position = p; vector = v })
 
-abbrev pub raw_result : Content → List ℕ → NodeId → Query → Option Position → NodeResult
-raw_result R id node query p =
+-- a page of raw values, from the front or behind a place
+abbrev pub raw_result : Content → List ℕ → List ℕ → NodeId → Query → Option Position → HistoryReadResult
+raw_result R v id node query p =
     let q = query.details in
     let all = raw R node q p in
-    record { status = status_of (page q p all); continuation = option_map (point_at id node q) (next_place (raw_position q p) q p all); items = Raw (map (shown query.stamps) (page q p all)) }
+    record { status = status_for (page q p all); continuation_point = option_map (point_at id node q v) (next_place (raw_position q p) q p all); history_data = Raw (map (shown query.stamps) (page q p all)) }
 
-abbrev pub modified_result : Content → List ℕ → NodeId → Query → Option Position → NodeResult
-modified_result R id node query p =
+-- the same of modifications: their values, and beside each what is told of it
+abbrev pub modified_result : Content → List ℕ → List ℕ → NodeId → Query → Option Position → HistoryReadResult
+modified_result R v id node query p =
     let q = query.details in
     let all = modified R node q p in
-    record { status = status_of (page q p all); continuation = option_map (point_at id node q) (next_place (modified_position q p) q p all); items = Modified (map (shown_entry query.stamps) (page q p all)) }
+    record {
+      status = status_for (page q p all);
+      continuation_point = option_map (point_at id node q v) (next_place (modified_position q p) q p all);
+      history_data = Modified (map (shown_entry query.stamps) (page q p all)) (map info (page q p all));
+    }
 
--- a page of what follows a place, or of all
-abbrev pub page_result : Content → List ℕ → NodeId → Query → Option Position → NodeResult
-page_result R id node query p = if query.details.modified then modified_result R id node query p else raw_result R id node query p
+-- a page of a content; v is the vector that its continuation point carries
+abbrev pub page_result : Content → List ℕ → List ℕ → NodeId → Query → Option Position → HistoryReadResult
+page_result R v id node query p = if query.details.is_read_modified then modified_result R v id node query p else raw_result R v id node query p
 
-abbrev pub answer_at : Content → List ℕ → NodeId → Query → Result (Option Position) ReadCode → NodeResult
-answer_at R id node query (Err code) = refused code
-answer_at R id node query (Ok p) = page_result R id node query p
+-- each of its numbers is among those that the content has
+abbrev pub covers : Content → List ℕ → Bool
+covers R v = pointwise nat_le v (numbers_of R)
 
--- what a read of a node over a content is answered
-abbrev pub answer : Content → List ℕ → NodeId → Query → Option (List ℕ) → NodeResult
-answer R id node query continuation = answer_at R id node query (judged id node query.details continuation)
+-- a first page is one of the content, and carries its vector; a later one is one of what the vector of the first page covers, and carries that
+abbrev pub page_from : Content → List ℕ → NodeId → Query → Option Behind → HistoryReadResult
+page_from R id node query None = page_result R (numbers_of R) id node query None
+page_from R id node query (Some behind) =
+    if covers R behind.1 then page_result (cut R (number_of behind.1)) behind.1 id node query (Some behind.0) else refused BAD_CONTINUATION_POINT_INVALID
 
--- ---- what comes in its way
+-- ---- a read
 
-abbrev pub code_of : Setback → ReadCode
-code_of setback.Starved = BadOutOfMemory
-code_of (setback.Store OutOfMemory) = BadOutOfMemory
-code_of (setback.Store fault) = BadResourceUnavailable
+-- the answer, or what came in the way of the read
+abbrev pub told : HistoryReadResult → Mark → HistoryReadResult
+told answer Fine = answer
+told answer Starved = refused BAD_OUT_OF_MEMORY
+told answer (Met fault) = refused (status_of fault)
 
--- the answer, or what came in its way
-abbrev pub told : NodeResult → Option Setback → NodeResult
-told answer None = answer
-told answer (Some setback) = refused (code_of setback)
+abbrev pub read_from : List ℕ → NodeId → Query → Content → Result (Option Behind) Status → Marked (HistoryReadResult × Content)
+read_from id node query R (Err status) = give (refused status, R)
+read_from id node query R (Ok behind) = step (λ mark. (told (page_from R id node query behind) mark, R))
 
-abbrev pub faults_of : Option Setback → List StoreFault
-faults_of (Some (setback.Store fault)) = fault ∷ []
-faults_of met = []
-
--- a node was read: the answer, or want of memory, or a fault of the store; the content stays
-pub record Reads (old new : Store) (answer : NodeResult) (result : NodeResult) (met : Option Setback) : Type 0 where
-  pub answered : new.honest → result ≡ told answer met
-  pub kept : new.honest → new.broken ≡ false → new.content ≡ old.content
-  pub crash : new.honest → (left : Content) → new.may_hold left → old.may_hold left
-  pub passes : Passes old new (faults_of met)
+-- a read of a node's history, by what comes in its way: first what is refused whatever is held, and then a page, which is one step; the content stays
+abbrev pub read_node : List ℕ → NodeId → Query → Option (List ℕ) → Content → Marked (HistoryReadResult × Content)
+read_node id node query continuation R = read_from id node query R (judged id node query.details continuation)

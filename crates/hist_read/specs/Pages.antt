@@ -7,7 +7,7 @@ use Rattle.records.specs.Contents.{Content}
 use Rattle.records.specs.declared.shown.Held.{Held}
 use Rattle.hist_read.specs.Asking.{has_both, end_time, direction}
 use Rattle.hist_read.specs.Reads.{is_near_alone, near_part, body_part, far_value, value_or_missing, open_bound, values, last_time, time_before, page_size, page, raw, next_place, raw_position, modified, modified_position}
-use Rattle.hist_read.specs.declared.query.Details.{Details}
+use Rattle.ua_services.specs.declared.history.ReadRawModifiedDetails.{ReadRawModifiedDetails as Details}
 use Rattle.hist_read.specs.declared.point.Position.{Position}
 use Rattle.hist_read.specs.declared.item.Item.{Item}
 use Rattle.hist_read.specs.declared.raw.Found.{Found}
@@ -20,7 +20,7 @@ body_limit q p = if is_near_alone q then 0 else page_size q p + 1
 
 -- the far bound is asked for
 abbrev pub has_far : Details → Bool
-has_far q = q.bounds && not (is_near_alone q)
+has_far q = q.return_bounds && not (is_near_alone q)
 
 -- the values behind the near bound, one more than the page has, and the one at the far limit
 pub record IsFoundBehind (R : Content) (node : NodeId) (q : Details) (p : Option Position) (found : Vec Held Global × Option Held) : Type 0 where

@@ -1,4 +1,4 @@
--- A continuation point as bytes, format 1: the byte 1, archive, node, what was asked, and the place where the page ended (Part 4, 7.9).
+-- A continuation point as bytes, format 3: the byte 3, archive, node, what was asked, the place where the page ended, and the vector of the first page (Part 4, 7.9).
 use Rattle.std.specs.Prelude.{◌≡◌, ℕ, ◌^◌, ◌<◌, nat_lt, nat_le, ◌==◌, ℤ, pos, ◌≤ℤ◌, int_le, Bool, true, not, ◌&&◌, List, [], length, Option, Some, None, unwrap_or, is_some, Result, Ok, Err, if◌then◌else◌}
 use Rattle.std.specs.Ordering.{int_eq}
 use Rattle.std.specs.Int.{w16, w32, w64}
@@ -9,9 +9,12 @@ use Rattle.ua_binary.specs.declared.fault.BinaryFault.{BinaryFault}
 use Rattle.ua_binary.specs.declared.fault.BinaryFault.TheVariants.{BadEncodingByte, BadLength}
 use Rattle.ua_binary.specs.declared.values.NodeId.{NodeId}
 use Rattle.ua_binary.specs.declared.values.NodeId.TheVariants.{Named, Opaque}
-use Rattle.ua_binary.specs.Format.{Format, byte, block, ◌▸◌, chosen, headed, standing_for, passing, fitting, refused, whole}
-use Rattle.ua_binary.specs.Binary.{unsigned, signed, text, byte_string, two_byte_node, four_byte_node, numeric_node, global_node, named_parts, opaque_parts, node_form_of, node_of, IsNodeId}
-use Rattle.hist_read.specs.declared.query.Details.{Details}
+use Rattle.ua_binary.specs.Format.{Format, byte, block, ◌▸◌, chosen, headed, standing_for, passing, fitting, raised, refused, whole}
+use Rattle.ua_binary.specs.Binary.{unsigned, signed, ticks, text, byte_string, two_byte_node, four_byte_node, numeric_node, global_node, named_parts, opaque_parts, node_form_of, node_of, IsNodeId}
+use Rattle.ua_services.specs.declared.history.ReadRawModifiedDetails.{ReadRawModifiedDetails as Details}
+use Rattle.ua_services.specs.History.{raw_of, raw_fields}
+use Rattle.stamp.specs.Numbers.{IsVector}
+use Rattle.stamp.specs.Vector.{vector}
 use Rattle.hist_read.specs.declared.point.Phase.{Phase}
 use Rattle.hist_read.specs.declared.point.Phase.TheVariants.{Near, Body}
 use Rattle.hist_read.specs.declared.point.Position.{Position}
@@ -41,21 +44,12 @@ short_node = fitting IsNodeId (headed node_form_of byte short_form)
 
 -- ---- what was asked
 
-abbrev pub DetailsFields : Type 0
-DetailsFields = Bool × (ℤ × (ℤ × (ℕ × Bool)))
-
-abbrev pub details_of : DetailsFields → Details
-details_of fields = record { modified = fields.0; start = fields.1.0; end = fields.1.1.0; count = fields.1.1.1.0; bounds = fields.1.1.1.1 }
-
-abbrev pub details_fields : Details → DetailsFields
-details_fields d = (d.modified, (d.start, (d.end, (d.count, d.bounds))))
-
 abbrev pub IsDetails : Details → Type 0
-IsDetails d = FitsSigned w64 d.start × FitsSigned w64 d.end × (d.count < 2 ^ 32)
+IsDetails d = FitsSigned w64 d.start_time.0 × FitsSigned w64 d.end_time.0 × (d.num_values_per_node < 2 ^ 32)
 
--- modified, start, end, count, bounds, as the request has them
+-- whether modifications are meant, start, end, the most values, whether bounds are wanted, as the request has them
 unfoldable pub details : Format BinaryFault Details
-details = fitting IsDetails (standing_for details_of details_fields (flag ▸ signed w64 ▸ signed w64 ▸ unsigned w32 ▸ flag))
+details = fitting IsDetails (standing_for raw_of raw_fields (flag ▸ ticks ▸ ticks ▸ unsigned w32 ▸ flag))
 
 -- ---- where the page ended
 
@@ -107,22 +101,26 @@ position = fitting IsPosition (standing_for position_of position_fields (phase �
 
 -- the near bound may have been the last item only where raw values are asked for with their bounds
 abbrev pub is_phase_for : Details → Phase → Bool
-is_phase_for d Near = d.bounds && not d.modified
+is_phase_for d Near = d.return_bounds && not d.is_read_modified
 is_phase_for d Body = true
 
 -- a modification has its record's stamp, a raw value none
 abbrev pub is_stamp_for : Details → Option Stamp → Bool
-is_stamp_for d None = not d.modified
-is_stamp_for d (Some s) = d.modified
+is_stamp_for d None = not d.is_read_modified
+is_stamp_for d (Some s) = d.is_read_modified
 
 -- none are counted where both times are given; else one at least was given, and fewer than are asked for
 abbrev pub is_given_for : Details → ℕ → Bool
-is_given_for d given = if has_both d then given == 0 else (nat_lt 0 given && nat_lt given d.count)
+is_given_for d given = if has_both d then given == 0 else (nat_lt 0 given && nat_lt given d.num_values_per_node)
 
 abbrev pub suits : Details → Position → Bool
 suits d p = is_phase_for d p.phase && (is_stamp_for d p.stamp && is_given_for d p.given)
 
 -- ---- the whole
+
+-- the vector of the first page
+abbrev pub first_vector : Format BinaryFault (List ℕ)
+first_vector = raised (λ fault. BadEncodingByte) vector
 
 -- a continuation point's fields behind its first byte
 pub record Point : Type 0 where
@@ -130,19 +128,20 @@ pub record Point : Type 0 where
   pub node : NodeId
   pub details : Details
   pub position : Position
+  pub vector : List ℕ
 
 -- a borrowed one as these
 abbrev pub point_of : Place → Point
-point_of p = record { archive = p.archive; node = node_of p.node; details = p.details; position = p.position }
+point_of p = record { archive = p.archive; node = node_of p.node; details = p.details; position = p.position; vector = p.vector }
 
 abbrev pub PointFields : Type 0
-PointFields = ℕ × (List ℕ × (NodeId × (Details × Position)))
+PointFields = ℕ × (List ℕ × (NodeId × (Details × (Position × List ℕ))))
 
 abbrev pub fields_of : Point → PointFields
-fields_of p = (1, (p.archive, (p.node, (p.details, p.position))))
+fields_of p = (3, (p.archive, (p.node, (p.details, (p.position, p.vector)))))
 
 abbrev pub of_fields : PointFields → Point
-of_fields fields = record { archive = fields.1.0; node = fields.1.1.0; details = fields.1.1.1.0; position = fields.1.1.1.1 }
+of_fields fields = record { archive = fields.1.0; node = fields.1.1.0; details = fields.1.1.1.0; position = fields.1.1.1.1.0; vector = fields.1.1.1.1.1 }
 
 -- what has a spelling
 pub record IsPoint (p : Point) : Type 0 where
@@ -151,10 +150,11 @@ pub record IsPoint (p : Point) : Type 0 where
   pub details : IsDetails p.details
   pub position : IsPosition p.position
   pub suits : suits p.details p.position ≡ true
+  pub vector : IsVector p.vector
 
 unfoldable pub point : Format BinaryFault Point
 point = fitting IsPoint (passing (λ p. suits p.details p.position) BadEncodingByte
-    (standing_for of_fields fields_of (passing (λ n. n == 1) BadEncodingByte byte ▸ block 16 ▸ short_node ▸ details ▸ position)))
+    (standing_for of_fields fields_of (passing (λ n. n == 3) BadEncodingByte byte ▸ block 16 ▸ short_node ▸ details ▸ position ▸ first_vector)))
 
 abbrev pub told : {A E : Type 0} → Result A E → Option A
 told (Ok a) = Some a

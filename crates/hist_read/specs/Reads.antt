@@ -15,7 +15,7 @@ use Rattle.archive.specs.declared.reading.Direction.{Direction}
 use Rattle.archive.specs.declared.reading.Direction.TheVariants.{Forward, Backward}
 use Rattle.archive.specs.declared.reading.LogPlace.{LogPlace}
 use Rattle.hist_read.specs.Asking.{has_both, origin_time, far_limit, direction}
-use Rattle.hist_read.specs.declared.query.Details.{Details}
+use Rattle.ua_services.specs.declared.history.ReadRawModifiedDetails.{ReadRawModifiedDetails as Details}
 use Rattle.hist_read.specs.declared.point.Phase.{Phase}
 use Rattle.hist_read.specs.declared.point.Phase.TheVariants.{Near, Body}
 use Rattle.hist_read.specs.declared.point.Position.{Position}
@@ -107,11 +107,11 @@ far R node q before = far_at R node q before (far_limit q)
 
 -- bounds asked for with count 1: the near bound is all
 abbrev pub is_near_alone : Details → Bool
-is_near_alone q = q.bounds && q.count == 1
+is_near_alone q = q.return_bounds && q.num_values_per_node == 1
 
 -- the near bound, where it wasn't given yet
 abbrev pub near_part : Content → NodeId → Details → Option Position → List Item
-near_part R node q None = if q.bounds then near R node q ∷ [] else []
+near_part R node q None = if q.return_bounds then near R node q ∷ [] else []
 near_part R node q (Some p) = []
 
 -- beyond which time the values are still to come; with bounds the value at the origin is the near bound's
@@ -120,7 +120,7 @@ limit_behind q Near time = origin_time q
 limit_behind q Body time = time
 
 abbrev pub limit_at : Details → Option Position → Option ℤ
-limit_at q None = if q.bounds then Some (origin_time q) else None
+limit_at q None = if q.return_bounds then Some (origin_time q) else None
 limit_at q (Some p) = Some (limit_behind q p.phase p.time)
 
 -- beyond a limit, where there is one
@@ -137,7 +137,7 @@ values = map (λ h. Value h)
 
 -- the far bound, behind items of which the last has this time
 abbrev pub far_part : Content → NodeId → Details → ℤ → List Item
-far_part R node q before = if q.bounds && not (is_near_alone q) then far R node q before ∷ [] else []
+far_part R node q before = if q.return_bounds && not (is_near_alone q) then far R node q before ∷ [] else []
 
 -- the time of the item that was given last
 abbrev pub time_before : Details → Option Position → ℤ
@@ -172,11 +172,11 @@ given_before (Some p) = p.given
 
 -- the most items of a page: 1,000; the count limits each page where both times are given, and else the whole
 abbrev pub page_size : Details → Option Position → ℕ
-page_size q p = if q.count == 0 then 1000 else min 1000 (if has_both q then q.count else q.count - given_before p)
+page_size q p = if q.num_values_per_node == 0 then 1000 else min 1000 (if has_both q then q.num_values_per_node else q.num_values_per_node - given_before p)
 
 -- no more than the count, where a time is open
 abbrev pub is_spent : Details → Option Position → Bool
-is_spent q p = not (has_both q) && nat_le q.count (given_before p + page_size q p)
+is_spent q p = not (has_both q) && nat_le q.num_values_per_node (given_before p + page_size q p)
 
 abbrev pub page : {X : Type 0} → Details → Option Position → List X → List X
 page q p items = take (page_size q p) items

@@ -1,14 +1,15 @@
 -- How values and modifications are shown (Part 4, 7.11; Part 11, HistoryData and HistoryModifiedData).
 use Rattle.std.specs.Prelude.{ℕ, ℤ, if◌then◌else◌, Option, Some, None, bit_or}
 use Rattle.ua_binary.specs.declared.codes.Status.{Status}
+use Rattle.ua_binary.specs.declared.codes.TheConstants.Status.{BAD_BOUND_NOT_FOUND}
 use Rattle.ua_variant.specs.declared.data.DataValue.{DataValue}
 use Rattle.records.specs.Moments.{ticks_of}
 use Rattle.records.specs.declared.shown.Entry.{Entry}
 use Rattle.hist_read.specs.declared.item.Item.{Item}
 use Rattle.hist_read.specs.declared.item.Item.TheVariants.{Value, Missing}
-use Rattle.hist_read.specs.declared.query.TimestampsToReturn.{TimestampsToReturn}
-use Rattle.hist_read.specs.declared.query.TimestampsToReturn.TheVariants.{Source, Server, Both}
-use Rattle.hist_read.specs.declared.showing.Modification.{Modification}
+use Rattle.ua_services.specs.declared.attributes.TimestampsToReturn.{TimestampsToReturn}
+use Rattle.ua_services.specs.declared.attributes.TimestampsToReturn.TheVariants.{Source, Server, Both, Neither}
+use Rattle.ua_services.specs.declared.history.ModificationInfo.{ModificationInfo}
 
 abbrev pub bits_of : Option Status → ℕ
 bits_of None = 0
@@ -27,28 +28,30 @@ no_value = record { value = None; status = None; source_time = None; source_pico
 abbrev pub with_status : Option Status → DataValue → DataValue
 with_status status v = record { value = v.value; status = status; source_time = v.source_time; source_pico = v.source_pico; server_time = v.server_time; server_pico = v.server_pico }
 
--- Bad_BoundNotFound
-abbrev pub bound_not_found : Status
-bound_not_found = record { 0 = 2161573888 }
-
 -- a live value as it is stored, with its source time; a missing bound has its time alone
 abbrev pub item_value : Item → DataValue
 item_value (Value h) = at_time h.time (with_status (if h.extra then with_extra h.value.status else h.value.status) h.value)
-item_value (Missing time) = at_time time (with_status (Some bound_not_found) no_value)
+item_value (Missing time) = at_time time (with_status (Some BAD_BOUND_NOT_FOUND) no_value)
 
 -- a modification's value, else its source time alone
 abbrev pub entry_value : ℤ → Option DataValue → DataValue
 entry_value time None = at_time time no_value
 entry_value time (Some v) = at_time time v
 
--- the times that were asked for
+-- the times that were asked for; where neither is, none
 abbrev pub with_stamps : TimestampsToReturn → DataValue → DataValue
 with_stamps Source v = record { value = v.value; status = v.status; source_time = v.source_time; source_pico = v.source_pico; server_time = None; server_pico = None }
 with_stamps Server v = record { value = v.value; status = v.status; source_time = None; source_pico = None; server_time = v.server_time; server_pico = v.server_pico }
 with_stamps Both v = v
+with_stamps Neither v = record { value = v.value; status = v.status; source_time = None; source_pico = None; server_time = None; server_pico = None }
 
 abbrev pub shown : TimestampsToReturn → Item → DataValue
 shown stamps x = with_stamps stamps (item_value x)
 
-abbrev pub shown_entry : TimestampsToReturn → Entry → Modification
-shown_entry stamps e = record { value = with_stamps stamps (entry_value e.time e.value); tick = e.tick; kind = e.kind; user = e.user }
+-- the value of a modification
+abbrev pub shown_entry : TimestampsToReturn → Entry → DataValue
+shown_entry stamps e = with_stamps stamps (entry_value e.time e.value)
+
+-- when it was made, what it did, and who asked for it
+abbrev pub info : Entry → ModificationInfo
+info e = record { modification_time = record { 0 = e.tick }; update_type = e.kind; user_name = Some e.user }

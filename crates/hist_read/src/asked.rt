@@ -7,9 +7,9 @@ ghost use Rattle.hist_read.specs.Reads.{greatest_time, in_body, is_past_any, lim
 ghost use Rattle.archive.specs.Reading.{is_between, is_past};
 
 use crate::point::{Phase, Position};
-use crate::query::Details;
 use archive::Direction;
 use records::Moment;
+use ua_services::ReadRawModifiedDetails;
 
 /// The most items of a page.
 const LARGEST_PAGE: usize = 1000;
@@ -67,73 +67,70 @@ fn previous(time: Moment) -> Moment
     }
 }
 
-impl Details {
-    ghost use Rattle.hist_read.specs.Asking.{has_both, first_time, origin_time, direction};
-    ghost use Rattle.hist_read.specs.Reads.{greatest_time, in_body};
+/// Whether both times are given.
+pub(crate) fn has_both(details: &ReadRawModifiedDetails) -> bool
+    ensures { result ≡ has_both details.now }
+{
+    details.start_time.0 >= 1 && details.end_time.0 >= 1
+}
 
-    /// Whether both times are given.
-    pub(crate) fn has_both(&self) -> bool
-        ensures { result ≡ has_both self.now }
-    {
-        self.start >= 1 && self.end >= 1
+/// Where reading begins.
+pub(crate) fn origin(details: &ReadRawModifiedDetails) -> Moment
+    ensures { result ≡ origin_time details.now }
+{
+    if details.start_time.0 >= 1 {
+        Moment::at(details.start_time.0)
+    } else {
+        Moment::at(details.end_time.0)
     }
+}
 
-    /// Where reading begins.
-    pub(crate) fn origin(&self) -> Moment
-        ensures { result ≡ origin_time self.now }
-    {
-        if self.start >= 1 {
-            Moment::at(self.start)
-        } else {
-            Moment::at(self.end)
+/// The direction of reading.
+pub(crate) fn direction(details: &ReadRawModifiedDetails) -> Direction
+    ensures { result ≡ direction details.now }
+{
+    let (start, end) = (details.start_time.0, details.end_time.0);
+    if start < 1 || (1 <= end && end < start) {
+        Direction::Backward
+    } else {
+        Direction::Forward
+    }
+}
+
+/// The moments of the body.
+#[tactic(auto, using(records::specs::Moments::whole_again, records::specs::Moments::pico_within))]
+pub(crate) fn body(details: &ReadRawModifiedDetails) -> Span
+    requires { IsTrue (is_given details.now.start_time.0 || is_given details.now.end_time.0) }
+    ensures { (t : ℤ) → first_time ≤ℤ t → t ≤ℤ greatest_time → is_between result.from result.to t ≡ in_body details.now t }
+{
+    let (start, end) = (details.start_time.0, details.end_time.0);
+    if end < 1 {
+        Span {
+            from: Moment::at(start),
+            to: last_within(i64::MAX),
         }
-    }
-
-    /// The direction of reading.
-    pub(crate) fn direction(&self) -> Direction
-        ensures { result ≡ direction self.now }
-    {
-        if self.start < 1 || (1 <= self.end && self.end < self.start) {
-            Direction::Backward
-        } else {
-            Direction::Forward
+    } else if start < 1 {
+        Span {
+            from: Moment::at(1),
+            to: Moment::at(end),
         }
-    }
-
-    /// The moments of the body.
-    #[tactic(auto, using(records::specs::Moments::whole_again, records::specs::Moments::pico_within))]
-    pub(crate) fn body(&self) -> Span
-        requires { IsTrue (is_given self.now.start || is_given self.now.end) }
-        ensures { (t : ℤ) → first_time ≤ℤ t → t ≤ℤ greatest_time → is_between result.from result.to t ≡ in_body self.now t }
-    {
-        if self.end < 1 {
-            Span {
-                from: Moment::at(self.start),
-                to: last_within(i64::MAX),
-            }
-        } else if self.start < 1 {
-            Span {
-                from: Moment::at(1),
-                to: Moment::at(self.end),
-            }
-        } else if self.start == self.end {
-            Span {
-                from: Moment::at(self.start),
-                to: last_within(self.start),
-            }
-        } else if self.start < self.end {
-            Span {
-                from: Moment::at(self.start),
-                to: last_within(self.end - 1),
-            }
-        } else {
-            Span {
-                from: Moment {
-                    ticks: self.end,
-                    pico: 1,
-                },
-                to: Moment::at(self.start),
-            }
+    } else if start == end {
+        Span {
+            from: Moment::at(start),
+            to: last_within(start),
+        }
+    } else if start < end {
+        Span {
+            from: Moment::at(start),
+            to: last_within(end - 1),
+        }
+    } else {
+        Span {
+            from: Moment {
+                ticks: end,
+                pico: 1,
+            },
+            to: Moment::at(start),
         }
     }
 }
@@ -175,37 +172,42 @@ impl Span {
 }
 
 /// What reading goes on from.
-pub(crate) fn limit_at(details: &Details, position: &Option<Position>) -> Option<Moment>
+pub(crate) fn limit_at(
+    details: &ReadRawModifiedDetails,
+    position: &Option<Position>,
+) -> Option<Moment>
     ensures limit { result ≡ limit_at details.now position.now }
-    ensures some { IsTrue (is_given details.now.start || is_given details.now.end) → IfSome position.now (λ p. first_time ≤ℤ p.time) → IfSome result (λ t. first_time ≤ℤ t) }
+    ensures some { IsTrue (is_given details.now.start_time.0 || is_given details.now.end_time.0) → IfSome position.now (λ p. first_time ≤ℤ p.time) → IfSome result (λ t. first_time ≤ℤ t) }
 {
     match position {
         None => {
-            if details.bounds {
-                Some(details.origin())
+            if details.return_bounds {
+                Some(origin(details))
             } else {
                 None
             }
         }
         Some(p) => match p.phase {
-            Phase::Near => Some(details.origin()),
+            Phase::Near => Some(origin(details)),
             Phase::Body => Some(p.time),
         },
     }
 }
 
 /// The most items of a page.
-pub(crate) fn page_size(details: &Details, position: &Option<Position>) -> usize
+pub(crate) fn page_size(details: &ReadRawModifiedDetails, position: &Option<Position>) -> usize
     ensures value { result ≡ page_size details.now position.now }
     ensures small { result ≤ 1000 }
 {
-    if details.count == 0 {
+    if details.num_values_per_node == 0 {
         return LARGEST_PAGE;
     }
-    let count = if details.has_both() {
-        details.count
+    let count = if has_both(details) {
+        details.num_values_per_node
     } else {
-        details.count.saturating_sub(given_before(position))
+        details
+            .num_values_per_node
+            .saturating_sub(given_before(position))
     };
     LARGEST_PAGE.min(count as usize)
 }
@@ -221,43 +223,47 @@ fn given_before(position: &Option<Position>) -> u32
 }
 
 /// Whether no more items are due behind a page of this size.
-fn is_spent(details: &Details, position: &Option<Position>) -> bool
+fn is_spent(details: &ReadRawModifiedDetails, position: &Option<Position>) -> bool
     ensures { result ≡ is_spent details.now position.now }
 {
-    if details.has_both() {
+    if has_both(details) {
         return false;
     }
     let given = given_before(position) as usize;
-    details.count as usize <= given + page_size(details, position)
+    details.num_values_per_node as usize <= given + page_size(details, position)
 }
 
 /// Whether a further page exists, of so many items that follow.
-pub(crate) fn goes_on(details: &Details, position: &Option<Position>, count: usize) -> bool
+pub(crate) fn goes_on(
+    details: &ReadRawModifiedDetails,
+    position: &Option<Position>,
+    count: usize,
+) -> bool
     ensures { result ≡ (nat_lt (page_size details.now position.now) count && not (is_spent details.now position.now)) }
 {
     page_size(details, position) < count && !is_spent(details, position)
 }
 
 /// How many items were given with a page, where reading goes on.
-pub(crate) fn given_after(details: &Details, position: &Option<Position>) -> u32
+pub(crate) fn given_after(details: &ReadRawModifiedDetails, position: &Option<Position>) -> u32
     requires { is_spent details.now position.now ≡ false }
     ensures { result ≡ given_after details.now position.now }
 {
-    if details.has_both() {
+    if has_both(details) {
         return 0;
     }
     given_before(position) + page_size(details, position) as u32
 }
 
 /// The times of the body that are still to come.
-pub(crate) fn span_after(details: &Details, position: &Option<Position>) -> Span
-    requires given { IsTrue (is_given details.now.start || is_given details.now.end) }
+pub(crate) fn span_after(details: &ReadRawModifiedDetails, position: &Option<Position>) -> Span
+    requires given { IsTrue (is_given details.now.start_time.0 || is_given details.now.end_time.0) }
     requires place { IfSome position.now (λ p. first_time ≤ℤ p.time) }
     ensures { (t : ℤ) → first_time ≤ℤ t → t ≤ℤ greatest_time → is_between result.from result.to t ≡ (in_body details.now t && is_past_any (direction details.now) (limit_at details.now position.now) t) }
 {
-    let span = details.body();
+    let span = body(details);
     match limit_at(details, position) {
         None => span,
-        Some(limit) => span.beyond(details.direction(), limit),
+        Some(limit) => span.beyond(direction(details), limit),
     }
 }

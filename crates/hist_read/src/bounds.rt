@@ -1,18 +1,22 @@
 //! The values at the bounds of a read.
 
 ghost use Rattle.std.specs.Prelude.{◌≡◌};
+ghost use Rattle.stamp.specs.Numbers.{number_of};
+ghost use Rattle.records.specs.Contents.{cut};
 ghost use Rattle.records.specs.Records.{current};
 ghost use Rattle.archive.specs.Store.{Asks};
 ghost use Rattle.archive.specs.Reading.{first};
 ghost use Rattle.hist_read.specs.Asking.{end_time};
 ghost use Rattle.hist_read.specs.Reads.{near, nearest_from, far_value};
 
+use crate::asked::{direction, origin};
 use crate::item::Item;
-use crate::query::Details;
 use archive::{Archive, Direction, StoreFault};
 use records::{Held, Moment};
+use stamp::Vector;
 use std::alloc::Global;
 use ua_binary::NodeId;
+use ua_services::ReadRawModifiedDetails;
 
 /// The first of some values.
 fn first_of(mut found: Vec<Held>) -> Option<Held>
@@ -28,10 +32,11 @@ fn value_at<A: Archive>(
     archive: &mut A,
     node: &NodeId,
     time: Moment,
+    within: &Vector,
 ) -> Result<Option<Held>, StoreFault>
-    ensures { Asks (A.state archive.old) (A.state archive.new) result (λ h. h ≡ current (A.state archive.old).content node.now time) }
+    ensures { Asks (A.state archive.old) (A.state archive.new) result (λ h. h ≡ current (cut (A.state archive.old).content (number_of within.now)) node.now time) }
 {
-    let found = archive.range(alloc, node, time, time, Direction::Forward, 1)?;
+    let found = archive.range(alloc, node, time, time, Direction::Forward, 1, within)?;
     Ok(first_of(found))
 }
 
@@ -42,13 +47,14 @@ fn nearest_from<A: Archive>(
     node: &NodeId,
     direction: Direction,
     time: Moment,
+    within: &Vector,
 ) -> Result<Option<Held>, StoreFault>
-    ensures { Asks (A.state archive.old) (A.state archive.new) result (λ h. h ≡ nearest_from (A.state archive.old).content node.now direction time) }
+    ensures { Asks (A.state archive.old) (A.state archive.new) result (λ h. h ≡ nearest_from (cut (A.state archive.old).content (number_of within.now)) node.now direction time) }
 {
-    if let Some(held) = value_at(alloc, archive, node, time)? {
+    if let Some(held) = value_at(alloc, archive, node, time, within)? {
         return Ok(Some(held));
     }
-    archive.next_outside(alloc, node, time, direction)
+    archive.next_outside(alloc, node, time, direction, within)
 }
 
 /// The near bound: the value at the origin, else the nearest one against the direction, else none there.
@@ -56,15 +62,16 @@ pub(crate) fn near<A: Archive>(
     alloc: Global,
     archive: &mut A,
     node: &NodeId,
-    details: &Details,
+    details: &ReadRawModifiedDetails,
+    within: &Vector,
 ) -> Result<Item, StoreFault>
-    ensures { Asks (A.state archive.old) (A.state archive.new) result (λ i. i ≡ near (A.state archive.old).content node.now details.now) }
+    ensures { Asks (A.state archive.old) (A.state archive.new) result (λ i. i ≡ near (cut (A.state archive.old).content (number_of within.now)) node.now details.now) }
 {
-    let back = details.direction().opposite();
-    let origin = details.origin();
-    match nearest_from(alloc, archive, node, back, origin)? {
+    let back = direction(details).opposite();
+    let start = origin(details);
+    match nearest_from(alloc, archive, node, back, start, within)? {
         Some(held) => Ok(Item::Value(held)),
-        None => Ok(Item::Missing(origin)),
+        None => Ok(Item::Missing(start)),
     }
 }
 
@@ -74,18 +81,19 @@ pub(crate) fn far_value<A: Archive>(
     alloc: Global,
     archive: &mut A,
     node: &NodeId,
-    details: &Details,
+    details: &ReadRawModifiedDetails,
+    within: &Vector,
 ) -> Result<Option<Held>, StoreFault>
-    ensures { Asks (A.state archive.old) (A.state archive.new) result (λ h. h ≡ far_value (A.state archive.old).content node.now details.now (end_time details.now)) }
+    ensures { Asks (A.state archive.old) (A.state archive.new) result (λ h. h ≡ far_value (cut (A.state archive.old).content (number_of within.now)) node.now details.now (end_time details.now)) }
 {
-    let direction = details.direction();
-    let end = Moment::at(details.end);
-    if details.origin() == end {
+    let onward = direction(details);
+    let end = Moment::at(details.end_time.0);
+    if origin(details) == end {
         let last = Moment {
-            ticks: details.end,
+            ticks: details.end_time.0,
             pico: 9999,
         };
-        return archive.next_outside(alloc, node, last, direction);
+        return archive.next_outside(alloc, node, last, onward, within);
     }
-    nearest_from(alloc, archive, node, direction, end)
+    nearest_from(alloc, archive, node, onward, end, within)
 }

@@ -10,7 +10,8 @@ ghost use Rattle.hist_read.specs.Asking.{is_given};
 ghost use Rattle.hist_read.specs.Point.{point};
 ghost use Rattle.hist_read.specs.Reads.{modified, modified_position, next_place, page};
 
-use crate::query::Details;
+use crate::asked::body;
+use ua_services::ReadRawModifiedDetails;
 
 /// What is read is spelled there, what is spelled is read whatever follows, and what is written is a
 /// spelling; no spelling begins another, and no two points have one spelling.
@@ -22,10 +23,10 @@ pub fn continuation_points_are_told_by_their_bytes()
 
 /// A page of modifications, and what follows the place where it ends, are together what was to come: over
 /// an unchanged content each modification comes once, and none is missed.
-pub fn pages_of_modifications_join(details: Details)
-    requires { IsTrue (is_given details.start || is_given details.end) }
+pub fn pages_of_modifications_join(details: ReadRawModifiedDetails)
+    requires { IsTrue (is_given details.start_time.0 || is_given details.end_time.0) }
     ensures { (R : Content) → IsLawfulContent R → (node : Node) → (p : Option Position) → (next : Position) → next_place (modified_position details p) details p (modified R node details p) ≡ Some next
         → modified R node details p ≡ page details p (modified R node details p) ++ modified R node details (Some next) }
 {
-    let _span = details.body();
+    let _span = body(&details);
 }

@@ -1,19 +1,21 @@
 //! Pages of modifications.
 
 ghost use Rattle.std.specs.Prelude.{◌≡◌, ◌||◌, IsTrue, false};
+ghost use Rattle.stamp.specs.Numbers.{number_of};
+ghost use Rattle.records.specs.Contents.{cut};
 ghost use Rattle.archive.specs.Store.{Asks};
 ghost use Rattle.hist_read.specs.Asking.{is_given};
 ghost use Rattle.hist_read.specs.Reads.{page, is_spent, next_place, place_at, modified_position};
 ghost use Rattle.hist_read.specs.Pages.{IsModifiedPage};
 
-use crate::asked::{given_after, goes_on, page_size};
+use crate::asked::{body, direction, given_after, goes_on, page_size};
 use crate::point::{Phase, Position};
-use crate::query::Details;
 use archive::{Archive, LogPlace, StoreFault};
 use records::Entry;
-use stamp::Stamp;
+use stamp::{Stamp, Vector};
 use std::alloc::Global;
 use ua_binary::NodeId;
+use ua_services::ReadRawModifiedDetails;
 
 /// A page of modifications.
 #[derive(Drop)]
@@ -40,7 +42,11 @@ fn place_at(position: &Option<Position>) -> Option<LogPlace>
 }
 
 /// The place behind a modification, where reading goes on.
-fn modified_position(details: &Details, position: &Option<Position>, entry: &Entry) -> Position
+fn modified_position(
+    details: &ReadRawModifiedDetails,
+    position: &Option<Position>,
+    entry: &Entry,
+) -> Position
     requires { is_spent details.now position.now ≡ false }
     ensures { result ≡ modified_position details.now position.now entry.now }
 {
@@ -57,7 +63,11 @@ fn modified_position(details: &Details, position: &Option<Position>, entry: &Ent
 }
 
 /// The page that some modifications begin with.
-fn page(mut entries: Vec<Entry>, details: &Details, position: &Option<Position>) -> ModifiedPage
+fn page(
+    mut entries: Vec<Entry>,
+    details: &ReadRawModifiedDetails,
+    position: &Option<Position>,
+) -> ModifiedPage
     ensures items { result.entries.items ≡ page details.now position.now entries.items }
     ensures next { result.next ≡ next_place (modified_position details.now position.now) details.now position.now entries.items }
 {
@@ -81,16 +91,19 @@ pub(crate) fn read_modified<A: Archive>(
     alloc: Global,
     archive: &mut A,
     node: &NodeId,
-    details: &Details,
+    details: &ReadRawModifiedDetails,
     position: &Option<Position>,
+    within: &Vector,
 ) -> Result<ModifiedPage, StoreFault>
-    requires { IsTrue (is_given details.now.start || is_given details.now.end) }
-    ensures { Asks (A.state archive.old) (A.state archive.new) result (IsModifiedPage (A.state archive.old).content node.now details.now position.now) }
+    requires { IsTrue (is_given details.now.start_time.0 || is_given details.now.end_time.0) }
+    ensures { Asks (A.state archive.old) (A.state archive.new) result (IsModifiedPage (cut (A.state archive.old).content (number_of within.now)) node.now details.now position.now) }
 {
-    let direction = details.direction();
-    let span = details.body();
+    let onward = direction(details);
+    let span = body(details);
     let after = place_at(position);
     let limit = page_size(details, position) + 1;
-    let entries = archive.log(alloc, node, span.from, span.to, after, direction, limit)?;
+    let entries = archive.log(
+        alloc, node, span.from, span.to, after, onward, limit, within,
+    )?;
     Ok(page(entries, details, position))
 }

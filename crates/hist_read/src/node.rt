@@ -1,66 +1,55 @@
 //! Reads of a node's history.
 
-ghost use Rattle.std.specs.Prelude.{◌≡◌, ◌↔◌, IsTrue, ◌||◌, pos, ◌≤ℤ◌, IfOk, IfErr, IfSome, Option, option_map, Ok, Err, true, false};
+ghost use Rattle.std.specs.Prelude.{◌≡◌, ◌↔◌, ◌<◌, ◌^◌, nat_le, length, All, IsTrue, ◌||◌, ◌≤ℤ◌, List, IfOk, IfErr, IfSome, Option, option_map, Ok, Err, true, false};
 ghost use Rattle.std.specs.Option.{option_copied};
-ghost use Rattle.ua_binary.specs.Binary.{node_of, IsNodeId, IsShortNode};
-ghost use Rattle.hist_read.specs.declared.setback.Setback.{Setback as Met};
-ghost use Rattle.hist_read.specs.declared.code.ReadCode.TheVariants.{BadResourceUnavailable};
+ghost use Rattle.stamp.specs.Numbers.{number_of, IsVector};
+ghost use Rattle.ua_binary.specs.Binary.{node_of, IsNodeId, IsShortNode, IsCounted};
+ghost use Rattle.ua_binary.specs.declared.codes.TheConstants.Status.{BAD_RESOURCE_UNAVAILABLE};
+ghost use Rattle.std.specs.Cmp.Lexicographic.{pointwise};
+ghost use Rattle.ua_variant.specs.DataValue.{IsShortData};
+ghost use Rattle.ua_services.specs.Attributes.{AreShortValues};
+ghost use Rattle.ua_services.specs.History.{IsShortInfo, IsShortHistory, IsShortHistoryRead};
+ghost use Rattle.records.specs.Contents.{numbers_of, cut};
+ghost use Rattle.archive.specs.Store.{Mark, Asks};
+ghost use Rattle.archive.specs.Steps.{Acts};
 ghost use Rattle.hist_read.specs.Asking.{is_given, first_time};
 ghost use Rattle.hist_read.specs.Point.{point_in, point_of, point, IsPoint, IsNext};
-ghost use Rattle.hist_read.specs.Node.{is_enough, IsOfRead, place_in, judged, refused, status_of, point_at, raw_result, modified_result, page_result, answer, Reads};
+ghost use Rattle.hist_read.specs.Node.{is_enough, IsOfRead, place_in, judged, refused, status_for, point_at, raw_result, modified_result, page_result, page_from, read_node};
 ghost use Rattle.hist_read.specs.Finding.{Finds};
 
-use crate::code::ReadCode;
 use crate::modified::read_modified;
-use crate::point::{Place, Position, put_continuation, read_continuation};
-use crate::query::{Details, Query};
+use crate::point::{Place, Position, first_number, put_continuation, read_continuation};
+use crate::query::Query;
 use crate::raw::read_raw;
-use crate::setback::Setback;
-use crate::showing::{Modification, show_entries, show_items};
-use archive::Archive;
+use crate::showing::{show_entries, show_items};
+use archive::{Archive, Setback, StoreFault};
+use stamp::Vector;
 use std::alloc::{AllocError, Global};
-use ua_binary::{Bytes, Listing, NodeId, NodeIdRef};
+use ua_binary::{Bytes, Listing, NodeId, NodeIdRef, Status, array_size};
+use ua_services::{HistoryData, HistoryReadResult, ModificationInfo, ReadRawModifiedDetails};
 use ua_variant::DataValue;
 use uuid::Uuid;
 
-/// What a read shows.
-#[derive(Debug, Drop)]
-pub enum NodeItems {
-    /// Live values and bounds.
-    Raw(Listing<DataValue>),
-    Modified(Listing<Modification>),
-    /// The read is refused.
-    Nothing,
-}
-
-/// What a read of a node's history is answered (Part 11, HistoryReadResult).
-#[derive(Debug, Drop)]
-pub struct NodeResult {
-    pub status: ReadCode,
-    /// What the next page is asked for with, where there is one.
-    pub continuation: Option<Bytes>,
-    pub items: NodeItems,
-}
-
 /// A read that is refused.
-fn refused(status: ReadCode) -> NodeResult
-    ensures { result ≡ refused status }
+fn refused(status: Status) -> HistoryReadResult
+    ensures value { result ≡ refused status }
+    ensures short { IsShortHistoryRead result }
 {
-    NodeResult {
+    HistoryReadResult {
         status,
-        continuation: None,
-        items: NodeItems::Nothing,
+        continuation_point: None,
+        history_data: HistoryData::Nothing,
     }
 }
 
 /// Whether two at least of start, end and count are given.
-fn is_enough(details: &Details) -> bool
+fn is_enough(details: &ReadRawModifiedDetails) -> bool
     ensures { result ≡ is_enough details.now }
 {
-    if details.start >= 1 {
-        details.end >= 1 || details.count != 0
+    if details.start_time.0 >= 1 {
+        details.end_time.0 >= 1 || details.num_values_per_node != 0
     } else {
-        details.end >= 1 && details.count != 0
+        details.end_time.0 >= 1 && details.num_values_per_node != 0
     }
 }
 
@@ -94,69 +83,72 @@ fn is_archive(found: Uuid, id: Uuid) -> bool
 
 /// Whether this is what is asked, field by field.
 #[tactic(auto, using(crate::proofs::Agreeing::exact_details))]
-fn is_asked(found: &Details, details: &Details) -> bool
+fn is_asked(found: &ReadRawModifiedDetails, details: &ReadRawModifiedDetails) -> bool
     ensures { IsTrue result ↔ (found.now ≡ details.now) }
 {
     found == details
 }
 
 /// Whether a point is one of this archive, of this node, and of what is asked.
-fn agrees(place: &Place<'_>, id: Uuid, node: &NodeId, details: &Details) -> bool
+fn agrees(place: &Place<'_>, id: Uuid, node: &NodeId, details: &ReadRawModifiedDetails) -> bool
     ensures { IsTrue result ↔ IsOfRead id node.now details.now (point_of place.now) }
 {
     is_archive(place.archive, id) && is_node(place.node, node) && is_asked(&place.details, details)
 }
 
-/// The place that a continuation point tells, if there is one.
+/// Where reading goes on: behind this place, of what the vector of the first page covers.
+type Behind = (Position, Vector);
+
+/// Where a continuation point says that reading goes on, if there is one.
 fn place_in(
     id: Uuid,
     node: &NodeId,
-    details: &Details,
+    details: &ReadRawModifiedDetails,
     continuation: Option<&[u8]>,
-) -> Result<Option<Position>, ReadCode>
+) -> Result<Option<Behind>, Status>
     ensures told { result ≡ place_in id node.now details.now (option_copied continuation.entry) }
-    ensures late { IfOk result (λ o. IfSome o (λ p. first_time ≤ℤ p.time)) }
+    ensures late { IfOk result (λ o. IfSome o (λ p. first_time ≤ℤ p.0.time)) }
 {
     let Some(bytes) = continuation else {
         return Ok(None);
     };
     let Some(place) = read_continuation(bytes) else {
-        return Err(ReadCode::BadContinuationPointInvalid);
+        return Err(Status::BAD_CONTINUATION_POINT_INVALID);
     };
     if !agrees(&place, id, node, details) {
-        return Err(ReadCode::BadContinuationPointInvalid);
+        return Err(Status::BAD_CONTINUATION_POINT_INVALID);
     }
-    Ok(Some(place.position))
+    Ok(Some((place.position, place.vector)))
 }
 
-/// The place behind which reading goes on, or why the read is refused.
+/// Where reading goes on, or why the read is refused.
 fn judge(
     id: Uuid,
     node: &NodeId,
-    details: &Details,
+    details: &ReadRawModifiedDetails,
     continuation: Option<&[u8]>,
-) -> Result<Option<Position>, ReadCode>
+) -> Result<Option<Behind>, Status>
     ensures told { result ≡ judged id node.now details.now (option_copied continuation.entry) }
-    ensures given { IfOk result (λ _. IsTrue (is_given details.now.start || is_given details.now.end)) }
-    ensures late { IfOk result (λ o. IfSome o (λ p. first_time ≤ℤ p.time)) }
+    ensures given { IfOk result (λ _. IsTrue (is_given details.now.start_time.0 || is_given details.now.end_time.0)) }
+    ensures late { IfOk result (λ o. IfSome o (λ p. first_time ≤ℤ p.0.time)) }
 {
-    if details.modified && details.bounds {
-        return Err(ReadCode::BadInvalidArgument);
+    if details.is_read_modified && details.return_bounds {
+        return Err(Status::BAD_INVALID_ARGUMENT);
     }
     if !is_enough(details) {
-        return Err(ReadCode::BadHistoryOperationInvalid);
+        return Err(Status::BAD_HISTORY_OPERATION_INVALID);
     }
     place_in(id, node, details, continuation)
 }
 
 /// Good, or Good_NoData where nothing is shown.
-fn status_of<T>(items: &[T]) -> ReadCode
-    ensures { result ≡ status_of items.now }
+fn status_for<T>(items: &[T]) -> Status
+    ensures { result ≡ status_for items.now }
 {
     if items.is_empty() {
-        ReadCode::GoodNoData
+        Status::GOOD_NO_DATA
     } else {
-        ReadCode::Good
+        Status::GOOD
     }
 }
 
@@ -178,11 +170,12 @@ fn next_point(
     alloc: Global,
     id: Uuid,
     node: &NodeId,
-    details: &Details,
+    details: &ReadRawModifiedDetails,
     next: Option<Position>,
+    within: &Vector,
 ) -> Result<Option<Bytes>, AllocError>
     requires node { IsShortNode node.now }
-    ensures { IfOk result (λ b. IfSome next (IsNext details.now) → b ≡ option_map (point_at id node.now details.now) next) }
+    ensures { IfOk result (λ b. IfSome next (IsNext details.now) → b ≡ option_map (point_at id node.now details.now within.now) next) }
 {
     let Some(position) = next else {
         return Ok(None);
@@ -192,6 +185,7 @@ fn next_point(
         node: node.as_ref(),
         details: *details,
         position,
+        vector: *within,
     };
     if !place.is_well_formed() {
         return Ok(None);
@@ -199,84 +193,219 @@ fn next_point(
     Ok(Some(point_of(alloc, &place)?))
 }
 
-/// Reads a page of raw values, and shows it.
+/// Reads a page of raw values of what a vector covers, and shows it.
 fn raw_result<A: Archive>(
     alloc: Global,
     archive: &mut A,
     node: &NodeId,
     query: &Query,
     position: &Option<Position>,
-) -> Result<NodeResult, Setback>
+    within: &Vector,
+) -> Result<HistoryReadResult, Setback>
     requires node { IsShortNode node.now }
-    requires given { IsTrue (is_given query.now.details.start || is_given query.now.details.end) }
+    requires given { IsTrue (is_given query.now.details.start_time.0 || is_given query.now.details.end_time.0) }
     requires place { IfSome position.now (λ p. first_time ≤ℤ p.time) }
-    requires raw { query.now.details.modified ≡ false }
-    ensures { Finds (A.state archive.old) (A.state archive.new) result (λ r. r ≡ raw_result (A.state archive.old).content (A.state archive.old).id node.now query.now position.now) }
+    requires raw { query.now.details.is_read_modified ≡ false }
+    ensures { Finds (A.state archive.old) (A.state archive.new) result
+        (λ r. r ≡ raw_result (cut (A.state archive.old).content (number_of within.now)) within.now (A.state archive.old).id node.now query.now position.now) }
 {
     let id = archive.id();
-    let page = read_raw(alloc, archive, node, &query.details, position)?;
-    let continuation = next_point(alloc, id, node, &query.details, page.next)?;
+    let page = read_raw(alloc, archive, node, &query.details, position, within)?;
+    let continuation_point = next_point(alloc, id, node, &query.details, page.next, within)?;
     let values = show_items(alloc, query.stamps, page.items)?;
-    Ok(NodeResult {
-        status: status_of(&values),
-        continuation,
-        items: NodeItems::Raw(Listing::of(values)),
+    Ok(HistoryReadResult {
+        status: status_for(&values),
+        continuation_point,
+        history_data: HistoryData::Raw(Listing::of(values)),
     })
 }
 
-/// Reads a page of modifications, and shows it.
+/// Reads a page of modifications of what a vector covers, and shows it.
 fn modified_result<A: Archive>(
     alloc: Global,
     archive: &mut A,
     node: &NodeId,
     query: &Query,
     position: &Option<Position>,
-) -> Result<NodeResult, Setback>
+    within: &Vector,
+) -> Result<HistoryReadResult, Setback>
     requires node { IsShortNode node.now }
-    requires given { IsTrue (is_given query.now.details.start || is_given query.now.details.end) }
-    requires modified { query.now.details.modified ≡ true }
-    ensures { Finds (A.state archive.old) (A.state archive.new) result (λ r. r ≡ modified_result (A.state archive.old).content (A.state archive.old).id node.now query.now position.now) }
+    requires given { IsTrue (is_given query.now.details.start_time.0 || is_given query.now.details.end_time.0) }
+    requires modified { query.now.details.is_read_modified ≡ true }
+    ensures { Finds (A.state archive.old) (A.state archive.new) result
+        (λ r. r ≡ modified_result (cut (A.state archive.old).content (number_of within.now)) within.now (A.state archive.old).id node.now query.now position.now) }
 {
     let id = archive.id();
-    let page = read_modified(alloc, archive, node, &query.details, position)?;
-    let continuation = next_point(alloc, id, node, &query.details, page.next)?;
-    let values = show_entries(alloc, query.stamps, page.entries)?;
-    Ok(NodeResult {
-        status: status_of(&values),
-        continuation,
-        items: NodeItems::Modified(Listing::of(values)),
+    let page = read_modified(alloc, archive, node, &query.details, position, within)?;
+    let continuation_point = next_point(alloc, id, node, &query.details, page.next, within)?;
+    let (values, infos) = show_entries(alloc, query.stamps, page.entries)?;
+    Ok(HistoryReadResult {
+        status: status_for(&values),
+        continuation_point,
+        history_data: HistoryData::Modified(Listing::of(values), Listing::of(infos)),
     })
 }
 
-/// Reads a page, and shows it.
+/// Reads a page of what a vector covers, and shows it.
 fn page_result<A: Archive>(
     alloc: Global,
     archive: &mut A,
     node: &NodeId,
     query: &Query,
     position: &Option<Position>,
-) -> Result<NodeResult, Setback>
+    within: &Vector,
+) -> Result<HistoryReadResult, Setback>
     requires node { IsShortNode node.now }
-    requires given { IsTrue (is_given query.now.details.start || is_given query.now.details.end) }
+    requires given { IsTrue (is_given query.now.details.start_time.0 || is_given query.now.details.end_time.0) }
     requires place { IfSome position.now (λ p. first_time ≤ℤ p.time) }
-    ensures { Finds (A.state archive.old) (A.state archive.new) result (λ r. r ≡ page_result (A.state archive.old).content (A.state archive.old).id node.now query.now position.now) }
+    ensures { Finds (A.state archive.old) (A.state archive.new) result
+        (λ r. r ≡ page_result (cut (A.state archive.old).content (number_of within.now)) within.now (A.state archive.old).id node.now query.now position.now) }
 {
-    if query.details.modified {
-        modified_result(alloc, archive, node, query, position)
+    if query.details.is_read_modified {
+        modified_result(alloc, archive, node, query, position, within)
     } else {
-        raw_result(alloc, archive, node, query, position)
+        raw_result(alloc, archive, node, query, position, within)
+    }
+}
+
+/// The archive's own vector.
+fn own_vector<A: Archive>(archive: &mut A) -> Result<Vector, StoreFault>
+    ensures asks { Asks (A.state archive.old) (A.state archive.new) result (λ v. v ≡ numbers_of (A.state archive.old).content) }
+    ensures vector { IfOk result IsVector }
+{
+    let own = archive.vector()?;
+    let _first = first_number(&own);
+    Ok(own)
+}
+
+/// Whether each number of a vector is among an archive's.
+fn is_covered(vector: &Vector, own: &Vector) -> bool
+    ensures { result ≡ pointwise nat_le vector.now own.now }
+{
+    let _firsts = (first_number(vector), first_number(own));
+    own.at_least(vector)
+}
+
+/// Reads a page: a first one of all that is held, a later one of what the vector of the first page covers.
+fn page_from<A: Archive>(
+    alloc: Global,
+    archive: &mut A,
+    node: &NodeId,
+    query: &Query,
+    behind: &Option<Behind>,
+) -> Result<HistoryReadResult, Setback>
+    requires node { IsShortNode node.now }
+    requires given { IsTrue (is_given query.now.details.start_time.0 || is_given query.now.details.end_time.0) }
+    requires place { IfSome behind.now (λ p. first_time ≤ℤ p.0.time) }
+    ensures { Finds (A.state archive.old) (A.state archive.new) result (λ r. r ≡ page_from (A.state archive.old).content (A.state archive.old).id node.now query.now behind.now) }
+{
+    let own = own_vector(archive)?;
+    match behind {
+        None => page_result(alloc, archive, node, query, &None, &own),
+        Some((position, vector)) => {
+            if !is_covered(vector, &own) {
+                return Ok(refused(Status::BAD_CONTINUATION_POINT_INVALID));
+            }
+            page_result(alloc, archive, node, query, &Some(*position), vector)
+        }
+    }
+}
+
+/// Whether a value's picoseconds are within their limit, and its bytes can be counted.
+fn is_short_value(value: &DataValue) -> bool
+    ensures { IsTrue result → IsShortData value.now }
+{
+    let source = value.source_pico.unwrap_or(0);
+    let server = value.server_pico.unwrap_or(0);
+    source <= 9999 && server <= 9999 && value.size() < 0x8000_0000
+}
+
+/// Whether values can be counted, and each of them can be written.
+fn are_short_values(values: &[DataValue]) -> bool
+    ensures { IsTrue result → AreShortValues values.now }
+{
+    for value in values {
+        if !is_short_value(value) {
+            return false;
+        }
+    }
+    values.len() < 0x8000_0000
+}
+
+/// The same of what is told of modifications.
+fn are_short_infos(infos: &[ModificationInfo]) -> bool
+    ensures { IsTrue result → (length infos.now < 2 ^ 31) × All IsShortInfo infos.now }
+{
+    array_size(infos) < 0x8000_0000
+}
+
+/// Whether what was read can be written.
+fn is_short_history(read: &HistoryData) -> bool
+    ensures { IsTrue result → IsShortHistory read.now }
+{
+    match read {
+        HistoryData::Nothing => true,
+        HistoryData::Raw(values) => {
+            are_short_values(values.as_slice()) && read.body_size() < 0x8000_0000
+        }
+        HistoryData::Modified(values, infos) => {
+            are_short_values(values.as_slice())
+                && are_short_infos(infos.as_slice())
+                && read.body_size() < 0x8000_0000
+        }
+    }
+}
+
+/// Whether a continuation point can be counted.
+fn is_short_point(point: &Option<Bytes>) -> bool
+    ensures { IsTrue result → IsCounted point.now }
+{
+    match point {
+        None => true,
+        Some(bytes) => bytes.len() < 0x8000_0000,
+    }
+}
+
+/// Whether a read can be written.
+fn is_short(read: &HistoryReadResult) -> bool
+    ensures { IsTrue result → IsShortHistoryRead read.now }
+{
+    is_short_point(&read.continuation_point) && is_short_history(&read.history_data)
+}
+
+/// Reads a page that can be written. One of 2^31 bytes or more, which no lawful records give, counts as
+/// want of memory.
+fn short_page<A: Archive>(
+    alloc: Global,
+    archive: &mut A,
+    node: &NodeId,
+    query: &Query,
+    behind: &Option<Behind>,
+) -> Result<HistoryReadResult, Setback>
+    requires node { IsShortNode node.now }
+    requires given { IsTrue (is_given query.now.details.start_time.0 || is_given query.now.details.end_time.0) }
+    requires place { IfSome behind.now (λ p. first_time ≤ℤ p.0.time) }
+    ensures finds { Finds (A.state archive.old) (A.state archive.new) result (λ r. r ≡ page_from (A.state archive.old).content (A.state archive.old).id node.now query.now behind.now) }
+    ensures short { IfOk result IsShortHistoryRead }
+{
+    let read = page_from(alloc, archive, node, query, behind)?;
+    if is_short(&read) {
+        Ok(read)
+    } else {
+        Err(Setback::Starved)
     }
 }
 
 /// Reads a node's history (Part 11, HistoryRead with ReadRawModifiedDetails): a page of live values or
 /// of modifications, from the beginning, or behind the place that a continuation point tells.
 ///
-/// Refused are, in this order: modifications with bounds (`BadInvalidArgument`); fewer than two of start,
-/// end and count (`BadHistoryOperationInvalid`); a continuation point that isn't well formed, or is one
-/// of another archive, node or query (`BadContinuationPointInvalid`). Then the store is read, and a fault
-/// of it is told by `BadOutOfMemory`, as is want of memory here, or by `BadResourceUnavailable`. A bad
+/// Refused are, in this order: modifications with bounds (`BAD_INVALID_ARGUMENT`); fewer than two of start,
+/// end and count (`BAD_HISTORY_OPERATION_INVALID`); a continuation point that isn't well formed, or is one
+/// of another archive, node or query (`BAD_CONTINUATION_POINT_INVALID`). Then the store is read, and a point
+/// whose vector the archive's own isn't at least is refused by this code too. A fault of the store is told by
+/// `BAD_OUT_OF_MEMORY`, as is want of memory here, or by `BAD_RESOURCE_UNAVAILABLE`. A bad
 /// status has neither items nor a point, and no call changes the content. Of a broken archive each read
-/// that isn't refused is `BadResourceUnavailable`. An empty page is `GoodNoData`.
+/// that isn't refused is `BAD_RESOURCE_UNAVAILABLE`. An empty page is `GOOD_NO_DATA`.
 /// The node's id has less than 2^31 bytes.
 pub fn read_node<A: Archive>(
     alloc: Global,
@@ -284,19 +413,20 @@ pub fn read_node<A: Archive>(
     node: &NodeId,
     query: &Query,
     continuation: Option<&[u8]>,
-) -> NodeResult
+) -> HistoryReadResult
     requires { IsShortNode node.now }
     ensures refused { IfErr (judged (A.state archive.old).id node.now query.now.details (option_copied continuation.entry)) (λ code. (result ≡ refused code) × (archive.new ≡ archive.old)) }
-    ensures reads { (met : Option Met) × Reads (A.state archive.old) (A.state archive.new) (answer (A.state archive.old).content (A.state archive.old).id node.now query.now (option_copied continuation.entry)) result met }
-    ensures ended { (A.state archive.old).broken ≡ true → IfOk (judged (A.state archive.old).id node.now query.now.details (option_copied continuation.entry)) (λ _. result ≡ refused BadResourceUnavailable) }
+    ensures acts { (used : List Mark) × Acts (A.state archive.old) (A.state archive.new) used (read_node (A.state archive.old).id node.now query.now (option_copied continuation.entry)) result }
+    ensures ended { (A.state archive.old).broken ≡ true → IfOk (judged (A.state archive.old).id node.now query.now.details (option_copied continuation.entry)) (λ _. result ≡ refused BAD_RESOURCE_UNAVAILABLE) }
+    ensures short { IsShortHistoryRead result }
 {
     let id = archive.id();
-    let position = match judge(id, node, &query.details, continuation) {
-        Ok(position) => position,
-        Err(code) => return refused(code),
+    let behind = match judge(id, node, &query.details, continuation) {
+        Ok(behind) => behind,
+        Err(status) => return refused(status),
     };
-    match page_result(alloc, archive, node, query, &position) {
+    match short_page(alloc, archive, node, query, &behind) {
         Ok(result) => result,
-        Err(setback) => refused(setback.code()),
+        Err(setback) => refused(setback.status()),
     }
 }

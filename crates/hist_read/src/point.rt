@@ -6,15 +6,17 @@ ghost use Rattle.hist_read.specs.Asking.{first_time};
 ghost use Rattle.ua_binary.specs.Format.{block, Reads, Puts, PutsPart};
 ghost use Rattle.ua_binary.specs.Binary.{node_of, IsNodeId};
 ghost use Rattle.ua_binary.specs.declared.fault.BinaryFault.TheVariants as fault;
-ghost use Rattle.hist_read.specs.Point.{flag, short_form, short_node, is_phase_for, is_stamp_for, is_given_for, suits, are_stamp, stamp_of, number_of_phase, phase, time, stamp, details, position, IsStamp, IsPosition, IsPoint, point_of, point_in, point};
+ghost use Rattle.hist_read.specs.Point.{flag, short_form, short_node, is_phase_for, is_stamp_for, is_given_for, suits, are_stamp, stamp_of, number_of_phase, phase, time, stamp, details, position, IsStamp, IsPosition, IsPoint, point_of, point_in, point, first_vector};
+ghost use Rattle.stamp.specs.Numbers.{IsVector};
+ghost use Rattle.stamp.specs.Vector.{vector};
 
-use crate::query::Details;
 use records::Moment;
-use stamp::{GREATEST_TICK, ReplicaNo, Stamp};
+use stamp::{GREATEST_TICK, ReplicaNo, Stamp, Vector};
 use ua_binary::{
-    BinaryFault, Cursor, NodeIdRef, or_undone, put_block, put_boolean, put_i64, put_node_id_ref,
-    put_u8, put_u16, put_u32,
+    BinaryFault, Cursor, NodeIdRef, Ticks, or_undone, put_block, put_boolean, put_i64,
+    put_node_id_ref, put_ticks, put_u8, put_u16, put_u32,
 };
+use ua_services::ReadRawModifiedDetails;
 use uuid::Uuid;
 
 /// What the last item of a page was.
@@ -45,8 +47,10 @@ pub struct Place<'a> {
     pub archive: Uuid,
     pub node: NodeIdRef<'a>,
     /// As the request had them.
-    pub details: Details,
+    pub details: ReadRawModifiedDetails,
     pub position: Position,
+    /// The vector of the first page: later pages are of what it covers.
+    pub vector: Vector,
 }
 
 /// A Boolean whose byte is 0 or 1.
@@ -138,22 +142,22 @@ fn read_node<'a>(cursor: &mut Cursor<'a>) -> Result<NodeIdRef<'a>, BinaryFault>
 
 /// What was asked.
 #[tactic(auto, unfolding(crate::specs::Point::details))]
-fn read_details(cursor: &mut Cursor<'_>) -> Result<Details, BinaryFault>
+fn read_details(cursor: &mut Cursor<'_>) -> Result<ReadRawModifiedDetails, BinaryFault>
     ensures { Reads (λ v. v) result cursor.old cursor.new details.read }
 {
     let mut next = cursor.fork();
-    let modified = read_flag(&mut next)?;
-    let start = next.i64()?;
-    let end = next.i64()?;
-    let count = next.u32()?;
-    let bounds = read_flag(&mut next)?;
+    let is_read_modified = read_flag(&mut next)?;
+    let start_time = next.ticks()?;
+    let end_time = next.ticks()?;
+    let num_values_per_node = next.u32()?;
+    let return_bounds = read_flag(&mut next)?;
     *cursor = next;
-    Ok(Details {
-        modified,
-        start,
-        end,
-        count,
-        bounds,
+    Ok(ReadRawModifiedDetails {
+        is_read_modified,
+        start_time,
+        end_time,
+        num_values_per_node,
+        return_bounds,
     })
 }
 
@@ -238,37 +242,37 @@ fn read_position(cursor: &mut Cursor<'_>) -> Result<Position, BinaryFault>
 }
 
 /// Whether a page of what was asked may have ended in this phase.
-fn is_phase_for(details: &Details, phase: Phase) -> bool
+fn is_phase_for(details: &ReadRawModifiedDetails, phase: Phase) -> bool
     ensures { result ≡ is_phase_for details.now phase }
 {
     match phase {
-        Phase::Near => details.bounds && !details.modified,
+        Phase::Near => details.return_bounds && !details.is_read_modified,
         Phase::Body => true,
     }
 }
 
 /// Whether a stamp is there just where modifications were asked for.
-fn is_stamp_for(details: &Details, stamp: Option<Stamp>) -> bool
+fn is_stamp_for(details: &ReadRawModifiedDetails, stamp: Option<Stamp>) -> bool
     ensures { result ≡ is_stamp_for details.now stamp }
 {
     match stamp {
-        None => !details.modified,
-        Some(_) => details.modified,
+        None => !details.is_read_modified,
+        Some(_) => details.is_read_modified,
     }
 }
 
 /// Whether so many items may have been given of what was asked.
-fn is_given_for(details: &Details, given: u32) -> bool
+fn is_given_for(details: &ReadRawModifiedDetails, given: u32) -> bool
     ensures { result ≡ is_given_for details.now given }
 {
-    if details.start >= 1 && details.end >= 1 {
+    if details.start_time.0 >= 1 && details.end_time.0 >= 1 {
         return given == 0;
     }
-    0 < given && given < details.count
+    0 < given && given < details.num_values_per_node
 }
 
 /// Whether a position is one of a page of what was asked.
-fn suits(details: &Details, position: &Position) -> bool
+fn suits(details: &ReadRawModifiedDetails, position: &Position) -> bool
     ensures { result ≡ suits details.now position.now }
 {
     is_phase_for(details, position.phase)
@@ -316,6 +320,16 @@ fn id_length(id: &[u8; 16]) -> usize
     id.len()
 }
 
+/// The number of replica 1. A vector has a number for each replica.
+pub(crate) fn first_number(vector: &Vector) -> u64
+    ensures { IsVector vector.now }
+{
+    match ReplicaNo::new(1) {
+        Some(first) => vector.get(first),
+        None => 0,
+    }
+}
+
 impl Place<'_> {
     ghost use Rattle.std.specs.Prelude.{IsTrue, ◌↔◌};
     ghost use Rattle.ua_binary.specs.Binary.{node_of, IsNodeId};
@@ -330,13 +344,14 @@ impl Place<'_> {
         ensures next { IsNodeId (node_of self.now.node) → IsNext self.now.details self.now.position → IsTrue result }
     {
         let Place { details, .. } = self;
-        let Details {
-            start,
-            end,
-            count,
+        let ReadRawModifiedDetails {
+            start_time: Ticks(start),
+            end_time: Ticks(end),
+            num_values_per_node,
             ..
         } = details;
-        let _numbers = (*start, *end, *count);
+        let _numbers = (*start, *end, *num_values_per_node);
+        let _first = first_number(&self.vector);
         if id_length(self.archive.as_bytes()) != 16 {
             return false;
         }
@@ -357,13 +372,14 @@ fn read_place<'a>(cursor: &mut Cursor<'a>) -> Result<Place<'a>, BinaryFault>
     ensures late { IfOk result (λ v. first_time ≤ℤ v.position.time) }
 {
     let mut next = cursor.fork();
-    if next.u8()? != 1 {
+    if next.u8()? != 3 {
         return Err(BinaryFault::BadEncodingByte);
     }
     let archive = read_archive(&mut next)?;
     let node = read_node(&mut next)?;
     let details = read_details(&mut next)?;
     let position = read_position(&mut next)?;
+    let vector = read_vector(&mut next)?;
     if !suits(&details, &position) {
         return Err(BinaryFault::BadEncodingByte);
     }
@@ -373,7 +389,18 @@ fn read_place<'a>(cursor: &mut Cursor<'a>) -> Result<Place<'a>, BinaryFault>
         node,
         details,
         position,
+        vector,
     })
+}
+
+/// The vector of the first page.
+fn read_vector(cursor: &mut Cursor<'_>) -> Result<Vector, BinaryFault>
+    ensures { Reads (λ v. v) result cursor.old cursor.new first_vector.read }
+{
+    match Vector::read(cursor) {
+        Ok(vector) => Ok(vector),
+        Err(_) => Err(BinaryFault::BadEncodingByte),
+    }
 }
 
 /// An archive's id.
@@ -388,8 +415,8 @@ fn read_archive(cursor: &mut Cursor<'_>) -> Result<Uuid, BinaryFault>
     Ok(archive)
 }
 
-/// The continuation point that all of the bytes spell, format 1; `None` where they spell none. It takes
-/// no memory. The node stays in the bytes.
+/// The continuation point that all of the bytes spell, format 3; `None` where they spell none. It takes
+/// no memory: the node stays in the bytes, and the vector is held inline.
 #[tactic(auto, unfolding(crate::specs::Point::point))]
 pub fn read_continuation(bytes: &[u8]) -> Option<Place<'_>>
     ensures told { option_map point_of result ≡ point_in bytes.now }
@@ -406,18 +433,18 @@ pub fn read_continuation(bytes: &[u8]) -> Option<Place<'_>>
 }
 
 #[tactic(auto, using(ua_binary::proofs::Kept::kept), unfolding(crate::specs::Point::details, crate::specs::Point::flag, ua_binary::specs::Binary::boolean))]
-fn put_details_parts(out: &mut Vec<u8>, v: &Details) -> Result<(), BinaryFault>
+fn put_details_parts(out: &mut Vec<u8>, v: &ReadRawModifiedDetails) -> Result<(), BinaryFault>
     ensures { PutsPart fault.OutOfMemory result out.old.items out.new.items (details.canon v.now) }
 {
-    put_boolean(out, v.modified)?;
-    put_i64(out, v.start)?;
-    put_i64(out, v.end)?;
-    put_u32(out, v.count)?;
-    put_boolean(out, v.bounds)?;
+    put_boolean(out, v.is_read_modified)?;
+    put_ticks(out, v.start_time)?;
+    put_ticks(out, v.end_time)?;
+    put_u32(out, v.num_values_per_node)?;
+    put_boolean(out, v.return_bounds)?;
     Ok(())
 }
 
-fn put_details(out: &mut Vec<u8>, v: &Details) -> Result<(), BinaryFault>
+fn put_details(out: &mut Vec<u8>, v: &ReadRawModifiedDetails) -> Result<(), BinaryFault>
     ensures { Puts fault.OutOfMemory result out.old.items out.new.items (details.canon v.now) }
 {
     let len = out.len();
@@ -491,20 +518,31 @@ fn put_position(out: &mut Vec<u8>, v: &Position) -> Result<(), BinaryFault>
     or_undone(put, out, len)
 }
 
+/// The vector of the first page.
+fn put_vector(out: &mut Vec<u8>, v: &Vector) -> Result<(), BinaryFault>
+    ensures { Puts fault.OutOfMemory result out.old.items out.new.items (vector.canon v.now) }
+{
+    match v.put(out) {
+        Ok(()) => Ok(()),
+        Err(_) => Err(BinaryFault::OutOfMemory),
+    }
+}
+
 #[tactic(auto, using(ua_binary::proofs::Kept::kept, crate::proofs::Lawful::written), unfolding(crate::specs::Point::point))]
 fn put_place_parts(out: &mut Vec<u8>, v: &Place<'_>) -> Result<(), BinaryFault>
     requires { IsPoint (point_of v.now) }
     ensures { PutsPart fault.OutOfMemory result out.old.items out.new.items (point.canon (point_of v.now)) }
 {
-    put_u8(out, 1)?;
+    put_u8(out, 3)?;
     put_block(out, v.archive.as_bytes())?;
     put_node_id_ref(out, v.node)?;
     put_details(out, &v.details)?;
     put_position(out, &v.position)?;
+    put_vector(out, &v.vector)?;
     Ok(())
 }
 
-/// Writes a continuation point, format 1. It has to be one that can be read again: its numbers within
+/// Writes a continuation point, format 3. It has to be one that can be read again: its numbers within
 /// their limits, the stamp there just where modifications were asked for, the near bound as its phase
 /// only where raw values were asked for with bounds, and its count of items 0 where both times are
 /// given, else at least 1 and below the count. Its one error is `OutOfMemory`, and then the vector is as

@@ -2,22 +2,24 @@
 
 ghost use Rattle.std.specs.Prelude.{◌≡◌, ◌≤◌, ◌+◌, ◌<◌, ◌||◌, ◌&&◌, ◌++◌, ◌^◌, IsTrue, IfOk, IfSome, IfNone, pos, ◌≤ℤ◌, true, false, take, length, Ok, Some, None};
 ghost use Rattle.std.specs.Option.{option_to_list};
+ghost use Rattle.stamp.specs.Numbers.{number_of};
+ghost use Rattle.records.specs.Contents.{cut};
 ghost use Rattle.archive.specs.Store.{Asks};
 ghost use Rattle.hist_read.specs.Asking.{is_given, has_both, first_time, origin_time};
 ghost use Rattle.hist_read.specs.Reads.{is_near_alone, body_part, far_value, values, item_time, last_time, time_before, open_bound, page_size, page, is_spent, next_place, raw_position};
 ghost use Rattle.hist_read.specs.Pages.{IsFound, IsFoundBehind, body_limit, has_far, far_item, far_of, row_of, IsRawPage};
 ghost use Rattle.hist_read.specs.Finding.{Finds};
 
-use crate::asked::{given_after, goes_on, page_size, span_after};
+use crate::asked::{direction, given_after, goes_on, has_both, origin, page_size, span_after};
 use crate::bounds::{far_value, near};
 use crate::item::Item;
 use crate::point::{Phase, Position};
-use crate::query::Details;
-use crate::setback::Setback;
-use archive::{Archive, Direction, StoreFault};
+use archive::{Archive, Direction, Setback, StoreFault};
 use records::{Held, Moment};
+use stamp::Vector;
 use std::alloc::{AllocError, Global};
 use ua_binary::NodeId;
+use ua_services::ReadRawModifiedDetails;
 
 /// What the archive has of a page of raw values.
 #[derive(Drop)]
@@ -31,21 +33,21 @@ pub(crate) struct Found {
 }
 
 /// Whether the near bound is all that is asked for.
-fn is_near_alone(details: &Details) -> bool
+fn is_near_alone(details: &ReadRawModifiedDetails) -> bool
     ensures { result ≡ is_near_alone details.now }
 {
-    details.bounds && details.count == 1
+    details.return_bounds && details.num_values_per_node == 1
 }
 
 /// Whether the far bound is asked for.
-fn has_far(details: &Details) -> bool
+fn has_far(details: &ReadRawModifiedDetails) -> bool
     ensures { result ≡ has_far details.now }
 {
-    details.bounds && !is_near_alone(details)
+    details.return_bounds && !is_near_alone(details)
 }
 
 /// How many values are asked for.
-fn body_limit(details: &Details, position: &Option<Position>) -> usize
+fn body_limit(details: &ReadRawModifiedDetails, position: &Option<Position>) -> usize
     ensures { result ≡ body_limit details.now position.now }
 {
     if is_near_alone(details) {
@@ -59,18 +61,19 @@ fn find_body<A: Archive>(
     alloc: Global,
     archive: &mut A,
     node: &NodeId,
-    details: &Details,
+    details: &ReadRawModifiedDetails,
     position: &Option<Position>,
+    within: &Vector,
 ) -> Result<Vec<Held>, StoreFault>
-    requires given { IsTrue (is_given details.now.start || is_given details.now.end) }
+    requires given { IsTrue (is_given details.now.start_time.0 || is_given details.now.end_time.0) }
     requires place { IfSome position.now (λ p. first_time ≤ℤ p.time) }
     ensures { Asks (A.state archive.old) (A.state archive.new) result
-        (λ v. v.items ≡ take (page_size details.now position.now + 1) (body_part (A.state archive.old).content node.now details.now position.now)) }
+        (λ v. v.items ≡ take (page_size details.now position.now + 1) (body_part (cut (A.state archive.old).content (number_of within.now)) node.now details.now position.now)) }
 {
-    let direction = details.direction();
+    let onward = direction(details);
     let span = span_after(details, position);
     let limit = body_limit(details, position);
-    archive.range(alloc, node, span.from, span.to, direction, limit)
+    archive.range(alloc, node, span.from, span.to, onward, limit, within)
 }
 
 /// The values behind the near bound, and the one at the far limit.
@@ -78,18 +81,19 @@ fn find_values<A: Archive>(
     alloc: Global,
     archive: &mut A,
     node: &NodeId,
-    details: &Details,
+    details: &ReadRawModifiedDetails,
     position: &Option<Position>,
+    within: &Vector,
 ) -> Result<(Vec<Held>, Option<Held>), StoreFault>
-    requires given { IsTrue (is_given details.now.start || is_given details.now.end) }
+    requires given { IsTrue (is_given details.now.start_time.0 || is_given details.now.end_time.0) }
     requires place { IfSome position.now (λ p. first_time ≤ℤ p.time) }
-    ensures { Asks (A.state archive.old) (A.state archive.new) result (IsFoundBehind (A.state archive.old).content node.now details.now position.now) }
+    ensures { Asks (A.state archive.old) (A.state archive.new) result (IsFoundBehind (cut (A.state archive.old).content (number_of within.now)) node.now details.now position.now) }
 {
-    let body = find_body(alloc, archive, node, details, position)?;
-    if !has_far(details) || !details.has_both() {
+    let body = find_body(alloc, archive, node, details, position, within)?;
+    if !has_far(details) || !has_both(details) {
         return Ok((body, None));
     }
-    let far = far_value(alloc, archive, node, details)?;
+    let far = far_value(alloc, archive, node, details, within)?;
     Ok((body, far))
 }
 
@@ -98,23 +102,24 @@ pub(crate) fn find<A: Archive>(
     alloc: Global,
     archive: &mut A,
     node: &NodeId,
-    details: &Details,
+    details: &ReadRawModifiedDetails,
     position: &Option<Position>,
+    within: &Vector,
 ) -> Result<Found, StoreFault>
-    requires given { IsTrue (is_given details.now.start || is_given details.now.end) }
+    requires given { IsTrue (is_given details.now.start_time.0 || is_given details.now.end_time.0) }
     requires place { IfSome position.now (λ p. first_time ≤ℤ p.time) }
-    ensures { Asks (A.state archive.old) (A.state archive.new) result (IsFound (A.state archive.old).content node.now details.now position.now) }
+    ensures { Asks (A.state archive.old) (A.state archive.new) result (IsFound (cut (A.state archive.old).content (number_of within.now)) node.now details.now position.now) }
 {
-    if position.is_some() || !details.bounds {
-        let (body, far) = find_values(alloc, archive, node, details, position)?;
+    if position.is_some() || !details.return_bounds {
+        let (body, far) = find_values(alloc, archive, node, details, position, within)?;
         return Ok(Found {
             near: None,
             body,
             far,
         });
     }
-    let near = near(alloc, archive, node, details)?;
-    let (body, far) = find_values(alloc, archive, node, details, position)?;
+    let near = near(alloc, archive, node, details, within)?;
+    let (body, far) = find_values(alloc, archive, node, details, position, within)?;
     Ok(Found {
         near: Some(near),
         body,
@@ -137,15 +142,15 @@ fn open_bound(direction: Direction, before: Moment) -> Item
 }
 
 /// The far bound of the value at the far limit, behind an item of this time.
-fn far_item(details: &Details, far: Option<Held>, before: Moment) -> Item
+fn far_item(details: &ReadRawModifiedDetails, far: Option<Held>, before: Moment) -> Item
     ensures { result ≡ far_item details.now far before }
 {
-    if !details.has_both() {
-        return open_bound(details.direction(), before);
+    if !has_both(details) {
+        return open_bound(direction(details), before);
     }
     match far {
         Some(held) => Item::Value(held),
-        None => Item::Missing(Moment::at(details.end)),
+        None => Item::Missing(Moment::at(details.end_time.0)),
     }
 }
 
@@ -160,11 +165,11 @@ fn push_values(items: &mut Vec<Item>, body: Vec<Held>) -> Result<(), AllocError>
 }
 
 /// The time of the item that was given last.
-fn time_before(details: &Details, position: &Option<Position>) -> Moment
+fn time_before(details: &ReadRawModifiedDetails, position: &Option<Position>) -> Moment
     ensures { result ≡ time_before details.now position.now }
 {
     match position {
-        None => details.origin(),
+        None => origin(details),
         Some(p) => p.time,
     }
 }
@@ -196,7 +201,7 @@ fn push_far(
     items: &mut Vec<Item>,
     far: Option<Held>,
     is_due: bool,
-    details: &Details,
+    details: &ReadRawModifiedDetails,
     position: &Option<Position>,
 ) -> Result<(), AllocError>
     ensures { IfOk result (λ _. items.new.items ≡ items.old.items ++ far_of details.now position.now is_due items.old.items far) }
@@ -213,7 +218,7 @@ fn push_far(
 pub(crate) fn row(
     alloc: Global,
     found: Found,
-    details: &Details,
+    details: &ReadRawModifiedDetails,
     position: &Option<Position>,
 ) -> Result<Vec<Item>, AllocError>
     ensures { IfOk result (λ v. v.items ≡ row_of details.now position.now (option_to_list found.near) found.body.items found.far) }
@@ -234,7 +239,11 @@ pub(crate) struct RawPage {
 }
 
 /// The place behind an item, where reading goes on.
-fn raw_position(details: &Details, position: &Option<Position>, item: &Item) -> Position
+fn raw_position(
+    details: &ReadRawModifiedDetails,
+    position: &Option<Position>,
+    item: &Item,
+) -> Position
     requires { is_spent details.now position.now ≡ false }
     ensures { result ≡ raw_position details.now position.now item.now }
 {
@@ -247,7 +256,11 @@ fn raw_position(details: &Details, position: &Option<Position>, item: &Item) -> 
 }
 
 /// The page that a row begins with.
-fn page(mut items: Vec<Item>, details: &Details, position: &Option<Position>) -> RawPage
+fn page(
+    mut items: Vec<Item>,
+    details: &ReadRawModifiedDetails,
+    position: &Option<Position>,
+) -> RawPage
     ensures items { result.items.items ≡ page details.now position.now items.items }
     ensures next { result.next ≡ next_place (raw_position details.now position.now) details.now position.now items.items }
 {
@@ -268,14 +281,15 @@ pub(crate) fn read_raw<A: Archive>(
     alloc: Global,
     archive: &mut A,
     node: &NodeId,
-    details: &Details,
+    details: &ReadRawModifiedDetails,
     position: &Option<Position>,
+    within: &Vector,
 ) -> Result<RawPage, Setback>
-    requires given { IsTrue (is_given details.now.start || is_given details.now.end) }
+    requires given { IsTrue (is_given details.now.start_time.0 || is_given details.now.end_time.0) }
     requires place { IfSome position.now (λ p. first_time ≤ℤ p.time) }
-    ensures { Finds (A.state archive.old) (A.state archive.new) result (IsRawPage (A.state archive.old).content node.now details.now position.now) }
+    ensures { Finds (A.state archive.old) (A.state archive.new) result (IsRawPage (cut (A.state archive.old).content (number_of within.now)) node.now details.now position.now) }
 {
-    let found = find(alloc, archive, node, details, position)?;
+    let found = find(alloc, archive, node, details, position, within)?;
     let items = row(alloc, found, details, position)?;
     Ok(page(items, details, position))
 }

@@ -2,34 +2,17 @@
 
 ghost use Rattle.std.specs.Prelude.{◌≡◌, ◌++◌, map, IfOk};
 ghost use Rattle.hist_read.specs.declared.item.Item.TheVariants.{Value};
-ghost use Rattle.hist_read.specs.Showing.{bits_of, with_extra, at_time, with_status, no_value, bound_not_found, item_value, entry_value, with_stamps, shown, shown_entry};
+ghost use Rattle.hist_read.specs.Showing.{bits_of, with_extra, at_time, with_status, no_value, item_value, entry_value, with_stamps, shown, shown_entry, info};
 
 use crate::item::Item;
-use crate::query::TimestampsToReturn;
-use records::{Entry, Held, HistoryUpdateType, Moment};
+use records::{Entry, Held, Moment};
 use std::alloc::{AllocError, Global};
-use ua_binary::{Status, Text, Ticks};
+use ua_binary::{Status, Ticks};
+use ua_services::{ModificationInfo, TimestampsToReturn};
 use ua_variant::DataValue;
-
-/// A modification, as it is shown (Part 11, HistoryModifiedData and ModificationInfo).
-#[derive(Debug, Drop, PartialEq, Eq)]
-pub struct Modification {
-    /// The value that it took the place of, else its own, with the source time; of a delete of nothing
-    /// the source time alone.
-    pub value: DataValue,
-    /// When it was made, in steps of 100 ns since 1601.
-    pub tick: i64,
-    /// What it did.
-    pub kind: HistoryUpdateType,
-    /// Who asked for it.
-    pub user: Text,
-}
 
 /// The info bits of a data value at whose time more values are to be had.
 const EXTRA_DATA: u32 = 0x0000_0408;
-
-/// Bad_BoundNotFound.
-const BOUND_NOT_FOUND: Status = Status(0x80D7_0000);
 
 /// A status with the bits for more values at its time.
 fn with_extra(status: Option<Status>) -> Option<Status>
@@ -85,7 +68,7 @@ fn item_value(item: Item) -> DataValue
 {
     match item {
         Item::Value(held) => held_value(held),
-        Item::Missing(time) => without_value(Some(BOUND_NOT_FOUND), time),
+        Item::Missing(time) => without_value(Some(Status::BAD_BOUND_NOT_FOUND), time),
     }
 }
 
@@ -118,6 +101,13 @@ fn with_stamps(stamps: TimestampsToReturn, value: DataValue) -> DataValue
             ..value
         },
         TimestampsToReturn::Both => value,
+        TimestampsToReturn::Neither => DataValue {
+            source_time: None,
+            source_pico: None,
+            server_time: None,
+            server_pico: None,
+            ..value
+        },
     }
 }
 
@@ -128,9 +118,9 @@ fn shown(stamps: TimestampsToReturn, item: Item) -> DataValue
     with_stamps(stamps, item_value(item))
 }
 
-/// A modification, as it is shown.
-fn shown_entry(stamps: TimestampsToReturn, entry: Entry) -> Modification
-    ensures { result ≡ shown_entry stamps entry }
+/// The value of a modification, as it is shown, and what is told of it.
+fn shown_entry(stamps: TimestampsToReturn, entry: Entry) -> (DataValue, ModificationInfo)
+    ensures { result ≡ (shown_entry stamps entry, info entry) }
 {
     let Entry {
         time,
@@ -140,12 +130,12 @@ fn shown_entry(stamps: TimestampsToReturn, entry: Entry) -> Modification
         user,
         ..
     } = entry;
-    Modification {
-        value: with_stamps(stamps, entry_value(time, value)),
-        tick,
-        kind,
-        user,
-    }
+    let info = ModificationInfo {
+        modification_time: Ticks(tick),
+        update_type: kind,
+        user_name: Some(user),
+    };
+    (with_stamps(stamps, entry_value(time, value)), info)
 }
 
 /// The items of a raw read, as they are shown.
@@ -163,17 +153,20 @@ pub(crate) fn show_items(
     Ok(values)
 }
 
-/// Modifications, as they are shown.
+/// The values of modifications, as they are shown, and what is told of each.
 pub(crate) fn show_entries(
     alloc: Global,
     stamps: TimestampsToReturn,
     entries: Vec<Entry>,
-) -> Result<Vec<Modification>, AllocError>
-    ensures { IfOk result (λ v. v.items ≡ map (shown_entry stamps) entries.items) }
+) -> Result<(Vec<DataValue>, Vec<ModificationInfo>), AllocError>
+    ensures { IfOk result (λ p. (p.0.items ≡ map (shown_entry stamps) entries.items) × (p.1.items ≡ map info entries.items)) }
 {
-    let mut shown = Vec::with_capacity(alloc, entries.len())?;
+    let mut values = Vec::with_capacity(alloc, entries.len())?;
+    let mut infos = Vec::with_capacity(alloc, entries.len())?;
     for entry in entries.into_iter() {
-        shown.push(shown_entry(stamps, entry))?;
+        let (value, info) = shown_entry(stamps, entry);
+        values.push(value)?;
+        infos.push(info)?;
     }
-    Ok(shown)
+    Ok((values, infos))
 }

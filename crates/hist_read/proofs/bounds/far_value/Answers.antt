@@ -16,7 +16,7 @@ returns-then-eq g c =
     let ended : c.at-end.result ≡ end_time q = omega (arith, ints, c.at-end.ensures) in
     let test : int_eq (origin_time q) (end_time q) ≡ true =
     subst (λ x. int_eq x (end_time q) ≡ true) c.origin.ensures (subst (λ x. int_eq c.origin.result x ≡ true) ended (sym c.eq.ensures ∙ c.if-eq.true)) in
-    let final : moment (to_z w64 (of_z w64 q.end)) 9999 ≡ last_within (end_time q) = omega (arith, ints) in
+    let final : moment (to_z w64 (of_z w64 q.end_time.0)) 9999 ≡ last_within (end_time q) = omega (arith, ints) in
     asked_so _ _ c.next_outside.result _ _ c.next_outside.ensures (λ h lawful is.
     is
     ∙ (ap (λ t. outside_of R node t c.direction-direction.result) final
