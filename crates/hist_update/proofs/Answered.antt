@@ -13,10 +13,10 @@ use Rattle.records.proofs.PutLemmas.{has-put}
 use Rattle.records.proofs.LearnLemmas.{closed-next}
 use Rattle.archive.specs.declared.fault.StoreFault.{StoreFault}
 use Rattle.archive.specs.declared.fault.StoreFault.TheVariants as fault
-use Rattle.hist_update.specs.declared.code.UpdateCode.{UpdateCode}
-use Rattle.hist_update.specs.declared.code.UpdateCode.TheVariants.{BadOutOfMemory, BadResourceUnavailable, BadEncodingLimitsExceeded, BadInvalidTimestamp, BadTypeMismatch, BadEntryExists, BadNoEntryExists}
+use Rattle.ua_binary.specs.declared.codes.Status.{Status}
+use Rattle.ua_binary.specs.declared.codes.TheConstants.Status.{BAD_OUT_OF_MEMORY, BAD_RESOURCE_UNAVAILABLE, BAD_ENCODING_LIMITS_EXCEEDED, BAD_INVALID_TIMESTAMP, BAD_TYPE_MISMATCH, BAD_ENTRY_EXISTS, BAD_NO_ENTRY_EXISTS}
 use Rattle.hist_update.specs.declared.request.Request.{Request}
-use Rattle.hist_update.specs.Codes.{code_of_fault}
+use Rattle.hist_update.specs.Codes.{status_of}
 use Rattle.records.specs.Moments.{ticks_of}
 use Rattle.hist_update.specs.Outcome.{Operation, Write, DeleteAt, Change, Outcome, Refused, Added, change_by, written, timed, typed, fits, source_time, is_too_long, writing, deletion, outcome, outcome_of, judged, stamped, conflict, done, is_live, after}
 use Rattle.hist_update.specs.Updates.{Mark, Fine, Starved, Met, Step, code_by, left_by, updated, Stands, AreEnded}
@@ -25,10 +25,10 @@ use Rattle.hist_update.proofs.NewRecords.{made, new_next}
 
 -- ---- the codes
 
-same_fault : (a b : UpdateCode) → ◌≡◌ {A = Result Change UpdateCode} (Err a) (Err b) → a ≡ b
+same_fault : (a b : Status) → ◌≡◌ {A = Result Change Status} (Err a) (Err b) → a ≡ b
 same_fault a b e = cc
 
-not_fault : {X : Type 0} (a : Change) (code : UpdateCode) → ◌≡◌ {A = Result Change UpdateCode} (Ok a) (Err code) → X
+not_fault : {X : Type 0} (a : Change) (code : Status) → ◌≡◌ {A = Result Change Status} (Ok a) (Err code) → X
 not_fault a code e = absurd (cc)
 
 done_good : (asked : HistoryUpdateType) (live : Bool) → IsGood (done asked live)
@@ -41,74 +41,74 @@ done_good Update false = omega arith
 done_good Delete true = omega arith
 done_good Delete false = omega arith
 
-fault_bad : (f : StoreFault) → IsBad (code_of_fault f)
+fault_bad : (f : StoreFault) → IsBad (status_of f)
 fault_bad fault.OutOfMemory = omega arith
 fault_bad fault.Refused = omega arith
 fault_bad fault.WrongReplica = omega arith
 fault_bad fault.WrongArchive = omega arith
 fault_bad fault.Broken = omega arith
 
-bad_as : (a code : UpdateCode) → IsBad a → a ≡ code → IsBad code
+bad_as : (a code : Status) → IsBad a → a ≡ code → IsBad code
 bad_as a code h e = subst IsBad e h
 
-change_bad : (request : Request) (own : ℕ) (op : Operation) (code : UpdateCode) → change_by request own op ≡ Err code → IsBad code
+change_bad : (request : Request) (own : ℕ) (op : Operation) (code : Status) → change_by request own op ≡ Err code → IsBad code
 change_bad request own (DeleteAt time) code e = go (int_lt (ticks_of time) (pos 1)) e
   where
-    go : (x : Bool) → (if x then Err BadInvalidTimestamp else Ok (deletion time)) ≡ Err code → IsBad code
-    go true h = bad_as BadInvalidTimestamp code (omega arith) (same_fault _ _ h)
+    go : (x : Bool) → (if x then Err BAD_INVALID_TIMESTAMP else Ok (deletion time)) ≡ Err code → IsBad code
+    go true h = bad_as BAD_INVALID_TIMESTAMP code (omega arith) (same_fault _ _ h)
     go false h = not_fault _ _ h
 change_bad request own (Write asked type v) code e = by_time (source_time v) e
   where
-    by_size : (t : ℤ) (x : Bool) → (if x then Err BadEncodingLimitsExceeded else Ok (writing asked v t)) ≡ Err code → IsBad code
-    by_size t true h = bad_as BadEncodingLimitsExceeded code (omega arith) (same_fault _ _ h)
+    by_size : (t : ℤ) (x : Bool) → (if x then Err BAD_ENCODING_LIMITS_EXCEEDED else Ok (writing asked v t)) ≡ Err code → IsBad code
+    by_size t true h = bad_as BAD_ENCODING_LIMITS_EXCEEDED code (omega arith) (same_fault _ _ h)
     by_size t false h = not_fault _ _ h
 
     by_type : (t : ℤ) (x : Bool) → written request own asked v (typed x t) ≡ Err code → IsBad code
     by_type t true h = by_size t (is_too_long request own (writing asked v t)) h
-    by_type t false h = bad_as BadTypeMismatch code (omega arith) (same_fault _ _ h)
+    by_type t false h = bad_as BAD_TYPE_MISMATCH code (omega arith) (same_fault _ _ h)
 
     by_time : (o : Option ℤ) → written request own asked v (timed type v o) ≡ Err code → IsBad code
-    by_time None h = bad_as BadInvalidTimestamp code (omega arith) (same_fault _ _ h)
+    by_time None h = bad_as BAD_INVALID_TIMESTAMP code (omega arith) (same_fault _ _ h)
     by_time (Some t) h = by_type t (fits type v.value) h
 
-conflict_bad : (asked : HistoryUpdateType) (live : Bool) (code : UpdateCode) → conflict asked live ≡ Some code → IsBad code
-conflict_bad Insert true code e = bad_as BadEntryExists code (omega arith) (same_Some _ _ e)
+conflict_bad : (asked : HistoryUpdateType) (live : Bool) (code : Status) → conflict asked live ≡ Some code → IsBad code
+conflict_bad Insert true code e = bad_as BAD_ENTRY_EXISTS code (omega arith) (same_Some _ _ e)
 conflict_bad Insert false code e = absurd (none-some _ e)
 conflict_bad Replace true code e = absurd (none-some _ e)
-conflict_bad Replace false code e = bad_as BadNoEntryExists code (omega arith) (same_Some _ _ e)
+conflict_bad Replace false code e = bad_as BAD_NO_ENTRY_EXISTS code (omega arith) (same_Some _ _ e)
 conflict_bad Update true code e = absurd (none-some _ e)
 conflict_bad Update false code e = absurd (none-some _ e)
 conflict_bad Delete true code e = absurd (none-some _ e)
-conflict_bad Delete false code e = bad_as BadNoEntryExists code (omega arith) (same_Some _ _ e)
+conflict_bad Delete false code e = bad_as BAD_NO_ENTRY_EXISTS code (omega arith) (same_Some _ _ e)
 
-same_refused : (a b : UpdateCode) → Refused a ≡ Refused b → a ≡ b
+same_refused : (a b : Status) → Refused a ≡ Refused b → a ≡ b
 same_refused a b e = cc
 
-not_refused : {X : Type 0} (a b : UpdateCode) (r : Record) → Added a r ≡ Refused b → X
+not_refused : {X : Type 0} (a b : Status) (r : Record) → Added a r ≡ Refused b → X
 not_refused a b r e = absurd (cc)
 
-pub refused_bad : (R : Content) (own : ℕ) (request : Request) (op : Operation) (code : UpdateCode) → outcome R own request op ≡ Refused code → IsBad code
+pub refused_bad : (R : Content) (own : ℕ) (request : Request) (op : Operation) (code : Status) → outcome R own request op ≡ Refused code → IsBad code
 refused_bad R own request op code e = by_change (change_by request own op) refl e
   where
     by_tick : (change : Change) (o : Option ℤ) → stamped R own request change (done change.asked (is_live R request.node change.time)) o ≡ Refused code → IsBad code
-    by_tick change None h = bad_as BadResourceUnavailable code (omega arith) (same_refused _ _ h)
+    by_tick change None h = bad_as BAD_RESOURCE_UNAVAILABLE code (omega arith) (same_refused _ _ h)
     by_tick change (Some t) h = not_refused _ _ _ h
 
-    by_conflict : (change : Change) (o : Option UpdateCode) → conflict change.asked (is_live R request.node change.time) ≡ o → judged R own request change (is_live R request.node change.time) o ≡ Refused code → IsBad code
+    by_conflict : (change : Change) (o : Option Status) → conflict change.asked (is_live R request.node change.time) ≡ o → judged R own request change (is_live R request.node change.time) o ≡ Refused code → IsBad code
     by_conflict change (Some c) f h = bad_as c code (conflict_bad change.asked (is_live R request.node change.time) c f) (same_refused _ _ h)
     by_conflict change None f h = by_tick change (lift request.reading (top R)) h
 
-    by_change : (x : Result Change UpdateCode) → change_by request own op ≡ x → outcome_of R own request x ≡ Refused code → IsBad code
+    by_change : (x : Result Change Status) → change_by request own op ≡ x → outcome_of R own request x ≡ Refused code → IsBad code
     by_change (Err c) p h = bad_as c code (change_bad request own op c p) (same_refused _ _ h)
     by_change (Ok change) p h = by_conflict change (conflict change.asked (is_live R request.node change.time)) refl h
 
-pub added_good : (R : Content) (own : ℕ) (request : Request) (op : Operation) (code : UpdateCode) (r : Record) → outcome R own request op ≡ Added code r → IsGood code
+pub added_good : (R : Content) (own : ℕ) (request : Request) (op : Operation) (code : Status) (r : Record) → outcome R own request op ≡ Added code r → IsGood code
 added_good R own request op code r e = let m = made R own request op code r e in subst IsGood (sym m.told) (done_good m.change.asked (is_live R request.node m.change.time))
 
-not_both : {X : Type 0} (code : UpdateCode) → IsBad code → IsGood code → X
+not_both : {X : Type 0} (code : Status) → IsBad code → IsGood code → X
 not_both code bad good = absurd (omega (arith, bad, good))
 
-pub record_made : (R : Content) (own : ℕ) (request : Request) (op : Operation) (code : UpdateCode) (r : Record) → outcome R own request op ≡ Added code r → IsRecordOf request own op r
+pub record_made : (R : Content) (own : ℕ) (request : Request) (op : Operation) (code : Status) (r : Record) → outcome R own request op ≡ Added code r → IsRecordOf request own op r
 record_made R own request op code r e =
     let m = made R own request op code r e in
     record {
@@ -131,8 +131,8 @@ abbrev pub IsDone : Content → ℕ → Request → Operation → Mark → Outco
 IsDone R own request op m o = (r : Record) × (o ≡ Added (code_by o m) r) × (left_by R o m ≡ put r R) × IsRecordOf request own op r
 
 pub good_done : (R : Content) (own : ℕ) (request : Request) (op : Operation) (m : Mark) → IsGood (code_by (outcome R own request op) m) → IsDone R own request op m (outcome R own request op)
-good_done R own request op Starved h = not_both BadOutOfMemory (omega arith) h
-good_done R own request op (Met f) h = not_both (code_of_fault f) (fault_bad f) h
+good_done R own request op Starved h = not_both BAD_OUT_OF_MEMORY (omega arith) h
+good_done R own request op (Met f) h = not_both (status_of f) (fault_bad f) h
 good_done R own request op Fine h = go (outcome R own request op) refl h
   where
     go : (o : Outcome) → outcome R own request op ≡ o → IsGood (code_by o Fine) → IsDone R own request op Fine o
@@ -160,7 +160,7 @@ pub updated_within : (R : Content) (own : ℕ) (request : Request) (steps : List
 updated_within R own request [] r h = h
 updated_within R own request (s ∷ steps) r h = updated_within (left_by R (outcome R own request s.0) s.1) own request steps r (left_within R (outcome R own request s.0) s.1 r h)
 
-pub good_stands : (R : Content) (own : ℕ) (request : Request) (steps : List Step) (k : ℕ) (op : Operation) (code : UpdateCode) → IsAnsweredAt R own request steps k op code → IsGood code
+pub good_stands : (R : Content) (own : ℕ) (request : Request) (steps : List Step) (k : ℕ) (op : Operation) (code : Status) → IsAnsweredAt R own request steps k op code → IsGood code
     → (r : Record) × Has (updated R own request steps) r × IsRecordOf request own op r
 good_stands R own request [] k op code a good = absurd (none-some _ a.there)
 good_stands R own request (s ∷ steps) zero op code a good =
@@ -200,11 +200,11 @@ stands_within R own request ((op, Met fault.Broken) ∷ steps) left h r k = elim
   | inr e ↦ subst (λ S. Has S r) (sym e) (left_within R (outcome R own request op) Fine r k)
 ]
 
-rest_answered : (R : Content) (own : ℕ) (request : Request) (s : Step) (steps : List Step) (k : ℕ) (op : Operation) (code : UpdateCode)
+rest_answered : (R : Content) (own : ℕ) (request : Request) (s : Step) (steps : List Step) (k : ℕ) (op : Operation) (code : Status)
     → IsAnsweredAt R own request (s ∷ steps) (suc k) op code → IsAnsweredAt (left_by R (outcome R own request s.0) s.1) own request steps k op code
 rest_answered R own request s steps k op code a = record { step = a.step; there = a.there; is = a.is; told = a.told }
 
-first_code : (R : Content) (own : ℕ) (request : Request) (s : Step) (steps : List Step) (op : Operation) (code : UpdateCode)
+first_code : (R : Content) (own : ℕ) (request : Request) (s : Step) (steps : List Step) (op : Operation) (code : Status)
     → IsAnsweredAt R own request (s ∷ steps) zero op code → code_by (outcome R own request s.0) s.1 ≡ code
 first_code R own request s steps op code a = same_Some _ _ a.told
 
@@ -213,12 +213,12 @@ ended_bad R own request op Starved h = omega arith
 ended_bad R own request op (Met f) h = fault_bad f
 ended_bad R own request op Fine h = go (change_by request own op) refl (h refl)
   where
-    go : (x : Result Change UpdateCode) → change_by request own op ≡ x → IsErr x → IsBad (code_by (outcome_of R own request x) Fine)
+    go : (x : Result Change Status) → change_by request own op ≡ x → IsErr x → IsBad (code_by (outcome_of R own request x) Fine)
     go (Err c) e k = change_bad request own op c e
     go (Ok change) e k = absurd (true≢false (sym k))
 
--- behind a break no code is Good
-none_good : (R : Content) (own : ℕ) (request : Request) (steps : List Step) (k : ℕ) (op : Operation) (code : UpdateCode)
+-- behind a break no code is GOOD
+none_good : (R : Content) (own : ℕ) (request : Request) (steps : List Step) (k : ℕ) (op : Operation) (code : Status)
     → AreEnded true own request steps → IsAnsweredAt R own request steps k op code → IsGood code → ⊥
 none_good R own request [] k op code ended a good = absurd (none-some _ a.there)
 none_good R own request (s ∷ steps) zero op code ended a good =
@@ -226,7 +226,7 @@ none_good R own request (s ∷ steps) zero op code ended a good =
 none_good R own request (s ∷ steps) (suc k) op code ended a good =
     none_good (left_by R (outcome R own request s.0) s.1) own request steps k op code ended.1 (rest_answered R own request s steps k op code a) good
 
-pub good_found : (R : Content) (own : ℕ) (request : Request) (steps : List Step) (left : Content) (k : ℕ) (op : Operation) (code : UpdateCode)
+pub good_found : (R : Content) (own : ℕ) (request : Request) (steps : List Step) (left : Content) (k : ℕ) (op : Operation) (code : Status)
     → Stands R own request steps left → AreEnded false own request steps → IsAnsweredAt R own request steps k op code → IsGood code → (r : Record) × Has left r × IsRecordOf request own op r
 good_found R own request [] left k op code h ended a good = absurd (none-some _ a.there)
 good_found R own request ((o, Fine) ∷ steps) left zero op code h ended a good =
@@ -234,8 +234,8 @@ good_found R own request ((o, Fine) ∷ steps) left zero op code h ended a good 
     let d = good_done R own request o Fine (subst IsGood (sym (first_code R own request (o, Fine) steps op code a)) good) in
     let there : Has (after R (outcome R own request o)) d.0 = subst (λ S. Has S d.0) (sym d.2) (has-put d.0 R d.0 (inl refl)) in
     (d.0, stands_within (after R (outcome R own request o)) own request steps left h d.0 there, subst (λ x. IsRecordOf request own x d.0) (ap (λ (t : Step). t.0) step ∙ a.is) d.3)
-good_found R own request ((o, Starved) ∷ steps) left zero op code h ended a good = not_both BadOutOfMemory (omega arith) (subst IsGood (sym (first_code R own request (o, Starved) steps op code a)) good)
-good_found R own request ((o, Met f) ∷ steps) left zero op code h ended a good = not_both (code_of_fault f) (fault_bad f) (subst IsGood (sym (first_code R own request (o, Met f) steps op code a)) good)
+good_found R own request ((o, Starved) ∷ steps) left zero op code h ended a good = not_both BAD_OUT_OF_MEMORY (omega arith) (subst IsGood (sym (first_code R own request (o, Starved) steps op code a)) good)
+good_found R own request ((o, Met f) ∷ steps) left zero op code h ended a good = not_both (status_of f) (fault_bad f) (subst IsGood (sym (first_code R own request (o, Met f) steps op code a)) good)
 good_found R own request ((o, Fine) ∷ steps) left (suc k) op code h ended a good =
     good_found (after R (outcome R own request o)) own request steps left k op code h ended.1 (rest_answered R own request (o, Fine) steps k op code a) good
 good_found R own request ((o, Starved) ∷ steps) left (suc k) op code h ended a good = good_found R own request steps left k op code h ended.1 (rest_answered R own request (o, Starved) steps k op code a) good

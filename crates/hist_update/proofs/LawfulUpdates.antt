@@ -18,8 +18,8 @@ use Rattle.records.proofs.Sizes.{fields_length}
 use Rattle.records.proofs.LearnLemmas.{le_from_not, finding_next}
 use Rattle.archive.specs.Store.{IsLawfulContent}
 use Rattle.archive.proofs.Listing.{lawful_put}
-use Rattle.hist_update.specs.declared.code.UpdateCode.{UpdateCode}
-use Rattle.hist_update.specs.declared.code.UpdateCode.TheVariants.{BadEncodingLimitsExceeded, BadInvalidTimestamp}
+use Rattle.ua_binary.specs.declared.codes.Status.{Status}
+use Rattle.ua_binary.specs.declared.codes.TheConstants.Status.{BAD_ENCODING_LIMITS_EXCEEDED, BAD_INVALID_TIMESTAMP}
 use Rattle.hist_update.specs.declared.request.Request.{Request}
 use Rattle.hist_update.specs.Outcome.{Operation, Write, DeleteAt, Change, Outcome, Refused, Added, IsRequest, change_by, written, timed, typed, fits, source_time, source_pico, is_too_long, writing, deletion, outcome, record_by}
 use Rattle.hist_update.specs.Updates.{Mark, Fine, Starved, Met, Step, left_by, updated}
@@ -35,10 +35,10 @@ record IsChange (request : Request) (own : ℕ) (change : Change) : Type 0 where
   pub suits : is_value_for change.asked change.value ≡ true
   pub short : is_too_long request own change ≡ false
 
-same_change : (a b : Change) → ◌≡◌ {A = Result Change UpdateCode} (Ok a) (Ok b) → a ≡ b
+same_change : (a b : Change) → ◌≡◌ {A = Result Change Status} (Ok a) (Ok b) → a ≡ b
 same_change a b e = cc
 
-no_change : {X : Type 0} (code : UpdateCode) (a : Change) → ◌≡◌ {A = Result Change UpdateCode} (Err code) (Ok a) → X
+no_change : {X : Type 0} (code : Status) (a : Change) → ◌≡◌ {A = Result Change Status} (Err code) (Ok a) → X
 no_change code a e = absurd (cc)
 
 abbrev IsTime : ℤ → Type 0
@@ -61,7 +61,7 @@ few_by (Some n) h = h
 is_change : (request : Request) (own : ℕ) (op : Operation) (change : Change) → IsRequest request → IsSpelled request → IsOperation op → change_by request own op ≡ Ok change → IsChange request own change
 is_change request own (DeleteAt time) change lawful spelled fits e = go (int_lt (ticks_of time) (pos 1)) refl e
   where
-    go : (x : Bool) → int_lt (ticks_of time) (pos 1) ≡ x → (if x then Err BadInvalidTimestamp else Ok (deletion time)) ≡ Ok change → IsChange request own change
+    go : (x : Bool) → int_lt (ticks_of time) (pos 1) ≡ x → (if x then Err BAD_INVALID_TIMESTAMP else Ok (deletion time)) ≡ Ok change → IsChange request own change
     go true p h = no_change _ _ h
     go false p h = subst (IsChange request own) (same_change _ _ h) (record {
       time = le_from_not _ _ p;
@@ -73,7 +73,7 @@ is_change request own (DeleteAt time) change lawful spelled fits e = go (int_lt 
 is_change request own (Write asked type v) change lawful spelled is e = by_time (source_time v) refl e
   where
     by_size : (t : ℤ) → IsTime t → (x : Bool) → is_too_long request own (writing asked v t) ≡ x
-        → (if x then Err BadEncodingLimitsExceeded else Ok (writing asked v t)) ≡ Ok change → IsChange request own change
+        → (if x then Err BAD_ENCODING_LIMITS_EXCEEDED else Ok (writing asked v t)) ≡ Ok change → IsChange request own change
     by_size t at true p h = no_change _ _ h
     by_size t at false p h = subst (IsChange request own) (same_change _ _ h) (record {
       time = at.0;
@@ -91,7 +91,7 @@ is_change request own (Write asked type v) change lawful spelled is e = by_time 
     by_time None p h = no_change _ _ h
     by_time (Some t) p h = by_type t (sourced v.source_time (source_pico v) t (few_by v.source_pico is.1.3) is.1.2 p) (fits type v.value) h
 
-lawful_new : (R : Content) (own : ℕ) (request : Request) (op : Operation) (code : UpdateCode) (r : Record) → IsReplica own → IsRequest request → IsSpelled request → IsOperation op → IsLawfulContent R
+lawful_new : (R : Content) (own : ℕ) (request : Request) (op : Operation) (code : Status) (r : Record) → IsReplica own → IsRequest request → IsSpelled request → IsOperation op → IsLawfulContent R
     → outcome R own request op ≡ Added code r → IsLawfulRecord r
 lawful_new R own request op code r replica lawful spelled is content e =
     let m = made R own request op code r e in

@@ -1,11 +1,14 @@
 pub mod Drafts
+pub mod Asking
 pub mod Surveys
-pub mod Operating
 pub mod Deletions
+pub mod Operating
 pub mod Updating
+pub mod Answering
 pub mod Stretches
 pub mod NewRecords
 pub mod Stood
 pub mod Answered
+pub mod Standing
 pub mod LawfulUpdates
 pub mod LiveTimes

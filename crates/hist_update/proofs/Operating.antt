@@ -1,5 +1,5 @@
 -- One operation over an archive: a survey, a record, and what the archive makes of it.
-use Rattle.std.proofs.Common.{◌≡◌, ℕ, ◌+◌, ◌≤◌, ℤ, pos, ◌≤ℤ◌, ◌<ℤ◌, min, Bool, true, false, Option, Some, None, IfSome, IfNone, unwrap_or, Result, Ok, Err, IsErr, refl, sym, ap, ◌∙◌, subst, inl, inr, ◌⊎◌, arith, nat_lt, int_lt, ◌+ℤ◌}
+use Rattle.std.proofs.Common.{◌≡◌, ℕ, ◌+◌, ◌≤◌, ℤ, pos, ◌≤ℤ◌, ◌<ℤ◌, min, Bool, true, false, Option, Some, None, IfSome, IfNone, unwrap_or, List, [], ◌∷◌, Result, Ok, Err, IsErr, refl, sym, ap, ◌∙◌, subst, inl, inr, ◌⊎◌, arith, nat_lt, int_lt, ◌+ℤ◌}
 use Rattle.std.specs.Prelude.{if◌then◌else◌}
 use Rattle.std.specs.Int.{int_max, int_min}
 use Rattle.std.proofs.lemmas.Bool.{true≢false}
@@ -14,29 +14,34 @@ use Rattle.ua_binary.specs.Binary.{IsNodeId}
 use Rattle.ua_binary.specs.declared.values.Ticks.{Ticks}
 use Rattle.ua_variant.specs.declared.data.DataValue.{DataValue}
 use Rattle.ua_variant.specs.declared.value.ValueType.{ValueType}
-use Rattle.ua_variant.specs.DataValue.{IsDataValue}
+use Rattle.ua_variant.specs.DataValue.{IsShortData}
 use Rattle.std.specs.Option.{option_and_then}
 use Rattle.records.specs.Contents.{Content, vec, top, last_tick, finding, Adds, after_finding, learned, put, IsClosed}
 use Rattle.records.proofs.Sizes.{fields_length}
 use Rattle.records.proofs.LearnLemmas.{finding_next, lt_from_test, le_from_not}
 use Rattle.records.proofs.PutLemmas.{last_tick_within}
 use Rattle.records.proofs.GreatestLemmas.{numbers_below}
+use Rattle.ua_binary.specs.declared.codes.Status.{Status}
+use Rattle.ua_binary.specs.declared.codes.TheConstants.Status.{BAD_OUT_OF_MEMORY, BAD_RESOURCE_UNAVAILABLE, BAD_ENCODING_LIMITS_EXCEEDED, BAD_INVALID_TIMESTAMP}
+use Rattle.records.specs.Moments.{moment, ticks_of, whole_again, pico_within}
 use Rattle.archive.specs.declared.fault.StoreFault.{StoreFault}
 use Rattle.archive.specs.declared.fault.LearnFault.{LearnFault}
 use Rattle.archive.specs.declared.fault.LearnFault.TheVariants as refused
-use Rattle.archive.specs.Store.{Store, Leaves, Asks, Learns, store_fault_in, answer_to}
-use Rattle.hist_update.specs.declared.code.UpdateCode.{UpdateCode}
-use Rattle.hist_update.specs.declared.code.UpdateCode.TheVariants.{BadResourceUnavailable, BadEncodingLimitsExceeded, BadInvalidTimestamp}
-use Rattle.hist_update.specs.declared.setback.Setback.{Setback}
-use Rattle.hist_update.specs.declared.setback.Setback.TheVariants as setback
+use Rattle.archive.specs.declared.setback.Setback.TheVariants as setback
+use Rattle.archive.specs.Fault.{status_of}
+use Rattle.archive.specs.Steps.{step, Does, Acts}
+use Rattle.archive.specs.Store.{Store, Mark, Fine, Starved, Met, faults_by, Passes, Asks, Learns, store_fault_in, answer_to, HasContent}
+use Rattle.archive.proofs.Results.{err-ok}
+use Rattle.archive.proofs.Calls.{in_use, passes-none}
+use Rattle.archive.proofs.Acting.{does-step, holds-stays, acts-learned, acts-unlearned}
 use Rattle.hist_update.specs.declared.request.Request.{Request}
 use Rattle.hist_update.specs.declared.operate.Place.{Place}
-use Rattle.records.specs.Moments.{moment, ticks_of, whole_again, pico_within}
+use Rattle.hist_update.specs.declared.operate.Undone.{Undone}
+use Rattle.hist_update.specs.declared.operate.Undone.TheVariants as undone
 use Rattle.hist_update.specs.Outcome.{Operation, Write, DeleteAt, IsRequest, deletion, writing, written, source_time, source_pico, fits, typed, timed, time_judged, Change, Outcome, Refused, Added, change_by, sized, outcome, outcome_of, judged, stamped, is_live, is_too_long, conflict, done, record_by, code_in, after}
-use Rattle.hist_update.specs.Updates.{Fine, Starved, Met}
-use Rattle.hist_update.specs.Setbacks.{Operates, IsPlace, candidate_of, is_long, refusal_by, refusal, told, Submits, IsDraft, IsNumber}
-use Rattle.archive.proofs.Results.{err-ok}
-use Rattle.archive.proofs.Calls.{leaves-then, in_use, passes-leaves, passes-none}
+use Rattle.hist_update.specs.Updates.{code_by, left_by, update_one}
+use Rattle.hist_update.specs.Operating.{Operates, IsPlace, candidate_of, is_long, refusal_by, refusal, told_of, Submits, IsDraft, IsNumber}
+use Rattle.hist_update.proofs.Asking.{moves-behind}
 use Rattle.hist_update.proofs.Deletions.{deletion_short}
 
 some-none : {A : Type 0} {X : Type 0} (a : A) → Some a ≡ None → X
@@ -45,29 +50,29 @@ some-none a e = absurd (none-some _ (sym e))
 -- ---- what the rules say by what the archive told
 
 -- the outcome by its tests
-abbrev by_tests : (R : Content) (own : ℕ) (request : Request) (change : Change) (live : Bool) (long : Bool) (conf : Option UpdateCode) (tick : Option ℤ) → Outcome
-by_tests R own request change live true conf tick = Refused BadEncodingLimitsExceeded
+abbrev by_tests : (R : Content) (own : ℕ) (request : Request) (change : Change) (live : Bool) (long : Bool) (conf : Option Status) (tick : Option ℤ) → Outcome
+by_tests R own request change live true conf tick = Refused BAD_ENCODING_LIMITS_EXCEEDED
 by_tests R own request change live false (Some code) tick = Refused code
 by_tests R own request change live false None tick = stamped R own request change (done change.asked live) tick
 
 tested : (R : Content) (own : ℕ) (request : Request) (change : Change) (long : Bool)
-    → outcome_of R own request (if long then Err BadEncodingLimitsExceeded else Ok change)
+    → outcome_of R own request (if long then Err BAD_ENCODING_LIMITS_EXCEEDED else Ok change)
     ≡ by_tests R own request change (is_live R request.node change.time) long (conflict change.asked (is_live R request.node change.time)) (lift request.reading (top R))
 tested R own request change true = refl
 tested R own request change false = go (conflict change.asked (is_live R request.node change.time))
   where
-    go : (conf : Option UpdateCode) → judged R own request change (is_live R request.node change.time) conf ≡ by_tests R own request change (is_live R request.node change.time) false conf (lift request.reading (top R))
+    go : (conf : Option Status) → judged R own request change (is_live R request.node change.time) conf ≡ by_tests R own request change (is_live R request.node change.time) false conf (lift request.reading (top R))
     go None = refl
     go (Some code) = refl
 
-refused_by_tests : (R : Content) (own : ℕ) (request : Request) (change : Change) (live long : Bool) (conf : Option UpdateCode) (tick : Option ℤ) (code : UpdateCode)
+refused_by_tests : (R : Content) (own : ℕ) (request : Request) (change : Change) (live long : Bool) (conf : Option Status) (tick : Option ℤ) (code : Status)
     → refusal_by long conf tick ≡ Some code → by_tests R own request change live long conf tick ≡ Refused code
 refused_by_tests R own request change live true conf tick code e = ap Refused (same_Some _ _ e)
 refused_by_tests R own request change live false (Some c) tick code e = ap Refused (same_Some _ _ e)
 refused_by_tests R own request change live false None None code e = ap Refused (same_Some _ _ e)
 refused_by_tests R own request change live false None (Some t) code e = absurd (none-some _ e)
 
-added_by_tests : (R : Content) (own : ℕ) (request : Request) (change : Change) (live long : Bool) (conf : Option UpdateCode) (tick : Option ℤ)
+added_by_tests : (R : Content) (own : ℕ) (request : Request) (change : Change) (live long : Bool) (conf : Option Status) (tick : Option ℤ)
     → refusal_by long conf tick ≡ None → (t : ℤ) × (tick ≡ Some t) × (by_tests R own request change live long conf tick ≡ Added (done change.asked live) (record_by request own (vec R own + 1) t change))
 added_by_tests R own request change live true conf tick e = some-none _ e
 added_by_tests R own request change live false (Some c) tick e = some-none _ e
@@ -117,14 +122,21 @@ is_new R own now t closed e =
 
 -- ---- the four ways in which an operation ends
 
+-- an operation's step, by what it comes to
+does-one : (own : ℕ) (request : Request) (op : Operation) (R : Content) (mark : Mark) (code : Status) (S : Content)
+    → code_by (outcome R own request op) mark ≡ code → left_by R (outcome R own request op) mark ≡ S → Does (update_one own request op R) (mark ∷ []) (code, S)
+does-one own request op R mark code S told left =
+    subst (λ (z : Status × Content). Does (update_one own request op R) (mark ∷ []) z) (ap (λ (c : Status). (c, left_by R (outcome R own request op) mark)) told ∙ ap (λ (T : Content). (code, T)) left)
+    (does-step (λ m. (code_by (outcome R own request op) m, left_by R (outcome R own request op) m)) mark)
+
 -- the rules refuse it before the archive is asked
-pub refused-early : (a : Store) (request : Request) (op : Operation) (code : UpdateCode) → change_by request a.own op ≡ Err code → Operates a a request op (Err (setback.Refused code))
+pub refused-early : (a : Store) (request : Request) (op : Operation) (code : Status) → change_by request a.own op ≡ Err code → Operates a a request op (Err (undone.Refused code))
 refused-early a request op code e = record {
-  code = λ h. sym (ap code_in (ap (outcome_of a.content a.own request) e));
-  content = λ h u. sym (ap (after a.content) (ap (outcome_of a.content a.own request) e));
-  crash = λ h left m. inl m;
+  acts = record {
+    passes = passes-none a;
+    acts = λ honest R h. (R, does-one a.own request op R Fine code R (ap (λ x. code_in (outcome_of R a.own request x)) e) (ap (λ x. after R (outcome_of R a.own request x)) e), h);
+  };
   ended = λ b f. subst IsErr (sym e) refl;
-  passes = passes-none a;
 }
 
 fine-met : {X : Type 0} (fault : StoreFault) → Met fault ≡ Fine → X
@@ -134,45 +146,40 @@ starved-fine : {X : Type 0} → Starved ≡ Fine → X
 starved-fine e = absurd (true≢false (sym (ap (λ m. elim m [ Fine ↦ true | _ ↦ false ]) e)))
 
 -- the survey met a fault
-pub survey-failed : (a b : Store) (request : Request) (op : Operation) (fault : StoreFault) (P : Place → Type 0) → Asks {A = Place} a b (Err fault) P → Operates a b request op (Err (setback.Store fault))
+pub survey-failed : (a b : Store) (request : Request) (op : Operation) (fault : StoreFault) (P : Place → Type 0) → Asks {A = Place} a b (Err fault) P → Operates a b request op (Err (undone.Hindered (setback.Store fault)))
 survey-failed a b request op fault P p = record {
-  code = λ h. refl;
-  content = λ h u. p.kept h u;
-  crash = λ h left m. inl (p.crash h left m);
+  acts = record {
+    passes = p.leaves.passes;
+    acts = λ honest R h. (R, does-one a.own request op R (Met fault) (status_of fault) R refl refl, holds-stays a b (fault ∷ []) R p.stays p.leaves.passes honest h);
+  };
   ended = λ e f. fine-met fault f;
-  passes = passes-leaves a b (Some fault) p.leaves;
 }
 
 -- there was no memory for the record
-pub draft-starved : (a b : Store) (request : Request) (op : Operation) (place : Place) (P : Place → Type 0) → Asks a b (Ok place) P → Operates a b request op (Err setback.Starved)
+pub draft-starved : (a b : Store) (request : Request) (op : Operation) (place : Place) (P : Place → Type 0) → Asks a b (Ok place) P → Operates a b request op (Err (undone.Hindered setback.Starved))
 draft-starved a b request op place P p = record {
-  code = λ h. refl;
-  content = λ h u. p.kept h u;
-  crash = λ h left m. inl (p.crash h left m);
+  acts = moves-behind a b b place P (Starved ∷ []) (λ R S. Does (update_one a.own request op R) (Starved ∷ []) (BAD_OUT_OF_MEMORY, S)) p (passes-none b)
+      (λ honest is h. (a.content, does-one a.own request op a.content Starved BAD_OUT_OF_MEMORY a.content refl refl, h));
   ended = λ e f. starved-fine f;
-  passes = passes-leaves a b None p.leaves;
 }
 
 -- the rules refuse it at its place
-pub settled-refused : (a b : Store) (request : Request) (op : Operation) (change : Change) (place : Place) (code : UpdateCode)
+pub settled-refused : (a b : Store) (request : Request) (op : Operation) (change : Change) (place : Place) (code : Status)
     → change_by request a.own op ≡ sized request a.own change → Asks a b (Ok place) (IsPlace a request change.time)
-    → refusal (candidate_of request place change) place ≡ Some code → Operates a b request op (Err (setback.Refused code))
+    → refusal (candidate_of request place change) place ≡ Some code → Operates a b request op (Err (undone.Refused code))
 settled-refused a b request op change place code asked p e = record {
-  code = λ h. sym (ap code_in (refused h));
-  content = λ h u. p.kept h u ∙ sym (ap (after a.content) (refused h));
-  crash = λ h left m. inl (p.crash h left m);
+  acts = moves-behind a b b place (IsPlace a request change.time) (Fine ∷ []) (λ R S. Does (update_one a.own request op R) (Fine ∷ []) (code, S)) p (passes-none b)
+      (λ honest at h. (a.content, does-one a.own request op a.content Fine code a.content (ap code_in (refused at)) (ap (after a.content) (refused at)), h));
   ended = λ b f. absurd (none-some _ (p.leaves.ended b));
-  passes = passes-leaves a b None p.leaves;
 }
   where
-    refused : b.honest → outcome a.content a.own request op ≡ Refused code
-    refused h =
-        let at = p.answer h in
+    refused : IsPlace a request change.time place → outcome a.content a.own request op ≡ Refused code
+    refused at =
         ap (outcome_of a.content a.own request) asked
         ∙ (tested a.content a.own request change (is_too_long request a.own change)
         ∙ refused_by_tests a.content a.own request change _ _ _ _ code (sym (same_refusal a.content a.own request change place at.live at.tick at.origin) ∙ e))
 
-record Facts (R : Content) (own : ℕ) (request : Request) (op : Operation) (code : UpdateCode) (r : Record) : Type 0 where
+record Facts (R : Content) (own : ℕ) (request : Request) (op : Operation) (code : Status) (r : Record) : Type 0 where
   pub is : outcome R own request op ≡ Added code r
   pub adds : finding R r ≡ Adds
 
@@ -195,75 +202,74 @@ facts R own request op change place asked closed live origin number tick e =
     }
 
 -- the archive was given its record
-pub settled-submitted : (a b c : Store) (request : Request) (op : Operation) (change : Change) (place : Place) (result : Result UpdateCode Setback)
+pub settled-submitted : (a b c : Store) (request : Request) (op : Operation) (change : Change) (place : Place) (result : Result Status Undone)
     → change_by request a.own op ≡ sized request a.own change → Asks a b (Ok place) (IsPlace a request change.time)
     → refusal (candidate_of request place change) place ≡ None
     → Submits b c (candidate_of request place change) (done change.asked place.live) result → Operates a c request op result
 settled-submitted a b c request op change place result asked p e (answer, learns, told_so) =
     subst (λ r. Operates a c request op r) (sym told_so) (go answer learns)
   where
-    r : Record
-    r = candidate_of request place change
-
-    known : b.honest → Facts a.content a.own request op (done change.asked place.live) r
-    known h =
-        let at = p.answer h in
-        let settled = p.leaves.before (p.leaves.honest h) (in_use a b p.leaves) in
+    known : b.honest → IsPlace a request change.time place → Facts a.content a.own request op (done change.asked place.live) (candidate_of request place change)
+    known h at =
+        let settled = p.leaves.before (p.leaves.passes.honest h) (in_use a b p.leaves) in
         facts a.content a.own request op change place asked settled.lawful.closed at.live at.origin at.number at.tick e
 
-    same_as : b.honest → b.content ≡ a.content
-    same_as h = p.kept h p.leaves.broken
+    -- what is held behind an answer of the archive
+    learned_so : (x : Result Bool LearnFault) → Learns b c (candidate_of request place change) x → store_fault_in x ≡ None → c.honest → HasContent b a.content
+        → (S : Content) × Does (step (λ m. (answer_to (finding a.content (candidate_of request place change)), unwrap_or (learned a.content (candidate_of request place change)) a.content))) (Fine ∷ []) (x, S) × HasContent c S
+    learned_so x l none honest h = (acts-learned b c (candidate_of request place change) x l none).acts honest a.content h
 
-    crashed : (x : Result Bool LearnFault) → Learns b c r x → c.honest → (left : Content) → c.may_hold left
-        → a.may_hold left ⊎ ((a.broken ≡ false) × (left ≡ after a.content (outcome a.content a.own request op)))
-    crashed x l h left m =
-        let hb = l.leaves.honest h in
-        elim (l.crash h left m) [
-          | inl k ↦ inl (p.crash hb left k)
-          | inr q ↦ inr (in_use a b p.leaves, q.2 ∙ (ap (put r) (same_as hb) ∙ sym (ap (after a.content) (known hb).is)))
-        ]
+    -- the archive's honest answer is that the record was added
+    answered : (x : Result Bool LearnFault) → Learns b c (candidate_of request place change) x → store_fault_in x ≡ None → c.honest → HasContent b a.content → IsPlace a request change.time place → Ok true ≡ x
+    answered x l none honest h at =
+        let q = learned_so x l none honest h in
+        sym (ap answer_to (known (l.leaves.passes.honest honest) at).adds) ∙ ap (λ (z : (Result Bool LearnFault × Content) × List Mark). z.0.0) (q.1.does [])
 
-    impossible : (f : LearnFault) → Learns b c r (Err f) → store_fault_in (Err f) ≡ None → c.honest → ⊥
-    impossible f l none h =
-        let hb = l.leaves.honest h in
-        let found : finding b.content r ≡ Adds = subst (λ S. finding S r ≡ Adds) (sym (same_as hb)) (known hb).adds in
-        err-ok (Err f) f true refl ((l.answered h none).0 ∙ ap answer_to found)
+    held : (x : Result Bool LearnFault) → Learns b c (candidate_of request place change) x → store_fault_in x ≡ None → c.honest → HasContent b a.content → IsPlace a request change.time place
+        → (S : Content) × Does (update_one a.own request op a.content) (Fine ∷ []) (done change.asked place.live, S) × HasContent c S
+    held x l none honest h at =
+        let q = learned_so x l none honest h in
+        let k = known (l.leaves.passes.honest honest) at in
+        let left : put (candidate_of request place change) a.content ≡ q.0 =
+        sym (ap (λ f. unwrap_or (after_finding a.content (candidate_of request place change) f) a.content) k.adds) ∙ ap (λ (z : (Result Bool LearnFault × Content) × List Mark). z.0.1) (q.1.does []) in
+        (q.0, does-one a.own request op a.content Fine (done change.asked place.live) q.0 (ap code_in k.is) (ap (after a.content) k.is ∙ left), q.2)
 
-    odd : (x : Result Bool LearnFault) → Learns b c r x → store_fault_in x ≡ None → (c.honest → ⊥) → Operates a c request op (Err (setback.Refused BadResourceUnavailable))
-    odd x l none never = record {
-      code = λ h. absurd (never h);
-      content = λ h u. absurd (never h);
-      crash = λ h left m. absurd (never h);
+    quiet : (x : Result Bool LearnFault) → store_fault_in x ≡ None → Learns b c (candidate_of request place change) x → Passes b c []
+    quiet x none l = subst (λ f. Passes b c (faults_by f)) none l.leaves.passes
+
+    impossible : {X : Type 0} (f : LearnFault) → Learns b c (candidate_of request place change) (Err f) → store_fault_in (Err f) ≡ None → c.honest → HasContent b a.content → IsPlace a request change.time place → X
+    impossible f l none honest h at = absurd (err-ok (Err f) f true refl (sym (answered (Err f) l none honest h at)))
+
+    odd : (f : LearnFault) → Learns b c (candidate_of request place change) (Err f) → store_fault_in (Err f) ≡ None → Operates a c request op (Err (undone.Refused BAD_RESOURCE_UNAVAILABLE))
+    odd f l none = record {
+      acts = moves-behind a b c place (IsPlace a request change.time) (Fine ∷ []) (λ R S. Does (update_one a.own request op R) (Fine ∷ []) (BAD_RESOURCE_UNAVAILABLE, S)) p (quiet (Err f) none l)
+          (λ honest at h. impossible f l none honest h at);
       ended = λ y. absurd (none-some _ (p.leaves.ended y));
-      passes = passes-leaves a c None (leaves-then a b c None p.leaves (subst (Leaves b c) none l.leaves));
     }
 
-    go : (x : Result Bool LearnFault) → Learns b c r x → Operates a c request op (told x (done change.asked place.live))
+    go : (x : Result Bool LearnFault) → Learns b c (candidate_of request place change) x → Operates a c request op (told_of x (done change.asked place.live))
     go (Ok added) l = record {
-      code = λ h. sym (ap code_in (known (l.leaves.honest h)).is);
-      content = λ h u.
-          let hb = l.leaves.honest h in
-          (l.answered h refl).1 ∙ (ap (λ S. unwrap_or (learned S r) S) (same_as hb)
-          ∙ (ap (λ f. unwrap_or (after_finding a.content r f) a.content) (known hb).adds ∙ sym (ap (after a.content) (known hb).is)));
-      crash = λ h left m. crashed (Ok added) l h left m;
+      acts = moves-behind a b c place (IsPlace a request change.time) (Fine ∷ []) (λ R S. Does (update_one a.own request op R) (Fine ∷ []) (done change.asked place.live, S)) p l.leaves.passes
+          (λ honest at h. held (Ok added) l refl honest h at);
       ended = λ y. absurd (none-some _ (p.leaves.ended y));
-      passes = passes-leaves a c None (leaves-then a b c None p.leaves l.leaves);
     }
-    go (Err (refused.Store fault)) l = record {
-      code = λ h. refl;
-      content = λ h u. l.kept h u ∙ same_as (l.leaves.honest h);
-      crash = λ h left m. crashed (Err (refused.Store fault)) l h left m;
-      ended = λ y. absurd (none-some _ (p.leaves.ended y));
-      passes = passes-leaves a c (Some fault) (leaves-then a b c (Some fault) p.leaves l.leaves);
-    }
-    go (Err refused.Clash) l = odd _ l refl (impossible _ l refl)
-    go (Err (refused.Gap held got)) l = odd _ l refl (impossible _ l refl)
-    go (Err refused.TickTooFar) l = odd _ l refl (impossible _ l refl)
-    go (Err refused.TickNotRising) l = odd _ l refl (impossible _ l refl)
+    go (Err (refused.Store fault)) l =
+        let acts : Acts b c (Met fault ∷ []) (update_one a.own request op) (status_of fault) =
+        acts-unlearned b c (candidate_of request place change) (Err (refused.Store fault)) fault
+        (λ R m. (code_by (outcome R a.own request op) m, left_by R (outcome R a.own request op) m)) (status_of fault) l refl (λ R. refl) in
+        record {
+          acts = moves-behind a b c place (IsPlace a request change.time) (Met fault ∷ []) (λ R S. Does (update_one a.own request op R) (Met fault ∷ []) (status_of fault, S)) p l.leaves.passes
+              (λ honest at h. acts.acts honest a.content h);
+          ended = λ y. absurd (none-some _ (p.leaves.ended y));
+        }
+    go (Err refused.Clash) l = odd _ l refl
+    go (Err (refused.Gap held got)) l = odd _ l refl
+    go (Err refused.TickTooFar) l = odd _ l refl
+    go (Err refused.TickNotRising) l = odd _ l refl
 
 -- ---- drafts of writes
 
-ok_same : (a b : ℤ) (r : Result ℤ UpdateCode) → r ≡ Ok a → r ≡ Ok b → a ≡ b
+ok_same : (a b : ℤ) (r : Result ℤ Status) → r ≡ Ok a → r ≡ Ok b → a ≡ b
 ok_same a b s d e = sym (ap (λ r. elim r [ Ok x ↦ x | Err f ↦ a ]) d) ∙ ap (λ r. elim r [ Ok x ↦ x | Err f ↦ a ]) e
 
 not_below : (s m : ℤ) (p : ℕ) → moment s p ≡ m → pos 1 ≤ℤ s → pos 1 ≤ℤ ticks_of m
@@ -289,13 +295,13 @@ judged_time type v time e = go (source_time v) refl e
     go (Some t) p h = subst (λ u. pos 1 ≤ℤ ticks_of u) (typed_so (fits type v.value) t h) (sourced v.source_time (source_pico v) t p)
 
 pub write_draft : (request : Request) (place : Place) (asked : HistoryUpdateType) (type : ValueType) (v : DataValue) (time : ℤ)
-    → IsRequest request → IsNumber place → is_delete asked ≡ false → IsDataValue v → time_judged type v ≡ Ok time → IsDraft (candidate_of request place (writing asked v time))
+    → IsRequest request → IsNumber place → is_delete asked ≡ false → IsShortData v → time_judged type v ≡ Ok time → IsDraft (candidate_of request place (writing asked v time))
 write_draft request place asked type v time lawful number write value judged = record {
   number = number;
   node = lawful.node;
   time = judged_time type v time judged;
   user = lawful.user;
-  value = (value.0, value.1, tt, value.3, value.4, value.5);
+  value = value;
   suits = rw write refl;
 }
 
@@ -303,19 +309,19 @@ pub written_by : (request : Request) (own : ℕ) (asked : HistoryUpdateType) (ty
     → change_by request own (Write asked type v) ≡ sized request own (writing asked v time)
 written_by request own asked type v time e = ap (written request own asked v) e
 
-pub unwritten : (request : Request) (own : ℕ) (asked : HistoryUpdateType) (type : ValueType) (v : DataValue) (code : UpdateCode) → time_judged type v ≡ Err code
+pub unwritten : (request : Request) (own : ℕ) (asked : HistoryUpdateType) (type : ValueType) (v : DataValue) (code : Status) → time_judged type v ≡ Err code
     → change_by request own (Write asked type v) ≡ Err code
 unwritten request own asked type v code e = ap (written request own asked v) e
 
 -- either way in which a record was settled
-pub settled : {A : Type 0} (state : A → Store) (x y z : A) (request : Request) (op : Operation) (change : Change) (place : Place) (r : Record) (result : Result UpdateCode Setback)
+pub settled : {A : Type 0} (state : A → Store) (x y z : A) (request : Request) (op : Operation) (change : Change) (place : Place) (r : Record) (result : Result Status Undone)
     → change_by request (state x).own op ≡ sized request (state x).own change → Asks (state x) (state y) (Ok place) (IsPlace (state x) request change.time) → r ≡ candidate_of request place change
-    → IfSome (refusal r place) (λ code. (result ≡ Err (setback.Refused code)) × (z ≡ y))
+    → IfSome (refusal r place) (λ code. (result ≡ Err (undone.Refused code)) × (z ≡ y))
     → IfNone (refusal r place) (Submits (state y) (state z) r (done r.asked place.live) result)
     → Operates (state x) (state z) request op result
 settled state x y z request op change place r result asked p is refused submitted = go (refusal r place) refl refused submitted
   where
-    go : (o : Option UpdateCode) → refusal r place ≡ o → IfSome o (λ code. (result ≡ Err (setback.Refused code)) × (z ≡ y)) → IfNone o (Submits (state y) (state z) r (done r.asked place.live) result)
+    go : (o : Option Status) → refusal r place ≡ o → IfSome o (λ code. (result ≡ Err (undone.Refused code)) × (z ≡ y)) → IfNone o (Submits (state y) (state z) r (done r.asked place.live) result)
         → Operates (state x) (state z) request op result
     go (Some code) e f s =
         subst (λ w. Operates (state x) (state w) request op result) (sym f.1)
@@ -325,4 +331,4 @@ settled state x y z request op change place r result asked p is refused submitte
 
 pub deleted_by : (request : Request) (own : ℕ) (time : ℤ) → IsNodeId request.node → IsRequest request → int_lt (ticks_of time) (pos 1) ≡ false → change_by request own (DeleteAt time) ≡ sized request own (deletion time)
 deleted_by request own time spelled lawful late =
-    ap (λ x. if x then Err BadInvalidTimestamp else Ok (deletion time)) late ∙ sym (ap (λ x. if x then Err BadEncodingLimitsExceeded else Ok (deletion time)) (deletion_short request own time spelled lawful))
+    ap (λ x. if x then Err BAD_INVALID_TIMESTAMP else Ok (deletion time)) late ∙ sym (ap (λ x. if x then Err BAD_ENCODING_LIMITS_EXCEEDED else Ok (deletion time)) (deletion_short request own time spelled lawful))

@@ -1,16 +1,16 @@
 -- The survey of a place.
 use Rattle.std.proofs.Common.{◌≡◌, ℕ, List, Ok, ap, ◌∙◌}
-use Rattle.archive.specs.Store.{Store, Asks}
-use Rattle.archive.proofs.Calls.{asks-then}
 use Rattle.std.specs.Prelude.{⊤, ℤ, ◌+◌, min, is_some}
 use Rattle.stamp.specs.Limits.{greatest, lift}
 use Rattle.stamp.specs.Numbers.{number_of}
 use Rattle.records.specs.declared.record.Record.{Record}
 use Rattle.records.specs.Records.{story, held}
 use Rattle.records.specs.Contents.{vec, top}
+use Rattle.archive.specs.Store.{Store, Asks}
+use Rattle.archive.proofs.Calls.{asks-then, left_in_use}
 use Rattle.hist_update.specs.declared.request.Request.{Request}
 use Rattle.hist_update.specs.declared.operate.Place.{Place}
-use Rattle.hist_update.specs.Setbacks.{IsPlace}
+use Rattle.hist_update.specs.Operating.{IsPlace}
 
 -- what the three calls of a survey told, together
 pub surveyed : (a b c d : Store) (request : Request) (time : ℤ) (records : List Record) (t : ℤ) (v : List ℕ) (place : Place)
@@ -24,16 +24,16 @@ surveyed a b c d request time records t v place x Q p items q r live origin tick
     (λ h same is e. at_place h same is)
   where
     answered : Asks c d (Ok v) (λ w. (replica : ℕ) → number_of w replica ≡ vec c.content replica) → Asks c d (Ok place) (λ s. ⊤)
-    answered s = record { answer = λ h. tt; kept = s.kept; crash = s.crash; leaves = s.leaves }
+    answered s = record { answer = λ h. tt; stays = s.stays; leaves = s.leaves }
 
     at_place : d.honest → b.content ≡ a.content → Q x → IsPlace a request time place
     at_place h same is =
-        let here = r.leaves.honest h in
+        let here = r.leaves.passes.honest h in
         let told = q.answer here in
-        let second : c.content ≡ a.content = q.kept here q.leaves.broken ∙ same in
+        let second : c.content ≡ a.content = q.stays.content here (left_in_use b c q.leaves) ∙ same in
         record {
           live = live ∙ ap (λ rs. is_some (held rs)) (items is);
-          origin = origin ∙ p.leaves.own;
+          origin = origin ∙ p.leaves.passes.own;
           tick = tick ∙ ap (λ s. lift request.reading s) (told ∙ ap top same);
-          number = number ∙ ap (λ n. min (n + 1) greatest) (r.answer h place.origin ∙ (ap (λ S. vec S place.origin) second ∙ ap (λ o. vec a.content o) (origin ∙ p.leaves.own)));
+          number = number ∙ ap (λ n. min (n + 1) greatest) (r.answer h place.origin ∙ (ap (λ S. vec S place.origin) second ∙ ap (λ o. vec a.content o) (origin ∙ p.leaves.passes.own)));
         }

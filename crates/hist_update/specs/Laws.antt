@@ -4,24 +4,23 @@ use Rattle.std.specs.Int.{w64}
 use Rattle.std.specs.Int.RustNames.{FitsSigned}
 use Rattle.std.specs.Str.{is_utf8}
 use Rattle.ua_binary.specs.Binary.{IsNodeId}
+use Rattle.ua_binary.specs.declared.codes.Status.{Status}
 use Rattle.ua_binary.specs.declared.values.NodeId.{NodeId}
 use Rattle.ua_variant.specs.DataValue.{IsDataValue}
 use Rattle.records.specs.Moments.{ticks_of}
 use Rattle.records.specs.Contents.{Content}
+use Rattle.records.specs.Lists.{Has}
 use Rattle.records.specs.Records.{is_delete}
 use Rattle.records.specs.declared.record.Record.{Record}
-use Rattle.hist_update.specs.declared.code.UpdateCode.{UpdateCode}
 use Rattle.hist_update.specs.declared.request.Request.{Request}
-use Rattle.hist_update.specs.Codes.{number_of_code}
 use Rattle.hist_update.specs.Outcome.{Operation, Write, DeleteAt, change_by, is_live}
-use Rattle.hist_update.specs.Updates.{Step, codes_by}
 
 -- the severity of a code is that of its two highest bits (Part 4, 7.39)
-abbrev pub IsBad : UpdateCode → Type 0
-IsBad code = 2147483648 ≤ number_of_code code
+abbrev pub IsBad : Status → Type 0
+IsBad code = 2147483648 ≤ code.0
 
-abbrev pub IsGood : UpdateCode → Type 0
-IsGood code = number_of_code code < 1073741824
+abbrev pub IsGood : Status → Type 0
+IsGood code = code.0 < 1073741824
 
 -- a record of what the operation asks for, made by this replica for this node and user
 pub record IsRecordOf (request : Request) (own : ℕ) (operation : Operation) (r : Record) : Type 0 where
@@ -30,12 +29,16 @@ pub record IsRecordOf (request : Request) (own : ℕ) (operation : Operation) (r
   pub user : r.user ≡ request.user
   pub change : change_by request own operation ≡ Ok (record { time = r.time; asked = r.asked; value = r.value })
 
--- the operation at this place of a list was answered so
-pub record IsAnsweredAt (R : Content) (own : ℕ) (request : Request) (steps : List Step) (k : ℕ) (operation : Operation) (code : UpdateCode) : Type 0 where
-  pub step : Step
-  pub there : slice_get steps k ≡ Some step
-  pub is : step.0 ≡ operation
-  pub told : slice_get (codes_by R own request steps) k ≡ Some code
+-- the operation at this place was answered by this Good code
+pub record IsAnsweredGood (operations : List Operation) (codes : List Status) (k : ℕ) (operation : Operation) : Type 0 where
+  pub asked : slice_get operations k ≡ Some operation
+  pub code : Status
+  pub told : slice_get codes k ≡ Some code
+  pub good : IsGood code
+
+-- the content has the record of what the operation asks for
+abbrev pub HasRecordOf : Content → Request → ℕ → Operation → Type 0
+HasRecordOf S request own operation = (r : Record) × Has S r × IsRecordOf request own operation r
 
 -- what the types of a request and of an operation see to, and the conditions on values
 pub record IsSpelled (request : Request) : Type 0 where

@@ -1,5 +1,5 @@
 pub mod Codes
 pub mod Outcome
 pub mod Updates
-pub mod Setbacks
+pub mod Operating
 pub mod Laws

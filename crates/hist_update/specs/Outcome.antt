@@ -16,8 +16,8 @@ use Rattle.records.specs.declared.record.Record.{Record}
 use Rattle.ua_variant.specs.declared.update_type.HistoryUpdateType.{HistoryUpdateType}
 use Rattle.ua_variant.specs.declared.update_type.HistoryUpdateType.TheVariants.{Insert, Replace, Delete}
 use Rattle.hist_update.specs.declared.request.Request.{Request}
-use Rattle.hist_update.specs.declared.code.UpdateCode.{UpdateCode}
-use Rattle.hist_update.specs.declared.code.UpdateCode.TheVariants.{Good, GoodEntryInserted, GoodEntryReplaced, BadResourceUnavailable, BadEncodingLimitsExceeded, BadInvalidTimestamp, BadTypeMismatch, BadEntryExists, BadNoEntryExists}
+use Rattle.ua_binary.specs.declared.codes.Status.{Status}
+use Rattle.ua_binary.specs.declared.codes.TheConstants.Status.{GOOD, GOOD_ENTRY_INSERTED, GOOD_ENTRY_REPLACED, BAD_RESOURCE_UNAVAILABLE, BAD_ENCODING_LIMITS_EXCEEDED, BAD_INVALID_TIMESTAMP, BAD_TYPE_MISMATCH, BAD_ENTRY_EXISTS, BAD_NO_ENTRY_EXISTS}
 
 -- a write of one value to a node of this type, or a delete at one moment
 pub data Operation : Type 0 where
@@ -70,67 +70,67 @@ writing asked v time = record { time = time; asked = asked; value = record v { s
 abbrev pub deletion : ℤ → Change
 deletion time = record { time = time; asked = Delete; value = empty }
 
-abbrev pub typed : Bool → ℤ → Result ℤ UpdateCode
+abbrev pub typed : Bool → ℤ → Result ℤ Status
 typed true time = Ok time
-typed false time = Err BadTypeMismatch
+typed false time = Err BAD_TYPE_MISMATCH
 
-abbrev pub timed : ValueType → DataValue → Option ℤ → Result ℤ UpdateCode
-timed type v None = Err BadInvalidTimestamp
+abbrev pub timed : ValueType → DataValue → Option ℤ → Result ℤ Status
+timed type v None = Err BAD_INVALID_TIMESTAMP
 timed type v (Some time) = typed (fits type v.value) time
 
 -- the source time of a value that may be written to a node of this type
-abbrev pub time_judged : ValueType → DataValue → Result ℤ UpdateCode
+abbrev pub time_judged : ValueType → DataValue → Result ℤ Status
 time_judged type v = timed type v (source_time v)
 
-abbrev pub sized : Request → ℕ → Change → Result Change UpdateCode
-sized request own change = if is_too_long request own change then Err BadEncodingLimitsExceeded else Ok change
+abbrev pub sized : Request → ℕ → Change → Result Change Status
+sized request own change = if is_too_long request own change then Err BAD_ENCODING_LIMITS_EXCEEDED else Ok change
 
-abbrev pub written : Request → ℕ → HistoryUpdateType → DataValue → Result ℤ UpdateCode → Result Change UpdateCode
+abbrev pub written : Request → ℕ → HistoryUpdateType → DataValue → Result ℤ Status → Result Change Status
 written request own asked v (Err code) = Err code
 written request own asked v (Ok time) = sized request own (writing asked v time)
 
 -- the change that an operation asks for
-abbrev pub change_by : Request → ℕ → Operation → Result Change UpdateCode
+abbrev pub change_by : Request → ℕ → Operation → Result Change Status
 change_by request own (Write asked type v) = written request own asked v (time_judged type v)
-change_by request own (DeleteAt time) = if int_lt (ticks_of time) (pos 1) then Err BadInvalidTimestamp else Ok (deletion time)
+change_by request own (DeleteAt time) = if int_lt (ticks_of time) (pos 1) then Err BAD_INVALID_TIMESTAMP else Ok (deletion time)
 
 -- ---- what a content makes of it
 
 pub data Outcome : Type 0 where
-  Refused : UpdateCode → Outcome
-  Added : UpdateCode → Record → Outcome
+  Refused : Status → Outcome
+  Added : Status → Record → Outcome
 
 -- an insert onto a live value, and a replacement or a delete of none, are refused
-abbrev pub conflict : HistoryUpdateType → (live : Bool) → Option UpdateCode
-conflict Insert true = Some BadEntryExists
-conflict Replace false = Some BadNoEntryExists
-conflict Delete false = Some BadNoEntryExists
+abbrev pub conflict : HistoryUpdateType → (live : Bool) → Option Status
+conflict Insert true = Some BAD_ENTRY_EXISTS
+conflict Replace false = Some BAD_NO_ENTRY_EXISTS
+conflict Delete false = Some BAD_NO_ENTRY_EXISTS
 conflict asked live = None
 
-abbrev pub done : HistoryUpdateType → (live : Bool) → UpdateCode
-done Delete live = Good
-done asked false = GoodEntryInserted
-done asked true = GoodEntryReplaced
+abbrev pub done : HistoryUpdateType → (live : Bool) → Status
+done Delete live = GOOD
+done asked false = GOOD_ENTRY_INSERTED
+done asked true = GOOD_ENTRY_REPLACED
 
 abbrev pub is_live : Content → NodeId → ℤ → Bool
 is_live R node time = is_some (current R node time)
 
-abbrev pub stamped : Content → ℕ → Request → Change → UpdateCode → Option ℤ → Outcome
-stamped R own request change code None = Refused BadResourceUnavailable
+abbrev pub stamped : Content → ℕ → Request → Change → Status → Option ℤ → Outcome
+stamped R own request change code None = Refused BAD_RESOURCE_UNAVAILABLE
 stamped R own request change code (Some tick) = Added code (record_by request own (vec R own + 1) tick change)
 
-abbrev pub judged : Content → ℕ → Request → Change → (live : Bool) → Option UpdateCode → Outcome
+abbrev pub judged : Content → ℕ → Request → Change → (live : Bool) → Option Status → Outcome
 judged R own request change live (Some code) = Refused code
 judged R own request change live None = stamped R own request change (done change.asked live) (lift request.reading (top R))
 
-abbrev pub outcome_of : Content → ℕ → Request → Result Change UpdateCode → Outcome
+abbrev pub outcome_of : Content → ℕ → Request → Result Change Status → Outcome
 outcome_of R own request (Err code) = Refused code
 outcome_of R own request (Ok change) = judged R own request change (is_live R request.node change.time) (conflict change.asked (is_live R request.node change.time))
 
 abbrev pub outcome : Content → ℕ → Request → Operation → Outcome
 outcome R own request operation = outcome_of R own request (change_by request own operation)
 
-abbrev pub code_in : Outcome → UpdateCode
+abbrev pub code_in : Outcome → Status
 code_in (Refused code) = code
 code_in (Added code r) = code
 

@@ -6,21 +6,71 @@ ghost use Rattle.records.specs.Records.{held, current, is_delete};
 ghost use Rattle.records.specs.Spelling.{empty, IsLawfulRecord};
 ghost use Rattle.records.specs.Contents.{vec, top};
 ghost use Rattle.archive.specs.Store.{Store, Asks};
-ghost use Rattle.ua_variant.specs.DataValue.{IsDataValue, IsPicoseconds};
+ghost use Rattle.archive.specs.declared.setback.Setback.TheVariants as setback;
+ghost use Rattle.ua_variant.specs.DataValue.{IsShortData, IsPicoseconds};
 ghost use Rattle.hist_update.specs.Outcome.{IsRequest, Write, DeleteAt, fits, source_time, source_pico, time_judged, conflict, done, is_live, writing, deletion, record_by};
-ghost use Rattle.hist_update.specs.Setbacks.{Operates, IsPlace, IsNumber, candidate_of, IsDraft, is_long, refusal, Submits};
-ghost use Rattle.hist_update.specs.declared.code.UpdateCode.TheVariants as code;
-ghost use Rattle.hist_update.specs.declared.setback.Setback.TheVariants as setback;
+ghost use Rattle.hist_update.specs.Operating.{Operates, IsPlace, IsNumber, candidate_of, IsDraft, is_long, refusal, Submits, code_told};
+ghost use Rattle.hist_update.specs.declared.operate.Undone.TheVariants as undone;
 
-use crate::code::UpdateCode;
 use crate::request::Request;
-use crate::setback::Setback;
-use archive::{Archive, StoreFault};
+use archive::{Archive, LearnFault, Setback, StoreFault};
 use records::{HistoryUpdateType, Moment, Record};
 use stamp::{GREATEST_NUMBER, GREATEST_TICK, ReplicaNo, lift};
 use std::alloc::{AllocError, Global};
-use ua_binary::TryClone;
+use thiserror::Error;
+use ua_binary::{Status, TryClone};
 use ua_variant::{DataValue, ValueType, Variant, same_type};
+
+/// Why an operation was not done.
+#[derive(Clone, Copy, Debug, PartialEq, Eq, Error)]
+pub(crate) enum Undone {
+    /// The rules refuse it.
+    #[error("the operation is refused")]
+    Refused(Status),
+    /// Something came in its way.
+    #[error("{0}")]
+    Hindered(Setback),
+}
+
+impl From<AllocError> for Undone {
+    ghost from_gives = { λ cause told. told ≡ undone.Hindered setback.Starved };
+
+    fn from(_: AllocError) -> Undone {
+        Undone::Hindered(Setback::Starved)
+    }
+}
+
+impl From<StoreFault> for Undone {
+    ghost from_gives = { λ cause told. told ≡ undone.Hindered (setback.Store cause) };
+
+    fn from(cause: StoreFault) -> Undone {
+        Undone::Hindered(Setback::Store(cause))
+    }
+}
+
+/// A record that is made for the archive is never refused by it, so the other causes don't come.
+impl From<LearnFault> for Undone {
+    ghost use Rattle.hist_update.specs.Operating.{of_learn};
+
+    ghost from_gives = { λ cause told. told ≡ of_learn cause };
+
+    fn from(cause: LearnFault) -> Undone {
+        match cause {
+            LearnFault::Store(fault) => Undone::Hindered(Setback::Store(fault)),
+            _ => Undone::Refused(Status::BAD_RESOURCE_UNAVAILABLE),
+        }
+    }
+}
+
+/// The code that an operation is answered.
+pub(crate) fn code_of(done: Result<Status, Undone>) -> Status
+    ensures { result ≡ code_told done }
+{
+    match done {
+        Ok(code) | Err(Undone::Refused(code)) => code,
+        Err(Undone::Hindered(cause)) => cause.status(),
+    }
+}
 
 /// Where a change is to go: whether a value is live there, and the name and the tick of its record;
 /// no tick where none is left, and then the number is the greatest.
@@ -66,28 +116,28 @@ fn survey<A: Archive>(
 }
 
 /// Why an update is refused for what is live.
-fn conflict(asked: HistoryUpdateType, live: bool) -> Option<UpdateCode>
+fn conflict(asked: HistoryUpdateType, live: bool) -> Option<Status>
     ensures { result ≡ conflict asked live }
 {
     match (asked, live) {
-        (HistoryUpdateType::Insert, true) => Some(UpdateCode::BadEntryExists),
+        (HistoryUpdateType::Insert, true) => Some(Status::BAD_ENTRY_EXISTS),
         (HistoryUpdateType::Replace | HistoryUpdateType::Delete, false) => {
-            Some(UpdateCode::BadNoEntryExists)
+            Some(Status::BAD_NO_ENTRY_EXISTS)
         }
         _ => None,
     }
 }
 
 /// The code of an update that was done.
-fn done(asked: HistoryUpdateType, live: bool) -> UpdateCode
+fn done(asked: HistoryUpdateType, live: bool) -> Status
     ensures { result ≡ done asked live }
 {
     if asked == HistoryUpdateType::Delete {
-        UpdateCode::Good
+        Status::GOOD
     } else if live {
-        UpdateCode::GoodEntryReplaced
+        Status::GOOD_ENTRY_REPLACED
     } else {
-        UpdateCode::GoodEntryInserted
+        Status::GOOD_ENTRY_INSERTED
     }
 }
 
@@ -129,15 +179,15 @@ fn source_time(value: &DataValue) -> Option<Moment>
 }
 
 /// The moment of a value that may be written to a node of this type.
-fn judge(value_type: ValueType, value: &DataValue) -> Result<Moment, UpdateCode>
+fn judge(value_type: ValueType, value: &DataValue) -> Result<Moment, Status>
     requires { IfSome value.now.source_pico IsPicoseconds }
     ensures { result ≡ time_judged value_type value.now }
 {
     let Some(time) = source_time(value) else {
-        return Err(UpdateCode::BadInvalidTimestamp);
+        return Err(Status::BAD_INVALID_TIMESTAMP);
     };
     if !fits(value_type, &value.value) {
-        return Err(UpdateCode::BadTypeMismatch);
+        return Err(Status::BAD_TYPE_MISMATCH);
     }
     Ok(time)
 }
@@ -220,33 +270,30 @@ fn is_long(candidate: &Record) -> bool
 {
     let (_origin, _time) = (candidate.origin.get(), candidate.time.ticks());
     let (_node, _user) = (candidate.node.as_ref(), candidate.user.as_str());
+    let _size = candidate.value.size();
     !candidate.is_lawful()
 }
 
 /// Why a change is refused at its place.
-fn refusal(candidate: &Record, place: &Place) -> Option<UpdateCode>
+fn refusal(candidate: &Record, place: &Place) -> Option<Status>
     requires { IsDraft candidate.now }
     ensures tested { result ≡ refusal candidate.now place.now }
     ensures lawful { result ≡ None → IsLawfulRecord candidate.now }
 {
     if is_long(candidate) {
-        return Some(UpdateCode::BadEncodingLimitsExceeded);
+        return Some(Status::BAD_ENCODING_LIMITS_EXCEEDED);
     }
     if let Some(code) = conflict(candidate.asked, place.live) {
         return Some(code);
     }
     match place.tick {
         Some(_) => None,
-        None => Some(UpdateCode::BadResourceUnavailable),
+        None => Some(Status::BAD_RESOURCE_UNAVAILABLE),
     }
 }
 
 /// Gives a record to the archive.
-fn submit<A: Archive>(
-    archive: &mut A,
-    candidate: &Record,
-    code: UpdateCode,
-) -> Result<UpdateCode, Setback>
+fn submit<A: Archive>(archive: &mut A, candidate: &Record, code: Status) -> Result<Status, Undone>
     requires { IsLawfulRecord candidate.now }
     ensures { Submits (A.state archive.old) (A.state archive.new) candidate.now code result }
 {
@@ -257,17 +304,13 @@ fn submit<A: Archive>(
 }
 
 /// Gives a record to the archive, where nothing speaks against it.
-fn settle<A: Archive>(
-    archive: &mut A,
-    candidate: &Record,
-    place: &Place,
-) -> Result<UpdateCode, Setback>
+fn settle<A: Archive>(archive: &mut A, candidate: &Record, place: &Place) -> Result<Status, Undone>
     requires { IsDraft candidate.now }
-    ensures refused { IfSome (refusal candidate.now place.now) (λ code. (result ≡ Err (setback.Refused code)) × (archive.new ≡ archive.old)) }
+    ensures refused { IfSome (refusal candidate.now place.now) (λ code. (result ≡ Err (undone.Refused code)) × (archive.new ≡ archive.old)) }
     ensures submitted { IfNone (refusal candidate.now place.now) (Submits (A.state archive.old) (A.state archive.new) candidate.now (done candidate.now.asked place.now.live) result) }
 {
     if let Some(code) = refusal(candidate, place) {
-        return Err(Setback::Refused(code));
+        return Err(Undone::Refused(code));
     }
     submit(archive, candidate, done(candidate.asked, place.live))
 }
@@ -280,15 +323,15 @@ pub(crate) fn write<A: Archive>(
     value_type: ValueType,
     asked: HistoryUpdateType,
     value: &DataValue,
-) -> Result<UpdateCode, Setback>
+) -> Result<Status, Undone>
     requires request { IsRequest request.now }
     requires asked { is_delete asked ≡ false }
-    requires value { IsDataValue value.now }
+    requires value { IsShortData value.now }
     ensures { Operates (A.state archive.old) (A.state archive.new) request.now (Write asked value_type value.now) result }
 {
     let time = match judge(value_type, value) {
         Ok(time) => time,
-        Err(code) => return Err(Setback::Refused(code)),
+        Err(code) => return Err(Undone::Refused(code)),
     };
     let place = survey(alloc, archive, request, time)?;
     let candidate = request.write(&place, time, asked, value)?;
@@ -301,12 +344,12 @@ pub(crate) fn delete<A: Archive>(
     archive: &mut A,
     request: &Request,
     time: Moment,
-) -> Result<UpdateCode, Setback>
+) -> Result<Status, Undone>
     requires { IsRequest request.now }
     ensures { Operates (A.state archive.old) (A.state archive.new) request.now (DeleteAt time) result }
 {
     if time.ticks() < 1 {
-        return Err(Setback::Refused(UpdateCode::BadInvalidTimestamp));
+        return Err(Undone::Refused(Status::BAD_INVALID_TIMESTAMP));
     }
     let _node = request.node.as_ref();
     let place = survey(alloc, archive, request, time)?;

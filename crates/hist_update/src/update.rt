@@ -1,27 +1,41 @@
 //! Whole updates: lists of values or source times, and stretches of time.
 
-ghost use Rattle.std.specs.Prelude.{◌≡◌, ◌≤◌, ◌≤ℤ◌, pos, [], map, length, IfOk, None, false, vec_capacity};
+ghost use Rattle.std.specs.Prelude.{◌≡◌, ◌≤◌, ◌≤ℤ◌, pos, List, [], map, take, length, IfSome, None, false, vec_capacity};
+ghost use Rattle.records.specs.Contents.{Content};
 ghost use Rattle.std.specs.List.{AllByRecursion};
-ghost use Rattle.ua_variant.specs.DataValue.{IsDataValue};
+ghost use Rattle.ua_variant.specs.DataValue.{IsShortData};
+ghost use Rattle.ua_services.specs.Updates.{IsShortUpdate};
+ghost use Rattle.records.specs.Records.{is_delete};
+ghost use Rattle.archive.specs.Reading.{range_of};
+ghost use Rattle.archive.specs.declared.reading.Direction.TheVariants as direction;
+ghost use Rattle.archive.specs.Steps.{Acts};
+ghost use Rattle.archive.specs.Store.{Mark, Asks, HasContent};
 ghost use Rattle.hist_update.specs.Codes.{asked_by, count_refusal, first_other};
 ghost use Rattle.hist_update.specs.Outcome.{IsRequest, Write, DeleteAt};
-ghost use Rattle.records.specs.Records.{is_delete};
-ghost use Rattle.hist_update.specs.Setbacks.{code_told, AnswersListed, AnswersLives};
-ghost use Rattle.hist_update.specs.Updates.{Updates, AnswersList, AnswersStretch, data_refusal, writes, moments_at, last_of, stretch_refusal, listing_refusal};
+ghost use Rattle.hist_update.specs.Operating.{Operations, Begins, BeginsListed};
+ghost use Rattle.hist_update.specs.Updates.{update_data as updates_data, delete_at as deletes_at_times, delete_raw as deletes_stretch, refused, all_good, data_refusal, writes, deletes_at, last_of, stretch_refusal, listing_refusal, AreEnded, needs_of, needs_of_stretch};
 
-use crate::code::UpdateCode;
-use crate::operate::{delete, write};
+use crate::operate::{code_of, delete, write};
 use crate::request::Request;
-use crate::result::UpdateResult;
-use crate::setback::Setback;
-use archive::{Archive, Direction};
+use archive::{Archive, Direction, Setback, StoreFault};
 use records::{Held, HistoryUpdateType, Moment};
-use std::alloc::{AllocError, Global};
-use ua_binary::Listing;
+use std::alloc::Global;
+use ua_binary::{Listing, NodeId, Status, Ticks};
+use ua_services::HistoryUpdateResult;
 use ua_variant::{DataValue, ValueType};
 
 /// The most operations of one list.
 const MOST: usize = 1000;
+
+/// An update that is refused as a whole; it takes no memory.
+fn refused(alloc: Global, status: Status) -> HistoryUpdateResult
+    ensures { result ≡ refused status }
+{
+    HistoryUpdateResult {
+        status,
+        operation_results: Listing::new(alloc),
+    }
+}
 
 /// Which update a number asks for (Part 11, PerformUpdateType).
 fn asked_by(perform: i32) -> Option<HistoryUpdateType>
@@ -36,26 +50,17 @@ fn asked_by(perform: i32) -> Option<HistoryUpdateType>
 }
 
 /// Why a list of so many operations is refused as a whole.
-fn count_refusal(count: usize) -> Option<UpdateCode>
-    ensures { result ≡ count_refusal count }
+fn count_refusal(count: usize) -> Option<Status>
+    ensures tested { result ≡ count_refusal count }
+    ensures few { result ≡ None → count ≤ 1000 }
 {
     if count == 0 {
-        return Some(UpdateCode::BadNothingToDo);
+        return Some(Status::BAD_NOTHING_TO_DO);
     }
     if count > MOST {
-        return Some(UpdateCode::BadTooManyOperations);
+        return Some(Status::BAD_TOO_MANY_OPERATIONS);
     }
     None
-}
-
-/// The code that an operation is answered.
-fn code_of(done: Result<UpdateCode, Setback>) -> UpdateCode
-    ensures { result ≡ code_told done }
-{
-    match done {
-        Ok(code) => code,
-        Err(setback) => setback.code(),
-    }
 }
 
 fn write_each<A: Archive>(
@@ -65,14 +70,14 @@ fn write_each<A: Archive>(
     value_type: ValueType,
     asked: HistoryUpdateType,
     values: &[DataValue],
-    codes: &mut Vec<UpdateCode>,
+    codes: &mut Vec<Status>,
 )
     requires request { IsRequest request.now }
     requires asked { is_delete asked ≡ false }
-    requires values { AllByRecursion IsDataValue values.now }
+    requires values { AllByRecursion IsShortData values.now }
     requires codes { codes.old.items ≡ [] }
     requires room { length values.now ≤ vec_capacity codes.old }
-    ensures { Updates (A.state archive.old) (A.state archive.new) request.now (map (Write asked value_type) values.now) codes.new.items }
+    ensures { Operations (A.state archive.old) (A.state archive.new) request.now (map (Write asked value_type) values.now) codes.new.items }
 {
     for value in values {
         let done = write(alloc, archive, request, value_type, asked, value);
@@ -80,34 +85,48 @@ fn write_each<A: Archive>(
     }
 }
 
-fn delete_each<A: Archive>(
+/// Writes values, of which there are at most 1,000.
+fn write_all<A: Archive>(
     alloc: Global,
     archive: &mut A,
     request: &Request,
-    times: &[Moment],
-    codes: &mut Vec<UpdateCode>,
-)
+    value_type: ValueType,
+    asked: HistoryUpdateType,
+    values: &[DataValue],
+) -> HistoryUpdateResult
     requires request { IsRequest request.now }
-    requires codes { codes.old.items ≡ [] }
-    requires room { length times.now ≤ vec_capacity codes.old }
-    ensures { Updates (A.state archive.old) (A.state archive.new) request.now (map DeleteAt times.now) codes.new.items }
+    requires asked { is_delete asked ≡ false }
+    requires values { AllByRecursion IsShortData values.now }
+    requires few { length values.now ≤ 1000 }
+    ensures begins { Begins (A.state archive.old) (A.state archive.new) request.now all_good (map (Write asked value_type) values.now) result }
+    ensures short { IsShortUpdate result }
 {
-    for time in times {
-        let done = delete(alloc, archive, request, *time);
-        codes.push(code_of(done)).unwrap();
+    let Ok(mut codes) = Vec::with_capacity(alloc, values.len()) else {
+        return refused(alloc, Status::BAD_OUT_OF_MEMORY);
+    };
+    write_each(
+        alloc, archive, request, value_type, asked, values, &mut codes,
+    );
+    HistoryUpdateResult {
+        status: Status::GOOD,
+        operation_results: Listing::of(codes),
     }
 }
 
 /// Writes 1 to 1,000 values to a node of this type, in order (Part 11, UpdateDataDetails). `perform` is
 /// 1 for insert, 2 for replace, 3 for update (PerformUpdateType); else the status is
-/// BadHistoryOperationInvalid, then BadNothingToDo for no value, BadTooManyOperations for more than
-/// 1,000, and BadOutOfMemory where there is no memory for the codes: then nothing was changed and there
-/// are no codes. Otherwise the status is Good, and each value has a code of its own: BadInvalidTimestamp
-/// without a source time of at least 1, BadTypeMismatch, BadEncodingLimitsExceeded where its record has
-/// more than 1,048,578 bytes, BadEntryExists, BadNoEntryExists, BadResourceUnavailable where no tick is
-/// left, BadOutOfMemory, BadResourceUnavailable for another fault of the store, GoodEntryInserted or
-/// GoodEntryReplaced. A value of a Bad code changed nothing, save that behind a break of the store its
-/// record may stand.
+/// BAD_HISTORY_OPERATION_INVALID, then BAD_NOTHING_TO_DO for no value, BAD_TOO_MANY_OPERATIONS for more
+/// than 1,000, and BAD_OUT_OF_MEMORY where there is no memory for the codes: then nothing was changed and
+/// there are no codes. Otherwise the status is GOOD, and each value has a code of its own:
+/// BAD_INVALID_TIMESTAMP without a source time of at least 1, BAD_TYPE_MISMATCH,
+/// BAD_ENCODING_LIMITS_EXCEEDED where its record has more than 1,048,578 bytes, BAD_ENTRY_EXISTS,
+/// BAD_NO_ENTRY_EXISTS, BAD_RESOURCE_UNAVAILABLE where no tick is left, BAD_OUT_OF_MEMORY,
+/// BAD_RESOURCE_UNAVAILABLE for another fault of the store, GOOD_ENTRY_INSERTED or GOOD_ENTRY_REPLACED. A
+/// value of a Bad code changed nothing, save that behind a break of the store its record may stand.
+///
+/// For some marks, one for the memory of the codes and one for each operation, the answer and what is
+/// held then are those of `update_data` of the specification; and once the store is broken, an operation
+/// is refused by what it says itself, or something came in its way.
 pub fn update_data<A: Archive>(
     alloc: Global,
     archive: &mut A,
@@ -115,203 +134,242 @@ pub fn update_data<A: Archive>(
     value_type: ValueType,
     perform: i32,
     values: &[DataValue],
-) -> UpdateResult
+) -> HistoryUpdateResult
     requires request { IsRequest request.now }
-    requires values { AllByRecursion IsDataValue values.now }
-    ensures { AnswersList A.state archive.old archive.new request.now (data_refusal (asked_by perform) (length values.now)) (writes (asked_by perform) value_type values.now) result }
+    requires values { AllByRecursion IsShortData values.now }
+    ensures acts { (used : List Mark) × Acts (A.state archive.old) (A.state archive.new) used (updates_data (A.state archive.old).own request.now value_type perform values.now) result
+        × AreEnded (A.state archive.old).broken (needs_of (A.state archive.old).own request.now (writes (asked_by perform) value_type values.now)) used }
+    ensures refused { IfSome (data_refusal (asked_by perform) (length values.now)) (λ code. (result ≡ refused code) × (archive.new ≡ archive.old)) }
+    ensures short { IsShortUpdate result }
 {
     let Some(asked) = asked_by(perform) else {
-        return UpdateResult::refused(alloc, UpdateCode::BadHistoryOperationInvalid);
+        return refused(alloc, Status::BAD_HISTORY_OPERATION_INVALID);
     };
-    if let Some(code) = count_refusal(values.len()) {
-        return UpdateResult::refused(alloc, code);
+    if let Some(status) = count_refusal(values.len()) {
+        return refused(alloc, status);
     }
-    let Ok(mut codes) = Vec::with_capacity(alloc, values.len()) else {
-        return UpdateResult::refused(alloc, UpdateCode::BadOutOfMemory);
-    };
-    write_each(
-        alloc, archive, request, value_type, asked, values, &mut codes,
-    );
-    UpdateResult {
-        status: UpdateCode::Good,
-        codes: Listing::of(codes),
-    }
+    write_all(alloc, archive, request, value_type, asked, values)
 }
 
-/// Deletes what is live at each of 1 to 1,000 moments, in order.
-fn delete_moments<A: Archive>(
+fn delete_each<A: Archive>(
     alloc: Global,
     archive: &mut A,
     request: &Request,
-    times: &[Moment],
-) -> UpdateResult
-    requires { IsRequest request.now }
-    ensures { AnswersList A.state archive.old archive.new request.now (count_refusal (length times.now)) (map DeleteAt times.now) result }
+    times: &[Ticks],
+    codes: &mut Vec<Status>,
+)
+    requires request { IsRequest request.now }
+    requires codes { codes.old.items ≡ [] }
+    requires room { length times.now ≤ vec_capacity codes.old }
+    ensures { Operations (A.state archive.old) (A.state archive.new) request.now (deletes_at times.now) codes.new.items }
 {
-    if let Some(code) = count_refusal(times.len()) {
-        return UpdateResult::refused(alloc, code);
+    for time in times {
+        let done = delete(alloc, archive, request, Moment::at(time.0));
+        codes.push(code_of(done)).unwrap();
     }
+}
+
+/// Deletes at source times, of which there are at most 1,000.
+fn delete_all<A: Archive>(
+    alloc: Global,
+    archive: &mut A,
+    request: &Request,
+    times: &[Ticks],
+) -> HistoryUpdateResult
+    requires request { IsRequest request.now }
+    requires few { length times.now ≤ 1000 }
+    ensures begins { Begins (A.state archive.old) (A.state archive.new) request.now all_good (deletes_at times.now) result }
+    ensures short { IsShortUpdate result }
+{
     let Ok(mut codes) = Vec::with_capacity(alloc, times.len()) else {
-        return UpdateResult::refused(alloc, UpdateCode::BadOutOfMemory);
+        return refused(alloc, Status::BAD_OUT_OF_MEMORY);
     };
     delete_each(alloc, archive, request, times, &mut codes);
-    UpdateResult {
-        status: UpdateCode::Good,
-        codes: Listing::of(codes),
+    HistoryUpdateResult {
+        status: Status::GOOD,
+        operation_results: Listing::of(codes),
     }
 }
 
-/// The moments of these times, without picoseconds.
-fn moments_at(alloc: Global, times: &[i64]) -> Result<Vec<Moment>, AllocError>
-    ensures { IfOk result (λ v. v.items ≡ moments_at times.now) }
-{
-    let mut moments = Vec::with_capacity(alloc, times.len())?;
-    for time in times {
-        moments.push(Moment::at(*time))?;
-    }
-    Ok(moments)
-}
-
-/// Deletes what is live at each of 1 to 1,000 source times, without picoseconds, in order (Part 11, DeleteAtTimeDetails).
-/// The status is BadNothingToDo for no time, BadTooManyOperations for more than 1,000, BadOutOfMemory
-/// where there is no memory for the codes; then nothing was changed and there are no codes. Otherwise it
-/// is Good, and each time has a code of its own: BadInvalidTimestamp below 1, BadNoEntryExists where
-/// none is live, those of a tick, memory and the store as for a value, or Good.
+/// Deletes what is live at each of 1 to 1,000 source times, without picoseconds, in order (Part 11,
+/// DeleteAtTimeDetails). The status is BAD_NOTHING_TO_DO for no time, BAD_TOO_MANY_OPERATIONS for more than
+/// 1,000, BAD_OUT_OF_MEMORY where there is no memory for the codes; then nothing was changed and there are
+/// no codes. Otherwise it is GOOD, and each time has a code of its own: BAD_INVALID_TIMESTAMP below 1,
+/// BAD_NO_ENTRY_EXISTS where none is live, those of a tick, memory and the store as for a value, or GOOD.
+///
+/// For some marks, one for the memory of the codes and one for each operation, the answer and what is
+/// held then are those of `delete_at` of the specification; a broken store is as for values.
 pub fn delete_at<A: Archive>(
     alloc: Global,
     archive: &mut A,
     request: &Request,
-    times: &[i64],
-) -> UpdateResult
+    times: &[Ticks],
+) -> HistoryUpdateResult
     requires { IsRequest request.now }
-    ensures { AnswersList A.state archive.old archive.new request.now (count_refusal (length times.now)) (map DeleteAt (moments_at times.now)) result }
+    ensures acts { (used : List Mark) × Acts (A.state archive.old) (A.state archive.new) used (deletes_at_times (A.state archive.old).own request.now times.now) result
+        × AreEnded (A.state archive.old).broken (needs_of (A.state archive.old).own request.now (deletes_at times.now)) used }
+    ensures refused { IfSome (count_refusal (length times.now)) (λ code. (result ≡ refused code) × (archive.new ≡ archive.old)) }
+    ensures short { IsShortUpdate result }
 {
-    if let Some(code) = count_refusal(times.len()) {
-        return UpdateResult::refused(alloc, code);
+    if let Some(status) = count_refusal(times.len()) {
+        return refused(alloc, status);
     }
-    match moments_at(alloc, times) {
-        Ok(moments) => delete_moments(alloc, archive, request, &moments),
-        Err(_) => UpdateResult::refused(alloc, UpdateCode::BadOutOfMemory),
-    }
-}
-
-/// The moments of live values.
-fn times_of(alloc: Global, lives: &[Held]) -> Result<Vec<Moment>, AllocError>
-    ensures { IfOk result (λ v. v.items ≡ map (λ h. h.time) lives.now) }
-{
-    let mut times = Vec::with_capacity(alloc, lives.len())?;
-    for held in lives {
-        times.push(held.time)?;
-    }
-    Ok(times)
+    delete_all(alloc, archive, request, times)
 }
 
 /// The first code that isn't Good, or Good.
-fn first_other(codes: &[UpdateCode]) -> UpdateCode
+fn first_other(codes: &[Status]) -> Status
     ensures { result ≡ first_other codes.now }
 {
     for code in codes {
-        if *code != UpdateCode::Good {
+        if code.0 != 0 {
             return *code;
         }
     }
-    UpdateCode::Good
+    Status::GOOD
 }
 
-/// Deletes at the moments of a listing.
-fn delete_listed<A: Archive>(
+fn delete_each_live<A: Archive>(
     alloc: Global,
     archive: &mut A,
     request: &Request,
-    times: &[Moment],
-) -> UpdateResult
-    requires { IsRequest request.now }
-    ensures { AnswersListed A.state archive.old archive.new request.now (listing_refusal times.now) times.now result }
+    lives: &[Held],
+    codes: &mut Vec<Status>,
+)
+    requires request { IsRequest request.now }
+    requires codes { codes.old.items ≡ [] }
+    requires room { length lives.now ≤ vec_capacity codes.old }
+    ensures { Operations (A.state archive.old) (A.state archive.new) request.now (map (λ h. DeleteAt h.time) lives.now) codes.new.items }
 {
-    if times.is_empty() {
-        return UpdateResult::refused(alloc, UpdateCode::BadNoData);
-    }
-    let deleted = delete_moments(alloc, archive, request, times);
-    if deleted.status != UpdateCode::Good {
-        return deleted;
-    }
-    UpdateResult {
-        status: first_other(deleted.codes.as_slice()),
-        codes: deleted.codes,
+    for held in lives {
+        let done = delete(alloc, archive, request, held.time);
+        codes.push(code_of(done)).unwrap();
     }
 }
 
-/// Deletes the live values of a listing.
+/// Deletes live values, of which there are at most 1,000.
 fn delete_lives<A: Archive>(
     alloc: Global,
     archive: &mut A,
     request: &Request,
     lives: &[Held],
-) -> UpdateResult
-    requires { IsRequest request.now }
-    ensures { AnswersLives A.state archive.old archive.new request.now (map (λ h. h.time) lives.now) result }
+) -> HistoryUpdateResult
+    requires request { IsRequest request.now }
+    requires few { length lives.now ≤ 1000 }
+    ensures begins { Begins (A.state archive.old) (A.state archive.new) request.now first_other (map (λ h. DeleteAt h.time) lives.now) result }
+    ensures short { IsShortUpdate result }
 {
-    match times_of(alloc, lives) {
-        Ok(times) => delete_listed(alloc, archive, request, &times),
-        Err(_) => UpdateResult::refused(alloc, UpdateCode::BadOutOfMemory),
+    let Ok(mut codes) = Vec::with_capacity(alloc, lives.len()) else {
+        return refused(alloc, Status::BAD_OUT_OF_MEMORY);
+    };
+    delete_each_live(alloc, archive, request, lives, &mut codes);
+    HistoryUpdateResult {
+        status: first_other(&codes),
+        operation_results: Listing::of(codes),
     }
 }
 
+/// Why a listing is refused.
+fn listing_refusal(lives: &[Held]) -> Option<Status>
+    ensures tested { result ≡ listing_refusal (map (λ h. h.time) lives.now) }
+    ensures few { result ≡ None → length lives.now ≤ 1000 }
+{
+    if lives.is_empty() {
+        return Some(Status::BAD_NO_DATA);
+    }
+    if lives.len() > MOST {
+        return Some(Status::BAD_TOO_MANY_OPERATIONS);
+    }
+    None
+}
+
+/// Deletes the live values of a listing.
+fn delete_listed<A: Archive>(
+    alloc: Global,
+    archive: &mut A,
+    request: &Request,
+    lives: &[Held],
+) -> HistoryUpdateResult
+    requires { IsRequest request.now }
+    ensures begins { BeginsListed (A.state archive.old) (A.state archive.new) request.now (map (λ h. h.time) lives.now) result }
+    ensures short { IsShortUpdate result }
+{
+    if let Some(status) = listing_refusal(lives) {
+        return refused(alloc, status);
+    }
+    delete_lives(alloc, archive, request, lives)
+}
+
 /// Why a delete of a stretch of time is refused before the archive is asked.
-fn stretch_refusal(modified: bool, start: i64, end: i64) -> Option<UpdateCode>
-    ensures refused { result ≡ stretch_refusal modified start end }
-    ensures ordered { result ≡ None → (pos 1 ≤ℤ start) × (start ≤ℤ end) }
+fn stretch_refusal(modified: bool, start: Ticks, end: Ticks) -> Option<Status>
+    ensures refused { result ≡ stretch_refusal modified start.0 end.0 }
+    ensures ordered { result ≡ None → (pos 1 ≤ℤ start.0) × (start.0 ≤ℤ end.0) }
 {
     if modified {
-        return Some(UpdateCode::BadHistoryOperationUnsupported);
+        return Some(Status::BAD_HISTORY_OPERATION_UNSUPPORTED);
     }
-    if start < 1 || end < start {
-        return Some(UpdateCode::BadInvalidTimestampArgument);
+    if start.0 < 1 || end.0 < start.0 {
+        return Some(Status::BAD_INVALID_TIMESTAMP_ARGUMENT);
     }
     None
 }
 
 /// The last moment of a stretch of time.
-fn last_of(start: i64, end: i64) -> Moment
-    requires start { pos 1 ≤ℤ start }
-    requires end { start ≤ℤ end }
-    ensures { result ≡ last_of start end }
+fn last_of(start: Ticks, end: Ticks) -> Moment
+    requires start { pos 1 ≤ℤ start.0 }
+    requires end { start.0 ≤ℤ end.0 }
+    ensures { result ≡ last_of start.0 end.0 }
 {
-    let ticks = if start == end { end } else { end - 1 };
+    let ticks = if start.0 == end.0 { end.0 } else { end.0 - 1 };
     Moment { ticks, pico: 9999 }
+}
+
+/// A node's first live values from one moment to another, both included, of all that the archive holds:
+/// one more than are deleted at once.
+fn list_lives<A: Archive>(
+    alloc: Global,
+    archive: &mut A,
+    node: &NodeId,
+    from: Moment,
+    to: Moment,
+) -> Result<Vec<Held>, StoreFault>
+    ensures { Asks (A.state archive.old) (A.state archive.new) result (λ v. v.items ≡ take 1001 (range_of (A.state archive.old).content node.now from to direction.Forward)) }
+{
+    let all = archive.vector()?;
+    archive.range(alloc, node, from, to, Direction::Forward, MOST + 1, &all)
 }
 
 /// Deletes a node's live values from `start` up to but without `end`, or at all moments of the one time
 /// where both are equal, ascending, each by an operation of its own (Part 11, DeleteRawModifiedDetails). The
-/// status is BadHistoryOperationUnsupported where modifications are asked for,
-/// BadInvalidTimestampArgument for a time below 1 or a start behind the end, BadNoData where none is
-/// live, BadTooManyOperations for more than 1,000, the code of a fault that the listing met, and
-/// BadOutOfMemory where there is no memory for the codes: then nothing was changed and there are no
+/// status is BAD_HISTORY_OPERATION_UNSUPPORTED where modifications are asked for,
+/// BAD_INVALID_TIMESTAMP_ARGUMENT for a time below 1 or a start behind the end, the code of what came in
+/// the listing's way, BAD_NO_DATA where none is live, BAD_TOO_MANY_OPERATIONS for more than 1,000, and
+/// BAD_OUT_OF_MEMORY where there is no memory for the codes: then nothing was changed and there are no
 /// codes. Otherwise it is the first code that isn't Good, or Good.
+///
+/// For some marks, one for the listing, one for the memory of the codes and one for each operation, the
+/// answer and what is held then are those of `delete_raw` of the specification. A broken store is as for
+/// values; it lists nothing.
 pub fn delete_raw<A: Archive>(
     alloc: Global,
     archive: &mut A,
     request: &Request,
     modified: bool,
-    start: i64,
-    end: i64,
-) -> UpdateResult
+    start: Ticks,
+    end: Ticks,
+) -> HistoryUpdateResult
     requires { IsRequest request.now }
-    ensures { AnswersStretch A.state archive.old archive.new request.now (stretch_refusal modified start end) start end result }
+    ensures acts { (used : List Mark) × Acts (A.state archive.old) (A.state archive.new) used (deletes_stretch (A.state archive.old).own request.now modified start end) result
+        × ((A.state archive.new).honest → (R : Content) → HasContent (A.state archive.old) R → AreEnded (A.state archive.old).broken (needs_of_stretch (A.state archive.old).own request.now start end R) used) }
+    ensures refused { IfSome (stretch_refusal modified start.0 end.0) (λ code. (result ≡ refused code) × (archive.new ≡ archive.old)) }
+    ensures short { IsShortUpdate result }
 {
-    if let Some(code) = stretch_refusal(modified, start, end) {
-        return UpdateResult::refused(alloc, code);
+    if let Some(status) = stretch_refusal(modified, start, end) {
+        return refused(alloc, status);
     }
     let last = last_of(start, end);
-    match archive.range(
-        alloc,
-        &request.node,
-        Moment::at(start),
-        last,
-        Direction::Forward,
-        MOST + 1,
-    ) {
-        Ok(lives) => delete_lives(alloc, archive, request, &lives),
-        Err(fault) => UpdateResult::refused(alloc, Setback::Store(fault).code()),
+    match list_lives(alloc, archive, &request.node, Moment::at(start.0), last) {
+        Ok(lives) => delete_listed(alloc, archive, request, &lives),
+        Err(fault) => refused(alloc, Setback::Store(fault).status()),
     }
 }

@@ -1,6 +1,6 @@
 use Rattle.std.proofs.Common.{rules, ◌≡◌, Err}
 use Rattle.archive.specs.Store.{Asks}
-use Rattle.hist_update.specs.Setbacks.{IsPlace}
+use Rattle.hist_update.specs.Operating.{IsPlace}
 use Rattle.std.proofs.Common.{subst, sym}
 use Rattle.archive.proofs.Calls.{asks-second}
 use Rattle.hist_update.proofs.Surveys.{surveyed}

@@ -1,7 +1,8 @@
 use Rattle.std.proofs.Common.{rules, ◌≡◌, Err}
 use Rattle.hist_update.specs.Outcome.{Write, writing}
-use Rattle.hist_update.specs.Setbacks.{candidate_of, Operates, IsDraft}
-use Rattle.hist_update.specs.declared.setback.Setback.TheVariants as setback
+use Rattle.archive.specs.declared.setback.Setback.TheVariants as setback
+use Rattle.hist_update.specs.Operating.{candidate_of, Operates, IsDraft}
+use Rattle.hist_update.specs.declared.operate.Undone.TheVariants as undone
 use Rattle.hist_update.proofs.Operating.{refused-early, draft-starved, write_draft, written_by, unwritten, settled}
 use Rattle.std.proofs.Common.{subst, sym}
 use Rattle.hist_update.proofs.operate.write.Goals as goal
@@ -11,7 +12,7 @@ returns-in-Err g c = refused-early _ _ _ _ (unwritten c.args.request.now (g.A.Ar
 
 pub returns-in_err-candidate : goal.returns-in_err-candidate
 returns-in_err-candidate g c =
-    let told : c.from_residual-in_err-candidate.result ≡ Err setback.Starved = search rules in
+    let told : c.from_residual-in_err-candidate.result ≡ Err (undone.Hindered setback.Starved) = search rules in
     subst (λ r. Operates (g.A.Archive.state c.args.archive.now) (g.A.Archive.state c.survey.new.archive) c.args.request.now (Write c.args.asked c.args.value_type c.args.value.now) r) (sym told)
     (draft-starved _ _ _ _ _ _ (c.in_ok-place.ensures).asks)
 
