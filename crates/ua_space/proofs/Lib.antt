@@ -1,4 +1,5 @@
 pub mod Ids
 pub mod Nodes
 pub mod Found
+pub mod Short
 pub mod Hanging

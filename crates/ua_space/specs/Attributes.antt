@@ -6,6 +6,7 @@ use Rattle.ua_variant.specs.declared.value.Scalar.{Scalar}
 use Rattle.ua_variant.specs.declared.value.Scalar.TheVariants as scalar
 use Rattle.ua_variant.specs.declared.value.Array.TheVariants as array
 use Rattle.ua_variant.specs.declared.value.Variant.TheVariants as variant
+use Rattle.ua_variant.specs.Variant.{IsShortVariant}
 use Rattle.ua_space.specs.declared.attributes.Answered.{Answered}
 use Rattle.ua_space.specs.declared.attributes.Answered.TheVariants.{Value, Archived}
 use Rattle.ua_binary.specs.declared.codes.Status.{Status}
@@ -80,3 +81,8 @@ attribute_of space number (Some node) = ok_or (entry_at number (attributes space
 
 abbrev pub attribute_at : Layout → NodeId → ℕ → Result Answered Status
 attribute_at space id number = attribute_of space number (node_at space id)
+
+-- it can be written
+abbrev pub IsShortAnswered : Answered → Type 0
+IsShortAnswered (Value value) = IsShortVariant value
+IsShortAnswered Archived = Unit {0}

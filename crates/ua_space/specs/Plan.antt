@@ -1,6 +1,6 @@
 -- What a plan asks for, and what makes it one of an address space.
 use Rattle.std.specs.Prelude.{◌≡◌, ◌+◌, ◌<◌, ◌≤◌, ℕ, Bool, true, false, not, ◌||◌, List, [], ◌∷◌, ◌++◌, length, map, codes, nat_eq, nat_lt, Option, IfSome, is_some, option_map, option_copied, unwrap_or, find, Result, Ok, Err, if◌then◌else◌}
-use Rattle.std.specs.List.{list_any, list_all}
+use Rattle.std.specs.List.{list_any, list_all, AllByRecursion}
 use Rattle.std.specs.Cmp.Lexicographic.{pointwise}
 use Rattle.ua_variant.specs.declared.value.ValueType.{ValueType}
 use Rattle.ua_space.specs.declared.fault.BuildFault.{BuildFault}
@@ -11,6 +11,7 @@ use Rattle.ua_space.specs.declared.plan.VariablePlan.{VariablePlan}
 use Rattle.ua_space.specs.declared.node.Folder.{Folder}
 use Rattle.ua_space.specs.declared.node.Variable.{Variable}
 use Rattle.ua_space.specs.declared.layout.Layout.{Layout}
+use Rattle.ua_space.specs.Space.{IsCountable, HasShortTexts, HasShortName}
 
 -- The names of the types that a variable may have, with their numbers (Part 6, 5.1.2).
 abbrev pub type_names : List (List ℕ × ℕ)
@@ -75,3 +76,9 @@ HasPlannedId variable = (0 < length variable.id.now) × (length variable.id.now 
 -- the folder that a variable names is one of the plan
 abbrev pub HasFolder : List FolderPlan → VariablePlan → Type 0
 HasFolder folders variable = IfSome variable.folder (λ id. list_any (λ folder. pointwise nat_eq folder.id.now id.now) folders ≡ true)
+
+-- each text can be counted
+pub record HasShortPlan (plan : Plan) : Type 0 where
+  pub namespace : IsCountable plan.namespace.now
+  pub folders : AllByRecursion (λ folder. HasShortTexts (folder_of folder)) plan.folders.now
+  pub variables : AllByRecursion (λ variable. HasShortName (variable_of variable)) plan.variables.now

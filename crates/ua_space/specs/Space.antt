@@ -1,5 +1,6 @@
 -- The nodes of an address space (Part 3, 5): what each is, its id, its class and its names.
-use Rattle.std.specs.Prelude.{◌≤◌, ℕ, Bool, false, ◌==◌, ◌&&◌, List, [], ◌∷◌, ◌++◌, length, map, codes, nat_eq, Option, None, Some, find}
+use Rattle.std.specs.Prelude.{◌≤◌, ◌<◌, ◌+◌, ◌^◌, ℕ, Bool, false, ◌==◌, ◌&&◌, List, [], ◌∷◌, ◌++◌, length, map, codes, nat_eq, Option, None, Some, find}
+use Rattle.std.specs.List.{AllByRecursion}
 use Rattle.std.specs.Cmp.Lexicographic.{pointwise}
 use Rattle.ua_binary.specs.declared.values.NodeId.{NodeId}
 use Rattle.ua_binary.specs.declared.values.NodeId.TheVariants.{Numeric, Named}
@@ -131,3 +132,21 @@ HasShortId variable = length variable.id ≤ 256
 abbrev pub IsShortId : NodeId → Type 0
 IsShortId (Named namespace name) = length name ≤ 256
 IsShortId _ = Unit {0}
+
+-- ---- what each space keeps: texts that can be counted, and at most 1,000 nodes
+
+abbrev pub IsCountable : List ℕ → Type 0
+IsCountable text = length text < 2 ^ 31
+
+abbrev pub HasShortTexts : Folder → Type 0
+HasShortTexts folder = IsCountable folder.id × IsCountable folder.name
+
+abbrev pub HasShortName : Variable → Type 0
+HasShortName variable = IsCountable variable.name
+
+pub record IsShortLayout (space : Layout) : Type 0 where
+  pub namespace : IsCountable space.namespace
+  pub folders : AllByRecursion HasShortTexts space.folders
+  pub ids : AllByRecursion HasShortId space.variables
+  pub names : AllByRecursion HasShortName space.variables
+  pub few : length space.folders + length space.variables ≤ 1000

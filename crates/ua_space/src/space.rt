@@ -1,12 +1,12 @@
 //! The address space.
 
-ghost use Rattle.std.specs.Prelude.{◌≡◌, map, IfOk, IfSome, option_map, is_some};
+ghost use Rattle.std.specs.Prelude.{◌≡◌, ◌<◌, ◌^◌, length, All, map, IfOk, IfSome, option_map, is_some};
 ghost use Rattle.std.specs.List.{AllByRecursion};
 ghost use Rattle.ua_binary.specs.Binary.{node_of as id_of_lent};
-ghost use Rattle.ua_space.specs.Plan.{planned, HasPlannedId, HasFolder, folder_of, variable_of, has_type};
+ghost use Rattle.ua_space.specs.Plan.{planned, HasPlannedId, HasFolder, HasShortPlan, folder_of, variable_of, has_type};
 ghost use Rattle.ua_space.specs.Space.{node_at, value_type_at, IsShortId, HasShortId};
-ghost use Rattle.ua_space.specs.Attributes.{attribute_at};
-ghost use Rattle.ua_services.specs.Browsing.{browse_fields};
+ghost use Rattle.ua_space.specs.Attributes.{attribute_at, IsShortAnswered};
+ghost use Rattle.ua_services.specs.Browsing.{browse_fields, IsShortReference};
 ghost use Rattle.ua_space.specs.References.{browse_at};
 ghost use Rattle.ua_binary.specs.Format.{IsOrStarved};
 
@@ -33,15 +33,14 @@ pub struct Space {
 }
 
 impl Model for Space {
-    ghost use Rattle.std.specs.List.{AllByRecursion};
     ghost use Rattle.ua_space.specs.declared.layout.Layout.{Layout};
-    ghost use Rattle.ua_space.specs.Space.{HasShortId};
+    ghost use Rattle.ua_space.specs.Space.{IsShortLayout};
 
     ghost Value = { Layout };
 
     ghost view = { λ s. s.layout };
 
-    ghost invariant = { λ s. AllByRecursion HasShortId s.layout.variables };
+    ghost invariant = { λ s. IsShortLayout s.layout };
 }
 
 /// What is known of a variable.
@@ -51,12 +50,13 @@ pub struct VariableInfo {
 }
 
 impl Space {
-    /// The space of a plan, in which each variable's id has 1 to 256 bytes and each folder that a variable
-    /// names is one of the plan. `TooMany` for more than 1,000 folders and variables; then `BadType` where a
+    /// The space of a plan, in which each variable's id has 1 to 256 bytes, each folder that a variable names
+    /// is one of the plan, and each text has less than 2^31 bytes. `TooMany` for more than 1,000 folders and variables; then `BadType` where a
     /// type is none from Boolean to ByteString; then `DuplicateNode` for two equal ids; last `OutOfMemory`.
     pub fn build(alloc: Global, plan: &Plan<'_>) -> Result<Space, BuildFault>
         requires ids { AllByRecursion HasPlannedId plan.now.variables.now }
         requires folders { AllByRecursion (HasFolder plan.now.folders.now) plan.now.variables.now }
+        requires texts { HasShortPlan plan.now }
         ensures { IsOrStarved BuildFault.OutOfMemory (planned plan.now) result }
     {
         judge(plan)?;
@@ -94,9 +94,10 @@ impl Space {
 
     /// An attribute of a node (Part 4, 5.11.2) by its number (Part 6, A.1): its value, or that the archive
     /// gives it. `BAD_NODE_ID_UNKNOWN` where the id is of no node; then `BAD_ATTRIBUTE_ID_INVALID` where the node
-    /// has no such attribute; last `BAD_OUT_OF_MEMORY`.
+    /// has no such attribute; last `BAD_OUT_OF_MEMORY`. A value can be written.
     pub fn read_attribute(&self, node: NodeIdRef<'_>, attribute: u32) -> Result<Answered, Status>
-        ensures { IsOrStarved Status.BAD_OUT_OF_MEMORY (attribute_at self.now (id_of_lent node.entry) attribute) result }
+        ensures told { IsOrStarved Status.BAD_OUT_OF_MEMORY (attribute_at self.now (id_of_lent node.entry) attribute) result }
+        ensures short { IfOk result IsShortAnswered }
     {
         let Some(node) = self.layout.find(node) else {
             return Err(Status::BAD_NODE_ID_UNKNOWN);
@@ -108,12 +109,13 @@ impl Space {
     /// it, folders before variables, each in the order of the plan, then to its type definition, then back to
     /// what it hangs below. `BAD_NODE_ID_UNKNOWN` where the id is of no node; then `BAD_BROWSE_DIRECTION_INVALID`
     /// where there is no direction; then `BAD_REFERENCE_TYPE_ID_INVALID` where the type is none of those of Part 5
-    /// that a client may ask for; last `BAD_OUT_OF_MEMORY`.
+    /// that a client may ask for; last `BAD_OUT_OF_MEMORY`. The references can be written.
     pub fn browse(
         &self,
         description: &BrowseDescription<'_>,
     ) -> Result<Listing<ReferenceDescription>, Status>
-        ensures { IsOrStarved Status.BAD_OUT_OF_MEMORY (browse_at self.now (browse_fields description.now)) result }
+        ensures told { IsOrStarved Status.BAD_OUT_OF_MEMORY (browse_at self.now (browse_fields description.now)) result }
+        ensures short { IfOk result (λ references. (length references < 2 ^ 31) × All IsShortReference references) }
     {
         let Some(node) = self.layout.find(description.node_id) else {
             return Err(Status::BAD_NODE_ID_UNKNOWN);
