@@ -2,12 +2,13 @@
 use Rattle.std.proofs.Common.{rules, ◌≡◌, ℕ, Bool, true, false, cond, ◌&&◌, List, Option, Some, None, Result, Ok, Err, refl, sym, ap, ◌∙◌, nat_eq, inl, inr}
 use Rattle.std.proofs.lemmas.Bool.{cases_Bool, and_from, and_parts}
 use Rattle.std.proofs.lemmas.Cmp.{nat_list_eq_equiv}
-use Rattle.std.specs.Cmp.{booleans_Decides, signed_Decides, unsigned_Decides}
+use Rattle.std.specs.Cmp.{booleans_Decides, unsigned_Decides}
 use Rattle.std.specs.Cmp.Lexicographic.{pointwise}
 use Rattle.ua_binary.specs.declared.values.NodeId.{NodeId}
 use Rattle.records.specs.Same.{is_same, same_node, node_code}
 use Rattle.records.proofs.Same.{Decides-is_same}
 use Rattle.ua_variant.proofs.Equal.{IsExact, pairs, through}
+use Rattle.ua_binary.specs.contracts.values.TicksPartialEq as ticks
 use Rattle.ua_services.specs.contracts.history.ReadRawModifiedDetailsPartialEq as details
 use Rattle.ua_services.specs.declared.history.ReadRawModifiedDetails.{ReadRawModifiedDetails as Details}
 use Rattle.ua_binary.specs.declared.codes.TheConstants.Status.{BAD_CONTINUATION_POINT_INVALID}
@@ -15,8 +16,11 @@ use Rattle.ua_services.specs.History.{raw_of, raw_fields}
 use Rattle.hist_read.specs.Point.{Point}
 use Rattle.hist_read.specs.Node.{IsOfRead, agrees, details_code, place_told}
 
+moments : IsExact (ticks.TheImpl.eq-value).it
+moments a b = search rules
+
 pub exact_details : IsExact (details.TheImpl.eq-value).it
-exact_details = through raw_fields raw_of (λ _. refl) (pairs booleans_Decides (pairs signed_Decides (pairs signed_Decides (pairs unsigned_Decides booleans_Decides))))
+exact_details = through raw_fields raw_of (λ _. refl) (pairs booleans_Decides (pairs moments (pairs moments (pairs unsigned_Decides booleans_Decides))))
 
 same_bytes : (a b : List ℕ) → (pointwise nat_eq a b ≡ true → a ≡ b) × (a ≡ b → pointwise nat_eq a b ≡ true)
 same_bytes a b = search rules

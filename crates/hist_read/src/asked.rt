@@ -252,6 +252,11 @@ pub(crate) fn given_after(details: &ReadRawModifiedDetails, position: &Option<Po
     if has_both(details) {
         return 0;
     }
+    let ReadRawModifiedDetails {
+        num_values_per_node,
+        ..
+    } = details;
+    let _count = *num_values_per_node;
     given_before(position) + page_size(details, position) as u32
 }
 

@@ -3,6 +3,8 @@ use Rattle.std.specs.Ordering.{int_eq}
 use Rattle.std.proofs.lemmas.Int.{ints}
 use Rattle.records.specs.Moments.{moment}
 use Rattle.archive.specs.Reading.{outside_of}
+use Rattle.stamp.specs.Numbers.{number_of}
+use Rattle.records.specs.Contents.{cut}
 use Rattle.hist_read.specs.Asking.{origin_time, end_time, direction}
 use Rattle.hist_read.specs.Reads.{nearest_from, last_within}
 use Rattle.hist_read.proofs.Askings.{asked_so}
@@ -10,7 +12,7 @@ use Rattle.hist_read.proofs.bounds.far_value.Goals as goal
 
 pub returns-then-eq : goal.returns-then-eq
 returns-then-eq g c =
-    let R = (g.A.Archive.state c.args.archive.now).content in
+    let R = cut (g.A.Archive.state c.args.archive.now).content (number_of c.args.within.now) in
     let node = c.args.node.now in
     let q = c.args.details.now in
     let ended : c.at-end.result ≡ end_time q = omega (arith, ints, c.at-end.ensures) in
@@ -19,13 +21,13 @@ returns-then-eq g c =
     let final : moment (to_z w64 (of_z w64 q.end_time.0)) 9999 ≡ last_within (end_time q) = omega (arith, ints) in
     asked_so _ _ c.next_outside.result _ _ c.next_outside.ensures (λ h lawful is.
     is
-    ∙ (ap (λ t. outside_of R node t c.direction-direction.result) final
-    ∙ (ap (λ d. outside_of R node (last_within (end_time q)) d) c.direction-direction.ensures
+    ∙ (ap (λ t. outside_of R node t c.direction-onward.result) final
+    ∙ (ap (λ d. outside_of R node (last_within (end_time q)) d) c.direction-onward.ensures
     ∙ sym (ap (λ b. cond b (outside_of R node (last_within (end_time q)) (direction q)) (nearest_from R node (direction q) (end_time q))) test))))
 
 pub returns : goal.returns
 returns g c =
-    let R = (g.A.Archive.state c.args.archive.now).content in
+    let R = cut (g.A.Archive.state c.args.archive.now).content (number_of c.args.within.now) in
     let node = c.args.node.now in
     let q = c.args.details.now in
     let ended : c.at-end.result ≡ end_time q = omega (arith, ints, c.at-end.ensures) in
@@ -33,6 +35,6 @@ returns g c =
     subst (λ x. int_eq x (end_time q) ≡ false) c.origin.ensures (subst (λ x. int_eq c.origin.result x ≡ false) ended (sym c.eq.ensures ∙ c.if-eq.false)) in
     asked_so _ _ c.nearest_from.result _ _ c.nearest_from.ensures (λ h lawful is.
     is
-    ∙ (ap (λ d. nearest_from R node d c.at-end.result) c.direction-direction.ensures
+    ∙ (ap (λ d. nearest_from R node d c.at-end.result) c.direction-onward.ensures
     ∙ (ap (λ t. nearest_from R node (direction q) t) ended
     ∙ sym (ap (λ b. cond b (outside_of R node (last_within (end_time q)) (direction q)) (nearest_from R node (direction q) (end_time q))) test))))

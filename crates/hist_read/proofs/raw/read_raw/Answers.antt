@@ -1,4 +1,6 @@
 use Rattle.std.proofs.Common.{◌≡◌, ◌∙◌, ap}
+use Rattle.stamp.specs.Numbers.{number_of}
+use Rattle.records.specs.Contents.{cut}
 use Rattle.hist_read.specs.Reads.{page, next_place, raw_position}
 use Rattle.hist_read.proofs.Askings.{found_as}
 use Rattle.hist_read.proofs.Paging.{row_page, row_next}
@@ -6,7 +8,7 @@ use Rattle.hist_read.proofs.raw.read_raw.Goals as goal
 
 pub returns : goal.returns
 returns g c =
-    let R = (g.A.Archive.state c.args.archive.now).content in
+    let R = cut (g.A.Archive.state c.args.archive.now).content (number_of c.args.within.now) in
     let node = c.args.node.now in
     let q = c.args.details.now in
     let p = c.args.position.now in
