@@ -17,6 +17,7 @@ pub use laws::{continuation_points_are_told_by_their_bytes, pages_of_modificatio
 pub use node::read_node;
 pub use point::{Phase, Place, Position, put_continuation, read_continuation};
 pub use query::Query;
+pub use showing::with_stamps;
 
 #[cfg(test)]
 mod tests;

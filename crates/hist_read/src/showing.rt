@@ -85,8 +85,8 @@ fn entry_value(time: Moment, value: Option<DataValue>) -> DataValue
     }
 }
 
-/// A value with the times that were asked for.
-fn with_stamps(stamps: TimestampsToReturn, value: DataValue) -> DataValue
+/// A value with the times that were asked for; where neither is, with none.
+pub fn with_stamps(stamps: TimestampsToReturn, value: DataValue) -> DataValue
     ensures { result ≡ with_stamps stamps value }
 {
     match stamps {
