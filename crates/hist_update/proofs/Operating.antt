@@ -216,7 +216,7 @@ settled-submitted a b c request op change place result asked p e (answer, learns
 
     -- what is held behind an answer of the archive
     learned_so : (x : Result Bool LearnFault) → Learns b c (candidate_of request place change) x → store_fault_in x ≡ None → c.honest → HasContent b a.content
-        → (S : Content) × Does (step (λ m. (answer_to (finding a.content (candidate_of request place change)), unwrap_or (learned a.content (candidate_of request place change)) a.content))) (Fine ∷ []) (x, S) × HasContent c S
+        → (S : Content) × Does {A = Result Bool LearnFault × Content} (step (λ m. (answer_to (finding a.content (candidate_of request place change)), unwrap_or (learned a.content (candidate_of request place change)) a.content))) (Fine ∷ []) (x, S) × HasContent c S
     learned_so x l none honest h = (acts-learned b c (candidate_of request place change) x l none).acts honest a.content h
 
     -- the archive's honest answer is that the record was added

@@ -1,5 +1,5 @@
 -- One operation over an archive, and several.
-use Rattle.std.specs.Prelude.{◌≡◌, ◌≤◌, ◌<◌, ◌+◌, min, nat_lt, ℤ, pos, ◌≤ℤ◌, Bool, true, false, List, [], ◌∷◌, map, length, Option, Some, None, unwrap_or, Result, Ok, Err, IsErr}
+use Rattle.std.specs.Prelude.{◌≡◌, ◌≤◌, ◌+◌, min, nat_lt, ℤ, pos, ◌≤ℤ◌, Bool, true, false, List, [], ◌∷◌, map, length, Option, Some, None, IfSome, unwrap_or, Result, Ok, Err, IsErr}
 use Rattle.stamp.specs.Limits.{greatest, lift}
 use Rattle.ua_binary.specs.declared.codes.Status.{Status}
 use Rattle.ua_binary.specs.declared.codes.TheConstants.Status.{BAD_RESOURCE_UNAVAILABLE, BAD_ENCODING_LIMITS_EXCEEDED}
@@ -13,14 +13,14 @@ use Rattle.archive.specs.declared.fault.LearnFault.{LearnFault}
 use Rattle.archive.specs.declared.fault.LearnFault.TheVariants as learn
 use Rattle.archive.specs.declared.setback.Setback.TheVariants as setback
 use Rattle.archive.specs.Fault.{code_of, mark_of}
-use Rattle.archive.specs.Steps.{Marked, Acts}
+use Rattle.archive.specs.Steps.{Acts}
 use Rattle.archive.specs.Store.{Store, Mark, Fine, Learns}
 use Rattle.hist_update.specs.declared.request.Request.{Request}
 use Rattle.hist_update.specs.declared.operate.Undone.{Undone}
 use Rattle.hist_update.specs.declared.operate.Undone.TheVariants as undone
 use Rattle.hist_update.specs.declared.operate.Place.{Place}
 use Rattle.hist_update.specs.Outcome.{Operation, DeleteAt, Change, id_length, change_by, is_live, conflict, record_by}
-use Rattle.hist_update.specs.Updates.{update_one, update_all, begin, delete_listed, AreEnded, needs_store, needs_of}
+use Rattle.hist_update.specs.Updates.{update_one, update_all, begin, listing_refusal, delete_listed, AreEnded, needs_store, needs_of}
 
 -- ---- one operation
 
@@ -113,3 +113,4 @@ pub record BeginsListed (old new : Store) (request : Request) (times : List ℤ)
   pub used : List Mark
   pub acts : Acts old new used (delete_listed old.own request times) result
   pub ended : AreEnded old.broken (needs_of old.own request (map DeleteAt times)) used
+  pub none : IfSome (listing_refusal times) (λ code. used ≡ [])

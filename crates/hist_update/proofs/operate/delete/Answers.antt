@@ -1,8 +1,23 @@
-use Rattle.std.proofs.Common.{rules}
+use Rattle.std.proofs.Common.{rules, ◌≡◌, Err, subst, sym}
+use Rattle.archive.specs.declared.setback.Setback.TheVariants as setback
+use Rattle.hist_update.specs.declared.operate.Undone.TheVariants as undone
+use Rattle.hist_update.specs.Operating.{Operates}
 use Rattle.hist_update.specs.Outcome.{DeleteAt, deletion}
 use Rattle.hist_update.proofs.Drafts.{short_node}
-use Rattle.hist_update.proofs.Operating.{settled, deleted_by}
+use Rattle.hist_update.proofs.Operating.{survey-failed, draft-starved, settled, deleted_by}
 use Rattle.hist_update.proofs.operate.delete.Goals as goal
+
+pub returns-in_err-place : goal.returns-in_err-place
+returns-in_err-place g c =
+    let told : c.from_residual.result ≡ Err (undone.Hindered (setback.Store c.in_err-place.field-0.0)) = search rules in
+    subst (λ r. Operates (g.A.Archive.state c.args.archive.now) (g.A.Archive.state c.survey.new.archive) c.args.request.now (DeleteAt c.args.time) r) (sym told)
+    (survey-failed _ _ _ _ _ _ (c.in_err-place.ensures).asks)
+
+pub returns-in_err-candidate : goal.returns-in_err-candidate
+returns-in_err-candidate g c =
+    let told : c.from_residual-in_err-candidate.result ≡ Err (undone.Hindered setback.Starved) = search rules in
+    subst (λ r. Operates (g.A.Archive.state c.args.archive.now) (g.A.Archive.state c.survey.new.archive) c.args.request.now (DeleteAt c.args.time) r) (sym told)
+    (draft-starved _ _ _ _ _ _ (c.in_ok-place.ensures).asks)
 
 pub returns : goal.returns
 returns g c =

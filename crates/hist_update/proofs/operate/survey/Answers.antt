@@ -13,4 +13,4 @@ returns-in_err-vector-clause-asks g c =
     (asks-second _ _ _ _ _ _ _ _ (c.in_ok-story.ensures) (asks-second _ _ _ _ _ _ _ (λ p. IsPlace (g.A.Archive.state c.args.archive.now) c.args.request.now c.args.time p) (c.in_ok-top.ensures) (c.in_err-vector.ensures)))
 
 pub returns-clause-asks : goal.returns-clause-asks
-returns-clause-asks g c = surveyed _ _ _ _ _ _ c.in_ok-story.story.items c.in_ok-top.field-0 c.in_ok-vector.field-0 _ _ _ (c.in_ok-story.ensures) (λ e. e) (c.in_ok-top.ensures) (c.in_ok-vector.ensures) (search rules) c.number-origin.ensures (search rules) (search rules)
+returns-clause-asks g c = surveyed _ _ _ _ _ _ c.in_ok-story.story.items c.in_ok-top.field-0 c.in_ok-vector.field-0 _ _ _ (c.in_ok-story.ensures) (λ e. e) (c.in_ok-top.ensures) (c.in_ok-vector.ensures) (search rules) c.number-origin.ensures.own (search rules) (search rules)

@@ -3,12 +3,18 @@ use Rattle.hist_update.specs.Outcome.{Write, writing}
 use Rattle.archive.specs.declared.setback.Setback.TheVariants as setback
 use Rattle.hist_update.specs.Operating.{candidate_of, Operates, IsDraft}
 use Rattle.hist_update.specs.declared.operate.Undone.TheVariants as undone
-use Rattle.hist_update.proofs.Operating.{refused-early, draft-starved, write_draft, written_by, unwritten, settled}
+use Rattle.hist_update.proofs.Operating.{refused-early, survey-failed, draft-starved, write_draft, written_by, unwritten, settled}
 use Rattle.std.proofs.Common.{subst, sym}
 use Rattle.hist_update.proofs.operate.write.Goals as goal
 
 pub returns-in-Err : goal.returns-in-Err
 returns-in-Err g c = refused-early _ _ _ _ (unwritten c.args.request.now (g.A.Archive.state c.args.archive.now).own c.args.asked c.args.value_type c.args.value.now c.in-Err.code (sym c.in-Err.ensures))
+
+pub returns-in_err-place : goal.returns-in_err-place
+returns-in_err-place g c =
+    let told : c.from_residual.result ≡ Err (undone.Hindered (setback.Store c.in_err-place.field-0.0)) = search rules in
+    subst (λ r. Operates (g.A.Archive.state c.args.archive.now) (g.A.Archive.state c.survey.new.archive) c.args.request.now (Write c.args.asked c.args.value_type c.args.value.now) r) (sym told)
+    (survey-failed _ _ _ _ _ _ (c.in_err-place.ensures).asks)
 
 pub returns-in_err-candidate : goal.returns-in_err-candidate
 returns-in_err-candidate g c =
