@@ -1,5 +1,5 @@
 -- What the services do, by what the sessions' calls promise.
-use Rattle.std.proofs.Common.{◌≡◌, ◌⊎◌, inl, inr, ◌∙◌, ℕ, List, [], ◌∷◌, Some, None, Ok, Err, refl, sym, ap, subst}
+use Rattle.std.proofs.Common.{◌≡◌, ◌⊎◌, inl, inr, ◌∙◌, ℕ, List, [], ◌∷◌, ◌++◌, Some, None, Ok, Err, refl, sym, ap, subst}
 use Rattle.std.specs.Prelude.{Result, Option}
 use Rattle.ua_binary.specs.declared.codes.Status.{Status}
 use Rattle.ua_binary.specs.declared.codes.TheConstants.Status.{BAD_OUT_OF_MEMORY, BAD_DECODING_ERROR}
@@ -12,17 +12,17 @@ use Rattle.ua_binary.specs.declared.fault.BinaryFault.TheVariants as binary
 use Rattle.ua_session.specs.declared.fault.SessionFault.{SessionFault}
 use Rattle.ua_session.specs.declared.fault.SessionFault.TheVariants.{OutOfMemory}
 use Rattle.ua_session.specs.Fault.{code_of}
-use Rattle.ua_session.specs.Sessions.{State}
+use Rattle.ua_session.specs.Sessions.{State, user_at}
 use Rattle.records.specs.Contents.{Content}
 use Rattle.archive.specs.Store.{Store, Mark, Fine, Starved, faults_of, Passes}
 use Rattle.archive.proofs.Calls.{passes-none}
-use Rattle.archive.specs.Steps.{Marked, step, Does}
+use Rattle.archive.specs.Steps.{Marked, step, Does, Acts}
 use Rattle.historian.specs.declared.service.Service.{Service}
 use Rattle.historian.specs.declared.service.Service.TheVariants as service
 use Rattle.historian.specs.declared.answer.Answer.{Answer as Made}
 use Rattle.historian.specs.Answers.{Answer, Response}
 use Rattle.historian.specs.Requests.{Call, call_in, request_in}
-use Rattle.historian.specs.Services.{Site, Outcome, called, served, answered_call, answered_request, answered}
+use Rattle.historian.specs.Services.{Site, Outcome, called, in_session, served, answered_call, answered_request, answered}
 use Rattle.historian.specs.Telling.{Asks, answer_of, Tells, Performs, PerformsHere}
 
 -- a call that was read is served
@@ -142,20 +142,76 @@ performs-none s site now message sessions why status result none told is =
     subst P (sym is) (performs-here s (answered site now message sessions) sessions (Err status)
     ([], Err why, refl, does, elim told [ inl same ↦ inl (ap Err (sym same)) | inr starved ↦ inr starved ]))
 
-none_of : (asked : Service) (bytes : List ℕ) → (asked ≡ service.GetEndpoints → ⊥) → (asked ≡ service.CreateSession → ⊥) → (asked ≡ service.ActivateSession → ⊥) → (asked ≡ service.CloseSession → ⊥) → call_in asked bytes ≡ None
-none_of service.GetEndpoints bytes a b c d = absurd (a refl)
-none_of service.CreateSession bytes a b c d = absurd (b refl)
-none_of service.ActivateSession bytes a b c d = absurd (c refl)
-none_of service.CloseSession bytes a b c d = absurd (d refl)
-none_of service.Browse bytes a b c d = refl
-none_of service.Read bytes a b c d = refl
-none_of service.HistoryRead bytes a b c d = refl
-none_of service.HistoryUpdate bytes a b c d = refl
+none_of : (asked : Service) (bytes : List ℕ) → (asked ≡ service.GetEndpoints → ⊥) → (asked ≡ service.CreateSession → ⊥) → (asked ≡ service.ActivateSession → ⊥) → (asked ≡ service.CloseSession → ⊥) → (asked ≡ service.Browse → ⊥) → call_in asked bytes ≡ None
+none_of service.GetEndpoints bytes a b c d e = absurd (a refl)
+none_of service.CreateSession bytes a b c d e = absurd (b refl)
+none_of service.ActivateSession bytes a b c d e = absurd (c refl)
+none_of service.CloseSession bytes a b c d e = absurd (d refl)
+none_of service.Browse bytes a b c d e = absurd (e refl)
+none_of service.Read bytes a b c d e = refl
+none_of service.HistoryRead bytes a b c d e = refl
+none_of service.HistoryUpdate bytes a b c d e = refl
 
 -- a service that isn't served yet
 pub performs-unserved : (s : Store) (site : Site) (now : Ticks) (token : NodeId) (asked : Service) (bytes : List ℕ) (sessions : State)
-    → (asked ≡ service.GetEndpoints → ⊥) → (asked ≡ service.CreateSession → ⊥) → (asked ≡ service.ActivateSession → ⊥) → (asked ≡ service.CloseSession → ⊥)
+    → (asked ≡ service.GetEndpoints → ⊥) → (asked ≡ service.CreateSession → ⊥) → (asked ≡ service.ActivateSession → ⊥) → (asked ≡ service.CloseSession → ⊥) → (asked ≡ service.Browse → ⊥)
     → Performs s s (answered_call site now token (call_in asked bytes) sessions) sessions (Err BAD_DECODING_ERROR)
-performs-unserved s site now token asked bytes sessions a b c d =
+performs-unserved s site now token asked bytes sessions a b c d e =
     performs-here s (answered_call site now token (call_in asked bytes) sessions) sessions (Err BAD_DECODING_ERROR)
-    (Fine ∷ [], Err BAD_DECODING_ERROR, refl, λ R. does-unread site now token (call_in asked bytes) sessions R (none_of asked bytes a b c d), inl refl)
+    (Fine ∷ [], Err BAD_DECODING_ERROR, refl, λ R. does-unread site now token (call_in asked bytes) sessions R (none_of asked bytes a b c d e), inl refl)
+
+-- ---- services of a session
+
+-- the session isn't there, or wasn't activated
+pub performs-outside : (site : Site) (now : Ticks) (token : NodeId) (sessions : State) (asked : Service) (call : Call) (bytes : List ℕ) (f : Content → List ℕ → Marked (Response × Content)) (fault : SessionFault) (status : Status)
+    (result : Result Made Status)
+    → call_in asked bytes ≡ Some call → ((R : Content) (marks : List Mark) → served site now token call sessions R marks ≡ in_session sessions (user_at sessions token) (f R) R marks) → user_at sessions token ≡ Err fault
+    → status ≡ code_of fault → result ≡ Err status → PerformsHere (answered_call site now token (call_in asked bytes) sessions) sessions result
+performs-outside site now token sessions asked call bytes f fault status result is same none code err =
+    performs-read site now token sessions sessions asked call bytes [] (Err (code_of fault)) result is refl
+    (λ R. record { does = λ later. same R later ∙ ap (λ (u : Result (List ℕ) SessionFault). in_session sessions u (f R) R later) none })
+    (subst (Tells (Err (code_of fault))) (sym err) (inl (ap Err (sym code))))
+
+does-in : (sessions : State) (user : List ℕ) (g : List ℕ → Marked (Response × Content)) (R S : Content) (used : List Mark) (told : Response) → Does (g user) used (told, S)
+    → Does (in_session sessions (Ok user) g R) used ((told, sessions), S)
+does-in sessions user g R S used told does = record { does = λ later. ap (λ (x : (Response × Content) × List Mark). let r : Outcome × List Mark = (((x.0.0, sessions), x.0.1), x.1) in r) (does.does later) }
+
+-- a service that asks no archive, in a session of this user
+pub performs-inside : (site : Site) (now : Ticks) (token : NodeId) (sessions : State) (asked : Service) (call : Call) (bytes : List ℕ) (user : List ℕ) (f : Content → List ℕ → Marked (Response × Content)) (used : List Mark) (told : Response)
+    (result : Result Made Status)
+    → call_in asked bytes ≡ Some call → ((R : Content) (marks : List Mark) → served site now token call sessions R marks ≡ in_session sessions (user_at sessions token) (f R) R marks) → user_at sessions token ≡ Ok user
+    → faults_of used ≡ [] → ((R : Content) → Does (f R user) used (told, R)) → Tells told result → PerformsHere (answered_call site now token (call_in asked bytes) sessions) sessions result
+performs-inside site now token sessions asked call bytes user f used told result is same in_use faultless does tells =
+    performs-read site now token sessions sessions asked call bytes used told result is faultless
+    (λ R. record {
+      does = λ later.
+          same R (used ++ later)
+          ∙ ap (λ (u : Result (List ℕ) SessionFault). in_session sessions u (f R) R (used ++ later)) in_use
+          ∙ (does-in sessions user (f R) R R used told (does R)).does later;
+    })
+    tells
+
+-- one that asks it
+pub performs-over : (a b : Store) (site : Site) (now : Ticks) (token : NodeId) (sessions : State) (asked : Service) (call : Call) (bytes : List ℕ) (user : List ℕ) (f : Content → List ℕ → Marked (Response × Content)) (used : List Mark)
+    (told : Response) (result : Result Made Status)
+    → call_in asked bytes ≡ Some call → ((R : Content) (marks : List Mark) → served site now token call sessions R marks ≡ in_session sessions (user_at sessions token) (f R) R marks) → user_at sessions token ≡ Ok user
+    → Acts a b used (λ R. f R user) told → Tells told result → Performs a b (answered_call site now token (call_in asked bytes) sessions) sessions result
+performs-over a b site now token sessions asked call bytes user f used told result is same in_use acts tells = (
+  Fine ∷ used,
+  told,
+  record {
+    passes = acts.passes;
+    acts = λ honest R h.
+        let q = acts.acts honest R h in (
+          q.0,
+          does-read site now token (call_in asked bytes) call sessions R used ((told, sessions), q.0) is (record {
+            does = λ later.
+                same R (used ++ later)
+                ∙ ap (λ (u : Result (List ℕ) SessionFault). in_session sessions u (f R) R (used ++ later)) in_use
+                ∙ (does-in sessions user (f R) R q.0 used told q.1).does later;
+          }),
+          q.2,
+        );
+  },
+  tells,
+)

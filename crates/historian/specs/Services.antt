@@ -16,7 +16,8 @@ use Rattle.archive.specs.Steps.{Marked, give, step, and_then}
 use Rattle.historian.specs.Answers.{Answer, Endpoints, Created, Activated, Closed, Response}
 use Rattle.historian.specs.Requests.{Call, GetEndpoints, CreateSession, ActivateSession, CloseSession, Browse, Read, HistoryRead, HistoryUpdate, Request, request_in}
 use Rattle.historian.specs.Endpoints.{endpoint_of, endpoints_for}
-use Rattle.historian.specs.Reading.{browse, read, read_history}
+use Rattle.historian.specs.Browsing.{browse}
+use Rattle.historian.specs.Reading.{read, read_history}
 use Rattle.historian.specs.Updating.{update_history}
 
 -- a server: its settings, and the number and the id of its replica of the archive

@@ -3,6 +3,7 @@
 #![tactic(auto)]
 
 mod answer;
+mod browsing;
 mod endpoints;
 mod message;
 mod requests;

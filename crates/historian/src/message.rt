@@ -10,6 +10,7 @@ ghost use Rattle.historian.specs.Services.{site_of, answered_call, answered};
 ghost use Rattle.historian.specs.Telling.{IsShort, Performs};
 
 use crate::answer::Answer;
+use crate::browsing::browse;
 use crate::responses::put_service_fault;
 use crate::service::{Service, handle_of, service_of};
 use crate::sessions::{activate_session, close_session, create_session, get_endpoints};
@@ -40,6 +41,7 @@ fn serve<A: Archive>(
         Service::CreateSession => create_session(alloc, settings, sessions, request),
         Service::ActivateSession => activate_session(settings, sessions, token, request),
         Service::CloseSession => close_session(sessions, token, request),
+        Service::Browse => browse(alloc, settings, sessions, token, request),
         _ => Err(Status::BAD_DECODING_ERROR),
     }
 }

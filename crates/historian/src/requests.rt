@@ -13,9 +13,9 @@ ghost use Rattle.historian.specs.Telling.{Asks};
 use std::alloc::Global;
 use ua_binary::{Cursor, Status};
 use ua_services::{
-    ActivateSessionRequest, CreateSessionRequest, GetEndpointsRequest,
-    read_activate_session_request, read_close_session_request, read_create_session_request,
-    read_get_endpoints_request,
+    ActivateSessionRequest, BrowseRequest, CreateSessionRequest, GetEndpointsRequest,
+    read_activate_session_request, read_browse_request, read_close_session_request,
+    read_create_session_request, read_get_endpoints_request,
 };
 
 /// Refuses bytes that stand behind a request.
@@ -65,4 +65,15 @@ pub(crate) fn closing_request(mut request: Cursor<'_>) -> Result<(), Status>
 {
     let _asked = read_close_session_request(&mut request)?;
     refuse_more(&request)
+}
+
+pub(crate) fn browse_request<'a>(
+    alloc: Global,
+    mut request: Cursor<'a>,
+) -> Result<BrowseRequest<'a>, Status>
+    ensures { Asks service.Browse (λ asked. Browse (map browse_fields asked.nodes.items)) request.entry result }
+{
+    let asked = read_browse_request(alloc, &mut request)?;
+    refuse_more(&request)?;
+    Ok(asked)
 }

@@ -45,4 +45,11 @@ pub returns-in_default-clause-performs : goal.returns-in_default-clause-performs
 returns-in_default-clause-performs g c =
     let s = g.A.Archive.state c.args.archive.now in
     let d = c.in_default in
-    performs-unserved s (site_of c.args.settings.now s) c.args.now (node_of c.args.token) c.args.service c.args.request c.args.sessions.now d.not-GetEndpoints d.not-CreateSession d.not-ActivateSession d.not-CloseSession
+    performs-unserved s (site_of c.args.settings.now s) c.args.now (node_of c.args.token) c.args.service c.args.request c.args.sessions.now d.not-GetEndpoints d.not-CreateSession d.not-ActivateSession d.not-CloseSession d.not-Browse
+
+pub returns-in-Browse-clause-performs : goal.returns-in-Browse-clause-performs
+returns-in-Browse-clause-performs g c =
+    let s = g.A.Archive.state c.args.archive.now in
+    let site = site_of c.args.settings.now s in
+    let P : Service → Type 0 = λ service. Performs s s (answered_call site c.args.now (node_of c.args.token) (call_in service c.args.request) c.args.sessions.now) c.args.sessions.now c.browse.result in
+    subst P (sym c.in-Browse.is) (performs-here s (answered_call site c.args.now (node_of c.args.token) (call_in service.Browse c.args.request) c.args.sessions.now) c.args.sessions.now c.browse.result (c.browse.ensures.performs site c.args.now refl))
