@@ -18,7 +18,7 @@ use Rattle.hist_read.specs.declared.point.Position.{Position}
 use Rattle.hist_read.proofs.Lives.{log_reads}
 
 -- the last of a first part
-last_of_take : {X : Type 0} (n : ℕ) (xs : List X) (x : X) → n < length xs → last (take n xs) ≡ Some x → (k : ℕ) × (n ≡ k + 1) × (slice_get xs k ≡ Some x)
+pub last_of_take : {X : Type 0} (n : ℕ) (xs : List X) (x : X) → n < length xs → last (take n xs) ≡ Some x → (k : ℕ) × (n ≡ k + 1) × (slice_get xs k ≡ Some x)
 last_of_take zero [] x h e = absurd (none-some _ e)
 last_of_take zero (y ∷ ys) x h e = absurd (none-some _ e)
 last_of_take (suc n) xs x h e =

@@ -5,3 +5,4 @@ pub mod Pages
 pub mod Finding
 pub mod Showing
 pub mod Node
+pub mod Chains

@@ -8,7 +8,7 @@ ghost use Rattle.ua_binary.specs.Format.{IsLawful, IsPrefixFree};
 ghost use Rattle.hist_read.specs.declared.point.Position.{Position};
 ghost use Rattle.hist_read.specs.Asking.{is_given};
 ghost use Rattle.hist_read.specs.Point.{point};
-ghost use Rattle.hist_read.specs.Reads.{modified, modified_position, next_place, page};
+ghost use Rattle.hist_read.specs.Reads.{raw, raw_position, modified, modified_position, next_place, page};
 
 use crate::asked::body;
 use ua_services::ReadRawModifiedDetails;
@@ -27,6 +27,16 @@ pub fn pages_of_modifications_join(details: ReadRawModifiedDetails)
     requires { IsTrue (is_given details.start_time.0 || is_given details.end_time.0) }
     ensures { (R : Content) → IsLawfulContent R → (node : Node) → (p : Option Position) → (next : Position) → next_place (modified_position details p) details p (modified R node details p) ≡ Some next
         → modified R node details p ≡ page details p (modified R node details p) ++ modified R node details (Some next) }
+{
+    let _span = body(&details);
+}
+
+/// A page of raw values, and what follows the place where it ends, are together what was to come: over an
+/// unchanged content each item comes once, and none is missed.
+pub fn pages_of_raw_values_join(details: ReadRawModifiedDetails)
+    requires { IsTrue (is_given details.start_time.0 || is_given details.end_time.0) }
+    ensures { (R : Content) → IsLawfulContent R → (node : Node) → (p : Option Position) → (next : Position) → next_place (raw_position details p) details p (raw R node details p) ≡ Some next
+        → raw R node details p ≡ page details p (raw R node details p) ++ raw R node details (Some next) }
 {
     let _span = body(&details);
 }
