@@ -1,8 +1,12 @@
 -- Whole updates: refusals, steps that come before the operations, and the operations.
-use Rattle.std.proofs.Common.{◌≡◌, ℕ, Bool, true, false, List, [], ◌∷◌, ◌||◌, map, Option, Some, None, refl, sym, ap, subst}
+use Rattle.std.proofs.Common.{◌≡◌, ℕ, Bool, true, false, List, [], ◌∷◌, ◌||◌, map, length, Option, Some, None, refl, sym, ap, subst}
 use Rattle.std.proofs.Math.Bool.{or-false}
 use Rattle.ua_binary.specs.declared.codes.Status.{Status}
 use Rattle.ua_binary.specs.declared.codes.TheConstants.Status.{BAD_OUT_OF_MEMORY}
+use Rattle.ua_binary.specs.declared.values.Ticks.{Ticks}
+use Rattle.ua_variant.specs.declared.data.DataValue.{DataValue}
+use Rattle.ua_variant.specs.declared.value.ValueType.{ValueType}
+use Rattle.ua_variant.specs.declared.update_type.HistoryUpdateType.{HistoryUpdateType}
 use Rattle.ua_services.specs.declared.updates.HistoryUpdateResult.{HistoryUpdateResult}
 use Rattle.records.specs.Contents.{Content}
 use Rattle.archive.specs.Fault.{status_told}
@@ -11,8 +15,9 @@ use Rattle.archive.specs.Store.{Store, Mark, Fine, Starved, faults_of, Passes, S
 use Rattle.archive.proofs.Calls.{passes-none}
 use Rattle.archive.proofs.Acting.{holds-stays, moves-none, moves-as, does-give}
 use Rattle.hist_update.specs.declared.request.Request.{Request}
-use Rattle.hist_update.specs.Outcome.{Operation}
-use Rattle.hist_update.specs.Updates.{Updated, told, refused, unless, past, run, begin, update_all, breaks, AreEnded, needs_store, needs_of}
+use Rattle.hist_update.specs.Codes.{count_refusal}
+use Rattle.hist_update.specs.Outcome.{Operation, Write}
+use Rattle.hist_update.specs.Updates.{Updated, told, refused, unless, past, run, begin, all_good, data_refusal, writes, deletes_at, delete_at, update_all, breaks, AreEnded, needs_store, needs_of}
 use Rattle.hist_update.specs.Operating.{Operations, Begins}
 
 -- it is refused: no step is made
@@ -75,3 +80,44 @@ begins-run a b request status ops codes result u is =
       acts = acts-past a b u.used (run a.own request status ops) (told status codes) (acts-run a b u.used a.own request status ops codes u.acts);
       ended = (λ e f. refl, subst (λ (x : Bool). AreEnded x (map (needs_store a.own request) ops) u.used) (sym (or-false a.broken)) u.ended);
     })
+
+-- ---- writes of values
+
+abbrev pub AnswersData : Store → Store → Request → ValueType → Option HistoryUpdateType → List DataValue → HistoryUpdateResult → Type 0
+AnswersData a b request type asked values result =
+    (used : List Mark) × Acts a b used (λ R. unless (data_refusal asked (length values)) R (begin a.own request all_good (writes asked type values) R)) result
+    × AreEnded a.broken (needs_of a.own request (writes asked type values)) used
+
+-- they are refused by what they say themselves
+pub data-refused : (a : Store) (request : Request) (type : ValueType) (asked : Option HistoryUpdateType) (values : List DataValue) (code : Status) (result : HistoryUpdateResult)
+    → data_refusal asked (length values) ≡ Some code → result ≡ refused code → AnswersData a a request type asked values result
+data-refused a request type asked values code result e is =
+    let f : Content → Marked Updated = begin a.own request all_good (writes asked type values) in (
+      [],
+      subst (λ r. Acts a a [] (λ R. unless (data_refusal asked (length values)) R (f R)) r) (sym is) (acts-refused a (data_refusal asked (length values)) code f e),
+      none-ended a.broken (needs_of a.own request (writes asked type values)),
+    )
+
+-- they aren't
+pub data-begun : (a b : Store) (request : Request) (type : ValueType) (o : Option HistoryUpdateType) (asked : HistoryUpdateType) (values : List DataValue) (result : HistoryUpdateResult)
+    → Some asked ≡ o → count_refusal (length values) ≡ None → Begins a b request all_good (map (Write asked type) values) result → AnswersData a b request type o values result
+data-begun a b request type o asked values result e free u =
+    subst (λ x. AnswersData a b request type x values result) e
+    (u.used, acts-free a b u.used (count_refusal (length values)) (begin a.own request all_good (map (Write asked type) values)) result free u.acts, u.ended)
+
+-- ---- deletes at source times
+
+abbrev pub AnswersTimes : Store → Store → Request → List Ticks → HistoryUpdateResult → Type 0
+AnswersTimes a b request times result =
+    (used : List Mark) × Acts a b used (delete_at a.own request times) result × AreEnded a.broken (needs_of a.own request (deletes_at times)) used
+
+pub times-refused : (a : Store) (request : Request) (times : List Ticks) (code : Status) (result : HistoryUpdateResult) → count_refusal (length times) ≡ Some code → result ≡ refused code → AnswersTimes a a request times result
+times-refused a request times code result e is = (
+  [],
+  subst (λ r. Acts a a [] (delete_at a.own request times) r) (sym is) (acts-refused a (count_refusal (length times)) code (begin a.own request all_good (deletes_at times)) e),
+  none-ended a.broken (needs_of a.own request (deletes_at times)),
+)
+
+pub times-begun : (a b : Store) (request : Request) (times : List Ticks) (result : HistoryUpdateResult) → count_refusal (length times) ≡ None → Begins a b request all_good (deletes_at times) result → AnswersTimes a b request times result
+times-begun a b request times result free u =
+    (u.used, acts-free a b u.used (count_refusal (length times)) (begin a.own request all_good (deletes_at times)) result free u.acts, u.ended)

@@ -106,7 +106,7 @@ listed-refused a request times code result e is = subst (λ r. BeginsListed a a 
   used = [];
   acts = acts-refused a (listing_refusal times) code (begin a.own request first_other (map DeleteAt times)) e;
   ended = none-ended a.broken (needs_of a.own request (map DeleteAt times));
-  none = subst (λ o. IfSome o (λ c. [] ≡ [])) (sym e) refl;
+  none = subst (λ o. IfSome o (λ c. ◌≡◌ {A = List Mark} [] [])) (sym e) refl;
 })
 
 -- it isn't
@@ -143,33 +143,30 @@ stretch-failed a c fault P request start end_ result p is =
     )
 
 -- the listing was answered
-pub stretch-listed : {B : Type 0} (a b c : Store) (lives : B) (items : B → List Held) (times : List ℤ) (request : Request) (start end_ : ℤ) (result : HistoryUpdateResult)
-    → Asks a b (Ok lives) (λ w. items w ≡ take 1001 (range_of a.content request.node (moment start 0) (last_of start end_) Forward)) → times ≡ map (λ (h : Held). h.time) (items lives)
+pub stretch-listed : {B : Type 0} (a b c : Store) (lives : B) (items : B → List Held) (times : List ℤ) (request : Request) (start end_ from to : ℤ) (result : HistoryUpdateResult)
+    → Asks a b (Ok lives) (λ w. items w ≡ take 1001 (range_of a.content request.node from to Forward)) → from ≡ moment start 0 → to ≡ last_of start end_ → times ≡ map (λ (h : Held). h.time) (items lives)
     → BeginsListed b c request times result → AnswersPast a c request start end_ result
-stretch-listed {B} a b c lives items times request start end_ result p is u = (
+stretch-listed {B} a b c lives items times request start end_ from to result p first final is u = (
   Fine ∷ u.used,
-  moves-behind a b c lives IsListed (Fine ∷ u.used) (λ R S. Does (past R (delete_listed a.own request (doomed R request.node start end_) R)) (Fine ∷ u.used) (result, S)) p u.acts.passes
+  moves-behind a b c lives (λ (w : B). items w ≡ take 1001 (range_of a.content request.node from to Forward)) (Fine ∷ u.used) (λ R S. Does (past R (delete_listed a.own request (doomed R request.node start end_) R)) (Fine ∷ u.used) (result, S)) p u.acts.passes
       (λ honest told h. let q = u.acts.acts honest a.content h in (q.0, step_past q.0 told q.1, q.2)),
   λ honest R h.
-  let same : a.content ≡ R = h.content used in
-  let told = p.answer (u.acts.passes.honest honest) in
-  subst (λ (S : Content). AreEnded a.broken (true ∷ needs_of a.own request (map DeleteAt (doomed S request.node start end_))) (Fine ∷ u.used)) same
-  (λ e m. absurd (true≢false (sym e ∙ used)), all_ended told),
+      let same : a.content ≡ R = h.content used in
+      let told = p.answer (u.acts.passes.honest honest) in
+      subst (λ (S : Content). AreEnded a.broken (true ∷ needs_of a.own request (map DeleteAt (doomed S request.node start end_))) (Fine ∷ u.used)) same
+      (λ e m. absurd (true≢false (sym e ∙ used)), all_ended told),
 )
   where
-    abbrev IsListed : B → Type 0
-    IsListed w = items w ≡ take 1001 (range_of a.content request.node (moment start 0) (last_of start end_) Forward)
-
     used : a.broken ≡ false
     used = in_use a b p.leaves
 
     own : b.own ≡ a.own
     own = p.leaves.passes.own
 
-    found : items lives ≡ take 1001 (range_of a.content request.node (moment start 0) (last_of start end_) Forward) → times ≡ take 1001 (doomed a.content request.node start end_)
-    found told = is ∙ (ap (map (λ (h : Held). h.time)) told ∙ sym (take-map (λ (h : Held). h.time) 1001 (range_of a.content request.node (moment start 0) (last_of start end_) Forward)))
+    found : items lives ≡ take 1001 (range_of a.content request.node from to Forward) → times ≡ take 1001 (doomed a.content request.node start end_)
+    found told = is ∙ (ap (map (λ (h : Held). h.time)) (told ∙ (ap (λ t. take 1001 (range_of a.content request.node t to Forward)) first ∙ ap (λ t. take 1001 (range_of a.content request.node (moment start 0) t Forward)) final)) ∙ sym (take-map (λ (h : Held). h.time) 1001 (range_of a.content request.node (moment start 0) (last_of start end_) Forward)))
 
-    step_past : (S : Content) → items lives ≡ take 1001 (range_of a.content request.node (moment start 0) (last_of start end_) Forward)
+    step_past : (S : Content) → items lives ≡ take 1001 (range_of a.content request.node from to Forward)
         → Does {A = Updated} (delete_listed b.own request times a.content) u.used (result, S)
         → Does {A = Updated} (past a.content (delete_listed a.own request (doomed a.content request.node start end_) a.content)) (Fine ∷ u.used) (result, S)
     step_past S told d =
@@ -179,7 +176,7 @@ stretch-listed {B} a b c lives items times request start end_ result p is u = (
         (subst (λ n. Does {A = Updated} (delete_listed n request times a.content) u.used (result, S)) own d)) in
         record { does = e.does }
 
-    all_ended : items lives ≡ take 1001 (range_of a.content request.node (moment start 0) (last_of start end_) Forward)
+    all_ended : items lives ≡ take 1001 (range_of a.content request.node from to Forward)
         → AreEnded (a.broken || breaks Fine) (needs_of a.own request (map DeleteAt (doomed a.content request.node start end_))) u.used
     all_ended told = go (listing_refusal times) refl u.none
       where

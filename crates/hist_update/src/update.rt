@@ -5,6 +5,7 @@ ghost use Rattle.records.specs.Contents.{Content};
 ghost use Rattle.std.specs.List.{AllByRecursion};
 ghost use Rattle.ua_variant.specs.DataValue.{IsShortData};
 ghost use Rattle.ua_services.specs.Updates.{IsShortUpdate};
+ghost use Rattle.records.specs.Moments.{moment};
 ghost use Rattle.records.specs.Records.{is_delete};
 ghost use Rattle.archive.specs.Reading.{range_of};
 ghost use Rattle.archive.specs.declared.reading.Direction.TheVariants as direction;
@@ -151,6 +152,13 @@ pub fn update_data<A: Archive>(
     write_all(alloc, archive, request, value_type, asked, values)
 }
 
+/// A source time as a moment, without picoseconds.
+fn moment_of(time: Ticks) -> Moment
+    ensures { result ≡ moment time.0 0 }
+{
+    Moment::at(time.0)
+}
+
 fn delete_each<A: Archive>(
     alloc: Global,
     archive: &mut A,
@@ -164,7 +172,7 @@ fn delete_each<A: Archive>(
     ensures { Operations (A.state archive.old) (A.state archive.new) request.now (deletes_at times.now) codes.new.items }
 {
     for time in times {
-        let done = delete(alloc, archive, request, Moment::at(time.0));
+        let done = delete(alloc, archive, request, moment_of(*time));
         codes.push(code_of(done)).unwrap();
     }
 }
@@ -368,7 +376,7 @@ pub fn delete_raw<A: Archive>(
         return refused(alloc, status);
     }
     let last = last_of(start, end);
-    match list_lives(alloc, archive, &request.node, Moment::at(start.0), last) {
+    match list_lives(alloc, archive, &request.node, moment_of(start), last) {
         Ok(lives) => delete_listed(alloc, archive, request, &lives),
         Err(fault) => refused(alloc, Setback::Store(fault).status()),
     }
