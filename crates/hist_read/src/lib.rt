@@ -17,7 +17,7 @@ pub use laws::{
     continuation_points_are_told_by_their_bytes, pages_of_modifications_join,
     pages_of_raw_values_join,
 };
-pub use node::read_node;
+pub use node::{is_short_value, read_node};
 pub use point::{Phase, Place, Position, put_continuation, read_continuation};
 pub use query::Query;
 pub use showing::with_stamps;

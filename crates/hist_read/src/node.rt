@@ -311,8 +311,9 @@ fn page_from<A: Archive>(
     }
 }
 
-/// Whether a value's picoseconds are within their limit, and its bytes can be counted.
-fn is_short_value(value: &DataValue) -> bool
+/// Whether a value can be written: its picoseconds are at most 9,999, and its bytes can be counted. It takes
+/// no memory.
+pub fn is_short_value(value: &DataValue) -> bool
     ensures { IsTrue result → IsShortData value.now }
 {
     let source = value.source_pico.unwrap_or(0);
