@@ -7,3 +7,8 @@ pub mod Updating
 pub mod Answering
 pub mod Stretches
 pub mod NewRecords
+pub mod Stood
+pub mod Answered
+pub mod Standing
+pub mod LawfulUpdates
+pub mod LiveTimes

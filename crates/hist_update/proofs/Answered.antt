@@ -1,0 +1,232 @@
+-- What the codes of operations tell, and what stands behind them.
+use Rattle.std.proofs.Common.{◌≡◌, ℕ, zero, suc, ℤ, Bool, true, false, List, [], ◌∷◌, ◌++◌, Option, Some, None, Result, Ok, Err, refl, sym, ap, ◌∙◌, subst, inl, inr, ◌⊎◌, arith}
+use Rattle.std.specs.Prelude.{if◌then◌else◌, int_lt, pos}
+use Rattle.std.proofs.lemmas.Option.{none-some, same_Some}
+use Rattle.stamp.specs.Limits.{lift}
+use Rattle.records.specs.declared.record.Record.{Record}
+use Rattle.ua_variant.specs.declared.update_type.HistoryUpdateType.{HistoryUpdateType}
+use Rattle.ua_variant.specs.declared.update_type.HistoryUpdateType.TheVariants.{Insert, Replace, Update, Delete}
+use Rattle.records.specs.Lists.{Has}
+use Rattle.records.specs.Contents.{Content, top, put, IsClosed, IsWithin}
+use Rattle.records.proofs.PutLemmas.{has-put}
+use Rattle.records.proofs.LearnLemmas.{closed-next}
+use Rattle.archive.specs.declared.fault.StoreFault.{StoreFault}
+use Rattle.archive.specs.declared.fault.StoreFault.TheVariants as fault
+use Rattle.ua_binary.specs.declared.codes.Status.{Status}
+use Rattle.ua_binary.specs.declared.codes.TheConstants.Status.{BAD_OUT_OF_MEMORY, BAD_RESOURCE_UNAVAILABLE, BAD_ENCODING_LIMITS_EXCEEDED, BAD_INVALID_TIMESTAMP, BAD_TYPE_MISMATCH, BAD_ENTRY_EXISTS, BAD_NO_ENTRY_EXISTS}
+use Rattle.hist_update.specs.declared.request.Request.{Request}
+use Rattle.archive.specs.Fault.{status_of}
+use Rattle.archive.specs.Steps.{Marked, Does}
+use Rattle.archive.specs.Store.{Mark, Fine, Starved, Met, MayBeFound}
+use Rattle.records.specs.Moments.{ticks_of}
+use Rattle.hist_update.specs.Outcome.{Operation, Write, DeleteAt, Change, Outcome, Refused, Added, change_by, written, timed, typed, fits, source_time, is_too_long, writing, deletion, outcome, outcome_of, judged, stamped, conflict, done, is_live, after}
+use Rattle.hist_update.specs.Updates.{code_by, left_by, update_all}
+use Rattle.hist_update.specs.Laws.{IsBad, IsGood, IsRecordOf, IsAnsweredGood, HasRecordOf}
+use Rattle.hist_update.proofs.NewRecords.{made, new_next}
+
+-- ---- the codes
+
+same_fault : (a b : Status) → ◌≡◌ {A = Result Change Status} (Err a) (Err b) → a ≡ b
+same_fault a b e = cc
+
+not_fault : {X : Type 0} (a : Change) (code : Status) → ◌≡◌ {A = Result Change Status} (Ok a) (Err code) → X
+not_fault a code e = absurd (cc)
+
+done_good : (asked : HistoryUpdateType) (live : Bool) → IsGood (done asked live)
+done_good Insert true = omega arith
+done_good Insert false = omega arith
+done_good Replace true = omega arith
+done_good Replace false = omega arith
+done_good Update true = omega arith
+done_good Update false = omega arith
+done_good Delete true = omega arith
+done_good Delete false = omega arith
+
+fault_bad : (f : StoreFault) → IsBad (status_of f)
+fault_bad fault.OutOfMemory = omega arith
+fault_bad fault.Refused = omega arith
+fault_bad fault.WrongReplica = omega arith
+fault_bad fault.WrongArchive = omega arith
+fault_bad fault.Broken = omega arith
+
+bad_as : (a code : Status) → IsBad a → a ≡ code → IsBad code
+bad_as a code h e = subst IsBad e h
+
+change_bad : (request : Request) (own : ℕ) (op : Operation) (code : Status) → change_by request own op ≡ Err code → IsBad code
+change_bad request own (DeleteAt time) code e = go (int_lt (ticks_of time) (pos 1)) e
+  where
+    go : (x : Bool) → (if x then Err BAD_INVALID_TIMESTAMP else Ok (deletion time)) ≡ Err code → IsBad code
+    go true h = bad_as BAD_INVALID_TIMESTAMP code (omega arith) (same_fault _ _ h)
+    go false h = not_fault _ _ h
+change_bad request own (Write asked type v) code e = by_time (source_time v) e
+  where
+    by_size : (t : ℤ) (x : Bool) → (if x then Err BAD_ENCODING_LIMITS_EXCEEDED else Ok (writing asked v t)) ≡ Err code → IsBad code
+    by_size t true h = bad_as BAD_ENCODING_LIMITS_EXCEEDED code (omega arith) (same_fault _ _ h)
+    by_size t false h = not_fault _ _ h
+
+    by_type : (t : ℤ) (x : Bool) → written request own asked v (typed x t) ≡ Err code → IsBad code
+    by_type t true h = by_size t (is_too_long request own (writing asked v t)) h
+    by_type t false h = bad_as BAD_TYPE_MISMATCH code (omega arith) (same_fault _ _ h)
+
+    by_time : (o : Option ℤ) → written request own asked v (timed type v o) ≡ Err code → IsBad code
+    by_time None h = bad_as BAD_INVALID_TIMESTAMP code (omega arith) (same_fault _ _ h)
+    by_time (Some t) h = by_type t (fits type v.value) h
+
+conflict_bad : (asked : HistoryUpdateType) (live : Bool) (code : Status) → conflict asked live ≡ Some code → IsBad code
+conflict_bad Insert true code e = bad_as BAD_ENTRY_EXISTS code (omega arith) (same_Some _ _ e)
+conflict_bad Insert false code e = absurd (none-some _ e)
+conflict_bad Replace true code e = absurd (none-some _ e)
+conflict_bad Replace false code e = bad_as BAD_NO_ENTRY_EXISTS code (omega arith) (same_Some _ _ e)
+conflict_bad Update true code e = absurd (none-some _ e)
+conflict_bad Update false code e = absurd (none-some _ e)
+conflict_bad Delete true code e = absurd (none-some _ e)
+conflict_bad Delete false code e = bad_as BAD_NO_ENTRY_EXISTS code (omega arith) (same_Some _ _ e)
+
+same_refused : (a b : Status) → Refused a ≡ Refused b → a ≡ b
+same_refused a b e = cc
+
+not_refused : {X : Type 0} (a b : Status) (r : Record) → Added a r ≡ Refused b → X
+not_refused a b r e = absurd (cc)
+
+pub refused_bad : (R : Content) (own : ℕ) (request : Request) (op : Operation) (code : Status) → outcome R own request op ≡ Refused code → IsBad code
+refused_bad R own request op code e = by_change (change_by request own op) refl e
+  where
+    by_tick : (change : Change) (o : Option ℤ) → stamped R own request change (done change.asked (is_live R request.node change.time)) o ≡ Refused code → IsBad code
+    by_tick change None h = bad_as BAD_RESOURCE_UNAVAILABLE code (omega arith) (same_refused _ _ h)
+    by_tick change (Some t) h = not_refused _ _ _ h
+
+    by_conflict : (change : Change) (o : Option Status) → conflict change.asked (is_live R request.node change.time) ≡ o → judged R own request change (is_live R request.node change.time) o ≡ Refused code → IsBad code
+    by_conflict change (Some c) f h = bad_as c code (conflict_bad change.asked (is_live R request.node change.time) c f) (same_refused _ _ h)
+    by_conflict change None f h = by_tick change (lift request.reading (top R)) h
+
+    by_change : (x : Result Change Status) → change_by request own op ≡ x → outcome_of R own request x ≡ Refused code → IsBad code
+    by_change (Err c) p h = bad_as c code (change_bad request own op c p) (same_refused _ _ h)
+    by_change (Ok change) p h = by_conflict change (conflict change.asked (is_live R request.node change.time)) refl h
+
+pub added_good : (R : Content) (own : ℕ) (request : Request) (op : Operation) (code : Status) (r : Record) → outcome R own request op ≡ Added code r → IsGood code
+added_good R own request op code r e = let m = made R own request op code r e in subst IsGood (sym m.told) (done_good m.change.asked (is_live R request.node m.change.time))
+
+not_both : {X : Type 0} (code : Status) → IsBad code → IsGood code → X
+not_both code bad good = absurd (omega (arith, bad, good))
+
+pub record_made : (R : Content) (own : ℕ) (request : Request) (op : Operation) (code : Status) (r : Record) → outcome R own request op ≡ Added code r → IsRecordOf request own op r
+record_made R own request op code r e =
+    let m = made R own request op code r e in
+    record {
+      origin = ap (λ (z : Record). z.origin) m.is;
+      node = ap (λ (z : Record). z.node) m.is;
+      user = ap (λ (z : Record). z.user) m.is;
+      change = subst (λ (z : Record). change_by request own op ≡ Ok (record { time = z.time; asked = z.asked; value = z.value })) (sym m.is) m.asked;
+    }
+
+pub bad_kept : (R : Content) (own : ℕ) (request : Request) (op : Operation) (m : Mark) → IsBad (code_by (outcome R own request op) m) → left_by R (outcome R own request op) m ≡ R
+bad_kept R own request op Starved h = refl
+bad_kept R own request op (Met f) h = refl
+bad_kept R own request op Fine h = go (outcome R own request op) refl h
+  where
+    go : (o : Outcome) → outcome R own request op ≡ o → IsBad (code_by o Fine) → left_by R o Fine ≡ R
+    go (Refused c) e k = refl
+    go (Added c r) e k = not_both c k (added_good R own request op c r e)
+
+abbrev pub IsDone : Content → ℕ → Request → Operation → Mark → Outcome → Type 0
+IsDone R own request op m o = (r : Record) × (o ≡ Added (code_by o m) r) × (left_by R o m ≡ put r R) × IsRecordOf request own op r
+
+pub good_done : (R : Content) (own : ℕ) (request : Request) (op : Operation) (m : Mark) → IsGood (code_by (outcome R own request op) m) → IsDone R own request op m (outcome R own request op)
+good_done R own request op Starved h = not_both BAD_OUT_OF_MEMORY (omega arith) h
+good_done R own request op (Met f) h = not_both (status_of f) (fault_bad f) h
+good_done R own request op Fine h = go (outcome R own request op) refl h
+  where
+    go : (o : Outcome) → outcome R own request op ≡ o → IsGood (code_by o Fine) → IsDone R own request op Fine o
+    go (Refused c) e k = not_both c (refused_bad R own request op c e) k
+    go (Added c r) e k = (r, refl, refl, record_made R own request op c r e)
+
+pub bad_or_good : (R : Content) (own : ℕ) (request : Request) (op : Operation) (m : Mark) → IsBad (code_by (outcome R own request op) m) ⊎ IsGood (code_by (outcome R own request op) m)
+bad_or_good R own request op Starved = inl (omega arith)
+bad_or_good R own request op (Met f) = inl (fault_bad f)
+bad_or_good R own request op Fine = go (outcome R own request op) refl
+  where
+    go : (o : Outcome) → outcome R own request op ≡ o → IsBad (code_by o Fine) ⊎ IsGood (code_by o Fine)
+    go (Refused c) e = inl (refused_bad R own request op c e)
+    go (Added c r) e = inr (added_good R own request op c r e)
+
+-- ---- several operations
+
+left_within : (R : Content) (o : Outcome) (m : Mark) → IsWithin R (left_by R o m)
+left_within R o Starved r h = h
+left_within R o (Met f) r h = h
+left_within R (Refused c) Fine r h = h
+left_within R (Added c s) Fine r h = has-put s R r (inr h)
+
+-- what they answer and leave, whatever marks are given
+abbrev pub came_to : ℕ → Request → List Operation → Content → List Mark → List Status × Content
+came_to own request ops R marks = (update_all own request ops R marks).0
+
+pub all_within : (own : ℕ) (request : Request) (ops : List Operation) (R : Content) (marks : List Mark) → IsWithin R (came_to own request ops R marks).1
+all_within own request [] R marks r h = h
+all_within own request (op ∷ ops) R [] r h = all_within own request ops (left_by R (outcome R own request op) Fine) [] r (left_within R (outcome R own request op) Fine r h)
+all_within own request (op ∷ ops) R (m ∷ marks) r h = all_within own request ops (left_by R (outcome R own request op) m) marks r (left_within R (outcome R own request op) m r h)
+
+-- the first of them, where its code is Good
+first_stands : (own : ℕ) (request : Request) (op : Operation) (ops : List Operation) (R : Content) (m : Mark) (marks : List Mark) → IsGood (code_by (outcome R own request op) m)
+    → HasRecordOf (came_to own request ops (left_by R (outcome R own request op) m) marks).1 request own op
+first_stands own request op ops R m marks good =
+    let d = good_done R own request op m good in
+    let there : Has (left_by R (outcome R own request op) m) d.0 = subst (λ S. Has S d.0) (sym d.2) (has-put d.0 R d.0 (inl refl)) in
+    (d.0, all_within own request ops (left_by R (outcome R own request op) m) marks d.0 there, d.3)
+
+pub all_stand : (own : ℕ) (request : Request) (ops : List Operation) (R : Content) (marks : List Mark) (k : ℕ) (op : Operation) → IsAnsweredGood ops (came_to own request ops R marks).0 k op
+    → HasRecordOf (came_to own request ops R marks).1 request own op
+all_stand own request [] R marks k op a = absurd (none-some _ a.asked)
+all_stand own request (o ∷ ops) R [] zero op a =
+    let good : IsGood (code_by (outcome R own request o) Fine) = subst IsGood (sym (same_Some _ _ a.told)) a.good in
+    subst (HasRecordOf (came_to own request ops (left_by R (outcome R own request o) Fine) []).1 request own) (same_Some _ _ a.asked) (first_stands own request o ops R Fine [] good)
+all_stand own request (o ∷ ops) R (m ∷ marks) zero op a =
+    let good : IsGood (code_by (outcome R own request o) m) = subst IsGood (sym (same_Some _ _ a.told)) a.good in
+    subst (HasRecordOf (came_to own request ops (left_by R (outcome R own request o) m) marks).1 request own) (same_Some _ _ a.asked) (first_stands own request o ops R m marks good)
+all_stand own request (o ∷ ops) R [] (suc k) op a =
+    all_stand own request ops (left_by R (outcome R own request o) Fine) [] k op (record { asked = a.asked; code = a.code; told = a.told; good = a.good })
+all_stand own request (o ∷ ops) R (m ∷ marks) (suc k) op a =
+    all_stand own request ops (left_by R (outcome R own request o) m) marks k op (record { asked = a.asked; code = a.code; told = a.told; good = a.good })
+
+left_closed : (R : Content) (own : ℕ) (request : Request) (op : Operation) (m : Mark) → IsClosed R → IsClosed (left_by R (outcome R own request op) m)
+left_closed R own request op Starved closed = closed
+left_closed R own request op (Met f) closed = closed
+left_closed R own request op Fine closed = go (outcome R own request op) refl
+  where
+    go : (o : Outcome) → outcome R own request op ≡ o → IsClosed (left_by R o Fine)
+    go (Refused c) e = closed
+    go (Added c r) e = closed-next R r closed (new_next R own request op c r closed e)
+
+all_closed : (own : ℕ) (request : Request) (ops : List Operation) (R : Content) (marks : List Mark) → IsClosed R → IsClosed (came_to own request ops R marks).1
+all_closed own request [] R marks closed = closed
+all_closed own request (op ∷ ops) R [] closed = all_closed own request ops (left_by R (outcome R own request op) Fine) [] (left_closed R own request op Fine closed)
+all_closed own request (op ∷ ops) R (m ∷ marks) closed = all_closed own request ops (left_by R (outcome R own request op) m) marks (left_closed R own request op m closed)
+
+-- ---- by what they came to
+
+-- what steps do, without marks behind them
+pub did : {A : Type 0} (marked : Marked A) (used : List Mark) (a : A) → Does marked used a → (marked (used ++ [])).0 ≡ a
+did {A} marked used a d = ap (λ (z : A × List Mark). z.0) (d.does [])
+
+pub updated_within : (R S : Content) (own : ℕ) (request : Request) (ops : List Operation) (used : List Mark) (codes : List Status) → Does (update_all own request ops R) used (codes, S) → IsWithin R S
+updated_within R S own request ops used codes d =
+    subst (λ (z : List Status × Content). IsWithin R z.1) (did (update_all own request ops R) used (codes, S) d) (all_within own request ops R (used ++ []))
+
+pub good_stands : (R S : Content) (own : ℕ) (request : Request) (ops : List Operation) (used : List Mark) (codes : List Status) (k : ℕ) (op : Operation)
+    → Does (update_all own request ops R) used (codes, S) → IsAnsweredGood ops codes k op → HasRecordOf S request own op
+good_stands R S own request ops used codes k op d =
+    subst (λ (z : List Status × Content). IsAnsweredGood ops z.0 k op → HasRecordOf z.1 request own op) (did (update_all own request ops R) used (codes, S) d)
+    (all_stand own request ops R (used ++ []) k op)
+
+-- what an opening may find has it too
+pub found_too : (S left : Content) (own : ℕ) (request : Request) (op : Operation) (broken : Bool) → MayBeFound broken S left → HasRecordOf S request own op → HasRecordOf left request own op
+found_too S left own request op broken (inl e) h = subst (λ T. HasRecordOf T request own op) (sym e) h
+found_too S left own request op broken (inr more) h = (h.0, subst (λ T. Has T h.0) (sym more.3) (has-put more.1 S h.0 (inr h.1)), h.2)
+
+pub good_found : (R S left : Content) (own : ℕ) (request : Request) (ops : List Operation) (used : List Mark) (codes : List Status) (k : ℕ) (op : Operation) (broken : Bool)
+    → Does (update_all own request ops R) used (codes, S) → IsAnsweredGood ops codes k op → MayBeFound broken S left → HasRecordOf left request own op
+good_found R S left own request ops used codes k op broken d a m = found_too S left own request op broken m (good_stands R S own request ops used codes k op d a)
+
+pub updated_closed : (R S : Content) (own : ℕ) (request : Request) (ops : List Operation) (used : List Mark) (codes : List Status) → Does (update_all own request ops R) used (codes, S) → IsClosed R → IsClosed S
+updated_closed R S own request ops used codes d closed =
+    subst (λ (z : List Status × Content). IsClosed z.1) (did (update_all own request ops R) used (codes, S) d) (all_closed own request ops R (used ++ []) closed)

@@ -1,0 +1,110 @@
+-- Every update that is answered Good stands, whichever call it was one of.
+use Rattle.std.proofs.Common.{◌≡◌, ℕ, ℤ, Bool, List, [], ◌∷◌, ◌++◌, map, length, Option, Some, None, subst}
+use Rattle.std.proofs.lemmas.Option.{none-some}
+use Rattle.ua_binary.specs.declared.codes.Status.{Status}
+use Rattle.ua_binary.specs.declared.codes.TheConstants.Status.{BAD_OUT_OF_MEMORY}
+use Rattle.ua_binary.specs.declared.values.Ticks.{Ticks}
+use Rattle.ua_services.specs.declared.updates.HistoryUpdateResult.{HistoryUpdateResult}
+use Rattle.ua_variant.specs.declared.data.DataValue.{DataValue}
+use Rattle.ua_variant.specs.declared.value.ValueType.{ValueType}
+use Rattle.records.specs.Contents.{Content, IsWithin}
+use Rattle.archive.specs.Fault.{status_of}
+use Rattle.archive.specs.Steps.{Marked, Does}
+use Rattle.archive.specs.Store.{Mark, Fine, Starved, Met, MayBeFound}
+use Rattle.hist_update.specs.declared.request.Request.{Request}
+use Rattle.hist_update.specs.Codes.{asked_by, count_refusal, first_other}
+use Rattle.hist_update.specs.Outcome.{Operation, DeleteAt}
+use Rattle.hist_update.specs.Updates.{Updated, refused, unless, past, run, begin, all_good, data_refusal, writes, update_data, deletes_at, delete_at, doomed, stretch_refusal, listing_refusal, delete_listed, delete_raw}
+use Rattle.hist_update.specs.Laws.{IsAnsweredGood, HasRecordOf}
+use Rattle.hist_update.proofs.Answered.{all_within, all_stand, did, found_too}
+
+-- whatever marks are given, what it comes to is so
+abbrev Always : (Updated → Type 0) → Marked Updated → Type 0
+Always P more = (marks : List Mark) → P (more marks).0
+
+always_unless : (P : Updated → Type 0) (reason : Option Status) (R : Content) (more : Marked Updated) → ((code : Status) → P (refused code, R)) → Always P more → Always P (unless reason R more)
+always_unless P (Some code) R more fails goes marks = fails code
+always_unless P None R more fails goes marks = goes marks
+
+always_past : (P : Updated → Type 0) (R : Content) (more : Marked Updated) → ((code : Status) → P (refused code, R)) → Always P more → Always P (past R more)
+always_past P R more fails goes [] = goes []
+always_past P R more fails goes (Fine ∷ marks) = goes marks
+always_past P R more fails goes (Starved ∷ marks) = fails BAD_OUT_OF_MEMORY
+always_past P R more fails goes (Met fault ∷ marks) = fails (status_of fault)
+
+-- each operation of a Good code has its record
+abbrev Stand : ℕ → Request → List Operation → Updated → Type 0
+Stand own request ops u = (k : ℕ) (op : Operation) → IsAnsweredGood ops u.0.operation_results k op → HasRecordOf u.1 request own op
+
+none_stand : (own : ℕ) (request : Request) (ops : List Operation) (R : Content) (code : Status) → Stand own request ops (refused code, R)
+none_stand own request ops R code k op a = absurd (none-some _ a.told)
+
+begun_stand : (own : ℕ) (request : Request) (status : List Status → Status) (ops : List Operation) (R : Content) → Always (Stand own request ops) (begin own request status ops R)
+begun_stand own request status ops R =
+    always_past (Stand own request ops) R (run own request status ops R) (none_stand own request ops R) (λ marks k op a. all_stand own request ops R marks k op (record { asked = a.asked; code = a.code; told = a.told; good = a.good }))
+
+begun_within : (own : ℕ) (request : Request) (status : List Status → Status) (ops : List Operation) (R : Content) → Always (λ u. IsWithin R u.1) (begin own request status ops R)
+begun_within own request status ops R = always_past (λ u. IsWithin R u.1) R (run own request status ops R) (λ code r h. h) (λ marks. all_within own request ops R marks)
+
+-- of what it did
+stood : (own : ℕ) (request : Request) (ops : List Operation) (marked : Marked Updated) (used : List Mark) (result : HistoryUpdateResult) (S left : Content) (k : ℕ) (op : Operation) (broken : Bool)
+    → Always (Stand own request ops) marked → Does marked used (result, S) → IsAnsweredGood ops result.operation_results k op → MayBeFound broken S left
+    → HasRecordOf S request own op × HasRecordOf left request own op
+stood own request ops marked used result S left k op broken always d a m =
+    let here : HasRecordOf S request own op = subst (Stand own request ops) (did marked used (result, S) d) (always (used ++ [])) k op a in
+    (here, found_too S left own request op broken m here)
+
+kept : (R S : Content) (marked : Marked Updated) (used : List Mark) (result : HistoryUpdateResult) → Always (λ u. IsWithin R u.1) marked → Does marked used (result, S) → IsWithin R S
+kept R S marked used result always d = subst (λ (u : Updated). IsWithin R u.1) (did marked used (result, S) d) (always (used ++ []))
+
+-- ---- the three calls
+
+pub writes_stand : (R S left : Content) (own : ℕ) (request : Request) (type : ValueType) (perform : ℤ) (values : List DataValue) (used : List Mark) (result : HistoryUpdateResult) (k : ℕ) (op : Operation) (broken : Bool)
+    → Does (update_data own request type perform values R) used (result, S) → IsAnsweredGood (writes (asked_by perform) type values) result.operation_results k op → MayBeFound broken S left
+    → HasRecordOf S request own op × HasRecordOf left request own op
+writes_stand R S left own request type perform values used result k op broken d =
+    let ops = writes (asked_by perform) type values in
+    stood own request ops (update_data own request type perform values R) used result S left k op broken
+    (always_unless (Stand own request ops) (data_refusal (asked_by perform) (length values)) R (begin own request all_good ops R) (none_stand own request ops R) (begun_stand own request all_good ops R)) d
+
+pub deletes_stand : (R S left : Content) (own : ℕ) (request : Request) (times : List Ticks) (used : List Mark) (result : HistoryUpdateResult) (k : ℕ) (op : Operation) (broken : Bool)
+    → Does (delete_at own request times R) used (result, S) → IsAnsweredGood (deletes_at times) result.operation_results k op → MayBeFound broken S left
+    → HasRecordOf S request own op × HasRecordOf left request own op
+deletes_stand R S left own request times used result k op broken d =
+    let ops = deletes_at times in
+    stood own request ops (delete_at own request times R) used result S left k op broken
+    (always_unless (Stand own request ops) (count_refusal (length times)) R (begin own request all_good ops R) (none_stand own request ops R) (begun_stand own request all_good ops R)) d
+
+pub stretches_stand : (R S left : Content) (own : ℕ) (request : Request) (modified : Bool) (start end_ : Ticks) (used : List Mark) (result : HistoryUpdateResult) (k : ℕ) (op : Operation) (broken : Bool)
+    → Does (delete_raw own request modified start end_ R) used (result, S) → IsAnsweredGood (map DeleteAt (doomed R request.node start.0 end_.0)) result.operation_results k op → MayBeFound broken S left
+    → HasRecordOf S request own op × HasRecordOf left request own op
+stretches_stand R S left own request modified start end_ used result k op broken d =
+    let times = doomed R request.node start.0 end_.0 in
+    let ops = map DeleteAt times in
+    let all = always_unless (Stand own request ops) (listing_refusal times) R (begin own request first_other ops R) (none_stand own request ops R) (begun_stand own request first_other ops R) in
+    stood own request ops (delete_raw own request modified start end_ R) used result S left k op broken
+    (always_unless (Stand own request ops) (stretch_refusal modified start.0 end_.0) R (past R (delete_listed own request times R)) (none_stand own request ops R)
+    (always_past (Stand own request ops) R (delete_listed own request times R) (none_stand own request ops R) all)) d
+
+pub writes_keep : (R S : Content) (own : ℕ) (request : Request) (type : ValueType) (perform : ℤ) (values : List DataValue) (used : List Mark) (result : HistoryUpdateResult)
+    → Does (update_data own request type perform values R) used (result, S) → IsWithin R S
+writes_keep R S own request type perform values used result =
+    let ops = writes (asked_by perform) type values in
+    kept R S (update_data own request type perform values R) used result
+    (always_unless (λ u. IsWithin R u.1) (data_refusal (asked_by perform) (length values)) R (begin own request all_good ops R) (λ code r h. h) (begun_within own request all_good ops R))
+
+pub deletes_keep : (R S : Content) (own : ℕ) (request : Request) (times : List Ticks) (used : List Mark) (result : HistoryUpdateResult) → Does (delete_at own request times R) used (result, S) → IsWithin R S
+deletes_keep R S own request times used result =
+    let ops = deletes_at times in
+    kept R S (delete_at own request times R) used result
+    (always_unless (λ u. IsWithin R u.1) (count_refusal (length times)) R (begin own request all_good ops R) (λ code r h. h) (begun_within own request all_good ops R))
+
+pub stretches_keep : (R S : Content) (own : ℕ) (request : Request) (modified : Bool) (start end_ : Ticks) (used : List Mark) (result : HistoryUpdateResult)
+    → Does (delete_raw own request modified start end_ R) used (result, S) → IsWithin R S
+stretches_keep R S own request modified start end_ used result =
+    let times = doomed R request.node start.0 end_.0 in
+    let ops = map DeleteAt times in
+    let all = always_unless (λ u. IsWithin R u.1) (listing_refusal times) R (begin own request first_other ops R) (λ code r h. h) (begun_within own request first_other ops R) in
+    kept R S (delete_raw own request modified start end_ R) used result
+    (always_unless (λ u. IsWithin R u.1) (stretch_refusal modified start.0 end_.0) R (past R (delete_listed own request times R)) (λ code r h. h)
+    (always_past (λ u. IsWithin R u.1) R (delete_listed own request times R) (λ code r h. h) all))

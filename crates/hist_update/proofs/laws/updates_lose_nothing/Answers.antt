@@ -1,0 +1,11 @@
+use Rattle.hist_update.proofs.Answered.{updated_within, good_stands, good_found}
+use Rattle.hist_update.proofs.laws.updates_lose_nothing.Goals as goal
+
+pub returns-clause-within : goal.returns-clause-within
+returns-clause-within c = updated_within
+
+pub returns-clause-stands : goal.returns-clause-stands
+returns-clause-stands c = good_stands
+
+pub returns-clause-found : goal.returns-clause-found
+returns-clause-found c = good_found

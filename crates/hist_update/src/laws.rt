@@ -1,0 +1,105 @@
+//! Laws of updates. Each function's contract is a law, and its body is empty.
+
+ghost use Rattle.std.specs.Prelude.{◌≡◌, ◌⊎◌, ◌↔◌, ℕ, ℤ, ◌<ℤ◌, Bool, true, false, List, map, Some, None};
+ghost use Rattle.std.specs.List.{AllByRecursion};
+ghost use Rattle.stamp.specs.Limits.{IsReplica};
+ghost use Rattle.ua_binary.specs.declared.codes.Status.{Status as Code};
+ghost use Rattle.ua_binary.specs.declared.codes.TheConstants.Status.{GOOD, GOOD_ENTRY_INSERTED, GOOD_ENTRY_REPLACED};
+ghost use Rattle.ua_binary.specs.declared.values.NodeId.{NodeId};
+ghost use Rattle.ua_binary.specs.declared.values.Ticks.{Ticks as Time};
+ghost use Rattle.ua_services.specs.declared.updates.HistoryUpdateResult.{HistoryUpdateResult as Answer};
+ghost use Rattle.ua_variant.specs.declared.data.DataValue.{DataValue as Data};
+ghost use Rattle.ua_variant.specs.declared.value.ValueType.{ValueType as Kind};
+ghost use Rattle.records.specs.Lists.{Has, IsPairwise, last};
+ghost use Rattle.records.specs.Contents.{Content, IsClosed, IsNext, IsWithin, put};
+ghost use Rattle.records.specs.Records.{is_delete, story, current};
+ghost use Rattle.records.specs.declared.record.Record.{Record};
+ghost use Rattle.ua_variant.specs.declared.update_type.HistoryUpdateType.TheVariants.{Insert, Replace};
+ghost use Rattle.records.specs.declared.shown.Held.{Held};
+ghost use Rattle.archive.specs.Store.{Mark, IsLawfulContent, MayBeFound};
+ghost use Rattle.archive.specs.Steps.{Does};
+ghost use Rattle.hist_update.specs.declared.request.Request.{Request as Asker};
+ghost use Rattle.hist_update.specs.Codes.{asked_by};
+ghost use Rattle.hist_update.specs.Outcome.{Operation, DeleteAt, IsRequest, Added, outcome, is_live};
+ghost use Rattle.hist_update.specs.Updates.{code_by, left_by, update_all, update_data, delete_at, delete_raw, writes, deletes_at, doomed};
+ghost use Rattle.hist_update.specs.Laws.{IsBad, IsGood, IsRecordOf, IsAnsweredGood, HasRecordOf, IsSpelled, IsOperation, IsDoomed};
+
+/// A new record is its origin's next, its tick is above every tick held, and it is the last of its
+/// story: so what was written is the live value, and behind a delete there is none.
+pub fn new_records_come_last()
+    ensures next { (R : Content) (own : ℕ) (q : Asker) (op : Operation) (code : Code) (r : Record) → IsClosed R → outcome R own q op ≡ Added code r → IsNext R r }
+    ensures above { (R : Content) (own : ℕ) (q : Asker) (op : Operation) (code : Code) (r s : Record) → outcome R own q op ≡ Added code r → Has R s → s.tick <ℤ r.tick }
+    ensures last { (R : Content) (own : ℕ) (q : Asker) (op : Operation) (code : Code) (r : Record) → IsClosed R → outcome R own q op ≡ Added code r
+        → last (story (put r R) r.node r.time) ≡ Some r }
+    ensures written { (R : Content) (own : ℕ) (q : Asker) (op : Operation) (code : Code) (r : Record) → IsClosed R → outcome R own q op ≡ Added code r → is_delete r.asked ≡ false
+        → (h : Held) × (current (put r R) r.node r.time ≡ Some h) × (h.value ≡ r.value) }
+    ensures deleted { (R : Content) (own : ℕ) (q : Asker) (op : Operation) (code : Code) (r : Record) → IsClosed R → outcome R own q op ≡ Added code r → is_delete r.asked ≡ true
+        → current (put r R) r.node r.time ≡ None }
+{}
+
+/// A code that isn't Good is Bad, and then the content is what it was; behind a Good code it is what
+/// it was, with the record of what was asked for.
+pub fn codes_tell_what_was_done()
+    ensures bad { (R : Content) (own : ℕ) (q : Asker) (op : Operation) (m : Mark) → IsBad (code_by (outcome R own q op) m) → left_by R (outcome R own q op) m ≡ R }
+    ensures good { (R : Content) (own : ℕ) (q : Asker) (op : Operation) (m : Mark) → IsGood (code_by (outcome R own q op) m)
+        → (r : Record) × (outcome R own q op ≡ Added (code_by (outcome R own q op) m) r) × (left_by R (outcome R own q op) m ≡ put r R) × IsRecordOf q own op r }
+    ensures either { (R : Content) (own : ℕ) (q : Asker) (op : Operation) (m : Mark) → IsBad (code_by (outcome R own q op) m) ⊎ IsGood (code_by (outcome R own q op) m) }
+{}
+
+/// The code of what was done tells what stood there: an insert, and what is told as inserted, stood
+/// onto no live value; a replacement, a delete, and what is told as replaced, onto one.
+pub fn codes_tell_what_stood()
+    ensures inserted { (R : Content) (own : ℕ) (q : Asker) (op : Operation) (r : Record) → outcome R own q op ≡ Added GOOD_ENTRY_INSERTED r
+        → (is_live R r.node r.time ≡ false) × (is_delete r.asked ≡ false) }
+    ensures replaced { (R : Content) (own : ℕ) (q : Asker) (op : Operation) (r : Record) → outcome R own q op ≡ Added GOOD_ENTRY_REPLACED r
+        → (is_live R r.node r.time ≡ true) × (is_delete r.asked ≡ false) }
+    ensures deleted { (R : Content) (own : ℕ) (q : Asker) (op : Operation) (r : Record) → outcome R own q op ≡ Added GOOD r
+        → (is_live R r.node r.time ≡ true) × (is_delete r.asked ≡ true) }
+    ensures insert { (R : Content) (own : ℕ) (q : Asker) (op : Operation) (code : Code) (r : Record) → outcome R own q op ≡ Added code r → r.asked ≡ Insert → is_live R r.node r.time ≡ false }
+    ensures replacement { (R : Content) (own : ℕ) (q : Asker) (op : Operation) (code : Code) (r : Record) → outcome R own q op ≡ Added code r → r.asked ≡ Replace → is_live R r.node r.time ≡ true }
+{}
+
+/// What was held before some operations is held behind them, and so is the record of each operation that
+/// was answered Good. What an opening may find behind them has it too, also where one of them broke the
+/// store.
+pub fn updates_lose_nothing()
+    ensures within { (R S : Content) (own : ℕ) (q : Asker) (ops : List Operation) (used : List Mark) (codes : List Code) → Does (update_all own q ops R) used (codes, S) → IsWithin R S }
+    ensures stands { (R S : Content) (own : ℕ) (q : Asker) (ops : List Operation) (used : List Mark) (codes : List Code) (k : ℕ) (op : Operation)
+        → Does (update_all own q ops R) used (codes, S) → IsAnsweredGood ops codes k op → HasRecordOf S q own op }
+    ensures found { (R S left : Content) (own : ℕ) (q : Asker) (ops : List Operation) (used : List Mark) (codes : List Code) (k : ℕ) (op : Operation) (broken : Bool)
+        → Does (update_all own q ops R) used (codes, S) → IsAnsweredGood ops codes k op → MayBeFound broken S left → HasRecordOf left q own op }
+{}
+
+/// Every update that is answered Good stands: whichever of the three calls it was one of, what is held
+/// behind the call has its record, and so has what an opening may find then. What was held before the
+/// call is held too.
+pub fn every_good_update_stands()
+    ensures writes { (R S left : Content) (own : ℕ) (q : Asker) (type : Kind) (perform : ℤ) (values : List Data) (used : List Mark) (result : Answer) (k : ℕ) (op : Operation) (broken : Bool)
+        → Does (update_data own q type perform values R) used (result, S) → IsAnsweredGood (writes (asked_by perform) type values) result.operation_results k op → MayBeFound broken S left
+        → HasRecordOf S q own op × HasRecordOf left q own op }
+    ensures deletes { (R S left : Content) (own : ℕ) (q : Asker) (times : List Time) (used : List Mark) (result : Answer) (k : ℕ) (op : Operation) (broken : Bool)
+        → Does (delete_at own q times R) used (result, S) → IsAnsweredGood (deletes_at times) result.operation_results k op → MayBeFound broken S left
+        → HasRecordOf S q own op × HasRecordOf left q own op }
+    ensures stretches { (R S left : Content) (own : ℕ) (q : Asker) (modified : Bool) (start end_ : Time) (used : List Mark) (result : Answer) (k : ℕ) (op : Operation) (broken : Bool)
+        → Does (delete_raw own q modified start end_ R) used (result, S) → IsAnsweredGood (map DeleteAt (doomed R q.node start.0 end_.0)) result.operation_results k op → MayBeFound broken S left
+        → HasRecordOf S q own op × HasRecordOf left q own op }
+    ensures kept { (R S : Content) (own : ℕ) (q : Asker) (type : Kind) (perform : ℤ) (values : List Data) (used : List Mark) (result : Answer)
+        → Does (update_data own q type perform values R) used (result, S) → IsWithin R S }
+    ensures kept_by_deletes { (R S : Content) (own : ℕ) (q : Asker) (times : List Time) (used : List Mark) (result : Answer) → Does (delete_at own q times R) used (result, S) → IsWithin R S }
+    ensures kept_by_stretches { (R S : Content) (own : ℕ) (q : Asker) (modified : Bool) (start end_ : Time) (used : List Mark) (result : Answer)
+        → Does (delete_raw own q modified start end_ R) used (result, S) → IsWithin R S }
+{}
+
+/// Behind some operations a closed content is closed, and one of lawful records has no others.
+pub fn updates_keep_contents_lawful()
+    ensures closed { (R S : Content) (own : ℕ) (q : Asker) (ops : List Operation) (used : List Mark) (codes : List Code) → Does (update_all own q ops R) used (codes, S) → IsClosed R → IsClosed S }
+    ensures lawful { (R S : Content) (own : ℕ) (q : Asker) (ops : List Operation) (used : List Mark) (codes : List Code) → Does (update_all own q ops R) used (codes, S)
+        → IsReplica own → IsRequest q → IsSpelled q → AllByRecursion IsOperation ops → IsLawfulContent R → IsLawfulContent S }
+{}
+
+/// The moments that a delete of a stretch of time deletes at: those of the node's live values from its
+/// start up to but without its end, or all of the one time, each once, in order.
+pub fn stretches_have_the_live_times()
+    ensures members { (R : Content) (node : NodeId) (start end_ time : ℤ) → Has (doomed R node start end_) time ↔ IsDoomed R node start end_ time }
+    ensures order { (R : Content) (node : NodeId) (start end_ : ℤ) → IsPairwise (λ a b. a <ℤ b) (doomed R node start end_) }
+{}
