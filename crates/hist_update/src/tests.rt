@@ -1,19 +1,51 @@
 ghost use Rattle.std.specs.Prelude.{IsTrue};
 ghost use Rattle.std.specs.List.{AllByRecursion};
-ghost use Rattle.ua_variant.specs.DataValue.{IsDataValue};
+ghost use Rattle.ua_variant.specs.DataValue.{IsShortData};
 ghost use Rattle.hist_update.specs.Outcome.{IsRequest};
 
 use super::*;
 use HistoryUpdateType::{Delete, Insert, Update};
-use UpdateCode::*;
 use archive::{Archive, Direction, Failure, ListArchive, ScriptedArchive, StoreFault};
 use records::{Entry, Held, HistoryUpdateType, Moment, Record};
 use stamp::ReplicaNo;
 use std::alloc::{AllocError, Global};
 use std::test::Fail;
-use ua_binary::{Bytes, NodeId, Text, Ticks};
+use ua_binary::{Bytes, NodeId, Status, Text, Ticks};
+use ua_services::{HistoryUpdateResult, put_history_update_response};
 use ua_variant::{DataValue, Scalar, ValueType, Variant};
 use uuid::Uuid;
+
+const GOOD: Status = Status(0);
+
+const INSERTED: Status = Status(0x00A2_0000);
+
+const REPLACED: Status = Status(0x00A3_0000);
+
+const OUT_OF_MEMORY: Status = Status(0x8003_0000);
+
+const UNAVAILABLE: Status = Status(0x8004_0000);
+
+const TOO_LARGE: Status = Status(0x8008_0000);
+
+const NOTHING_TO_DO: Status = Status(0x800F_0000);
+
+const TOO_MANY: Status = Status(0x8010_0000);
+
+const BAD_TIME: Status = Status(0x8023_0000);
+
+const BAD_OPERATION: Status = Status(0x8071_0000);
+
+const UNSUPPORTED: Status = Status(0x8072_0000);
+
+const OTHER_TYPE: Status = Status(0x8074_0000);
+
+const NO_DATA: Status = Status(0x809B_0000);
+
+const EXISTS: Status = Status(0x809F_0000);
+
+const NONE_EXISTS: Status = Status(0x80A0_0000);
+
+const BAD_TIMES: Status = Status(0x80BD_0000);
 
 const INT32: ValueType = ValueType {
     number: 6,
@@ -52,9 +84,9 @@ fn is_request(request: &Request) -> bool
     short && request.user.len() <= 256
 }
 
-/// Whether a value has a spelling.
-fn is_spelled(value: &DataValue) -> bool
-    ensures { IsTrue result → IsDataValue value.now }
+/// Whether a value may be written.
+fn is_short(value: &DataValue) -> bool
+    ensures { IsTrue result → IsShortData value.now }
 {
     let close = match value.source_pico {
         Some(pico) => pico <= 9999,
@@ -63,10 +95,10 @@ fn is_spelled(value: &DataValue) -> bool
     close && value.server_pico.is_none() && value.size() < 0x8000_0000
 }
 
-fn are_spelled(values: &[DataValue]) -> bool
-    ensures { IsTrue result → AllByRecursion IsDataValue values.now }
+fn are_short(values: &[DataValue]) -> bool
+    ensures { IsTrue result → AllByRecursion IsShortData values.now }
 {
-    values.iter().all(is_spelled)
+    values.iter().all(is_short)
 }
 
 fn value(written: Option<Variant>, time: Option<i64>) -> DataValue {
@@ -91,9 +123,9 @@ fn update<A: Archive>(
     value_type: ValueType,
     perform: i32,
     values: &[DataValue],
-) -> Result<UpdateResult, AllocError> {
+) -> Result<HistoryUpdateResult, AllocError> {
     let request = request(alloc, reading)?;
-    if is_request(&request) && are_spelled(values) {
+    if is_request(&request) && are_short(values) {
         Ok(update_data(alloc, archive, &request, value_type, perform, values))
     } else {
         Err(AllocError)
@@ -104,8 +136,8 @@ fn delete<A: Archive>(
     alloc: Global,
     archive: &mut A,
     reading: i64,
-    times: &[i64],
-) -> Result<UpdateResult, AllocError> {
+    times: &[Ticks],
+) -> Result<HistoryUpdateResult, AllocError> {
     let request = request(alloc, reading)?;
     if is_request(&request) {
         Ok(delete_at(alloc, archive, &request, times))
@@ -120,35 +152,31 @@ fn erase<A: Archive>(
     modified: bool,
     start: i64,
     end: i64,
-) -> Result<UpdateResult, AllocError> {
+) -> Result<HistoryUpdateResult, AllocError> {
     let request = request(alloc, 100)?;
     if is_request(&request) {
-        Ok(delete_raw(alloc, archive, &request, modified, start, end))
+        Ok(delete_raw(alloc, archive, &request, modified, Ticks(start), Ticks(end)))
     } else {
         Err(AllocError)
     }
 }
 
 /// The code of the one operation, or the status where there is none.
-fn code_of(told: &UpdateResult) -> UpdateCode {
-    if told.codes.len() == 1 {
-        told.codes[0]
+fn code_of(told: &HistoryUpdateResult) -> Status {
+    if told.operation_results.len() == 1 {
+        told.operation_results[0]
     } else {
         told.status
     }
 }
 
 /// One operation: the clock, the number of the update (4 for a delete), the source time, the value, the code.
-type Row = (i64, i32, i64, i32, UpdateCode);
+type Row = (i64, i32, i64, i32, Status);
 
-fn operate<A: Archive>(
-    alloc: Global,
-    archive: &mut A,
-    row: &Row,
-) -> Result<UpdateCode, AllocError> {
+fn operate<A: Archive>(alloc: Global, archive: &mut A, row: &Row) -> Result<Status, AllocError> {
     let (reading, perform, time, written, _) = *row;
     let told = if perform == 4 {
-        delete(alloc, archive, reading, &[time])?
+        delete(alloc, archive, reading, &[Ticks(time)])?
     } else {
         let values = [value(int(written), Some(time))];
         update(alloc, archive, reading, INT32, perform, &values)?
@@ -179,18 +207,15 @@ fn holds<A: Archive>(archive: &mut A, number: u64, tick: i64) -> Result<bool, St
     Ok(vector.get(own) == number && archive.top()? == tick)
 }
 
-static FIRST: [Row; 2] = [
-    (100, 1, 10, 7, GoodEntryInserted),
-    (100, 1, 10, 8, BadEntryExists),
-];
+static FIRST: [Row; 2] = [(100, 1, 10, 7, INSERTED), (100, 1, 10, 8, EXISTS)];
 
 static NEXT: [Row; 6] = [
-    (100, 3, 10, 8, GoodEntryReplaced),
-    (100, 4, 10, 0, Good),
-    (100, 4, 10, 0, BadNoEntryExists),
-    (100, 2, 10, 9, BadNoEntryExists),
-    (100, 4, 0, 0, BadInvalidTimestamp),
-    (100, 1, 10, 9, GoodEntryInserted),
+    (100, 3, 10, 8, REPLACED),
+    (100, 4, 10, 0, GOOD),
+    (100, 4, 10, 0, NONE_EXISTS),
+    (100, 2, 10, 9, NONE_EXISTS),
+    (100, 4, 0, 0, BAD_TIME),
+    (100, 1, 10, 9, INSERTED),
 ];
 
 /// What was asked for at a source time, and the tick, in order.
@@ -273,6 +298,7 @@ static SHOWN: [(HistoryUpdateType, i32); 4] = [(Insert, 9), (Delete, 8), (Update
 /// Whether the modifications and the live values from 1 to 100 are those of the two lists of operations.
 fn shows_all<A: Archive>(alloc: Global, archive: &mut A) -> Result<bool, StoreFault> {
     let request = request(alloc, 0)?;
+    let all = archive.vector()?;
     let log = archive.log(
         alloc,
         &request.node,
@@ -281,6 +307,7 @@ fn shows_all<A: Archive>(alloc: Global, archive: &mut A) -> Result<bool, StoreFa
         None,
         Direction::Forward,
         9,
+        &all,
     )?;
     let lives = archive.range(
         alloc,
@@ -289,6 +316,7 @@ fn shows_all<A: Archive>(alloc: Global, archive: &mut A) -> Result<bool, StoreFa
         Moment::at(100),
         Direction::Forward,
         9,
+        &all,
     )?;
     Ok(are_entries(&log, &SHOWN) && is_live_alone(&lives, 9))
 }
@@ -336,17 +364,17 @@ fn learns_last<A: Archive>(alloc: Global, archive: &mut A) -> Result<bool, Store
 fn ticks_rise(rt: HostRuntime) -> Result<(), Fail> {
     let alloc = rt.alloc();
     let mut archive = list_archive(alloc)?;
-    let later = [(864_000_000_100, 1, 20, 1, GoodEntryInserted)];
+    let later = [(864_000_000_100, 1, 20, 1, INSERTED)];
     assert!(rt; operates(alloc, &mut archive, &later)?);
     archive.reload()?;
-    assert!(rt; operates(alloc, &mut archive, &[(100, 3, 20, 2, GoodEntryReplaced)])?);
+    assert!(rt; operates(alloc, &mut archive, &[(100, 3, 20, 2, REPLACED)])?);
     let wanted = [(Insert, 864_000_000_100), (Update, 864_000_000_101)];
     assert!(rt; has_story(alloc, &mut archive, 20, &wanted)?);
     assert!(rt; learns_last(alloc, &mut archive)?);
     let none_left = [
-        (100, 3, 20, 3, BadResourceUnavailable),
-        (100, 4, 20, 0, BadResourceUnavailable),
-        (100, 1, 20, 3, BadEntryExists),
+        (100, 3, 20, 3, UNAVAILABLE),
+        (100, 4, 20, 0, UNAVAILABLE),
+        (100, 1, 20, 3, EXISTS),
     ];
     assert!(rt; operates(alloc, &mut archive, &none_left)?);
     assert!(rt; holds(&mut archive, 2, 4_611_686_018_427_387_903)?);
@@ -377,40 +405,20 @@ fn variant(alloc: Global, written: Written) -> Result<Option<Variant>, AllocErro
 }
 
 /// Inserts: the node's type, the value, its source time, the code.
-static INSERTS: [(ValueType, Written, Option<i64>, UpdateCode); 13] = [
-    (INT32, Written::Int, None, BadInvalidTimestamp),
-    (INT32, Written::Int, Some(0), BadInvalidTimestamp),
-    (INT32, Written::Int, Some(-5), BadInvalidTimestamp),
-    (INT32, Written::Boolean, Some(0), BadInvalidTimestamp),
-    (INT32, Written::Boolean, Some(10), BadTypeMismatch),
-    (INT32_ARRAY, Written::Int, Some(10), BadTypeMismatch),
-    (INT32, Written::Bytes(1_048_576), Some(10), BadTypeMismatch),
-    (
-        BYTE_STRING,
-        Written::Bytes(1_048_576),
-        Some(10),
-        BadEncodingLimitsExceeded,
-    ),
-    (
-        BYTE_STRING,
-        Written::Bytes(1_048_529),
-        Some(10),
-        BadEncodingLimitsExceeded,
-    ),
-    (
-        BYTE_STRING,
-        Written::Bytes(1_048_528),
-        Some(10),
-        GoodEntryInserted,
-    ),
-    (
-        BYTE_STRING,
-        Written::Bytes(1_048_576),
-        Some(10),
-        BadEncodingLimitsExceeded,
-    ),
-    (INT32, Written::Null, Some(11), GoodEntryInserted),
-    (INT32, Written::Nothing, Some(12), GoodEntryInserted),
+static INSERTS: [(ValueType, Written, Option<i64>, Status); 13] = [
+    (INT32, Written::Int, None, BAD_TIME),
+    (INT32, Written::Int, Some(0), BAD_TIME),
+    (INT32, Written::Int, Some(-5), BAD_TIME),
+    (INT32, Written::Boolean, Some(0), BAD_TIME),
+    (INT32, Written::Boolean, Some(10), OTHER_TYPE),
+    (INT32_ARRAY, Written::Int, Some(10), OTHER_TYPE),
+    (INT32, Written::Bytes(1_048_576), Some(10), OTHER_TYPE),
+    (BYTE_STRING, Written::Bytes(1_048_576), Some(10), TOO_LARGE),
+    (BYTE_STRING, Written::Bytes(1_048_529), Some(10), TOO_LARGE),
+    (BYTE_STRING, Written::Bytes(1_048_528), Some(10), INSERTED),
+    (BYTE_STRING, Written::Bytes(1_048_576), Some(10), TOO_LARGE),
+    (INT32, Written::Null, Some(11), INSERTED),
+    (INT32, Written::Nothing, Some(12), INSERTED),
 ];
 
 fn inserts<A: Archive>(
@@ -419,7 +427,7 @@ fn inserts<A: Archive>(
     value_type: ValueType,
     written: Written,
     time: Option<i64>,
-) -> Result<UpdateCode, AllocError> {
+) -> Result<Status, AllocError> {
     let values = [value(variant(alloc, written)?, time)];
     let told = update(alloc, archive, 100, value_type, 1, &values)?;
     Ok(code_of(&told))
@@ -433,7 +441,7 @@ fn values_are_judged(rt: HostRuntime) -> Result<(), Fail> {
     for (value_type, written, time, code) in &INSERTS {
         let told = inserts(alloc, &mut archive, *value_type, *written, *time)?;
         assert!(rt; told == *code, "{written:?} {time:?}: {told:?}");
-        if *code == GoodEntryInserted {
+        if *code == INSERTED {
             added = added.saturating_add(1);
         }
         assert!(rt;
@@ -452,34 +460,36 @@ fn values(alloc: Global, first: i64, count: i64) -> Result<Vec<DataValue>, Alloc
     Ok(values)
 }
 
-fn times(alloc: Global, first: i64, count: i64) -> Result<Vec<i64>, AllocError> {
+fn times(alloc: Global, first: i64, count: i64) -> Result<Vec<Ticks>, AllocError> {
     let mut times = Vec::new(alloc);
     for i in 0..count {
-        times.push(first.wrapping_add(i))?;
+        times.push(Ticks(first.wrapping_add(i)))?;
     }
     Ok(times)
 }
 
 /// Lists: the number of the update (4 for a delete), the first source time, how many, the status, how
 /// many codes, and the last of them.
-static LISTS: [(i32, i64, i64, UpdateCode, usize, UpdateCode); 12] = [
-    (1, 1, 0, BadNothingToDo, 0, Good),
-    (4, 1, 0, BadNothingToDo, 0, Good),
-    (0, 1, 1, BadHistoryOperationInvalid, 0, Good),
-    (5, 1, 0, BadHistoryOperationInvalid, 0, Good),
-    (-1, 1, 1001, BadHistoryOperationInvalid, 0, Good),
-    (1, 1, 1001, BadTooManyOperations, 0, Good),
-    (4, 1, 1001, BadTooManyOperations, 0, Good),
-    (1, 1, 1000, Good, 1000, GoodEntryInserted),
-    (1, 1000, 2, Good, 2, GoodEntryInserted),
-    (2, 1000, 1, Good, 1, GoodEntryReplaced),
-    (4, 1001, 2, Good, 2, BadNoEntryExists),
-    (1, 1001, 1, Good, 1, GoodEntryInserted),
+static LISTS: [(i32, i64, i64, Status, usize, Status); 12] = [
+    (1, 1, 0, NOTHING_TO_DO, 0, GOOD),
+    (4, 1, 0, NOTHING_TO_DO, 0, GOOD),
+    (0, 1, 1, BAD_OPERATION, 0, GOOD),
+    (5, 1, 0, BAD_OPERATION, 0, GOOD),
+    (-1, 1, 1001, BAD_OPERATION, 0, GOOD),
+    (1, 1, 1001, TOO_MANY, 0, GOOD),
+    (4, 1, 1001, TOO_MANY, 0, GOOD),
+    (1, 1, 1000, GOOD, 1000, INSERTED),
+    (1, 1000, 2, GOOD, 2, INSERTED),
+    (2, 1000, 1, GOOD, 1, REPLACED),
+    (4, 1001, 2, GOOD, 2, NONE_EXISTS),
+    (1, 1001, 1, GOOD, 1, INSERTED),
 ];
 
-fn is_told(told: &UpdateResult, status: UpdateCode, count: usize, last: UpdateCode) -> bool {
-    match told.codes.last() {
-        Some(code) => told.status == status && told.codes.len() == count && *code == last,
+fn is_told(told: &HistoryUpdateResult, status: Status, count: usize, last: Status) -> bool {
+    match told.operation_results.last() {
+        Some(code) => told.status == status
+            && told.operation_results.len() == count
+            && *code == last,
         None => told.status == status && count == 0,
     }
 }
@@ -490,7 +500,7 @@ fn list<A: Archive>(
     perform: i32,
     first: i64,
     count: i64,
-) -> Result<UpdateResult, AllocError> {
+) -> Result<HistoryUpdateResult, AllocError> {
     if perform == 4 {
         delete(alloc, archive, 100, &times(alloc, first, count)?)
     } else {
@@ -507,14 +517,14 @@ fn list<A: Archive>(
 
 /// Deletes of stretches, one after the other: whether modifications are asked for, start, end, the
 /// status, and how many codes.
-type Stretch = (bool, i64, i64, UpdateCode, usize);
+type Stretch = (bool, i64, i64, Status, usize);
 
 /// Of 1,001 live values.
 static MANY: [Stretch; 4] = [
-    (false, 1, 2000, BadTooManyOperations, 0),
-    (false, 1, 1002, BadTooManyOperations, 0),
-    (false, 1001, 1001, Good, 1),
-    (false, 1, 2000, Good, 1000),
+    (false, 1, 2000, TOO_MANY, 0),
+    (false, 1, 1002, TOO_MANY, 0),
+    (false, 1001, 1001, GOOD, 1),
+    (false, 1, 2000, GOOD, 1000),
 ];
 
 fn erases<A: Archive>(
@@ -525,7 +535,7 @@ fn erases<A: Archive>(
     let mut same = true;
     for (modified, start, end, status, count) in rows {
         let told = erase(alloc, archive, *modified, *start, *end)?;
-        same = same && is_told(&told, *status, *count, Good);
+        same = same && is_told(&told, *status, *count, GOOD);
     }
     Ok(same)
 }
@@ -547,29 +557,29 @@ fn lists_have_their_limits(rt: HostRuntime) -> Result<(), Fail> {
 
 /// Over no value.
 static EMPTY: [Stretch; 5] = [
-    (false, 1, 100, BadNoData, 0),
-    (true, 1, 100, BadHistoryOperationUnsupported, 0),
-    (true, 0, 100, BadHistoryOperationUnsupported, 0),
-    (false, 0, 100, BadInvalidTimestampArgument, 0),
-    (false, 100, 99, BadInvalidTimestampArgument, 0),
+    (false, 1, 100, NO_DATA, 0),
+    (true, 1, 100, UNSUPPORTED, 0),
+    (true, 0, 100, UNSUPPORTED, 0),
+    (false, 0, 100, BAD_TIMES, 0),
+    (false, 100, 99, BAD_TIMES, 0),
 ];
 
 /// Inserts at 5:00, 5:02, 5:03, 5:05 and 5:06, in minutes of 600,000,000 steps.
 static MINUTES: [Row; 5] = [
-    (100, 1, 180_000_000_000, 0, GoodEntryInserted),
-    (100, 1, 181_200_000_000, 2, GoodEntryInserted),
-    (100, 1, 181_800_000_000, 3, GoodEntryInserted),
-    (100, 1, 183_000_000_000, 5, GoodEntryInserted),
-    (100, 1, 183_600_000_000, 6, GoodEntryInserted),
+    (100, 1, 180_000_000_000, 0, INSERTED),
+    (100, 1, 181_200_000_000, 2, INSERTED),
+    (100, 1, 181_800_000_000, 3, INSERTED),
+    (100, 1, 183_000_000_000, 5, INSERTED),
+    (100, 1, 183_600_000_000, 6, INSERTED),
 ];
 
 /// Over these: from 5:00 to 5:03, at 5:01, at 5:03, and to the end of time.
 static OVER_MINUTES: [Stretch; 5] = [
-    (false, 180_000_000_000, 181_800_000_000, Good, 2),
-    (false, 180_000_000_000, 181_800_000_000, BadNoData, 0),
-    (false, 180_600_000_000, 180_600_000_000, BadNoData, 0),
-    (false, 181_800_000_000, 181_800_000_000, Good, 1),
-    (false, 1, i64::MAX, Good, 2),
+    (false, 180_000_000_000, 181_800_000_000, GOOD, 2),
+    (false, 180_000_000_000, 181_800_000_000, NO_DATA, 0),
+    (false, 180_600_000_000, 180_600_000_000, NO_DATA, 0),
+    (false, 181_800_000_000, 181_800_000_000, GOOD, 1),
+    (false, 1, i64::MAX, GOOD, 2),
 ];
 
 #[test]
@@ -584,60 +594,32 @@ fn stretches_are_deleted(rt: HostRuntime) -> Result<(), Fail> {
 }
 
 /// Which call of the archive fails, how, and the codes of inserts at 10, at 10 again and at 20.
-static FAILURES: [(u64, Failure, &[UpdateCode]); 9] = [
-    (
-        0,
-        Failure::Refused,
-        &[GoodEntryInserted, BadEntryExists, GoodEntryInserted],
-    ),
+static FAILURES: [(u64, Failure, &[Status]); 9] = [
+    (0, Failure::Refused, &[INSERTED, EXISTS, INSERTED]),
     (
         1,
         Failure::OutOfMemory,
-        &[BadOutOfMemory, GoodEntryInserted, GoodEntryInserted],
+        &[OUT_OF_MEMORY, INSERTED, INSERTED],
     ),
-    (
-        2,
-        Failure::Refused,
-        &[BadResourceUnavailable, GoodEntryInserted, GoodEntryInserted],
-    ),
-    (
-        3,
-        Failure::Refused,
-        &[BadResourceUnavailable, GoodEntryInserted, GoodEntryInserted],
-    ),
+    (2, Failure::Refused, &[UNAVAILABLE, INSERTED, INSERTED]),
+    (3, Failure::Refused, &[UNAVAILABLE, INSERTED, INSERTED]),
     (
         4,
         Failure::OutOfMemory,
-        &[BadOutOfMemory, GoodEntryInserted, GoodEntryInserted],
+        &[OUT_OF_MEMORY, INSERTED, INSERTED],
     ),
-    (
-        4,
-        Failure::Refused,
-        &[BadResourceUnavailable, GoodEntryInserted, GoodEntryInserted],
-    ),
+    (4, Failure::Refused, &[UNAVAILABLE, INSERTED, INSERTED]),
     (
         4,
         Failure::BrokenBefore,
-        &[
-            BadResourceUnavailable,
-            BadResourceUnavailable,
-            BadResourceUnavailable,
-        ],
+        &[UNAVAILABLE, UNAVAILABLE, UNAVAILABLE],
     ),
     (
         4,
         Failure::BrokenAfter,
-        &[
-            BadResourceUnavailable,
-            BadResourceUnavailable,
-            BadResourceUnavailable,
-        ],
+        &[UNAVAILABLE, UNAVAILABLE, UNAVAILABLE],
     ),
-    (
-        8,
-        Failure::OutOfMemory,
-        &[GoodEntryInserted, BadEntryExists, BadOutOfMemory],
-    ),
+    (8, Failure::OutOfMemory, &[INSERTED, EXISTS, OUT_OF_MEMORY]),
 ];
 
 fn scripted(alloc: Global, call: u64, failure: Failure) -> Result<ScriptedArchive, StoreFault> {
@@ -647,7 +629,11 @@ fn scripted(alloc: Global, call: u64, failure: Failure) -> Result<ScriptedArchiv
     }
 }
 
-fn inserts_three(alloc: Global, call: u64, failure: Failure) -> Result<UpdateResult, StoreFault> {
+fn inserts_three(
+    alloc: Global,
+    call: u64,
+    failure: Failure,
+) -> Result<HistoryUpdateResult, StoreFault> {
     let mut archive = scripted(alloc, call, failure)?;
     let values = [
         value(int(1), Some(10)),
@@ -662,7 +648,7 @@ fn faults_have_their_codes(rt: HostRuntime) -> Result<(), Fail> {
     for (call, failure, codes) in &FAILURES {
         let told = inserts_three(rt.alloc(), *call, *failure)?;
         assert!(rt;
-            told.status == Good && told.codes.as_slice() == *codes,
+            told.status == GOOD && told.operation_results.as_slice() == *codes,
             "{call} {failure:?}"
         );
     }
@@ -670,22 +656,25 @@ fn faults_have_their_codes(rt: HostRuntime) -> Result<(), Fail> {
 }
 
 /// Over two values that were inserted by 8 calls: which call fails, how, the status of a delete of all,
-/// and how many codes.
-static FAILED_STRETCHES: [(u64, Failure, UpdateCode, usize); 6] = [
-    (9, Failure::OutOfMemory, BadOutOfMemory, 0),
-    (9, Failure::Refused, BadResourceUnavailable, 0),
-    (9, Failure::BrokenBefore, BadResourceUnavailable, 0),
-    (10, Failure::Refused, BadResourceUnavailable, 2),
-    (17, Failure::OutOfMemory, BadOutOfMemory, 2),
-    (99, Failure::Refused, Good, 2),
+/// and how many codes. The first two calls of it are its listing, and each delete has four.
+static FAILED_STRETCHES: [(u64, Failure, Status, usize); 8] = [
+    (9, Failure::OutOfMemory, OUT_OF_MEMORY, 0),
+    (9, Failure::BrokenBefore, UNAVAILABLE, 0),
+    (10, Failure::OutOfMemory, OUT_OF_MEMORY, 0),
+    (10, Failure::Refused, UNAVAILABLE, 0),
+    (11, Failure::Refused, UNAVAILABLE, 2),
+    (14, Failure::BrokenAfter, UNAVAILABLE, 2),
+    (18, Failure::OutOfMemory, OUT_OF_MEMORY, 2),
+    (99, Failure::Refused, GOOD, 2),
 ];
 
-static TWO: [Row; 2] = [
-    (100, 1, 10, 1, GoodEntryInserted),
-    (100, 1, 20, 2, GoodEntryInserted),
-];
+static TWO: [Row; 2] = [(100, 1, 10, 1, INSERTED), (100, 1, 20, 2, INSERTED)];
 
-fn erases_two(alloc: Global, call: u64, failure: Failure) -> Result<UpdateResult, StoreFault> {
+fn erases_two(
+    alloc: Global,
+    call: u64,
+    failure: Failure,
+) -> Result<HistoryUpdateResult, StoreFault> {
     let mut archive = scripted(alloc, call, failure)?;
     if !operates(alloc, &mut archive, &TWO)? {
         return Err(StoreFault::Refused);
@@ -698,7 +687,7 @@ fn failed_deletes_have_their_status(rt: HostRuntime) -> Result<(), Fail> {
     for (call, failure, status, count) in &FAILED_STRETCHES {
         let told = erases_two(rt.alloc(), *call, *failure)?;
         assert!(rt;
-            told.status == *status && told.codes.len() == *count,
+            told.status == *status && told.operation_results.len() == *count,
             "{call} {failure:?}"
         );
     }
@@ -711,11 +700,11 @@ fn inserts_close<A: Archive>(
     archive: &mut A,
     pico: u16,
     written: i32,
-) -> Result<UpdateCode, AllocError> {
+) -> Result<Status, AllocError> {
     let mut close = value(int(written), Some(10));
     close.source_pico = Some(pico);
     let told = update(alloc, archive, 100, INT32, 1, &[close])?;
-    match told.codes.as_slice() {
+    match told.operation_results.as_slice() {
         [code] => Ok(*code),
         _ => Err(AllocError),
     }
@@ -728,6 +717,7 @@ fn live_at_10<A: Archive>(alloc: Global, archive: &mut A) -> Result<usize, Store
         ticks: 10,
         pico: 9999,
     };
+    let all = archive.vector()?;
     let lives = archive.range(
         alloc,
         &request.node,
@@ -735,6 +725,7 @@ fn live_at_10<A: Archive>(alloc: Global, archive: &mut A) -> Result<usize, Store
         to,
         Direction::Forward,
         9,
+        &all,
     )?;
     Ok(lives.len())
 }
@@ -743,14 +734,40 @@ fn live_at_10<A: Archive>(alloc: Global, archive: &mut A) -> Result<usize, Store
 fn moments_are_apart(rt: HostRuntime) -> Result<(), Fail> {
     let alloc = rt.alloc();
     let mut archive = list_archive(alloc)?;
-    assert!(rt; inserts_close(alloc, &mut archive, 0, 7)? == GoodEntryInserted);
-    assert!(rt; inserts_close(alloc, &mut archive, 5, 8)? == GoodEntryInserted);
-    assert!(rt; inserts_close(alloc, &mut archive, 5, 9)? == BadEntryExists);
+    assert!(rt; inserts_close(alloc, &mut archive, 0, 7)? == INSERTED);
+    assert!(rt; inserts_close(alloc, &mut archive, 5, 8)? == INSERTED);
+    assert!(rt; inserts_close(alloc, &mut archive, 5, 9)? == EXISTS);
     assert!(rt; live_at_10(alloc, &mut archive)? == 2);
-    let deleted = delete(alloc, &mut archive, 100, &[10])?;
-    assert!(rt; is_told(&deleted, Good, 1, Good));
+    let deleted = delete(alloc, &mut archive, 100, &[Ticks(10)])?;
+    assert!(rt; is_told(&deleted, GOOD, 1, GOOD));
     assert!(rt; live_at_10(alloc, &mut archive)? == 1);
-    assert!(rt; erases(alloc, &mut archive, &[(false, 10, 10, Good, 1)])?);
+    assert!(rt; erases(alloc, &mut archive, &[(false, 10, 10, GOOD, 1)])?);
     assert!(rt; live_at_10(alloc, &mut archive)? == 0);
+    Ok(())
+}
+
+/// Whether the answer to an insert is written as these bytes.
+fn is_answered(alloc: Global, bytes: &[u8]) -> Result<bool, StoreFault> {
+    let mut archive = list_archive(alloc)?;
+    let request = request(alloc, 100)?;
+    let values = [value(int(7), Some(10))];
+    if !is_request(&request) || !are_short(&values) {
+        return Ok(false);
+    }
+    let told = update_data(alloc, &mut archive, &request, INT32, 1, &values);
+    let mut out = Vec::new(alloc);
+    let put = put_history_update_response(&mut out, &[told]);
+    Ok(put.is_ok() && out.as_slice() == bytes)
+}
+
+/// One result: its status, one code, and no diagnostics; then no diagnostics.
+static ANSWER: [u8; 24] = [
+    1, 0, 0, 0, 0, 0, 0, 0, 1, 0, 0, 0, 0, 0, 0xA2, 0, 0xFF, 0xFF, 0xFF, 0xFF, 0xFF, 0xFF, 0xFF,
+    0xFF,
+];
+
+#[test]
+fn answers_are_written(rt: HostRuntime) -> Result<(), Fail> {
+    assert!(rt; is_answered(rt.alloc(), &ANSWER)?);
     Ok(())
 }
