@@ -110,4 +110,3 @@ answers-more p start bytes piece used reply rest so = record {
       ∙ so.goes (piece ++ more) later
       ∙ ap (λ b. joined reply later (answered p reply.state b later)) (sym (append_assoc rest piece more));
 }
-

@@ -1,302 +1,402 @@
 -- What the steps of answering one chunk do.
-use Rattle.std.proofs.Common.{◌≡◌, ◌≢◌, ◌==◌, ℕ, ℤ, ◌+◌, ◌<◌, ◌≤◌, Bool, true, false, List, [], ◌∷◌, ◌++◌, length, take, drop, Some, None, Ok, Err, refl, sym, ◌∙◌, ap, subst, arith}
-use Rattle.std.specs.Prelude.{Option, max}
-use Rattle.std.proofs.lemmas.List.{append-nil, length-drop}
-use Rattle.std.proofs.lemmas.Bool.Decides.{nat_tests}
+use Rattle.std.proofs.Common.{◌≡◌, ℕ, ℤ, ◌==◌, Bool, true, false, List, [], ◌∷◌, ◌++◌, length, Some, None, Ok, Err, refl, sym, ◌∙◌, ap, subst}
+use Rattle.std.specs.Prelude.{Option, Result, if◌then◌else◌}
+use Rattle.std.proofs.lemmas.List.{append-nil}
+use Rattle.ua_binary.specs.declared.codes.Status.{Status}
+use Rattle.ua_binary.specs.declared.codes.TheConstants.Status.{BAD_OUT_OF_MEMORY, BAD_TCP_MESSAGE_TYPE_INVALID}
 use Rattle.ua_binary.specs.declared.values.Ticks.{Ticks}
-use Rattle.uacp.specs.declared.types.Header.{Header}
-use Rattle.uacp.specs.declared.types.Chunk.{Chunk}
-use Rattle.uacp.specs.declared.types.Letter.TheVariants.{Final, More, Abort}
 use Rattle.uacp.specs.declared.types.UacpFault.{UacpFault}
-use Rattle.uacp.specs.declared.types.UacpFault.TheVariants.{OutOfMemory}
+use Rattle.uacp.specs.declared.types.Kind.{Kind}
+use Rattle.uacp.specs.declared.types.Kind.TheVariants.{Hello, Open, Close, Message}
 use Rattle.uacp.specs.declared.greeting.Hello.{Hello as HelloNumbers}
 use Rattle.uacp.specs.declared.greeting.Ack.{Ack}
 use Rattle.uacp.specs.Stream.{Piece}
-use Rattle.uacp.specs.Chunks.{cut}
-use Rattle.uacp.specs.Held.{Held, Gives, next_of, next_or, after_next}
-use Rattle.uacp.specs.Greeting.{acknowledge, error}
+use Rattle.uacp.specs.Greeting.{acknowledge, error, hello_at, ack_of}
 use Rattle.uacp.specs.Fault.{code_of}
 use Rattle.ua_channel.specs.Fault as channel
 use Rattle.ua_channel.specs.declared.fault.ChannelFault.{ChannelFault}
 use Rattle.ua_channel.specs.declared.fault.ChannelFault.TheVariants as fault
 use Rattle.ua_channel.specs.declared.taken.OpenRequest.{OpenRequest}
 use Rattle.ua_channel.specs.declared.taken.Taken.{Taken}
-use Rattle.ua_channel.specs.Placed.{Placed, Opens, Says, Closes, judged}
-use Rattle.ua_channel.specs.Taking.{State, fresh, after, piece_of, Refuses as RefusesChunk, Takes as TakesChunk, TakesMemory}
-use Rattle.ua_channel.specs.Sending.{opened_chunk, number_after}
+use Rattle.ua_channel.specs.declared.taken.Taken.TheVariants as taken
+use Rattle.ua_channel.specs.Placed.{Placed, judged}
+use Rattle.ua_channel.specs.Taking.{State, fresh, after as heard_after, Refuses as RefusesChunk, Takes as TakesChunk}
+use Rattle.ua_channel.specs.Sending.{opened_chunk, number_after, message_bytes, chunk_count, Writes}
+use Rattle.ua_session.specs.Sessions as session
+use Rattle.records.specs.Contents.{Content}
+use Rattle.archive.specs.Store.{Store, Mark, Fine, Starved, faults_of, Passes}
+use Rattle.archive.specs.Steps.{Moves, Acts, Does as DoesMarked}
+use Rattle.archive.proofs.Calls.{passes-none}
+use Rattle.archive.proofs.Acting.{moves-as, faults-append}
+use Rattle.historian.specs.Services.{Site, Outcome, answered as performed}
+use Rattle.historian.specs.Requests.{handle_of}
+use Rattle.historian.specs.Answers.{Response, response, service_fault}
 use Rattle.ua_server.specs.declared.outcome.Served.TheVariants.{Closed, Refused}
-use Rattle.ua_server.specs.declared.outcome.ServeFault.TheVariants.{TooLong, OutOfMemory as Starved}
-use Rattle.ua_server.specs.declared.connection.Connection.{Connection}
-use Rattle.ua_server.specs.declared.granting.Grant.{Grant}
-use Rattle.ua_server.specs.declared.granting.Grant.TheVariants as grant
-use Rattle.ua_server.specs.Run.{Outside, before, Reply, Marked, Does, Answers}
-use Rattle.ua_server.specs.Marks.{Mark, fine, no_memory, made, then, clock}
-use Rattle.ua_server.specs.Granted.{Granted, goes, closed, refused, starved, Granting, acknowledged, opened, sent, responded, answered_come, kept_of, keeping, answered_placed, granted}
-use Rattle.ua_server.specs.Requests.{response_to, starved_response_to, bytes_sent, after_sent}
-use Rattle.ua_server.specs.Replies.{limit_or, Standing, Item, whole, ill, Ending, gone, concluded, refuse, reply_with, answer_taken, answer, found, chunks}
-use Rattle.ua_server.specs.Turns.{sees, AnswersSo, EndsSo, EndsRefused, Refuses, GivesOne, granted_as, IsClean, IsSmall, IsCountedChunk, Grants, LeavesOne}
-use Rattle.ua_server.proofs.Runs.{before-before, answers-item}
-use Rattle.ua_server.proofs.Cutting.{falls, next-some, some_more, chunk-stands, fault-stands}
+use Rattle.ua_server.specs.declared.outcome.ServeFault.{ServeFault}
+use Rattle.ua_server.specs.declared.outcome.ServeFault.TheVariants.{OutOfMemory}
+use Rattle.ua_server.specs.declared.turn.Turn.{Turn}
+use Rattle.ua_server.specs.declared.turn.Turn.TheVariants.{Waits, Greets, Goes, Ends}
+use Rattle.ua_server.specs.Given.{Outside, before, Given, give, and_then, by_marks, made, clock, Does}
+use Rattle.ua_server.specs.Run.{Reply}
+use Rattle.ua_server.specs.Client.{Client, Standing, Ending, Answering, ends, goes, refuse, with_limit, acknowledged, greeted, opened, fitted, sent, told, responded, answered_come, answered_placed, answered_on, answered_piece, tried_on, tried}
+use Rattle.ua_server.specs.Turns.{Replies, Answered, AnsweredHere, RefusesTurn, SendsTurn, ending_of, went, behind, standing_of}
+use Rattle.ua_server.proofs.Outsides.{marked, read, nothing, does-give, does-then, does-marked, does-clock, does-made, does-starved}
 
--- one step after another
-pub does-then : {A B : Type 0} (first : Marked Mark A) (more : A → Marked Mark B) (a : A) (b : B) (r s : List ℤ) → Does first r a → Does (more a) s b → Does (then first more) (r ++ s) b
-does-then {A} {B} first more a b r s f m = record {
-  used = f.used ++ m.used;
-  does = λ later.
-      ap (λ o. then first more o) (before-before f.used m.used r s later)
-      ∙ ap (λ (p : A × Outside Mark). more p.0 p.1) (f.does (before m.used s later))
-      ∙ m.does later;
+-- ---- replies
+
+-- an end, behind which nothing goes on
+pub replies-end : (f : Answering) (used : Outside) (out : List ℕ) (ending : Ending) (client : Client) (standing : Standing) → Does f used (ends standing out ending) → Replies f used out (Some ending) client standing.content
+replies-end f used out ending client standing does = record { last = standing; content = refl; goes = λ e. absurd cc; does = does }
+
+pub replies-by : (f g : Answering) (used more : Outside) (out : List ℕ) (ending : Option Ending) (client : Client) (S : Content)
+    → ((r : Reply Standing Ending) → Does f used r → Does g more r) → Replies f used out ending client S → Replies g more out ending client S
+replies-by f g used more out ending client S so r = record { last = r.last; content = r.content; goes = r.goes; does = so (record { out = out; ending = ending; state = r.last }) r.does }
+
+pub here-by : (f g : Content → Answering) (used more : List Mark) (old new : List ℕ) (ending : Option Ending) (client : Client) → faults_of more ≡ []
+    → ((R : Content) (r : Reply Standing Ending) → Does (f R) (marked used) r → Does (g R) (marked more) r) → AnsweredHere f used old new ending client → AnsweredHere g more old new ending client
+here-by f g used more old new ending client quiet so h = record {
+  quiet = quiet;
+  made = h.made;
+  appended = h.appended;
+  replies = λ R. replies-by (f R) (g R) (marked used) (marked more) h.made ending client R (so R) (h.replies R);
 }
 
--- a last step that reads no clock
-does-last : {A B : Type 0} (first : Marked Mark A) (more : A → Marked Mark B) (a : A) (b : B) (r : List ℤ) → Does first r a → Does (more a) [] b → Does (then first more) r b
-does-last first more a b r f m =
-    let P : List ℤ → Type 0 = λ s. Does (then first more) s b in
-    subst P (append-nil r) (does-then first more a b r [] f m)
-
--- ---- what a chunk is granted
-
-told : (a b : Granted) (later : Outside Mark) → a ≡ b → ◌≡◌ {A = Granted × Outside Mark} (a, later) (b, later)
-told a b later same = ap (λ (g : Granted). (g, later)) same
-
--- an Acknowledge
-pub acknowledges : (hello : HelloNumbers) (ack : Ack) (out : List ℕ) (channel : Option State) → out ≡ acknowledge.canon ack → channel ≡ Some (fresh hello ack)
-    → Does (acknowledged hello (Ok ack)) [] (goes out (Some ack.receive_size) channel)
-acknowledges hello ack out channel made begins = record {
-  used = fine ∷ [];
-  does = λ later. told (goes (acknowledge.canon ack) (Some ack.receive_size) (Some (fresh hello ack))) (goes out (Some ack.receive_size) channel) later (cc);
+pub answered-by : (a b : Store) (f g : Content → Answering) (used more : Outside) (old new : List ℕ) (ending : Option Ending) (client : Client) → faults_of more.marks ≡ faults_of used.marks
+    → ((R : Content) (r : Reply Standing Ending) → Does (f R) used r → Does (g R) more r) → Answered a b f used old new ending client → Answered a b g more old new ending client
+answered-by a b f g used more old new ending client same so h = record {
+  made = h.made;
+  appended = h.appended;
+  moves = record {
+    passes = subst (Passes a b) (sym same) h.moves.passes;
+    acts = λ honest R held. let s = h.moves.acts honest R held in (s.0, replies-by (f R) (g R) used more h.made ending client s.0 (so R) s.1, s.2);
+  };
 }
 
-pub acknowledges-none : (hello : HelloNumbers) (ack : Ack) (code : ℕ) → code ≡ code_of OutOfMemory → Does (acknowledged hello (Ok ack)) [] (refused code)
-acknowledges-none hello ack code is = record { used = no_memory ∷ []; does = λ later. told (refused (code_of OutOfMemory)) (refused code) later (ap refused (sym is)) }
-
--- the answer to an opening
-pub opens : (state new : State) (request : OpenRequest) (now : Ticks) (out : List ℕ) → out ≡ opened_chunk state.next request now → new ≡ record state { next = number_after state.next 1 }
-    → Does (opened state request now) [] (goes out None (Some new))
-opens state new request now out made after = record {
-  used = fine ∷ [];
-  does = λ later. told (goes (opened_chunk state.next request now) None (Some (record state { next = number_after state.next 1 }))) (goes out None (Some new)) later (cc);
+-- no archive is asked
+pub answered-here : (a : Store) (f : Content → Answering) (used : List Mark) (old new : List ℕ) (ending : Option Ending) (client : Client) → AnsweredHere f used old new ending client
+    → Answered a a f (marked used) old new ending client
+answered-here a f used old new ending client h = record {
+  made = h.made;
+  appended = h.appended;
+  moves = record { passes = subst (Passes a a) (sym h.quiet) (passes-none a); acts = λ honest R held. (R, h.replies R, held) };
 }
 
-pub opens-none : (state : State) (request : OpenRequest) (now : Ticks) (code : ℕ) → code ≡ code_of OutOfMemory → Does (opened state request now) [] (refused code)
-opens-none state request now code is = record { used = no_memory ∷ []; does = λ later. told (refused (code_of OutOfMemory)) (refused code) later (ap refused (sym is)) }
+pub answered-client : (a b : Store) (f : Content → Answering) (used : Outside) (old new : List ℕ) (ending : Option Ending) (client other : Client) → client ≡ other
+    → Answered a b f used old new ending client → Answered a b f used old new ending other
+answered-client a b f used old new ending client other same h =
+    let P : Client → Type 0 = λ c. Answered a b f used old new ending c in subst P same h
 
--- the answer to a message
-sent_as : (state new : State) (request : ℕ) (body out : List ℕ) → out ≡ bytes_sent state request body → new ≡ after_sent state body → sent state request body ≡ goes out None (Some new)
-sent_as state new request body out made after =
-    ap (λ (o : List ℕ). goes o None (Some (after_sent state body))) (sym made) ∙ ap (λ (s : State). goes out None (Some s)) (sym after)
+-- ---- a mark more
 
-pub responds : (state new : State) (request : ℕ) (message : List ℕ) (now : Ticks) (out : List ℕ)
-    → out ≡ bytes_sent state request (response_to state now message) → new ≡ after_sent state (response_to state now message)
-    → Does (responded state request message now) [] (goes out None (Some new))
-responds state new request message now out made after = record {
-  used = fine ∷ [];
-  does = λ later. told (sent state request (response_to state now message)) (goes out None (Some new)) later (sent_as state new request (response_to state now message) out made after);
-}
+pub here-fine : (f g : Content → Answering) (used : List Mark) (old new : List ℕ) (ending : Option Ending) (client : Client) → AnsweredHere f used old new ending client
+    → AnsweredHere (λ R. made (f R) (g R)) (Fine ∷ used) old new ending client
+here-fine f g used old new ending client h = here-by f (λ R. made (f R) (g R)) used (Fine ∷ used) old new ending client h.quiet (λ R r does. does-made (f R) (g R) (marked used) r does) h
 
-pub responds-starved : (state new : State) (request : ℕ) (message : List ℕ) (now : Ticks) (out : List ℕ)
-    → out ≡ bytes_sent state request (starved_response_to now message) → new ≡ after_sent state (starved_response_to now message)
-    → Does (responded state request message now) [] (goes out None (Some new))
-responds-starved state new request message now out made after = record {
-  used = no_memory ∷ fine ∷ [];
-  does = λ later. told (sent state request (starved_response_to now message)) (goes out None (Some new)) later (sent_as state new request (starved_response_to now message) out made after);
-}
+pub here-starved : (f g : Content → Answering) (used : List Mark) (old new : List ℕ) (ending : Option Ending) (client : Client) → AnsweredHere g used old new ending client
+    → AnsweredHere (λ R. made (f R) (g R)) (Starved ∷ used) old new ending client
+here-starved f g used old new ending client h = here-by g (λ R. made (f R) (g R)) used (Starved ∷ used) old new ending client h.quiet (λ R r does. does-starved (f R) (g R) (marked used) r does) h
 
-pub responds-none : (state : State) (request : ℕ) (message : List ℕ) (now : Ticks) → Does (responded state request message now) [] starved
-responds-none state request message now = record { used = no_memory ∷ no_memory ∷ []; does = λ later. refl }
+pub answered-fine : (a b : Store) (f g : Content → Answering) (used : Outside) (old new : List ℕ) (ending : Option Ending) (client : Client) → Answered a b f used old new ending client
+    → Answered a b (λ R. made (f R) (g R)) (before (marked (Fine ∷ [])) used) old new ending client
+answered-fine a b f g used old new ending client h = answered-by a b f (λ R. made (f R) (g R)) used (before (marked (Fine ∷ [])) used) old new ending client refl (λ R r does. does-made (f R) (g R) used r does) h
 
--- one reading, and what is made of it
-pub timed : (later : Ticks → Granting) (reading : ℤ) (granted : Granted) → Does (later (record { 0 = reading })) [] granted → Does (then clock later) (reading ∷ []) granted
-timed later reading granted does = does-then clock later (record { 0 = reading }) granted (reading ∷ []) [] (record { used = []; does = λ outside. refl }) does
+-- a reading more
+pub answered-timed : (a b : Store) (f : Content → Ticks → Answering) (now : ℤ) (used : Outside) (old new : List ℕ) (ending : Option Ending) (client : Client)
+    → Answered a b (λ R. f R (record { 0 = now })) used old new ending client → Answered a b (λ R. and_then clock (f R)) (before (read now) used) old new ending client
+answered-timed a b f now used old new ending client h =
+    answered-by a b (λ R. f R (record { 0 = now })) (λ R. and_then clock (f R)) used (before (read now) used) old new ending client refl
+    (λ R r does. does-then clock (f R) (read now) used (record { 0 = now }) r (does-clock now) does) h
 
-kept-fine : (bytes : List ℕ) (went : Granting) (readings : List ℤ) (granted : Granted) → Does went readings granted → Does (keeping bytes went) readings granted
-kept-fine [] went readings granted does = does
-kept-fine (byte ∷ bytes) went readings granted does = record { used = fine ∷ does.used; does = does.does }
+-- ---- refusals
 
-kept-none : (bytes : List ℕ) (went : Granting) → 0 < length bytes → Does (keeping bytes went) [] (refused (code_of OutOfMemory))
-kept-none [] went some = absurd (omega arith)
-kept-none (byte ∷ bytes) went some = record { used = no_memory ∷ []; does = λ later. refl }
+-- an ERR was made, or memory for it was wanting
+pub here-refused : (code : Status) (standing : Content → Standing) (next : Client) (old new : List ℕ) (result : Result Turn ServeFault) → ((R : Content) → (standing R).content ≡ R) → RefusesTurn code result old new
+    → (used : List Mark) × AnsweredHere (λ R. refuse (standing R) code) used old new (ending_of result) next
+here-refused code standing next old new (Ok turn) is refuses =
+    let P : Turn → Type 0 = λ t. (used : List Mark) × AnsweredHere (λ R. refuse (standing R) code) used old new (ending_of (Ok t)) next in
+    subst P (sym refuses.0) (
+      Fine ∷ [],
+      record {
+        quiet = refl;
+        made = error.canon code;
+        appended = refuses.1;
+        replies = λ R. record { last = standing R; content = is R; goes = λ e. absurd cc; does = record { does = λ later. refl } };
+      },
+    )
+here-refused code standing next old new (Err fault) is refuses =
+    let P : ServeFault → Type 0 = λ f. (used : List Mark) × AnsweredHere (λ R. refuse (standing R) code) used old new (ending_of (Err f)) next in
+    subst P (sym refuses.0) (
+      Starved ∷ [],
+      record {
+        quiet = refl;
+        made = [];
+        appended = refuses.1 ∙ sym (append-nil old);
+        replies = λ R. record { last = standing R; content = is R; goes = λ e. absurd cc; does = record { does = λ later. refl } };
+      },
+    )
 
--- a chunk that is well placed
-pub placed-does : (state new : State) (piece : Piece) (taken : Taken) (readings : List ℤ) (granted : Granted) → TakesChunk state piece (Ok taken) new
-    → Does (answered_come new taken) readings granted → Does (answered_placed state (judged state.heard piece)) readings granted
-placed-does state new piece taken readings granted takes does =
-    let placed = takes.0 in
-    let P : State → Type 0 = λ s. Does (answered_come s taken) readings granted in
-    let Q : Taken → Type 0 = λ t. Does (answered_come (record state { heard = after state.heard placed }) t) readings granted in
-    rw takes.1 (kept-fine (kept_of placed) _ readings granted (subst Q takes.2 (subst P takes.3 does)))
+-- memory for a step was wanting, and that was told
+pub here-memory : (f : Content → Answering) (standing : Content → Standing) (next : Client) (old new : List ℕ) (result : Result Turn ServeFault) → ((R : Content) → (standing R).content ≡ R)
+    → RefusesTurn BAD_OUT_OF_MEMORY result old new → (used : List Mark) × AnsweredHere (λ R. made (f R) (refuse (standing R) BAD_OUT_OF_MEMORY)) used old new (ending_of result) next
+here-memory f standing next old new result is refuses =
+    let h = here-refused BAD_OUT_OF_MEMORY standing next old new result is refuses in
+    (Starved ∷ h.0, here-starved f (λ R. refuse (standing R) BAD_OUT_OF_MEMORY) h.0 old new (ending_of result) next h.1)
 
-some_kept : (placed : Placed) → TakesMemory placed → 0 < length (kept_of placed)
-some_kept (Opens sequence asked) some = absurd some
-some_kept (Says Final numbers body) some = some
-some_kept (Says More numbers body) some = some
-some_kept (Says Abort numbers body) some = absurd some
-some_kept (Closes numbers) some = absurd some
+-- ---- the greeting
+
+abbrev pub at : Client → Content → Standing
+at client R = record { client = client; content = R }
+
+pub greet-refused : (hello : Result HelloNumbers UacpFault) (fault : UacpFault) (code : Status) (client next : Client) (old new : List ℕ) (result : Result Turn ServeFault) → Err fault ≡ hello → code ≡ code_of fault
+    → RefusesTurn code result old new → (used : List Mark) × AnsweredHere (λ R. greeted (at client R) hello) used old new (ending_of result) next
+greet-refused hello fault code client next old new result is told refuses =
+    let P : Result HelloNumbers UacpFault → Type 0 = λ h. (used : List Mark) × AnsweredHere (λ R. greeted (at client R) h) used old new (ending_of result) next in
+    let Q : Status → Type 0 = λ c. RefusesTurn c result old new in
+    subst P is (here-refused (code_of fault) (at client) next old new result (λ R. refl) (subst Q told refuses))
+
+pub greet-ungranted : (hello : Result HelloNumbers UacpFault) (numbers : HelloNumbers) (fault : UacpFault) (code : Status) (client next : Client) (old new : List ℕ) (result : Result Turn ServeFault) → Ok numbers ≡ hello
+    → Err fault ≡ ack_of numbers → code ≡ code_of fault → RefusesTurn code result old new → (used : List Mark) × AnsweredHere (λ R. greeted (at client R) hello) used old new (ending_of result) next
+greet-ungranted hello numbers fault code client next old new result is granted told refuses =
+    let P : Result HelloNumbers UacpFault → Type 0 = λ h. (used : List Mark) × AnsweredHere (λ R. greeted (at client R) h) used old new (ending_of result) next in
+    let G : Result Ack UacpFault → Type 0 = λ a. (used : List Mark) × AnsweredHere (λ R. acknowledged (at client R) numbers a) used old new (ending_of result) next in
+    let Q : Status → Type 0 = λ c. RefusesTurn c result old new in
+    subst P is (subst G granted (here-refused (code_of fault) (at client) next old new result (λ R. refl) (subst Q told refuses)))
+
+pub greet-granted : (hello : Result HelloNumbers UacpFault) (numbers : HelloNumbers) (ack : Ack) (client next : Client) (old new : List ℕ) (result : Result Turn ServeFault) → Ok numbers ≡ hello → Ok ack ≡ ack_of numbers
+    → (used : List Mark) × AnsweredHere (λ R. acknowledged (at client R) numbers (Ok ack)) used old new (ending_of result) next
+    → (used : List Mark) × AnsweredHere (λ R. greeted (at client R) hello) used old new (ending_of result) next
+greet-granted hello numbers ack client next old new result is granted so =
+    let P : Result HelloNumbers UacpFault → Type 0 = λ h. (used : List Mark) × AnsweredHere (λ R. greeted (at client R) h) used old new (ending_of result) next in
+    let G : Result Ack UacpFault → Type 0 = λ a. (used : List Mark) × AnsweredHere (λ R. acknowledged (at client R) numbers a) used old new (ending_of result) next in
+    subst P is (subst G granted so)
+
+pub acknowledges : (hello : HelloNumbers) (ack : Ack) (client : Client) (state : State) (old new : List ℕ) → new ≡ old ++ acknowledge.canon ack → state ≡ fresh hello ack
+    → (used : List Mark) × AnsweredHere (λ R. acknowledged (at client R) hello (Ok ack)) used old new None (went client ack.receive_size (Some state) client.sessions)
+acknowledges hello ack client state old new made begins = (
+  Fine ∷ [],
+  record {
+    quiet = refl;
+    made = acknowledge.canon ack;
+    appended = made;
+    replies = λ R. record {
+      last = record { client = went client ack.receive_size (Some (fresh hello ack)) client.sessions; content = R };
+      content = refl;
+      goes = λ e. ap (λ (s : State). went client ack.receive_size (Some s) client.sessions) (sym begins);
+      does = record { does = λ later. refl };
+    };
+  },
+)
+
+-- ---- the channel
+
+pub opens : (state new_state : State) (request : OpenRequest) (now : Ticks) (client : Client) (old new : List ℕ) → new ≡ old ++ opened_chunk state.next request now → new_state ≡ record state { next = number_after state.next 1 }
+    → (used : List Mark) × AnsweredHere (λ R. opened (at client R) state request now) used old new None (went client client.limit (Some new_state) client.sessions)
+opens state new_state request now client old new made after = (
+  Fine ∷ [],
+  record {
+    quiet = refl;
+    made = opened_chunk state.next request now;
+    appended = made;
+    replies = λ R. record {
+      last = record { client = went client client.limit (Some (record state { next = number_after state.next 1 })) client.sessions; content = R };
+      content = refl;
+      goes = λ e. ap (λ (s : State). went client client.limit (Some s) client.sessions) (sym after);
+      does = record { does = λ later. refl };
+    };
+  },
+)
+
+-- nothing is written, and the connection goes on
+pub passes-by : (a : Store) (client : Client) (sessions : session.State) (state : State) (bytes : List ℕ)
+    → Answered a a (λ R. give (goes (standing_of client sessions R) [] (Some state))) nothing bytes bytes None (went client client.limit (Some state) sessions)
+passes-by a client sessions state bytes =
+    answered-here a (λ R. give (goes (standing_of client sessions R) [] (Some state))) [] bytes bytes None (went client client.limit (Some state) sessions)
+    (record {
+      quiet = refl;
+      made = [];
+      appended = sym (append-nil bytes);
+      replies = λ R. record { last = record { client = went client client.limit (Some state) sessions; content = R }; content = refl; goes = λ e. refl; does = record { does = λ later. refl } };
+    })
+
+-- the client closed its channel
+pub closes : (a : Store) (client next : Client) (sessions : session.State) (bytes : List ℕ)
+    → Answered a a (λ R. give (ends (standing_of client sessions R) [] (Ok Closed))) nothing bytes bytes (Some (Ok Closed)) next
+closes a client next sessions bytes =
+    answered-here a (λ R. give (ends (standing_of client sessions R) [] (Ok Closed))) [] bytes bytes (Some (Ok Closed)) next
+    (record {
+      quiet = refl;
+      made = [];
+      appended = sym (append-nil bytes);
+      replies = λ R. record { last = standing_of client sessions R; content = refl; goes = λ e. absurd cc; does = record { does = λ later. refl } };
+    })
+
+-- ---- messages
+
+-- what a service did, and then how that is told
+pub tells : (a b : Store) (site : Site) (client next : Client) (sessions : session.State) (state : State) (request : ℕ) (message : List ℕ) (now : Ticks) (ms vs : List Mark) (answer : Response × session.State)
+    (old new out : List ℕ) (ending : Option Ending) → faults_of vs ≡ [] → Acts a b ms (performed site now message sessions) answer → new ≡ old ++ out
+    → ((R S : Content) → Replies (told (standing_of client sessions R) state request message now (answer, S)) (marked vs) out ending next S)
+    → (used : List Mark) × Answered a b (λ R. responded site (standing_of client sessions R) state request message now) (marked used) old new ending next
+tells a b site client next sessions state request message now ms vs answer old new out ending quiet acts appended so = (
+  ms ++ vs,
+  record {
+    made = out;
+    appended = appended;
+    moves = record {
+      passes = subst (Passes a b) (sym (faults-append ms vs ∙ (ap (λ fs. faults_of ms ++ fs) quiet ∙ append-nil (faults_of ms)))) acts.passes;
+      acts = λ honest R held.
+          let s = acts.acts honest R held in
+          let f : Outcome → Answering = told (standing_of client sessions R) state request message now in
+          let r = so R s.0 in (
+            s.0,
+            record {
+              last = r.last;
+              content = r.content;
+              goes = r.goes;
+              does = does-then (by_marks (performed site now message sessions R)) f (marked ms) (marked vs) (answer, s.0) (record { out = out; ending = ending; state = r.last })
+                  (does-marked (performed site now message sessions R) ms (answer, s.0) s.1) r.does;
+            },
+            s.2,
+          );
+    };
+  },
+)
+
+-- a response was sent
+pub sends-response : (a b : Store) (site : Site) (client : Client) (sessions : session.State) (state new_state : State) (request : ℕ) (message : List ℕ) (now : Ticks) (handle : ℕ) (ms : List Mark) (response_told : Response) (left : session.State)
+    (old new body : List ℕ) → handle ≡ handle_of message → body ≡ response now (handle_of message) response_told → Acts a b ms (performed site now message sessions) (response_told, left)
+    → new ≡ old ++ message_bytes state request (fitted state now handle body) → new_state ≡ record state { next = number_after state.next (chunk_count state (fitted state now handle body)) }
+    → (used : List Mark) × Answered a b (λ R. responded site (standing_of client sessions R) state request message now) (marked used) old new None (went client client.limit (Some new_state) left)
+sends-response a b site client sessions state new_state request message now handle ms response_told left old new body is made acts appended after =
+    let text = fitted state now (handle_of message) (response now (handle_of message) response_told) in
+    let same : fitted state now handle body ≡ text = ap (λ (h : ℕ). fitted state now h body) is ∙ ap (λ (b : List ℕ). fitted state now (handle_of message) b) made in
+    tells a b site client (went client client.limit (Some new_state) left) sessions state request message now ms (Fine ∷ []) (response_told, left) old new (message_bytes state request text) None refl acts
+    (appended ∙ ap (λ (t : List ℕ). old ++ message_bytes state request t) same)
+    (λ R S. record {
+      last = record { client = went client client.limit (Some (record state { next = number_after state.next (chunk_count state text) })) left; content = S };
+      content = refl;
+      goes = λ e. ap (λ (s : State). went client client.limit (Some s) left) (sym (after ∙ ap (λ (t : List ℕ). let s : State = record state { next = number_after state.next (chunk_count state t) } in s) same));
+      does = record { does = λ later. refl };
+    })
+
+-- memory for the response was wanting, and that was told, or memory for that too
+pub sends-starved : (a b : Store) (site : Site) (client : Client) (sessions : session.State) (state new_state : State) (request : ℕ) (message : List ℕ) (now : Ticks) (handle : ℕ) (ms : List Mark) (answer : Response × session.State)
+    (old new : List ℕ) (result : Result Turn ServeFault) → handle ≡ handle_of message → Acts a b ms (performed site now message sessions) answer
+    → SendsTurn state request (service_fault now handle BAD_OUT_OF_MEMORY) result old new new_state
+    → (used : List Mark) × Answered a b (λ R. responded site (standing_of client sessions R) state request message now) (marked used) old new (ending_of result) (behind client result (Some new_state) answer.1)
+sends-starved a b site client sessions state new_state request message now handle ms answer old new (Ok turn) is acts sends =
+    let text = service_fault now (handle_of message) BAD_OUT_OF_MEMORY in
+    let same : service_fault now handle BAD_OUT_OF_MEMORY ≡ text = ap (λ (h : ℕ). service_fault now h BAD_OUT_OF_MEMORY) is in
+    let P : Turn → Type 0 = λ t. (used : List Mark) × Answered a b (λ R. responded site (standing_of client sessions R) state request message now) (marked used) old new (ending_of (Ok t)) (behind client (Ok t) (Some new_state) answer.1) in
+    subst P (sym sends.0)
+    (tells a b site client (went client client.limit (Some new_state) answer.1) sessions state request message now ms (Starved ∷ Fine ∷ []) answer old new (message_bytes state request text) None refl acts
+    (sends.1 ∙ ap (λ (t : List ℕ). old ++ message_bytes state request t) same)
+    (λ R S. record {
+      last = record { client = went client client.limit (Some (record state { next = number_after state.next (chunk_count state text) })) answer.1; content = S };
+      content = refl;
+      goes = λ e. ap (λ (s : State). went client client.limit (Some s) answer.1) (sym (sends.2 ∙ ap (λ (t : List ℕ). let s : State = record state { next = number_after state.next (chunk_count state t) } in s) same));
+      does = record { does = λ later. refl };
+    }))
+sends-starved a b site client sessions state new_state request message now handle ms answer old new (Err fault) is acts sends =
+    let P : ServeFault → Type 0 = λ f. (used : List Mark) × Answered a b (λ R. responded site (standing_of client sessions R) state request message now) (marked used) old new (ending_of (Err f)) (behind client (Err f) (Some new_state) answer.1) in
+    subst P (sym sends.0)
+    (tells a b site client (behind client (Err OutOfMemory) (Some new_state) answer.1) sessions state request message now ms (Starved ∷ Starved ∷ []) answer old new [] (Some (Err OutOfMemory)) refl acts (sends.1 ∙ sym (append-nil old))
+    (λ R S. record { last = standing_of client answer.1 S; content = refl; goes = λ e. absurd cc; does = record { does = λ later. refl } }))
+
+-- ---- chunks
+
+-- what is known of a client but for its sessions
+pub behind-same : (client : Client) (channel : Option State) (sessions left : session.State) (result : Result Turn ServeFault) → behind (record client { sessions = sessions }) result channel left ≡ behind client result channel left
+behind-same client channel sessions left (Ok Waits) = refl
+behind-same client channel sessions left (Ok (Greets limit)) = refl
+behind-same client channel sessions left (Ok Goes) = refl
+behind-same client channel sessions left (Ok (Ends served)) = refl
+behind-same client channel sessions left (Err fault) = refl
+
+pub behind-channel : (client : Client) (old channel : Option State) (left : session.State) (result : Result Turn ServeFault) → behind (record client { channel = old }) result channel left ≡ behind client result channel left
+behind-channel client old channel left (Ok Waits) = refl
+behind-channel client old channel left (Ok (Greets limit)) = refl
+behind-channel client old channel left (Ok Goes) = refl
+behind-channel client old channel left (Ok (Ends served)) = refl
+behind-channel client old channel left (Err fault) = refl
+
+-- a chunk came where there is no channel
+pub unopened : (a : Store) (site : Site) (client next : Client) (sessions : session.State) (channel : Option State) (piece : Piece) (code : Status) (old new : List ℕ) (result : Result Turn ServeFault) → channel ≡ None
+    → code ≡ BAD_TCP_MESSAGE_TYPE_INVALID → RefusesTurn code result old new
+    → (used : List Mark) × Answered a a (λ R. tried_on site (standing_of client sessions R) channel piece) (marked used) old new (ending_of result) next
+unopened a site client next sessions channel piece code old new result is told refuses =
+    let Q : Status → Type 0 = λ c. RefusesTurn c result old new in
+    let P : Option State → Type 0 = λ c. (used : List Mark) × Answered a a (λ R. tried_on site (standing_of client sessions R) c piece) (marked used) old new (ending_of result) next in
+    let h = here-refused BAD_TCP_MESSAGE_TYPE_INVALID (standing_of client sessions) next old new result (λ R. refl) (subst Q told refuses) in
+    subst P (sym is) (
+      Fine ∷ h.0,
+      answered-here a (λ R. tried_on site (standing_of client sessions R) None piece) (Fine ∷ h.0) old new (ending_of result) next
+          (here-fine (λ R. refuse (standing_of client sessions R) BAD_TCP_MESSAGE_TYPE_INVALID) (λ R. refuse (standing_of client sessions R) BAD_OUT_OF_MEMORY) h.0 old new (ending_of result) next h.1),
+    )
 
 -- a chunk that isn't taken
-pub placed-refused : (state new : State) (piece : Piece) (fault : ChannelFault) → RefusesChunk state piece fault new → Does (answered_placed state (judged state.heard piece)) [] (refused (channel.code_of fault))
-placed-refused state new piece fault.OutOfMemory refuses = rw refuses.0.1 (kept-none (kept_of refuses.0.0) _ (some_kept refuses.0.0 refuses.0.2))
-placed-refused state new piece fault refuses = rw refuses.0 (record { used = []; does = λ later. refl })
-
-refuses-same : (standing : Standing) (later : Outside Mark) (out : List ℕ) (o : List ℕ) (a : Ending) (b : Ending) → o ≡ out → a ≡ b
-    → ◌≡◌ {A = Reply Standing Ending × Outside Mark} (reply_with standing o (Some a), later) (reply_with standing out (Some b), later)
-refuses-same standing later out o a b e f =
-    ap (λ (x : List ℕ). (reply_with standing x (Some a), later)) e ∙ ap (λ (x : Ending). (reply_with standing out (Some x), later)) f
-
--- a refusal is made, or memory for it is wanting
-pub does-refuse : (standing : Standing) (code : ℕ) (out : List ℕ) (ending : Ending) → Refuses code out ending → Does (refuse standing code) [] (reply_with standing out (Some ending))
-does-refuse standing code out (Ok served) so = record { used = fine ∷ []; does = λ later. refuses-same standing later out (error.canon code) (Ok (Refused code)) (Ok served) (sym so.1) (ap Ok (sym so.0)) }
-does-refuse standing code out (Err fault) so = record { used = no_memory ∷ []; does = λ later. refuses-same standing later out [] (Err Starved) (Err fault) (sym so.1) (ap Err (sym so.0)) }
-
--- memory for what stands first is there
-does-fine : (standing : Standing) (item : Item) (readings : List ℤ) (reply : Reply Standing Ending) → Does (answer_taken standing item) readings reply → Does (answer standing item) readings reply
-does-fine standing item readings reply so = record { used = fine ∷ so.used; does = so.does }
-
--- memory for what stands first is wanting
-does-starved : (standing : Standing) (item : Item) (reply : Reply Standing Ending) → Does (refuse standing (code_of OutOfMemory)) [] reply → Does (answer standing item) [] reply
-does-starved standing item reply so = record { used = no_memory ∷ so.used; does = so.does }
-
-does-piece : (standing : Standing) (piece : Piece) (readings : List ℤ) (what : Granted) (reply : Reply Standing Ending) → (standing.connection.taken == 1000000) ≡ false
-    → Does (granted standing.connection.channel piece) readings what → Does (concluded standing what) [] reply → Does (answer_taken standing (whole piece)) readings reply
-does-piece standing piece readings what reply few grants concludes =
-    let so = does-last (granted standing.connection.channel piece) (concluded standing) what reply readings grants concludes in
-    record { used = so.used; does = λ later. rw few (so.does later) }
-
-does-many : (standing : Standing) (piece : Piece) → (standing.connection.taken == 1000000) ≡ true → Does (answer_taken standing (whole piece)) [] (reply_with standing [] (Some (Err TooLong)))
-does-many standing piece many = record { used = []; does = λ later. rw many refl }
-
--- ---- what the intake gave
-
-whole_next : (held : Held) → held.failed ≡ None → next_of held ≡ cut held.greeted held.limit held.waiting
-whole_next held unfailed = ap (λ o. next_or o (cut held.greeted held.limit held.waiting)) unfailed
-
--- a chunk that was given out is answered by what the steps do
-chunk-answers : (held : Held) (connection : Connection) (chunk : Chunk) (readings : List ℤ) (reply : Reply Standing Ending) → held.failed ≡ None → Gives held (Ok (Some chunk))
-    → Does (answer_taken (sees held connection) (whole (piece_of chunk))) readings reply
-    → (more : List ℕ) → Answers chunks (sees held connection) (held.waiting ++ more) readings reply (drop (8 + length chunk.body.now) held.waiting ++ more)
-chunk-answers held connection chunk readings reply unfailed gives does more =
-    let header : Header = record { kind = chunk.kind; letter = chunk.letter; size = 8 + length chunk.body.now } in
-    let standing = sees held connection in
-    let stands = chunk-stands standing held.waiting more header (sym (whole_next held unfailed) ∙ gives.0) in
-    let item : Item = whole (record { kind = chunk.kind; letter = chunk.letter; body = drop 8 (take header.size held.waiting) }) in
-    let P : List ℕ → Type 0 = λ body. Does (answer_taken standing (whole (record { kind = chunk.kind; letter = chunk.letter; body = body }))) readings reply in
-    let Q : List ℕ → Type 0 = λ rest. Answers chunks standing (held.waiting ++ more) readings reply rest in
-    subst Q stands.1 (answers-item chunks falls standing (held.waiting ++ more) (item, header.size) readings reply stands.0 (does-fine standing item readings reply (subst P gives.2 does)))
-
-pub few_test : (taken : ℕ) → taken ≢ 1000000 → (taken == 1000000) ≡ false
-few_test taken few = grind (arith, nat_tests)
-
--- a chunk that goes on
-goes-so : (held : Held) (connection : Connection) (chunk : Chunk) (readings : List ℤ) (out : List ℕ) (limit : Option ℕ) (channel : Option State) (rest : List ℕ) → held.failed ≡ None
-    → Gives held (Ok (Some chunk)) → connection.taken ≢ 1000000 → Does (granted connection.channel (piece_of chunk)) readings (goes out limit channel)
-    → rest ≡ drop (8 + length chunk.body.now) held.waiting → AnswersSo (sees held connection) held.waiting readings out (gone (sees held connection) limit channel) rest
-goes-so held connection chunk readings out limit channel rest unfailed gives few grants left = λ more.
-    let standing = sees held connection in
-    let reply = reply_with (gone standing limit channel) out None in
-    let P : List ℕ → Type 0 = λ r. Answers chunks standing (held.waiting ++ more) readings reply (r ++ more) in
-    subst P (sym left) (chunk-answers held connection chunk readings reply unfailed gives
-    (does-piece standing (piece_of chunk) readings (goes out limit channel) reply (few_test connection.taken few) grants (record { used = []; does = λ later. refl })) more)
-
--- a chunk that ends the connection
-ends-so : (held : Held) (connection : Connection) (chunk : Chunk) (readings : List ℤ) (what : Granted) (out : List ℕ) (ending : Ending) → held.failed ≡ None
-    → Gives held (Ok (Some chunk)) → connection.taken ≢ 1000000 → Does (granted connection.channel (piece_of chunk)) readings what
-    → Does (concluded (sees held connection) what) [] (reply_with (sees held connection) out (Some ending)) → EndsSo (sees held connection) held.waiting readings out ending
-ends-so held connection chunk readings what out ending unfailed gives few grants concludes = λ more.
-    let standing = sees held connection in
-    let reply = reply_with standing out (Some ending) in
-    (standing, _, chunk-answers held connection chunk readings reply unfailed gives (does-piece standing (piece_of chunk) readings what reply (few_test connection.taken few) grants concludes) more)
-
--- a chunk that was granted something
-pub chunk-grants : (held : Held) (connection : Connection) (chunk : Chunk) (readings : List ℤ) (what : Grant) (out : List ℕ) (channel : Option State) (rest : List ℕ) → held.failed ≡ None
-    → Gives held (Ok (Some chunk)) → connection.taken ≢ 1000000 → Does (granted connection.channel (piece_of chunk)) readings (granted_as what out channel) → IsClean what out
-    → rest ≡ drop (8 + length chunk.body.now) held.waiting → Grants (sees held connection) held.waiting readings out what channel rest
-chunk-grants held connection chunk readings (grant.Greeted limit) out channel rest unfailed gives few grants clean left = goes-so held connection chunk readings out (Some limit) channel rest unfailed gives few grants left
-chunk-grants held connection chunk readings grant.Answered out channel rest unfailed gives few grants clean left = goes-so held connection chunk readings out None channel rest unfailed gives few grants left
-chunk-grants held connection chunk readings grant.Closed out channel rest unfailed gives few grants clean left =
-    (clean, ends-so held connection chunk readings closed [] (Ok Closed) unfailed gives few grants (record { used = []; does = λ later. refl }))
-chunk-grants held connection chunk readings (grant.Refused code) out channel rest unfailed gives few grants clean left =
-    (clean, λ made ending refuses. ends-so held connection chunk readings (refused code) made ending unfailed gives few grants (does-refuse (sees held connection) code made ending refuses))
-chunk-grants held connection chunk readings grant.Starved out channel rest unfailed gives few grants clean left =
-    (clean, ends-so held connection chunk readings starved [] (Err Starved) unfailed gives few grants (record { used = []; does = λ later. refl }))
-
--- a chunk too many
-pub many-ends : (held : Held) (connection : Connection) (chunk : Chunk) → held.failed ≡ None → Gives held (Ok (Some chunk)) → (connection.taken == 1000000) ≡ true
-    → EndsSo (sees held connection) held.waiting [] [] (Err TooLong)
-many-ends held connection chunk unfailed gives many = λ more.
-    let standing = sees held connection in
-    (standing, _, chunk-answers held connection chunk [] (reply_with standing [] (Some (Err TooLong))) unfailed gives (does-many standing (piece_of chunk) many) more)
-
--- a fault that stands in a chunk's place
-pub fault-ends : (held : Held) (connection : Connection) (fault : UacpFault) → held.failed ≡ None → Gives held (Err fault) → EndsRefused (sees held connection) held.waiting [] (code_of fault)
-fault-ends held connection fault unfailed gives = λ out ending refuses more.
-    let standing = sees held connection in
-    let stands = fault-stands standing held.waiting more fault (sym (whole_next held unfailed) ∙ gives) in (
-      standing,
-      _,
-      answers-item chunks falls standing (held.waiting ++ more) (ill fault, length (held.waiting ++ more)) [] (reply_with standing out (Some ending)) stands
-          (does-fine standing (ill fault) [] _ (does-refuse standing (code_of fault) out ending refuses)),
+refused-by : (a : Store) (site : Site) (client next : Client) (sessions : session.State) (state new_state : State) (piece : Piece) (fault : ChannelFault) (old new : List ℕ) (result : Result Turn ServeFault)
+    → RefusesChunk state piece fault new_state → RefusesTurn (channel.code_of fault) result old new
+    → (used : List Mark) × Answered a a (λ R. tried_on site (standing_of client sessions R) (Some state) piece) (marked used) old new (ending_of result) next
+refused-by a site client next sessions state new_state piece fault.OutOfMemory old new result refuses sends =
+    let f : Content → Answering = λ R. answered_on site (standing_of client sessions R) (Some state) piece in
+    let h = here-memory f (standing_of client sessions) next old new result (λ R. refl) sends in
+    (h.0, answered-here a (λ R. tried_on site (standing_of client sessions R) (Some state) piece) h.0 old new (ending_of result) next h.1)
+refused-by a site client next sessions state new_state piece fault old new result refuses sends =
+    let h = here-refused (channel.code_of fault) (standing_of client sessions) next old new result (λ R. refl) sends in
+    let G : Result Placed ChannelFault → Type 0 = λ j. AnsweredHere (λ R. answered_placed site (standing_of client sessions R) state j) h.0 old new (ending_of result) next in (
+      Fine ∷ h.0,
+      answered-here a (λ R. tried_on site (standing_of client sessions R) (Some state) piece) (Fine ∷ h.0) old new (ending_of result) next
+          (here-fine (λ R. answered_on site (standing_of client sessions R) (Some state) piece) (λ R. refuse (standing_of client sessions R) BAD_OUT_OF_MEMORY) h.0 old new (ending_of result) next (subst G (sym refuses.0) h.1)),
     )
 
--- memory for bytes that came is wanting
-pub starved-ends : (standing : Standing) (bytes : List ℕ) → 0 < length bytes → EndsRefused standing bytes [] (code_of OutOfMemory)
-starved-ends standing bytes some = λ out ending refuses more.
-    let item = found (bytes ++ more) (cut standing.greeted standing.limit (bytes ++ more)) in (
-      standing,
-      _,
-      answers-item chunks falls standing (bytes ++ more) item [] (reply_with standing out (Some ending)) (next-some standing (bytes ++ more) (some_more bytes more some))
-          (does-starved standing item.0 _ (does-refuse standing (code_of OutOfMemory) out ending refuses)),
-    )
+pub untaken : (a : Store) (site : Site) (client next : Client) (sessions : session.State) (channel_old : Option State) (state new_state : State) (piece : Piece) (fault : ChannelFault) (code : Status) (old new : List ℕ) (result : Result Turn ServeFault)
+    → channel_old ≡ Some state → RefusesChunk state piece fault new_state → code ≡ channel.code_of fault → RefusesTurn code result old new
+    → (used : List Mark) × Answered a a (λ R. tried_on site (standing_of client sessions R) channel_old piece) (marked used) old new (ending_of result) next
+untaken a site client next sessions channel_old state new_state piece fault code old new result is refuses told sends =
+    let Q : Status → Type 0 = λ c. RefusesTurn c result old new in
+    let P : Option State → Type 0 = λ c. (used : List Mark) × Answered a a (λ R. tried_on site (standing_of client sessions R) c piece) (marked used) old new (ending_of result) next in
+    subst P (sym is) (refused-by a site client next sessions state new_state piece fault old new result refuses (subst Q told sends))
 
-max-below : (limit : ℕ) → limit ≤ 65536 → max limit 4128 ≤ 65536
-max-below limit small = omega arith
+-- a chunk that is taken
+pub taken-answered : (a b : Store) (site : Site) (client next : Client) (sessions : session.State) (channel_old : Option State) (state new_state : State) (piece : Piece) (come : Taken) (used : Outside) (old new : List ℕ) (ending : Option Ending)
+    → channel_old ≡ Some state → TakesChunk state piece (Ok come) new_state → Answered a b (λ R. answered_come site (standing_of client sessions R) new_state come) used old new ending next
+    → Answered a b (λ R. tried_on site (standing_of client sessions R) channel_old piece) (before (marked (Fine ∷ [])) used) old new ending next
+taken-answered a b site client next sessions channel_old state new_state piece come used old new ending is takes so =
+    let placed = takes.0 in
+    let P : Option State → Type 0 = λ c. Answered a b (λ R. tried_on site (standing_of client sessions R) c piece) (before (marked (Fine ∷ [])) used) old new ending next in
+    let A : State → Type 0 = λ s. Answered a b (λ R. answered_come site (standing_of client sessions R) s come) used old new ending next in
+    let B : Taken → Type 0 = λ t. Answered a b (λ R. answered_come site (standing_of client sessions R) (record state { heard = heard_after state.heard placed }) t) used old new ending next in
+    let G : Result Placed ChannelFault → Type 0 = λ j. Answered a b (λ R. answered_placed site (standing_of client sessions R) state j) used old new ending next in
+    subst P (sym is)
+    (answered-fine a b (λ R. answered_on site (standing_of client sessions R) (Some state) piece) (λ R. refuse (standing_of client sessions R) BAD_OUT_OF_MEMORY) used old new ending next
+    (subst G (sym takes.1) (subst B takes.2 (subst A takes.3 so))))
 
--- what is left once a chunk was given out
-pub left-waiting : (held new : Held) (chunk : Chunk) → Gives held (Ok (Some chunk)) → new ≡ after_next held (next_of held) → new.waiting ≡ drop (8 + length chunk.body.now) held.waiting
-left-waiting held new chunk gives is = ap (λ (h : Held). h.waiting) (is ∙ ap (after_next held) gives.0)
+-- any chunk, where no answer of the greeting stands behind a channel's
+pub tried-hello : (a : Store) (site : Site) (client next other : Client) (sessions : session.State) (kind : Kind) (piece : Piece) (body : List ℕ) (used : List Mark) (old new : List ℕ) (ending : Option Ending) → piece.kind ≡ Hello
+    → piece.body ≡ body → next ≡ other → AnsweredHere (λ R. greeted (standing_of client sessions R) (hello_at body)) used old new ending next
+    → Answered a a (λ R. tried site (standing_of client sessions R) piece) (before (marked (Fine ∷ [])) (marked used)) old new ending other
+tried-hello a site client next other sessions kind piece body used old new ending is same to h =
+    let P : Kind → Type 0 = λ k. Answered a a (λ R. made (answered_piece site (standing_of client sessions R) k piece) (refuse (standing_of client sessions R) BAD_OUT_OF_MEMORY)) (before (marked (Fine ∷ [])) (marked used)) old new ending other in
+    let Q : List ℕ → Type 0 = λ b. AnsweredHere (λ R. greeted (standing_of client sessions R) (hello_at b)) used old new ending next in
+    let f : Content → Answering = λ R. greeted (standing_of client sessions R) (hello_at piece.body) in
+    let g : Content → Answering = λ R. refuse (standing_of client sessions R) BAD_OUT_OF_MEMORY in
+    subst P (sym is)
+    (answered-client a a (λ R. made (f R) (g R)) (before (marked (Fine ∷ [])) (marked used)) old new ending next other to
+    (answered-fine a a f g (marked used) old new ending next (answered-here a f used old new ending next (subst Q (sym same) h))))
 
--- a chunk that was given out has 24 bytes at least, and 65,536 at most
-pub gives-one : (held new : Held) (chunk : Chunk) → Gives held (Ok (Some chunk)) → new ≡ after_next held (next_of held) → held.failed ≡ None → held.limit ≤ 65536 → GivesOne held new
-gives-one held new chunk gives is unfailed small =
-    let now = is ∙ ap (after_next held) gives.0 in
-    let left = ap (length {A = ℕ}) (left-waiting held new chunk gives is) in
-    let within = gives.1 in
-    let most = max-below held.limit small in
-    record {
-      greeted = ap (λ (h : Held). h.greeted) now;
-      limit = ap (λ (h : Held). h.limit) now;
-      failed = ap (λ (h : Held). h.failed) now ∙ unfailed;
-      less = (omega (arith, length-drop (8 + length chunk.body.now) held.waiting, within.0, within.1), omega (arith, length-drop (8 + length chunk.body.now) held.waiting, within.0, within.1, within.2));
-    }
+tried-same : (site : Site) (standing : Standing) (kind : Kind) (piece : Piece) → (kind ≡ Hello → ⊥) → answered_piece site standing kind piece ≡ answered_on site standing standing.client.channel piece
+tried-same site standing Hello piece other = absurd (other refl)
+tried-same site standing Open piece other = refl
+tried-same site standing Close piece other = refl
+tried-same site standing Message piece other = refl
 
-pub leaves-one : (held new : Held) (what : Grant) → GivesOne held new → LeavesOne what held new
-leaves-one held new (grant.Greeted limit) one = one
-leaves-one held new grant.Answered one = one
-leaves-one held new grant.Closed one = tt
-leaves-one held new (grant.Refused code) one = tt
-leaves-one held new grant.Starved one = tt
-
-pub counted-one : (taken : ℕ) (what : Grant) → taken < 1000000 → IsSmall what → IsCountedChunk taken what
-counted-one taken (grant.Greeted limit) few small = (few, small)
-counted-one taken grant.Answered few small = few
-counted-one taken grant.Closed few small = tt
-counted-one taken (grant.Refused code) few small = tt
-counted-one taken grant.Starved few small = tt
-
--- ---- the intake and the connection after a chunk
-
-standing_same : (held new : Held) (limit : ℕ) (given : Option ℕ) (old connection : Connection) (channel : Option State) → new.greeted ≡ true → new.limit ≡ limit → limit ≡ limit_or held.limit given
-    → connection ≡ record { channel = channel; taken = old.taken + 1 } → gone (sees held old) given channel ≡ sees new connection
-standing_same held new limit given old connection channel greeted is granted counted =
-    ap (λ (b : Bool). let s : Standing = record { greeted = b; limit = limit_or held.limit given; connection = record { channel = channel; taken = old.taken + 1 } } in s) (sym greeted)
-    ∙ ap (λ (n : ℕ). let s : Standing = record { greeted = new.greeted; limit = n; connection = record { channel = channel; taken = old.taken + 1 } } in s) (sym granted ∙ sym is)
-    ∙ ap (λ (c : Connection). sees new c) (sym counted)
-
-pub goes-sees : (held middle new : Held) (given : Option ℕ) (old connection : Connection) (channel : Option State) (readings : List ℤ) (out : List ℕ) → middle.greeted ≡ true
-    → new ≡ record middle { limit = limit_or held.limit given } → connection ≡ record { channel = channel; taken = old.taken + 1 }
-    → AnswersSo (sees held old) held.waiting readings out (gone (sees held old) given channel) middle.waiting → AnswersSo (sees held old) held.waiting readings out (sees new connection) new.waiting
-goes-sees held middle new given old connection channel readings out greeted set counted so =
-    let waits : new.waiting ≡ middle.waiting = ap (λ (h : Held). h.waiting) set in
-    let same = standing_same held new (limit_or held.limit given) given old connection channel (ap (λ (h : Held). h.greeted) set ∙ greeted) (ap (λ (h : Held). h.limit) set) refl counted in
-    let P : Standing → Type 0 = λ s. AnswersSo (sees held old) held.waiting readings out s middle.waiting in
-    let Q : List ℕ → Type 0 = λ w. AnswersSo (sees held old) held.waiting readings out (sees new connection) w in
-    subst Q (sym waits) (subst P same so)
+pub tried-other : (a b : Store) (site : Site) (client next : Client) (sessions : session.State) (piece : Piece) (used : Outside) (old new : List ℕ) (ending : Option Ending) → (piece.kind ≡ Hello → ⊥)
+    → Answered a b (λ R. tried_on site (standing_of client sessions R) client.channel piece) used old new ending next → Answered a b (λ R. tried site (standing_of client sessions R) piece) used old new ending next
+tried-other a b site client next sessions piece used old new ending other h =
+    let f : Content → Answering = λ R. tried_on site (standing_of client sessions R) client.channel piece in
+    let g : Content → Answering = λ R. tried site (standing_of client sessions R) piece in
+    answered-by a b f g used used old new ending next refl
+    (λ R r does.
+    let D : Answering → Type 0 = λ m. Does (made m (refuse (standing_of client sessions R) BAD_OUT_OF_MEMORY)) used r in
+    subst D (sym (tried-same site (standing_of client sessions R) piece.kind piece other)) does) h

@@ -103,7 +103,7 @@ sent standing state request body = goes standing (message_bytes state request bo
 -- what a message comes to is told by its response; where memory for that is wanting, by a ServiceFault that says so; and what was done stands
 abbrev pub told : Standing → State → ℕ → List ℕ → Ticks → Outcome → Answering
 told standing state request message now outcome =
-    let new = record { client = record standing.client { sessions = outcome.0.1 }; content = outcome.1 } in
+    let new : Standing = record { client = record standing.client { sessions = outcome.0.1 }; content = outcome.1 } in
     let handle = handle_of message in
     made (give (sent new state request (fitted state now handle (response now handle outcome.0.0))))
     (made (give (sent new state request (service_fault now handle BAD_OUT_OF_MEMORY))) (give (ends new [] (Err OutOfMemory))))
@@ -133,6 +133,14 @@ answered_on site standing (Some state) piece = answered_placed site standing sta
 abbrev pub answered_piece : Site → Standing → Kind → Piece → Answering
 answered_piece site standing Hello piece = greeted standing (hello_at piece.body)
 answered_piece site standing kind piece = answered_on site standing standing.client.channel piece
+
+-- memory for a chunk of the channel is had, and it is answered; or it is wanting
+abbrev pub tried_on : Site → Standing → Option State → Piece → Answering
+tried_on site standing channel piece = made (answered_on site standing channel piece) (refuse standing BAD_OUT_OF_MEMORY)
+
+-- the same of any chunk
+abbrev pub tried : Site → Standing → Piece → Answering
+tried site standing piece = made (answered_piece site standing piece.kind piece) (refuse standing BAD_OUT_OF_MEMORY)
 
 -- ---- connections
 

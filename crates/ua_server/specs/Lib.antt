@@ -2,13 +2,8 @@ pub mod Tally
 pub mod Bytes
 pub mod Outcome
 pub mod Readings
+pub mod Given
 pub mod Run
-pub mod Marks
-pub mod Requests
-pub mod Granted
-pub mod Replies
+pub mod Client
 pub mod Turns
 pub mod Serving
-pub mod Hexed
-pub mod Line
-pub mod Program

@@ -1,151 +1,147 @@
--- What the server's steps come to, whatever bytes follow those that are at hand.
-use Rattle.std.specs.Prelude.{◌≡◌, ◌≤◌, ◌<◌, ◌+◌, ◌*◌, ℕ, ℤ, List, [], ◌++◌, length, Option, None, Some, Result, Ok, Err, true}
-use Rattle.std.specs.Io.KnownBytes.{Appends}
-use Rattle.ua_server.specs.Bytes.{AppendsPart}
-use Rattle.uacp.specs.Held.{Held}
-use Rattle.uacp.specs.Greeting.{error}
+-- What the server's steps come to.
+use Rattle.std.specs.Prelude.{◌≡◌, ◌≤◌, ◌<◌, ◌+◌, ◌*◌, ℕ, Bool, true, List, [], ◌++◌, length, Option, None, Some, Result, Ok, Err}
+use Rattle.std.specs.Io.KnownBytes.{Appends, Consumes}
+use Rattle.ua_binary.specs.declared.codes.Status.{Status}
+use Rattle.uacp.specs.Held.{Held, next_of}
 use Rattle.uacp.specs.Chunks.{cut}
+use Rattle.uacp.specs.Greeting.{error}
 use Rattle.ua_channel.specs.Taking.{State}
+use Rattle.ua_channel.specs.Sending.{message_bytes, chunk_count, number_after}
+use Rattle.ua_session.specs.Sessions as session
+use Rattle.ua_settings.specs.Settings.{Values}
+use Rattle.records.specs.Contents.{Content}
+use Rattle.archive.specs.Store.{Store, Mark, faults_of}
+use Rattle.archive.specs.Steps.{Moves}
+use Rattle.historian.specs.Services.{Site, site_of}
 use Rattle.ua_server.specs.declared.outcome.Served.{Served}
-use Rattle.ua_server.specs.declared.outcome.Served.TheVariants.{Closed, Refused}
+use Rattle.ua_server.specs.declared.outcome.Served.TheVariants.{EndOfInput, Closed, Refused}
 use Rattle.ua_server.specs.declared.outcome.ServeFault.{ServeFault}
 use Rattle.ua_server.specs.declared.outcome.ServeFault.TheVariants.{Read, Write, TooLong, OutOfMemory}
-use Rattle.ua_server.specs.declared.connection.Connection.{Connection}
-use Rattle.ua_server.specs.declared.granting.Grant.{Grant}
-use Rattle.ua_server.specs.declared.granting.Grant.TheVariants as grant
-use Rattle.ua_server.specs.declared.connection.Taken.{Taken}
-use Rattle.ua_server.specs.declared.connection.Taken.TheVariants.{Nothing, TooMany, Came}
-use Rattle.ua_server.specs.declared.connection.Turn.{Turn}
-use Rattle.ua_server.specs.declared.connection.Turn.TheVariants.{Waits, Goes, Ends}
+use Rattle.ua_server.specs.declared.turn.Turn.{Turn}
+use Rattle.ua_server.specs.declared.turn.Turn.TheVariants.{Waits, Greets, Goes, Ends}
+use Rattle.ua_server.specs.Given.{Outside, Does}
 use Rattle.ua_server.specs.Run.{Reply, Answers}
-use Rattle.ua_server.specs.Granted.{Granted, goes, closed, refused, starved}
-use Rattle.ua_server.specs.Replies.{Standing, Ending, chunks, gone, reply_with}
+use Rattle.ua_server.specs.Client.{Client, new_client, Standing, Ending, Answering, chunks, goes}
 
-abbrev pub sees : Held → Connection → Standing
-sees held connection = record { greeted = held.greeted; limit = held.limit; connection = connection }
+-- what a connection keeps: what is known of its client, and the bytes that came and weren't answered yet
+pub record Link : Type 0 where
+  pub client : Client
+  pub waiting : List ℕ
 
--- no whole chunk and no fault stands there
-abbrev pub IsShort : Standing → List ℕ → Type 0
-IsShort standing bytes = cut standing.greeted standing.limit bytes ≡ Ok None
+-- no whole chunk and no fault stands first
+abbrev pub IsShort : Link → Type 0
+IsShort link = cut link.client.greeted link.client.limit link.waiting ≡ Ok None
 
--- whatever follows the bytes, they are answered so as far as the rest
-abbrev pub AnswersSo : Standing → List ℕ → List ℤ → List ℕ → Standing → List ℕ → Type 0
-AnswersSo standing bytes readings out new rest = (more : List ℕ) → Answers chunks standing (bytes ++ more) readings (reply_with new out None) (rest ++ more)
+-- 1,000,000 chunks at most were taken, each of 65,536 bytes at most
+abbrev pub IsSmall : Link → Type 0
+IsSmall link = (link.client.taken ≤ 1000000) × (link.client.limit ≤ 65536)
 
--- whatever follows the bytes, their answer is this and ends so
-abbrev pub EndsSo : Standing → List ℕ → List ℤ → List ℕ → Ending → Type 0
-EndsSo standing bytes readings out ending = (more : List ℕ) → (last : Standing) × (rest : List ℕ) × Answers chunks standing (bytes ++ more) readings (reply_with last out (Some ending)) rest
+-- what a connection keeps, by its intake, the number of chunks that were taken, its channel and its sessions
+abbrev pub link_of : Held → ℕ → Option State → session.State → Link
+link_of held taken channel sessions = record {
+  client = record { greeted = held.greeted; limit = held.limit; taken = taken; channel = channel; sessions = sessions };
+  waiting = held.waiting;
+}
 
--- whatever follows the bytes, their answer begins so
-abbrev pub BeginsSo : Standing → List ℕ → List ℤ → List ℕ → Type 0
-BeginsSo standing bytes readings sent = (more : List ℕ) → (reply : Reply Standing Ending) × (rest : List ℕ) × (unsent : List ℕ)
-    × Answers chunks standing (bytes ++ more) readings reply rest × (reply.out ≡ sent ++ unsent)
+-- ---- turns
 
--- an ERR with this code was made, or memory for it was wanting
-abbrev pub Refuses : ℕ → List ℕ → Ending → Type 0
-Refuses code out (Ok served) = (served ≡ Refused code) × (out ≡ error.canon code)
-Refuses code out (Err fault) = (fault ≡ OutOfMemory) × (out ≡ [])
+-- the end that a turn is, if it is one
+abbrev pub ending_of : Result Turn ServeFault → Option Ending
+ending_of (Ok Waits) = None
+ending_of (Ok (Greets limit)) = None
+ending_of (Ok Goes) = None
+ending_of (Ok (Ends served)) = Some (Ok served)
+ending_of (Err fault) = Some (Err fault)
 
--- the stream ends by an ERR with this code, or where memory for that is wanting
-abbrev pub EndsRefused : Standing → List ℕ → List ℤ → ℕ → Type 0
-EndsRefused standing bytes readings code = (out : List ℕ) (ending : Ending) → Refuses code out ending → EndsSo standing bytes readings out ending
+-- ends that answering makes itself; a greeting grants chunks of n bytes at most
+abbrev pub IsOwn : (waits : Type 0) → ℕ → Result Turn ServeFault → Type 0
+IsOwn waits n (Ok Waits) = waits
+IsOwn waits n (Ok (Greets limit)) = limit ≤ n
+IsOwn waits n (Ok Goes) = Unit {0}
+IsOwn waits n (Ok (Ends EndOfInput)) = ⊥
+IsOwn waits n (Ok (Ends served)) = Unit {0}
+IsOwn waits n (Err Read) = ⊥
+IsOwn waits n (Err Write) = ⊥
+IsOwn waits n (Err fault) = Unit {0}
 
--- ---- what a chunk was granted
+-- a chunk more was taken, later ones have this many bytes at most, and the channel and the sessions are these
+abbrev pub went : Client → ℕ → Option State → session.State → Client
+went client limit channel sessions = record { greeted = true; limit = limit; taken = client.taken + 1; channel = channel; sessions = sessions }
 
--- by what is told of it, the bytes that were made, and the channel after it
-abbrev pub granted_as : Grant → List ℕ → Option State → Granted
-granted_as (grant.Greeted limit) out channel = goes out (Some limit) channel
-granted_as grant.Answered out channel = goes out None channel
-granted_as grant.Closed out channel = closed
-granted_as (grant.Refused code) out channel = refused code
-granted_as grant.Starved out channel = starved
+-- the client behind a turn that is no end
+abbrev pub behind : Client → Result Turn ServeFault → Option State → session.State → Client
+behind client (Ok Waits) channel sessions = record client { channel = channel; sessions = sessions }
+behind client (Ok (Greets limit)) channel sessions = went client limit channel sessions
+behind client (Ok Goes) channel sessions = went client client.limit channel sessions
+behind client (Ok (Ends served)) channel sessions = record client { channel = channel; sessions = sessions }
+behind client (Err fault) channel sessions = record client { channel = channel; sessions = sessions }
 
--- nothing is made but an answer
-abbrev pub IsClean : Grant → List ℕ → Type 0
-IsClean (grant.Greeted limit) out = Unit {0}
-IsClean grant.Answered out = Unit {0}
-IsClean grant.Closed out = out ≡ []
-IsClean (grant.Refused code) out = out ≡ []
-IsClean grant.Starved out = out ≡ []
+-- a client with these sessions, and what the archive holds
+abbrev pub standing_of : Client → session.State → Content → Standing
+standing_of client sessions content = record { client = record client { sessions = sessions }; content = content }
 
--- chunks of at most 65,536 bytes are granted
-abbrev pub IsSmall : Grant → Type 0
-IsSmall (grant.Greeted limit) = limit ≤ 65536
-IsSmall grant.Answered = Unit {0}
-IsSmall grant.Closed = Unit {0}
-IsSmall (grant.Refused code) = Unit {0}
-IsSmall grant.Starved = Unit {0}
+-- ---- steps
 
--- a chunk that was granted this is answered so, and leaves the rest
-abbrev pub Grants : Standing → List ℕ → List ℤ → List ℕ → Grant → Option State → List ℕ → Type 0
-Grants standing bytes readings out (grant.Greeted limit) channel rest = AnswersSo standing bytes readings out (gone standing (Some limit) channel) rest
-Grants standing bytes readings out grant.Answered channel rest = AnswersSo standing bytes readings out (gone standing None channel) rest
-Grants standing bytes readings out grant.Closed channel rest = (out ≡ []) × EndsSo standing bytes readings [] (Ok Closed)
-Grants standing bytes readings out (grant.Refused code) channel rest = (out ≡ []) × EndsRefused standing bytes readings code
-Grants standing bytes readings out grant.Starved channel rest = (out ≡ []) × EndsSo standing bytes readings [] (Err OutOfMemory)
+-- By this, and no more, of the outside these bytes are made, and this end if there is one; then the archive holds S, and unless it is the end
+-- the client stands so.
+pub record Replies (given : Answering) (used : Outside) (made : List ℕ) (ending : Option Ending) (client : Client) (S : Content) : Type 0 where
+  pub last : Standing
+  pub content : last.content ≡ S
+  pub goes : ending ≡ None → last.client ≡ client
+  pub does : Does given used (record { out = made; ending = ending; state = last })
 
--- what stands first was taken and granted something, or not
-abbrev pub Takes : Standing → List ℕ → List ℤ → List ℕ → Taken → Option State → List ℕ → Type 0
-Takes standing bytes readings out Nothing channel rest = IsShort standing bytes × (out ≡ []) × (rest ≡ bytes) × (readings ≡ []) × (channel ≡ standing.connection.channel)
-Takes standing bytes readings out TooMany channel rest = (out ≡ []) × EndsSo standing bytes readings [] (Err TooLong)
-Takes standing bytes readings out (Came grant) channel rest = Grants standing bytes readings out grant channel rest
+-- these bytes were appended, by steps over an archive
+pub record Answered (old new : Store) (given : Content → Answering) (used : Outside) (before after : List ℕ) (ending : Option Ending) (client : Client) : Type 0 where
+  pub made : List ℕ
+  pub appended : after ≡ before ++ made
+  pub moves : Moves old new used.marks (λ R S. Replies (given R) used made ending client S)
 
--- what one turn came to
-abbrev pub Turned : Standing → List ℕ → List ℤ → List ℕ → Result Turn ServeFault → Standing → List ℕ → Type 0
-Turned standing bytes readings out (Ok Waits) new rest = IsShort standing bytes × (out ≡ []) × (new ≡ standing) × (rest ≡ bytes) × (readings ≡ [])
-Turned standing bytes readings out (Ok Goes) new rest = AnswersSo standing bytes readings out new rest
-Turned standing bytes readings out (Ok (Ends served)) new rest = EndsSo standing bytes readings out (Ok served)
-Turned standing bytes readings out (Err fault) new rest = (out ≡ []) × EndsSo standing bytes readings [] (Err fault)
+-- the same by steps that ask no archive
+pub record AnsweredHere (given : Content → Answering) (used : List Mark) (before after : List ℕ) (ending : Option Ending) (client : Client) : Type 0 where
+  pub quiet : faults_of used ≡ []
+  pub made : List ℕ
+  pub appended : after ≡ before ++ made
+  pub replies : (R : Content) → Replies (given R) (record { marks = used; readings = [] }) made ending client R
 
--- a fault that the answering itself makes is the answer's end; after one of the reader or the writer a first part went out
-abbrev pub FailsSo : Standing → List ℕ → List ℤ → List ℕ → ServeFault → Type 0
-FailsSo standing bytes readings out Read = BeginsSo standing bytes readings out
-FailsSo standing bytes readings out Write = BeginsSo standing bytes readings out
-FailsSo standing bytes readings out TooLong = EndsSo standing bytes readings out (Err TooLong)
-FailsSo standing bytes readings out OutOfMemory = EndsSo standing bytes readings out (Err OutOfMemory)
+-- ---- stretches of the answer
 
--- what the chunks at hand were answered
-abbrev pub Drains : Standing → List ℕ → List ℤ → List ℕ → Result (Option Served) ServeFault → Standing → List ℕ → Type 0
-Drains standing bytes readings out (Ok None) new rest = IsShort new rest × AnswersSo standing bytes readings out new rest
-Drains standing bytes readings out (Ok (Some served)) new rest = EndsSo standing bytes readings out (Ok served)
-Drains standing bytes readings out (Err fault) new rest = FailsSo standing bytes readings out fault
+-- by this, and no more, of the outside the answer to the bytes that wait begins with these bytes, and with this end if there is one; then the
+-- archive holds S, and unless it is the end the connection goes on like this
+pub record Reaches (site : Site) (link : Link) (R : Content) (used : Outside) (made : List ℕ) (ending : Option Ending) (next : Link) (S : Content) : Type 0 where
+  pub last : Standing
+  pub content : last.content ≡ S
+  pub goes : ending ≡ None → last.client ≡ next.client
+  pub answers : Answers (chunks site) (record { client = link.client; content = R }) link.waiting used (record { out = made; ending = ending; state = last }) next.waiting
 
--- known contents grew by the answers to the chunks at hand
-abbrev pub Drained : Option (List ℕ) → Option (List ℕ) → Standing → List ℕ → List ℤ → Result (Option Served) ServeFault → Standing → List ℕ → Type 0
-Drained old written standing bytes readings result new rest = (out : List ℕ) × Appends old written out × Drains standing bytes readings out result new rest
+-- a stretch of the answer over an archive
+abbrev pub Turned : Values → Store → Store → Link → Outside → List ℕ → Option Ending → Link → Type 0
+Turned settings old new link used made ending next = Moves old new used.marks (λ R S. Reaches (site_of settings old) link R used made ending next S)
 
--- the answers so far
-abbrev pub DrainsSoFar : Option (List ℕ) → Option (List ℕ) → Standing → List ℕ → List ℤ → Standing → List ℕ → Type 0
-DrainsSoFar old written standing bytes readings new rest = (out : List ℕ) × Appends old written out × AnswersSo standing bytes readings out new rest
+-- the same, where the bytes were appended
+abbrev pub TurnedInto : Values → Store → Store → Link → Outside → List ℕ → List ℕ → Option Ending → Link → Type 0
+TurnedInto settings old new link used before after ending next = (made : List ℕ) × (after ≡ before ++ made) × Turned settings old new link used made ending next
 
--- what was taken and what is left came to no less than before, as a chunk has at most 65,536 bytes
-abbrev pub IsNoLess : Standing → List ℕ → Standing → List ℕ → Type 0
-IsNoLess standing bytes new rest = 65536 * standing.connection.taken + length bytes ≤ 65536 * new.connection.taken + length rest
+-- ---- parts
 
--- the chunks so far are counted, and the next one has at most 65,536 bytes
-abbrev pub KeepsCount : Turn → ℕ → ℕ → ℕ → Type 0
-KeepsCount Waits taken after limit = (after ≡ taken) × (limit ≤ 65536)
-KeepsCount Goes taken after limit = (after ≡ taken + 1) × (limit ≤ 65536)
-KeepsCount (Ends served) taken after limit = Unit {0}
+-- an ERR with this code was appended, or memory for it was wanting
+abbrev pub Refuses : Status → Ending → List ℕ → List ℕ → Type 0
+Refuses code (Ok served) before after = (served ≡ Refused code) × (after ≡ before ++ error.canon code)
+Refuses code (Err fault) before after = (fault ≡ OutOfMemory) × (after ≡ before)
 
--- no fault has ended the intake
-abbrev pub KeepsWhole : Turn → Held → Type 0
-KeepsWhole Waits held = held.failed ≡ None
-KeepsWhole Goes held = held.failed ≡ None
-KeepsWhole (Ends served) held = Unit {0}
+abbrev pub RefusesTurn : Status → Result Turn ServeFault → List ℕ → List ℕ → Type 0
+RefusesTurn code (Ok turn) before after = (turn ≡ Ends (Refused code)) × (after ≡ before ++ error.canon code)
+RefusesTurn code (Err fault) before after = (fault ≡ OutOfMemory) × (after ≡ before)
 
--- a chunk that goes on is no chunk too many, and grants chunks of at most 65,536 bytes
-abbrev pub IsCountedChunk : ℕ → Grant → Type 0
-IsCountedChunk taken (grant.Greeted limit) = (taken < 1000000) × (limit ≤ 65536)
-IsCountedChunk taken grant.Answered = taken < 1000000
-IsCountedChunk taken grant.Closed = Unit {0}
-IsCountedChunk taken (grant.Refused code) = Unit {0}
-IsCountedChunk taken grant.Starved = Unit {0}
+-- a body was sent, or memory for it was wanting
+abbrev pub SendsTurn : State → ℕ → List ℕ → Result Turn ServeFault → List ℕ → List ℕ → State → Type 0
+SendsTurn old request body (Ok turn) before after new = (turn ≡ Goes) × (after ≡ before ++ message_bytes old request body) × (new ≡ record old { next = number_after old.next (chunk_count old body) })
+SendsTurn old request body (Err fault) before after new = (fault ≡ OutOfMemory) × (after ≡ before)
 
-abbrev pub IsCounted : ℕ → Taken → Type 0
-IsCounted taken Nothing = Unit {0}
-IsCounted taken TooMany = Unit {0}
-IsCounted taken (Came grant) = IsCountedChunk taken grant
+-- ---- what is left
+
+-- what an intake would give next is what stands first in the bytes that wait
+abbrev pub IsSound : Held → Type 0
+IsSound held = next_of held ≡ cut held.greeted held.limit held.waiting
 
 -- fewer bytes wait, by one chunk, which has at most 65,536
 abbrev pub IsChunkLess : List ℕ → List ℕ → Type 0
@@ -158,30 +154,76 @@ pub record GivesOne (old new : Held) : Type 0 where
   pub failed : new.failed ≡ None
   pub less : IsChunkLess old.waiting new.waiting
 
--- after a chunk that goes on
-abbrev pub LeavesOne : Grant → Held → Held → Type 0
-LeavesOne (grant.Greeted limit) old new = GivesOne old new
-LeavesOne grant.Answered old new = GivesOne old new
-LeavesOne grant.Closed old new = Unit {0}
-LeavesOne (grant.Refused code) old new = Unit {0}
-LeavesOne grant.Starved old new = Unit {0}
+-- what a turn leaves in the intake
+abbrev pub LeavesIntake : Result Turn ServeFault → Held → Held → Type 0
+LeavesIntake (Ok Waits) old new = new ≡ old
+LeavesIntake (Ok (Greets limit)) old new = GivesOne old new
+LeavesIntake (Ok Goes) old new = GivesOne old new
+LeavesIntake (Ok (Ends served)) old new = (new.limit ≡ old.limit) × IsSound new
+LeavesIntake (Err fault) old new = (new.limit ≡ old.limit) × IsSound new
 
--- what is left in the intake
-abbrev pub Leaves : Taken → Held → Held → Type 0
-Leaves Nothing old new = new ≡ old
-Leaves TooMany old new = Unit {0}
-Leaves (Came grant) old new = LeavesOne grant old new
+-- what was taken and what is left came to no less than before
+abbrev pub IsNoLess : Link → Link → Type 0
+IsNoLess old new = 65536 * old.client.taken + length old.waiting ≤ 65536 * new.client.taken + length new.waiting
 
--- a turn that goes on leaves a chunk less
-abbrev pub Shortens : Turn → List ℕ → List ℕ → Type 0
-Shortens Waits old new = new ≡ old
-Shortens Goes old new = IsChunkLess old new
-Shortens (Ends served) old new = Unit {0}
+-- a turn that goes on leaves fewer bytes
+abbrev pub Shortens : Result Turn ServeFault → Link → Link → Type 0
+Shortens (Ok Waits) old new = IsNoLess old new
+Shortens (Ok (Greets limit)) old new = (length new.waiting < length old.waiting) × IsNoLess old new
+Shortens (Ok Goes) old new = (length new.waiting < length old.waiting) × IsNoLess old new
+Shortens (Ok (Ends served)) old new = Unit {0}
+Shortens (Err fault) old new = Unit {0}
 
--- known contents grew by an ERR with this code, or a first part of it where the writer failed, or nothing where memory is wanting
-abbrev pub SendsRefusal : Option (List ℕ) → Option (List ℕ) → ℕ → Ending → Type 0
-SendsRefusal old written code (Ok served) = (served ≡ Refused code) × Appends old written (error.canon code)
-SendsRefusal old written code (Err Read) = ⊥
-SendsRefusal old written code (Err Write) = AppendsPart old written (error.canon code)
-SendsRefusal old written code (Err TooLong) = ⊥
-SendsRefusal old written code (Err OutOfMemory) = Appends old written []
+-- a chunk that goes on is no chunk too many
+abbrev pub IsCounted : ℕ → Result Turn ServeFault → Type 0
+IsCounted taken (Ok Waits) = Unit {0}
+IsCounted taken (Ok (Greets limit)) = taken < 1000000
+IsCounted taken (Ok Goes) = taken < 1000000
+IsCounted taken (Ok (Ends served)) = Unit {0}
+IsCounted taken (Err fault) = Unit {0}
+
+-- ---- what was written
+
+-- known contents grew by the answer to the chunks at hand; where the writer failed, by a first part of that
+abbrev pub DrainsTo : Values → Store → Store → Link → Outside → List ℕ → Result (Option Served) ServeFault → Link → Type 0
+DrainsTo settings old new link used out (Ok None) next = Turned settings old new link used out None next
+DrainsTo settings old new link used out (Ok (Some served)) next = Turned settings old new link used out (Some (Ok served)) next
+DrainsTo settings old new link used out (Err Write) next = (unsent : List ℕ) × (ending : Option Ending) × Turned settings old new link used (out ++ unsent) ending next
+DrainsTo settings old new link used out (Err fault) next = Turned settings old new link used out (Some (Err fault)) next
+
+abbrev pub Drained : Values → Store → Store → Option (List ℕ) → Option (List ℕ) → Link → Outside → Result (Option Served) ServeFault → Link → Type 0
+Drained settings old new before after link used result next = (out : List ℕ) × Appends before after out × DrainsTo settings old new link used out result next
+
+-- the answer so far, and what went out of it
+abbrev pub DrainedSoFar : Values → Store → Store → Option (List ℕ) → Option (List ℕ) → Link → Outside → Link → Type 0
+DrainedSoFar settings old new before after link used next = (out : List ℕ) × Appends before after out × Turned settings old new link used out None next
+
+-- ends of a stretch that answering makes itself
+abbrev pub IsOwnEnd : (waits : Type 0) → Result (Option Served) ServeFault → Type 0
+IsOwnEnd waits (Ok None) = waits
+IsOwnEnd waits (Ok (Some EndOfInput)) = ⊥
+IsOwnEnd waits (Ok (Some served)) = Unit {0}
+IsOwnEnd waits (Err Read) = ⊥
+IsOwnEnd waits (Err fault) = Unit {0}
+
+-- ---- the whole connection
+
+-- before the first chunk
+abbrev pub new_link : Link
+new_link = record { client = new_client; waiting = [] }
+
+-- by what was read so far, this was written, and the connection stands like this
+pub record ServesSoFar (settings : Values) (old new : Store) (unread left : Option (List ℕ)) (before after : Option (List ℕ)) (used : Outside) (link : Link) : Type 0 where
+  pub came : List ℕ
+  pub out : List ℕ
+  pub read : Consumes unread left came
+  pub written : Appends before after out
+  pub turned : Turned settings old new (record { client = new_client; waiting = came }) used out None link
+
+-- an ERR with this code was written, or a first part of it where the writer failed, or nothing where memory for it was wanting
+abbrev pub SendsRefusal : Option (List ℕ) → Option (List ℕ) → Status → Ending → Type 0
+SendsRefusal before after code (Ok served) = (served ≡ Refused code) × Appends before after (error.canon code)
+SendsRefusal before after code (Err Read) = ⊥
+SendsRefusal before after code (Err Write) = (sent unsent : List ℕ) × (error.canon code ≡ sent ++ unsent) × Appends before after sent
+SendsRefusal before after code (Err TooLong) = ⊥
+SendsRefusal before after code (Err OutOfMemory) = Appends before after []

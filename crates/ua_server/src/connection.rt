@@ -1,128 +1,145 @@
-//! One chunk after the other.
+//! A connection, one item after the other.
 
-ghost use Rattle.std.specs.Prelude.{◌≡◌, ◌≤◌, ℤ, List, [], None, IfOk, IsErrOf};
-ghost use Rattle.ua_server.specs.Turns.{sees, Refuses, Takes, Leaves, IsCounted, Turned, KeepsWhole, KeepsCount, Shortens};
+ghost use Rattle.std.specs.Prelude.{◌≡◌, ◌≤◌, ◌++◌, OnOk, OnErr};
+ghost use Rattle.ua_server.specs.Given.{Outside};
+ghost use Rattle.ua_server.specs.Client.{Client};
+ghost use Rattle.ua_server.specs.Turns.{Link, new_link, IsShort, IsSmall, IsOwn, IsSound, TurnedInto, LeavesIntake, Shortens, IsCounted, ending_of, behind, link_of};
 
+use crate::answering::answer_piece;
 use crate::clock::Clock;
-use crate::granting::{Grant, grant_chunk};
-use crate::outcome::{ServeFault, Served};
+use crate::outcome::ServeFault;
+use crate::turn::{Turn, refuse};
+use archive::Archive;
 use std::alloc::Global;
+use std::marker::Model;
 use ua_channel::Channel;
-use uacp::{Intake, put_error};
+use ua_session::Sessions;
+use ua_settings::Settings;
+use uacp::{Intake, UacpFault};
 
 /// The chunks that one connection may have.
 pub const MOST_CHUNKS: u32 = 1_000_000;
 
-/// What is known of the client between two chunks.
+/// What is known of a client between two chunks, and the bytes that came and weren't answered yet.
 #[derive(Drop)]
-pub struct Connection {
-    /// The secure channel, from the Acknowledge on.
-    pub channel: Option<Channel>,
-    /// The chunks so far, at most 1,000,000.
-    pub taken: u32,
+pub(crate) struct Connection {
+    intake: Intake,
+    // from the Acknowledge on
+    channel: Option<Channel>,
+    sessions: Sessions,
+    // the chunks so far
+    taken: u32,
 }
 
-/// What became of what stands first in the bytes that wait.
-#[derive(Clone, Copy)]
-enum Taken {
-    /// No whole chunk is there.
-    Nothing,
-    /// It is a chunk too many.
-    TooMany,
-    /// It is a chunk, and was granted this; a fault in a chunk's place is refused.
-    Came(Grant),
+impl Model for Connection {
+    ghost use Rattle.std.specs.Prelude.{◌≤◌};
+    ghost use Rattle.ua_server.specs.Turns.{Link, IsSound, link_of};
+
+    ghost Value = { Link };
+
+    ghost view = { λ c. link_of c.intake c.taken c.channel c.sessions };
+
+    ghost invariant = { λ c. (c.taken ≤ 1000000) × (c.intake.limit ≤ 65536) × IsSound c.intake };
 }
 
-/// What one turn came to.
-#[derive(Clone, Copy)]
-pub(crate) enum Turn {
-    /// No whole chunk is there.
-    Waits,
-    /// A chunk was answered.
-    Goes,
-    /// The connection ends.
-    Ends(Served),
-}
-
-/// Makes an Error message with this status code.
-pub(crate) fn refuse_with(code: u32, out: &mut Vec<u8>) -> Result<Served, ServeFault>
-    requires { out.old.items ≡ [] }
-    ensures { Refuses code out.new.items result }
-{
-    match put_error(out, code) {
-        Ok(()) => Ok(Served::Refused(code)),
-        Err(_) => Err(ServeFault::OutOfMemory),
-    }
-}
-
-/// Takes the next chunk, if it is whole, and grants what it asks for.
-fn take_next<C: Clock>(
+/// Takes the next chunk, if it is whole, and answers it, or the fault that stands in its place.
+fn take_next<A: Archive, C: Clock>(
     alloc: Global,
-    clock: &mut C,
+    settings: &Settings,
+    archive: &mut A,
     intake: &mut Intake,
-    connection: &mut Connection,
-    out: &mut Vec<u8>,
-) -> Taken
-    requires empty { out.old.items ≡ [] }
-    requires whole { intake.old.failed ≡ None }
-    requires few { connection.old.taken ≤ MOST_CHUNKS }
-    requires limit { intake.old.limit ≤ 65536 }
-    ensures takes { (readings : List ℤ) × C.gave clock.old readings clock.new
-        × Takes (sees intake.old connection.old) intake.old.waiting readings out.new.items result connection.new.channel intake.new.waiting }
-    ensures leaves { Leaves result intake.old intake.new }
-    ensures counted { IsCounted connection.old.taken result }
-    ensures kept { connection.new.taken ≡ connection.old.taken }
-{
-    match intake.next_chunk() {
-        Ok(None) => Taken::Nothing,
-        Err(fault) => Taken::Came(Grant::Refused(fault.code())),
-        Ok(Some(chunk)) => {
-            if connection.taken == MOST_CHUNKS {
-                return Taken::TooMany;
-            }
-            Taken::Came(grant_chunk(alloc, clock, &mut connection.channel, chunk, out))
-        }
-    }
-}
-
-/// Answers the next chunk, or the fault that stands in its place.
-pub(crate) fn next_answer<C: Clock>(
-    alloc: Global,
+    channel: &mut Option<Channel>,
+    sessions: &mut Sessions,
+    taken: u32,
     clock: &mut C,
-    intake: &mut Intake,
-    connection: &mut Connection,
     out: &mut Vec<u8>,
 ) -> Result<Turn, ServeFault>
-    requires empty { out.old.items ≡ [] }
-    requires whole { intake.old.failed ≡ None }
-    requires few { connection.old.taken ≤ MOST_CHUNKS }
+    requires few { taken ≤ MOST_CHUNKS }
     requires limit { intake.old.limit ≤ 65536 }
-    ensures turned { (readings : List ℤ) × C.gave clock.old readings clock.new
-        × Turned (sees intake.old connection.old) intake.old.waiting readings out.new.items result (sees intake.new connection.new) intake.new.waiting }
-    ensures whole { IfOk result (λ turn. KeepsWhole turn intake.new) }
-    ensures few { connection.new.taken ≤ MOST_CHUNKS }
-    ensures counted { IfOk result (λ turn. KeepsCount turn connection.old.taken connection.new.taken intake.new.limit) }
-    ensures shorter { IfOk result (λ turn. Shortens turn intake.old.waiting intake.new.waiting) }
-    ensures no_read { IsErrOf result ServeFault.Read → ⊥ }
-    ensures no_write { IsErrOf result ServeFault.Write → ⊥ }
+    requires sound { IsSound intake.old }
+    ensures turned { (used : Outside) × C.gave clock.old used.readings clock.new
+        × TurnedInto settings.now (A.state archive.old) (A.state archive.new) (link_of intake.old taken channel.old sessions.old) used out.old.items out.new.items (ending_of result)
+        (record { client = behind (link_of intake.old taken channel.old sessions.old).client result channel.new sessions.new; waiting = intake.new.waiting }) }
+    ensures own { IsOwn (IsShort (link_of intake.old taken channel.old sessions.old)) 65536 result }
+    ensures few { IsCounted taken result }
+    ensures leaves { LeavesIntake result intake.old intake.new }
 {
-    match take_next(alloc, clock, intake, connection, out) {
-        Taken::Nothing => Ok(Turn::Waits),
-        Taken::TooMany => Err(ServeFault::TooLong),
-        Taken::Came(Grant::Greeted(limit)) => {
-            intake.set_limit(limit);
-            connection.taken += 1;
-            Ok(Turn::Goes)
+    match intake.next_chunk() {
+        Ok(None) => Ok(Turn::Waits),
+        Err(fault) => refuse(fault.code(), out),
+        Ok(Some(chunk)) => {
+            if taken == MOST_CHUNKS {
+                return Err(ServeFault::TooLong);
+            }
+            answer_piece(
+                alloc, settings, archive, channel, sessions, chunk, clock, out,
+            )
         }
-        Taken::Came(Grant::Answered) => {
-            connection.taken += 1;
-            Ok(Turn::Goes)
+    }
+}
+
+impl Connection {
+    /// Nothing came yet. It takes no memory.
+    pub(crate) fn new(alloc: Global) -> Connection
+        ensures { result ≡ new_link }
+    {
+        Connection {
+            intake: Intake::new(alloc),
+            channel: None,
+            sessions: Sessions::new(alloc),
+            taken: 0,
         }
-        Taken::Came(Grant::Closed) => Ok(Turn::Ends(Served::Closed)),
-        Taken::Came(Grant::Refused(code)) => match refuse_with(code, out) {
-            Ok(served) => Ok(Turn::Ends(served)),
+    }
+
+    /// Takes the next bytes of the client. The one error is want of memory, which changes nothing.
+    pub(crate) fn feed(&mut self, piece: &[u8]) -> Result<(), UacpFault>
+        ensures ok { OnOk result (self.new ≡ record self.old { waiting = self.old.waiting ++ piece.now }) }
+        ensures err { OnErr result (self.new ≡ self.old) }
+    {
+        match self.intake.feed(piece) {
+            Ok(()) => Ok(()),
             Err(fault) => Err(fault),
-        },
-        Taken::Came(Grant::Starved) => Err(ServeFault::OutOfMemory),
+        }
+    }
+
+    /// Answers the chunk that stands first in the bytes that wait, if it is whole, or the fault that stands in its place: the
+    /// answer is appended to `out`.
+    ///
+    /// Errors: `TooLong` where a chunk comes after 1,000,000 of them, `OutOfMemory` where memory was wanting and the Error
+    /// message that tells it could not be made either.
+    pub(crate) fn next_answer<A: Archive, C: Clock>(
+        &mut self,
+        alloc: Global,
+        settings: &Settings,
+        archive: &mut A,
+        clock: &mut C,
+        out: &mut Vec<u8>,
+    ) -> Result<Turn, ServeFault>
+        ensures turned { (used : Outside) × C.gave clock.old used.readings clock.new
+            × TurnedInto settings.now (A.state archive.old) (A.state archive.new) self.old used out.old.items out.new.items (ending_of result) self.new }
+        ensures own { IsOwn (IsShort self.new) 65536 result }
+        ensures small { IsSmall self.new }
+        ensures shorter { Shortens result self.old self.new }
+    {
+        let turn = take_next(
+            alloc,
+            settings,
+            archive,
+            &mut self.intake,
+            &mut self.channel,
+            &mut self.sessions,
+            self.taken,
+            clock,
+            out,
+        );
+        match turn {
+            Ok(Turn::Greets(limit)) => {
+                self.intake.set_limit(limit);
+                self.taken += 1;
+            }
+            Ok(Turn::Goes) => self.taken += 1,
+            Ok(Turn::Waits | Turn::Ends(_)) | Err(_) => {}
+        }
+        turn
     }
 }

@@ -4,6 +4,7 @@ ghost use Rattle.std.specs.Prelude.{◌≡◌};
 ghost use Rattle.ua_server.specs.Outcome.{number_of};
 
 use thiserror::Error;
+use ua_binary::Status;
 
 /// How a connection ended that met no fault.
 #[derive(Clone, Copy, Debug, PartialEq, Eq)]
@@ -13,7 +14,7 @@ pub enum Served {
     /// The client closed its channel.
     Closed,
     /// The connection was refused by an Error message with this status code (Part 6, 7.1.2.5).
-    Refused(u32),
+    Refused(Status),
 }
 
 /// Why a connection ended before its answer was whole.
