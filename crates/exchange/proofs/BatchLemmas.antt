@@ -22,9 +22,8 @@ use Rattle.archive.specs.Store.{IsLawfulContent}
 use Rattle.exchange.specs.Merging.{AreLearned}
 use Rattle.exchange.proofs.MergeLemmas.{turn_learned}
 use Rattle.archive.specs.declared.fault.StoreFault.{StoreFault}
-use Rattle.archive.specs.Store.{Store, Asks, fault_in, faults_by}
-use Rattle.archive.proofs.Calls.{passes-leaves, in_use}
-use Rattle.hist_update.specs.Updates.{Keeps}
+use Rattle.archive.specs.Store.{Store, Asks}
+use Rattle.archive.proofs.Calls.{in_use}
 use Rattle.exchange.specs.declared.fault.ExchangeFault.TheVariants as exchange
 use Rattle.exchange.specs.declared.replica.Batch.{Batch}
 use Rattle.exchange.specs.Batches.{most, longest_frame, records_length, frame_length, IsBatchFor, Answers}
@@ -166,9 +165,6 @@ batch_added R S batch closed closed' same is = turn_length batch R (turn R S bat
 
 -- ---- the call
 
-keeps : {A : Type 0} (a b : Store) (result : Result A StoreFault) (P : A → Type 0) → Asks a b result P → Keeps a b (faults_by (fault_in result))
-keeps a b result P asks = record { content = asks.kept; crash = asks.crash; passes = passes-leaves a b (fault_in result) asks.leaves }
-
 -- the store failed
 pub answer-fails : {A : Type 0} (a b : Store) (v : ℕ → ℕ) (fault : StoreFault) (P : A → Type 0) → Asks a b (Err fault) P → Answers a b v (Err (exchange.Store fault))
 answer-fails a b v fault P asks = record {
@@ -176,7 +172,8 @@ answer-fails a b v fault P asks = record {
   some = λ h. tt;
   only = tt;
   ended = λ e. ap (λ f. Err (exchange.Store f)) (same_Some _ _ (asks.leaves.ended e));
-  keeps = keeps a b (Err fault) P asks;
+  stays = asks.stays;
+  passes = asks.leaves.passes;
 }
 
 -- memory was wanting
@@ -186,15 +183,17 @@ answer-starves a b v x P asks = record {
   some = λ h. tt;
   only = tt;
   ended = λ e. absurd (none-some _ (asks.leaves.ended e));
-  keeps = keeps a b (Ok x) P asks;
+  stays = asks.stays;
+  passes = asks.leaves.passes;
 }
 
 -- a batch was made
 pub answer-made : {A : Type 0} (a b : Store) (v : ℕ → ℕ) (x : A) (P : A → Type 0) (batch : Batch) → Asks a b (Ok x) P → (P x → IsBatchFor a.content v batch.records) → Answers a b v (Ok batch)
 answer-made a b v x P batch asks made = record {
   batch = λ h. made (asks.answer h);
-  some = λ h r has beyond. some_fits a.content v batch.records r (asks.leaves.before (asks.leaves.honest h) (in_use a b asks.leaves)).lawful (made (asks.answer h)) has beyond;
+  some = λ h r has beyond. some_fits a.content v batch.records r (asks.leaves.before (asks.leaves.passes.honest h) (in_use a b asks.leaves)).lawful (made (asks.answer h)) has beyond;
   only = tt;
   ended = λ e. absurd (none-some _ (asks.leaves.ended e));
-  keeps = keeps a b (Ok x) P asks;
+  stays = asks.stays;
+  passes = asks.leaves.passes;
 }

@@ -165,6 +165,7 @@ fn is_live_alone(lives: &[Held], written: i32) -> bool {
 /// Whether 8 is live, and the modifications are a replacement of 7 and the insert of it.
 fn shows_both(alloc: Global, replica: &mut Replica<ListArchive>) -> Result<bool, StoreFault> {
     let node = node(alloc)?;
+    let all = replica.archive.vector()?;
     let log = replica.archive.log(
         alloc,
         &node,
@@ -173,6 +174,7 @@ fn shows_both(alloc: Global, replica: &mut Replica<ListArchive>) -> Result<bool,
         None,
         Direction::Forward,
         9,
+        &all,
     )?;
     let lives = replica.archive.range(
         alloc,
@@ -181,6 +183,7 @@ fn shows_both(alloc: Global, replica: &mut Replica<ListArchive>) -> Result<bool,
         Moment::at(100),
         Direction::Forward,
         9,
+        &all,
     )?;
     Ok(are_entries(&log, &[(Replace, 7), (Insert, 7)]) && is_live_alone(&lives, 8))
 }

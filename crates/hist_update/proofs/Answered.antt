@@ -1,5 +1,5 @@
 -- What the codes of operations tell, and what stands behind them.
-use Rattle.std.proofs.Common.{◌≡◌, ℕ, zero, suc, ℤ, Bool, true, false, List, [], ◌∷◌, ◌++◌, Option, Some, None, Result, Ok, Err, refl, sym, ap, ◌∙◌, subst, inl, inr, ◌⊎◌, arith}
+use Rattle.std.proofs.Common.{◌≡◌, ℕ, zero, suc, ℤ, Bool, true, false, List, [], ◌∷◌, ◌++◌, Option, Some, None, Result, Ok, Err, refl, sym, ap, subst, inl, inr, ◌⊎◌, arith}
 use Rattle.std.specs.Prelude.{if◌then◌else◌, int_lt, pos}
 use Rattle.std.proofs.lemmas.Option.{none-some, same_Some}
 use Rattle.stamp.specs.Limits.{lift}
@@ -19,7 +19,7 @@ use Rattle.archive.specs.Fault.{status_of}
 use Rattle.archive.specs.Steps.{Marked, Does}
 use Rattle.archive.specs.Store.{Mark, Fine, Starved, Met, MayBeFound}
 use Rattle.records.specs.Moments.{ticks_of}
-use Rattle.hist_update.specs.Outcome.{Operation, Write, DeleteAt, Change, Outcome, Refused, Added, change_by, written, timed, typed, fits, source_time, is_too_long, writing, deletion, outcome, outcome_of, judged, stamped, conflict, done, is_live, after}
+use Rattle.hist_update.specs.Outcome.{Operation, Write, DeleteAt, Change, Outcome, Refused, Added, change_by, written, timed, typed, fits, source_time, is_too_long, writing, deletion, outcome, outcome_of, judged, stamped, conflict, done, is_live}
 use Rattle.hist_update.specs.Updates.{code_by, left_by, update_all}
 use Rattle.hist_update.specs.Laws.{IsBad, IsGood, IsRecordOf, IsAnsweredGood, HasRecordOf}
 use Rattle.hist_update.proofs.NewRecords.{made, new_next}

@@ -1,5 +1,5 @@
 -- Whole updates: refusals, steps that come before the operations, and the operations.
-use Rattle.std.proofs.Common.{◌≡◌, ℕ, Bool, true, false, List, [], ◌∷◌, ◌||◌, map, length, Option, Some, None, refl, sym, ap, subst}
+use Rattle.std.proofs.Common.{◌≡◌, ℕ, Bool, List, [], ◌∷◌, ◌||◌, map, length, Option, Some, None, refl, sym, ap, subst}
 use Rattle.std.proofs.Math.Bool.{or-false}
 use Rattle.ua_binary.specs.declared.codes.Status.{Status}
 use Rattle.ua_binary.specs.declared.codes.TheConstants.Status.{BAD_OUT_OF_MEMORY}
@@ -10,7 +10,7 @@ use Rattle.ua_variant.specs.declared.update_type.HistoryUpdateType.{HistoryUpdat
 use Rattle.ua_services.specs.declared.updates.HistoryUpdateResult.{HistoryUpdateResult}
 use Rattle.records.specs.Contents.{Content}
 use Rattle.archive.specs.Fault.{status_told}
-use Rattle.archive.specs.Steps.{Marked, give, Does, Acts}
+use Rattle.archive.specs.Steps.{Marked, Does, Acts}
 use Rattle.archive.specs.Store.{Store, Mark, Fine, Starved, faults_of, Passes, Stays}
 use Rattle.archive.proofs.Calls.{passes-none}
 use Rattle.archive.proofs.Acting.{holds-stays, moves-none, moves-as, does-give}

@@ -1,8 +1,7 @@
 -- Queries of an archive, and what comes behind them.
-use Rattle.std.proofs.Common.{◌≡◌, ℕ, List, [], ◌∷◌, Option, Some, None, Result, Ok, Err, IfOk, sym, subst}
+use Rattle.std.proofs.Common.{◌≡◌, List, [], Ok, sym, subst}
 use Rattle.records.specs.Contents.{Content}
-use Rattle.archive.specs.declared.fault.StoreFault.{StoreFault}
-use Rattle.archive.specs.Store.{Store, Mark, faults_of, Passes, Leaves, Asks, HasContent}
+use Rattle.archive.specs.Store.{Store, Mark, faults_of, Passes, Asks, HasContent}
 use Rattle.archive.specs.Steps.{Moves}
 use Rattle.archive.proofs.Calls.{passes-then}
 use Rattle.archive.proofs.Acting.{holds-stays, held-before}

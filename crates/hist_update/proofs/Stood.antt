@@ -1,5 +1,5 @@
 -- What the code of an operation that was done tells of what stood there.
-use Rattle.std.proofs.Common.{◌≡◌, ℕ, Bool, true, false, Option, None, refl, sym, ap, arith, ◌∙◌, subst}
+use Rattle.std.proofs.Common.{◌≡◌, ℕ, Bool, true, false, None, refl, sym, ap, arith, ◌∙◌, subst}
 use Rattle.std.proofs.lemmas.Option.{none-some}
 use Rattle.records.specs.declared.record.Record.{Record}
 use Rattle.ua_variant.specs.declared.update_type.HistoryUpdateType.{HistoryUpdateType}

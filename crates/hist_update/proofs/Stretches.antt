@@ -1,5 +1,5 @@
 -- Deletes of all values of a stretch of time: a listing, and deletes at what it told.
-use Rattle.std.proofs.Common.{◌≡◌, ℕ, ◌≤◌, suc, nat_lt, min, ℤ, Bool, true, false, List, [], ◌∷◌, map, take, length, Option, Some, None, Result, Ok, Err, IfOk, IfSome, ◌||◌, refl, sym, ap, ◌∙◌, subst, arith, filter, not}
+use Rattle.std.proofs.Common.{◌≡◌, ℕ, ◌≤◌, suc, nat_lt, min, ℤ, Bool, true, false, List, [], ◌∷◌, map, take, length, Option, Some, None, Result, Ok, Err, IfOk, IfSome, ◌||◌, refl, sym, ap, ◌∙◌, subst, arith, not}
 use Rattle.std.specs.Prelude.{if◌then◌else◌}
 use Rattle.std.specs.List.{take-map}
 use Rattle.std.proofs.Math.Bool.{or-false}
@@ -16,7 +16,6 @@ use Rattle.ua_services.specs.declared.updates.HistoryUpdateResult.{HistoryUpdate
 use Rattle.records.specs.Contents.{Content, vec, cut}
 use Rattle.records.specs.Records.{is_beyond}
 use Rattle.records.specs.Moments.{moment}
-use Rattle.records.specs.declared.record.Record.{Record}
 use Rattle.records.specs.declared.shown.Held.{Held}
 use Rattle.records.proofs.CutLemmas.{cut_whole}
 use Rattle.archive.specs.declared.fault.StoreFault.{StoreFault}

@@ -4,7 +4,6 @@ use Rattle.std.proofs.lemmas.List.{take_more, map-append, length-append}
 use Rattle.std.specs.List.{list_any}
 use Rattle.std.proofs.Math.Bool.{or-false}
 use Rattle.std.proofs.lemmas.Bool.{true≢false}
-use Rattle.records.specs.Contents.{Content}
 use Rattle.ua_binary.specs.declared.codes.Status.{Status}
 use Rattle.archive.specs.declared.fault.StoreFault.{StoreFault}
 use Rattle.archive.specs.Steps.{Acts, Does}

@@ -6,7 +6,7 @@ use Rattle.ua_binary.specs.declared.codes.TheConstants.Status.{BAD_RESOURCE_UNAV
 use Rattle.ua_services.specs.declared.updates.HistoryUpdateResult.{HistoryUpdateResult}
 use Rattle.ua_variant.specs.DataValue.{IsShortData}
 use Rattle.records.specs.Moments.{ticks_of}
-use Rattle.records.specs.Contents.{Content, vec, top}
+use Rattle.records.specs.Contents.{vec, top}
 use Rattle.records.specs.Spelling.{fields, longest, is_value_for}
 use Rattle.records.specs.declared.record.Record.{Record}
 use Rattle.archive.specs.declared.fault.LearnFault.{LearnFault}

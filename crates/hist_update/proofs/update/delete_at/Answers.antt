@@ -1,4 +1,4 @@
-use Rattle.std.proofs.Common.{◌≡◌, sym}
+use Rattle.std.proofs.Common.{sym}
 use Rattle.hist_update.proofs.Answering.{times-refused, times-begun}
 use Rattle.hist_update.proofs.update.delete_at.Goals as goal
 

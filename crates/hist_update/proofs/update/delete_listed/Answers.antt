@@ -1,4 +1,4 @@
-use Rattle.std.proofs.Common.{◌≡◌, map, sym, ◌∙◌}
+use Rattle.std.proofs.Common.{map, sym}
 use Rattle.records.specs.declared.shown.Held.{Held}
 use Rattle.hist_update.proofs.Stretches.{listed-refused, listed-begun}
 use Rattle.hist_update.proofs.update.delete_listed.Goals as goal

@@ -1,4 +1,4 @@
-use Rattle.std.proofs.Common.{◌≡◌, map, sym, ap, ◌∙◌}
+use Rattle.std.proofs.Common.{map, sym, ap, ◌∙◌}
 use Rattle.records.specs.declared.shown.Held.{Held}
 use Rattle.hist_update.specs.Updates.{refused}
 use Rattle.hist_update.proofs.Stretches.{stretch-refused, stretch-free, stretch-failed, stretch-listed}

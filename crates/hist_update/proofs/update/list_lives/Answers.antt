@@ -1,4 +1,3 @@
-use Rattle.std.proofs.Common.{rules}
 use Rattle.hist_update.proofs.Stretches.{listed}
 use Rattle.hist_update.proofs.update.list_lives.Goals as goal
 
