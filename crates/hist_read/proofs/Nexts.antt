@@ -22,7 +22,7 @@ use Rattle.archive.proofs.Turning.{has_from_flat_map, has_from_reverse, has-in_d
 use Rattle.hist_read.specs.Asking.{is_given, has_both, first_time, origin_time, direction}
 use Rattle.records.specs.Moments.{moment}
 use Rattle.hist_read.specs.Point.{IsNext, is_given_for}
-use Rattle.hist_read.specs.Reads.{or_else, nearest_from, value_or_missing, near, item_time, is_near_alone, near_part, limit_at, is_past_any, in_body, lives_in, body, body_part, values, far, far_part, last_time, time_before, before_far, raw, modified, place_at, given_before, page_size, is_spent, page, goes_on, given_after, raw_position, modified_position, next_place}
+use Rattle.hist_read.specs.Reads.{greatest_time, or_else, nearest_from, value_or_missing, near, item_time, is_near_alone, near_part, limit_at, is_past_any, in_body, lives_in, body, body_part, values, far, far_part, last_time, time_before, before_far, raw, modified, place_at, given_before, page_size, is_spent, page, goes_on, given_after, raw_position, modified_position, next_place}
 use Rattle.ua_services.specs.declared.history.ReadRawModifiedDetails.{ReadRawModifiedDetails as Details}
 use Rattle.hist_read.specs.declared.point.Position.{Position}
 use Rattle.hist_read.specs.declared.item.Item.{Item}
@@ -66,61 +66,62 @@ given_lawful q p spent = go (has_both q) refl spent
 module _ (R : Content) (node : NodeId) (q : Details) (p : Option Position) (lawful : IsLawfulContent R) where
   -- ---- raw values
 
-  module _ (given : IsTrue (is_given q.start_time.0 || is_given q.end_time.0)) where
-    origin_late : first_time ≤ℤ origin_time q
-    origin_late = go (is_given q.start_time.0) refl given
-      where
-        go : (b : Bool) → is_given q.start_time.0 ≡ b → IsTrue (b || is_given q.end_time.0) → first_time ≤ℤ moment (cond b q.start_time.0 q.end_time.0) 0
-        go true e g = grind (arith, ints, nat_tests, e)
-        go false e g = grind (arith, ints, nat_tests, g)
+  origin_late : IsTrue (is_given q.start_time.0 || is_given q.end_time.0) → first_time ≤ℤ origin_time q
+  origin_late given = go (is_given q.start_time.0) refl given
+    where
+      go : (b : Bool) → is_given q.start_time.0 ≡ b → IsTrue (b || is_given q.end_time.0) → first_time ≤ℤ moment (cond b q.start_time.0 q.end_time.0) 0
+      go true e g = grind (arith, ints, nat_tests, e)
+      go false e g = grind (arith, ints, nat_tests, g)
 
-    current_late : (t : ℤ) (h : Held) → current R node t ≡ Some h → first_time ≤ℤ h.time
-    current_late t h e = let r = current_from R node t h e in (subst IsTime r.2 (record_time R r.0 lawful ((story_has R node t r.0).0 r.1).0)).0
+  -- what holds of the times of records and of the origin
+  module _ (P : ℤ → Type 0) (all : (t : ℤ) → IsTime t → P t) (at_origin : P (origin_time q)) where
+    current_within : (t : ℤ) (h : Held) → current R node t ≡ Some h → P h.time
+    current_within t h e = let r = current_from R node t h e in all h.time (subst IsTime r.2 (record_time R r.0 lawful ((story_has R node t r.0).0 r.1).0))
 
-    outside_late : (t : ℤ) (d : Direction) (h : Held) → outside_of R node t d ≡ Some h → first_time ≤ℤ h.time
-    outside_late t d h e =
+    outside_within : (t : ℤ) (d : Direction) (h : Held) → outside_of R node t d ≡ Some h → P h.time
+    outside_within t d h e =
         let there = (has-in_direction d (filter (λ x. is_past d t x.time) (lives R node)) h).0 (has_from_get _ 0 h e) in
-        (lives_lawful R node h lawful (has_from_filter (λ (x : Held). is_past d t x.time) (lives R node) h there).0).0
+        all h.time (lives_lawful R node h lawful (has_from_filter (λ (x : Held). is_past d t x.time) (lives R node) h there).0)
 
-    nearest_late : (t : ℤ) (d : Direction) (h : Held) → nearest_from R node d t ≡ Some h → first_time ≤ℤ h.time
-    nearest_late t d h e = go (current R node t) refl e
+    nearest_within : (t : ℤ) (d : Direction) (h : Held) → nearest_from R node d t ≡ Some h → P h.time
+    nearest_within t d h e = go (current R node t) refl e
       where
-        go : (o : Option Held) → current R node t ≡ o → or_else o (outside_of R node t d) ≡ Some h → first_time ≤ℤ h.time
-        go None f e = outside_late t d h e
-        go (Some x) f e = current_late t h (f ∙ e)
+        go : (o : Option Held) → current R node t ≡ o → or_else o (outside_of R node t d) ≡ Some h → P h.time
+        go None f e = outside_within t d h e
+        go (Some x) f e = current_within t h (f ∙ e)
 
-    near_late : first_time ≤ℤ item_time (near R node q)
-    near_late = go (nearest_from R node (opposite (direction q)) (origin_time q)) refl
+    near_within : P (item_time (near R node q))
+    near_within = go (nearest_from R node (opposite (direction q)) (origin_time q)) refl
       where
-        go : (o : Option Held) → nearest_from R node (opposite (direction q)) (origin_time q) ≡ o → first_time ≤ℤ item_time (value_or_missing (origin_time q) o)
-        go None e = origin_late
-        go (Some h) e = nearest_late (origin_time q) (opposite (direction q)) h e
+        go : (o : Option Held) → nearest_from R node (opposite (direction q)) (origin_time q) ≡ o → P (item_time (value_or_missing (origin_time q) o))
+        go None e = at_origin
+        go (Some h) e = nearest_within (origin_time q) (opposite (direction q)) h e
 
-    near_in : (p : Option Position) (x : Item) → Has (near_part R node q p) x → first_time ≤ℤ item_time x
+    near_in : (p : Option Position) (x : Item) → Has (near_part R node q p) x → P (item_time x)
     near_in (Some p) x h = absurd h
     near_in None x h = go q.return_bounds h
       where
-        go : (b : Bool) → Has (cond b (near R node q ∷ []) []) x → first_time ≤ℤ item_time x
-        go true i = elim i [ inl e ↦ subst (λ y. first_time ≤ℤ item_time y) e near_late | inr k ↦ absurd k ]
+        go : (b : Bool) → Has (cond b (near R node q ∷ []) []) x → P (item_time x)
+        go true i = elim i [ inl e ↦ subst (λ y. P (item_time y)) e near_within | inr k ↦ absurd k ]
         go false i = absurd i
 
-    body_late : (h : Held) → Has (body_part R node q p) h → first_time ≤ℤ h.time
+    body_late : (h : Held) → Has (body_part R node q p) h → P h.time
     body_late h k = go (is_near_alone q) k
       where
         rest : List Held
         rest = filter (λ x. is_past_any (direction q) (limit_at q p) x.time) (body R node q)
 
-        go : (b : Bool) → Has (cond b [] rest) h → first_time ≤ℤ h.time
+        go : (b : Bool) → Has (cond b [] rest) h → P h.time
         go true i = absurd i
         go false i =
             let one = (has_from_filter (λ (x : Held). is_past_any (direction q) (limit_at q p) x.time) (body R node q) h i).0 in
             let two = (has_from_filter (λ (x : Held). in_body q x.time) (lives_in R node q) h one).0 in
-            (lives_lawful R node h lawful ((has-in_direction (direction q) (lives R node) h).0 two)).0
+            all h.time (lives_lawful R node h lawful ((has-in_direction (direction q) (lives R node) h).0 two))
 
-    item_late : (x : Item) → Has (before_far R node q p) x → first_time ≤ℤ item_time x
+    item_late : (x : Item) → Has (before_far R node q p) x → P (item_time x)
     item_late x h = elim (has_from_append (near_part R node q p) (values (body_part R node q p)) x h) [
       | inl i ↦ near_in p x i
-      | inr j ↦ let s = has_from_map (λ h. Value h) (body_part R node q p) x j in subst (λ y. first_time ≤ℤ item_time y) s.2 (body_late s.0 s.1)
+      | inr j ↦ let s = has_from_map (λ h. Value h) (body_part R node q p) x j in subst (λ y. P (item_time y)) s.2 (body_late s.0 s.1)
     ]
 
     far_short : (before : ℤ) → length (far_part R node q before) ≤ 1
@@ -142,27 +143,41 @@ module _ (R : Content) (node : NodeId) (q : Details) (p : Option Position) (lawf
         let fits : n ≤ length front = omega (arith, sum, beyond, short) in
         has_take n front x (subst (λ l. Has l x) (take-append-le n front tail fits) (has_from_get (page q p (raw R node q p)) _ x e))
 
-    pub raw_next : q.is_read_modified ≡ false → IfSome (next_place (raw_position q p) q p (raw R node q p)) (IsNext q)
-    raw_next plain = go (goes_on q p (raw R node q p)) refl
+    last_within : (x : Item) → goes_on q p (raw R node q p) ≡ true → last (page q p (raw R node q p)) ≡ Some x → P (item_time x)
+    last_within x on e = let tests = and_parts (nat_lt (page_size q p) (length (raw R node q p))) (not (is_spent q p)) on in item_late x (ends_before x tests.0 e)
+
+    pub raw_within : IfSome (next_place (raw_position q p) q p (raw R node q p)) (λ next. P next.time)
+    raw_within = go (goes_on q p (raw R node q p)) refl
       where
-        S : List Item
-        S = raw R node q p
-
-        at : goes_on q p S ≡ true → (o : Option Item) → last (page q p S) ≡ o → IfSome (option_map (raw_position q p) o) (IsNext q)
+        at : goes_on q p (raw R node q p) ≡ true → (o : Option Item) → last (page q p (raw R node q p)) ≡ o → IfSome (option_map (raw_position q p) o) (λ next. P next.time)
         at on None e = tt
-        at on (Some x) e =
-            let tests = and_parts (nat_lt (page_size q p) (length S)) (not (is_spent q p)) on in
-            let unspent : is_spent q p ≡ false = grind (arith, nat_tests, tests.1) in
-            (item_late x (ends_before x tests.0 e), tt, and_from _ _ (ap not plain) (given_lawful q p unspent))
+        at on (Some x) e = last_within x on e
 
-        go : (b : Bool) → goes_on q p S ≡ b → IfSome (cond b (option_map (raw_position q p) (last (page q p S))) None) (IsNext q)
+        go : (b : Bool) → goes_on q p (raw R node q p) ≡ b → IfSome (cond b (option_map (raw_position q p) (last (page q p (raw R node q p)))) None) (λ next. P next.time)
         go false e = tt
-        go true e = at e (last (page q p S)) refl
+        go true e = at e (last (page q p (raw R node q p))) refl
+
+  pub raw_next : IsTrue (is_given q.start_time.0 || is_given q.end_time.0) → q.is_read_modified ≡ false → IfSome (next_place (raw_position q p) q p (raw R node q p)) (IsNext q)
+  raw_next given plain = go (goes_on q p (raw R node q p)) refl
+    where
+      S : List Item
+      S = raw R node q p
+
+      at : goes_on q p S ≡ true → (o : Option Item) → last (page q p S) ≡ o → IfSome (option_map (raw_position q p) o) (IsNext q)
+      at on None e = tt
+      at on (Some x) e =
+          let tests = and_parts (nat_lt (page_size q p) (length S)) (not (is_spent q p)) on in
+          let unspent : is_spent q p ≡ false = grind (arith, nat_tests, tests.1) in
+          (last_within (λ t. first_time ≤ℤ t) (λ t h. h.0) (origin_late given) x on e, tt, and_from _ _ (ap not plain) (given_lawful q p unspent))
+
+      go : (b : Bool) → goes_on q p S ≡ b → IfSome (cond b (option_map (raw_position q p) (last (page q p S))) None) (IsNext q)
+      go false e = tt
+      go true e = at e (last (page q p S)) refl
 
   -- ---- modifications
 
   pub record IsLate (e : Entry) : Type 0 where
-    pub time : first_time ≤ℤ e.time
+    pub time : IsTime e.time
     pub low : pos 1 ≤ℤ e.tick
     pub high : e.tick ≤ℤ pos greatest
     pub origin : IsReplica e.origin
@@ -173,7 +188,7 @@ module _ (R : Content) (node : NodeId) (q : Details) (p : Option Position) (lawf
     | inl same ↦
         let there = all r (inl refl) in
         let ticks = lawful.closed.ticks r there in
-        subst IsLate same (record { time = (record_time R r lawful there).0; low = ticks.0; high = ticks.1; origin = (lawful.records r there).origin })
+        subst IsLate same (record { time = record_time R r lawful there; low = ticks.0; high = ticks.1; origin = (lawful.records r there).origin })
     | inr k ↦ entry_late (Some r) rs e (λ s i. all s (inr i)) k
   ]
 
@@ -200,8 +215,19 @@ module _ (R : Content) (node : NodeId) (q : Details) (p : Option Position) (lawf
           let tests = and_parts (nat_lt (page_size q p) (length S)) (not (is_spent q p)) on in
           let unspent : is_spent q p ≡ false = grind (arith, nat_tests, tests.1) in
           let late = modified_late x (has_take (page_size q p) S x (has_from_get (page q p S) _ x e)) in
-          (late.time, (late.low, late.high, late.origin), and_from _ _ asked (given_lawful q p unspent))
+          (late.time.0, (late.low, late.high, late.origin), and_from _ _ asked (given_lawful q p unspent))
 
       go : (b : Bool) → goes_on q p S ≡ b → IfSome (cond b (option_map (modified_position q p) (last (page q p S))) None) (IsNext q)
       go false e = tt
       go true e = at e (last (page q p S)) refl
+
+  pub modified_within : IfSome (next_place (modified_position q p) q p (modified R node q p)) (λ next. next.time ≤ℤ greatest_time)
+  modified_within = go (goes_on q p (modified R node q p)) refl
+    where
+      at : (o : Option Entry) → last (page q p (modified R node q p)) ≡ o → IfSome (option_map (modified_position q p) o) (λ next. next.time ≤ℤ greatest_time)
+      at None e = tt
+      at (Some x) e = (modified_late x (has_take (page_size q p) (modified R node q p) x (has_from_get (page q p (modified R node q p)) _ x e))).time.1
+
+      go : (b : Bool) → goes_on q p (modified R node q p) ≡ b → IfSome (cond b (option_map (modified_position q p) (last (page q p (modified R node q p)))) None) (λ next. next.time ≤ℤ greatest_time)
+      go false e = tt
+      go true e = at (last (page q p (modified R node q p))) refl

@@ -100,8 +100,8 @@ pub record IsLater (R S : Content) : Type 0 where
 
 -- what the types of an id, a node and details see to
 pub record IsAsked (id : List ℕ) (node : NodeId) (q : Details) : Type 0 where
-  pub archive : length id ≡ 16
-  pub node : IsNodeId node
+  pub sixteen : length id ≡ 16
+  pub spelled : IsNodeId node
   pub details : IsDetails q
 
 -- the contents from this place on, so many of them

@@ -9,6 +9,11 @@ ghost use Rattle.hist_read.specs.declared.point.Position.{Position};
 ghost use Rattle.hist_read.specs.Asking.{is_given};
 ghost use Rattle.hist_read.specs.Point.{point};
 ghost use Rattle.hist_read.specs.Reads.{raw, raw_position, modified, modified_position, next_place, page};
+ghost use Rattle.std.specs.Prelude.{ℕ, List, ◌∷◌, None, Ok, map};
+ghost use Rattle.std.specs.List.{AllByRecursion};
+ghost use Rattle.ua_services.specs.declared.attributes.TimestampsToReturn.{TimestampsToReturn};
+ghost use Rattle.hist_read.specs.Node.{judged};
+ghost use Rattle.hist_read.specs.Chains.{whole, values_in, infos_in, Page, Chain, joined_values, joined_infos, IsLater, IsAsked, contents_from};
 
 use crate::asked::body;
 use ua_services::ReadRawModifiedDetails;
@@ -37,6 +42,23 @@ pub fn pages_of_raw_values_join(details: ReadRawModifiedDetails)
     requires { IsTrue (is_given details.start_time.0 || is_given details.end_time.0) }
     ensures { (R : Content) → IsLawfulContent R → (node : Node) → (p : Option Position) → (next : Position) → next_place (raw_position details p) details p (raw R node details p) ≡ Some next
         → raw R node details p ≡ page details p (raw R node details p) ++ raw R node details (Some next) }
+{
+    let _span = body(&details);
+}
+
+/// Pages that are read one after the other, from the continuation points that they answer until there is none,
+/// show together the whole read of the content that the first one was of, cut at the count where a time is open:
+/// whatever is learned or updated in between, and at whichever replica that covers the first one's vector each
+/// is read. And wherever a read isn't refused, such pages come to an end.
+pub fn pages_show_the_whole_read(details: ReadRawModifiedDetails)
+    requires { IsTrue (is_given details.start_time.0 || is_given details.end_time.0) }
+    ensures shows { (id : List ℕ) (node : Node) (stamps : TimestampsToReturn) (first : Page) (pages : List Page) → IsAsked id node details → IsLawfulContent first.content
+        → AllByRecursion (λ page. IsLater first.content page.content) pages → Chain id node (record { details = details; stamps = stamps }) None (first ∷ pages)
+        → (joined_values (first ∷ pages) ≡ values_in (whole first.content node (record { details = details; stamps = stamps })))
+        × (joined_infos (first ∷ pages) ≡ infos_in (whole first.content node (record { details = details; stamps = stamps }))) }
+    ensures ends { (id : List ℕ) (node : Node) (stamps : TimestampsToReturn) (contents : ℕ → Content) → IsAsked id node details → judged id node details None ≡ Ok None
+        → IsLawfulContent (contents 0) → ((n : ℕ) → IsLater (contents 0) (contents n))
+        → (pages : List Page) × (count : ℕ) × (map (λ page. page.content) pages ≡ contents_from contents 0 count) × Chain id node (record { details = details; stamps = stamps }) None pages }
 {
     let _span = body(&details);
 }

@@ -1,5 +1,4 @@
 use Rattle.hist_read.proofs.RawJoining.{raw_joins}
-use Rattle.hist_read.proofs.Paged.{shrinks}
 use Rattle.hist_read.proofs.laws.pages_of_raw_values_join.Goals as goal
 
 pub returns : goal.returns
