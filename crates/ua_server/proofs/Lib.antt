@@ -3,3 +3,4 @@ pub mod Runs
 pub mod Steps
 pub mod Cutting
 pub mod Turning
+pub mod Flow

@@ -5,12 +5,12 @@ use Rattle.records.specs.Contents.{Content}
 use Rattle.archive.specs.Store.{Store}
 use Rattle.archive.specs.Steps.{Moves}
 use Rattle.ua_settings.specs.Settings.{Values}
-use Rattle.historian.specs.Services.{Site}
+use Rattle.historian.specs.Services.{site_of}
 use Rattle.ua_server.specs.declared.outcome.Served.TheVariants.{EndOfInput}
 use Rattle.ua_server.specs.declared.outcome.ServeFault.TheVariants.{Read, Write}
 use Rattle.ua_server.specs.Given.{Outside, before}
 use Rattle.ua_server.specs.Run.{Protocol, answered, Answers}
-use Rattle.ua_server.specs.Client.{Standing, Ending, Item, new_client, chunks}
+use Rattle.ua_server.specs.Client.{Standing, Ending, new_client, chunks}
 
 -- by this, and no more, of the outside this is the whole answer to the bytes, and this stands then
 abbrev pub IsWhole : {C X E : Type 0} → Protocol C X E → C → List ℕ → Outside → List ℕ → E → C → Type 0
@@ -26,10 +26,6 @@ IsServed p start came used out (Err Read) last = (rest : List ℕ) × Answers p 
 IsServed p start came used out (Err Write) last =
     (unsent rest : List ℕ) × (ending : Option Ending) × Answers p start came used (record { out = out ++ unsent; ending = ending; state = last }) rest
 IsServed p start came used out ending last = (rest : List ℕ) × Answers p start came used (record { out = out; ending = Some ending; state = last }) rest
-
--- the server of an archive
-abbrev pub site_of : Values → Store → Site
-site_of settings store = record { settings = settings; own = store.own; id = store.id }
 
 -- a client was served: by what was read and what the outside gave, this was written, and what the archive holds is what the answer left
 pub record Serves (settings : Values) (old new : Store) (unread left : Option (List ℕ)) (before after : Option (List ℕ)) (used : Outside) (ending : Ending) : Type 0 where

@@ -53,6 +53,14 @@ ending_of (Ok Goes) = None
 ending_of (Ok (Ends served)) = Some (Ok served)
 ending_of (Err fault) = Some (Err fault)
 
+-- what ends a stretch: nothing more waits, or the connection ends
+abbrev pub end_of : Result Turn ServeFault → Option (Result (Option Served) ServeFault)
+end_of (Ok Waits) = Some (Ok None)
+end_of (Ok (Greets limit)) = None
+end_of (Ok Goes) = None
+end_of (Ok (Ends served)) = Some (Ok (Some served))
+end_of (Err fault) = Some (Err fault)
+
 -- ends that answering makes itself; a greeting grants chunks of n bytes at most
 abbrev pub IsOwn : (waits : Type 0) → ℕ → Result Turn ServeFault → Type 0
 IsOwn waits n (Ok Waits) = waits

@@ -8,9 +8,11 @@ mod counted;
 mod greeting;
 mod outcome;
 mod responding;
+mod serving;
 mod turn;
 
 pub use clock::{Clock, ConstantClock, SystemClock};
 pub use connection::MOST_CHUNKS;
 pub use counted::Counted;
 pub use outcome::{ServeFault, Served};
+pub use serving::serve;

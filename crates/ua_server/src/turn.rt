@@ -1,7 +1,7 @@
 //! What one item of a connection comes to.
 
 ghost use Rattle.std.specs.Prelude.{◌≡◌};
-ghost use Rattle.ua_server.specs.Turns.{IsOwn, Refuses, RefusesTurn};
+ghost use Rattle.ua_server.specs.Turns.{IsOwn, Refuses, RefusesTurn, end_of};
 
 use crate::outcome::{ServeFault, Served};
 use ua_binary::Status;
@@ -39,5 +39,18 @@ pub(crate) fn refuse(code: Status, out: &mut Vec<u8>) -> Result<Turn, ServeFault
     match put_refusal(code, out) {
         Ok(served) => Ok(Turn::Ends(served)),
         Err(fault) => Err(fault),
+    }
+}
+
+/// The end of a stretch of turns, where this one ends it.
+pub(crate) fn end_of(turn: Result<Turn, ServeFault>) -> Option<Result<Option<Served>, ServeFault>>
+    ensures { result ≡ end_of turn }
+{
+    match turn {
+        Ok(Turn::Waits) => Some(Ok(None)),
+        Ok(Turn::Greets(_)) => None,
+        Ok(Turn::Goes) => None,
+        Ok(Turn::Ends(served)) => Some(Ok(Some(served))),
+        Err(fault) => Some(Err(fault)),
     }
 }
