@@ -4,3 +4,4 @@ pub mod Steps
 pub mod Cutting
 pub mod Turning
 pub mod Flow
+pub mod Whole
