@@ -2,7 +2,9 @@
 
 ghost use Rattle.std.specs.Prelude.{◌≡◌, ◌||◌, ◌++◌, IsTrue, Option, Some};
 ghost use Rattle.ua_binary.specs.declared.values.NodeId.{NodeId as Node};
-ghost use Rattle.records.specs.Contents.{Content};
+ghost use Rattle.records.specs.Contents.{Content, IsWithin, learned};
+ghost use Rattle.records.specs.Spelling.{IsLawfulRecord};
+ghost use Rattle.records.specs.declared.record.Record.{Record};
 ghost use Rattle.archive.specs.Store.{IsLawfulContent};
 ghost use Rattle.ua_binary.specs.Format.{IsLawful, IsPrefixFree};
 ghost use Rattle.hist_read.specs.declared.point.Position.{Position};
@@ -62,3 +64,10 @@ pub fn pages_show_the_whole_read(details: ReadRawModifiedDetails)
 {
     let _span = body(&details);
 }
+
+/// A content covers the vector of another one where it holds all of its records, and still does when one more is
+/// learned: so pages may go on at an archive whatever it learns or updates in between.
+pub fn what_grows_goes_on()
+    ensures held { (R S : Content) → IsLawfulContent R → IsLawfulContent S → IsWithin R S → IsLater R S }
+    ensures learned { (R S T : Content) (r : Record) → IsLawfulContent R → IsLater R S → IsLawfulRecord r → learned S r ≡ Some T → IsLater R T }
+{}
