@@ -154,7 +154,7 @@ some_fits R v batch r lawful is has beyond =
 whole : (R S : Content) (batch : List Record) → IsBatchFor S (vec R) batch → (k : ℕ) × (batch ≡ take k (missing S (vec R) most))
 whole R S batch is = (is.count, is.first ∙ missing_first S (vec R) is.count most is.few)
 
-turn : (R S : Content) (batch : List Record) → IsClosed R → IsClosed S → AreCompatible R S → IsBatchFor S (vec R) batch → AreNextInTurn R batch
+pub turn : (R S : Content) (batch : List Record) → IsClosed R → IsClosed S → AreCompatible R S → IsBatchFor S (vec R) batch → AreNextInTurn R batch
 turn R S batch closed closed' same is = let w = whole R S batch is in subst (AreNextInTurn R) (sym w.1) (part_turn R S most w.0 closed closed' same)
 
 pub batch_learned : (R S : Content) (batch : List Record) → IsClosed R → IsClosed S → AreCompatible R S → IsBatchFor S (vec R) batch → AreLearned R batch

@@ -373,7 +373,7 @@ fn batches_fit_a_frame(rt: HostRuntime) -> Result<(), Fail> {
     Ok(())
 }
 
-static FAULTS: [ExchangeFault; 7] = [
+static FAULTS: [ExchangeFault; 8] = [
     ExchangeFault::Frame,
     ExchangeFault::WrongArchive,
     ExchangeFault::Learn {
@@ -384,6 +384,7 @@ static FAULTS: [ExchangeFault; 7] = [
     ExchangeFault::SelfPeer,
     ExchangeFault::Store(StoreFault::Broken),
     ExchangeFault::TooLong,
+    ExchangeFault::PeerFormat,
 ];
 
 #[test]
@@ -391,4 +392,53 @@ fn numbers_of_faults(rt: HostRuntime) {
     for (i, fault) in FAULTS.iter().enumerate() {
         assert!(rt; fault.number() as usize == i + 1);
     }
+}
+
+/// How many frames a dialog of replicas 1 and 2 has, each with one record of its own.
+fn frames_of_one_each(alloc: Global) -> Result<u32, ExchangeFault> {
+    let mut one = list_replica(alloc, 1)?;
+    let mut two = list_replica(alloc, 2)?;
+    merge_rows(alloc, &mut one, &[(1, 1, 100, 7)])?;
+    merge_rows(alloc, &mut two, &[(2, 1, 100, 8)])?;
+    let frames = converse(alloc, &mut one, &mut two)?;
+    if !are_equal(alloc, &mut one, &mut two)? {
+        return Err(ExchangeFault::Frame);
+    }
+    Ok(frames)
+}
+
+#[test]
+fn a_dialog_of_two(rt: HostRuntime) -> Result<(), Fail> {
+    assert!(rt; frames_of_one_each(rt.alloc()) == Ok(7));
+    Ok(())
+}
+
+/// What replica 1 of an empty archive answers to the first frame in some bytes.
+fn answered_bytes(alloc: Global, bytes: &[u8], out: &mut Vec<u8>) -> Result<State, ExchangeFault> {
+    let mut one = list_replica(alloc, 1)?;
+    let mut dialog = Dialog::responder();
+    let mut frames = Frames::new(alloc);
+    frames.feed(bytes)?;
+    match frames.next_frame() {
+        Ok(Some(frame)) => dialog.take(alloc, &mut one, frame, out),
+        Ok(None) => Err(ExchangeFault::Frame),
+        Err(fault) => Err(fault),
+    }
+}
+
+static ASKED: &[u8] = b"RXVF\x1b\0\0\0\x02\0\0\0\0\0\0\0\0\0\0\0\0\0\0\0\0\x02\0";
+
+static ASKED_ITSELF: &[u8] = b"RXVF\x1b\0\0\0\x02\0\0\0\0\0\0\0\0\0\0\0\0\0\0\0\0\x01\0";
+
+static NOTHING: &[u8] = b"RXDF\x1f\0\0\0\x02\0\0\0\0\0\0\0\0\0\0\0\0\0\0\0\0\x02\0\0\0\0\0";
+
+#[test]
+fn vectors_are_answered(rt: HostRuntime) -> Result<(), Fail> {
+    let mut out = Vec::new(rt.alloc());
+    assert!(rt; answered_bytes(rt.alloc(), ASKED, &mut out) == Ok(State::Serving));
+    assert!(rt; out.as_slice() == NOTHING);
+    out.clear();
+    assert!(rt; answered_bytes(rt.alloc(), ASKED_ITSELF, &mut out) == Err(ExchangeFault::SelfPeer));
+    assert!(rt; out.as_slice() == b"RXEF\x0c\0\0\0\x05\0\0\0".as_slice());
+    Ok(())
 }

@@ -1,0 +1,194 @@
+-- What a frame says is what it was made of.
+use Rattle.std.proofs.Common.{◌≡◌, ℕ, suc, ◌+◌, ◌-◌, ◌<◌, ◌≤◌, ◌^◌, true, false, nat_le, nat_lt, List, [], ◌∷◌, ◌++◌, length, take, drop, Some, Result, Ok, Err, refl, ap, subst, arith}
+use Rattle.std.specs.Prelude.{◌&&◌, ◌==◌, not}
+use Rattle.std.specs.List.{flat_map, AllByRecursion}
+use Rattle.std.specs.Int.{w32}
+use Rattle.std.proofs.lemmas.Bool.{le-ltb}
+use Rattle.std.proofs.lemmas.Bool.Decides.{nat_tests}
+use Rattle.ua_binary.proofs.Spelled.{whole_only}
+use Rattle.stamp.specs.Limits.{IsReplica}
+use Rattle.std.proofs.lemmas.List.{length-append, take_all}
+use Rattle.std.proofs.lemmas.Nat.{from_le_bytes-to_le_bytes_4}
+use Rattle.stamp.proofs.Lawful.{vector_lawful}
+use Rattle.stamp.specs.Vector.{vector}
+use Rattle.ua_binary.specs.Format.{IsLawful, ◌▸◌, items, whole}
+use Rattle.ua_binary.specs.Binary.{unsigned}
+use Rattle.ua_binary.proofs.Combined.{bind_ok, ok_is, Found, byte_lawful, block_lawful, then_lawful, headed_lawful, standing_lawful, passing_lawful, fitting_lawful, raised_lawful, items_lawful}
+use Rattle.ua_binary.proofs.Lawful.{u32_lawful}
+use Rattle.records.specs.declared.record.Record.{Record}
+use Rattle.records.specs.declared.fault.RecordFault.{RecordFault}
+use Rattle.records.specs.Spelling.{record_form, IsRecord, IsLawfulRecord}
+use Rattle.records.proofs.Spelled.{record_lawful, record_found, record_only}
+use Rattle.exchange.specs.declared.fault.ExchangeFault.TheVariants.{Frame, PeerFormat}
+use Rattle.exchange.specs.declared.message.FrameKind.{FrameKind}
+use Rattle.exchange.specs.declared.message.FrameKind.TheVariants.{Vector, Records, End}
+use Rattle.exchange.specs.declared.message.Party.{Party}
+use Rattle.exchange.specs.declared.message.Title.{Title}
+use Rattle.exchange.specs.declared.message.Message.{Message}
+use Rattle.exchange.specs.declared.message.Message.TheVariants.{Asks, Carries, Ends}
+use Rattle.exchange.specs.Batches.{most, longest_frame, records_length, frame_length}
+use Rattle.exchange.specs.Frames.{record_or, record_in, title, title_of, title_fields, count, sized, framed, code, message_at, letters, kind_of, body_of, frame_of, cut, IsTitle, IsSpelled}
+use Rattle.exchange.specs.Meetings.{checked_title}
+use Rattle.exchange.proofs.BatchLemmas.{vector_short}
+
+pub all_push : {X : Type 0} (P : X → Type 0) (xs : List X) (x : X) → AllByRecursion P xs → P x → AllByRecursion P (xs ++ x ∷ [])
+all_push P [] x all p = (p, tt)
+all_push P (y ∷ ys) x all p = (all.0, all_push P ys x all.1 p)
+
+pub all_lawful : (rs : List Record) → AllByRecursion IsRecord rs → AllByRecursion IsLawfulRecord rs
+all_lawful [] all = tt
+all_lawful (r ∷ rs) all = (all.0.0, all_lawful rs all.1)
+
+-- a record has few bytes
+pub record_few : (r : Record) → IsRecord r → length (record_form.canon r) ≤ 1048578
+unfolding record_form
+record_few r is = is.0.size
+
+-- ---- laws
+
+sender_test : (n : ℕ) → IsReplica n → (nat_le 1 n && nat_le n 64) ≡ true
+sender_test n is = grind (arith, nat_tests, is.0, is.1)
+
+pub title_lawful : IsLawful title
+unfolding title vector
+title_lawful = fitting_lawful IsTitle (λ t is. ((((omega arith, refl), refl), (is.id, ((omega (arith, is.sender.1), sender_test t.sender is.sender), is.vector))), refl)) (standing_lawful title_of title_fields (
+    then_lawful (passing_lawful (λ n. n == 2) Frame (passing_lawful (λ n. not (n == 1)) PeerFormat (raised_lawful (λ _. Frame) byte_lawful))) (
+    then_lawful (raised_lawful _ (block_lawful 16)) (
+    then_lawful (passing_lawful _ _ (raised_lawful _ byte_lawful))
+    (raised_lawful _ vector_lawful)))))
+
+pub count_lawful : IsLawful count
+count_lawful = passing_lawful _ _ (raised_lawful _ u32_lawful)
+
+sized_lawful : IsLawful sized
+sized_lawful = headed_lawful length _ (raised_lawful _ u32_lawful) (λ n. raised_lawful _ (block_lawful n))
+
+fault_ok : (r : Result Record RecordFault) (x : Record) → record_or r ≡ Ok x → r ≡ Ok x
+fault_ok (Ok a) x e = ap Ok (ok_is a x e)
+fault_ok (Err f) x e = cc
+
+sized_fits : (r : Record) → IsRecord r → sized.Fits (record_form.canon r)
+unfolding record_form unsigned
+sized_fits r is = (omega (arith, is.0.size), refl)
+
+pub framed_lawful : IsLawful framed
+unfolding framed record_form
+framed_lawful = record {
+  found = λ bytes r rest e.
+      let b = bind_ok (sized.read bytes) _ (r, rest) e in
+      let c = bind_ok (record_in b.0.0) _ (r, rest) b.2 in
+      let x = sized_lawful.found bytes b.0.0 b.0.1 b.1 in
+      subst (Found framed bytes) (ok_is (c.0, b.0.1) (r, rest) c.2) (x.0, x.1, (b.0.0, x.2, record_found b.0.0 c.0 (fault_ok _ _ c.1)));
+  only = λ front r rest s. rw (sized_lawful.only front s.0 rest s.1, record_only s.0 r s.2) refl;
+  written = λ r fits. (record_form.canon r, sized_lawful.written (record_form.canon r) (sized_fits r fits), record_lawful.written r fits);
+}
+
+-- ---- a message is read of its own body
+
+title_fits : (t : Title) → IsTitle t → title.Spells (title.canon t) t
+unfolding title vector
+title_fits t is = title_lawful.written t is
+
+count_spelled : (n : ℕ) → n ≤ most → count.Spells (count.canon n) n
+unfolding unsigned
+count_spelled n few = count_lawful.written n (omega (arith, few), grind (arith, nat_tests, few))
+
+code_spelled : (n : ℕ) → n < 2 ^ 32 → code.Spells (code.canon n) n
+unfolding unsigned
+code_spelled n small = (raised_lawful (λ _. Frame) u32_lawful).written n small
+
+all_fit : (rs : List Record) → AllByRecursion IsRecord rs → AllByRecursion framed.Fits rs
+unfolding framed record_form
+all_fit [] all = tt
+all_fit (r ∷ rs) all = (all.0, all_fit rs all.1)
+
+-- what an end writes is what a party that may meet it reads
+pub read_own : (p : Party) (m : Message) → IsSpelled m → checked_title p m → message_at p (kind_of m) (body_of m) ≡ Ok m
+read_own p (Asks t) is check = rw (whole_only Frame title_lawful (title.canon t) t (title_fits t is), check) refl
+read_own p (Carries t rs) is check =
+    let head : (title ▸ count).read ((title ▸ count).canon (t, length rs) ++ flat_map framed.canon rs) ≡ Ok ((t, length rs), flat_map framed.canon rs) =
+    (then_lawful title_lawful count_lawful).only _ (t, length rs) _ (title.canon t, count.canon (length rs), refl, title_fits t is.0, count_spelled (length rs) is.2) in
+    let rest : whole Frame (items (length rs) framed) (flat_map framed.canon rs) ≡ Ok rs = whole_only Frame (items_lawful (length rs) framed_lawful) _ rs ((items_lawful (length rs) framed_lawful).written rs (all_fit rs is.1, refl)) in
+    rw (head, check, rest) refl
+read_own p (Ends n) is check = rw (whole_only Frame (raised_lawful (λ _. Frame) u32_lawful) (code.canon n) n (code_spelled n is)) refl
+
+-- ---- how many bytes it takes
+
+pub title_length : (t : Title) → IsTitle t → length (title.canon t) ≡ 18 + length (vector.canon t.vector)
+unfolding title
+title_length t is =
+    let more = length-append t.id (t.sender ∷ vector.canon t.vector) in
+    let id = is.id in
+    omega (arith, more, id)
+
+framed_length : (r : Record) → length (framed.canon r) ≡ 4 + length (record_form.canon r)
+unfolding framed unsigned
+framed_length r = omega arith
+
+records_bytes : (rs : List Record) → length (flat_map framed.canon rs) ≡ records_length rs
+records_bytes [] = refl
+records_bytes (r ∷ rs) = omega (arith, length-append (framed.canon r) (flat_map framed.canon rs), framed_length r, records_bytes rs)
+
+count_length : (t : Title) (n : ℕ) → length ((title ▸ count).canon (t, n)) ≡ length (title.canon t) + 4
+unfolding unsigned
+count_length t n = length-append (title.canon t) (count.canon n)
+
+code_length : (n : ℕ) → length (code.canon n) ≡ 4
+unfolding unsigned
+code_length n = refl
+
+pub body_short : (m : Message) → IsSpelled m → length (body_of m) + 8 ≤ longest_frame
+body_short (Asks t) is = omega (arith, title_length t is, vector_short t.vector is.vector)
+body_short (Carries t rs) is = omega (arith, length-append ((title ▸ count).canon (t, length rs)) (flat_map framed.canon rs), count_length t (length rs), title_length t is.0, records_bytes rs, is.3)
+body_short (Ends n) is = omega (arith, code_length n)
+
+-- what the size of the whole frame is
+pub frame_short : (t : Title) (rs : List Record) (n room : ℕ) → IsTitle t → n ≡ length (title.canon t) → room ≡ longest_frame - (n + 12) → records_length rs ≤ room → frame_length t.vector rs ≤ longest_frame
+frame_short t rs n room is e f fits = omega (arith, title_length t is, vector_short t.vector is.vector, e, f, fits)
+
+-- ---- a frame is cut off as it was written
+
+framed_cut : (kind : FrameKind) (body : List ℕ) → 4 ≤ length body → length body + 8 ≤ longest_frame
+    → cut (letters kind ++ ((unsigned w32).canon (8 + length body) ++ body)) ≡ Ok (Some (record { kind = kind; size = 8 + length body }))
+unfolding cut unsigned
+framed_cut Vector body some short =
+    let size = from_le_bytes-to_le_bytes_4 (8 + length body) (omega (arith, short)) in
+    let a : nat_lt (8 + length body) 12 ≡ false = le-ltb _ _ (omega (arith, some)) in
+    let b : nat_lt longest_frame (8 + length body) ≡ false = le-ltb _ _ (omega (arith, short)) in
+    let n : length (letters Vector ++ ((unsigned w32).canon (8 + length body) ++ body)) ≡ 8 + length body = omega arith in
+    let c : nat_lt (8 + length body) 8 ≡ false = le-ltb _ _ (omega arith) in
+    let d : nat_lt (8 + length body) (8 + length body) ≡ false = le-ltb _ _ (omega arith) in
+    rw (size, a, b, n, c, d) refl
+framed_cut Records body some short =
+    let size = from_le_bytes-to_le_bytes_4 (8 + length body) (omega (arith, short)) in
+    let a : nat_lt (8 + length body) 12 ≡ false = le-ltb _ _ (omega (arith, some)) in
+    let b : nat_lt longest_frame (8 + length body) ≡ false = le-ltb _ _ (omega (arith, short)) in
+    let n : length (letters Records ++ ((unsigned w32).canon (8 + length body) ++ body)) ≡ 8 + length body = omega arith in
+    let c : nat_lt (8 + length body) 8 ≡ false = le-ltb _ _ (omega arith) in
+    let d : nat_lt (8 + length body) (8 + length body) ≡ false = le-ltb _ _ (omega arith) in
+    rw (size, a, b, n, c, d) refl
+framed_cut End body some short =
+    let size = from_le_bytes-to_le_bytes_4 (8 + length body) (omega (arith, short)) in
+    let a : nat_lt (8 + length body) 12 ≡ false = le-ltb _ _ (omega (arith, some)) in
+    let b : nat_lt longest_frame (8 + length body) ≡ false = le-ltb _ _ (omega (arith, short)) in
+    let n : length (letters End ++ ((unsigned w32).canon (8 + length body) ++ body)) ≡ 8 + length body = omega arith in
+    let c : nat_lt (8 + length body) 8 ≡ false = le-ltb _ _ (omega arith) in
+    let d : nat_lt (8 + length body) (8 + length body) ≡ false = le-ltb _ _ (omega arith) in
+    rw (size, a, b, n, c, d) refl
+
+body_some : (m : Message) → IsSpelled m → 4 ≤ length (body_of m)
+body_some (Asks t) is = omega (arith, title_length t is)
+body_some (Carries t rs) is = omega (arith, length-append ((title ▸ count).canon (t, length rs)) (flat_map framed.canon rs), count_length t (length rs), title_length t is.0)
+body_some (Ends n) is = omega (arith, code_length n)
+
+pub cut_own : (m : Message) → IsSpelled m → cut (frame_of m) ≡ Ok (Some (record { kind = kind_of m; size = 8 + length (body_of m) }))
+cut_own m is = framed_cut (kind_of m) (body_of m) (body_some m is) (body_short m is)
+
+taken_body : (kind : FrameKind) (body : List ℕ) → drop 8 (take (8 + length body) (letters kind ++ ((unsigned w32).canon (8 + length body) ++ body))) ≡ body
+unfolding unsigned
+taken_body Vector body = let e : 8 + length body ≡ suc (suc (suc (suc (suc (suc (suc (suc (length body)))))))) = omega arith in rw e (take_all (length body) body (omega arith))
+taken_body Records body = let e : 8 + length body ≡ suc (suc (suc (suc (suc (suc (suc (suc (length body)))))))) = omega arith in rw e (take_all (length body) body (omega arith))
+taken_body End body = let e : 8 + length body ≡ suc (suc (suc (suc (suc (suc (suc (suc (length body)))))))) = omega arith in rw e (take_all (length body) body (omega arith))
+
+pub body_own : (m : Message) → drop 8 (take (8 + length (body_of m)) (frame_of m)) ≡ body_of m
+body_own m = taken_body (kind_of m) (body_of m)

@@ -1,0 +1,484 @@
+-- What an end makes of a message, call by call.
+use Rattle.std.proofs.Common.{◌≡◌, ℕ, zero, suc, ◌+◌, true, false, Bool, List, [], ◌∷◌, take, length, Option, Some, None, Result, Ok, Err, IfOk, IfErr, refl, sym, ap, ◌∙◌, subst, arith, inl, inr}
+use Rattle.std.proofs.lemmas.List.{take_all}
+use Rattle.std.proofs.lemmas.Bool.{true≢false}
+use Rattle.std.proofs.lemmas.Option.{none-some, same_Some}
+use Rattle.std.specs.Prelude.{slice_get, unwrap_or, ◌||◌}
+use Rattle.std.specs.Option.{option_map_or, option_and_then}
+use Rattle.std.specs.Result.{is_ok}
+use Rattle.std.specs.List.{list_any}
+use Rattle.stamp.specs.Numbers.{number_of, IsVector}
+use Rattle.records.specs.Contents.{Content, vec, put, Finding, Adds, Holds, Clash, Gap, TickTooFar, TickNotRising, finding, after_finding, learned, merged}
+use Rattle.records.specs.declared.record.Record.{Record}
+use Rattle.archive.specs.declared.fault.StoreFault.{StoreFault}
+use Rattle.archive.specs.declared.fault.StoreFault.TheVariants.{Broken}
+use Rattle.archive.specs.declared.fault.LearnFault.{LearnFault}
+use Rattle.archive.specs.declared.fault.LearnFault.TheVariants as refused
+use Rattle.archive.specs.Store.{Store, Asks, Passes, IsLawfulContent, faults_by, is_break, answer_to}
+use Rattle.archive.proofs.Calls.{passes-none, passes-leaves, passes-then, in_use, left_in_use}
+use Rattle.exchange.specs.declared.fault.ExchangeFault.{ExchangeFault}
+use Rattle.exchange.specs.declared.fault.ExchangeFault.TheVariants as exchange
+use Rattle.exchange.specs.declared.message.Title.{Title}
+use Rattle.exchange.specs.declared.message.Message.{Message}
+use Rattle.exchange.specs.declared.message.Message.TheVariants as message
+use Rattle.exchange.specs.declared.message.State.{State}
+use Rattle.exchange.specs.declared.message.State.TheVariants as state
+use Rattle.exchange.specs.declared.dialog.Reply.{Reply}
+use Rattle.exchange.specs.declared.replica.Batch.{Batch}
+use Rattle.exchange.specs.Batches.{Answers}
+use Rattle.exchange.specs.Frames.{IsTitle}
+use Rattle.exchange.specs.Fault.{store_fault_of}
+use Rattle.exchange.specs.Merging.{learned_all, IsRefusal, Meets, Merges}
+use Rattle.exchange.proofs.MergeLemmas.{merged_stops}
+use Rattle.exchange.specs.declared.message.Party.{Party}
+use Rattle.exchange.specs.Dialogs.{ended_by, broken_off, is_bare, refusal, refusal_by, learnt, numbers_of, batch_of, title_by, Turn, failing, asking, carrying, pushing, learning, Way, Clear, Unread, Stopped, Starved, Met, IsWay, gone, fault_on, party_of, Tells, IsSpelledReply, Handles, carries_none}
+use Rattle.exchange.proofs.TitleLemmas.{told_is, batch_one}
+
+abbrev pub reply_by : State → Message → Reply
+reply_by state m = record { state = state; message = Some m; code = None }
+
+abbrev pub title_in : Store → List ℕ → Title
+title_in b v = record { id = b.id; sender = b.own; vector = v }
+
+-- ---- the own vector
+
+module _ (a b : Store) where
+  lawful_in : {A : Type 0} (x : A) (P : A → Type 0) → Asks a b (Ok x) P → b.honest → IsLawfulContent a.content
+  lawful_in x P asks h = (asks.leaves.before (asks.leaves.passes.honest h) (in_use a b asks.leaves)).lawful
+
+  pub title_is : (v : List ℕ) → Asks a b (Ok v) (λ v. (replica : ℕ) → number_of v replica ≡ vec a.content replica) → IsVector v → b.honest → title_in b v ≡ title_by (party_of a) a.content
+  title_is v asks is h =
+      let vector : v ≡ numbers_of a.content = told_is a.content v (lawful_in v _ asks h) is (asks.answer h) in
+      ap (λ i. let t : Title = record { id = i; sender = b.own; vector = v } in t) asks.leaves.passes.id
+      ∙ (ap (λ n. let t : Title = record { id = a.id; sender = n; vector = v } in t) asks.leaves.passes.own
+      ∙ ap (λ w. let t : Title = record { id = a.id; sender = a.own; vector = w } in t) vector)
+
+  pub ask_ok : (v : List ℕ) (state : State) (reply : Reply) → Asks a b (Ok v) (λ v. (replica : ℕ) → number_of v replica ≡ vec a.content replica) → IsVector v
+      → IsTitle (title_in b v) → reply ≡ reply_by state (message.Asks (title_in b v)) → Handles a b [] (asking (party_of a) state a.content) (Ok reply)
+  ask_ok v state reply asks is fits e = record {
+    way = Clear;
+    outside = tt;
+    clear = refl;
+    tells = λ h. (
+      ap (λ (r : Reply). Ok r.state) (sym e),
+      ap (λ t. Some (message.Asks t)) (sym (title_is v asks is h)) ∙ ap (λ (r : Reply). r.message) (sym e),
+      ap (λ (r : Reply). r.code) (sym e),
+    );
+    spelled = subst IsSpelledReply (sym e) fits;
+    content = λ h u. asks.stays.content h u;
+    crash = λ h left m. inl (asks.stays.crash h left m);
+    passes = passes-leaves a b None asks.leaves;
+  }
+
+  -- the store failed
+  pub fails : {A : Type 0} (fault : StoreFault) (P : A → Type 0) (turn : Turn) → Asks {A = A} a b (Err fault) P → turn.content ≡ a.content → Handles a b [] turn (Err (exchange.Store fault))
+  fails fault P turn asks e = record {
+    way = Met fault;
+    outside = tt;
+    clear = tt;
+    tells = λ h. refl;
+    spelled = tt;
+    content = λ h u. asks.stays.content h u ∙ sym e;
+    crash = λ h left m. inl (asks.stays.crash h left m);
+    passes = passes-leaves a b (Some fault) asks.leaves;
+  }
+
+-- ---- what a vector lacks
+
+module _ (a b c : Store) (v : List ℕ) (w : ℕ → ℕ) (asks : Asks a b (Ok v) (λ v. (replica : ℕ) → number_of v replica ≡ vec a.content replica)) where
+  kept : c.honest → (c.honest → b.honest) → b.content ≡ a.content
+  kept h back = asks.stays.content (back h) (left_in_use a b asks.leaves)
+
+  pub carry_fails : (fault : ExchangeFault) (turn : Turn) → Answers b c w (Err fault) → turn.content ≡ a.content → Handles a c [] turn (Err fault)
+  carry_fails exchange.OutOfMemory turn answers e = record {
+    way = Starved;
+    outside = tt;
+    clear = tt;
+    tells = λ h. refl;
+    spelled = tt;
+    content = λ h u. answers.stays.content h u ∙ (kept h answers.passes.honest ∙ sym e);
+    crash = λ h left m. inl (asks.stays.crash (answers.passes.honest h) left (answers.stays.crash h left m));
+    passes = passes-then a b c [] [] (passes-leaves a b None asks.leaves) answers.passes;
+  }
+  carry_fails (exchange.Store fault) turn answers e = record {
+    way = Met fault;
+    outside = tt;
+    clear = tt;
+    tells = λ h. refl;
+    spelled = tt;
+    content = λ h u. answers.stays.content h u ∙ (kept h answers.passes.honest ∙ sym e);
+    crash = λ h left m. inl (asks.stays.crash (answers.passes.honest h) left (answers.stays.crash h left m));
+    passes = passes-then a b c [] (fault ∷ []) (passes-leaves a b None asks.leaves) answers.passes;
+  }
+  carry_fails exchange.Frame turn answers e = absurd answers.only
+  carry_fails exchange.WrongArchive turn answers e = absurd answers.only
+  carry_fails (exchange.Learn learned cause) turn answers e = absurd answers.only
+  carry_fails exchange.SelfPeer turn answers e = absurd answers.only
+  carry_fails exchange.TooLong turn answers e = absurd answers.only
+  carry_fails exchange.PeerFormat turn answers e = absurd answers.only
+
+  -- memory was wanting for what is sent, or a store that isn't honest gave what can't be
+  pub carry_starves : (batch : Batch) (fault : ExchangeFault) (turn : Turn) → Answers b c w (Ok batch) → fault ≡ exchange.OutOfMemory → turn.content ≡ a.content → Handles a c [] turn (Err fault)
+  carry_starves batch fault turn answers f e = subst (λ x. Handles a c [] turn (Err x)) (sym f) (record {
+    way = Starved;
+    outside = tt;
+    clear = tt;
+    tells = λ h. refl;
+    spelled = tt;
+    content = λ h u. answers.stays.content h u ∙ (kept h answers.passes.honest ∙ sym e);
+    crash = λ h left m. inl (asks.stays.crash (answers.passes.honest h) left (answers.stays.crash h left m));
+    passes = passes-then a b c [] [] (passes-leaves a b None asks.leaves) answers.passes;
+  })
+
+  pub carry_ok : (batch : Batch) (state : State) (reply : Reply) → Answers b c w (Ok batch) → IsVector v → IsSpelledReply reply
+      → reply ≡ reply_by state (message.Carries (title_in c v) batch.records) → Handles a c [] (carrying (party_of a) state a.content (batch_of a.content w)) (Ok reply)
+  carry_ok batch state reply answers is spelled e = record {
+    way = Clear;
+    outside = tt;
+    clear = refl;
+    tells = λ h. (
+      ap (λ (r : Reply). Ok r.state) (sym e),
+      ap (λ t. Some (message.Carries t (batch_of a.content w))) (sym (title h)) ∙ (ap (λ rs. Some (message.Carries (title_in c v) rs)) (sym (records h)) ∙ ap (λ (r : Reply). r.message) (sym e)),
+      ap (λ (r : Reply). r.code) (sym e),
+    );
+    spelled = spelled;
+    content = λ h u. answers.stays.content h u ∙ kept h answers.passes.honest;
+    crash = λ h left m. inl (asks.stays.crash (answers.passes.honest h) left (answers.stays.crash h left m));
+    passes = passes-then a b c [] [] (passes-leaves a b None asks.leaves) answers.passes;
+  }
+    where
+      title : c.honest → title_in c v ≡ title_by (party_of a) a.content
+      title h =
+          ap (λ i. let t : Title = record { id = i; sender = c.own; vector = v } in t) answers.passes.id
+          ∙ (ap (λ n. let t : Title = record { id = b.id; sender = n; vector = v } in t) answers.passes.own
+          ∙ title_is a b v asks is (answers.passes.honest h))
+
+      records : c.honest → batch.records ≡ batch_of a.content w
+      records h =
+          let lawful = lawful_in a b v _ asks (answers.passes.honest h) in
+          let same : b.content ≡ a.content = kept h answers.passes.honest in
+          batch_one a.content w batch.records lawful (subst (λ R. Rattle.exchange.specs.Batches.IsBatchFor R w batch.records) same (answers.batch h))
+
+-- what was to be sent is, or memory was wanting
+pub carry_sends : (a b c : Store) (v : List ℕ) (w : ℕ → ℕ) (batch : Batch) (state : State) (t : Title) (result : Result Reply ExchangeFault) → Asks a b (Ok v) (λ v. (replica : ℕ) → number_of v replica ≡ vec a.content replica)
+    → Answers b c w (Ok batch) → IsVector v → t ≡ title_in c v → IfOk result (λ r. (r ≡ reply_by state (message.Carries t batch.records)) × IsSpelledReply r) → IfErr result (λ e. e ≡ exchange.OutOfMemory)
+    → Handles a c [] (carrying (party_of a) state a.content (batch_of a.content w)) result
+carry_sends a b c v w batch state t (Ok reply) asks answers is e ok err =
+    carry_ok a b c v w asks batch state reply answers is ok.1 (ok.0 ∙ ap (λ (x : Title). reply_by state (message.Carries x batch.records)) e)
+carry_sends a b c v w batch state t (Err fault) asks answers is e ok err = carry_starves a b c v w asks batch fault _ answers err refl
+
+-- ---- pushing
+
+told_clear : (a c : Store) (turn : Turn) (reply : Reply) → (handles : Handles a c [] turn (Ok reply)) → c.honest → Tells turn (Ok reply)
+told_clear a c turn reply handles h = subst (λ w. Tells (gone w a.content [] turn) (Ok reply)) handles.clear (handles.tells h)
+
+left_clear : (a c : Store) (turn : Turn) (reply : Reply) → (handles : Handles a c [] turn (Ok reply)) → c.honest → c.broken ≡ false → c.content ≡ turn.content
+left_clear a c turn reply handles h u = subst (λ w. c.content ≡ (gone w a.content [] turn).content) handles.clear (handles.content h u)
+
+pushed_content : (p : Party) (R : Content) (rs : List Record) → (pushing p R rs).content ≡ R
+pushed_content p R [] = refl
+pushed_content p R (r ∷ rs) = refl
+
+-- what was to carry records carries none: the dialog ends
+pub push_ends : (a c : Store) (rs : List Record) (reply ends : Reply) → Handles a c [] (carrying (party_of a) state.Pushing a.content rs) (Ok reply) → carries_none reply ≡ true
+    → ends ≡ reply_by state.Done (message.Ends 0) → Handles a c [] (pushing (party_of a) a.content rs) (Ok ends)
+push_ends a c rs reply ends handles none e = record {
+  way = Clear;
+  outside = tt;
+  clear = refl;
+  tells = λ h. tells rs (told_clear a c (carrying (party_of a) state.Pushing a.content rs) reply handles h);
+  spelled = subst IsSpelledReply (sym e) (omega arith);
+  content = λ h u. left_clear a c (carrying (party_of a) state.Pushing a.content rs) reply handles h u ∙ sym (pushed_content (party_of a) a.content rs);
+  crash = handles.crash;
+  passes = subst (λ w. Passes a c (faults_by (fault_on w))) handles.clear handles.passes;
+}
+  where
+    tells : (xs : List Record) → Tells (carrying (party_of a) state.Pushing a.content xs) (Ok reply) → Tells (pushing (party_of a) a.content xs) (Ok ends)
+    tells [] told = (ap (λ (r : Reply). Ok r.state) (sym e), ap (λ (r : Reply). r.message) (sym e), ap (λ (r : Reply). r.code) (sym e))
+    tells (x ∷ xs) told = absurd (true≢false (sym none ∙ ap (λ o. option_map_or is_bare o false) (sym told.1)))
+
+-- it carries some
+pub push_goes : (a c : Store) (rs : List Record) (reply : Reply) → Handles a c [] (carrying (party_of a) state.Pushing a.content rs) (Ok reply) → carries_none reply ≡ false
+    → Handles a c [] (pushing (party_of a) a.content rs) (Ok reply)
+push_goes a c rs reply handles some = record {
+  way = Clear;
+  outside = tt;
+  clear = refl;
+  tells = λ h. tells rs (told_clear a c (carrying (party_of a) state.Pushing a.content rs) reply handles h);
+  spelled = handles.spelled;
+  content = λ h u. left_clear a c (carrying (party_of a) state.Pushing a.content rs) reply handles h u ∙ sym (pushed_content (party_of a) a.content rs);
+  crash = handles.crash;
+  passes = subst (λ w. Passes a c (faults_by (fault_on w))) handles.clear handles.passes;
+}
+  where
+    tells : (xs : List Record) → Tells (carrying (party_of a) state.Pushing a.content xs) (Ok reply) → Tells (pushing (party_of a) a.content xs) (Ok reply)
+    tells [] told = absurd (true≢false (ap (λ o. option_map_or is_bare o false) told.1 ∙ some))
+    tells (x ∷ xs) told = told
+
+-- ---- learning
+
+fault_told : (X : Content) (f : ExchangeFault) (result : Result Reply ExchangeFault) → Tells (failing X f) result → result ≡ Err f
+fault_told X f (Ok reply) told = absurd (true≢false (sym (ap is_ok told.0)))
+fault_told X f (Err g) told = sym (ap (λ (t : Turn). err_of t.result) told)
+  where
+    err_of : Result State ExchangeFault → Result Reply ExchangeFault
+    err_of (Ok s) = Err f
+    err_of (Err g) = Err g
+
+tells_fault : (Y : Content) (f : ExchangeFault) (result : Result Reply ExchangeFault) → result ≡ Err f → Tells (failing Y f) result
+tells_fault Y f result e = subst (Tells (failing Y f)) (sym e) refl
+
+-- what was to carry records failed
+pub push_fails : (a c : Store) (rs : List Record) (fault : ExchangeFault) → Handles a c [] (carrying (party_of a) state.Pushing a.content rs) (Err fault) → Handles a c [] (pushing (party_of a) a.content rs) (Err fault)
+push_fails a c rs fault handles = record {
+  way = handles.way;
+  outside = handles.outside;
+  clear = tt;
+  tells = λ h. tells handles.way handles.outside (handles.tells h);
+  spelled = tt;
+  content = λ h u. handles.content h u ∙ left handles.way;
+  crash = handles.crash;
+  passes = handles.passes;
+}
+  where
+    tells : (w : Way) → IsWay [] w → Tells (gone w a.content [] (carrying (party_of a) state.Pushing a.content rs)) (Err fault) → Tells (gone w a.content [] (pushing (party_of a) a.content rs)) (Err fault)
+    tells Clear is told = absurd (true≢false (ap is_ok (ap (λ (t : Turn). t.result) told)))
+    tells Unread is told = told
+    tells (Stopped k f) is told = absurd (omega (arith, is))
+    tells Starved is told = tells_fault _ _ (Err fault) (fault_told _ _ (Err fault) told)
+    tells (Met f) is told = tells_fault _ _ (Err fault) (fault_told _ _ (Err fault) told)
+
+    left : (w : Way) → (gone w a.content [] (carrying (party_of a) state.Pushing a.content rs)).content ≡ (gone w a.content [] (pushing (party_of a) a.content rs)).content
+    left Clear = sym (pushed_content (party_of a) a.content rs)
+    left Unread = refl
+    left (Stopped k f) = refl
+    left Starved = sym (pushed_content (party_of a) a.content rs)
+    left (Met f) = sym (pushed_content (party_of a) a.content rs)
+
+-- where all are learned, nothing is refused
+none_refused_all : (rs : List Record) (k : ℕ) (R S : Content) → learned_all rs R ≡ Some S → refusal k R rs ≡ None
+none_refused_all [] k R S e = refl
+none_refused_all (r ∷ rs) k R S e = go (λ T h. none_refused_all rs (suc k) T S h) (finding R r) refl
+  where
+    go : ((T : Content) → learned_all rs T ≡ Some S → refusal (suc k) T rs ≡ None) → (f : Finding) → finding R r ≡ f → refusal_by (refusal (suc k) (unwrap_or (learned R r) R) rs) k (answer_to (finding R r)) ≡ None
+    go later Adds is =
+        let got : learned R r ≡ Some (put r R) = ap (after_finding R r) is in
+        ap (λ f. refusal_by (refusal (suc k) (unwrap_or (learned R r) R) rs) k (answer_to f)) is
+        ∙ (ap (λ o. refusal (suc k) (unwrap_or o R) rs) got ∙ later (put r R) (sym (ap (option_and_then (learned_all rs)) got) ∙ e))
+    go later Holds is =
+        let got : learned R r ≡ Some R = ap (after_finding R r) is in
+        ap (λ f. refusal_by (refusal (suc k) (unwrap_or (learned R r) R) rs) k (answer_to f)) is
+        ∙ (ap (λ o. refusal (suc k) (unwrap_or o R) rs) got ∙ later R (sym (ap (option_and_then (learned_all rs)) got) ∙ e))
+    go later Clash is = absurd (none-some _ (sym (ap (λ f. option_and_then (learned_all rs) (after_finding R r f)) is) ∙ e))
+    go later (Gap m n) is = absurd (none-some _ (sym (ap (λ f. option_and_then (learned_all rs) (after_finding R r f)) is) ∙ e))
+    go later TickTooFar is = absurd (none-some _ (sym (ap (λ f. option_and_then (learned_all rs) (after_finding R r f)) is) ∙ e))
+    go later TickNotRising is = absurd (none-some _ (sym (ap (λ f. option_and_then (learned_all rs) (after_finding R r f)) is) ∙ e))
+
+-- the first that is refused is told
+first_refused : (rs : List Record) (k j : ℕ) (R S : Content) (next : Record) (cause : LearnFault) → learned_all (take k rs) R ≡ Some S → slice_get rs k ≡ Some next → answer_to (finding S next) ≡ Err cause
+    → refusal j R rs ≡ Some (exchange.Learn (j + k) cause)
+first_refused [] k j R S next cause e there told = absurd (none-some _ there)
+first_refused (r ∷ rs) zero j R S next cause e there told =
+    let here : R ≡ S = same_Some _ _ e in
+    let same : r ≡ next = same_Some _ _ there in
+    let is : answer_to (finding R r) ≡ Err cause = ap (λ x. answer_to (finding R x)) same ∙ (ap (λ T. answer_to (finding T next)) here ∙ told) in
+    let at : j ≡ j + 0 = omega arith in
+    ap (refusal_by (refusal (suc j) (unwrap_or (learned R r) R) rs) j) is ∙ ap (λ n. Some (exchange.Learn n cause)) at
+first_refused (r ∷ rs) (suc k) j R S next cause e there told = go (λ T h. first_refused rs k (suc j) T S next cause h there told) (finding R r) refl
+  where
+    later : ((T : Content) → learned_all (take k rs) T ≡ Some S → refusal (suc j) T rs ≡ Some (exchange.Learn (suc j + k) cause)) → (T : Content) → learned R r ≡ Some T → refusal (suc j) (unwrap_or (learned R r) R) rs ≡ Some (exchange.Learn (j + suc k) cause)
+    later rest T got =
+        let at : suc j + k ≡ j + suc k = omega arith in
+        ap (λ o. refusal (suc j) (unwrap_or o R) rs) got
+        ∙ (rest T (sym (ap (option_and_then (learned_all (take k rs))) got) ∙ e) ∙ ap (λ n. Some (exchange.Learn n cause)) at)
+
+    none : learned R r ≡ None → refusal j R (r ∷ rs) ≡ Some (exchange.Learn (j + suc k) cause)
+    none is = absurd (none-some _ (sym (ap (option_and_then (learned_all (take k rs))) is) ∙ e))
+
+    go : ((T : Content) → learned_all (take k rs) T ≡ Some S → refusal (suc j) T rs ≡ Some (exchange.Learn (suc j + k) cause)) → (f : Finding) → finding R r ≡ f → refusal j R (r ∷ rs) ≡ Some (exchange.Learn (j + suc k) cause)
+    go rest Adds is = ap (λ f. refusal_by (refusal (suc j) (unwrap_or (learned R r) R) rs) j (answer_to f)) is ∙ later rest (put r R) (ap (after_finding R r) is)
+    go rest Holds is = ap (λ f. refusal_by (refusal (suc j) (unwrap_or (learned R r) R) rs) j (answer_to f)) is ∙ later rest R (ap (after_finding R r) is)
+    go rest Clash is = none (ap (after_finding R r) is)
+    go rest (Gap m n) is = none (ap (after_finding R r) is)
+    go rest TickTooFar is = none (ap (after_finding R r) is)
+    go rest TickNotRising is = none (ap (after_finding R r) is)
+
+learnt_content : (p : Party) (state : State) (R : Content) (o : Option ExchangeFault) → (learnt p state R o).content ≡ R
+learnt_content p state R None = refl
+learnt_content p state R (Some fault) = refl
+
+unbroken_before : (a b : Store) (faults : List StoreFault) → Passes a b faults → b.broken ≡ false → a.broken ≡ false
+unbroken_before a b faults passes u = go a.broken refl
+  where
+    go : (x : Bool) → a.broken ≡ x → a.broken ≡ false
+    go true e = absurd (true≢false (sym (passes.broken ∙ ap (λ y. y || list_any is_break faults) e) ∙ u))
+    go false e = e
+
+party_kept : (a b : Store) (faults : List StoreFault) → Passes a b faults → party_of b ≡ party_of a
+party_kept a b faults passes =
+    ap (λ i. let p : Party = record { id = i; own = b.own } in p) passes.id ∙ ap (λ n. let p : Party = record { id = a.id; own = n } in p) passes.own
+
+-- what comes in the way of the vector comes behind the batch
+abbrev lifted : Way → Way
+lifted Clear = Clear
+lifted Unread = Starved
+lifted (Stopped k fault) = Stopped k fault
+lifted Starved = Starved
+lifted (Met fault) = Met fault
+
+-- all were learned, and the own vector is to be sent
+module _ (a b c : Store) (rs : List Record) (n : ℕ) (state : State) (result : Result Reply ExchangeFault)
+    (merges : Merges a b rs (Ok n)) (handles : Handles b c [] (asking (party_of b) state b.content) result) (ended : b.broken ≡ true → result ≡ Err (exchange.Store Broken)) where
+  learning_is : c.honest → learning (party_of a) state a.content rs ≡ asking (party_of a) state (merged rs a.content)
+  learning_is h = ap (learnt (party_of a) state (merged rs a.content)) (none_refused_all rs 0 a.content (merged rs a.content) (merges.tells (handles.passes.honest h)).0)
+
+  left_is : c.honest → b.broken ≡ false → b.content ≡ merged rs a.content
+  left_is h u = merges.content (handles.passes.honest h) u ∙ ap (λ xs. merged xs a.content) (take_all (length rs) rs (omega arith))
+
+  asking_is : c.honest → b.broken ≡ false → asking (party_of b) state b.content ≡ learning (party_of a) state a.content rs
+  asking_is h u =
+      ap (λ p. asking p state b.content) (party_kept a b [] merges.passes) ∙ (ap (asking (party_of a) state) (left_is h u) ∙ sym (learning_is h))
+
+  lifted_outside : (w : Way) → IsWay [] w → IsWay rs (lifted w)
+  lifted_outside Clear is = tt
+  lifted_outside Unread is = tt
+  lifted_outside (Stopped k fault) is = absurd (omega (arith, is))
+  lifted_outside Starved is = tt
+  lifted_outside (Met fault) is = tt
+
+  lifted_tells : (w : Way) → c.honest → IsWay [] w → Tells (gone w b.content [] (asking (party_of b) state b.content)) result → Tells (gone (lifted w) a.content rs (learning (party_of a) state a.content rs)) result
+  lifted_tells Clear h is told = go b.broken refl
+    where
+      go : (x : Bool) → b.broken ≡ x → Tells (learning (party_of a) state a.content rs) result
+      go true e = absurd (true≢false (ap is_ok (ap (λ (t : Turn). t.result) (subst (Tells (asking (party_of b) state b.content)) (ended e) told))))
+      go false e = subst (λ t. Tells t result) (asking_is h e) told
+  lifted_tells Unread h is told = tells_fault _ _ result (fault_told _ _ result told)
+  lifted_tells (Stopped k fault) h is told = absurd (omega (arith, is))
+  lifted_tells Starved h is told = tells_fault _ _ result (fault_told _ _ result told)
+  lifted_tells (Met fault) h is told = tells_fault _ _ result (fault_told _ _ result told)
+
+  left_by : (w : Way) → IsWay [] w → (gone w b.content [] (asking (party_of b) state b.content)).content ≡ b.content
+  left_by Clear is = refl
+  left_by Unread is = refl
+  left_by (Stopped k fault) is = absurd (omega (arith, is))
+  left_by Starved is = refl
+  left_by (Met fault) is = refl
+
+  lifted_left : (w : Way) → IsWay [] w → (gone (lifted w) a.content rs (learning (party_of a) state a.content rs)).content ≡ merged rs a.content
+  lifted_left Clear is = learnt_content (party_of a) state (merged rs a.content) (refusal 0 a.content rs)
+  lifted_left Unread is = learnt_content (party_of a) state (merged rs a.content) (refusal 0 a.content rs)
+  lifted_left (Stopped k fault) is = absurd (omega (arith, is))
+  lifted_left Starved is = learnt_content (party_of a) state (merged rs a.content) (refusal 0 a.content rs)
+  lifted_left (Met fault) is = learnt_content (party_of a) state (merged rs a.content) (refusal 0 a.content rs)
+
+  lifted_faults : (w : Way) → fault_on (lifted w) ≡ fault_on w
+  lifted_faults Clear = refl
+  lifted_faults Unread = refl
+  lifted_faults (Stopped k fault) = refl
+  lifted_faults Starved = refl
+  lifted_faults (Met fault) = refl
+
+  lifted_clear : (r : Result Reply ExchangeFault) → IfOk r (λ _. handles.way ≡ Clear) → IfOk r (λ _. lifted handles.way ≡ Clear)
+  lifted_clear (Ok reply) e = ap lifted e
+  lifted_clear (Err fault) e = tt
+
+  pub learn_asks : Handles a c rs (learning (party_of a) state a.content rs) result
+  learn_asks = record {
+    way = lifted handles.way;
+    outside = lifted_outside handles.way handles.outside;
+    clear = lifted_clear result handles.clear;
+    tells = λ h. lifted_tells handles.way h handles.outside (handles.tells h);
+    spelled = handles.spelled;
+    content = λ h u.
+        let used : b.broken ≡ false = unbroken_before b c _ handles.passes u in
+        handles.content h u ∙ (left_by handles.way handles.outside ∙ (left_is h used ∙ sym (lifted_left handles.way handles.outside)));
+    crash = λ h left m. elim (handles.crash h left m) [
+      | inl before ↦ elim (merges.crash (handles.passes.honest h) left before) [ inl old ↦ inl old | inr q ↦ inr (q.0, q.1, q.3) ]
+      | inr q ↦ inr (unbroken_before a b [] merges.passes q.0, length rs, q.2 ∙ (left_by_take q.1 ∙ (left_is h q.0 ∙ ap (λ xs. merged xs a.content) (sym (take_all (length rs) rs (omega arith))))))
+    ];
+    passes = subst (λ o. Passes a c (faults_by o)) (sym (lifted_faults handles.way)) (passes-then a b c [] (faults_by (fault_on handles.way)) merges.passes handles.passes);
+  }
+    where
+      left_by_take : (k : ℕ) → merged (take k []) b.content ≡ b.content
+      left_by_take zero = refl
+      left_by_take (suc k) = refl
+
+meets_refusal : (S : Content) (r : Record) (cause : LearnFault) → IsRefusal cause → Meets S r cause → answer_to (finding S r) ≡ Err cause
+meets_refusal S r (refused.Gap held got) is met = met
+meets_refusal S r refused.Clash is met = met
+meets_refusal S r refused.TickNotRising is met = met
+meets_refusal S r refused.TickTooFar is met = met
+meets_refusal S r (refused.Store fault) is met = absurd is
+
+no_fault : (k : ℕ) (cause : LearnFault) → IsRefusal cause → faults_by (store_fault_of (exchange.Learn k cause)) ≡ []
+no_fault k (refused.Gap held got) is = refl
+no_fault k refused.Clash is = refl
+no_fault k refused.TickNotRising is = refl
+no_fault k refused.TickTooFar is = refl
+no_fault k (refused.Store fault) is = absurd is
+
+refuses : (a b : Store) (rs : List Record) (state : State) (k : ℕ) (cause : LearnFault) → Merges a b rs (Err (exchange.Learn k cause)) → IsRefusal cause → Handles a b rs (learning (party_of a) state a.content rs) (Err (exchange.Learn k cause))
+refuses a b rs state k cause merges is = record {
+  way = Clear;
+  outside = tt;
+  clear = tt;
+  tells = λ h.
+      let stops = merges.tells.1 h in
+      let is_refused = first_refused rs k 0 a.content (merged (take k rs) a.content) stops.next cause stops.held stops.there (meets_refusal _ stops.next cause is stops.met) in
+      let at : 0 + k ≡ k = omega arith in
+      let turn : learning (party_of a) state a.content rs ≡ failing (merged rs a.content) (exchange.Learn k cause) = ap (learnt (party_of a) state (merged rs a.content)) (is_refused ∙ ap (λ n. Some (exchange.Learn n cause)) at) in
+      turn ∙ ap (λ R. failing R (exchange.Learn k cause)) (sym (learnt_content (party_of a) state (merged rs a.content) (refusal 0 a.content rs)));
+  spelled = tt;
+  content = λ h u. merges.content h u ∙ (sym (merged_stops a.content rs k cause (merges.tells.1 h) is) ∙ sym (learnt_content (party_of a) state (merged rs a.content) (refusal 0 a.content rs)));
+  crash = λ h left m. elim (merges.crash h left m) [ inl old ↦ inl old | inr q ↦ inr (q.0, q.1, q.3) ];
+  passes = subst (Passes a b) (no_fault k cause is) merges.passes;
+}
+
+-- one was refused, or the store failed at it
+pub learn_stops : (a b : Store) (rs : List Record) (state : State) (fault : ExchangeFault) → Merges a b rs (Err fault) → Handles a b rs (learning (party_of a) state a.content rs) (Err fault)
+learn_stops a b rs state (exchange.Learn k (refused.Store fault)) merges = record {
+  way = Stopped k fault;
+  outside = merges.tells.0;
+  clear = tt;
+  tells = λ h. refl;
+  spelled = tt;
+  content = λ h u. merges.content h u;
+  crash = λ h left m. elim (merges.crash h left m) [ inl old ↦ inl old | inr q ↦ inr (q.0, q.1, q.3) ];
+  passes = merges.passes;
+}
+learn_stops a b rs state (exchange.Learn k refused.Clash) merges = refuses a b rs state k refused.Clash merges tt
+learn_stops a b rs state (exchange.Learn k (refused.Gap held got)) merges = refuses a b rs state k (refused.Gap held got) merges tt
+learn_stops a b rs state (exchange.Learn k refused.TickNotRising) merges = refuses a b rs state k refused.TickNotRising merges tt
+learn_stops a b rs state (exchange.Learn k refused.TickTooFar) merges = refuses a b rs state k refused.TickTooFar merges tt
+learn_stops a b rs state exchange.Frame merges = absurd merges.tells
+learn_stops a b rs state exchange.WrongArchive merges = absurd merges.tells
+learn_stops a b rs state exchange.OutOfMemory merges = absurd merges.tells
+learn_stops a b rs state exchange.SelfPeer merges = absurd merges.tells
+learn_stops a b rs state (exchange.Store fault) merges = absurd merges.tells
+learn_stops a b rs state exchange.TooLong merges = absurd merges.tells
+learn_stops a b rs state exchange.PeerFormat merges = absurd merges.tells
+
+-- the store wasn't asked
+pub unmoved : (a : Store) (rs : List Record) (turn : Turn) (result : Result Reply ExchangeFault) → Tells turn result → turn.content ≡ a.content → IfOk result IsSpelledReply → Handles a a rs turn result
+unmoved a rs turn result told kept spelled = record {
+  way = Clear;
+  outside = tt;
+  clear = clear result;
+  tells = λ h. told;
+  spelled = spelled;
+  content = λ h u. sym kept;
+  crash = λ h left m. inl m;
+  passes = passes-none a;
+}
+  where
+    clear : (r : Result Reply ExchangeFault) → IfOk r (λ _. Clear ≡ Clear)
+    clear (Ok reply) = refl
+    clear (Err fault) = tt
+
+pub broken_kept : (R : Content) (n : ℕ) → (broken_off R n).content ≡ R
+broken_kept R zero = refl
+broken_kept R (suc n) = refl
+
+pub breaks_off : (n : ℕ) (reply : Reply) → (n ≡ 0 → ⊥) → ((R : Content) → Tells (ended_by R n) (Ok reply)) → (R : Content) → Tells (broken_off R n) (Ok reply)
+breaks_off zero reply some told R = absurd (some refl)
+breaks_off (suc n) reply some told R = told R

@@ -1,0 +1,174 @@
+-- What an end makes of a frame.
+use Rattle.std.proofs.Common.{◌≡◌, ℕ, zero, suc, List, [], ◌++◌, take, Option, None, Result, Ok, Err, refl, sym, ap, ◌∙◌, subst, inl, inr}
+use Rattle.stamp.specs.Numbers.{number_of, IsVector}
+use Rattle.ua_binary.specs.Format.{Puts}
+use Rattle.records.specs.Contents.{vec, merged}
+use Rattle.records.specs.Spelling.{GivesUnless}
+use Rattle.archive.specs.Store.{Store, Asks, Passes, faults_by}
+use Rattle.archive.proofs.Calls.{passes-leaves}
+use Rattle.std.proofs.lemmas.Option.{none-some}
+use Rattle.exchange.specs.declared.fault.ExchangeFault.{ExchangeFault}
+use Rattle.exchange.specs.declared.fault.ExchangeFault.TheVariants as exchange
+use Rattle.exchange.specs.declared.message.FrameKind.{FrameKind}
+use Rattle.exchange.specs.declared.message.Title.{Title}
+use Rattle.exchange.specs.declared.message.Message.{Message}
+use Rattle.exchange.specs.declared.message.Message.TheVariants as message
+use Rattle.exchange.specs.declared.message.State.{State}
+use Rattle.exchange.specs.declared.message.State.TheVariants as state
+use Rattle.exchange.specs.declared.dialog.Reply.{Reply}
+use Rattle.exchange.specs.Frames.{frame_of}
+use Rattle.exchange.specs.Dialogs.{Turn, failing, turned, title_by, Way, Clear, Unread, Stopped, Starved, Met, IsWay, gone, fault_on, records_in, records_read, Standing, unfit, received, answered, answered_to, standing_after, state_after, code_after, taken_after, party_of, bytes_of, Tells, TellsFault, Handles, Writes, Takes, Greets, Sends, SendsHandled, AnswersTo, Concludes}
+use Rattle.exchange.proofs.HandleLemmas.{title_in, title_is}
+
+-- ---- what was handled is written
+
+pub answers_sent : (a c : Store) (state : State) (m : Message) (handled : Result Reply ExchangeFault) (result : Result (State × Option ℕ) ExchangeFault) (out written : List ℕ)
+    → Handles a c (records_in m) (turned (party_of a) state a.content m) handled → SendsHandled handled result out written → AnswersTo a c state (Ok m) out written result
+answers_sent a c state m (Ok reply) (Ok done) out written handles sends = record {
+  way = handles.way;
+  unmoved = tt;
+  outside = handles.outside;
+  sends = λ h.
+      let told = handles.tells h in (
+        told.0 ∙ ap Ok (sym sends.0),
+        told.2 ∙ sym sends.1,
+        sends.2 ∙ ap (λ o. out ++ bytes_of o) (sym told.1),
+      );
+  content = handles.content;
+  crash = handles.crash;
+  passes = handles.passes;
+}
+answers_sent a c state m (Ok reply) (Err fault) out written handles sends = record {
+  way = Starved;
+  unmoved = tt;
+  outside = tt;
+  sends = λ h. (ap (failing _) (sym sends.0), sends.1);
+  content = λ h u. subst (λ w. c.content ≡ (gone w a.content (records_in m) (turned (party_of a) state a.content m)).content) handles.clear (handles.content h u);
+  crash = handles.crash;
+  passes = subst (λ w. Passes a c (faults_by (fault_on w))) handles.clear handles.passes;
+}
+answers_sent a c state m (Err fault) (Ok done) out written handles sends = absurd sends
+answers_sent a c state m (Err fault) (Err told) out written handles sends = record {
+  way = handles.way;
+  unmoved = tt;
+  outside = handles.outside;
+  sends = λ h. (handles.tells h ∙ ap (failing _) (sym sends.0), sends.1);
+  content = handles.content;
+  crash = handles.crash;
+  passes = handles.passes;
+}
+
+-- ---- the end stands as it says
+
+module _ (a c : Store) (before counted after : Standing) (kind : FrameKind) (out mid written : List ℕ) (result : Result State ExchangeFault)
+    (counts : counted ≡ record before { taken = taken_after (unfit before kind) before.taken }) where
+  writes : (turn : Turn) (answered : Result (State × Option ℕ) ExchangeFault) → Sends turn answered out mid → Concludes counted after answered result mid written → Writes turn result out written
+  writes turn (Ok done) sends concludes = inl (concludes.1 ∙ sym sends.0, concludes.2 ∙ sends.2)
+  writes turn (Err fault) sends concludes = elim concludes.1 [
+    | inl told ↦ inl (
+      told.0 ∙ sym (ap (λ (t : Turn). t.result) sends.0),
+      told.1 ∙ (ap (λ o. o ++ frame_of (message.Ends (Rattle.exchange.specs.Fault.exchange_number fault))) sends.1 ∙ ap (λ (t : Turn). out ++ bytes_of t.reply) (sym sends.0)),
+    )
+    | inr starved ↦ inr (fault, ap (λ (t : Turn). t.result) sends.0, starved.0, starved.1 ∙ sends.1)
+  ]
+
+  stands : (turn : Turn) (answered : Result (State × Option ℕ) ExchangeFault) → Sends turn answered out mid → Concludes counted after answered result mid written → after ≡ standing_after before kind turn
+  stands turn (Ok done) sends concludes =
+      concludes.0
+      ∙ (ap (λ (s : Standing). let t : Standing = record s { state = done.0; code = code_after s.code done.1 } in t) counts
+      ∙ (ap (λ (r : Result State ExchangeFault). let t : Standing = record { state = state_after r; taken = taken_after (unfit before kind) before.taken; code = code_after before.code done.1; started = before.started } in t) (sym sends.0)
+      ∙ ap (λ (o : Option ℕ). let t : Standing = record { state = state_after turn.result; taken = taken_after (unfit before kind) before.taken; code = code_after before.code o; started = before.started } in t) (sym sends.1)))
+  stands turn (Err fault) sends concludes =
+      concludes.0
+      ∙ (ap (λ (s : Standing). let t : Standing = record s { state = state.Failed } in t) counts
+      ∙ ap (λ (x : Turn). let t : Standing = record { state = state_after x.result; taken = taken_after (unfit before kind) before.taken; code = code_after before.code x.code; started = before.started } in t) (sym sends.0))
+
+  taken_is : (answered : Result (State × Option ℕ) ExchangeFault) → Concludes counted after answered result mid written → after.taken ≡ taken_after (unfit before kind) before.taken
+  taken_is (Ok done) concludes = ap (λ (s : Standing). s.taken) concludes.0 ∙ ap (λ (s : Standing). s.taken) counts
+  taken_is (Err fault) concludes = ap (λ (s : Standing). s.taken) concludes.0 ∙ ap (λ (s : Standing). s.taken) counts
+
+  started_is : (answered : Result (State × Option ℕ) ExchangeFault) → Concludes counted after answered result mid written → after.started ≡ before.started
+  started_is (Ok done) concludes = ap (λ (s : Standing). s.started) concludes.0 ∙ ap (λ (s : Standing). s.started) counts
+  started_is (Err fault) concludes = ap (λ (s : Standing). s.started) concludes.0 ∙ ap (λ (s : Standing). s.started) counts
+
+  -- what was received is what the frame says
+  takes_it : (body : List ℕ) (answered : Result (State × Option ℕ) ExchangeFault) → AnswersTo a c before.state (received (party_of a) before kind body) out mid answered
+      → Concludes counted after answered result mid written → Takes a c before after kind body out written result
+  takes_it body answered answers concludes = record {
+    way = answers.way;
+    outside = answers.outside;
+    writes = λ h. writes _ answered (answers.sends h) concludes;
+    stands = λ h. stands _ answered (answers.sends h) concludes;
+    content = answers.content;
+    crash = answers.crash;
+    passes = answers.passes;
+    counted = taken_is answered concludes;
+    started = started_is answered concludes;
+  }
+
+  -- memory was wanting before it was known
+  unread : (body : List ℕ) (answered : Result (State × Option ℕ) ExchangeFault) → AnswersTo a c before.state (Err exchange.OutOfMemory) out mid answered
+      → Concludes counted after answered result mid written → Takes a c before after kind body out written result
+  unread body answered answers concludes = record {
+    way = Unread;
+    outside = outside (received (party_of a) before kind body);
+    writes = λ h. writes (Rattle.exchange.specs.Dialogs.answered (party_of a) before a.content Unread kind body) answered (same (received (party_of a) before kind body) (sends h)) concludes;
+    stands = λ h. stands (Rattle.exchange.specs.Dialogs.answered (party_of a) before a.content Unread kind body) answered (same (received (party_of a) before kind body) (sends h)) concludes;
+    content = λ h u. subst (λ w. c.content ≡ (gone w a.content [] (failing a.content exchange.OutOfMemory)).content) answers.unmoved (answers.content h u) ∙ left (received (party_of a) before kind body);
+    crash = λ h left m. elim (answers.crash h left m) [
+      | inl old ↦ inl old
+      | inr q ↦ inr (q.0, 0, q.2 ∙ none q.1)
+    ];
+    passes = subst (λ w. Passes a c (faults_by (fault_on w))) answers.unmoved answers.passes;
+    counted = taken_is answered concludes;
+    started = started_is answered concludes;
+  }
+    where
+      outside : (r : Result Message ExchangeFault) → IsWay (records_read r) Unread
+      outside r = tt
+
+      sends : c.honest → Sends (failing a.content exchange.OutOfMemory) answered out mid
+      sends h = subst (λ w. Sends (gone w a.content [] (failing a.content exchange.OutOfMemory)) answered out mid) answers.unmoved (answers.sends h)
+
+      same : (r : Result Message ExchangeFault) → Sends (failing a.content exchange.OutOfMemory) answered out mid → Sends (answered_to (party_of a) before.state a.content Unread r) answered out mid
+      same (Ok m) s = s
+      same (Err f) s = s
+
+      left : (r : Result Message ExchangeFault) → a.content ≡ (answered_to (party_of a) before.state a.content Unread r).content
+      left (Ok m) = refl
+      left (Err f) = refl
+
+      none : (k : ℕ) → merged (take k []) a.content ≡ merged (take 0 (records_read (received (party_of a) before kind body))) a.content
+      none zero = refl
+      none (suc k) = refl
+
+  pub takes : (body : List ℕ) (got : Result Message ExchangeFault) (answered : Result (State × Option ℕ) ExchangeFault) → GivesUnless exchange.OutOfMemory got (received (party_of a) before kind body)
+      → AnswersTo a c before.state got out mid answered → Concludes counted after answered result mid written → Takes a c before after kind body out written result
+  takes body (Ok m) answered gives answers concludes = takes_it body answered (subst (λ r. AnswersTo a c before.state r out mid answered) (sym gives) answers) concludes
+  takes body (Err exchange.OutOfMemory) answered gives answers concludes = unread body answered answers concludes
+  takes body (Err exchange.Frame) answered gives answers concludes = takes_it body answered (subst (λ r. AnswersTo a c before.state r out mid answered) (sym (gives (λ e. cc))) answers) concludes
+  takes body (Err exchange.WrongArchive) answered gives answers concludes = takes_it body answered (subst (λ r. AnswersTo a c before.state r out mid answered) (sym (gives (λ e. cc))) answers) concludes
+  takes body (Err (exchange.Learn k cause)) answered gives answers concludes = takes_it body answered (subst (λ r. AnswersTo a c before.state r out mid answered) (sym (gives (λ e. cc))) answers) concludes
+  takes body (Err exchange.SelfPeer) answered gives answers concludes = takes_it body answered (subst (λ r. AnswersTo a c before.state r out mid answered) (sym (gives (λ e. cc))) answers) concludes
+  takes body (Err (exchange.Store fault)) answered gives answers concludes = takes_it body answered (subst (λ r. AnswersTo a c before.state r out mid answered) (sym (gives (λ e. cc))) answers) concludes
+  takes body (Err exchange.PeerFormat) answered gives answers concludes = takes_it body answered (subst (λ r. AnswersTo a c before.state r out mid answered) (sym (gives (λ e. cc))) answers) concludes
+  takes body (Err exchange.TooLong) answered gives answers concludes = takes_it body answered (subst (λ r. AnswersTo a c before.state r out mid answered) (sym (gives (λ e. cc))) answers) concludes
+
+-- ---- the first frame
+
+pub greets : (a b : Store) (v out written : List ℕ) (t : Title) (result : Result (Unit {0}) ExchangeFault) → Asks a b (Ok v) (λ v. (replica : ℕ) → number_of v replica ≡ vec a.content replica) → IsVector v → t ≡ title_in b v
+    → Puts exchange.OutOfMemory result out written (frame_of (message.Asks t)) → Greets a b out written result
+greets a b v out written t (Ok u) asks is e puts = record {
+  frame = λ h. puts ∙ ap (λ (x : Title). out ++ frame_of (message.Asks x)) (e ∙ title_is a b v asks is h);
+  kept = tt;
+  ended = λ x. absurd (none-some _ (asks.leaves.ended x));
+  stays = asks.stays;
+  passes = asks.leaves.passes;
+}
+greets a b v out written t (Err fault) asks is e puts = record {
+  frame = λ h. tt;
+  kept = (subst Rattle.exchange.specs.Batches.IsOfAnswer (sym puts.0) tt, puts.1);
+  ended = λ x. absurd (none-some _ (asks.leaves.ended x));
+  stays = asks.stays;
+  passes = subst (λ f. Passes a b (faults_by (Rattle.exchange.specs.Fault.store_fault_of f))) (sym puts.0) asks.leaves.passes;
+}

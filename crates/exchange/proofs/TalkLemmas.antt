@@ -1,0 +1,365 @@
+-- A whole dialog over memory.
+use Rattle.std.proofs.Common.{◌≡◌, ℕ, zero, suc, ◌+◌, ◌*◌, ◌<◌, ◌≤◌, true, false, Bool, List, [], ◌++◌, take, length, Some, None, Result, Ok, Err, refl, sym, ap, ◌∙◌, subst, arith, inl, inr, ◌⊎◌}
+use Rattle.std.specs.Prelude.{nat_lt}
+use Rattle.std.proofs.Math.Bool.{or-false}
+use Rattle.std.proofs.lemmas.Bool.{cases_Bool, ltb-true, ltb-false}
+use Rattle.records.specs.Contents.{Content, merged}
+use Rattle.archive.specs.declared.fault.LearnFault.TheVariants as refused
+use Rattle.archive.specs.Store.{Store, faults_by}
+use Rattle.archive.proofs.Calls.{passes-none, passes-then}
+use Rattle.exchange.specs.declared.fault.ExchangeFault.{ExchangeFault}
+use Rattle.exchange.specs.declared.fault.ExchangeFault.TheVariants as exchange
+use Rattle.stamp.specs.Limits.{IsReplica}
+use Rattle.exchange.specs.declared.message.FrameKind.{FrameKind}
+use Rattle.exchange.specs.declared.message.Message.TheVariants as message
+use Rattle.exchange.specs.declared.message.State.{State}
+use Rattle.exchange.specs.declared.message.State.TheVariants as state
+use Rattle.exchange.specs.declared.message.Party.{Party}
+use Rattle.exchange.specs.Fault.{store_fault_told}
+use Rattle.exchange.specs.Batches.{IsOfAnswer}
+use Rattle.exchange.specs.Frames.{kind_of, body_of, frame_of, IsSpelled}
+use Rattle.exchange.specs.Dialogs.{title_by, Turn, failing, Way, Clear, Unread, Stopped, Starved, Met, IsWay, gone, Standing, unfit, received, answered, records_read, party_of, most_frames, Writes, Takes, Greets}
+use Rattle.exchange.specs.Meetings.{IsBetween, AreJoined, CanMeet, IsOfOutside, IsOfMeeting, Converses, Hands}
+use Rattle.exchange.proofs.DialogLemmas.{between_first}
+use Rattle.exchange.proofs.MeetLemmas.{no_ok, told_or}
+use Rattle.exchange.proofs.ConverseLemmas.{IsParty, UnderWay, WayBack, AreOf, rests_hold, sent_few, sent_spelled, replied_spelled, finishes, falls, falls_between, goes_back, falls_back, falls_back_between, goes_on}
+
+-- ---- so far
+
+pub record Talk (a0 b0 a b : Store) (first second : Standing) (there : List ℕ) (n round : ℕ) : Type 0 where
+  pub of : AreOf a0 b0 a b
+  pub started : first.started ≡ true
+  pub started_other : second.started ≡ true
+  pub count : n ≡ 2 * round + 1
+  pub way : a.honest → b.honest → CanMeet a0 b0 → UnderWay a0 b0 a b first second there n round × (round ≤ most_frames)
+
+pub record TalkBack (a0 b0 a b : Store) (first second : Standing) (back : List ℕ) (n round : ℕ) : Type 0 where
+  pub of : AreOf a0 b0 a b
+  pub started : first.started ≡ true
+  pub started_other : second.started ≡ true
+  pub count : n ≡ 2 * round + 2
+  pub way : a.honest → b.honest → CanMeet a0 b0 → WayBack a0 b0 a b first second back n round × (round < most_frames)
+
+of_meeting : (f : ExchangeFault) → IsOfOutside f → IsOfMeeting f
+of_meeting exchange.OutOfMemory is = tt
+of_meeting (exchange.Store fault) is = tt
+of_meeting (exchange.Learn k (refused.Store fault)) is = tt
+of_meeting (exchange.Learn k refused.Clash) is = absurd is
+of_meeting (exchange.Learn k (refused.Gap held got)) is = absurd is
+of_meeting (exchange.Learn k refused.TickNotRising) is = absurd is
+of_meeting (exchange.Learn k refused.TickTooFar) is = absurd is
+of_meeting exchange.Frame is = absurd is
+of_meeting exchange.WrongArchive is = absurd is
+of_meeting exchange.SelfPeer is = absurd is
+of_meeting exchange.TooLong is = absurd is
+of_meeting exchange.PeerFormat is = absurd is
+
+of_answer : (f : ExchangeFault) → IsOfAnswer f → IsOfOutside f
+of_answer exchange.OutOfMemory is = tt
+of_answer (exchange.Store fault) is = tt
+of_answer (exchange.Learn k cause) is = absurd is
+of_answer exchange.Frame is = absurd is
+of_answer exchange.WrongArchive is = absurd is
+of_answer exchange.SelfPeer is = absurd is
+of_answer exchange.TooLong is = absurd is
+of_answer exchange.PeerFormat is = absurd is
+
+not_long : (f : ExchangeFault) → IsOfOutside f → f ≡ exchange.TooLong → ⊥
+not_long f is e = subst IsOfOutside e is
+
+err_is : (f g : ExchangeFault) → ◌≡◌ {A = Result ℕ ExchangeFault} (Err f) (Err g) → f ≡ g
+err_is f g e = cc
+
+-- ---- the first frame
+
+module _ (a0 b0 a : Store) (there : List ℕ) where
+  pub start_fails : (fault : ExchangeFault) → Greets a0 a [] there (Err fault) → Converses a0 b0 a b0 (Err fault)
+  start_fails fault greets = record {
+    joined = λ h k meet. tt;
+    between = λ h k meet. (
+      of_meeting fault (of_answer fault greets.kept.0),
+      record {
+        one = λ left m. rests_hold a0.content b0.content a0 (greets.passes.honest h) meet.one.0 meet.one.1 (between_first a0.content b0.content (meet.one.0 (greets.passes.honest h) meet.one.1).lawful) left (greets.stays.crash h left m);
+        other = λ left m. rests_hold b0.content a0.content b0 k meet.other.0 meet.other.1 (between_first b0.content a0.content (meet.other.0 k meet.other.1).lawful) left m;
+      },
+    );
+    long = λ h k meet e. absurd (not_long fault (of_answer fault greets.kept.0) (err_is fault exchange.TooLong e));
+    faults = faults_by (store_fault_told {A = Unit {0}} (Err fault));
+    passes = greets.passes;
+    others = [];
+    passes_other = passes-none b0;
+  }
+
+  pub talk_starts : (first second : Standing) (u : Unit {0}) → Greets a0 a [] there (Ok u) → first ≡ record { state = state.Pulling; taken = 0; code = None; started = true }
+      → second ≡ record { state = state.Serving; taken = 0; code = None; started = true } → Talk a0 b0 a b0 first second there 1 0
+  talk_starts first second u greets e f = record {
+    of = record { faults = []; passes = greets.passes; others = []; passes_other = passes-none b0 };
+    started = ap (λ (s : Standing). s.started) e;
+    started_other = ap (λ (s : Standing). s.started) f;
+    count = refl;
+    way = λ h k meet.
+        let ha = greets.passes.honest h in
+        let unbroken : a.broken ≡ false = greets.passes.broken ∙ (or-false a0.broken ∙ meet.one.1) in
+        let content : a.content ≡ a0.content = greets.stays.content h unbroken in (
+          record {
+            m = message.Asks (title_by (party_of a0) a0.content);
+            bytes = greets.frame h;
+            one = subst (IsBetween a0.content b0.content) (sym content) (between_first a0.content b0.content (meet.one.0 ha meet.one.1).lawful);
+            other = between_first b0.content a0.content (meet.other.0 k meet.other.1).lawful;
+            sent = subst (λ s. Rattle.exchange.proofs.DialogLemmas.Sent (party_of a0) a0.content b0.content a.content b0.content 1 s (message.Asks (title_by (party_of a0) a0.content))) (sym (ap (λ (s : Standing). s.state) e))
+                (ap (title_by (party_of a0)) (sym content), (omega (arith, ap length content), omega (arith, ap length content)));
+            serving = ap (λ (s : Standing). s.state) f;
+            taken = ap (λ (s : Standing). s.taken) e;
+            taken_other = ap (λ (s : Standing). s.taken) f;
+            used = ((greets.passes.rests meet.one.0, unbroken), meet.other);
+          },
+          omega arith,
+        );
+  }
+
+-- ---- the responder's turn
+
+ok_memory : (s : State) → ◌≡◌ {A = Result State ExchangeFault} (Ok s) (Err exchange.OutOfMemory) → ⊥
+ok_memory s e = cc
+
+fault_memory : (f : ExchangeFault) → ◌≡◌ {A = Result State ExchangeFault} (Err f) (Err exchange.OutOfMemory) → f ≡ exchange.OutOfMemory
+fault_memory f e = cc
+
+-- the frame is one too many
+module _ (b c : Store) (before after : Standing) (kind : FrameKind) (body out written : List ℕ) (hc : c.honest) (full : received (party_of b) before kind body ≡ Err exchange.TooLong) where
+  abbrev by_way : Way → Turn
+  by_way w = gone w b.content [] (failing b.content exchange.TooLong)
+
+  told : (result : Result State ExchangeFault) (takes : Takes b c before after kind body out written result) → Writes (by_way takes.way) result out written
+  told result takes = subst (λ t. Writes t result out written) (ap (Rattle.exchange.specs.Dialogs.answered_to (party_of b) before.state b.content takes.way) full) (takes.writes hc)
+
+  full_fails : (s : State) → Takes b c before after kind body out written (Ok s) → ⊥
+  full_fails s takes = go takes.way (told (Ok s) takes)
+    where
+      go : (w : Way) → Writes (by_way w) (Ok s) out written → ⊥
+      go Clear t = no_ok b.content exchange.TooLong s out written t
+      go Unread t = no_ok b.content exchange.OutOfMemory s out written t
+      go (Stopped k f) t = no_ok (by_way (Stopped k f)).content (exchange.Learn k (refused.Store f)) s out written t
+      go Starved t = no_ok b.content exchange.OutOfMemory s out written t
+      go (Met f) t = no_ok b.content (exchange.Store f) s out written t
+
+  full_falls : (fault : ExchangeFault) → Takes b c before after kind body out written (Err fault) → IsOfMeeting fault
+  full_falls fault takes = go takes.way (told (Err fault) takes)
+    where
+      either : (g : ExchangeFault) → IsOfMeeting g → (fault ≡ g) ⊎ (fault ≡ exchange.OutOfMemory) → IsOfMeeting fault
+      either g is (inl e) = subst IsOfMeeting (sym e) is
+      either g is (inr e) = subst IsOfMeeting (sym e) tt
+
+      go : (w : Way) → Writes (by_way w) (Err fault) out written → IsOfMeeting fault
+      go Clear t = either exchange.TooLong tt (told_or b.content exchange.TooLong fault out written t)
+      go Unread t = either exchange.OutOfMemory tt (told_or b.content exchange.OutOfMemory fault out written t)
+      go (Stopped k f) t = either (exchange.Learn k (refused.Store f)) tt (told_or (by_way (Stopped k f)).content (exchange.Learn k (refused.Store f)) fault out written t)
+      go Starved t = either exchange.OutOfMemory tt (told_or b.content exchange.OutOfMemory fault out written t)
+      go (Met f) t = either (exchange.Store f) tt (told_or b.content (exchange.Store f) fault out written t)
+
+  full_left : (result : Result State ExchangeFault) → Takes b c before after kind body out written result → c.broken ≡ false → c.content ≡ b.content
+  full_left result takes u =
+      takes.content hc u ∙ (ap (λ r. (Rattle.exchange.specs.Dialogs.answered_to (party_of b) before.state b.content takes.way r).content) full ∙ go takes.way (subst (λ r. IsWay (records_read r) takes.way) full takes.outside))
+    where
+      go : (w : Way) → IsWay [] w → (by_way w).content ≡ b.content
+      go Clear is = refl
+      go Unread is = refl
+      go (Stopped k f) is = absurd (omega (arith, is))
+      go Starved is = refl
+      go (Met f) is = refl
+
+  full_holds : (result : Result State ExchangeFault) → Takes b c before after kind body out written result → (left : Content) → c.may_hold left → b.may_hold left ⊎ ((b.broken ≡ false) × (left ≡ b.content))
+  full_holds result takes left m = elim (takes.crash hc left m) [
+    | inl old ↦ inl old
+    | inr q ↦ inr (q.0, q.2 ∙ (ap (λ r. merged (take q.1 (records_read r)) b.content) full ∙ none q.1))
+  ]
+    where
+      none : (k : ℕ) → merged (take k []) b.content ≡ b.content
+      none zero = refl
+      none (suc k) = refl
+
+full_unfit : (s : Standing) (k : FrameKind) → s.state ≡ state.Serving → s.taken ≡ most_frames → unfit s k ≡ Some exchange.TooLong
+full_unfit s k is e = rw (is, e) refl
+
+module _ (a0 b0 : Store) (party : IsParty (party_of a0)) (party_other : IsParty (party_of b0)) where
+  module _ (a b c : Store) (first second after : Standing) (there back : List ℕ) (n round : ℕ) (talk : Talk a0 b0 a b first second there n round) where
+    module _ (ha : a.honest) (hb : b.honest) (hc : c.honest) (meet : CanMeet a0 b0) where
+      way : UnderWay a0 b0 a b first second there n round
+      way = (talk.way ha hb meet).0
+
+      spelled : IsSpelled way.m
+      spelled = sent_spelled (party_of a0) a0.content b0.content a.content b.content n first.state way.m party way.one.lawful way.sent
+
+      full_got : round ≡ most_frames → received (party_of b) second (kind_of way.m) (body_of way.m) ≡ Err exchange.TooLong
+      full_got e = ap (λ o. Rattle.exchange.specs.Dialogs.received_by o (Rattle.exchange.specs.Frames.message_at (party_of b) (kind_of way.m) (body_of way.m))) (full_unfit second (kind_of way.m) way.serving (way.taken_other ∙ e))
+
+      at_most : (x : Bool) → nat_lt round most_frames ≡ x → x ≡ false → round ≡ most_frames
+      at_most x e f = let le = (talk.way ha hb meet).1 in let ge = ltb-false round most_frames (e ∙ f) in omega (arith, le, ge)
+
+      done : Hands b c second after there [] back (Ok state.Done) → AreJoined a0.content b0.content a.content c.content n
+      done hands = elim (hands.takes way.m spelled way.bytes) [
+        | inl none ↦ absurd (ok_memory state.Done none.2)
+        | inr takes ↦ elim (cases_Bool (nat_lt round most_frames)) [
+          | inl t ↦ finishes a0 b0 meet (talk.of.passes.honest ha) (talk.of.passes_other.honest hb) party party_other a b c first second after there [] back n round talk.of way (ltb-true _ _ t) hc ha takes
+          | inr f ↦ absurd (full_fails b c second after (kind_of way.m) (body_of way.m) [] back hc (full_got (at_most _ f refl)) state.Done takes)
+        ]
+      ]
+
+      ongoing : (s : State) → (s ≡ state.Done → ⊥) → Hands b c second after there [] back (Ok s) → WayBack a0 b0 a c first after back (n + 1) round × (round < most_frames)
+      ongoing s goes hands = elim (hands.takes way.m spelled way.bytes) [
+        | inl none ↦ absurd (ok_memory s none.2)
+        | inr takes ↦ elim (cases_Bool (nat_lt round most_frames)) [
+          | inl t ↦ (goes_back a0 b0 meet (talk.of.passes.honest ha) (talk.of.passes_other.honest hb) party party_other a b c first second after there [] back n round talk.of way (ltb-true _ _ t) hc ha s goes takes, ltb-true _ _ t)
+          | inr f ↦ absurd (full_fails b c second after (kind_of way.m) (body_of way.m) [] back hc (full_got (at_most _ f refl)) s takes)
+        ]
+      ]
+
+      failed : (fault : ExchangeFault) → Hands b c second after there [] back (Err fault) → IsOfMeeting fault × ((left : Content) → c.may_hold left → IsBetween b0.content a0.content left)
+      failed fault hands = elim (hands.takes way.m spelled way.bytes) [
+        | inl none ↦ (
+          subst IsOfMeeting (sym (fault_memory fault none.2)) tt,
+          λ left m. rests_hold b0.content a0.content b hb way.used.1.0 way.used.1.1 way.other left (none.0.crash hc left m),
+        )
+        | inr takes ↦ elim (cases_Bool (nat_lt round most_frames)) [
+          | inl t ↦ (
+            of_meeting fault (falls a0 b0 meet (talk.of.passes.honest ha) (talk.of.passes_other.honest hb) party party_other a b c first second after there [] back n round talk.of way (ltb-true _ _ t) hc ha fault takes),
+            falls_between a0 b0 meet (talk.of.passes.honest ha) (talk.of.passes_other.honest hb) party party_other a b c first second after there [] back n round talk.of way (ltb-true _ _ t) hc ha (Err fault) takes hb,
+          )
+          | inr f ↦ (
+            full_falls b c second after (kind_of way.m) (body_of way.m) [] back hc (full_got (at_most _ f refl)) fault takes,
+            λ left m. elim (full_holds b c second after (kind_of way.m) (body_of way.m) [] back hc (full_got (at_most _ f refl)) (Err fault) takes left m) [
+              | inl old ↦ rests_hold b0.content a0.content b hb way.used.1.0 way.used.1.1 way.other left old
+              | inr q ↦ subst (IsBetween b0.content a0.content) (sym q.1) way.other
+            ],
+          )
+        ]
+      ]
+
+      long : (fault : ExchangeFault) → Hands b c second after there [] back (Err fault) → fault ≡ exchange.TooLong → c.broken ≡ false → 999999 + (length a0.content + length b0.content) ≤ length a.content + length c.content
+      long fault hands e u = elim (hands.takes way.m spelled way.bytes) [
+        | inl none ↦ absurd (long_memory (sym e ∙ fault_memory fault none.2))
+        | inr takes ↦ elim (cases_Bool (nat_lt round most_frames)) [
+          | inl t ↦ absurd (not_long fault (falls a0 b0 meet (talk.of.passes.honest ha) (talk.of.passes_other.honest hb) party party_other a b c first second after there [] back n round talk.of way (ltb-true _ _ t) hc ha fault takes) e)
+          | inr f ↦
+              let left = ap length (full_left b c second after (kind_of way.m) (body_of way.m) [] back hc (full_got (at_most _ f refl)) (Err fault) takes u) in
+              let few = sent_few (party_of a0) a0.content b0.content a.content b.content n first.state way.m way.sent in
+              let full = at_most _ f refl in
+              let count = talk.count in
+              omega (arith, left, few, full, count)
+        ]
+      ]
+        where
+          long_memory : exchange.TooLong ≡ exchange.OutOfMemory → ⊥
+          long_memory e = cc
+
+    pub talk_done : Hands b c second after there [] back (Ok state.Done) → Converses a0 b0 a c (Ok n)
+    talk_done hands = record {
+      joined = λ h k meet. done h (hands.passes.honest k) k meet hands;
+      between = λ h k meet. tt;
+      long = λ h k meet e. absurd (not_err e);
+      faults = talk.of.faults;
+      passes = talk.of.passes;
+      others = talk.of.others ++ hands.faults;
+      passes_other = passes-then b0 b c talk.of.others hands.faults talk.of.passes_other hands.passes;
+    }
+      where
+        not_err : ◌≡◌ {A = Result ℕ ExchangeFault} (Ok n) (Err exchange.TooLong) → ⊥
+        not_err e = cc
+
+    pub talk_fails : (fault : ExchangeFault) → Hands b c second after there [] back (Err fault) → Converses a0 b0 a c (Err fault)
+    talk_fails fault hands = record {
+      joined = λ h k meet. tt;
+      between = λ h k meet.
+          let is = failed h (hands.passes.honest k) k meet fault hands in
+          let w = way h (hands.passes.honest k) k meet in
+          (is.0, record { one = λ left m. rests_hold a0.content b0.content a h w.used.0.0 w.used.0.1 w.one left m; other = is.1 });
+      long = λ h k meet e u v. long h (hands.passes.honest k) k meet fault hands (err_is fault exchange.TooLong e) v;
+      faults = talk.of.faults;
+      passes = talk.of.passes;
+      others = talk.of.others ++ hands.faults;
+      passes_other = passes-then b0 b c talk.of.others hands.faults talk.of.passes_other hands.passes;
+    }
+
+    pub talk_back : (s : State) → (s ≡ state.Done → ⊥) → Hands b c second after there [] back (Ok s) → TalkBack a0 b0 a c first after back (n + 1) round
+    talk_back s goes hands = record {
+      of = record { faults = talk.of.faults; passes = talk.of.passes; others = talk.of.others ++ hands.faults; passes_other = passes-then b0 b c talk.of.others hands.faults talk.of.passes_other hands.passes };
+      started = talk.started;
+      started_other = hands.started ∙ talk.started_other;
+      count = let e = talk.count in omega (arith, e);
+      way = λ h k meet. ongoing h (hands.passes.honest k) k meet s goes hands;
+    }
+
+  module _ (a b c : Store) (first second after : Standing) (back there : List ℕ) (n round : ℕ) (talk : TalkBack a0 b0 a b first second back n round) where
+    module _ (ha : a.honest) (hb : b.honest) (hc : c.honest) (meet : CanMeet a0 b0) where
+      way_back : WayBack a0 b0 a b first second back n round
+      way_back = (talk.way ha hb meet).0
+
+      spelled_of : IsSpelled way_back.m
+      spelled_of = replied_spelled (party_of b0) a0.content b0.content a.content b.content n first.state way_back.m party_other way_back.other.lawful way_back.replied
+
+      failed_back : (fault : ExchangeFault) → Hands a c first after back [] there (Err fault) → IsOfOutside fault × ((left : Content) → c.may_hold left → IsBetween a0.content b0.content left)
+      failed_back fault hands = elim (hands.takes way_back.m spelled_of way_back.bytes) [
+        | inl none ↦ (
+          subst IsOfOutside (sym (fault_memory fault none.2)) tt,
+          λ left m. rests_hold a0.content b0.content a ha way_back.used.0.0 way_back.used.0.1 way_back.one left (none.0.crash hc left m),
+        )
+        | inr takes ↦ (
+          falls_back a0 b0 meet (talk.of.passes.honest ha) (talk.of.passes_other.honest hb) party party_other a b c first second after back there n round talk.of way_back (talk.way ha hb meet).1 hc fault takes,
+          falls_back_between a0 b0 meet (talk.of.passes.honest ha) (talk.of.passes_other.honest hb) party party_other a b c first second after back there n round talk.of way_back (talk.way ha hb meet).1 hc (Err fault) takes ha,
+        )
+      ]
+
+      ongoing_back : (s : State) → Hands a c first after back [] there (Ok s) → UnderWay a0 b0 c b after second there (n + 1) (round + 1) × (round + 1 ≤ most_frames)
+      ongoing_back s hands = elim (hands.takes way_back.m spelled_of way_back.bytes) [
+        | inl none ↦ absurd (ok_memory s none.2)
+        | inr takes ↦
+            let few = (talk.way ha hb meet).1 in (
+              goes_on a0 b0 meet (talk.of.passes.honest ha) (talk.of.passes_other.honest hb) party party_other a b c first second after back there n round talk.of way_back few hc s takes,
+              omega (arith, few),
+            )
+      ]
+
+    pub back_fails : (fault : ExchangeFault) → Hands a c first after back [] there (Err fault) → Converses a0 b0 c b (Err fault)
+    back_fails fault hands = record {
+      joined = λ h k meet. tt;
+      between = λ h k meet.
+          let is = failed_back (hands.passes.honest h) k h meet fault hands in
+          let w = way_back (hands.passes.honest h) k h meet in
+          (of_meeting fault is.0, record { one = is.1; other = λ left m. rests_hold b0.content a0.content b k w.used.1.0 w.used.1.1 w.other left m });
+      long = λ h k meet e u v. absurd (not_long fault (failed_back (hands.passes.honest h) k h meet fault hands).0 (err_is fault exchange.TooLong e));
+      faults = talk.of.faults ++ hands.faults;
+      passes = passes-then a0 a c talk.of.faults hands.faults talk.of.passes hands.passes;
+      others = talk.of.others;
+      passes_other = talk.of.passes_other;
+    }
+
+    pub back_goes : (s : State) → Hands a c first after back [] there (Ok s) → Talk a0 b0 c b after second there (n + 1) (round + 1)
+    back_goes s hands = record {
+      of = record { faults = talk.of.faults ++ hands.faults; passes = passes-then a0 a c talk.of.faults hands.faults talk.of.passes hands.passes; others = talk.of.others; passes_other = talk.of.passes_other };
+      started = hands.started ∙ talk.started;
+      started_other = talk.started_other;
+      count = let e = talk.count in omega (arith, e);
+      way = λ h k meet. ongoing_back (hands.passes.honest h) k h meet s hands;
+    }
+
+-- so many frames don't come
+pub talk_ends : (a0 b0 a b : Store) (first second : Standing) (there : List ℕ) (n round : ℕ) → Talk a0 b0 a b first second there n round → most_frames < round → Converses a0 b0 a b (Err exchange.TooLong)
+talk_ends a0 b0 a b first second there n round talk past = record {
+  joined = λ h k meet. tt;
+  between = λ h k meet. absurd (over h k meet);
+  long = λ h k meet e u v. absurd (over h k meet);
+  faults = talk.of.faults;
+  passes = talk.of.passes;
+  others = talk.of.others;
+  passes_other = talk.of.passes_other;
+}
+  where
+    over : a.honest → b.honest → CanMeet a0 b0 → ⊥
+    over h k meet = let le = (talk.way h k meet).1 in omega (arith, le, past)
+
+pub hands_from : (a c : Store) (before after : Standing) (bytes there out written : List ℕ) (result : Result State ExchangeFault) → bytes ≡ there → out ≡ [] → Hands a c before after bytes out written result → Hands a c before after there [] written result
+hands_from a c before after bytes there out written result e f hands =
+    subst (λ b. Hands a c before after b [] written result) e (subst (λ o. Hands a c before after bytes o written result) f hands)
+
+pub party_is : (s : Store) (p : Party) → p ≡ party_of s → length p.id ≡ 16 → IsReplica p.own → IsParty (party_of s)
+party_is s p e id own = subst IsParty e (record { id = id; own = own })

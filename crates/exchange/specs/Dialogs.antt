@@ -1,0 +1,328 @@
+-- A dialog between two replicas: what an end makes of each frame that it takes, and what it answers. Both ends of a dialog, over memory or over
+-- a connection, are these.
+use Rattle.std.specs.Prelude.{◌≡◌, ◌⊎◌, ⊤, ℕ, zero, suc, ◌+◌, ◌-◌, ◌<◌, nat_le, Bool, true, false, List, [], ◌∷◌, ◌++◌, map, take, length, Option, None, Some, unwrap_or, Result, Ok, Err, IfOk, IfErr, IfSome, if◌then◌else◌}
+use Rattle.std.specs.List.{range_with_len}
+use Rattle.std.specs.Option.{option_map_or}
+use Rattle.stamp.specs.Numbers.{number_of}
+use Rattle.stamp.specs.Vector.{vector}
+use Rattle.records.specs.Records.{missing}
+use Rattle.records.specs.Contents.{Content, vec, finding, learned, merged}
+use Rattle.records.specs.Spelling.{record_form}
+use Rattle.records.specs.declared.record.Record.{Record}
+use Rattle.archive.specs.declared.fault.StoreFault.{StoreFault}
+use Rattle.archive.specs.declared.fault.StoreFault.TheVariants.{Broken}
+use Rattle.archive.specs.declared.fault.LearnFault.{LearnFault}
+use Rattle.archive.specs.declared.fault.LearnFault.TheVariants as refused
+use Rattle.archive.specs.Store.{Store, Passes, Stays, faults_by, answer_to}
+use Rattle.exchange.specs.declared.fault.ExchangeFault.{ExchangeFault}
+use Rattle.exchange.specs.declared.fault.ExchangeFault.TheVariants.{Frame, Learn, OutOfMemory, TooLong}
+use Rattle.exchange.specs.declared.fault.ExchangeFault.TheVariants as exchange
+use Rattle.exchange.specs.declared.message.FrameKind.{FrameKind}
+use Rattle.exchange.specs.declared.message.FrameKind.TheVariants.{Vector, Records}
+use Rattle.exchange.specs.declared.message.Title.{Title}
+use Rattle.exchange.specs.declared.message.Message.{Message}
+use Rattle.exchange.specs.declared.message.Message.TheVariants.{Asks, Carries, Ends}
+use Rattle.exchange.specs.declared.message.State.{State}
+use Rattle.exchange.specs.declared.message.State.TheVariants.{Pulling, Pushing, Serving, Done, Failed}
+use Rattle.exchange.specs.Fault.{exchange_number, store_fault_told}
+use Rattle.exchange.specs.Batches.{most, longest_frame, IsOfAnswer}
+use Rattle.exchange.specs.declared.message.Party.{Party}
+use Rattle.exchange.specs.declared.dialog.Reply.{Reply}
+use Rattle.exchange.specs.Frames.{message_at, frame_of, IsSpelled}
+
+-- ---- what an end says
+
+-- a content's vector
+abbrev pub numbers_of : Content → List ℕ
+numbers_of R = map (vec R) (range_with_len 1 64)
+
+-- the first of these that so many bytes take, each behind its length
+abbrev pub fitted : ℕ → List Record → List Record
+fitted room [] = []
+fitted room (r ∷ rs) =
+    if nat_le (4 + length (record_form.canon r)) room then r ∷ fitted (room - (4 + length (record_form.canon r))) rs
+    else []
+
+-- the first records that a vector lacks, as many as a frame takes
+abbrev pub batch_of : Content → (ℕ → ℕ) → List Record
+batch_of R v = fitted (longest_frame - (30 + length (vector.canon (numbers_of R)))) (missing R v most)
+
+abbrev pub title_by : Party → Content → Title
+title_by p R = record { id = p.id; sender = p.own; vector = numbers_of R }
+
+-- ---- what a frame comes to
+
+-- what is answered to the caller and to the peer, the content after it, and the number that the peer ended the dialog by
+pub record Turn : Type 0 where
+  pub result : Result State ExchangeFault
+  pub reply : Option Message
+  pub content : Content
+  pub code : Option ℕ
+
+-- a fault is told by its number, and ends the dialog
+abbrev pub failing : Content → ExchangeFault → Turn
+failing R fault = record { result = Err fault; reply = Some (Ends (exchange_number fault)); content = R; code = None }
+
+-- the own vector goes out
+abbrev pub asking : Party → State → Content → Turn
+asking p state R = record { result = Ok state; reply = Some (Asks (title_by p R)); content = R; code = None }
+
+-- records go out
+abbrev pub carrying : Party → State → Content → List Record → Turn
+carrying p state R batch = record { result = Ok state; reply = Some (Carries (title_by p R) batch); content = R; code = None }
+
+-- what the peer lacks goes out, or the end, where it lacks nothing
+abbrev pub pushing : Party → Content → List Record → Turn
+pushing p R [] = record { result = Ok Done; reply = Some (Ends 0); content = R; code = None }
+pushing p R (r ∷ rs) = carrying p Pushing R (r ∷ rs)
+
+-- the peer ended the dialog
+abbrev pub ended_by : Content → ℕ → Turn
+ended_by R zero = record { result = Ok Done; reply = None; content = R; code = None }
+ended_by R (suc n) = record { result = Ok Failed; reply = None; content = R; code = Some (suc n) }
+
+-- why the records of a batch aren't all learned, if they aren't; so many were before
+abbrev pub refusal_by : Option ExchangeFault → ℕ → Result Bool LearnFault → Option ExchangeFault
+refusal_by later k (Ok added) = later
+refusal_by later k (Err cause) = Some (Learn k cause)
+
+abbrev pub refusal : ℕ → Content → List Record → Option ExchangeFault
+refusal k R [] = None
+refusal k R (r ∷ rs) = refusal_by (refusal (suc k) (unwrap_or (learned R r) R) rs) k (answer_to (finding R r))
+
+abbrev pub learnt : Party → State → Content → Option ExchangeFault → Turn
+learnt p state R None = asking p state R
+learnt p state R (Some fault) = failing R fault
+
+-- a batch is learned, and the own vector answers it
+abbrev pub learning : Party → State → Content → List Record → Turn
+learning p state R rs = learnt p state (merged rs R) (refusal 0 R rs)
+
+-- the initiator pulls until nothing comes, and then pushes
+abbrev pub pulled : Party → Content → Title → List Record → Turn
+pulled p R t [] = pushing p R (batch_of R (number_of t.vector))
+pulled p R t (r ∷ rs) = learning p Pulling R (r ∷ rs)
+
+-- the initiator isn't told that all is well
+abbrev pub broken_off : Content → ℕ → Turn
+broken_off R zero = failing R Frame
+broken_off R (suc n) = ended_by R (suc n)
+
+-- what an end in this state makes of what the peer says, where nothing comes in the way
+abbrev pub turned : Party → State → Content → Message → Turn
+turned p Pulling R (Asks t) = failing R Frame
+turned p Pulling R (Carries t rs) = pulled p R t rs
+turned p Pulling R (Ends n) = broken_off R n
+turned p Pushing R (Asks t) = pushing p R (batch_of R (number_of t.vector))
+turned p Pushing R (Carries t rs) = failing R Frame
+turned p Pushing R (Ends n) = broken_off R n
+turned p Serving R (Asks t) = carrying p Serving R (batch_of R (number_of t.vector))
+turned p Serving R (Carries t rs) = learning p Serving R rs
+turned p Serving R (Ends n) = ended_by R n
+turned p Done R m = failing R Frame
+turned p Failed R m = failing R Frame
+
+-- ---- what comes in the way
+
+pub data Way : Type 0 where
+  Clear : Way
+  -- memory was wanting before anything was done
+  Unread : Way
+  -- so many records were learned, and then the store failed
+  Stopped : (learned : ℕ) → StoreFault → Way
+  -- memory was wanting behind all that was to be learned
+  Starved : Way
+  -- or the store failed there
+  Met : StoreFault → Way
+
+-- a batch is stopped at one of its records
+abbrev pub IsWay : List Record → Way → Type 0
+IsWay rs (Stopped learned fault) = learned < length rs
+IsWay rs way = ⊤
+
+-- the fault of the store in it
+abbrev pub fault_on : Way → Option StoreFault
+fault_on (Stopped learned fault) = Some fault
+fault_on (Met fault) = Some fault
+fault_on way = None
+
+abbrev pub is_bare : Message → Bool
+is_bare (Carries t []) = true
+is_bare m = false
+
+abbrev pub records_in : Message → List Record
+records_in (Asks t) = []
+records_in (Carries t rs) = rs
+records_in (Ends n) = []
+
+abbrev pub gone : Way → Content → List Record → Turn → Turn
+gone Clear R rs turn = turn
+gone Unread R rs turn = failing R OutOfMemory
+gone (Stopped learned fault) R rs turn = failing (merged (take learned rs) R) (Learn learned (refused.Store fault))
+gone Starved R rs turn = failing turn.content OutOfMemory
+gone (Met fault) R rs turn = failing turn.content (exchange.Store fault)
+
+-- ---- an end
+
+-- how an end stands between two frames
+pub record Standing : Type 0 where
+  pub state : State
+  -- the frames that it took, at most 1,000,000
+  pub taken : ℕ
+  -- the number that the peer ended the dialog by
+  pub code : Option ℕ
+  -- an initiator takes frames once it sent its first one
+  pub started : Bool
+
+abbrev pub most_frames : ℕ
+most_frames = 1000000
+
+abbrev pub is_over : State → Bool
+is_over Done = true
+is_over Failed = true
+is_over state = false
+
+-- the end of the dialog may come at any time; else each state waits for its own
+abbrev pub is_due : State → FrameKind → Bool
+is_due Pulling Vector = false
+is_due Pushing Records = false
+is_due state kind = true
+
+-- why a frame of this kind isn't taken
+abbrev pub unfit : Standing → FrameKind → Option ExchangeFault
+unfit s kind =
+    if is_over s.state then Some Frame
+    else if nat_le most_frames s.taken then Some TooLong
+    else if is_due s.state kind then None
+    else Some Frame
+
+abbrev pub received_by : Option ExchangeFault → Result Message ExchangeFault → Result Message ExchangeFault
+received_by None message = message
+received_by (Some fault) message = Err fault
+
+abbrev pub received : Party → Standing → FrameKind → List ℕ → Result Message ExchangeFault
+received p s kind body = received_by (unfit s kind) (message_at p kind body)
+
+abbrev pub answered_to : Party → State → Content → Way → Result Message ExchangeFault → Turn
+answered_to p state R way (Ok m) = gone way R (records_in m) (turned p state R m)
+answered_to p state R way (Err fault) = gone way R [] (failing R fault)
+
+-- what an end makes of a frame
+abbrev pub answered : Party → Standing → Content → Way → FrameKind → List ℕ → Turn
+answered p s R way kind body = answered_to p s.state R way (received p s kind body)
+
+abbrev pub state_after : Result State ExchangeFault → State
+state_after (Ok state) = state
+state_after (Err fault) = Failed
+
+abbrev pub code_after : Option ℕ → Option ℕ → Option ℕ
+code_after old None = old
+code_after old (Some n) = Some n
+
+abbrev pub taken_after : Option ExchangeFault → ℕ → ℕ
+taken_after None n = n + 1
+taken_after (Some fault) n = n
+
+abbrev pub standing_after : Standing → FrameKind → Turn → Standing
+standing_after s kind turn = record { state = state_after turn.result; taken = taken_after (unfit s kind) s.taken; code = code_after s.code turn.code; started = s.started }
+
+abbrev pub bytes_of : Option Message → List ℕ
+bytes_of None = []
+bytes_of (Some m) = frame_of m
+
+-- ---- the calls
+
+abbrev pub party_of : Store → Party
+party_of s = record { id = s.id; own = s.own }
+
+-- a message was handled: the state, the answer and the peer's number are those of the turn, or its fault is told
+abbrev pub Tells : Turn → Result Reply ExchangeFault → Type 0
+Tells turn (Ok reply) = (turn.result ≡ Ok reply.state) × (turn.reply ≡ reply.message) × (turn.code ≡ reply.code)
+Tells turn (Err fault) = turn ≡ failing turn.content fault
+
+abbrev pub IsSpelledReply : Reply → Type 0
+IsSpelledReply reply = IfSome reply.message IsSpelled
+
+-- some records were to be learned and this turn to be made; by what came in its way it was, or wasn't
+pub record Handles (old new : Store) (rs : List Record) (turn : Turn) (result : Result Reply ExchangeFault) : Type 0 where
+  pub way : Way
+  pub outside : IsWay rs way
+  pub clear : IfOk result (λ _. way ≡ Clear)
+  pub tells : new.honest → Tells (gone way old.content rs turn) result
+  pub spelled : IfOk result IsSpelledReply
+  pub content : new.honest → new.broken ≡ false → new.content ≡ (gone way old.content rs turn).content
+  -- a crash leaves what it could leave before, or the content with some first records of the batch
+  pub crash : new.honest → (left : Content) → new.may_hold left
+      → old.may_hold left ⊎ ((old.broken ≡ false) × (k : ℕ) × (left ≡ merged (take k rs) old.content))
+  pub passes : Passes old new (faults_by (fault_on way))
+
+-- the reply is written; where memory for what tells a fault is wanting too, that is told instead, and nothing is written
+abbrev pub Writes : Turn → Result State ExchangeFault → List ℕ → List ℕ → Type 0
+Writes turn result old new =
+    ((result ≡ turn.result) × (new ≡ old ++ bytes_of turn.reply))
+    ⊎ ((fault : ExchangeFault) × (turn.result ≡ Err fault) × (result ≡ Err OutOfMemory) × (new ≡ old))
+
+abbrev pub records_read : Result Message ExchangeFault → List Record
+records_read (Ok m) = records_in m
+records_read (Err fault) = []
+
+-- by what came in its way, an end made this of a frame
+pub record Takes (old new : Store) (before after : Standing) (kind : FrameKind) (body out written : List ℕ) (result : Result State ExchangeFault) : Type 0 where
+  pub way : Way
+  pub outside : IsWay (records_read (received (party_of old) before kind body)) way
+  pub writes : new.honest → Writes (answered (party_of old) before old.content way kind body) result out written
+  pub stands : new.honest → after ≡ standing_after before kind (answered (party_of old) before old.content way kind body)
+  pub content : new.honest → new.broken ≡ false → new.content ≡ (answered (party_of old) before old.content way kind body).content
+  pub crash : new.honest → (left : Content) → new.may_hold left
+      → old.may_hold left ⊎ ((old.broken ≡ false) × (k : ℕ) × (left ≡ merged (take k (records_read (received (party_of old) before kind body))) old.content))
+  pub passes : Passes old new (faults_by (fault_on way))
+  -- whatever the store, frames are counted
+  pub counted : after.taken ≡ taken_after (unfit before kind) before.taken
+  pub started : after.started ≡ before.started
+
+-- a message that carries no record
+abbrev pub carries_none : Reply → Bool
+carries_none reply = option_map_or is_bare reply.message false
+
+-- the own vector was written; or a fault came, and nothing was
+pub record Greets (old new : Store) (out written : List ℕ) (result : Result (Unit {0}) ExchangeFault) : Type 0 where
+  pub frame : new.honest → IfOk result (λ _. written ≡ out ++ frame_of (Asks (title_by (party_of old) old.content)))
+  pub kept : IfErr result (λ fault. IsOfAnswer fault × (written ≡ out))
+  pub ended : old.broken ≡ true → result ≡ Err (exchange.Store Broken)
+  pub stays : Stays old new
+  pub passes : Passes old new (faults_by (store_fault_told result))
+
+-- a fault is told to the peer, or memory for that is wanting
+abbrev pub TellsFault : ExchangeFault → Result State ExchangeFault → List ℕ → List ℕ → Type 0
+TellsFault fault result out written =
+    ((result ≡ Err fault) × (written ≡ out ++ frame_of (Ends (exchange_number fault))))
+    ⊎ ((result ≡ Err OutOfMemory) × (written ≡ out))
+
+-- a turn was made, and its answer written; or its fault is still to be told
+abbrev pub Sends : Turn → Result (State × Option ℕ) ExchangeFault → List ℕ → List ℕ → Type 0
+Sends turn (Ok done) out written = (turn.result ≡ Ok done.0) × (turn.code ≡ done.1) × (written ≡ out ++ bytes_of turn.reply)
+Sends turn (Err fault) out written = (turn ≡ failing turn.content fault) × (written ≡ out)
+
+-- what was handled is written, or memory for that is wanting
+abbrev pub SendsHandled : Result Reply ExchangeFault → Result (State × Option ℕ) ExchangeFault → List ℕ → List ℕ → Type 0
+SendsHandled (Ok reply) (Ok done) out written = (done.0 ≡ reply.state) × (done.1 ≡ reply.code) × (written ≡ out ++ bytes_of reply.message)
+SendsHandled (Ok reply) (Err fault) out written = (fault ≡ OutOfMemory) × (written ≡ out)
+SendsHandled (Err fault) (Ok done) out written = ⊥
+SendsHandled (Err fault) (Err told) out written = (told ≡ fault) × (written ≡ out)
+
+-- what was received was answered
+pub record AnswersTo (old new : Store) (state : State) (received : Result Message ExchangeFault) (out written : List ℕ) (result : Result (State × Option ℕ) ExchangeFault) : Type 0 where
+  pub way : Way
+  -- what wasn't received moves nothing
+  pub unmoved : IfErr received (λ _. way ≡ Clear)
+  pub outside : IsWay (records_read received) way
+  pub sends : new.honest → Sends (answered_to (party_of old) state old.content way received) result out written
+  pub content : new.honest → new.broken ≡ false → new.content ≡ (answered_to (party_of old) state old.content way received).content
+  pub crash : new.honest → (left : Content) → new.may_hold left
+      → old.may_hold left ⊎ ((old.broken ≡ false) × (k : ℕ) × (left ≡ merged (take k (records_read received)) old.content))
+  pub passes : Passes old new (faults_by (fault_on way))
+
+-- an end stands as what was answered says, and a fault is told
+abbrev pub Concludes : Standing → Standing → Result (State × Option ℕ) ExchangeFault → Result State ExchangeFault → List ℕ → List ℕ → Type 0
+Concludes before after (Ok done) result out written = (after ≡ record before { state = done.0; code = code_after before.code done.1 }) × (result ≡ Ok done.0) × (written ≡ out)
+Concludes before after (Err fault) result out written = (after ≡ record before { state = Failed }) × TellsFault fault result out written

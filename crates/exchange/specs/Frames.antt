@@ -1,0 +1,190 @@
+-- Frames between replicas: three letters and an F, the size with these eight bytes, and the body.
+use Rattle.std.specs.Prelude.{◌≡◌, ⊤, ℕ, ◌+◌, ◌^◌, ◌≤◌, ◌<◌, nat_lt, nat_le, ◌==◌, not, ◌||◌, ◌&&◌, Bool, true, false, List, [], ◌++◌, length, take, drop, codes, nat_eq, Option, None, Some, Result, Ok, Err, if◌then◌else◌}
+use Rattle.std.specs.List.{starts_with, flat_map, AllByRecursion}
+use Rattle.std.specs.Int.{w32, from_le_bytes}
+use Rattle.std.specs.Str.{bytes_eq}
+use Rattle.stamp.specs.Limits.{IsReplica}
+use Rattle.stamp.specs.Numbers.{IsVector}
+use Rattle.stamp.specs.Vector.{vector}
+use Rattle.ua_binary.specs.Format.{Format, byte, block, ◌▸◌, headed, standing_for, passing, fitting, raised, items, whole, ◌>>=◌}
+use Rattle.ua_binary.specs.Binary.{unsigned}
+use Rattle.records.specs.declared.record.Record.{Record}
+use Rattle.records.specs.declared.fault.RecordFault.{RecordFault}
+use Rattle.records.specs.Spelling.{record_form, record_at, IsRecord, IsLawfulRecord}
+use Rattle.exchange.specs.declared.fault.ExchangeFault.{ExchangeFault}
+use Rattle.exchange.specs.declared.fault.ExchangeFault.TheVariants.{Frame, WrongArchive, SelfPeer, PeerFormat}
+use Rattle.exchange.specs.declared.message.FrameKind.{FrameKind}
+use Rattle.exchange.specs.declared.message.FrameKind.TheVariants.{Vector, Records, End}
+use Rattle.exchange.specs.declared.message.Frame.{Frame as Lent}
+use Rattle.exchange.specs.declared.message.Header.{Header}
+use Rattle.exchange.specs.declared.message.Party.{Party}
+use Rattle.exchange.specs.declared.message.Title.{Title}
+use Rattle.exchange.specs.declared.message.Message.{Message}
+use Rattle.exchange.specs.declared.message.Message.TheVariants.{Asks, Carries, Ends}
+use Rattle.exchange.specs.Batches.{most, longest_frame, frame_length}
+
+-- ---- bodies
+
+-- whatever is wrong with an encoding, it is one fault
+abbrev pub ill : {E A : Type 0} → Format E A → Format ExchangeFault A
+ill f = raised (λ _. Frame) f
+
+-- the format's number is 2; 1 is told apart
+abbrev pub version : Format ExchangeFault ℕ
+version = passing (λ n. n == 2) Frame (passing (λ n. not (n == 1)) PeerFormat (ill byte))
+
+abbrev pub sender : Format ExchangeFault ℕ
+sender = passing (λ n. nat_le 1 n && nat_le n 64) Frame (ill byte)
+
+abbrev pub title_of : ℕ × (List ℕ × (ℕ × List ℕ)) → Title
+title_of p = record { id = p.1.0; sender = p.1.1.0; vector = p.1.1.1 }
+
+abbrev pub title_fields : Title → ℕ × (List ℕ × (ℕ × List ℕ))
+title_fields t = (2, (t.id, (t.sender, t.vector)))
+
+pub record IsTitle (t : Title) : Type 0 where
+  pub id : length t.id ≡ 16
+  pub sender : IsReplica t.sender
+  pub vector : IsVector t.vector
+
+-- the format's number, the archive's id, the sender and its vector
+unfoldable pub title : Format ExchangeFault Title
+title = fitting IsTitle (standing_for title_of title_fields (version ▸ ill (block 16) ▸ sender ▸ ill vector))
+
+-- how many records follow
+abbrev pub count : Format ExchangeFault ℕ
+count = passing (λ n. nat_le n most) Frame (ill (unsigned w32))
+
+-- some bytes behind their number
+abbrev pub sized : Format ExchangeFault (List ℕ)
+sized = headed length (ill (unsigned w32)) (λ n. ill (block n))
+
+abbrev pub record_or : Result Record RecordFault → Result Record ExchangeFault
+record_or (Ok r) = Ok r
+record_or (Err fault) = Err Frame
+
+-- all of the bytes are a record
+abbrev pub record_in : List ℕ → Result Record ExchangeFault
+record_in bytes = record_or (record_at bytes)
+
+-- a record behind its length
+unfoldable pub framed : Format ExchangeFault Record
+framed = record {
+  Spells = λ bytes r. (body : List ℕ) × sized.Spells bytes body × record_form.Spells body r;
+  read = λ bytes. sized.read bytes >>= λ b. record_in b.0 >>= λ r. Ok (r, b.1);
+  canon = λ r. sized.canon (record_form.canon r);
+  Fits = IsRecord;
+}
+
+abbrev pub code : Format ExchangeFault ℕ
+code = ill (unsigned w32)
+
+-- ---- what a body says
+
+-- a peer is of the same archive, and another replica
+abbrev pub checked : Party → Title → Result (Unit {0}) ExchangeFault
+checked p t = if not (bytes_eq t.id p.id) then Err WrongArchive else if t.sender == p.own then Err SelfPeer else Ok tt
+
+abbrev pub records_at : Party → (Title × ℕ) → List ℕ → Result Message ExchangeFault
+records_at p head rest = checked p head.0 >>= λ _. whole Frame (items head.1 framed) rest >>= λ rs. Ok (Carries head.0 rs)
+
+-- all of the bytes; the fields are judged first, then the archive and the sender, and then the records
+abbrev pub message_at : Party → FrameKind → List ℕ → Result Message ExchangeFault
+message_at p Vector body = whole Frame title body >>= λ t. checked p t >>= λ _. Ok (Asks t)
+message_at p Records body = (title ▸ count).read body >>= λ h. records_at p h.0 h.1
+message_at p End body = whole Frame code body >>= λ n. Ok (Ends n)
+
+-- ---- frames
+
+abbrev pub letters : FrameKind → List ℕ
+letters Vector = codes "RXVF"
+letters Records = codes "RXDF"
+letters End = codes "RXEF"
+
+abbrev pub kind_of : Message → FrameKind
+kind_of (Asks t) = Vector
+kind_of (Carries t rs) = Records
+kind_of (Ends n) = End
+
+abbrev pub body_of : Message → List ℕ
+body_of (Asks t) = title.canon t
+body_of (Carries t rs) = (title ▸ count).canon (t, length rs) ++ flat_map framed.canon rs
+body_of (Ends n) = code.canon n
+
+-- the frame that says it
+abbrev pub frame_of : Message → List ℕ
+frame_of m = letters (kind_of m) ++ ((unsigned w32).canon (8 + length (body_of m)) ++ body_of m)
+
+abbrev pub begins : List ℕ → List ℕ → Bool
+begins bytes word = starts_with nat_eq bytes word
+
+abbrev pub kind_at : List ℕ → Option FrameKind
+kind_at bytes =
+    if begins bytes (codes "RXVF") then Some Vector
+    else if begins bytes (codes "RXDF") then Some Records
+    else if begins bytes (codes "RXEF") then Some End
+    else None
+
+-- the size that the header says, itself included
+abbrev pub size_at : List ℕ → ℕ
+size_at bytes = from_le_bytes w32 (take 4 (drop 4 bytes))
+
+-- with n bytes there; a frame has 12 bytes at least
+abbrev pub titled : ℕ → List ℕ → Option FrameKind → Result (Option Header) ExchangeFault
+titled n head None = Err Frame
+titled n head (Some kind) =
+    if nat_lt (size_at head) 12 || nat_lt longest_frame (size_at head) then Err Frame
+    else if nat_lt n (size_at head) then Ok None
+    else Ok (Some (record { kind = kind; size = size_at head }))
+
+-- the header of the first frame, none where that isn't whole, or the fault that stands there
+unfoldable pub cut : List ℕ → Result (Option Header) ExchangeFault
+cut bytes = if nat_lt (length bytes) 8 then Ok None else titled (length bytes) (take 8 bytes) (kind_at (take 8 bytes))
+
+-- ---- what is held of a stream of frames
+
+-- the bytes that came and were not given out, and whether a fault ended it
+pub record Held : Type 0 where
+  pub waiting : List ℕ
+  pub failed : Bool
+
+abbrev pub fresh : Held
+fresh = record { waiting = []; failed = false }
+
+abbrev pub next_of : Held → Result (Option Header) ExchangeFault
+next_of held = if held.failed then Err Frame else cut held.waiting
+
+-- what is held once the next frame is given out
+abbrev pub after_next : Held → Result (Option Header) ExchangeFault → Held
+after_next held (Ok None) = held
+after_next held (Ok (Some header)) = record held { waiting = drop header.size held.waiting }
+after_next held (Err fault) = record held { failed = true }
+
+-- a frame that was cut is whole
+abbrev pub IsWithin : List ℕ → Header → Type 0
+IsWithin bytes header = (12 ≤ header.size) × (header.size ≤ length bytes) × (header.size ≤ longest_frame)
+
+-- what is given out: the frame that stands first, none where it isn't whole, or the fault
+abbrev pub Gives : Held → Result (Option Lent) ExchangeFault → Type 0
+Gives held (Ok None) = next_of held ≡ Ok None
+Gives held (Ok (Some frame)) =
+    let header : Header = record { kind = frame.kind; size = 8 + length frame.body.now } in
+    (next_of held ≡ Ok (Some header)) × IsWithin held.waiting header × (frame.body.now ≡ drop 8 (take header.size held.waiting))
+Gives held (Err fault) = next_of held ≡ Err fault
+
+-- ---- what may be written
+
+abbrev pub IsCode : ℕ → Type 0
+IsCode n = n < 2 ^ 32
+
+-- a message that has a frame
+abbrev pub IsSpelled : Message → Type 0
+IsSpelled (Asks t) = IsTitle t
+IsSpelled (Carries t rs) = IsTitle t × AllByRecursion IsRecord rs × (length rs ≤ most) × (frame_length t.vector rs ≤ longest_frame)
+IsSpelled (Ends n) = n < 2 ^ 32
+
+-- a message whose records may be learned
+abbrev pub IsLearnable : Message → Type 0
+IsLearnable (Asks t) = ⊤
+IsLearnable (Carries t rs) = AllByRecursion IsLawfulRecord rs
+IsLearnable (Ends n) = ⊤

@@ -1,0 +1,87 @@
+-- Dialogs of two replicas over memory.
+use Rattle.std.specs.Prelude.{◌≡◌, ◌⊎◌, ⊤, ℕ, ◌+◌, ◌*◌, ◌≤◌, false, List, [], length, Result, Ok, Err, IfOk, IfErr}
+use Rattle.records.specs.Lists.{Has}
+use Rattle.stamp.specs.Numbers.{number_of}
+use Rattle.records.specs.Contents.{Content, AreCompatible, IsWithin, join, vec}
+use Rattle.records.specs.declared.record.Record.{Record}
+use Rattle.archive.specs.declared.fault.StoreFault.{StoreFault}
+use Rattle.archive.specs.declared.fault.LearnFault.TheVariants as refused
+use Rattle.archive.specs.Store.{Store, Rests, IsLawfulContent, Passes, Stays}
+use Rattle.exchange.specs.declared.message.Title.{Title}
+use Rattle.exchange.specs.declared.message.Message.{Message}
+use Rattle.exchange.specs.declared.message.Message.TheVariants.{Asks, Carries, Ends}
+use Rattle.exchange.specs.declared.message.Party.{Party}
+use Rattle.exchange.specs.declared.message.State.{State}
+use Rattle.exchange.specs.Frames.{kind_of, body_of, frame_of, checked, IsSpelled}
+use Rattle.exchange.specs.Dialogs.{Standing, Takes}
+use Rattle.exchange.specs.declared.fault.ExchangeFault.{ExchangeFault}
+use Rattle.exchange.specs.declared.fault.ExchangeFault.TheVariants as exchange
+
+-- replicas of one archive, with numbers of their own, whose stores are in use and hold no two records of one name
+pub record CanMeet (a b : Store) : Type 0 where
+  pub id : a.id ≡ b.id
+  pub apart : a.own ≡ b.own → ⊥
+  pub one : Rests a × (a.broken ≡ false)
+  pub other : Rests b × (b.broken ≡ false)
+  pub compatible : AreCompatible a.content b.content
+
+-- its own records, and some of the other's
+pub record IsBetween (own other left : Content) : Type 0 where
+  pub lawful : IsLawfulContent left
+  pub above : IsWithin own left
+  pub only : (r : Record) → Has left r → Has own r ⊎ Has other r
+
+-- both hold the join of what they held, after two frames for each record that was added, and three more at most
+pub record AreJoined (R S R' S' : Content) (frames : ℕ) : Type 0 where
+  pub one : R' ≡ join R S
+  pub other : S' ≡ join R S
+  pub added : ℕ
+  pub more : length R' + length S' ≡ length R + length S + added
+  pub few : frames ≤ 2 * added + 3
+
+-- what may come in a frame's way: memory, or a store
+abbrev pub IsOfOutside : ExchangeFault → Type 0
+IsOfOutside exchange.OutOfMemory = ⊤
+IsOfOutside (exchange.Store fault) = ⊤
+IsOfOutside (exchange.Learn learned (refused.Store fault)) = ⊤
+IsOfOutside other = ⊥
+
+-- or an end took its 1,000,000 frames
+abbrev pub IsOfMeeting : ExchangeFault → Type 0
+IsOfMeeting exchange.TooLong = ⊤
+IsOfMeeting other = IsOfOutside other
+
+-- each holds its own records and some of the other's; behind a break an opening finds such a content
+pub record AreBetween (a b a' b' : Store) : Type 0 where
+  pub one : (left : Content) → a'.may_hold left → IsBetween a.content b.content left
+  pub other : (left : Content) → b'.may_hold left → IsBetween b.content a.content left
+
+pub record Converses (a b a' b' : Store) (result : Result ℕ ExchangeFault) : Type 0 where
+  pub joined : a'.honest → b'.honest → CanMeet a b → IfOk result (AreJoined a.content b.content a'.content b'.content)
+  pub between : a'.honest → b'.honest → CanMeet a b → IfErr result (λ fault. IsOfMeeting fault × AreBetween a b a' b')
+  -- so many frames go by only where as many records were added
+  pub long : a'.honest → b'.honest → CanMeet a b → result ≡ Err exchange.TooLong → a'.broken ≡ false → b'.broken ≡ false → 999999 + (length a.content + length b.content) ≤ length a'.content + length b'.content
+  pub faults : List StoreFault
+  pub passes : Passes a a' faults
+  pub others : List StoreFault
+  pub passes_other : Passes b b' others
+
+-- ---- one frame
+
+-- one end was handed the other's frame, and took it; or memory for that was wanting, and nothing was done
+pub record Hands (old new : Store) (before after : Standing) (bytes out written : List ℕ) (result : Result State ExchangeFault) : Type 0 where
+  pub takes : (m : Message) → IsSpelled m → bytes ≡ frame_of m
+      → (Stays old new × Passes old new [] × (result ≡ Err exchange.OutOfMemory)) ⊎ Takes old new before after (kind_of m) (body_of m) out written result
+  pub started : after.started ≡ before.started
+  pub faults : List StoreFault
+  pub passes : Passes old new faults
+
+-- the peer may be met
+abbrev pub checked_title : Party → Message → Type 0
+checked_title p (Asks t) = checked p t ≡ Ok tt
+checked_title p (Carries t rs) = checked p t ≡ Ok tt
+checked_title p (Ends n) = ⊤
+
+-- the sender's vector is at least that of the content
+abbrev pub Covers : Title → Content → Type 0
+Covers t R = (origin : ℕ) → vec R origin ≤ number_of t.vector origin
