@@ -1,7 +1,6 @@
 -- The place that a continuation point tells.
-use Rattle.std.proofs.Common.{rules, ◌≡◌, ℕ, Bool, true, false, cond, ◌&&◌, List, Option, Some, None, Result, Ok, Err, refl, sym, ap, ◌∙◌, nat_eq, inl, inr}
+use Rattle.std.proofs.Common.{rules, ◌≡◌, ℕ, true, cond, ◌&&◌, List, Some, Ok, Err, refl, ap, nat_eq, inl, inr}
 use Rattle.std.proofs.lemmas.Bool.{cases_Bool, and_from, and_parts}
-use Rattle.std.proofs.lemmas.Cmp.{nat_list_eq_equiv}
 use Rattle.std.specs.Cmp.{booleans_Decides, unsigned_Decides}
 use Rattle.std.specs.Cmp.Lexicographic.{pointwise}
 use Rattle.ua_binary.specs.declared.values.NodeId.{NodeId}

@@ -1,8 +1,7 @@
 -- An answer of the archive, told in other words.
-use Rattle.std.proofs.Common.{◌≡◌, Bool, true, false, List, Option, Some, None, Result, Ok, Err, IfOk, refl, sym, ap, ◌∙◌}
-use Rattle.records.specs.Contents.{Content}
+use Rattle.std.proofs.Common.{◌≡◌, None, Result, Ok, Err}
 use Rattle.archive.specs.declared.fault.StoreFault.{StoreFault}
-use Rattle.archive.specs.Store.{Store, Leaves, Asks, IsLawfulContent, fault_in}
+use Rattle.archive.specs.Store.{Store, Leaves, Asks, IsLawfulContent}
 use Rattle.archive.specs.declared.setback.Setback.TheVariants.{Starved}
 use Rattle.archive.specs.declared.setback.Setback.TheVariants as setback
 use Rattle.hist_read.specs.Finding.{Finds}

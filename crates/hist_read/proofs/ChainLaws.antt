@@ -1,38 +1,33 @@
 -- A chain of pages shows the whole read of the first page's content, and there is one.
-use Rattle.std.proofs.Common.{◌≡◌, ℕ, zero, suc, ◌+◌, ◌-◌, ◌<◌, ◌≤◌, ℤ, ◌≤ℤ◌, Bool, true, false, cond, ◌&&◌, ◌||◌, not, IsTrue, List, [], ◌∷◌, ◌++◌, map, take, length, Option, Some, None, IfSome, option_map, Result, Ok, Err, refl, sym, ap, ◌∙◌, subst, arith, inl, inr}
-use Rattle.std.specs.List.{flat_map, AllByRecursion}
+use Rattle.std.proofs.Common.{◌≡◌, ℕ, ◌-◌, ℤ, ◌≤ℤ◌, Bool, true, false, cond, ◌&&◌, ◌||◌, not, IsTrue, List, [], ◌∷◌, map, take, length, Option, Some, None, IfSome, option_map, Result, Ok, Err, refl, sym, ap, ◌∙◌, subst, arith, inl, inr}
+use Rattle.std.specs.List.{AllByRecursion}
 use Rattle.std.proofs.lemmas.Bool.{cases_Bool}
 use Rattle.std.proofs.lemmas.Int.{ints}
 use Rattle.std.proofs.lemmas.List.{map-append}
 use Rattle.ua_binary.specs.declared.values.NodeId.{NodeId}
 use Rattle.ua_binary.specs.declared.codes.Status.{Status}
 use Rattle.ua_binary.specs.declared.codes.TheConstants.Status.{BAD_INVALID_ARGUMENT, BAD_HISTORY_OPERATION_INVALID}
-use Rattle.ua_variant.specs.declared.data.DataValue.{DataValue}
 use Rattle.ua_services.specs.declared.attributes.TimestampsToReturn.{TimestampsToReturn}
 use Rattle.ua_services.specs.declared.history.ReadRawModifiedDetails.{ReadRawModifiedDetails as Details}
 use Rattle.ua_services.specs.declared.history.HistoryData.TheVariants.{Raw, Modified}
-use Rattle.ua_services.specs.declared.history.ModificationInfo.{ModificationInfo}
 use Rattle.ua_services.specs.declared.history.HistoryReadResult.{HistoryReadResult}
 use Rattle.records.specs.Contents.{Content, numbers_of}
 use Rattle.records.specs.Moments.{moment}
-use Rattle.records.specs.declared.shown.Entry.{Entry}
 use Rattle.archive.specs.Reading.{is_between}
 use Rattle.archive.specs.Store.{Mark, Fine, IsLawfulContent}
 use Rattle.archive.proofs.Vectors.{numbers_vector}
 use Rattle.hist_read.specs.declared.query.Query.{Query}
-use Rattle.hist_read.specs.declared.item.Item.{Item}
 use Rattle.hist_read.specs.declared.point.Position.{Position}
 use Rattle.hist_read.specs.Asking.{is_given, has_both, first_time, origin_time}
 use Rattle.hist_read.specs.Point.{IsDetails, IsNext}
-use Rattle.hist_read.specs.Reads.{greatest_time, in_body, raw, raw_position, modified, modified_position, page, next_place}
+use Rattle.hist_read.specs.Reads.{greatest_time, in_body, raw, raw_position, modified, modified_position, next_place}
 use Rattle.hist_read.specs.Showing.{shown, shown_entry, info}
 use Rattle.hist_read.specs.Node.{Behind, is_enough, judged, point_at, raw_result, modified_result, page_result, read_from}
 use Rattle.hist_read.specs.Chains.{whole_raw, whole_modified, counted, whole, values_in, infos_in, Page, IsRead, Chain, joined_values, joined_infos, IsLater, IsAsked, contents_from}
 use Rattle.hist_read.proofs.Joining.{modified_join}
 use Rattle.hist_read.proofs.RawJoining.{raw_joins}
 use Rattle.hist_read.proofs.Nexts.{raw_next, raw_within, modified_next_lawful, modified_within}
-use Rattle.hist_read.proofs.Paged.{remaining}
-use Rattle.hist_read.proofs.Chaining.{shows, Ends, ends, chain_read}
+use Rattle.hist_read.proofs.Chaining.{shows, ends, chain_read}
 use Rattle.hist_read.proofs.Wholes.{whole_is, whole_modified_is, judged_is, enough_is, IsPlace, place_is, point_told, read_is, is_read, later_is}
 
 origin_high : (q : Details) → IsDetails q → origin_time q ≤ℤ greatest_time

@@ -1,11 +1,10 @@
 -- What a vector covers of a content.
-use Rattle.std.proofs.Common.{◌≡◌, ◌≤◌, ℕ, zero, suc, nat_le, not, ◌&&◌, true, false, Bool, IsTrue, List, [], ◌∷◌, length, get_or, refl, sym, ap, ◌∙◌, arith, inl, inr}
+use Rattle.std.proofs.Common.{◌≡◌, ◌≤◌, ℕ, zero, suc, nat_le, not, true, false, Bool, IsTrue, List, [], ◌∷◌, length, get_or, refl, sym, ap, ◌∙◌, arith, inl, inr}
 use Rattle.std.proofs.lemmas.Bool.{cases_Bool, and_from, and_parts, true≢false}
 use Rattle.std.proofs.lemmas.Bool.Decides.{nat_tests}
 use Rattle.std.specs.Cmp.Lexicographic.{pointwise}
 use Rattle.stamp.specs.Numbers.{number_of, IsVector}
-use Rattle.stamp.proofs.Maps.{number_at}
-use Rattle.records.specs.Contents.{Content, vec, numbers_of, cut}
+use Rattle.records.specs.Contents.{Content, numbers_of, cut}
 use Rattle.records.specs.Records.{is_beyond}
 use Rattle.records.specs.declared.record.Record.{Record}
 use Rattle.records.proofs.CutLemmas.{closed_cut, cut_whole}

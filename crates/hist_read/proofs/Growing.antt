@@ -1,6 +1,5 @@
 -- Contents that hold all that another one does.
-use Rattle.std.proofs.Common.{◌≡◌, ℕ, ◌≤◌, Some, inl, inr, subst}
-use Rattle.records.specs.Lists.{Has}
+use Rattle.std.proofs.Common.{◌≡◌, Some, inl, inr, subst}
 use Rattle.records.specs.Contents.{Content, AreCompatible, IsWithin, learned}
 use Rattle.records.specs.Spelling.{IsLawfulRecord}
 use Rattle.records.specs.declared.record.Record.{Record}

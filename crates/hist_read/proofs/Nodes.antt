@@ -1,5 +1,5 @@
 -- A page as it is answered.
-use Rattle.std.proofs.Common.{◌≡◌, ℕ, true, cond, nat_le, List, [], ◌∷◌, map, Option, Some, None, Result, Ok, Err, IfOk, refl, sym, ap, ◌∙◌, subst}
+use Rattle.std.proofs.Common.{◌≡◌, ℕ, true, cond, nat_le, List, [], ◌∷◌, map, Option, Some, None, Result, Ok, Err, IfOk, refl, sym, ap, ◌∙◌}
 use Rattle.std.proofs.lemmas.Option.{none-some}
 use Rattle.ua_binary.specs.declared.codes.Status.{Status}
 use Rattle.ua_binary.specs.declared.codes.TheConstants.Status.{BAD_RESOURCE_UNAVAILABLE, BAD_CONTINUATION_POINT_INVALID}
@@ -14,7 +14,7 @@ use Rattle.archive.specs.declared.setback.Setback.TheVariants as setback
 use Rattle.archive.specs.declared.fault.StoreFault.TheVariants.{Broken}
 use Rattle.archive.specs.Fault.{code_of, mark_of}
 use Rattle.archive.specs.Store.{Store, Mark, Fine, IsLawfulContent, HasContent, Leaves, Asks, faults_of, Passes}
-use Rattle.archive.specs.Steps.{Marked, give, step, Acts}
+use Rattle.archive.specs.Steps.{give, step, Acts}
 use Rattle.archive.proofs.Acting.{acts-stays, acts-give, acts-as}
 use Rattle.archive.proofs.Calls.{passes-leaves, in_use, left_in_use, leaves-then}
 use Rattle.hist_read.specs.Finding.{Finds, fault_met}

@@ -1,16 +1,16 @@
 -- A page of raw items, and what follows it.
-use Rattle.std.proofs.Common.{◌≡◌, ℕ, zero, suc, ◌+◌, ◌-◌, ◌<◌, ◌≤◌, nat_lt, ℤ, pos, ◌≤ℤ◌, Bool, true, false, cond, ◌&&◌, ◌==◌, not, List, [], ◌∷◌, ◌++◌, map, filter, min, take, drop, length, slice_get, Option, Some, None, option_map, refl, sym, ap, ◌∙◌, subst, arith, inl, inr}
+use Rattle.std.proofs.Common.{◌≡◌, ℕ, zero, suc, ◌+◌, ◌-◌, ◌<◌, ◌≤◌, nat_lt, ℤ, ◌≤ℤ◌, Bool, true, false, cond, ◌&&◌, ◌==◌, not, List, [], ◌∷◌, ◌++◌, filter, min, take, drop, length, slice_get, Option, Some, None, option_map, refl, sym, ap, ◌∙◌, subst, arith, inl, inr}
 use Rattle.std.proofs.lemmas.Bool.Decides.{nat_tests}
-use Rattle.std.proofs.lemmas.Bool.{and_parts, cases_Bool, true≢false}
+use Rattle.std.proofs.lemmas.Bool.{and_parts, cases_Bool}
 use Rattle.std.proofs.lemmas.Int.{ints}
-use Rattle.std.proofs.lemmas.List.{length-take, length-append, length-map, take-append-le, take-append-drop, append_assoc}
+use Rattle.std.proofs.lemmas.List.{length-append, take-append-le, take-append-drop, append_assoc}
 use Rattle.std.proofs.lemmas.Option.{none-some}
 use Rattle.ua_binary.specs.declared.values.NodeId.{NodeId}
 use Rattle.records.specs.Lists.{last, IsPairwise}
 use Rattle.records.specs.Contents.{Content}
 use Rattle.records.specs.declared.shown.Held.{Held}
 use Rattle.records.proofs.Sorting.{has_from_filter, pairwise-filter}
-use Rattle.archive.specs.Reading.{is_between, is_past, range_of}
+use Rattle.archive.specs.Reading.{is_between, is_past}
 use Rattle.archive.specs.Store.{IsLawfulContent}
 use Rattle.archive.specs.declared.reading.Direction.{Direction}
 use Rattle.archive.specs.declared.reading.Direction.TheVariants.{Forward, Backward}
@@ -20,9 +20,8 @@ use Rattle.hist_read.specs.Asking.{has_both, first_time, direction}
 use Rattle.hist_read.specs.Reads.{greatest_time, in_body, body, is_near_alone, near_part, near, limit_at, is_past_any, body_part, values, far_part, far, item_time, last_time, time_of_last, time_before, before_far, raw, raw_position, page_size, page, is_spent, goes_on, next_place}
 use Rattle.ua_services.specs.declared.history.ReadRawModifiedDetails.{ReadRawModifiedDetails as Details}
 use Rattle.hist_read.specs.declared.point.Position.{Position}
-use Rattle.hist_read.specs.declared.point.Phase.TheVariants.{Body}
 use Rattle.hist_read.specs.declared.item.Item.{Item}
-use Rattle.hist_read.specs.declared.item.Item.TheVariants.{Value, Missing}
+use Rattle.hist_read.specs.declared.item.Item.TheVariants.{Value}
 use Rattle.hist_read.proofs.Filters.{filter_all}
 use Rattle.hist_read.proofs.Passing.{past_is_drop, past_passes}
 use Rattle.hist_read.proofs.Lives.{span_reads}

@@ -1,15 +1,11 @@
 -- Chains of pages show whole reads.
-use Rattle.std.proofs.Common.{◌≡◌, ℕ, zero, suc, ◌+◌, ◌-◌, ◌<◌, ◌≤◌, ◌^◌, ◌==◌, nat_lt, nat_le, ℤ, pos, ◌≤ℤ◌, int_le, int_lt, Bool, true, false, cond, ◌&&◌, ◌||◌, not, IsTrue, List, [], ◌∷◌, ◌++◌, map, filter, take, length, Option, Some, None, IfSome, option_map, Result, Ok, Err, refl, sym, ap, ◌∙◌, subst, arith, append-nil, inl, inr}
+use Rattle.std.proofs.Common.{◌≡◌, ℕ, ◌<◌, ◌^◌, ◌==◌, nat_lt, ℤ, ◌≤ℤ◌, int_lt, Bool, true, false, cond, ◌&&◌, ◌||◌, not, List, [], ◌∷◌, ◌++◌, filter, Option, Some, None, Result, Ok, Err, refl, sym, ap, ◌∙◌, subst, arith, append-nil}
 use Rattle.std.specs.Ordering.{int_eq}
 use Rattle.std.specs.Int.{w64}
 use Rattle.std.specs.Int.RustNames.{FitsSigned}
-use Rattle.std.specs.List.{flat_map, AllByRecursion}
-use Rattle.std.specs.Cmp.Lexicographic.{pointwise}
 use Rattle.std.proofs.lemmas.Bool.Decides.{nat_tests}
-use Rattle.std.proofs.lemmas.Bool.{and_parts, cases_Bool, true≢false}
+use Rattle.std.proofs.lemmas.Bool.{and_parts, true≢false}
 use Rattle.std.proofs.lemmas.Int.{ints}
-use Rattle.std.proofs.lemmas.List.{map-append}
-use Rattle.std.proofs.lemmas.Option.{none-some}
 use Rattle.stamp.specs.Numbers.{number_of, IsVector}
 use Rattle.ua_binary.specs.declared.values.NodeId.{NodeId}
 use Rattle.ua_binary.specs.declared.codes.Status.{Status}
@@ -18,11 +14,9 @@ use Rattle.ua_binary.specs.declared.fault.BinaryFault.TheVariants.{BadEncodingBy
 use Rattle.ua_binary.proofs.Spelled.{whole_only}
 use Rattle.ua_services.specs.declared.history.ReadRawModifiedDetails.{ReadRawModifiedDetails as Details}
 use Rattle.ua_services.specs.declared.history.HistoryReadResult.{HistoryReadResult}
-use Rattle.records.specs.Contents.{Content, vec, numbers_of, cut}
-use Rattle.records.specs.Lists.{Has}
-use Rattle.records.specs.Moments.{moment, ticks_of, pico_of, whole_again, pico_within}
+use Rattle.records.specs.Contents.{Content, numbers_of, cut}
+use Rattle.records.specs.Moments.{moment, ticks_of, whole_again, pico_within}
 use Rattle.records.specs.declared.shown.Held.{Held}
-use Rattle.records.specs.declared.shown.Entry.{Entry}
 use Rattle.records.proofs.CutLemmas.{cut_same}
 use Rattle.records.proofs.Sorting.{has_from_filter}
 use Rattle.archive.specs.Reading.{is_past, is_between}
@@ -33,10 +27,10 @@ use Rattle.archive.proofs.Vectors.{numbers_are, numbers_vector}
 use Rattle.hist_read.specs.declared.query.Query.{Query}
 use Rattle.hist_read.specs.declared.item.Item.{Item}
 use Rattle.hist_read.specs.declared.point.Position.{Position}
-use Rattle.hist_read.specs.Asking.{is_given, has_both, first_time, origin_time, far_limit, direction}
-use Rattle.hist_read.specs.Point.{Point, point, point_in, told, IsDetails, IsPosition, IsPoint, IsNext, is_given_for, suits, is_phase_for, is_stamp_for}
-use Rattle.hist_read.specs.Reads.{greatest_time, in_body, in_body_of, is_from, last_within, lives_in, body, near, far, values, last_time, is_past_any, raw, raw_position, modified, modified_position, page, next_place}
-use Rattle.hist_read.specs.Node.{Behind, is_enough, judged, place_in, place_told, point_at, raw_result, modified_result, page_result, page_from, covers, refused, read_from, read_node}
+use Rattle.hist_read.specs.Asking.{is_given, has_both, origin_time, direction}
+use Rattle.hist_read.specs.Point.{Point, point, told, IsDetails, IsPosition, IsPoint, IsNext, is_given_for, suits, is_phase_for, is_stamp_for}
+use Rattle.hist_read.specs.Reads.{greatest_time, in_body, in_body_of, is_from, last_within, lives_in, body, near, far, values, last_time, is_past_any, raw, modified}
+use Rattle.hist_read.specs.Node.{Behind, is_enough, judged, place_in, place_told, point_at, page_result, page_from, covers, refused, read_from}
 use Rattle.hist_read.specs.Chains.{behind_origin, with_far, whole_raw, whole_modified, Page, IsRead, IsLater, IsAsked}
 use Rattle.hist_read.proofs.Lawful.{point_lawful}
 use Rattle.hist_read.proofs.Agreeing.{told_agreed}

@@ -1,5 +1,5 @@
 -- What a read does to the archive.
-use Rattle.std.specs.Prelude.{Option, Some, None, Result, Ok, Err, IfOk}
+use Rattle.std.specs.Prelude.{Option, Some, None, Result, Err, IfOk}
 use Rattle.archive.specs.declared.fault.StoreFault.{StoreFault}
 use Rattle.archive.specs.declared.setback.Setback.{Setback}
 use Rattle.archive.specs.declared.setback.Setback.TheVariants as setback

@@ -1,4 +1,4 @@
-use Rattle.std.proofs.Common.{rules, ◌≡◌, ◌∙◌, sym, ap, subst}
+use Rattle.std.proofs.Common.{rules}
 use Rattle.ua_variant.specs.DataValue.{IsShortData}
 use Rattle.hist_read.proofs.Lists.{all_next, all_taken}
 use Rattle.hist_read.proofs.node.are_short_values.Goals as goal

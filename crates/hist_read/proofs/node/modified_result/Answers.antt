@@ -1,4 +1,4 @@
-use Rattle.std.proofs.Common.{◌≡◌, ◌∙◌, ap, sym, subst, map, option_map, IfSome}
+use Rattle.std.proofs.Common.{◌∙◌, ap, sym, subst, map, option_map, IfSome}
 use Rattle.stamp.specs.Numbers.{number_of}
 use Rattle.ua_services.specs.declared.history.HistoryData.TheVariants.{Modified}
 use Rattle.records.specs.Contents.{cut}

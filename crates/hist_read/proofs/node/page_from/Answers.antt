@@ -1,4 +1,4 @@
-use Rattle.std.proofs.Common.{◌≡◌, ◌∙◌, sym, ap, subst}
+use Rattle.std.proofs.Common.{◌≡◌, ◌∙◌, sym, subst}
 use Rattle.hist_read.specs.Node.{page_from}
 use Rattle.hist_read.specs.Finding.{Finds}
 use Rattle.hist_read.proofs.Nodes.{first_page, later_page}

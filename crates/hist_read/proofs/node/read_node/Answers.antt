@@ -1,4 +1,4 @@
-use Rattle.std.proofs.Common.{◌≡◌, ◌∙◌, [], ◌∷◌, ap, sym}
+use Rattle.std.proofs.Common.{◌∙◌, [], ◌∷◌, ap, sym}
 use Rattle.std.specs.Option.{option_copied}
 use Rattle.hist_read.specs.Node.{judged, refused}
 use Rattle.hist_read.proofs.Nodes.{mark_in, shown_of, refused_acts, page_acts}

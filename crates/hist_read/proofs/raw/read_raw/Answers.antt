@@ -1,4 +1,4 @@
-use Rattle.std.proofs.Common.{◌≡◌, ◌∙◌, ap}
+use Rattle.std.proofs.Common.{◌∙◌, ap}
 use Rattle.stamp.specs.Numbers.{number_of}
 use Rattle.records.specs.Contents.{cut}
 use Rattle.hist_read.specs.Reads.{page, next_place, raw_position}
