@@ -31,8 +31,10 @@ use Rattle.exchange.specs.Fault.{store_fault_of}
 use Rattle.exchange.specs.Merging.{learned_all, IsRefusal, Meets, Merges}
 use Rattle.exchange.proofs.MergeLemmas.{merged_stops}
 use Rattle.exchange.specs.declared.message.Party.{Party}
-use Rattle.exchange.specs.Dialogs.{ended_by, broken_off, is_bare, refusal, refusal_by, learnt, numbers_of, batch_of, title_by, Turn, failing, asking, carrying, pushing, learning, Way, Clear, Unread, Stopped, Starved, Met, IsWay, gone, fault_on, party_of, Tells, IsSpelledReply, Handles, carries_none}
-use Rattle.exchange.proofs.TitleLemmas.{told_is, batch_one}
+use Rattle.records.specs.Contents.{numbers_of}
+use Rattle.exchange.specs.Dialogs.{ended_by, broken_off, is_bare, refusal, refusal_by, learnt, batch_of, title_by, Turn, failing, asking, carrying, pushing, learning, Way, Clear, Unread, Stopped, Starved, Met, IsWay, gone, fault_on, party_of, Tells, IsSpelledReply, Handles, carries_none}
+use Rattle.archive.proofs.Vectors.{told_is}
+use Rattle.exchange.proofs.TitleLemmas.{batch_one}
 
 abbrev pub reply_by : State → Message → Reply
 reply_by state m = record { state = state; message = Some m; code = None }

@@ -1,12 +1,11 @@
 -- A dialog between two replicas: what an end makes of each frame that it takes, and what it answers. Both ends of a dialog, over memory or over
 -- a connection, are these.
-use Rattle.std.specs.Prelude.{◌≡◌, ◌⊎◌, ⊤, ℕ, zero, suc, ◌+◌, ◌-◌, ◌<◌, nat_le, Bool, true, false, List, [], ◌∷◌, ◌++◌, map, take, length, Option, None, Some, unwrap_or, Result, Ok, Err, IfOk, IfErr, IfSome, if◌then◌else◌}
-use Rattle.std.specs.List.{range_with_len}
+use Rattle.std.specs.Prelude.{◌≡◌, ◌⊎◌, ⊤, ℕ, zero, suc, ◌+◌, ◌-◌, ◌<◌, nat_le, Bool, true, false, List, [], ◌∷◌, ◌++◌, take, length, Option, None, Some, unwrap_or, Result, Ok, Err, IfOk, IfErr, IfSome, if◌then◌else◌}
 use Rattle.std.specs.Option.{option_map_or}
 use Rattle.stamp.specs.Numbers.{number_of}
 use Rattle.stamp.specs.Vector.{vector}
 use Rattle.records.specs.Records.{missing}
-use Rattle.records.specs.Contents.{Content, vec, finding, learned, merged}
+use Rattle.records.specs.Contents.{Content, numbers_of, finding, learned, merged}
 use Rattle.records.specs.Spelling.{record_form}
 use Rattle.records.specs.declared.record.Record.{Record}
 use Rattle.archive.specs.declared.fault.StoreFault.{StoreFault}
@@ -31,10 +30,6 @@ use Rattle.exchange.specs.declared.dialog.Reply.{Reply}
 use Rattle.exchange.specs.Frames.{message_at, frame_of, IsSpelled}
 
 -- ---- what an end says
-
--- a content's vector
-abbrev pub numbers_of : Content → List ℕ
-numbers_of R = map (vec R) (range_with_len 1 64)
 
 -- the first of these that so many bytes take, each behind its length
 abbrev pub fitted : ℕ → List Record → List Record

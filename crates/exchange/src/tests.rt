@@ -430,7 +430,9 @@ static ASKED: &[u8] = b"RXVF\x1b\0\0\0\x02\0\0\0\0\0\0\0\0\0\0\0\0\0\0\0\0\x02\0
 
 static ASKED_ITSELF: &[u8] = b"RXVF\x1b\0\0\0\x02\0\0\0\0\0\0\0\0\0\0\0\0\0\0\0\0\x01\0";
 
-static NOTHING: &[u8] = b"RXDF\x1f\0\0\0\x02\0\0\0\0\0\0\0\0\0\0\0\0\0\0\0\0\x02\0\0\0\0\0";
+static ASKED_BY_AN_OLDER: &[u8] = b"RXVF\x1b\0\0\0\x01\0\0\0\0\0\0\0\0\0\0\0\0\0\0\0\0\x02\0";
+
+static NOTHING: &[u8] = b"RXDF\x1f\0\0\0\x02\0\0\0\0\0\0\0\0\0\0\0\0\0\0\0\0\x01\0\0\0\0\0";
 
 #[test]
 fn vectors_are_answered(rt: HostRuntime) -> Result<(), Fail> {
@@ -440,5 +442,9 @@ fn vectors_are_answered(rt: HostRuntime) -> Result<(), Fail> {
     out.clear();
     assert!(rt; answered_bytes(rt.alloc(), ASKED_ITSELF, &mut out) == Err(ExchangeFault::SelfPeer));
     assert!(rt; out.as_slice() == b"RXEF\x0c\0\0\0\x05\0\0\0".as_slice());
+    out.clear();
+    let older = answered_bytes(rt.alloc(), ASKED_BY_AN_OLDER, &mut out);
+    assert!(rt; older == Err(ExchangeFault::PeerFormat));
+    assert!(rt; out.as_slice() == b"RXEF\x0c\0\0\0\x08\0\0\0".as_slice());
     Ok(())
 }
