@@ -14,7 +14,7 @@ ghost use Rattle.archive.specs.Store.{Mark, Asks, HasContent};
 ghost use Rattle.hist_update.specs.Codes.{asked_by, count_refusal, first_other};
 ghost use Rattle.hist_update.specs.Outcome.{IsRequest, Write, DeleteAt};
 ghost use Rattle.hist_update.specs.Operating.{Operations, Begins, BeginsListed};
-ghost use Rattle.hist_update.specs.Updates.{update_data as updates_data, delete_at as deletes_at_times, delete_raw as deletes_stretch, refused, all_good, data_refusal, writes, deletes_at, last_of, stretch_refusal, listing_refusal, AreEnded, needs_of, needs_of_stretch};
+ghost use Rattle.hist_update.specs.Updates.{update_data, delete_at, delete_raw, refused, all_good, data_refusal, writes, deletes_at, last_of, stretch_refusal, listing_refusal, AreEnded, needs_of, needs_of_stretch};
 
 use crate::operate::{code_of, delete, write};
 use crate::request::Request;
@@ -138,7 +138,7 @@ pub fn update_data<A: Archive>(
 ) -> HistoryUpdateResult
     requires request { IsRequest request.now }
     requires values { AllByRecursion IsShortData values.now }
-    ensures acts { (used : List Mark) × Acts (A.state archive.old) (A.state archive.new) used (updates_data (A.state archive.old).own request.now value_type perform values.now) result
+    ensures acts { (used : List Mark) × Acts (A.state archive.old) (A.state archive.new) used (update_data (A.state archive.old).own request.now value_type perform values.now) result
         × AreEnded (A.state archive.old).broken (needs_of (A.state archive.old).own request.now (writes (asked_by perform) value_type values.now)) used }
     ensures refused { IfSome (data_refusal (asked_by perform) (length values.now)) (λ code. (result ≡ refused code) × (archive.new ≡ archive.old)) }
     ensures short { IsShortUpdate result }
@@ -214,7 +214,7 @@ pub fn delete_at<A: Archive>(
     times: &[Ticks],
 ) -> HistoryUpdateResult
     requires { IsRequest request.now }
-    ensures acts { (used : List Mark) × Acts (A.state archive.old) (A.state archive.new) used (deletes_at_times (A.state archive.old).own request.now times.now) result
+    ensures acts { (used : List Mark) × Acts (A.state archive.old) (A.state archive.new) used (delete_at (A.state archive.old).own request.now times.now) result
         × AreEnded (A.state archive.old).broken (needs_of (A.state archive.old).own request.now (deletes_at times.now)) used }
     ensures refused { IfSome (count_refusal (length times.now)) (λ code. (result ≡ refused code) × (archive.new ≡ archive.old)) }
     ensures short { IsShortUpdate result }
@@ -367,7 +367,7 @@ pub fn delete_raw<A: Archive>(
     end: Ticks,
 ) -> HistoryUpdateResult
     requires { IsRequest request.now }
-    ensures acts { (used : List Mark) × Acts (A.state archive.old) (A.state archive.new) used (deletes_stretch (A.state archive.old).own request.now modified start end) result
+    ensures acts { (used : List Mark) × Acts (A.state archive.old) (A.state archive.new) used (delete_raw (A.state archive.old).own request.now modified start end) result
         × ((A.state archive.new).honest → (R : Content) → HasContent (A.state archive.old) R → AreEnded (A.state archive.old).broken (needs_of_stretch (A.state archive.old).own request.now start end R) used) }
     ensures refused { IfSome (stretch_refusal modified start.0 end.0) (λ code. (result ≡ refused code) × (archive.new ≡ archive.old)) }
     ensures short { IsShortUpdate result }
