@@ -5,3 +5,4 @@ pub mod Cutting
 pub mod Turning
 pub mod Flow
 pub mod Whole
+pub mod Printing

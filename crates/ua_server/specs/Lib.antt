@@ -7,3 +7,6 @@ pub mod Run
 pub mod Client
 pub mod Turns
 pub mod Serving
+pub mod Hexed
+pub mod Line
+pub mod Program

@@ -2,6 +2,7 @@
 
 ghost use Rattle.std.specs.Prelude.{◌≡◌, ◌+◌, ◌-◌, ◌/◌, ◌^◌, ◌≤ℤ◌, min, pos, ◌∷◌, ◌++◌, [], List, ℤ};
 ghost use Rattle.std.specs.Duration.{as_nanos};
+ghost use Rattle.std.specs.Time.{system_time_nanos};
 ghost use Rattle.std.proofs.Common.{refl, ◌∙◌, subst, sym};
 ghost use Rattle.ua_server.specs.Readings.{AllAre, AllAre-append, AllSinceEpoch, AllSinceEpoch-append};
 
@@ -49,7 +50,8 @@ impl<'a, T: TimeSource> SystemClock<'a, T> {
 
 /// A time of the machine as a moment: the Unix epoch where it is before that.
 fn moment_of(time: SystemTime) -> i64
-    ensures { pos 116444736000000000 ≤ℤ result }
+    ensures since { pos 116444736000000000 ≤ℤ result }
+    ensures exact { result ≡ pos (min (116444736000000000 + system_time_nanos time / 100) (2 ^ 63 - 1)) }
 {
     match time.duration_since(SystemTime::UNIX_EPOCH) {
         Ok(since) => after_epoch(since),

@@ -1,4 +1,4 @@
-//! An OPC UA server over any reader and writer.
+//! An OPC UA server over any reader, writer, clock and archive.
 #![tactic(auto)]
 
 mod answering;
@@ -6,7 +6,10 @@ mod clock;
 mod connection;
 mod counted;
 mod greeting;
+mod hexed;
+mod line;
 mod outcome;
+mod program;
 mod responding;
 mod serving;
 mod turn;
@@ -14,5 +17,11 @@ mod turn;
 pub use clock::{Clock, ConstantClock, SystemClock};
 pub use connection::MOST_CHUNKS;
 pub use counted::Counted;
+pub use hexed::{HexFault, answer_hex};
+pub use line::{Line, LineFault, read_line};
 pub use outcome::{ServeFault, Served};
+pub use program::{ProgramFault, report, run};
 pub use serving::serve;
+
+#[cfg(test)]
+mod tests;

@@ -1,0 +1,130 @@
+//! The command line.
+
+ghost use Rattle.std.specs.Prelude.{◌≡◌, [], map, codes, IfOk, OnErr, IsErrOf, true, false};
+ghost use Rattle.clap.specs.Words.{app_of, rule_of, rows_of, found_of, subcommand_of};
+ghost use Rattle.clap.specs.Takes.{takes};
+ghost use Rattle.clap.specs.Faults.{fault_of as fault_kinds};
+ghost use Rattle.ua_server.specs.Line.{IsAnswer, IsLine, GivesNoNumber, IsNoCommand, now, uahist};
+
+use clap::builder::ValueParser;
+use clap::error::ErrorKind;
+use clap::{Arg, ArgAction, ArgMatches, Command};
+use std::alloc::{AllocError, Global};
+use std::convert::AsStr;
+use std::error::Error;
+use std::fmt;
+
+/// The greatest moment that a clock may stand at, 2^63 - 1.
+const MOST_NOW: u64 = 9_223_372_036_854_775_807;
+
+/// What the program is asked to do.
+#[derive(Clone, Copy, Debug, PartialEq, Eq)]
+pub enum Line {
+    /// Answer one connection from standard input to standard output, both in hex digits where `hex` is set. The clock
+    /// stands at `now` where that is given.
+    Answer { hex: bool, now: Option<i64> },
+}
+
+/// Why a command line is no command.
+#[derive(Clone, Copy, Debug, PartialEq, Eq)]
+pub enum LineFault {
+    /// The words are no command of the program's, or ask for help.
+    Words,
+    /// Memory ran out.
+    OutOfMemory,
+}
+
+impl LineFault {
+    ghost use Rattle.ua_server.specs.Program.{line_text_of};
+
+    /// The text that tells it.
+    pub fn text(self) -> &'static str
+        ensures { result.now ≡ line_text_of self }
+    {
+        match self {
+            LineFault::Words => "usage: uahist answer [--hex] [--now N]",
+            LineFault::OutOfMemory => "memory ran out before the command began",
+        }
+    }
+}
+
+impl fmt::Display for LineFault {
+    ghost use Rattle.std.specs.Prelude.{Some};
+    ghost use Rattle.ua_server.specs.Program.{line_text_of};
+
+    ghost output = { λ fault. Some (line_text_of fault) };
+
+    fn fmt<W: fmt::Write>(&self, f: &mut fmt::Formatter<W>) -> fmt::Result {
+        f.write_str(self.text())
+    }
+}
+
+impl Error for LineFault {}
+
+/// The option `--now N`.
+fn now_option<'a>(alloc: Global) -> Arg<'a>
+    ensures rule { rule_of result ≡ now }
+    ensures local { result.global ≡ false }
+{
+    Arg::new(alloc, "now")
+        .long("now")
+        .action(ArgAction::Set)
+        .value_parser(ValueParser::unsigned(0, MOST_NOW))
+}
+
+/// The program's commands and their options.
+fn command<'a>(alloc: Global) -> Result<Command<'a>, AllocError>
+    ensures { IfOk result (λ command. app_of command ≡ uahist) }
+{
+    let hex = Arg::new(alloc, "hex")
+        .long("hex")
+        .action(ArgAction::SetTrue);
+    let now = now_option(alloc);
+    let answer = Command::new(alloc, "answer").arg(hex)?.arg(now)?;
+    let whole = Command::new(alloc, "uahist").subcommand(answer)?;
+    Ok(whole)
+}
+
+/// What a refusal of `clap`'s is called here.
+fn fault_of(kind: ErrorKind) -> LineFault
+    ensures { result ≡ LineFault.Words → kind ≡ ErrorKind.OutOfMemory → ⊥ }
+{
+    match kind {
+        ErrorKind::OutOfMemory => LineFault::OutOfMemory,
+        _ => LineFault::Words,
+    }
+}
+
+/// Reads the options of `answer`.
+fn read_answer(answer: &ArgMatches<'_>) -> Result<Line, LineFault>
+    ensures ok { IfOk result (IsAnswer (rows_of (found_of answer.now))) }
+    ensures words { OnErr result (GivesNoNumber (codes "now") (rows_of (found_of answer.now))) }
+{
+    let hex = answer.get_flag("hex");
+    match answer.try_get_one("now") {
+        Ok(now) => Ok(Line::Answer { hex, now }),
+        Err(_) => Err(LineFault::Words),
+    }
+}
+
+/// Reads a command line, the program's name first, as `clap` reads it.
+///
+/// `Ok` has the command that `clap`'s matches name and the values that they give for it. Errors: `Words` where `clap`
+/// refuses the words, they name no command, or a value is no number; `OutOfMemory` where memory ran out.
+pub fn read_line<'a, S: AsStr>(alloc: Global, words: &'a [S]) -> Result<Line, LineFault>
+    ensures ok { IfOk result (IsLine (subcommand_of uahist (map S.text words.now))) }
+    ensures taken { IfOk result (λ line. fault_kinds uahist (map S.text words.now) ≡ []) }
+    ensures words { IsErrOf result LineFault.Words → takes uahist (map S.text words.now) ≡ true → IsNoCommand (subcommand_of uahist (map S.text words.now)) }
+{
+    let Ok(command) = command(alloc) else {
+        return Err(LineFault::OutOfMemory);
+    };
+    let matches = match command.try_get_matches_from(words) {
+        Ok(matches) => matches,
+        Err(error) => return Err(fault_of(error.kind())),
+    };
+    match matches.subcommand_matches("answer") {
+        None => Err(LineFault::Words),
+        Some(answer) => read_answer(answer),
+    }
+}

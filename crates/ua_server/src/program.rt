@@ -1,0 +1,275 @@
+//! The program, over any reader and writers.
+
+ghost use Rattle.std.specs.Prelude.{◌≡◌, ◌+◌, ℕ, ℤ, List, [], ◌∷◌, ◌++◌, IfOk, IfErr, OnOk, OnErr, IsErrOf, map, codes};
+ghost use Rattle.std.specs.Io.KnownBytes.{Appends, Consumes, IsAtEnd};
+ghost use Rattle.ua_server.specs.Bytes.{counted, AppendsPart};
+ghost use Rattle.ua_settings.specs.Settings.{bare};
+ghost use Rattle.archive.specs.Listed.{Listed};
+ghost use Rattle.ua_server.specs.Given.{Outside};
+ghost use Rattle.ua_server.specs.Program.{status_of, empty, ServesBare, EndsAs, MakesDigits, PrintsHex, DoesAnswer, DoesLine, Runs, IsTold, error_line};
+ghost use Rattle.clap.specs.Words.{subcommand_of};
+ghost use Rattle.clap.specs.Takes.{takes};
+ghost use Rattle.clap.specs.Faults.{fault_of as fault_kinds};
+ghost use Rattle.ua_server.specs.Line.{uahist};
+
+use crate::clock::{Clock, ConstantClock};
+use crate::counted::Counted;
+use crate::hexed::{HexFault, answer_hex};
+use crate::line::{Line, LineFault, read_line};
+use crate::outcome::ServeFault;
+use crate::serving::serve;
+use archive::ListArchive;
+use std::alloc::Global;
+use std::convert::AsStr;
+use std::error::Error;
+use std::fmt;
+use std::io::{Read, Write};
+use ua_settings::Settings;
+
+/// What went wrong in a run of the program.
+#[derive(Clone, Copy, Debug, PartialEq, Eq)]
+pub enum ProgramFault {
+    /// The command line is no command.
+    Line(LineFault),
+    /// The input isn't hex.
+    BadHex,
+    /// A connection met a fault.
+    Connection(ServeFault),
+}
+
+impl ProgramFault {
+    ghost use Rattle.ua_server.specs.Program.{text_of};
+
+    /// The text that tells it: of a connection's fault its number.
+    pub fn text(self) -> &'static str
+        ensures { result.now ≡ text_of self }
+    {
+        match self {
+            ProgramFault::Line(fault) => fault.text(),
+            ProgramFault::BadHex => "bad hex",
+            ProgramFault::Connection(ServeFault::Read) => "connection ended (1)",
+            ProgramFault::Connection(ServeFault::Write) => "connection ended (2)",
+            ProgramFault::Connection(ServeFault::TooLong) => "connection ended (3)",
+            ProgramFault::Connection(ServeFault::OutOfMemory) => "connection ended (4)",
+        }
+    }
+}
+
+impl fmt::Display for ProgramFault {
+    ghost use Rattle.std.specs.Prelude.{Some};
+    ghost use Rattle.ua_server.specs.Program.{text_of};
+
+    ghost output = { λ fault. Some (text_of fault) };
+
+    fn fmt<W: fmt::Write>(&self, f: &mut fmt::Formatter<W>) -> fmt::Result {
+        f.write_str(self.text())
+    }
+}
+
+impl Error for ProgramFault {}
+
+/// The bytes that one read of a text asks for.
+const PIECE: usize = 4096;
+
+/// All bytes that the reader has.
+fn read_all<R: Read>(alloc: Global, input: &mut Counted<R>) -> Result<Vec<u8>, ServeFault>
+    ensures bytes { IfOk result (λ bytes. Consumes (R.remaining input.old.inner) (R.remaining input.new.inner) bytes.items × IsAtEnd (R.remaining input.new.inner)) }
+    ensures read { IsErrOf result ServeFault.Read → input.new.faults ≡ counted input.old.faults }
+    ensures no_write { IsErrOf result ServeFault.Write → ⊥ }
+    ensures no_long { IsErrOf result ServeFault.TooLong → ⊥ }
+{
+    let mut bytes = Vec::new(alloc);
+    let mut piece = [0u8; PIECE];
+    'pieces: loop {
+        let n = input.read_piece(&mut piece)?;
+        if n == 0 {
+            return Ok(bytes);
+        }
+        if bytes.extend_from_slice(&piece[..n]).is_err() {
+            return Err(ServeFault::OutOfMemory);
+        }
+    }
+}
+
+/// The archive of these settings, in memory: it holds nothing.
+pub(crate) fn archive_of(alloc: Global, settings: &Settings) -> ListArchive
+    ensures { settings.now ≡ bare → result ≡ empty }
+{
+    ListArchive::new(alloc, settings.archive(), settings.replica())
+}
+
+/// Answers one connection, as the server without settings, over an archive in memory that holds nothing.
+fn answer<R: Read, W: Write, C: Clock>(
+    alloc: Global,
+    input: &mut Counted<R>,
+    output: &mut Counted<W>,
+    clock: &mut C,
+) -> Result<(), ProgramFault>
+    ensures read { IsErrOf result (ProgramFault.Connection ServeFault.Read) → input.new.faults ≡ counted input.old.faults }
+    ensures write { IsErrOf result (ProgramFault.Connection ServeFault.Write) → output.new.faults ≡ counted output.old.faults }
+    ensures ends { (used : Outside) × C.gave clock.old used.readings clock.new × EndsAs (W.contents output.old.inner) (W.contents output.new.inner) (ServesBare (R.remaining input.old.inner) (R.remaining input.new.inner) (W.contents output.old.inner) (W.contents output.new.inner) used) result }
+{
+    let Ok(settings) = Settings::bare(alloc) else {
+        return Err(ProgramFault::Line(LineFault::OutOfMemory));
+    };
+    let mut archive = archive_of(alloc, &settings);
+    match serve(alloc, &settings, &mut archive, input, output, clock) {
+        Ok(_) => Ok(()),
+        Err(fault) => Err(ProgramFault::Connection(fault)),
+    }
+}
+
+/// The answer in hex digits to the connection in hex digits that the reader has.
+fn hex_answer<R: Read, C: Clock>(
+    alloc: Global,
+    input: &mut Counted<R>,
+    clock: &mut C,
+) -> Result<Vec<u8>, ProgramFault>
+    ensures digits { (used : Outside) × C.gave clock.old used.readings clock.new × MakesDigits (λ digits. digits.items) (R.remaining input.old.inner) used result }
+    ensures read { IsErrOf result (ProgramFault.Connection ServeFault.Read) → input.new.faults ≡ counted input.old.faults }
+{
+    let bytes = match read_all(alloc, input) {
+        Ok(bytes) => bytes,
+        Err(fault) => return Err(ProgramFault::Connection(fault)),
+    };
+    let Ok(text) = std::str::from_utf8(bytes.as_slice()) else {
+        return Err(ProgramFault::BadHex);
+    };
+    let Ok(settings) = Settings::bare(alloc) else {
+        return Err(ProgramFault::Line(LineFault::OutOfMemory));
+    };
+    let mut archive = archive_of(alloc, &settings);
+    let mut digits = Vec::new(alloc);
+    match answer_hex(alloc, &settings, &mut archive, text, &mut digits, clock) {
+        Ok(_) => Ok(digits),
+        Err(HexFault::BadHex) => Err(ProgramFault::BadHex),
+        Err(HexFault::Serve(fault)) => Err(ProgramFault::Connection(fault)),
+    }
+}
+
+/// Writes a line.
+fn print_line<W: Write>(line: &[u8], output: &mut Counted<W>) -> Result<(), ServeFault>
+    ensures ok { OnOk result (Appends (W.contents output.old.inner) (W.contents output.new.inner) (line.now ++ 10 ∷ [])) }
+    ensures kept { OnOk result (output.new.faults ≡ output.old.faults) }
+    ensures write { OnErr result (output.new.faults ≡ counted output.old.faults) }
+    ensures part { IfErr result (λ fault. (fault ≡ ServeFault.Write) × AppendsPart (W.contents output.old.inner) (W.contents output.new.inner) (line.now ++ 10 ∷ [])) }
+{
+    match output.send(line) {
+        Ok(()) => {}
+        Err(fault) => return Err(fault),
+    }
+    match output.send(b"\n") {
+        Ok(()) => Ok(()),
+        Err(fault) => Err(fault),
+    }
+}
+
+/// Answers one connection in hex digits, and ends the line.
+fn answer_in_hex<R: Read, W: Write, C: Clock>(
+    alloc: Global,
+    input: &mut Counted<R>,
+    output: &mut Counted<W>,
+    clock: &mut C,
+) -> Result<(), ProgramFault>
+    ensures read { IsErrOf result (ProgramFault.Connection ServeFault.Read) → input.new.faults ≡ counted input.old.faults }
+    ensures write { IsErrOf result (ProgramFault.Connection ServeFault.Write) → output.new.faults ≡ counted output.old.faults }
+    ensures prints { (used : Outside) × C.gave clock.old used.readings clock.new × PrintsHex (R.remaining input.old.inner) (W.contents output.old.inner) (W.contents output.new.inner) used result }
+{
+    let digits = hex_answer(alloc, input, clock)?;
+    match print_line(digits.as_slice(), output) {
+        Ok(()) => Ok(()),
+        Err(fault) => Err(ProgramFault::Connection(fault)),
+    }
+}
+
+/// Answers one connection, in hex digits or in bytes.
+fn answer_either<R: Read, W: Write, C: Clock>(
+    alloc: Global,
+    hex: bool,
+    input: &mut Counted<R>,
+    output: &mut Counted<W>,
+    clock: &mut C,
+) -> Result<(), ProgramFault>
+    ensures read { IsErrOf result (ProgramFault.Connection ServeFault.Read) → input.new.faults ≡ counted input.old.faults }
+    ensures write { IsErrOf result (ProgramFault.Connection ServeFault.Write) → output.new.faults ≡ counted output.old.faults }
+    ensures does { (used : Outside) × C.gave clock.old used.readings clock.new × DoesAnswer hex (R.remaining input.old.inner) (R.remaining input.new.inner) (W.contents output.old.inner) (W.contents output.new.inner) used result }
+{
+    if hex {
+        answer_in_hex(alloc, input, output, clock)
+    } else {
+        answer(alloc, input, output, clock)
+    }
+}
+
+/// Answers one connection. Where a moment is given the clock isn't read, and stands at that.
+fn answer_at<R: Read, W: Write, C: Clock>(
+    alloc: Global,
+    hex: bool,
+    now: Option<i64>,
+    input: &mut Counted<R>,
+    output: &mut Counted<W>,
+    clock: &mut C,
+) -> Result<(), ProgramFault>
+    ensures read { IsErrOf result (ProgramFault.Connection ServeFault.Read) → input.new.faults ≡ counted input.old.faults }
+    ensures write { IsErrOf result (ProgramFault.Connection ServeFault.Write) → output.new.faults ≡ counted output.old.faults }
+    ensures does { (used : Outside) × C.gave clock.old used.readings clock.new × DoesLine (Line.Answer hex now) (R.remaining input.old.inner) (R.remaining input.new.inner) (W.contents output.old.inner) (W.contents output.new.inner) used result }
+{
+    match now {
+        None => answer_either(alloc, hex, input, output, clock),
+        Some(now) => answer_either(alloc, hex, input, output, &mut ConstantClock(now)),
+    }
+}
+
+/// Does what a command line asks for. Where that gives a moment, the clock isn't read.
+///
+/// Errors: `Line` where the words are no command, `BadHex` where the input is to be hex and isn't, `Connection` where the
+/// connection met a fault; what went out before it stands.
+#[tactic(auto, using(crate::proofs::Printing::lines))]
+pub fn run<S: AsStr, R: Read, W: Write, C: Clock>(
+    alloc: Global,
+    words: &[S],
+    input: &mut Counted<R>,
+    output: &mut Counted<W>,
+    clock: &mut C,
+) -> Result<(), ProgramFault>
+    ensures read { IsErrOf result (ProgramFault.Connection ServeFault.Read) → input.new.faults ≡ counted input.old.faults }
+    ensures write { IsErrOf result (ProgramFault.Connection ServeFault.Write) → output.new.faults ≡ counted output.old.faults }
+    ensures runs { (used : Outside) × C.gave clock.old used.readings clock.new
+        × Runs (fault_kinds uahist (map S.text words.now)) (takes uahist (map S.text words.now)) (subcommand_of uahist (map S.text words.now)) (R.remaining input.old.inner) (R.remaining input.new.inner) (W.contents output.old.inner) (W.contents output.new.inner) used result }
+{
+    match read_line(alloc, words) {
+        Ok(Line::Answer { hex, now }) => answer_at(alloc, hex, now, input, output, clock),
+        Err(fault) => Err(ProgramFault::Line(fault)),
+    }
+}
+
+/// Writes a line that begins with `uahist: `.
+fn tell<W: Write>(text: &[u8], errors: &mut Counted<W>) -> Result<(), ServeFault>
+    ensures ok { OnOk result (Appends (W.contents errors.old.inner) (W.contents errors.new.inner) (codes "uahist: " ++ (text.now ++ 10 ∷ []))) }
+    ensures kept { OnOk result (errors.new.faults ≡ errors.old.faults) }
+    ensures part { OnErr result (AppendsPart (W.contents errors.old.inner) (W.contents errors.new.inner) (codes "uahist: " ++ (text.now ++ 10 ∷ []))) }
+    ensures write { OnErr result (errors.new.faults ≡ counted errors.old.faults) }
+{
+    match errors.send(b"uahist: ") {
+        Ok(()) => print_line(text, errors),
+        Err(fault) => Err(fault),
+    }
+}
+
+/// Tells on `errors` what went wrong, in a line that begins with `uahist: `, and answers the exit status: 0 where nothing
+/// did, 1 where a connection ended by a fault, 2 where the command line or the input was refused. Of a line that can't be
+/// written whole a first part stands, and the failed call is counted.
+pub fn report<W: Write>(ending: Result<(), ProgramFault>, errors: &mut Counted<W>) -> u8
+    ensures status { result ≡ status_of ending }
+    ensures silent { OnOk ending (errors.new ≡ errors.old) }
+    ensures told { IfErr ending (λ fault. IsTold W.contents errors.old errors.new (error_line fault)) }
+{
+    let Err(fault) = ending else {
+        return 0;
+    };
+    let _ = tell(fault.text().as_bytes(), errors);
+    match fault {
+        ProgramFault::Line(_) | ProgramFault::BadHex => 2,
+        ProgramFault::Connection(_) => 1,
+    }
+}

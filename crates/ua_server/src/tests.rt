@@ -1,0 +1,545 @@
+mod rows;
+
+use super::*;
+use crate::program::archive_of;
+use rows::{ACK, ANSWER, HELLO, OPEN, OPENED, PART, REQUEST, REST, ROWS};
+use std::alloc::Global;
+use std::io;
+use std::io::{Read, Write};
+use std::test::Fail;
+use ua_binary::Status;
+use ua_settings::Settings;
+
+/// Takes one byte a call, and none once it has `room`.
+#[derive(Drop)]
+struct Narrow {
+    bytes: Vec<u8>,
+    room: usize,
+}
+
+impl Write for Narrow {
+    fn write(&mut self, buf: &[u8]) -> io::Result<usize> {
+        if self.bytes.len() >= self.room || buf.is_empty() {
+            return Ok(0);
+        }
+        self.bytes.push(buf[0])?;
+        Ok(1)
+    }
+
+    fn flush(&mut self) -> io::Result<()> {
+        Ok(())
+    }
+}
+
+/// Gives at most `size` bytes a call, and once they are over an error, or the end.
+#[derive(Drop)]
+struct Slow<'a> {
+    bytes: &'a [u8],
+    size: usize,
+    fails: bool,
+}
+
+impl Read for Slow<'_> {
+    fn read(&mut self, buf: &mut [u8]) -> io::Result<usize> {
+        if self.bytes.is_empty() && self.fails {
+            return Err(io::Error::from(io::ErrorKind::BrokenPipe));
+        }
+        let n = self.size.min(buf.len()).min(self.bytes.len());
+        let (piece, rest) = self.bytes.split_at(n);
+        buf[..n].copy_from_slice(piece);
+        self.bytes = rest;
+        Ok(n)
+    }
+}
+
+/// Each reading is one tick after the last one.
+#[derive(Drop)]
+struct Ticking(i64);
+
+impl Clock for Ticking {
+    ghost gave = { λ a xs b. Unit };
+
+    ghost gave_none = { λ a. tt };
+
+    ghost gave_more = { λ a b c xs ys p q. tt };
+
+    fn now(&mut self) -> i64 {
+        let now = self.0;
+        self.0 = now.saturating_add(1);
+        now
+    }
+}
+
+fn clock() -> ConstantClock {
+    ConstantClock(116_444_736_000_000_000)
+}
+
+/// The parts, one after the other.
+fn joined(alloc: Global, parts: &[&str]) -> Result<String, Fail> {
+    let mut text = String::new(alloc);
+    for part in parts {
+        text.push_str(part)?;
+    }
+    Ok(text)
+}
+
+/// The bytes that the parts spell in hex digits.
+fn bytes_of(alloc: Global, parts: &[&str]) -> Result<Vec<u8>, Fail> {
+    let mut digits = Vec::new(alloc);
+    for part in parts {
+        for byte in part.bytes() {
+            if byte.is_ascii_hexdigit() {
+                digits.push(byte)?;
+            }
+        }
+    }
+    Ok(hex::decode(alloc, digits.as_slice())?)
+}
+
+/// The digits are these parts, one after the other.
+fn is_joined(digits: &[u8], parts: &[&str]) -> bool {
+    let mut rest = digits;
+    for part in parts {
+        match rest.strip_prefix(part.as_bytes()) {
+            Some(after) => rest = after,
+            None => return false,
+        }
+    }
+    rest.is_empty()
+}
+
+/// The answer of a server without settings, over an archive that holds nothing.
+fn answer<C: Clock>(
+    alloc: Global,
+    text: &str,
+    out: &mut Vec<u8>,
+    clock: &mut C,
+) -> Result<Served, HexFault> {
+    let Ok(settings) = Settings::bare(alloc) else {
+        return Err(HexFault::Serve(ServeFault::OutOfMemory));
+    };
+    let mut archive = archive_of(alloc, &settings);
+    answer_hex(alloc, &settings, &mut archive, text, out, clock)
+}
+
+/// Such a server serves a client.
+fn serve_bare<R: Read, W: Write>(
+    alloc: Global,
+    reader: &mut Counted<R>,
+    writer: &mut Counted<W>,
+) -> Result<Served, ServeFault> {
+    let Ok(settings) = Settings::bare(alloc) else {
+        return Err(ServeFault::OutOfMemory);
+    };
+    let mut archive = archive_of(alloc, &settings);
+    serve(alloc, &settings, &mut archive, reader, writer, &mut clock())
+}
+
+/// A connection in hex digits is answered so.
+fn is_answered(alloc: Global, text: &str, want: &[&str], ending: Served) -> Result<bool, Fail> {
+    let mut out = Vec::new(alloc);
+    let served = answer(alloc, text, &mut out, &mut clock())?;
+    Ok(served == ending && is_joined(out.as_slice(), want))
+}
+
+#[test]
+fn answers_in_hex(rt: HostRuntime) -> Result<(), Fail> {
+    for (what, input, want, ending) in ROWS {
+        let text = joined(rt.alloc(), input)?;
+        assert!(rt;
+            is_answered(rt.alloc(), text.as_str(), want, ending)?,
+            "{what}"
+        );
+    }
+    Ok(())
+}
+
+#[test]
+fn refuses_bad_hex(rt: HostRuntime) {
+    for text in ["4G", "484", "48\t45"] {
+        let mut out = Vec::new(rt.alloc());
+        let result = answer(rt.alloc(), text, &mut out, &mut clock());
+        assert!(rt; result == Err(HexFault::BadHex) && out.is_empty(), "{text}");
+    }
+}
+
+/// What was written before stays, and after an error nothing is appended.
+#[test]
+fn keeps_what_was_written(rt: HostRuntime) -> Result<(), Fail> {
+    let mut out = vec![in rt.alloc(); 7u8]?;
+    for text in [HELLO, "4G"] {
+        let _ = answer(rt.alloc(), text, &mut out, &mut clock());
+        assert!(rt;
+            out.first() == Some(&7) && out.get(1..) == Some(ACK.as_bytes()),
+            "{text}"
+        );
+    }
+    Ok(())
+}
+
+/// The connection is served so from pieces of this size, with no fault; the reader fails at its end where it is told to.
+fn is_served(alloc: Global, bytes: &[u8], size: usize, fails: bool, want: &[u8]) -> bool {
+    let mut reader = Counted::new(Slow { bytes, size, fails });
+    let mut writer = Counted::new(Vec::new(alloc));
+    let result = serve_bare(alloc, &mut reader, &mut writer);
+    let ending = if fails {
+        Err(ServeFault::Read)
+    } else {
+        Ok(Served::EndOfInput)
+    };
+    let faults = if fails { 1 } else { 0 };
+    result == ending
+        && reader.faults() == faults
+        && writer.faults() == 0
+        && writer.into_inner().as_slice() == want
+}
+
+/// A writer that takes so many bytes has just these, and its failed call is counted.
+fn is_written(alloc: Global, bytes: &[u8], room: usize, want: &[u8]) -> bool {
+    let mut reader = Counted::new(bytes);
+    let mut writer = Counted::new(Narrow {
+        bytes: Vec::new(alloc),
+        room,
+    });
+    let result = serve_bare(alloc, &mut reader, &mut writer);
+    let (ending, faults) = if room < want.len() {
+        (Err(ServeFault::Write), 1)
+    } else {
+        (Ok(Served::EndOfInput), 0)
+    };
+    result == ending
+        && reader.faults() == 0
+        && writer.faults() == faults
+        && Some(writer.into_inner().bytes.as_slice()) == want.get(..room.min(want.len()))
+}
+
+/// How many bytes answer a front of a Hello, an opening and a message.
+fn answered_of(front: usize) -> usize {
+    match front {
+        0..56 => 0,
+        56..188 => 28,
+        188..243 => 163,
+        _ => 215,
+    }
+}
+
+#[test]
+fn serves_in_pieces(rt: HostRuntime) -> Result<(), Fail> {
+    let input = bytes_of(rt.alloc(), &[HELLO, OPEN, REQUEST])?;
+    let want = bytes_of(rt.alloc(), &[ACK, OPENED, ANSWER])?;
+    assert_eq!(rt; (input.len(), want.len()), (243, 215));
+    for size in 1..244 {
+        assert!(rt;
+            is_served(rt.alloc(), input.as_slice(), size, false, want.as_slice()),
+            "{size}"
+        );
+    }
+    Ok(())
+}
+
+#[test]
+fn serves_each_front(rt: HostRuntime) -> Result<(), Fail> {
+    let input = bytes_of(rt.alloc(), &[HELLO, OPEN, REQUEST])?;
+    let want = bytes_of(rt.alloc(), &[ACK, OPENED, ANSWER])?;
+    for count in 0..244 {
+        let bytes = input.get(..count).ok_or("a front")?;
+        let out = want.get(..answered_of(count)).ok_or("a front")?;
+        for fails in [true, false] {
+            assert!(rt; is_served(rt.alloc(), bytes, 1, fails, out), "{count}");
+        }
+    }
+    Ok(())
+}
+
+#[test]
+fn stops_where_the_writer_does(rt: HostRuntime) -> Result<(), Fail> {
+    let input = bytes_of(rt.alloc(), &[HELLO, OPEN, REQUEST])?;
+    let want = bytes_of(rt.alloc(), &[ACK, OPENED, ANSWER])?;
+    for room in 0..217 {
+        assert!(rt;
+            is_written(rt.alloc(), input.as_slice(), room, want.as_slice()),
+            "{room}"
+        );
+    }
+    Ok(())
+}
+
+/// A connection with so many chunks of one message, of no byte each.
+fn many_chunks(alloc: Global, count: u8) -> Result<Vec<u8>, Fail> {
+    let mut bytes = bytes_of(alloc, &[HELLO, OPEN])?;
+    for number in 0..count {
+        bytes.extend_from_slice(b"MSGC\x18\0\0\0\x01\0\0\0\x01\0\0\0")?;
+        bytes.extend_from_slice(&[number.saturating_add(2), 0, 0, 0, 2, 0, 0, 0])?;
+    }
+    Ok(bytes)
+}
+
+/// How many chunks of one message come, what goes out, and how the connection ends.
+static COUNTS: [(u8, &[&str], Served); 2] = [
+    (64, &[ACK, OPENED], Served::EndOfInput),
+    (
+        65,
+        &[ACK, OPENED, "455252461000000000008080FFFFFFFF"],
+        Served::Refused(Status(0x8080_0000)),
+    ),
+];
+
+/// A message has 64 chunks, and not 65.
+#[test]
+fn bounds_a_message(rt: HostRuntime) -> Result<(), Fail> {
+    for (count, want, ending) in COUNTS {
+        let input = many_chunks(rt.alloc(), count)?;
+        let text = hex::encode(rt.alloc(), input.as_slice())?;
+        assert!(rt;
+            is_answered(rt.alloc(), text.as_str(), want, ending)?,
+            "{count}"
+        );
+    }
+    Ok(())
+}
+
+/// The clock is read once for the opening and once for the message, and for nothing else.
+#[test]
+fn reads_the_clock(rt: HostRuntime) -> Result<(), Fail> {
+    let text = joined(rt.alloc(), &[HELLO, OPEN, PART, REST, PART])?;
+    let mut clock = Ticking(0x0102_0304_0506_0708);
+    let mut out = Vec::new(rt.alloc());
+    let result = answer(rt.alloc(), text.as_str(), &mut out, &mut clock);
+    assert!(rt; result == Ok(Served::Refused(Status(0x8088_0000))));
+    assert_eq!(rt; clock.0, 0x0102_0304_0506_070A);
+    // the opening's answer has 270 digits after the Acknowledge's 56, the message's timestamp comes 28 bytes into its own
+    assert!(rt; out.get(382..398) == Some(b"0907060504030201".as_slice()));
+    Ok(())
+}
+
+/// Command lines, and what they are.
+static LINES: [(&[&str], Result<Line, LineFault>); 19] = [
+    (
+        &["uahist", "answer"],
+        Ok(Line::Answer {
+            hex: false,
+            now: None,
+        }),
+    ),
+    (
+        &["uahist", "answer", "--hex"],
+        Ok(Line::Answer {
+            hex: true,
+            now: None,
+        }),
+    ),
+    (
+        &["uahist", "answer", "--now", "0"],
+        Ok(Line::Answer {
+            hex: false,
+            now: Some(0),
+        }),
+    ),
+    (
+        &["uahist", "answer", "--now=5"],
+        Ok(Line::Answer {
+            hex: false,
+            now: Some(5),
+        }),
+    ),
+    (
+        &["uahist", "answer", "--now", "116444736000000000", "--hex"],
+        Ok(Line::Answer {
+            hex: true,
+            now: Some(116_444_736_000_000_000),
+        }),
+    ),
+    (
+        &["uahist", "answer", "--now", "9223372036854775807"],
+        Ok(Line::Answer {
+            hex: false,
+            now: Some(i64::MAX),
+        }),
+    ),
+    (
+        &["uahist", "answer", "--now", "9223372036854775808"],
+        Err(LineFault::Words),
+    ),
+    (&["uahist", "answer", "--now=-1"], Err(LineFault::Words)),
+    (&["uahist", "answer", "--now", "5x"], Err(LineFault::Words)),
+    (&["uahist", "answer", "--now"], Err(LineFault::Words)),
+    (
+        &["uahist", "answer", "--now", "5", "--now", "6"],
+        Err(LineFault::Words),
+    ),
+    (&[], Err(LineFault::Words)),
+    (&["uahist"], Err(LineFault::Words)),
+    (&["uahist", "--help"], Err(LineFault::Words)),
+    (&["uahist", "help"], Err(LineFault::Words)),
+    (&["uahist", "dump"], Err(LineFault::Words)),
+    (&["uahist", "answer", "--hex=1"], Err(LineFault::Words)),
+    (&["uahist", "answer", "more"], Err(LineFault::Words)),
+    (
+        &["uahist", "answer", "--hex", "--hex"],
+        Err(LineFault::Words),
+    ),
+];
+
+#[test]
+fn reads_lines(rt: HostRuntime) {
+    for (at, (words, want)) in LINES.iter().enumerate() {
+        assert!(rt; read_line(rt.alloc(), words) == *want, "{at}");
+    }
+}
+
+/// Command lines, the input, the room of the output, what it has then, what is said, and the exit status.
+static RUNS: [(&[&str], &[u8], usize, &str, &str, u8); 7] = [
+    (
+        &["uahist", "answer", "--hex"],
+        b"474554202F000000",
+        1000,
+        "455252461000000000007E80FFFFFFFF\n",
+        "",
+        0,
+    ),
+    (&["uahist", "answer", "--hex"], b"", 1000, "\n", "", 0),
+    (
+        &["uahist", "answer"],
+        b"GET /\0\0\0",
+        1000,
+        "ERRF\x10\0\0\0",
+        "",
+        0,
+    ),
+    (
+        &["uahist", "answer", "--hex"],
+        b"4G",
+        1000,
+        "",
+        "uahist: bad hex\n",
+        2,
+    ),
+    (
+        &["uahist", "answer", "--hex"],
+        b"48\xFF",
+        1000,
+        "",
+        "uahist: bad hex\n",
+        2,
+    ),
+    (
+        &["uahist", "answer", "--hex"],
+        b"474554202F000000",
+        5,
+        "45525",
+        "uahist: connection ended (2)\n",
+        1,
+    ),
+    (
+        &["uahist", "serve"],
+        b"",
+        1000,
+        "",
+        "uahist: usage: uahist answer [--hex] [--now N]\n",
+        2,
+    ),
+];
+
+/// What a run prints begins so, and this is said.
+fn is_run(
+    alloc: Global,
+    words: &[&str],
+    input: &[u8],
+    room: usize,
+    printed: &str,
+    said: &str,
+    status: u8,
+) -> bool {
+    let mut errors = Counted::new(Vec::new(alloc));
+    let mut reader = Counted::new(input);
+    let mut writer = Counted::new(Narrow {
+        bytes: Vec::new(alloc),
+        room,
+    });
+    let ending = run(alloc, words, &mut reader, &mut writer, &mut clock());
+    report(ending, &mut errors) == status
+        && writer.into_inner().bytes.starts_with(printed.as_bytes())
+        && errors.into_inner().as_slice() == said.as_bytes()
+}
+
+#[test]
+fn runs_and_reports(rt: HostRuntime) {
+    for (words, input, room, printed, said, status) in RUNS {
+        assert!(rt;
+            is_run(rt.alloc(), words, input, room, printed, said, status),
+            "{said}"
+        );
+    }
+}
+
+/// The clock that is given stands in the answer, and more than one piece of input is read.
+#[test]
+fn runs_at_a_moment(rt: HostRuntime) -> Result<(), Fail> {
+    let mut text = joined(rt.alloc(), &[HELLO, OPEN, REQUEST])?;
+    for _ in 0..5000 {
+        text.push_str(" ")?;
+    }
+    let words = ["uahist", "answer", "--hex", "--now", "116444736000000000"];
+    let mut reader = Counted::new(text.as_bytes());
+    let mut writer = Counted::new(Vec::new(rt.alloc()));
+    let ending = run(
+        rt.alloc(),
+        &words,
+        &mut reader,
+        &mut writer,
+        &mut Ticking(7),
+    );
+    assert!(rt; ending.is_ok());
+    assert!(rt; is_joined(writer.into_inner().as_slice(), &[ACK, OPENED, ANSWER, "\n"]));
+    Ok(())
+}
+
+/// What is said of this ending, and the exit status.
+fn is_told(alloc: Global, ending: Result<(), ProgramFault>, said: &str, status: u8) -> bool {
+    let mut errors = Counted::new(Vec::new(alloc));
+    report(ending, &mut errors) == status && errors.into_inner().as_slice() == said.as_bytes()
+}
+
+#[test]
+fn tells_each_fault(rt: HostRuntime) {
+    for (fault, said, status) in [
+        (
+            ProgramFault::Connection(ServeFault::Read),
+            "uahist: connection ended (1)\n",
+            1,
+        ),
+        (
+            ProgramFault::Connection(ServeFault::TooLong),
+            "uahist: connection ended (3)\n",
+            1,
+        ),
+        (
+            ProgramFault::Connection(ServeFault::OutOfMemory),
+            "uahist: connection ended (4)\n",
+            1,
+        ),
+        (
+            ProgramFault::Line(LineFault::OutOfMemory),
+            "uahist: memory ran out before the command began\n",
+            2,
+        ),
+    ] {
+        assert!(rt; is_told(rt.alloc(), Err(fault), said, status), "{said}");
+    }
+}
+
+#[test]
+fn numbers_its_faults(rt: HostRuntime) {
+    for (at, fault) in [
+        ServeFault::Read,
+        ServeFault::Write,
+        ServeFault::TooLong,
+        ServeFault::OutOfMemory,
+    ]
+    .iter()
+    .enumerate()
+    {
+        assert!(rt; fault.number() as usize == at + 1);
+    }
+    assert!(rt; SystemClock::new(&rt).now() >= clock().now());
+}
