@@ -31,17 +31,17 @@ use Rattle.hist_read.proofs.Lives.{IsTime, record_time, lives_lawful}
 
 -- ---- members
 
-has_take : {X : Type 0} (n : ℕ) (xs : List X) (x : X) → Has (take n xs) x → Has xs x
+pub has_take : {X : Type 0} (n : ℕ) (xs : List X) (x : X) → Has (take n xs) x → Has xs x
 has_take zero [] x h = absurd h
 has_take zero (y ∷ ys) x h = absurd h
 has_take (suc n) [] x h = absurd h
 has_take (suc n) (y ∷ ys) x h = elim h [ inl e ↦ inl e | inr k ↦ inr (has_take n ys x k) ]
 
-has_from_append : {X : Type 0} (xs ys : List X) (x : X) → Has (xs ++ ys) x → Has xs x ⊎ Has ys x
+pub has_from_append : {X : Type 0} (xs ys : List X) (x : X) → Has (xs ++ ys) x → Has xs x ⊎ Has ys x
 has_from_append [] ys x h = inr h
 has_from_append (y ∷ xs) ys x h = elim h [ inl e ↦ inl (inl e) | inr k ↦ elim (has_from_append xs ys x k) [ inl i ↦ inl (inr i) | inr j ↦ inr j ] ]
 
-has_from_map : {X Y : Type 0} (f : X → Y) (xs : List X) (y : Y) → Has (map f xs) y → (x : X) × Has xs x × (f x ≡ y)
+pub has_from_map : {X Y : Type 0} (f : X → Y) (xs : List X) (y : Y) → Has (map f xs) y → (x : X) × Has xs x × (f x ≡ y)
 has_from_map f [] y h = absurd h
 has_from_map f (x ∷ xs) y h = elim h [ inl e ↦ (x, inl refl, e) | inr k ↦ let s = has_from_map f xs y k in (s.0, inr s.1, s.2) ]
 

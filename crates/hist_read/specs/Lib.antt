@@ -6,3 +6,4 @@ pub mod Finding
 pub mod Showing
 pub mod Node
 pub mod Chains
+pub mod Short

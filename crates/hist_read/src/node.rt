@@ -1,6 +1,6 @@
 //! Reads of a node's history.
 
-ghost use Rattle.std.specs.Prelude.{◌≡◌, ◌↔◌, ◌<◌, ◌^◌, nat_le, length, All, IsTrue, ◌||◌, ◌≤ℤ◌, List, IfOk, IfErr, IfSome, Option, option_map, Ok, Err, true, false};
+ghost use Rattle.std.specs.Prelude.{◌≡◌, ◌↔◌, ◌<◌, ◌^◌, nat_le, length, map, All, IsTrue, ◌||◌, ◌≤ℤ◌, List, IfOk, IfErr, IfSome, Option, option_map, Ok, Err, true, false};
 ghost use Rattle.std.specs.Option.{option_copied};
 ghost use Rattle.stamp.specs.Numbers.{number_of, IsVector};
 ghost use Rattle.ua_binary.specs.Binary.{node_of, IsNodeId, IsShortNode, IsCounted};
@@ -8,7 +8,9 @@ ghost use Rattle.ua_binary.specs.declared.codes.TheConstants.Status.{BAD_RESOURC
 ghost use Rattle.std.specs.Cmp.Lexicographic.{pointwise};
 ghost use Rattle.ua_variant.specs.DataValue.{IsShortData};
 ghost use Rattle.ua_services.specs.Attributes.{AreShortValues};
-ghost use Rattle.ua_services.specs.History.{IsShortInfo, IsShortHistory, IsShortHistoryRead};
+ghost use Rattle.ua_services.specs.Unkept.{many};
+ghost use Rattle.hist_read.specs.Short.{IsWritable, AreWritable, IsWritableHistory};
+ghost use Rattle.ua_services.specs.History.{info_fields, modification_info, IsShortInfo, IsShortHistory, IsShortHistoryRead};
 ghost use Rattle.records.specs.Contents.{numbers_of, cut};
 ghost use Rattle.archive.specs.Store.{Mark, Asks};
 ghost use Rattle.archive.specs.Steps.{Acts};
@@ -152,13 +154,18 @@ fn status_for<T>(items: &[T]) -> Status
     }
 }
 
-/// The bytes of a continuation point.
+/// The bytes of a continuation point. A point of 2^31 bytes or more, which only a node's id of that length
+/// makes, is one that there is no memory for.
 fn point_of(alloc: Global, place: &Place<'_>) -> Result<Bytes, AllocError>
     requires { IsPoint (point_of place.now) }
-    ensures { IfOk result (λ b. b ≡ point.canon (point_of place.now)) }
+    ensures bytes { IfOk result (λ b. b ≡ point.canon (point_of place.now)) }
+    ensures counted { IfOk result (λ b. length b < 2 ^ 31) }
 {
     let mut out = Vec::new(alloc);
     if put_continuation(&mut out, place).is_err() {
+        return Err(AllocError);
+    }
+    if out.len() >= 0x8000_0000 {
         return Err(AllocError);
     }
     Ok(Bytes::new(out))
@@ -175,7 +182,8 @@ fn next_point(
     within: &Vector,
 ) -> Result<Option<Bytes>, AllocError>
     requires node { IsShortNode node.now }
-    ensures { IfOk result (λ b. IfSome next (IsNext details.now) → b ≡ option_map (point_at id node.now details.now within.now) next) }
+    ensures point { IfOk result (λ b. IfSome next (IsNext details.now) → b ≡ option_map (point_at id node.now details.now within.now) next) }
+    ensures counted { IfOk result (λ b. IsCounted b) }
 {
     let Some(position) = next else {
         return Ok(None);
@@ -206,7 +214,8 @@ fn raw_result<A: Archive>(
     requires given { IsTrue (is_given query.now.details.start_time.0 || is_given query.now.details.end_time.0) }
     requires place { IfSome position.now (λ p. first_time ≤ℤ p.time) }
     requires raw { query.now.details.is_read_modified ≡ false }
-    ensures { Finds (A.state archive.old) (A.state archive.new) result
+    ensures counted { IfOk result (λ r. IsCounted r.continuation_point) }
+    ensures finds { Finds (A.state archive.old) (A.state archive.new) result
         (λ r. r ≡ raw_result (cut (A.state archive.old).content (number_of within.now)) within.now (A.state archive.old).id node.now query.now position.now) }
 {
     let id = archive.id();
@@ -232,7 +241,8 @@ fn modified_result<A: Archive>(
     requires node { IsShortNode node.now }
     requires given { IsTrue (is_given query.now.details.start_time.0 || is_given query.now.details.end_time.0) }
     requires modified { query.now.details.is_read_modified ≡ true }
-    ensures { Finds (A.state archive.old) (A.state archive.new) result
+    ensures counted { IfOk result (λ r. IsCounted r.continuation_point) }
+    ensures finds { Finds (A.state archive.old) (A.state archive.new) result
         (λ r. r ≡ modified_result (cut (A.state archive.old).content (number_of within.now)) within.now (A.state archive.old).id node.now query.now position.now) }
 {
     let id = archive.id();
@@ -258,7 +268,8 @@ fn page_result<A: Archive>(
     requires node { IsShortNode node.now }
     requires given { IsTrue (is_given query.now.details.start_time.0 || is_given query.now.details.end_time.0) }
     requires place { IfSome position.now (λ p. first_time ≤ℤ p.time) }
-    ensures { Finds (A.state archive.old) (A.state archive.new) result
+    ensures counted { IfOk result (λ r. IsCounted r.continuation_point) }
+    ensures finds { Finds (A.state archive.old) (A.state archive.new) result
         (λ r. r ≡ page_result (cut (A.state archive.old).content (number_of within.now)) within.now (A.state archive.old).id node.now query.now position.now) }
 {
     if query.details.is_read_modified {
@@ -297,7 +308,8 @@ fn page_from<A: Archive>(
     requires node { IsShortNode node.now }
     requires given { IsTrue (is_given query.now.details.start_time.0 || is_given query.now.details.end_time.0) }
     requires place { IfSome behind.now (λ p. first_time ≤ℤ p.0.time) }
-    ensures { Finds (A.state archive.old) (A.state archive.new) result (λ r. r ≡ page_from (A.state archive.old).content (A.state archive.old).id node.now query.now behind.now) }
+    ensures counted { IfOk result (λ r. IsCounted r.continuation_point) }
+    ensures finds { Finds (A.state archive.old) (A.state archive.new) result (λ r. r ≡ page_from (A.state archive.old).content (A.state archive.old).id node.now query.now behind.now) }
 {
     let own = own_vector(archive)?;
     match behind {
@@ -314,7 +326,8 @@ fn page_from<A: Archive>(
 /// Whether a value can be written: its picoseconds are at most 9,999, and its bytes can be counted. It takes
 /// no memory.
 pub fn is_short_value(value: &DataValue) -> bool
-    ensures { IsTrue result → IsShortData value.now }
+    ensures short { IsTrue result → IsShortData value.now }
+    ensures fits { IsWritable value.now → IsTrue result }
 {
     let source = value.source_pico.unwrap_or(0);
     let server = value.server_pico.unwrap_or(0);
@@ -323,7 +336,8 @@ pub fn is_short_value(value: &DataValue) -> bool
 
 /// Whether values can be counted, and each of them can be written.
 fn are_short_values(values: &[DataValue]) -> bool
-    ensures { IsTrue result → AreShortValues values.now }
+    ensures short { IsTrue result → AreShortValues values.now }
+    ensures fits { AreWritable values.now → IsTrue result }
 {
     for value in values {
         if !is_short_value(value) {
@@ -335,14 +349,16 @@ fn are_short_values(values: &[DataValue]) -> bool
 
 /// The same of what is told of modifications.
 fn are_short_infos(infos: &[ModificationInfo]) -> bool
-    ensures { IsTrue result → (length infos.now < 2 ^ 31) × All IsShortInfo infos.now }
+    ensures short { IsTrue result → (length infos.now < 2 ^ 31) × All IsShortInfo infos.now }
+    ensures fits { length ((many modification_info).canon (map info_fields infos.now)) < 2 ^ 31 → IsTrue result }
 {
     array_size(infos) < 0x8000_0000
 }
 
 /// Whether what was read can be written.
 fn is_short_history(read: &HistoryData) -> bool
-    ensures { IsTrue result → IsShortHistory read.now }
+    ensures short { IsTrue result → IsShortHistory read.now }
+    ensures fits { IsWritableHistory read.now → IsTrue result }
 {
     match read {
         HistoryData::Nothing => true,
@@ -357,25 +373,8 @@ fn is_short_history(read: &HistoryData) -> bool
     }
 }
 
-/// Whether a continuation point can be counted.
-fn is_short_point(point: &Option<Bytes>) -> bool
-    ensures { IsTrue result → IsCounted point.now }
-{
-    match point {
-        None => true,
-        Some(bytes) => bytes.len() < 0x8000_0000,
-    }
-}
-
-/// Whether a read can be written.
-fn is_short(read: &HistoryReadResult) -> bool
-    ensures { IsTrue result → IsShortHistoryRead read.now }
-{
-    is_short_point(&read.continuation_point) && is_short_history(&read.history_data)
-}
-
-/// Reads a page that can be written. One of 2^31 bytes or more, which no lawful records give, counts as
-/// want of memory.
+/// Reads a page that can be written. Each page of lawful records is one; what a store that doesn't return what
+/// was written to it may give beyond that is refused.
 fn short_page<A: Archive>(
     alloc: Global,
     archive: &mut A,
@@ -390,24 +389,26 @@ fn short_page<A: Archive>(
     ensures short { IfOk result IsShortHistoryRead }
 {
     let read = page_from(alloc, archive, node, query, behind)?;
-    if is_short(&read) {
+    if is_short_history(&read.history_data) {
         Ok(read)
     } else {
-        Err(Setback::Starved)
+        Ok(refused(Status::BAD_RESOURCE_UNAVAILABLE))
     }
 }
 
 /// Reads a node's history (Part 11, HistoryRead with ReadRawModifiedDetails): a page of live values or
-/// of modifications, from the beginning, or behind the place that a continuation point tells.
+/// of modifications, from the beginning, or behind the place that a continuation point tells. A first page
+/// is of all that the archive holds; a later one is of what the vector of the first page covers, so that
+/// what is learned or updated in between isn't shown. Where neither time is asked for, none is shown.
 ///
 /// Refused are, in this order: modifications with bounds (`BAD_INVALID_ARGUMENT`); fewer than two of start,
 /// end and count (`BAD_HISTORY_OPERATION_INVALID`); a continuation point that isn't well formed, or is one
-/// of another archive, node or query (`BAD_CONTINUATION_POINT_INVALID`). Then the store is read, and a point
-/// whose vector the archive's own isn't at least is refused by this code too. A fault of the store is told by
-/// `BAD_OUT_OF_MEMORY`, as is want of memory here, or by `BAD_RESOURCE_UNAVAILABLE`. A bad
-/// status has neither items nor a point, and no call changes the content. Of a broken archive each read
-/// that isn't refused is `BAD_RESOURCE_UNAVAILABLE`. An empty page is `GOOD_NO_DATA`.
-/// The node's id has less than 2^31 bytes.
+/// of another archive, node or query (`BAD_CONTINUATION_POINT_INVALID`). Then the store is read, in one step:
+/// a point whose vector the archive's own isn't at least is refused with the same code; a fault is told by
+/// `BAD_OUT_OF_MEMORY`, as is want of memory here, or by `BAD_RESOURCE_UNAVAILABLE`. A bad status has neither
+/// items nor a point, and no call changes the content. Of a broken archive each read that isn't refused
+/// before is `BAD_RESOURCE_UNAVAILABLE`. An empty page is `GOOD_NO_DATA`. Each result can be written. The
+/// node's id has less than 2^31 bytes.
 pub fn read_node<A: Archive>(
     alloc: Global,
     archive: &mut A,

@@ -12,15 +12,15 @@ use Rattle.hist_read.proofs.Nodes.{result_is}
 use Rattle.hist_read.proofs.Nexts.{modified_next_lawful}
 use Rattle.hist_read.proofs.node.modified_result.Goals as goal
 
-pub returns : goal.returns
-returns g c =
+pub returns-clause-finds : goal.returns-clause-finds
+returns-clause-finds g c =
     let R = cut (g.A.Archive.state c.args.archive.now).content (number_of c.args.within.now) in
     let v = c.args.within.now in
     let node = c.args.node.now in
     let q = c.args.query.now.details in
     let p = c.args.position.now in
     found_as _ _ c.in_ok-page.page _ _ _ c.in_ok-page.ensures (λ lawful is.
-    let next = c.in_ok-continuation_point.ensures (subst (λ o. IfSome o (IsNext q)) (sym is.next) (modified_next_lawful R node q p (lawful_cut _ (number_of v) lawful) c.requires.modified)) in
+    let next = c.in_ok-continuation_point.ensures.point (subst (λ o. IfSome o (IsNext q)) (sym is.next) (modified_next_lawful R node q p (lawful_cut _ (number_of v) lawful) c.requires.modified)) in
     let values = c.of.ensures ∙ c.in_ok-values.ensures.0 in
     result_is (shown_entry c.args.query.now.stamps) (page q p (modified R node q p)) c.in_ok-page.page.entries.items _ _ _ _ _ _
     is.items values

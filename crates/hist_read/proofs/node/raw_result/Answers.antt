@@ -11,15 +11,15 @@ use Rattle.hist_read.proofs.Nodes.{found_then, result_is}
 use Rattle.hist_read.proofs.Nexts.{raw_next}
 use Rattle.hist_read.proofs.node.raw_result.Goals as goal
 
-pub returns : goal.returns
-returns g c =
+pub returns-clause-finds : goal.returns-clause-finds
+returns-clause-finds g c =
     let R = cut (g.A.Archive.state c.args.archive.now).content (number_of c.args.within.now) in
     let v = c.args.within.now in
     let node = c.args.node.now in
     let q = c.args.query.now.details in
     let p = c.args.position.now in
     found_then _ _ c.in_ok-page.page _ _ _ c.in_ok-page.ensures (λ lawful is.
-    let next = c.in_ok-continuation_point.ensures (subst (λ o. IfSome o (IsNext q)) (sym is.next) (raw_next R node q p (lawful_cut _ (number_of v) lawful) c.requires.given c.requires.raw)) in
+    let next = c.in_ok-continuation_point.ensures.point (subst (λ o. IfSome o (IsNext q)) (sym is.next) (raw_next R node q p (lawful_cut _ (number_of v) lawful) c.requires.given c.requires.raw)) in
     let values = c.of.ensures ∙ c.in_ok-values.ensures in
     result_is (shown c.args.query.now.stamps) (page q p (raw R node q p)) c.in_ok-page.page.items.items _ _ _ _ _ _
     is.items values
