@@ -988,6 +988,26 @@ fn what_isnt_covered_is_refused(rt: HostRuntime) -> Result<(), Fail> {
     Ok(())
 }
 
+/// The point's bytes as they were before it had picoseconds and a vector: 69 of them.
+fn earlier_point(alloc: Global) -> Result<Vec<u8>, AllocError> {
+    let mut bytes = Vec::new(alloc);
+    bytes.push(1)?;
+    bytes.extend_from_slice(&POINT[1..56])?;
+    bytes.extend_from_slice(&POINT[58..71])?;
+    Ok(bytes)
+}
+
+#[test]
+fn earlier_points_are_refused(rt: HostRuntime) -> Result<(), Fail> {
+    let mut archive = archive_of(rt.alloc(), &VALUES)?;
+    let details = asked(false, AT_5_00, AT_5_07, 2, false);
+    let point = earlier_point(rt.alloc())?;
+    assert!(rt; point.len() == 69);
+    let told = status_of(rt.alloc(), &mut archive, details, Some(&point));
+    assert!(rt; told == Some(Status::BAD_CONTINUATION_POINT_INVALID));
+    Ok(())
+}
+
 // ---- moments
 
 /// A value at 10, and one five intervals of 10 ps behind it.
