@@ -6,3 +6,5 @@ pub mod Turning
 pub mod Flow
 pub mod Whole
 pub mod Printing
+pub mod Counting
+pub mod Tried

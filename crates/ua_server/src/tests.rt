@@ -52,6 +52,41 @@ impl Read for Slow<'_> {
     }
 }
 
+/// Is interrupted before each byte that it gives or takes.
+#[derive(Drop)]
+struct Halting<T> {
+    inner: T,
+    halts: bool,
+}
+
+impl<T> Halting<T> {
+    fn halt(&mut self) -> io::Result<()> {
+        self.halts = !self.halts;
+        if self.halts {
+            return Err(io::Error::from(io::ErrorKind::Interrupted));
+        }
+        Ok(())
+    }
+}
+
+impl Read for Halting<Slow<'_>> {
+    fn read(&mut self, buf: &mut [u8]) -> io::Result<usize> {
+        self.halt()?;
+        self.inner.read(buf)
+    }
+}
+
+impl Write for Halting<Narrow> {
+    fn write(&mut self, buf: &[u8]) -> io::Result<usize> {
+        self.halt()?;
+        self.inner.write(buf)
+    }
+
+    fn flush(&mut self) -> io::Result<()> {
+        Ok(())
+    }
+}
+
 /// Each reading is one tick after the last one.
 #[derive(Drop)]
 struct Ticking(i64);
@@ -261,6 +296,33 @@ fn stops_where_the_writer_does(rt: HostRuntime) -> Result<(), Fail> {
             "{room}"
         );
     }
+    Ok(())
+}
+
+/// A call that was interrupted is tried again, and counts as no failed one.
+#[test]
+fn goes_on_where_it_was_interrupted(rt: HostRuntime) -> Result<(), Fail> {
+    let input = bytes_of(rt.alloc(), &[HELLO, OPEN, REQUEST])?;
+    let want = bytes_of(rt.alloc(), &[ACK, OPENED, ANSWER])?;
+    let mut reader = Counted::new(Halting {
+        inner: Slow {
+            bytes: input.as_slice(),
+            size: 1,
+            fails: false,
+        },
+        halts: false,
+    });
+    let mut writer = Counted::new(Halting {
+        inner: Narrow {
+            bytes: Vec::new(rt.alloc()),
+            room: 1000,
+        },
+        halts: false,
+    });
+    let result = serve_bare(rt.alloc(), &mut reader, &mut writer);
+    assert!(rt; result == Ok(Served::EndOfInput));
+    assert!(rt; reader.faults() == 0 && writer.faults() == 0);
+    assert!(rt; writer.into_inner().inner.bytes.as_slice() == want.as_slice());
     Ok(())
 }
 
@@ -530,6 +592,8 @@ fn tells_each_fault(rt: HostRuntime) {
 
 #[test]
 fn numbers_its_faults(rt: HostRuntime) {
+    chunks_are_counted();
+    answers_go_item_by_item();
     for (at, fault) in [
         ServeFault::Read,
         ServeFault::Write,

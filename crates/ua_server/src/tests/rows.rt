@@ -58,7 +58,7 @@ pub(super) const RENEWED_AGAIN: &str =
 pub(super) const CLOSE: &str = "434C4F461800000001000000010000000200000002000000";
 
 /// A name, what comes in, what goes out, and how the connection ends.
-pub(super) static ROWS: [(&str, &[&str], &[&str], Served); 36] = [
+pub(super) static ROWS: [(&str, &[&str], &[&str], Served); 38] = [
     ("a Hello", &[HELLO], &[ACK], Served::EndOfInput),
     (
         "a receive size of 8,191",
@@ -373,6 +373,37 @@ pub(super) static ROWS: [(&str, &[&str], &[&str], Served); 36] = [
             REQUEST,
         ],
         &[ACK, OPENED, ANSWER],
+        Served::EndOfInput,
+    ),
+    (
+        "endpoints of other profiles",
+        &[
+            HELLO,
+            OPEN,
+            "4D5347464A000000010000000100000002000000020000000100AC010000000000000000000002000000",
+            "00000000FFFFFFFF00000000000000FFFFFFFFFFFFFFFF010000000100000078",
+        ],
+        &[
+            ACK,
+            OPENED,
+            "4D5347463800000001000000010000000200000002000000",
+            "0100AF0100803ED5DEB19D01020000000000000000FFFFFFFF00000000000000",
+        ],
+        Served::EndOfInput,
+    ),
+    (
+        "a response above the greatest message",
+        &[
+            "48454C46380000000000000000000100000001006400000000000000180000006F70632E7463703A2F2F6C6F63616C686F73743A34383430",
+            OPEN,
+            "4D53474645000000010000000100000002000000020000000100AC010000000000000000000002000000",
+            "00000000FFFFFFFF00000000000000FFFFFFFFFFFFFFFFFFFFFFFF",
+        ],
+        &[
+            ACK,
+            OPENED,
+            "4D534746340000000100000001000000020000000200000001008D0100803ED5DEB19D01020000000000B98000FFFFFFFF000000",
+        ],
         Served::EndOfInput,
     ),
 ];
