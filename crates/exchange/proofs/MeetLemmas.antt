@@ -1,18 +1,20 @@
 -- Two ends over memory.
-use Rattle.std.proofs.Common.{◌≡◌, ℕ, ◌+◌, false, List, [], ◌++◌, drop, take, length, Option, Some, None, Result, Ok, Err, refl, sym, ap, ◌∙◌, subst, inl, inr, ◌⊎◌}
+use Rattle.std.proofs.Common.{◌≡◌, ℕ, ◌+◌, false, List, [], ◌∷◌, ◌++◌, drop, take, length, Option, Some, None, Result, Ok, Err, refl, sym, ap, ◌∙◌, subst, inl, inr, ◌⊎◌}
 use Rattle.records.specs.Contents.{Content}
+use Rattle.archive.specs.declared.fault.StoreFault.{StoreFault}
 use Rattle.archive.specs.declared.fault.LearnFault.TheVariants as refused
 use Rattle.archive.specs.Store.{Store, Passes, Stays, faults_by}
 use Rattle.archive.proofs.Calls.{passes-none}
 use Rattle.exchange.specs.declared.fault.ExchangeFault.{ExchangeFault}
 use Rattle.exchange.specs.declared.fault.ExchangeFault.TheVariants as exchange
 use Rattle.exchange.specs.declared.message.Frame.{Frame as Lent}
+use Rattle.exchange.specs.declared.message.FrameKind.{FrameKind}
 use Rattle.exchange.specs.declared.message.Header.{Header}
 use Rattle.exchange.specs.declared.message.Message.{Message}
 use Rattle.exchange.specs.declared.message.State.{State}
 use Rattle.exchange.specs.Frames.{kind_of, body_of, frame_of, cut, Held, Gives, IsSpelled}
 use Rattle.exchange.specs.Dialogs.{Turn, failing, turned, Way, Clear, Unread, Stopped, Starved, Met, gone, fault_on, records_in, Standing, unfit, received, answered, standing_after, party_of, bytes_of, Writes, Takes}
-use Rattle.exchange.specs.Meetings.{IsOfOutside, Hands}
+use Rattle.exchange.specs.Meetings.{IsOfOutside, Hands, IsTold}
 use Rattle.exchange.proofs.FrameLemmas.{cut_own, body_own}
 
 -- ---- the frame that was handed over
@@ -105,23 +107,21 @@ module _ (old new : Store) (before after : Standing) (m : Message) (out written 
       bytes (inr e) = let x = e.2 in cc
 
   -- where the turn has an answer, an Err is of the outside
-  pub of_outside : (s : State) (fault : ExchangeFault) → (turned (party_of old) before.state old.content m).result ≡ Ok s → Takes old new before after (kind_of m) (body_of m) out written (Err fault) → IsOfOutside fault
+  pub of_outside : (s : State) (fault : ExchangeFault) → (turned (party_of old) before.state old.content m).result ≡ Ok s → (takes : Takes old new before after (kind_of m) (body_of m) out written (Err fault))
+      → IsOfOutside fault × IsTold fault (faults_by (fault_on takes.way))
   of_outside s fault fine takes = go takes.way (wrote (Err fault) takes)
     where
-      is_memory : (f : ExchangeFault) → f ≡ exchange.OutOfMemory → IsOfOutside f
-      is_memory f e = subst IsOfOutside (sym e) tt
+      is_either : (g : ExchangeFault) (faults : List StoreFault) → IsOfOutside g × IsTold g faults → (fault ≡ g) ⊎ (fault ≡ exchange.OutOfMemory) → IsOfOutside fault × IsTold fault faults
+      is_either g faults is (inl e) = subst (λ x. IsOfOutside x × IsTold x faults) (sym e) is
+      is_either g faults is (inr e) = subst (λ x. IsOfOutside x × IsTold x faults) (sym e) (tt, tt)
 
-      is_either : (f g : ExchangeFault) → IsOfOutside g → (f ≡ g) ⊎ (f ≡ exchange.OutOfMemory) → IsOfOutside f
-      is_either f g is (inl e) = subst IsOfOutside (sym e) is
-      is_either f g is (inr e) = is_memory f e
-
-      go : (w : Way) → Writes (by_way w) (Err fault) out written → IsOfOutside fault
+      go : (w : Way) → Writes (by_way w) (Err fault) out written → IsOfOutside fault × IsTold fault (faults_by (fault_on w))
       go Clear (inl e) = let x = e.0 in cc
       go Clear (inr e) = let x = e.1 in cc
-      go Unread told = is_either fault exchange.OutOfMemory tt (told_or (by_way Unread).content exchange.OutOfMemory fault out written told)
-      go (Stopped k f) told = is_either fault (exchange.Learn k (refused.Store f)) tt (told_or (by_way (Stopped k f)).content (exchange.Learn k (refused.Store f)) fault out written told)
-      go Starved told = is_either fault exchange.OutOfMemory tt (told_or (by_way Starved).content exchange.OutOfMemory fault out written told)
-      go (Met f) told = is_either fault (exchange.Store f) tt (told_or (by_way (Met f)).content (exchange.Store f) fault out written told)
+      go Unread told = is_either exchange.OutOfMemory [] (tt, tt) (told_or (by_way Unread).content exchange.OutOfMemory fault out written told)
+      go (Stopped k f) told = is_either (exchange.Learn k (refused.Store f)) (f ∷ []) (tt, inl refl) (told_or (by_way (Stopped k f)).content (exchange.Learn k (refused.Store f)) fault out written told)
+      go Starved told = is_either exchange.OutOfMemory [] (tt, tt) (told_or (by_way Starved).content exchange.OutOfMemory fault out written told)
+      go (Met f) told = is_either (exchange.Store f) (f ∷ []) (tt, inl refl) (told_or (by_way (Met f)).content (exchange.Store f) fault out written told)
 
 -- ---- handing over
 
@@ -160,8 +160,11 @@ pub hand_takes : (a c : Store) (before after : Standing) (bytes out written : Li
 hand_takes a c before after bytes out written held frame result e gives takes = record {
   takes = λ m is same.
       let own = given_own m bytes frame is same (subst (λ h. Gives h (Ok (Some frame))) e gives) in
-      inr (subst (λ b. Takes a c before after (kind_of m) b out written result) own.1 (subst (λ k. Takes a c before after k frame.body.now out written result) own.0 takes));
+      inr (subst (λ b. IsTaken (kind_of m) b) own.1 (subst (λ k. IsTaken k frame.body.now) own.0 (takes, refl)));
   started = takes.started;
   faults = faults_by (fault_on takes.way);
   passes = takes.passes;
 }
+  where
+    IsTaken : FrameKind → List ℕ → Type 0
+    IsTaken kind body = (taken : Takes a c before after kind body out written result) × (faults_by (fault_on takes.way) ≡ faults_by (fault_on taken.way))

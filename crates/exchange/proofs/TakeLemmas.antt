@@ -1,11 +1,10 @@
 -- What an end makes of a frame.
-use Rattle.std.proofs.Common.{◌≡◌, ℕ, zero, suc, List, [], ◌++◌, take, Option, None, Result, Ok, Err, refl, sym, ap, ◌∙◌, subst, inl, inr}
+use Rattle.std.proofs.Common.{◌≡◌, ℕ, zero, suc, List, [], ◌++◌, take, Option, Result, Ok, Err, refl, sym, ap, ◌∙◌, subst, inl, inr}
 use Rattle.stamp.specs.Numbers.{number_of, IsVector}
 use Rattle.ua_binary.specs.Format.{Puts}
 use Rattle.records.specs.Contents.{vec, merged}
 use Rattle.records.specs.Spelling.{GivesUnless}
 use Rattle.archive.specs.Store.{Store, Asks, Passes, faults_by}
-use Rattle.archive.proofs.Calls.{passes-leaves}
 use Rattle.std.proofs.lemmas.Option.{none-some}
 use Rattle.exchange.specs.declared.fault.ExchangeFault.{ExchangeFault}
 use Rattle.exchange.specs.declared.fault.ExchangeFault.TheVariants as exchange

@@ -1,6 +1,9 @@
 -- A whole dialog over memory.
-use Rattle.std.proofs.Common.{◌≡◌, ℕ, zero, suc, ◌+◌, ◌*◌, ◌<◌, ◌≤◌, true, false, Bool, List, [], ◌++◌, take, length, Some, None, Result, Ok, Err, refl, sym, ap, ◌∙◌, subst, arith, inl, inr, ◌⊎◌}
-use Rattle.std.specs.Prelude.{nat_lt}
+use Rattle.std.proofs.Common.{◌≡◌, ℕ, zero, suc, ◌+◌, ◌*◌, ◌<◌, ◌≤◌, true, false, Bool, List, [], ◌∷◌, ◌++◌, take, length, Some, None, Result, Ok, Err, refl, sym, ap, ◌∙◌, subst, arith, inl, inr, ◌⊎◌}
+use Rattle.std.specs.Prelude.{nat_lt, Option, IfSome}
+use Rattle.records.specs.Lists.{Has}
+use Rattle.archive.specs.declared.fault.StoreFault.{StoreFault}
+use Rattle.exchange.specs.Dialogs.{fault_on}
 use Rattle.std.proofs.Math.Bool.{or-false}
 use Rattle.std.proofs.lemmas.Bool.{cases_Bool, ltb-true, ltb-false}
 use Rattle.records.specs.Contents.{Content, merged}
@@ -15,11 +18,11 @@ use Rattle.exchange.specs.declared.message.Message.TheVariants as message
 use Rattle.exchange.specs.declared.message.State.{State}
 use Rattle.exchange.specs.declared.message.State.TheVariants as state
 use Rattle.exchange.specs.declared.message.Party.{Party}
-use Rattle.exchange.specs.Fault.{store_fault_told}
+use Rattle.exchange.specs.Fault.{store_fault_of, store_fault_told}
 use Rattle.exchange.specs.Batches.{IsOfAnswer}
 use Rattle.exchange.specs.Frames.{kind_of, body_of, frame_of, IsSpelled}
 use Rattle.exchange.specs.Dialogs.{title_by, Turn, failing, Way, Clear, Unread, Stopped, Starved, Met, IsWay, gone, Standing, unfit, received, answered, records_read, party_of, most_frames, Writes, Takes, Greets}
-use Rattle.exchange.specs.Meetings.{IsBetween, AreJoined, CanMeet, IsOfOutside, IsOfMeeting, Converses, Hands}
+use Rattle.exchange.specs.Meetings.{IsBetween, AreJoined, CanMeet, IsOfOutside, IsOfMeeting, IsTold, Converses, Hands}
 use Rattle.exchange.proofs.DialogLemmas.{between_first}
 use Rattle.exchange.proofs.MeetLemmas.{no_ok, told_or}
 use Rattle.exchange.proofs.ConverseLemmas.{IsParty, UnderWay, WayBack, AreOf, rests_hold, sent_few, sent_spelled, replied_spelled, finishes, falls, falls_between, goes_back, falls_back, falls_back_between, goes_on}
@@ -70,6 +73,33 @@ not_long f is e = subst IsOfOutside e is
 err_is : (f g : ExchangeFault) → ◌≡◌ {A = Result ℕ ExchangeFault} (Err f) (Err g) → f ≡ g
 err_is f g e = cc
 
+has_more : (xs ys : List StoreFault) (f : StoreFault) → Has ys f → Has (xs ++ ys) f
+has_more [] ys f h = h
+has_more (x ∷ xs) ys f h = inr (has_more xs ys f h)
+
+has_less : (xs ys : List StoreFault) (f : StoreFault) → Has xs f → Has (xs ++ ys) f
+has_less [] ys f h = absurd h
+has_less (x ∷ xs) ys f (inl e) = inl e
+has_less (x ∷ xs) ys f (inr h) = inr (has_less xs ys f h)
+
+more_told : (fault : ExchangeFault) (xs ys : List StoreFault) → IsTold fault ys → IsTold fault (xs ++ ys)
+more_told fault xs ys told = go (store_fault_of fault) told
+  where
+    go : (o : Option StoreFault) → IfSome o (Has ys) → IfSome o (Has (xs ++ ys))
+    go None h = tt
+    go (Some f) h = has_more xs ys f h
+
+less_told : (fault : ExchangeFault) (xs ys : List StoreFault) → IsTold fault xs → IsTold fault (xs ++ ys)
+less_told fault xs ys told = go (store_fault_of fault) told
+  where
+    go : (o : Option StoreFault) → IfSome o (Has xs) → IfSome o (Has (xs ++ ys))
+    go None h = tt
+    go (Some f) h = has_less xs ys f h
+
+all_told : (o : Option StoreFault) → IfSome o (Has (faults_by o ++ []))
+all_told None = tt
+all_told (Some f) = inl refl
+
 -- ---- the first frame
 
 module _ (a0 b0 a : Store) (there : List ℕ) where
@@ -84,6 +114,7 @@ module _ (a0 b0 a : Store) (there : List ℕ) where
       },
     );
     long = λ h k meet e. absurd (not_long fault (of_answer fault greets.kept.0) (err_is fault exchange.TooLong e));
+    told = λ h k meet. all_told (store_fault_of fault);
     faults = faults_by (store_fault_told {A = Unit {0}} (Err fault));
     passes = greets.passes;
     others = [];
@@ -143,19 +174,19 @@ module _ (b c : Store) (before after : Standing) (kind : FrameKind) (body out wr
       go Starved t = no_ok b.content exchange.OutOfMemory s out written t
       go (Met f) t = no_ok b.content (exchange.Store f) s out written t
 
-  full_falls : (fault : ExchangeFault) → Takes b c before after kind body out written (Err fault) → IsOfMeeting fault
+  full_falls : (fault : ExchangeFault) (takes : Takes b c before after kind body out written (Err fault)) → IsOfMeeting fault × IsTold fault (faults_by (fault_on takes.way))
   full_falls fault takes = go takes.way (told (Err fault) takes)
     where
-      either : (g : ExchangeFault) → IsOfMeeting g → (fault ≡ g) ⊎ (fault ≡ exchange.OutOfMemory) → IsOfMeeting fault
-      either g is (inl e) = subst IsOfMeeting (sym e) is
-      either g is (inr e) = subst IsOfMeeting (sym e) tt
+      either : (g : ExchangeFault) (faults : List StoreFault) → IsOfMeeting g × IsTold g faults → (fault ≡ g) ⊎ (fault ≡ exchange.OutOfMemory) → IsOfMeeting fault × IsTold fault faults
+      either g faults is (inl e) = subst (λ x. IsOfMeeting x × IsTold x faults) (sym e) is
+      either g faults is (inr e) = subst (λ x. IsOfMeeting x × IsTold x faults) (sym e) (tt, tt)
 
-      go : (w : Way) → Writes (by_way w) (Err fault) out written → IsOfMeeting fault
-      go Clear t = either exchange.TooLong tt (told_or b.content exchange.TooLong fault out written t)
-      go Unread t = either exchange.OutOfMemory tt (told_or b.content exchange.OutOfMemory fault out written t)
-      go (Stopped k f) t = either (exchange.Learn k (refused.Store f)) tt (told_or (by_way (Stopped k f)).content (exchange.Learn k (refused.Store f)) fault out written t)
-      go Starved t = either exchange.OutOfMemory tt (told_or b.content exchange.OutOfMemory fault out written t)
-      go (Met f) t = either (exchange.Store f) tt (told_or b.content (exchange.Store f) fault out written t)
+      go : (w : Way) → Writes (by_way w) (Err fault) out written → IsOfMeeting fault × IsTold fault (faults_by (fault_on w))
+      go Clear t = either exchange.TooLong [] (tt, tt) (told_or b.content exchange.TooLong fault out written t)
+      go Unread t = either exchange.OutOfMemory [] (tt, tt) (told_or b.content exchange.OutOfMemory fault out written t)
+      go (Stopped k f) t = either (exchange.Learn k (refused.Store f)) (f ∷ []) (tt, inl refl) (told_or (by_way (Stopped k f)).content (exchange.Learn k (refused.Store f)) fault out written t)
+      go Starved t = either exchange.OutOfMemory [] (tt, tt) (told_or b.content exchange.OutOfMemory fault out written t)
+      go (Met f) t = either (exchange.Store f) (f ∷ []) (tt, inl refl) (told_or (by_way (Met f)).content (exchange.Store f) fault out written t)
 
   full_left : (result : Result State ExchangeFault) → Takes b c before after kind body out written result → c.broken ≡ false → c.content ≡ b.content
   full_left result takes u =
@@ -199,38 +230,41 @@ module _ (a0 b0 : Store) (party : IsParty (party_of a0)) (party_other : IsParty 
       done : Hands b c second after there [] back (Ok state.Done) → AreJoined a0.content b0.content a.content c.content n
       done hands = elim (hands.takes way.m spelled way.bytes) [
         | inl none ↦ absurd (ok_memory state.Done none.2)
-        | inr takes ↦ elim (cases_Bool (nat_lt round most_frames)) [
-          | inl t ↦ finishes a0 b0 meet (talk.of.passes.honest ha) (talk.of.passes_other.honest hb) party party_other a b c first second after there [] back n round talk.of way (ltb-true _ _ t) hc ha takes
-          | inr f ↦ absurd (full_fails b c second after (kind_of way.m) (body_of way.m) [] back hc (full_got (at_most _ f refl)) state.Done takes)
+        | inr pair ↦ elim (cases_Bool (nat_lt round most_frames)) [
+          | inl t ↦ finishes a0 b0 meet (talk.of.passes.honest ha) (talk.of.passes_other.honest hb) party party_other a b c first second after there [] back n round talk.of way (ltb-true _ _ t) hc ha pair.0
+          | inr f ↦ absurd (full_fails b c second after (kind_of way.m) (body_of way.m) [] back hc (full_got (at_most _ f refl)) state.Done pair.0)
         ]
       ]
 
       ongoing : (s : State) → (s ≡ state.Done → ⊥) → Hands b c second after there [] back (Ok s) → WayBack a0 b0 a c first after back (n + 1) round × (round < most_frames)
       ongoing s goes hands = elim (hands.takes way.m spelled way.bytes) [
         | inl none ↦ absurd (ok_memory s none.2)
-        | inr takes ↦ elim (cases_Bool (nat_lt round most_frames)) [
-          | inl t ↦ (goes_back a0 b0 meet (talk.of.passes.honest ha) (talk.of.passes_other.honest hb) party party_other a b c first second after there [] back n round talk.of way (ltb-true _ _ t) hc ha s goes takes, ltb-true _ _ t)
-          | inr f ↦ absurd (full_fails b c second after (kind_of way.m) (body_of way.m) [] back hc (full_got (at_most _ f refl)) s takes)
+        | inr pair ↦ elim (cases_Bool (nat_lt round most_frames)) [
+          | inl t ↦ (goes_back a0 b0 meet (talk.of.passes.honest ha) (talk.of.passes_other.honest hb) party party_other a b c first second after there [] back n round talk.of way (ltb-true _ _ t) hc ha s goes pair.0, ltb-true _ _ t)
+          | inr f ↦ absurd (full_fails b c second after (kind_of way.m) (body_of way.m) [] back hc (full_got (at_most _ f refl)) s pair.0)
         ]
       ]
 
-      failed : (fault : ExchangeFault) → Hands b c second after there [] back (Err fault) → IsOfMeeting fault × ((left : Content) → c.may_hold left → IsBetween b0.content a0.content left)
+      failed : (fault : ExchangeFault) (hands : Hands b c second after there [] back (Err fault)) → IsOfMeeting fault × ((left : Content) → c.may_hold left → IsBetween b0.content a0.content left) × IsTold fault hands.faults
       failed fault hands = elim (hands.takes way.m spelled way.bytes) [
         | inl none ↦ (
           subst IsOfMeeting (sym (fault_memory fault none.2)) tt,
           λ left m. rests_hold b0.content a0.content b hb way.used.1.0 way.used.1.1 way.other left (none.0.crash hc left m),
+          subst (λ x. IsTold x hands.faults) (sym (fault_memory fault none.2)) tt,
         )
-        | inr takes ↦ elim (cases_Bool (nat_lt round most_frames)) [
+        | inr pair ↦ elim (cases_Bool (nat_lt round most_frames)) [
           | inl t ↦ (
-            of_meeting fault (falls a0 b0 meet (talk.of.passes.honest ha) (talk.of.passes_other.honest hb) party party_other a b c first second after there [] back n round talk.of way (ltb-true _ _ t) hc ha fault takes),
-            falls_between a0 b0 meet (talk.of.passes.honest ha) (talk.of.passes_other.honest hb) party party_other a b c first second after there [] back n round talk.of way (ltb-true _ _ t) hc ha (Err fault) takes hb,
+            of_meeting fault (falls a0 b0 meet (talk.of.passes.honest ha) (talk.of.passes_other.honest hb) party party_other a b c first second after there [] back n round talk.of way (ltb-true _ _ t) hc ha fault pair.0).0,
+            falls_between a0 b0 meet (talk.of.passes.honest ha) (talk.of.passes_other.honest hb) party party_other a b c first second after there [] back n round talk.of way (ltb-true _ _ t) hc ha (Err fault) pair.0 hb,
+            subst (IsTold fault) (sym pair.1) (falls a0 b0 meet (talk.of.passes.honest ha) (talk.of.passes_other.honest hb) party party_other a b c first second after there [] back n round talk.of way (ltb-true _ _ t) hc ha fault pair.0).1,
           )
           | inr f ↦ (
-            full_falls b c second after (kind_of way.m) (body_of way.m) [] back hc (full_got (at_most _ f refl)) fault takes,
-            λ left m. elim (full_holds b c second after (kind_of way.m) (body_of way.m) [] back hc (full_got (at_most _ f refl)) (Err fault) takes left m) [
+            (full_falls b c second after (kind_of way.m) (body_of way.m) [] back hc (full_got (at_most _ f refl)) fault pair.0).0,
+            λ left m. elim (full_holds b c second after (kind_of way.m) (body_of way.m) [] back hc (full_got (at_most _ f refl)) (Err fault) pair.0 left m) [
               | inl old ↦ rests_hold b0.content a0.content b hb way.used.1.0 way.used.1.1 way.other left old
               | inr q ↦ subst (IsBetween b0.content a0.content) (sym q.1) way.other
             ],
+            subst (IsTold fault) (sym pair.1) (full_falls b c second after (kind_of way.m) (body_of way.m) [] back hc (full_got (at_most _ f refl)) fault pair.0).1,
           )
         ]
       ]
@@ -238,10 +272,10 @@ module _ (a0 b0 : Store) (party : IsParty (party_of a0)) (party_other : IsParty 
       long : (fault : ExchangeFault) → Hands b c second after there [] back (Err fault) → fault ≡ exchange.TooLong → c.broken ≡ false → 999999 + (length a0.content + length b0.content) ≤ length a.content + length c.content
       long fault hands e u = elim (hands.takes way.m spelled way.bytes) [
         | inl none ↦ absurd (long_memory (sym e ∙ fault_memory fault none.2))
-        | inr takes ↦ elim (cases_Bool (nat_lt round most_frames)) [
-          | inl t ↦ absurd (not_long fault (falls a0 b0 meet (talk.of.passes.honest ha) (talk.of.passes_other.honest hb) party party_other a b c first second after there [] back n round talk.of way (ltb-true _ _ t) hc ha fault takes) e)
+        | inr pair ↦ elim (cases_Bool (nat_lt round most_frames)) [
+          | inl t ↦ absurd (not_long fault (falls a0 b0 meet (talk.of.passes.honest ha) (talk.of.passes_other.honest hb) party party_other a b c first second after there [] back n round talk.of way (ltb-true _ _ t) hc ha fault pair.0).0 e)
           | inr f ↦
-              let left = ap length (full_left b c second after (kind_of way.m) (body_of way.m) [] back hc (full_got (at_most _ f refl)) (Err fault) takes u) in
+              let left = ap length (full_left b c second after (kind_of way.m) (body_of way.m) [] back hc (full_got (at_most _ f refl)) (Err fault) pair.0 u) in
               let few = sent_few (party_of a0) a0.content b0.content a.content b.content n first.state way.m way.sent in
               let full = at_most _ f refl in
               let count = talk.count in
@@ -256,6 +290,7 @@ module _ (a0 b0 : Store) (party : IsParty (party_of a0)) (party_other : IsParty 
     talk_done hands = record {
       joined = λ h k meet. done h (hands.passes.honest k) k meet hands;
       between = λ h k meet. tt;
+      told = λ h k meet. tt;
       long = λ h k meet e. absurd (not_err e);
       faults = talk.of.faults;
       passes = talk.of.passes;
@@ -273,6 +308,7 @@ module _ (a0 b0 : Store) (party : IsParty (party_of a0)) (party_other : IsParty 
           let is = failed h (hands.passes.honest k) k meet fault hands in
           let w = way h (hands.passes.honest k) k meet in
           (is.0, record { one = λ left m. rests_hold a0.content b0.content a h w.used.0.0 w.used.0.1 w.one left m; other = is.1 });
+      told = λ h k meet. more_told fault talk.of.faults (talk.of.others ++ hands.faults) (more_told fault talk.of.others hands.faults (failed h (hands.passes.honest k) k meet fault hands).2);
       long = λ h k meet e u v. long h (hands.passes.honest k) k meet fault hands (err_is fault exchange.TooLong e) v;
       faults = talk.of.faults;
       passes = talk.of.passes;
@@ -297,24 +333,26 @@ module _ (a0 b0 : Store) (party : IsParty (party_of a0)) (party_other : IsParty 
       spelled_of : IsSpelled way_back.m
       spelled_of = replied_spelled (party_of b0) a0.content b0.content a.content b.content n first.state way_back.m party_other way_back.other.lawful way_back.replied
 
-      failed_back : (fault : ExchangeFault) → Hands a c first after back [] there (Err fault) → IsOfOutside fault × ((left : Content) → c.may_hold left → IsBetween a0.content b0.content left)
+      failed_back : (fault : ExchangeFault) (hands : Hands a c first after back [] there (Err fault)) → IsOfOutside fault × ((left : Content) → c.may_hold left → IsBetween a0.content b0.content left) × IsTold fault hands.faults
       failed_back fault hands = elim (hands.takes way_back.m spelled_of way_back.bytes) [
         | inl none ↦ (
           subst IsOfOutside (sym (fault_memory fault none.2)) tt,
           λ left m. rests_hold a0.content b0.content a ha way_back.used.0.0 way_back.used.0.1 way_back.one left (none.0.crash hc left m),
+          subst (λ x. IsTold x hands.faults) (sym (fault_memory fault none.2)) tt,
         )
-        | inr takes ↦ (
-          falls_back a0 b0 meet (talk.of.passes.honest ha) (talk.of.passes_other.honest hb) party party_other a b c first second after back there n round talk.of way_back (talk.way ha hb meet).1 hc fault takes,
-          falls_back_between a0 b0 meet (talk.of.passes.honest ha) (talk.of.passes_other.honest hb) party party_other a b c first second after back there n round talk.of way_back (talk.way ha hb meet).1 hc (Err fault) takes ha,
+        | inr pair ↦ (
+          (falls_back a0 b0 meet (talk.of.passes.honest ha) (talk.of.passes_other.honest hb) party party_other a b c first second after back there n round talk.of way_back (talk.way ha hb meet).1 hc fault pair.0).0,
+          falls_back_between a0 b0 meet (talk.of.passes.honest ha) (talk.of.passes_other.honest hb) party party_other a b c first second after back there n round talk.of way_back (talk.way ha hb meet).1 hc (Err fault) pair.0 ha,
+          subst (IsTold fault) (sym pair.1) (falls_back a0 b0 meet (talk.of.passes.honest ha) (talk.of.passes_other.honest hb) party party_other a b c first second after back there n round talk.of way_back (talk.way ha hb meet).1 hc fault pair.0).1,
         )
       ]
 
       ongoing_back : (s : State) → Hands a c first after back [] there (Ok s) → UnderWay a0 b0 c b after second there (n + 1) (round + 1) × (round + 1 ≤ most_frames)
       ongoing_back s hands = elim (hands.takes way_back.m spelled_of way_back.bytes) [
         | inl none ↦ absurd (ok_memory s none.2)
-        | inr takes ↦
+        | inr pair ↦
             let few = (talk.way ha hb meet).1 in (
-              goes_on a0 b0 meet (talk.of.passes.honest ha) (talk.of.passes_other.honest hb) party party_other a b c first second after back there n round talk.of way_back few hc s takes,
+              goes_on a0 b0 meet (talk.of.passes.honest ha) (talk.of.passes_other.honest hb) party party_other a b c first second after back there n round talk.of way_back few hc s pair.0,
               omega (arith, few),
             )
       ]
@@ -326,6 +364,7 @@ module _ (a0 b0 : Store) (party : IsParty (party_of a0)) (party_other : IsParty 
           let is = failed_back (hands.passes.honest h) k h meet fault hands in
           let w = way_back (hands.passes.honest h) k h meet in
           (of_meeting fault is.0, record { one = is.1; other = λ left m. rests_hold b0.content a0.content b k w.used.1.0 w.used.1.1 w.other left m });
+      told = λ h k meet. less_told fault (talk.of.faults ++ hands.faults) talk.of.others (more_told fault talk.of.faults hands.faults (failed_back (hands.passes.honest h) k h meet fault hands).2);
       long = λ h k meet e u v. absurd (not_long fault (failed_back (hands.passes.honest h) k h meet fault hands).0 (err_is fault exchange.TooLong e));
       faults = talk.of.faults ++ hands.faults;
       passes = passes-then a0 a c talk.of.faults hands.faults talk.of.passes hands.passes;
@@ -347,6 +386,7 @@ pub talk_ends : (a0 b0 a b : Store) (first second : Standing) (there : List ℕ)
 talk_ends a0 b0 a b first second there n round talk past = record {
   joined = λ h k meet. tt;
   between = λ h k meet. absurd (over h k meet);
+  told = λ h k meet. tt;
   long = λ h k meet e u v. absurd (over h k meet);
   faults = talk.of.faults;
   passes = talk.of.passes;

@@ -1,19 +1,20 @@
 -- Dialogs of two replicas over memory.
-use Rattle.std.specs.Prelude.{◌≡◌, ◌⊎◌, ⊤, ℕ, ◌+◌, ◌*◌, ◌≤◌, false, List, [], length, Result, Ok, Err, IfOk, IfErr}
+use Rattle.std.specs.Prelude.{◌≡◌, ◌⊎◌, ⊤, ℕ, ◌+◌, ◌*◌, ◌≤◌, false, List, [], length, Result, Ok, Err, IfOk, IfErr, IfSome, ◌++◌}
 use Rattle.records.specs.Lists.{Has}
 use Rattle.stamp.specs.Numbers.{number_of}
 use Rattle.records.specs.Contents.{Content, AreCompatible, IsWithin, join, vec}
 use Rattle.records.specs.declared.record.Record.{Record}
 use Rattle.archive.specs.declared.fault.StoreFault.{StoreFault}
 use Rattle.archive.specs.declared.fault.LearnFault.TheVariants as refused
-use Rattle.archive.specs.Store.{Store, Rests, IsLawfulContent, Passes, Stays}
+use Rattle.archive.specs.Store.{Store, Rests, IsLawfulContent, Passes, Stays, faults_by}
 use Rattle.exchange.specs.declared.message.Title.{Title}
 use Rattle.exchange.specs.declared.message.Message.{Message}
 use Rattle.exchange.specs.declared.message.Message.TheVariants.{Asks, Carries, Ends}
 use Rattle.exchange.specs.declared.message.Party.{Party}
 use Rattle.exchange.specs.declared.message.State.{State}
 use Rattle.exchange.specs.Frames.{kind_of, body_of, frame_of, checked, IsSpelled}
-use Rattle.exchange.specs.Dialogs.{Standing, Takes}
+use Rattle.exchange.specs.Dialogs.{Standing, Takes, fault_on}
+use Rattle.exchange.specs.Fault.{store_fault_of}
 use Rattle.exchange.specs.declared.fault.ExchangeFault.{ExchangeFault}
 use Rattle.exchange.specs.declared.fault.ExchangeFault.TheVariants as exchange
 
@@ -56,6 +57,10 @@ pub record AreBetween (a b a' b' : Store) : Type 0 where
   pub one : (left : Content) → a'.may_hold left → IsBetween a.content b.content left
   pub other : (left : Content) → b'.may_hold left → IsBetween b.content a.content left
 
+-- a fault of the store that is told is one of these
+abbrev pub IsTold : ExchangeFault → List StoreFault → Type 0
+IsTold fault faults = IfSome (store_fault_of fault) (Has faults)
+
 pub record Converses (a b a' b' : Store) (result : Result ℕ ExchangeFault) : Type 0 where
   pub joined : a'.honest → b'.honest → CanMeet a b → IfOk result (AreJoined a.content b.content a'.content b'.content)
   pub between : a'.honest → b'.honest → CanMeet a b → IfErr result (λ fault. IsOfMeeting fault × AreBetween a b a' b')
@@ -65,16 +70,19 @@ pub record Converses (a b a' b' : Store) (result : Result ℕ ExchangeFault) : T
   pub passes : Passes a a' faults
   pub others : List StoreFault
   pub passes_other : Passes b b' others
+  -- a fault of the store that is told is one that a call of either archive gave
+  pub told : a'.honest → b'.honest → CanMeet a b → IfErr result (λ fault. IsTold fault (faults ++ others))
 
 -- ---- one frame
 
 -- one end was handed the other's frame, and took it; or memory for that was wanting, and nothing was done
 pub record Hands (old new : Store) (before after : Standing) (bytes out written : List ℕ) (result : Result State ExchangeFault) : Type 0 where
-  pub takes : (m : Message) → IsSpelled m → bytes ≡ frame_of m
-      → (Stays old new × Passes old new [] × (result ≡ Err exchange.OutOfMemory)) ⊎ Takes old new before after (kind_of m) (body_of m) out written result
-  pub started : after.started ≡ before.started
   pub faults : List StoreFault
   pub passes : Passes old new faults
+  pub takes : (m : Message) → IsSpelled m → bytes ≡ frame_of m
+      → (Stays old new × Passes old new [] × (result ≡ Err exchange.OutOfMemory))
+      ⊎ ((taken : Takes old new before after (kind_of m) (body_of m) out written result) × (faults ≡ faults_by (fault_on taken.way)))
+  pub started : after.started ≡ before.started
 
 -- the peer may be met
 abbrev pub checked_title : Party → Message → Type 0
