@@ -23,7 +23,7 @@ use Rattle.historian.specs.declared.answer.Answer.{Answer as Made}
 use Rattle.historian.specs.Answers.{Answer, Response}
 use Rattle.historian.specs.Requests.{Call, call_in, request_in}
 use Rattle.historian.specs.Services.{Site, Outcome, called, in_session, served, answered_call, answered_request, answered}
-use Rattle.historian.specs.Telling.{Asks, answer_of, Tells, Performs, PerformsHere}
+use Rattle.historian.specs.Telling.{Asks, answer_of, Tells, Comes, Performs, PerformsHere}
 
 -- a call that was read is served
 pub does-read : (site : Site) (now : Ticks) (token : NodeId) (o : Option Call) (call : Call) (sessions : State) (R : Content) (used : List Mark) (outcome : Outcome) → o ≡ Some call
@@ -142,24 +142,6 @@ performs-none s site now message sessions why status result none told is =
     subst P (sym is) (performs-here s (answered site now message sessions) sessions (Err status)
     ([], Err why, refl, does, elim told [ inl same ↦ inl (ap Err (sym same)) | inr starved ↦ inr starved ]))
 
-none_of : (asked : Service) (bytes : List ℕ) → (asked ≡ service.GetEndpoints → ⊥) → (asked ≡ service.CreateSession → ⊥) → (asked ≡ service.ActivateSession → ⊥) → (asked ≡ service.CloseSession → ⊥) → (asked ≡ service.Browse → ⊥) → call_in asked bytes ≡ None
-none_of service.GetEndpoints bytes a b c d e = absurd (a refl)
-none_of service.CreateSession bytes a b c d e = absurd (b refl)
-none_of service.ActivateSession bytes a b c d e = absurd (c refl)
-none_of service.CloseSession bytes a b c d e = absurd (d refl)
-none_of service.Browse bytes a b c d e = absurd (e refl)
-none_of service.Read bytes a b c d e = refl
-none_of service.HistoryRead bytes a b c d e = refl
-none_of service.HistoryUpdate bytes a b c d e = refl
-
--- a service that isn't served yet
-pub performs-unserved : (s : Store) (site : Site) (now : Ticks) (token : NodeId) (asked : Service) (bytes : List ℕ) (sessions : State)
-    → (asked ≡ service.GetEndpoints → ⊥) → (asked ≡ service.CreateSession → ⊥) → (asked ≡ service.ActivateSession → ⊥) → (asked ≡ service.CloseSession → ⊥) → (asked ≡ service.Browse → ⊥)
-    → Performs s s (answered_call site now token (call_in asked bytes) sessions) sessions (Err BAD_DECODING_ERROR)
-performs-unserved s site now token asked bytes sessions a b c d e =
-    performs-here s (answered_call site now token (call_in asked bytes) sessions) sessions (Err BAD_DECODING_ERROR)
-    (Fine ∷ [], Err BAD_DECODING_ERROR, refl, λ R. does-unread site now token (call_in asked bytes) sessions R (none_of asked bytes a b c d e), inl refl)
-
 -- ---- services of a session
 
 -- the session isn't there, or wasn't activated
@@ -215,3 +197,10 @@ performs-over a b site now token sessions asked call bytes user f used told resu
   },
   tells,
 )
+
+-- what it comes to is told
+pub performs-comes : (a b : Store) (site : Site) (now : Ticks) (token : NodeId) (sessions : State) (asked : Service) (call : Call) (bytes : List ℕ) (user : List ℕ) (f : Content → List ℕ → Marked (Response × Content)) (result : Result Made Status)
+    → call_in asked bytes ≡ Some call → ((R : Content) (marks : List Mark) → served site now token call sessions R marks ≡ in_session sessions (user_at sessions token) (f R) R marks) → user_at sessions token ≡ Ok user
+    → Comes a b (λ R. f R user) result → Performs a b (answered_call site now token (call_in asked bytes) sessions) sessions result
+performs-comes a b site now token sessions asked call bytes user f result is same in_use (used, told, acts, tells) =
+    performs-over a b site now token sessions asked call bytes user f used told result is same in_use acts tells

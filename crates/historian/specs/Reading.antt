@@ -1,16 +1,167 @@
--- Stub.
-use Rattle.std.specs.Prelude.{ℕ, List, Err}
-use Rattle.ua_binary.specs.declared.codes.TheConstants.Status.{BAD_SERVICE_UNSUPPORTED}
+-- Reads of attributes (Part 4, 5.11.2) and of history (Part 4, 5.11.3).
+use Rattle.std.specs.Prelude.{◌==◌, ◌&&◌, ◌||◌, not, nat_eq, nat_le, ℕ, Bool, true, false, if◌then◌else◌, List, [], ◌∷◌, length, codes, Option, Some, None, is_some, unwrap_or, Result, Ok, Err}
+use Rattle.std.specs.Cmp.Lexicographic.{pointwise}
+use Rattle.ua_binary.specs.declared.codes.Status.{Status}
+use Rattle.ua_binary.specs.declared.codes.TheConstants.Status.{GOOD, BAD_NODE_ID_UNKNOWN, BAD_INDEX_RANGE_INVALID, BAD_DATA_ENCODING_UNSUPPORTED, BAD_WAITING_FOR_INITIAL_DATA, BAD_TIMESTAMPS_TO_RETURN_INVALID, BAD_HISTORY_OPERATION_UNSUPPORTED}
+use Rattle.ua_binary.specs.declared.values.NodeId.{NodeId}
+use Rattle.ua_binary.specs.declared.values.QualifiedName.{QualifiedName}
 use Rattle.ua_binary.specs.declared.values.Ticks.{Ticks}
-use Rattle.ua_services.specs.Attributes.{ReadAsked}
-use Rattle.ua_services.specs.History.{HistoryAsked}
+use Rattle.ua_binary.specs.Format.{◌>>=◌}
+use Rattle.ua_binary.specs.Rules.{checked}
+use Rattle.ua_variant.specs.declared.data.DataValue.{DataValue}
+use Rattle.ua_variant.specs.declared.value.Variant.{Variant}
+use Rattle.ua_services.specs.Attributes.{ReadFields, ReadAsked}
+use Rattle.ua_services.specs.History.{HistoryReadFields, HistoryAsked}
+use Rattle.ua_services.specs.declared.attributes.TimestampsToReturn.{TimestampsToReturn}
+use Rattle.ua_services.specs.declared.attributes.TimestampsToReturn.TheVariants.{Neither}
+use Rattle.ua_services.specs.declared.history.ReadRawModifiedDetails.{ReadRawModifiedDetails}
+use Rattle.ua_services.specs.declared.history.HistoryReadDetails.{HistoryReadDetails}
+use Rattle.ua_services.specs.declared.history.HistoryReadDetails.TheVariants.{ReadRawModified, Other}
+use Rattle.ua_services.specs.declared.history.HistoryReadResult.{HistoryReadResult}
+use Rattle.ua_services.specs.declared.history.HistoryData.TheVariants.{Nothing}
+use Rattle.ua_space.specs.declared.attributes.Answered.{Answered}
+use Rattle.ua_space.specs.declared.attributes.Answered.TheVariants.{Value, Archived}
 use Rattle.ua_space.specs.declared.layout.Layout.{Layout}
+use Rattle.ua_space.specs.Attributes.{attribute_at}
+use Rattle.ua_space.specs.Space.{node_at, value_type_at}
 use Rattle.records.specs.Contents.{Content}
-use Rattle.archive.specs.Steps.{Marked, give}
-use Rattle.historian.specs.Answers.{Response}
+use Rattle.records.specs.declared.shown.Held.{Held}
+use Rattle.archive.specs.declared.reading.Direction.TheVariants.{Backward}
+use Rattle.archive.specs.Fault.{status_told}
+use Rattle.archive.specs.Reading.{range_of}
+use Rattle.archive.specs.Store.{Mark}
+use Rattle.archive.specs.Steps.{Marked, give, step, and_then, each}
+use Rattle.hist_read.specs.Asking.{first_time}
+use Rattle.hist_read.specs.Reads.{greatest_time}
+use Rattle.hist_read.specs.Showing.{at_time, no_value, with_status, with_stamps}
+use Rattle.hist_read.specs.Node.{read_node, refused}
+use Rattle.hist_read.specs.declared.query.Query.{Query}
+use Rattle.historian.specs.Answers.{Answer, Response, Values, Histories}
+use Rattle.historian.specs.Browsing.{list_refusal}
 
-abbrev pub read : Layout → Ticks → ReadAsked → Content → Marked (Response × Content)
-read space now asked R = give (Err BAD_SERVICE_UNSUPPORTED, R)
+-- ---- lists of items
 
-abbrev pub read_history : List ℕ → Layout → HistoryAsked → Content → Marked (Response × Content)
-read_history id space asked R = give (Err BAD_SERVICE_UNSUPPORTED, R)
+-- what a service of an archive comes to: its response, and the content that it leaves
+abbrev pub Served : Type 0
+Served = Marked (Response × Content)
+
+abbrev pub unless : Option Status → Content → Served → Served
+unless (Some status) R more = give (Err status, R)
+unless None R more = more
+
+-- one step for the memory of the answers, and then the items in order, each over what those before it left
+abbrev pub items : {X Y : Type 0} → (List Y → Answer) → (X → Content → Marked (Y × Content)) → List X → Content → Served
+items answer item xs R = and_then (step status_told) (λ reason. unless reason R (and_then (each item xs R) (λ p. give (Ok (answer p.0), p.1))))
+
+-- ---- what is refused of an item, whichever node it is of
+
+-- null or empty stands for the whole value
+abbrev pub is_whole : Option (List ℕ) → Bool
+is_whole None = true
+is_whole (Some []) = true
+is_whole (Some (byte ∷ bytes)) = false
+
+-- the default encoding; the namespace isn't looked at
+abbrev pub is_default : QualifiedName → Bool
+is_default name = is_whole name.name || pointwise nat_eq (unwrap_or name.name []) (codes "Default Binary")
+
+abbrev pub value_rules : Option (List ℕ) → QualifiedName → List (Bool × Status)
+value_rules range encoding = (is_whole range, BAD_INDEX_RANGE_INVALID) ∷ (is_default encoding, BAD_DATA_ENCODING_UNSUPPORTED) ∷ []
+
+-- ---- Read
+
+-- the most items of a Read
+abbrev pub most_read : ℕ
+most_read = 1000
+
+-- a value without moments of its own
+abbrev pub valued : Variant → DataValue
+valued value = record no_value { value = Some value }
+
+-- a live value as it is stored, with its source time
+abbrev pub stored : List Held → Result DataValue Status
+stored [] = Err BAD_WAITING_FOR_INITIAL_DATA
+stored (h ∷ held) = Ok (at_time h.time h.value)
+
+-- the value of an archived variable is the live one of the greatest source time
+abbrev pub value_of : Content → NodeId → Answered → Result DataValue Status
+value_of R node (Value value) = Ok (valued value)
+value_of R node Archived = stored (range_of R node first_time greatest_time Backward)
+
+-- by node and attribute, then index range, then data encoding
+abbrev pub item_value : Content → Layout → ReadFields → Result DataValue Status
+item_value R space item =
+    attribute_at space item.0 item.1.0 >>= λ answered.
+    checked (value_rules item.1.1.0 item.1.1.1) >>= λ _.
+    value_of R item.0 answered
+
+-- what came in the way of an item is told in the place of its value
+abbrev pub unless_met : Option Status → Result DataValue Status → Result DataValue Status
+unless_met (Some status) value = Err status
+unless_met None value = value
+
+-- a refused item is its status alone; others have the moments that are wanted, where that of the server is the moment of the read
+abbrev pub item_told : TimestampsToReturn → Ticks → Result DataValue Status → DataValue
+item_told stamps now (Err status) = with_status (Some status) no_value
+item_told stamps now (Ok value) = with_stamps stamps (record value { server_time = Some now; server_pico = None })
+
+-- what a value comes to, by what comes in its way, in one step
+abbrev pub value_step : (Content → Result DataValue Status) → Content → Marked (Result DataValue Status × Content)
+value_step value R = step (λ mark. (unless_met (status_told mark) (value R), R))
+
+-- each item is one step
+abbrev pub read_item : Layout → Ticks → TimestampsToReturn → ReadFields → Content → Marked (DataValue × Content)
+read_item space now stamps item R = step (λ mark. (item_told stamps now (unless_met (status_told mark) (item_value R space item)), R))
+
+abbrev pub read_by : Layout → Ticks → Option TimestampsToReturn → List ReadFields → Content → Served
+read_by space now None nodes R = give (Err BAD_TIMESTAMPS_TO_RETURN_INVALID, R)
+read_by space now (Some stamps) nodes R = items Values (read_item space now stamps) nodes R
+
+abbrev pub read : Layout → Ticks → ReadAsked → Content → Served
+read space now asked R = unless (list_refusal most_read (length asked.1)) R (read_by space now asked.0 asked.1 R)
+
+-- ---- HistoryRead
+
+-- the most nodes of a HistoryRead
+abbrev pub most_histories : ℕ
+most_histories = 100
+
+-- of a node that is archived; then as of other values
+abbrev pub history_rules : Layout → HistoryReadFields → List (Bool × Status)
+history_rules space item =
+    (is_some (node_at space item.0), BAD_NODE_ID_UNKNOWN) ∷ (is_some (value_type_at space item.0), BAD_HISTORY_OPERATION_UNSUPPORTED) ∷ value_rules item.1.0 item.1.1.0
+
+-- the severity of a code is that of its two highest bits
+abbrev pub is_bad : Status → Bool
+is_bad status = nat_le 2147483648 status.0
+
+-- where continuation points are only given back, what isn't refused shows nothing
+abbrev pub released : Bool → HistoryReadResult → HistoryReadResult
+released release result = if release && not (is_bad result.status) then record { status = GOOD; continuation_point = None; history_data = Nothing } else result
+
+-- one step for the memory of the node's id, and then the read of the node
+abbrev pub node_read : List ℕ → Query → Bool → HistoryReadFields → Content → Option Status → Marked (HistoryReadResult × Content)
+node_read id query release item R (Some status) = give (refused status, R)
+node_read id query release item R None = and_then (read_node id item.0 query item.1.1.1 R) (λ p. give (released release p.0, p.1))
+
+abbrev pub history_by : List ℕ → Query → Bool → HistoryReadFields → Content → Result (Unit {0}) Status → Marked (HistoryReadResult × Content)
+history_by id query release item R (Err status) = give (refused status, R)
+history_by id query release item R (Ok _) = and_then (step status_told) (node_read id query release item R)
+
+abbrev pub read_history_of : List ℕ → Layout → Query → Bool → HistoryReadFields → Content → Marked (HistoryReadResult × Content)
+read_history_of id space query release item R = history_by id query release item R (checked (history_rules space item))
+
+-- what is read of each node, or why the whole is refused
+abbrev pub query_of : HistoryReadDetails → Option TimestampsToReturn → Result Query Status
+query_of details None = Err BAD_TIMESTAMPS_TO_RETURN_INVALID
+query_of details (Some Neither) = Err BAD_TIMESTAMPS_TO_RETURN_INVALID
+query_of Other (Some stamps) = Err BAD_HISTORY_OPERATION_UNSUPPORTED
+query_of (ReadRawModified details) (Some stamps) = Ok (record { details = details; stamps = stamps })
+
+abbrev pub histories_by : List ℕ → Layout → Bool → List HistoryReadFields → Content → Result Query Status → Served
+histories_by id space release nodes R (Err status) = give (Err status, R)
+histories_by id space release nodes R (Ok query) = items Histories (read_history_of id space query release) nodes R
+
+abbrev pub read_history : List ℕ → Layout → HistoryAsked → Content → Served
+read_history id space asked R =
+    unless (list_refusal most_histories (length asked.1.1.1)) R (histories_by id space asked.1.1.0 asked.1.1.1 R (query_of asked.0 asked.1.0))

@@ -60,9 +60,9 @@ call_in service.CreateSession bytes = filling (λ v. CreateSession v.1.1) (creat
 call_in service.ActivateSession bytes = filling ActivateSession (activate_session_request.read bytes)
 call_in service.CloseSession bytes = filling (λ _. CloseSession) (close_session_request.read bytes)
 call_in service.Browse bytes = filling Browse (browse_request.read bytes)
-call_in service.Read bytes = None
-call_in service.HistoryRead bytes = None
-call_in service.HistoryUpdate bytes = None
+call_in service.Read bytes = filling Read (read_request.read bytes)
+call_in service.HistoryRead bytes = filling HistoryRead (history_read_request.read bytes)
+call_in service.HistoryUpdate bytes = filling HistoryUpdate (history_update_request.read bytes)
 
 -- nothing stands behind it
 abbrev pub nothing_left : List ℕ → Result (Unit {0}) Status

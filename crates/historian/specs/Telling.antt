@@ -17,6 +17,7 @@ use Rattle.historian.specs.declared.answer.Answer.{Answer as Made}
 use Rattle.historian.specs.declared.answer.Answer.TheVariants as made
 use Rattle.historian.specs.Answers.{Answer, Endpoints, Created, Activated, Closed, Browsed, Values, Updated, Histories, Response}
 use Rattle.historian.specs.Requests.{Call, call_in}
+use Rattle.historian.specs.Reading.{Served}
 use Rattle.historian.specs.Services.{Outcome}
 
 -- a request was read, or none fills the bytes, or memory was wanting
@@ -50,6 +51,10 @@ IsShort (made.Histories results) = AreShortHistoryReads results.items
 abbrev pub Tells : Response → Result Made Status → Type 0
 Tells told (Ok answer) = told ≡ Ok (answer_of answer)
 Tells told (Err status) = (told ≡ Err status) ⊎ (status ≡ BAD_OUT_OF_MEMORY)
+
+-- what a service of an archive comes to over what is held is told
+abbrev pub Comes : Store → Store → (Content → Served) → Result Made Status → Type 0
+Comes old new service result = (used : List Mark) × (told : Response) × Acts old new used service told × Tells told result
 
 -- a service was performed over an archive, and what it came to is told
 abbrev pub Performs : Store → Store → (Content → Marked Outcome) → State → Result Made Status → Type 0

@@ -1,12 +1,69 @@
--- Stub.
-use Rattle.std.specs.Prelude.{ℕ, List, Err}
-use Rattle.ua_binary.specs.declared.codes.TheConstants.Status.{BAD_SERVICE_UNSUPPORTED}
+-- HistoryUpdate (Part 4, 5.11.5; Part 11, 6.8).
+use Rattle.std.specs.Prelude.{ℕ, List, length, Option, Some, None, is_some, Result, Ok, Err}
+use Rattle.ua_binary.specs.declared.codes.Status.{Status}
+use Rattle.ua_binary.specs.declared.codes.TheConstants.Status.{BAD_NODE_ID_UNKNOWN, BAD_HISTORY_OPERATION_UNSUPPORTED}
+use Rattle.ua_binary.specs.declared.values.NodeId.{NodeId}
 use Rattle.ua_binary.specs.declared.values.Ticks.{Ticks}
-use Rattle.ua_services.specs.Updates.{Details}
+use Rattle.ua_variant.specs.declared.value.ValueType.{ValueType}
+use Rattle.ua_services.specs.Updates.{Details, UpdateData, DeleteRawModified, DeleteAtTime, Other}
+use Rattle.ua_services.specs.declared.updates.HistoryUpdateResult.{HistoryUpdateResult}
 use Rattle.ua_space.specs.declared.layout.Layout.{Layout}
+use Rattle.ua_space.specs.Space.{Node, node_at, type_of_node}
 use Rattle.records.specs.Contents.{Content}
-use Rattle.archive.specs.Steps.{Marked, give}
-use Rattle.historian.specs.Answers.{Response}
+use Rattle.archive.specs.Fault.{status_told}
+use Rattle.archive.specs.Steps.{Marked, give, step, and_then}
+use Rattle.hist_update.specs.declared.request.Request.{Request}
+use Rattle.hist_update.specs.Updates.{Updated, refused, update_data, delete_raw, delete_at}
+use Rattle.historian.specs.Answers.{Updated as AllUpdated}
+use Rattle.historian.specs.Browsing.{list_refusal}
+use Rattle.historian.specs.Reading.{Served, unless, items}
 
-abbrev pub update_history : ℕ → Layout → List ℕ → Ticks → List Details → Content → Marked (Response × Content)
-update_history own space user now details R = give (Err BAD_SERVICE_UNSUPPORTED, R)
+-- the most details of a HistoryUpdate
+abbrev pub most_updates : ℕ
+most_updates = 100
+
+-- the node of which details ask an update; none for details of another type
+abbrev pub node_asked : Details → Option NodeId
+node_asked (UpdateData d) = Some d.0
+node_asked (DeleteRawModified d) = Some d.0
+node_asked (DeleteAtTime d) = Some d.0
+node_asked Other = None
+
+abbrev pub archived : Option ValueType → Result ValueType Status
+archived None = Err BAD_HISTORY_OPERATION_UNSUPPORTED
+archived (Some type) = Ok type
+
+abbrev pub found : Option Node → Result ValueType Status
+found None = Err BAD_NODE_ID_UNKNOWN
+found (Some node) = archived (type_of_node (Some node))
+
+-- the type of the archived variable of which they ask it, or why it is refused
+abbrev pub type_asked : Layout → Option NodeId → Result ValueType Status
+type_asked space None = Err BAD_HISTORY_OPERATION_UNSUPPORTED
+type_asked space (Some id) = found (node_at space id)
+
+-- the update of a variable of this type
+abbrev pub update_of : ℕ → (NodeId → Request) → ValueType → Details → Content → Marked Updated
+update_of own request type (UpdateData d) R = update_data own (request d.0) type d.1.0 d.1.1 R
+update_of own request type (DeleteRawModified d) R = delete_raw own (request d.0) d.1.0 d.1.1.0 d.1.1.1 R
+update_of own request type (DeleteAtTime d) R = delete_at own (request d.0) d.1 R
+update_of own request type Other R = give (refused BAD_HISTORY_OPERATION_UNSUPPORTED, R)
+
+-- one step for the memory of the request, and then the update
+abbrev pub updated_unless : ℕ → (NodeId → Request) → ValueType → Details → Content → Option Status → Marked Updated
+updated_unless own request type details R (Some status) = give (refused status, R)
+updated_unless own request type details R None = update_of own request type details R
+
+abbrev pub update_by : ℕ → (NodeId → Request) → Details → Content → Result ValueType Status → Marked Updated
+update_by own request details R (Err status) = give (refused status, R)
+update_by own request details R (Ok type) = and_then (step status_told) (updated_unless own request type details R)
+
+-- this user asks at this moment for an update of a node
+abbrev pub asked_for : List ℕ → Ticks → NodeId → Request
+asked_for user now node = record { node = node; user = user; reading = now.0 }
+
+abbrev pub update_item : ℕ → Layout → List ℕ → Ticks → Details → Content → Marked Updated
+update_item own space user now details R = update_by own (asked_for user now) details R (type_asked space (node_asked details))
+
+abbrev pub update_history : ℕ → Layout → List ℕ → Ticks → List Details → Content → Served
+update_history own space user now details R = unless (list_refusal most_updates (length details)) R (items AllUpdated (update_item own space user now) details R)

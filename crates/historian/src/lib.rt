@@ -5,11 +5,14 @@
 mod answer;
 mod browsing;
 mod endpoints;
+mod histories;
 mod message;
+mod reading;
 mod requests;
 mod responses;
 mod service;
 mod sessions;
+mod updating;
 
 pub use message::answer_message;
 pub use responses::put_service_fault;

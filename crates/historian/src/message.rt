@@ -11,9 +11,12 @@ ghost use Rattle.historian.specs.Telling.{IsShort, Performs};
 
 use crate::answer::Answer;
 use crate::browsing::browse;
+use crate::histories::read_history;
+use crate::reading::read;
 use crate::responses::put_service_fault;
 use crate::service::{Service, handle_of, service_of};
 use crate::sessions::{activate_session, close_session, create_session, get_endpoints};
+use crate::updating::update_history;
 use archive::Archive;
 use std::alloc::{AllocError, Global};
 use ua_binary::{Cursor, NodeIdRef, Status, Ticks};
@@ -42,7 +45,13 @@ fn serve<A: Archive>(
         Service::ActivateSession => activate_session(settings, sessions, token, request),
         Service::CloseSession => close_session(sessions, token, request),
         Service::Browse => browse(alloc, settings, sessions, token, request),
-        _ => Err(Status::BAD_DECODING_ERROR),
+        Service::Read => read(alloc, settings, archive, sessions, now, token, request),
+        Service::HistoryRead => read_history(
+            alloc, settings, archive, sessions, now, token, request,
+        ),
+        Service::HistoryUpdate => update_history(
+            alloc, settings, archive, sessions, now, token, request,
+        ),
     }
 }
 

@@ -1,21 +1,25 @@
 //! Requests, each read by itself: what the service is asked by the bytes behind the header, all of them.
 
-ghost use Rattle.std.specs.Prelude.{◌≡◌, map};
+ghost use Rattle.std.specs.Prelude.{◌≡◌, map, IfOk};
+ghost use Rattle.std.specs.List.{AllByRecursion};
 ghost use Rattle.ua_session.specs.Users.{claim_of};
 ghost use Rattle.ua_services.specs.Endpoints.{endpoints_asked};
 ghost use Rattle.ua_services.specs.Browsing.{browse_fields};
 ghost use Rattle.ua_services.specs.Attributes.{read_asked};
 ghost use Rattle.ua_services.specs.History.{history_asked};
 ghost use Rattle.historian.specs.declared.service.Service.TheVariants as service;
-ghost use Rattle.historian.specs.Requests.{GetEndpoints, CreateSession, ActivateSession, CloseSession, Browse, Read, HistoryRead, nothing_left};
+ghost use Rattle.ua_services.specs.Updates.{details_of, HasShortValues};
+ghost use Rattle.historian.specs.Requests.{GetEndpoints, CreateSession, ActivateSession, CloseSession, Browse, Read, HistoryRead, HistoryUpdate, nothing_left};
 ghost use Rattle.historian.specs.Telling.{Asks};
 
 use std::alloc::Global;
 use ua_binary::{Cursor, Status};
 use ua_services::{
     ActivateSessionRequest, BrowseRequest, CreateSessionRequest, GetEndpointsRequest,
-    read_activate_session_request, read_browse_request, read_close_session_request,
-    read_create_session_request, read_get_endpoints_request,
+    HistoryReadRequest, HistoryUpdateRequest, ReadRequest, read_activate_session_request,
+    read_browse_request, read_close_session_request, read_create_session_request,
+    read_get_endpoints_request, read_history_read_request, read_history_update_request,
+    read_read_request,
 };
 
 /// Refuses bytes that stand behind a request.
@@ -74,6 +78,40 @@ pub(crate) fn browse_request<'a>(
     ensures { Asks service.Browse (λ asked. Browse (map browse_fields asked.nodes.items)) request.entry result }
 {
     let asked = read_browse_request(alloc, &mut request)?;
+    refuse_more(&request)?;
+    Ok(asked)
+}
+
+pub(crate) fn read_request<'a>(
+    alloc: Global,
+    mut request: Cursor<'a>,
+) -> Result<ReadRequest<'a>, Status>
+    ensures { Asks service.Read (λ asked. Read (read_asked asked)) request.entry result }
+{
+    let asked = read_read_request(alloc, &mut request)?;
+    refuse_more(&request)?;
+    Ok(asked)
+}
+
+pub(crate) fn history_read_request<'a>(
+    alloc: Global,
+    mut request: Cursor<'a>,
+) -> Result<HistoryReadRequest<'a>, Status>
+    ensures { Asks service.HistoryRead (λ asked. HistoryRead (history_asked asked)) request.entry result }
+{
+    let asked = read_history_read_request(alloc, &mut request)?;
+    refuse_more(&request)?;
+    Ok(asked)
+}
+
+pub(crate) fn history_update_request<'a>(
+    alloc: Global,
+    mut request: Cursor<'a>,
+) -> Result<HistoryUpdateRequest<'a>, Status>
+    ensures asks { Asks service.HistoryUpdate (λ asked. HistoryUpdate (map details_of asked.details.items)) request.entry result }
+    ensures short { IfOk result (λ asked. AllByRecursion HasShortValues (map details_of asked.details.items)) }
+{
+    let asked = read_history_update_request(alloc, &mut request)?;
     refuse_more(&request)?;
     Ok(asked)
 }

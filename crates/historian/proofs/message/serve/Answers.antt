@@ -10,7 +10,7 @@ use Rattle.historian.specs.declared.answer.Answer.{Answer as Made}
 use Rattle.historian.specs.Requests.{call_in}
 use Rattle.historian.specs.Services.{site_of, answered_call}
 use Rattle.historian.specs.Telling.{Performs}
-use Rattle.historian.proofs.Performing.{performs-here, performs-unserved}
+use Rattle.historian.proofs.Performing.{performs-here}
 use Rattle.historian.proofs.message.serve.Goals as goal
 
 pub returns-in-GetEndpoints-clause-performs : goal.returns-in-GetEndpoints-clause-performs
@@ -41,15 +41,33 @@ returns-in-CloseSession-clause-performs g c =
     let P : Service → Type 0 = λ service. Performs s s (answered_call site c.args.now (node_of c.args.token) (call_in service c.args.request) c.args.sessions.now) c.close_session.new.sessions c.close_session.result in
     subst P (sym c.in-CloseSession.is) (performs-here s (answered_call site c.args.now (node_of c.args.token) (call_in service.CloseSession c.args.request) c.args.sessions.now) c.close_session.new.sessions c.close_session.result (c.close_session.ensures.performs site c.args.now))
 
-pub returns-in_default-clause-performs : goal.returns-in_default-clause-performs
-returns-in_default-clause-performs g c =
-    let s = g.A.Archive.state c.args.archive.now in
-    let d = c.in_default in
-    performs-unserved s (site_of c.args.settings.now s) c.args.now (node_of c.args.token) c.args.service c.args.request c.args.sessions.now d.not-GetEndpoints d.not-CreateSession d.not-ActivateSession d.not-CloseSession d.not-Browse
-
 pub returns-in-Browse-clause-performs : goal.returns-in-Browse-clause-performs
 returns-in-Browse-clause-performs g c =
     let s = g.A.Archive.state c.args.archive.now in
     let site = site_of c.args.settings.now s in
     let P : Service → Type 0 = λ service. Performs s s (answered_call site c.args.now (node_of c.args.token) (call_in service c.args.request) c.args.sessions.now) c.args.sessions.now c.browse.result in
     subst P (sym c.in-Browse.is) (performs-here s (answered_call site c.args.now (node_of c.args.token) (call_in service.Browse c.args.request) c.args.sessions.now) c.args.sessions.now c.browse.result (c.browse.ensures.performs site c.args.now refl))
+
+pub returns-in-Read-clause-performs : goal.returns-in-Read-clause-performs
+returns-in-Read-clause-performs g c =
+    let a = g.A.Archive.state c.args.archive.now in
+    let b = g.A.Archive.state c.read.new.archive in
+    let site = site_of c.args.settings.now a in
+    let P : Service → Type 0 = λ service. Performs a b (answered_call site c.args.now (node_of c.args.token) (call_in service c.args.request) c.args.sessions.now) c.args.sessions.now c.read.result in
+    subst P (sym c.in-Read.is) c.read.ensures.performs
+
+pub returns-in-HistoryRead-clause-performs : goal.returns-in-HistoryRead-clause-performs
+returns-in-HistoryRead-clause-performs g c =
+    let a = g.A.Archive.state c.args.archive.now in
+    let b = g.A.Archive.state c.read_history.new.archive in
+    let site = site_of c.args.settings.now a in
+    let P : Service → Type 0 = λ service. Performs a b (answered_call site c.args.now (node_of c.args.token) (call_in service c.args.request) c.args.sessions.now) c.args.sessions.now c.read_history.result in
+    subst P (sym c.in-HistoryRead.is) c.read_history.ensures.performs
+
+pub returns-in-HistoryUpdate-clause-performs : goal.returns-in-HistoryUpdate-clause-performs
+returns-in-HistoryUpdate-clause-performs g c =
+    let a = g.A.Archive.state c.args.archive.now in
+    let b = g.A.Archive.state c.update_history.new.archive in
+    let site = site_of c.args.settings.now a in
+    let P : Service → Type 0 = λ service. Performs a b (answered_call site c.args.now (node_of c.args.token) (call_in service c.args.request) c.args.sessions.now) c.args.sessions.now c.update_history.result in
+    subst P (sym c.in-HistoryUpdate.is) c.update_history.ensures.performs

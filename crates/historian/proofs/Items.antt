@@ -1,0 +1,144 @@
+-- Services that answer items one after the other.
+use Rattle.std.proofs.Common.{◌≡◌, ◌∙◌, ◌⊎◌, inl, inr, ℕ, zero, suc, arith, Bool, true, false, nat_lt, ◌+◌, ◌<◌, ◌≤◌, get_or, List, [], ◌∷◌, ◌++◌, map, take, length, Option, Some, None, Ok, Err, refl, sym, ap, subst}
+use Rattle.std.specs.Prelude.{Result, ◌==◌, if◌then◌else◌}
+use Rattle.std.specs.List.{AllByRecursion}
+use Rattle.std.proofs.lemmas.Bool.{ltb-false}
+use Rattle.std.proofs.lemmas.List.{take_more, map-append}
+use Rattle.ua_binary.specs.declared.codes.Status.{Status}
+use Rattle.ua_binary.specs.declared.codes.TheConstants.Status.{BAD_OUT_OF_MEMORY, BAD_NOTHING_TO_DO, BAD_TOO_MANY_OPERATIONS}
+use Rattle.records.specs.Contents.{Content}
+use Rattle.archive.specs.Store.{Store, Mark, Fine, Starved, faults_of}
+use Rattle.archive.specs.Steps.{Marked, give, and_then, each, Does, Acts}
+use Rattle.archive.proofs.Acting.{moves-as, moves-none, acts-give, acts-as, acts-each}
+use Rattle.archive.proofs.Calls.{passes-none}
+use Rattle.historian.specs.declared.answer.Answer.{Answer as Made}
+use Rattle.historian.specs.Answers.{Answer, Response}
+use Rattle.historian.specs.Browsing.{list_refusal}
+use Rattle.historian.specs.Reading.{Served, unless, items}
+use Rattle.historian.specs.Telling.{answer_of, Tells, Comes}
+
+-- ---- a list of them
+
+-- one item more
+pub each-next : {W X Y : Type 0} (a b c : Store) (view : W → X) (f : X → Content → Marked (Y × Content)) (xs : List W) (i : ℕ) (other x : W) (ys more : List Y) (y : Y)
+    → ((used : List Mark) × Acts a b used (each f (map view (take i xs))) ys) → ((used : List Mark) × Acts b c used (f (view x)) y) → i < length xs → x ≡ get_or xs i other → more ≡ ys ++ (y ∷ [])
+    → (used : List Mark) × Acts a c used (each f (map view (take (i + 1) xs))) more
+each-next {W} {X} {Y} a b c view f xs i other x ys more y before here within is grown =
+    let used = before.0 ++ here.0 in
+    let P : List X → Type 0 = λ l. Acts a c used (each f l) more in
+    let Q : List Y → Type 0 = λ l. Acts a c used (each f (map view (take i xs) ++ (view x ∷ []))) l in
+    (used, subst P (sym all) (subst Q (sym grown) (acts-each a b c before.0 here.0 f (map view (take i xs)) (view x) ys y before.1 here.1)))
+  where
+    all : map view (take (i + 1) xs) ≡ map view (take i xs) ++ (view x ∷ [])
+    all = ap (map view) (take_more xs i other within) ∙ (map-append view (take i xs) (get_or xs i other ∷ []) ∙ ap (λ z. map view (take i xs) ++ (view z ∷ [])) (sym is))
+
+-- the same where what is done of an item goes by something that stays
+pub each-next-by : {I W X Y : Type 0} (a b c : Store) (k j : I) (view : W → X) (f : I → X → Content → Marked (Y × Content)) (xs : List W) (i : ℕ) (other x : W) (ys more : List Y) (y : Y) → j ≡ k
+    → ((used : List Mark) × Acts a b used (each (f k) (map view (take i xs))) ys) → ((used : List Mark) × Acts b c used (f j (view x)) y) → i < length xs → x ≡ get_or xs i other → more ≡ ys ++ (y ∷ [])
+    → (used : List Mark) × Acts a c used (each (f k) (map view (take (i + 1) xs))) more
+each-next-by {I} a b c k j view f xs i other x ys more y same before here within is grown =
+    let P : I → Type 0 = λ l. (used : List Mark) × Acts b c used (f l (view x)) y in
+    each-next a b c view (f k) xs i other x ys more y before (subst P same here) within is grown
+
+-- ---- a whole service
+
+-- it is refused as a whole
+pub comes-refused : (s : Store) (service : Content → Served) (status : Status) (result : Result Made Status) → ((R : Content) (marks : List Mark) → service R marks ≡ give (Err status, R) marks) → result ≡ Err status → Comes s s service result
+comes-refused s service status result refuses is = (
+  [],
+  Err status,
+  acts-as s s [] (λ R. give (Err status, R)) service (Err status) (λ R marks. sym (refuses R marks)) (acts-give s (Err status)),
+  subst (Tells (Err status)) (sym is) (inl refl),
+)
+
+-- memory for the answers is wanting
+pub comes-starved : {X Y : Type 0} (s : Store) (service : Content → Served) (answer : List Y → Answer) (item : X → Content → Marked (Y × Content)) (xs : List X)
+    → ((R : Content) (marks : List Mark) → service R marks ≡ items answer item xs R marks) → Comes s s service (Err BAD_OUT_OF_MEMORY)
+comes-starved s service answer item xs is = (
+  Starved ∷ [],
+  Err BAD_OUT_OF_MEMORY,
+  record { passes = passes-none s; acts = λ honest R h. (R, record { does = λ later. is R (Starved ∷ later) }, h) },
+  inl refl,
+)
+
+-- all items were answered
+pub comes-items : {X Y : Type 0} (a b : Store) (service : Content → Served) (answer : List Y → Answer) (item : X → Content → Marked (Y × Content)) (xs : List X) (ys : List Y) (made : Made)
+    → ((R : Content) (marks : List Mark) → service R marks ≡ items answer item xs R marks) → ((used : List Mark) × Acts a b used (each item xs) ys) → answer ys ≡ answer_of made → Comes a b service (Ok made)
+comes-items {X} {Y} a b service answer item xs ys made is all told = (
+  Fine ∷ all.0,
+  Ok (answer ys),
+  record {
+    passes = all.1.passes;
+    acts = λ honest R h.
+        let q = all.1.acts honest R h in (
+          q.0,
+          record {
+            does = λ later.
+                is R (Fine ∷ (all.0 ++ later))
+                ∙ ap (λ (r : (List Y × Content) × List Mark). let z : (Response × Content) × List Mark = ((Ok (answer r.0.0), r.0.1), r.1) in z) (q.1.does later);
+          },
+          q.2,
+        );
+  },
+  ap Ok told,
+)
+
+-- ---- how many there are
+
+-- a list that isn't refused
+pub few_taken : (most n : ℕ) → list_refusal most n ≡ None → n ≤ most
+few_taken most n is = by (n == 0) (nat_lt most n) refl is
+  where
+    by : (a b : Bool) → nat_lt most n ≡ b → (if a then Some BAD_NOTHING_TO_DO else if b then Some BAD_TOO_MANY_OPERATIONS else None) ≡ None → n ≤ most
+    by true b e passed = absurd cc
+    by false true e passed = absurd cc
+    by false false e passed = ltb-false most n e
+
+-- ---- steps
+
+-- no step
+pub acts-none : {X : Type 0} (s : Store) (f : Content → Marked (X × Content)) (x : X) → ((R : Content) (marks : List Mark) → f R marks ≡ give (x, R) marks) → (used : List Mark) × Acts s s used f x
+acts-none s f x is = ([], acts-as s s [] (λ R. give (x, R)) f x (λ R marks. sym (is R marks)) (acts-give s x))
+
+-- memory for one is wanting
+pub acts-starved : {X : Type 0} (s : Store) (f : Content → Marked (X × Content)) (x : X) → ((R : Content) (later : List Mark) → f R (Starved ∷ later) ≡ ((x, R), later)) → (used : List Mark) × Acts s s used f x
+acts-starved s f x is = (Starved ∷ [], record { passes = passes-none s; acts = λ honest R h. (R, record { does = λ later. is R later }, h) })
+
+-- nothing came in the way of the first, and then others
+pub acts-past : {X : Type 0} (a b : Store) (f g : Content → Marked (X × Content)) (x : X) → ((used : List Mark) × Acts a b used g x) → ((R : Content) (marks : List Mark) → f R (Fine ∷ marks) ≡ g R marks)
+    → (used : List Mark) × Acts a b used f x
+acts-past a b f g x (used, acts) is = (
+  Fine ∷ used,
+  record { passes = acts.passes; acts = λ honest R h. let q = acts.acts honest R h in (q.0, record { does = λ later. is R (used ++ later) ∙ q.1.does later }, q.2) },
+)
+
+-- some steps, and what is made of their value
+pub acts-made : {X Y : Type 0} (a b : Store) (g : Content → Marked (X × Content)) (f : Content → Marked (Y × Content)) (make : X → Y) (x : X) (y : Y) → ((used : List Mark) × Acts a b used g x)
+    → ((R : Content) (marks : List Mark) → f R marks ≡ and_then (g R) (λ p. give (make p.0, p.1)) marks) → y ≡ make x → (used : List Mark) × Acts a b used f y
+acts-made {X} {Y} a b g f make x y (used, acts) is made = (
+  used,
+  record {
+    passes = acts.passes;
+    acts = λ honest R h.
+        let q = acts.acts honest R h in (
+          q.0,
+          record {
+            does = λ later.
+                is R (used ++ later)
+                ∙ (ap (λ (r : (X × Content) × List Mark). let z : (Y × Content) × List Mark = ((make r.0.0, r.0.1), r.1) in z) (q.1.does later)
+                ∙ ap (λ (w : Y). let z : (Y × Content) × List Mark = ((w, q.0), later) in z) (sym made));
+          },
+          q.2,
+        );
+  },
+)
+
+-- the same calls, told in other words
+pub acts-same : {X : Type 0} (a b : Store) (f g : Content → Marked (X × Content)) (x : X) → ((R : Content) (marks : List Mark) → f R marks ≡ g R marks) → ((used : List Mark) × Acts a b used f x) → (used : List Mark) × Acts a b used g x
+acts-same a b f g x is (used, acts) = (used, acts-as a b used f g x is acts)
+
+-- what holds of each holds of the one at a place
+pub all_at : {W X : Type 0} (P : X → Type 0) (f : W → X) (xs : List W) (i : ℕ) (other : W) → AllByRecursion P (map f xs) → i < length xs → P (f (get_or xs i other))
+all_at P f [] i other all within = absurd (omega (arith, within))
+all_at P f (x ∷ xs) zero other all within = all.0
+all_at P f (x ∷ xs) (suc i) other all within = all_at P f xs i other all.1 (omega (arith, within))

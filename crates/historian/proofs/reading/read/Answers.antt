@@ -1,0 +1,47 @@
+use Rattle.std.proofs.Common.{◌≡◌, ◌∙◌, List, map, Err, refl, sym, ap, subst}
+use Rattle.std.proofs.lemmas.Result.{err_from_is_err_and}
+use Rattle.ua_binary.specs.Binary.{node_of}
+use Rattle.ua_services.specs.declared.attributes.ReadRequest.{ReadRequest}
+use Rattle.ua_services.specs.declared.attributes.ReadValueId.{ReadValueId}
+use Rattle.ua_services.specs.Attributes.{read_fields, read_asked}
+use Rattle.ua_space.specs.declared.layout.Layout.{Layout}
+use Rattle.historian.specs.declared.service.Service.TheVariants as service
+use Rattle.historian.specs.Reading.{read}
+use Rattle.historian.specs.Requests.{Read, call_in}
+use Rattle.historian.specs.Services.{site_of, answered_call}
+use Rattle.historian.specs.Telling.{Comes}
+use Rattle.historian.proofs.Performing.{performs-unread, performs-outside, performs-here, performs-comes}
+use Rattle.historian.proofs.reading.read.Goals as goal
+
+pub returns-in_err-asked-clause-performs : goal.returns-in_err-asked-clause-performs
+returns-in_err-asked-clause-performs g c =
+    let s = g.A.Archive.state c.args.archive.now in
+    let site = site_of c.args.settings.now s in
+    let token = node_of c.args.token in
+    let sessions = c.args.sessions.now in
+    let p = err_from_is_err_and c.from_residual.result c.from_residual.ensures.1 in
+    performs-here s (answered_call site c.args.now token (call_in service.Read c.args.request) sessions) sessions c.from_residual.result
+    (performs-unread site c.args.now token sessions service.Read (λ (asked : ReadRequest). Read (read_asked asked)) c.args.request c.in_err-asked.field-0.0 c.from_residual.result c.in_err-asked.ensures (p.1 ∙ ap Err p.2))
+
+pub returns-in_err-user_of-clause-performs : goal.returns-in_err-user_of-clause-performs
+returns-in_err-user_of-clause-performs g c =
+    let s = g.A.Archive.state c.args.archive.now in
+    let site = site_of c.args.settings.now s in
+    let token = node_of c.args.token in
+    let sessions = c.args.sessions.now in
+    let asked = read_asked c.in_ok-asked.asked in
+    let p = err_from_is_err_and c.from_residual-in_err-user_of.result c.from_residual-in_err-user_of.ensures.1 in
+    performs-here s (answered_call site c.args.now token (call_in service.Read c.args.request) sessions) sessions c.from_residual-in_err-user_of.result
+    (performs-outside site c.args.now token sessions service.Read (Read asked) c.args.request (λ R user. read site.settings.space c.args.now asked R) c.in_err-user_of.field-0.0 p.0 c.from_residual-in_err-user_of.result
+    c.in_ok-asked.ensures (λ R marks. refl) (sym c.in_err-user_of.ensures.value) p.2 p.1)
+
+pub returns-clause-performs : goal.returns-clause-performs
+returns-clause-performs g c =
+    let a = g.A.Archive.state c.args.archive.now in
+    let b = g.A.Archive.state c.read_all.new.archive in
+    let site = site_of c.args.settings.now a in
+    let asked = read_asked c.in_ok-asked.asked in
+    let P : Layout → Type 0 = λ space. Comes a b (read space c.args.now asked) c.read_all.result in
+    let Q : List ReadValueId → Type 0 = λ nodes. Comes a b (read c.space.result.now c.args.now (c.in_ok-asked.asked.timestamps, map read_fields nodes)) c.read_all.result in
+    performs-comes a b site c.args.now (node_of c.args.token) c.args.sessions.now service.Read (Read asked) c.args.request c.in_ok-user_of.field-0.now (λ R user. read site.settings.space c.args.now asked R) c.read_all.result
+    c.in_ok-asked.ensures (λ R marks. refl) (sym c.in_ok-user_of.ensures.value) (subst P c.space.ensures (subst Q c.deref.ensures.value c.read_all.ensures.comes))

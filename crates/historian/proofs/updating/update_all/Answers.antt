@@ -1,0 +1,41 @@
+use Rattle.std.proofs.Common.{rules, ◌≡◌, ◌∙◌, List, map, length, Ok, Err, Some, None, refl, sym, ap, arith}
+use Rattle.std.specs.Prelude.{Option}
+use Rattle.std.proofs.lemmas.List.{length-map}
+use Rattle.ua_binary.specs.declared.codes.Status.{Status}
+use Rattle.ua_services.specs.Updates.{details_of}
+use Rattle.historian.specs.declared.answer.Answer.TheVariants as made
+use Rattle.historian.specs.Answers.{Updated as AllUpdated}
+use Rattle.historian.specs.Browsing.{list_refusal}
+use Rattle.historian.specs.Reading.{unless, items}
+use Rattle.historian.specs.Updating.{update_item, update_history}
+use Rattle.historian.proofs.Items.{comes-refused, comes-starved, comes-items}
+use Rattle.historian.proofs.updating.update_all.Goals as goal
+
+pub returns-in-Some-clause-comes : goal.returns-in-Some-clause-comes
+returns-in-Some-clause-comes g c =
+    let s = g.A.Archive.state c.args.archive.now in
+    let space = c.args.space.now in
+    let user = c.args.user.now in
+    let details = map details_of c.args.details.now in
+    let refused : list_refusal 100 (length details) ≡ Some c.in-Some.status = ap (list_refusal 100) (length-map c.args.details.now details_of) ∙ sym c.list_refusal.ensures ∙ c.in-Some.is in
+    comes-refused s (update_history s.own space user c.args.now details) c.in-Some.status (Err c.in-Some.status) (λ R marks. ap (λ (o : Option Status). unless o R (items AllUpdated (update_item s.own space user c.args.now) details R) marks) refused) refl
+
+pub returns-in_default-with_capacity-clause-comes : goal.returns-in_default-with_capacity-clause-comes
+returns-in_default-with_capacity-clause-comes g c =
+    let s = g.A.Archive.state c.args.archive.now in
+    let space = c.args.space.now in
+    let user = c.args.user.now in
+    let details = map details_of c.args.details.now in
+    let taken : list_refusal 100 (length details) ≡ None = ap (list_refusal 100) (length-map c.args.details.now details_of) ∙ sym c.list_refusal.ensures ∙ c.in_default.is in
+    comes-starved s (update_history s.own space user c.args.now details) AllUpdated (update_item s.own space user c.args.now) details (λ R marks. ap (λ (o : Option Status). unless o R (items AllUpdated (update_item s.own space user c.args.now) details R) marks) taken)
+
+pub returns-clause-comes : goal.returns-clause-comes
+returns-clause-comes g c =
+    let a = g.A.Archive.state c.args.archive.now in
+    let b = g.A.Archive.state c.update_items.new.archive in
+    let space = c.args.space.now in
+    let user = c.args.user.now in
+    let details = map details_of c.args.details.now in
+    let taken : list_refusal 100 (length details) ≡ None = ap (list_refusal 100) (length-map c.args.details.now details_of) ∙ sym c.list_refusal.ensures ∙ c.in_default.is in
+    comes-items a b (update_history a.own space user c.args.now details) AllUpdated (update_item a.own space user c.args.now) details c.update_items.new.results.items (made.Updated c.update_items.new.results)
+    (λ R marks. ap (λ (o : Option Status). unless o R (items AllUpdated (update_item a.own space user c.args.now) details R) marks) taken) c.update_items.ensures.acts refl

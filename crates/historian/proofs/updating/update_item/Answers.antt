@@ -1,0 +1,63 @@
+use Rattle.std.proofs.Common.{◌≡◌, ◌∙◌, List, ◌∷◌, Option, Some, None, Ok, Err, refl, sym, ap, subst}
+use Rattle.std.specs.Prelude.{Result}
+use Rattle.std.specs.Option.{option_map}
+use Rattle.ua_binary.specs.declared.codes.Status.{Status}
+use Rattle.ua_binary.specs.declared.values.NodeId.{NodeId}
+use Rattle.ua_binary.specs.Binary.{node_of}
+use Rattle.ua_variant.specs.declared.value.ValueType.{ValueType}
+use Rattle.ua_services.specs.Updates.{Details, details_of}
+use Rattle.archive.specs.Steps.{give}
+use Rattle.archive.specs.Store.{Fine, Starved}
+use Rattle.hist_update.specs.declared.request.Request.{Request}
+use Rattle.historian.specs.Updating.{node_asked, found, type_asked, update_of, update_by, asked_for, update_item}
+use Rattle.historian.proofs.Items.{acts-none, acts-starved, acts-past}
+use Rattle.historian.proofs.Updates.{update-for}
+use Rattle.historian.proofs.updating.update_item.Goals as goal
+
+pub returns-in_default-clause-acts : goal.returns-in_default-clause-acts
+returns-in_default-clause-acts g c =
+    let s = g.A.Archive.state c.args.archive.now in
+    let space = c.args.space.now in
+    let details = details_of c.args.details.now in
+    let request = asked_for c.args.user.now c.args.now in
+    let node : node_asked details ≡ None = sym c.node_asked.ensures ∙ ap (option_map node_of) c.in_default.is in
+    acts-none s (update_item s.own space c.args.user.now c.args.now details) c.refused.result (λ R marks.
+    ap (λ o. update_by s.own request details R (type_asked space o) marks) node ∙ ap (λ x. give (x, R) marks) (sym c.refused.ensures.told))
+
+pub returns-in-Err-clause-acts : goal.returns-in-Err-clause-acts
+returns-in-Err-clause-acts g c =
+    let s = g.A.Archive.state c.args.archive.now in
+    let space = c.args.space.now in
+    let details = details_of c.args.details.now in
+    let request = asked_for c.args.user.now c.args.now in
+    let node : node_asked details ≡ Some (node_of c.in-Some.node) = sym c.node_asked.ensures ∙ ap (option_map node_of) c.in-Some.is in
+    acts-none s (update_item s.own space c.args.user.now c.args.now details) c.refused-in-Err.result (λ R marks.
+    ap (λ o. update_by s.own request details R (type_asked space o) marks) node
+    ∙ ap (λ t. update_by s.own request details R t marks) (sym c.type_of.ensures.told ∙ c.in-Err.is)
+    ∙ ap (λ x. give (x, R) marks) (sym c.refused-in-Err.ensures.told))
+
+pub returns-in-Err-asked_for-clause-acts : goal.returns-in-Err-asked_for-clause-acts
+returns-in-Err-asked_for-clause-acts g c =
+    let s = g.A.Archive.state c.args.archive.now in
+    let space = c.args.space.now in
+    let details = details_of c.args.details.now in
+    let request = asked_for c.args.user.now c.args.now in
+    let node : node_asked details ≡ Some (node_of c.in-Some.node) = sym c.node_asked.ensures ∙ ap (option_map node_of) c.in-Some.is in
+    acts-starved s (update_item s.own space c.args.user.now c.args.now details) c.refused-in-Err-asked_for.result (λ R later.
+    ap (λ o. update_by s.own request details R (type_asked space o) (Starved ∷ later)) node
+    ∙ ap (λ t. update_by s.own request details R t (Starved ∷ later)) (sym c.type_of.ensures.told ∙ c.in-Ok.is)
+    ∙ ap (λ x. give (x, R) later) (sym c.refused-in-Err-asked_for.ensures.told))
+
+pub returns-in-Ok-asked_for-clause-acts : goal.returns-in-Ok-asked_for-clause-acts
+returns-in-Ok-asked_for-clause-acts g c =
+    let a = g.A.Archive.state c.args.archive.now in
+    let b = g.A.Archive.state c.update_of.new.archive in
+    let space = c.args.space.now in
+    let details = details_of c.args.details.now in
+    let request = asked_for c.args.user.now c.args.now in
+    let type = c.in-Ok.value_type in
+    let node : node_asked details ≡ Some (node_of c.in-Some.node) = sym c.node_asked.ensures ∙ ap (option_map node_of) c.in-Some.is in
+    acts-past a b (update_item a.own space c.args.user.now c.args.now details) (update_of a.own (λ _. c.in-Ok-asked_for.request) type details) c.update_of.result c.update_of.ensures.acts (λ R marks.
+    ap (λ o. update_by a.own request details R (type_asked space o) (Fine ∷ marks)) node
+    ∙ ap (λ t. update_by a.own request details R t (Fine ∷ marks)) (sym c.type_of.ensures.told ∙ c.in-Ok.is)
+    ∙ update-for a.own request c.in-Ok-asked_for.request type details (node_of c.in-Some.node) R marks node (sym c.in-Ok-asked_for.ensures))

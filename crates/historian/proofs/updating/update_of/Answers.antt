@@ -1,0 +1,30 @@
+use Rattle.std.proofs.Common.{◌≡◌, ◌∙◌, ℤ, List, FitsSigned, refl, sym, ap, subst, arith}
+use Rattle.std.specs.Int.{w32}
+use Rattle.std.proofs.lemmas.Int.{to_z-of_z, ints}
+use Rattle.archive.specs.Store.{Mark}
+use Rattle.archive.specs.Steps.{Acts}
+use Rattle.ua_services.specs.Updates.{Details, details_of}
+use Rattle.historian.specs.Updating.{update_of}
+use Rattle.hist_update.specs.Updates.{update_data}
+use Rattle.archive.specs.Steps.{give}
+use Rattle.historian.proofs.Items.{acts-none, acts-same}
+use Rattle.historian.proofs.updating.update_of.Goals as goal
+
+pub returns-in-UpdateData-clause-acts : goal.returns-in-UpdateData-clause-acts
+returns-in-UpdateData-clause-acts g c =
+    let a = g.A.Archive.state c.args.archive.now in
+    let b = g.A.Archive.state c.update_data.new.archive in
+    let perform = c.in-UpdateData.details.perform in
+    let fits : FitsSigned w32 perform = omega (arith, ints) in
+    let P : ℤ → Type 0 = λ n. (used : List Mark) × Acts a b used (update_data a.own c.args.request.now c.args.value_type n c.as_slice-values.result.now) c.update_data.result in
+    acts-same a b (update_data a.own c.args.request.now c.args.value_type perform c.as_slice-values.result.now) (update_of a.own (λ _. c.args.request.now) c.args.value_type (details_of c.args.details.now)) c.update_data.result
+    (λ R marks.
+    ap (λ l. update_data a.own c.args.request.now c.args.value_type perform l R marks) c.as_slice-values.ensures
+    ∙ ap (λ d. update_of a.own (λ _. c.args.request.now) c.args.value_type (details_of d) R marks) (sym c.in-UpdateData.is))
+    (subst P (to_z-of_z w32 perform fits) (c.update_data.ensures.acts.0, c.update_data.ensures.acts.1))
+
+pub returns-in-Other-clause-acts : goal.returns-in-Other-clause-acts
+returns-in-Other-clause-acts g c =
+    let a = g.A.Archive.state c.args.archive.now in
+    acts-none a (update_of a.own (λ _. c.args.request.now) c.args.value_type (details_of c.args.details.now)) c.refused.result (λ R marks.
+    ap (λ d. update_of a.own (λ _. c.args.request.now) c.args.value_type (details_of d) R marks) c.in-Other.is ∙ ap (λ x. give (x, R) marks) (sym c.refused.ensures.told))

@@ -1,0 +1,225 @@
+//! HistoryUpdate (Part 4, 5.11.5).
+
+ghost use Rattle.std.specs.Prelude.{◌≡◌, ◌≤◌, ◌∷◌, [], List, map, length, All, IfOk, option_map, vec_capacity};
+ghost use Rattle.std.specs.List.{AllByRecursion};
+ghost use Rattle.ua_binary.specs.Binary.{node_of};
+ghost use Rattle.ua_session.specs.Users.{IsUserName};
+ghost use Rattle.ua_services.specs.Updates.{details_of, HasShortValues, IsShortUpdate};
+ghost use Rattle.ua_space.specs.Space.{node_at};
+ghost use Rattle.archive.specs.Store.{Mark};
+ghost use Rattle.archive.specs.Steps.{Acts, each};
+ghost use Rattle.hist_update.specs.Outcome.{IsRequest, id_length};
+ghost use Rattle.hist_update.specs.Updates.{refused};
+ghost use Rattle.historian.specs.declared.service.Service.TheVariants as service;
+ghost use Rattle.historian.specs.Updating.{node_asked, found, update_of, asked_for, update_item, update_history};
+ghost use Rattle.historian.specs.Requests.{call_in};
+ghost use Rattle.historian.specs.Services.{site_of, answered_call};
+ghost use Rattle.historian.specs.Telling.{IsShort, Comes, Performs};
+
+use crate::answer::Answer;
+use crate::browsing::list_refusal;
+use crate::requests::history_update_request;
+use archive::Archive;
+use hist_update::{Request, delete_at, delete_raw, update_data};
+use std::alloc::{AllocError, Global};
+use ua_binary::{Cursor, Listing, NodeIdRef, Status, Text, Ticks};
+use ua_services::{HistoryUpdateDetails, HistoryUpdateResult};
+use ua_session::Sessions;
+use ua_settings::Settings;
+use ua_space::Space;
+use ua_variant::ValueType;
+
+/// The most details of a HistoryUpdate.
+const MOST_UPDATES: usize = 100;
+
+/// An update that is refused as a whole; it takes no memory.
+fn refused(alloc: Global, status: Status) -> HistoryUpdateResult
+    ensures told { result ≡ refused status }
+    ensures short { IsShortUpdate result }
+{
+    HistoryUpdateResult {
+        status,
+        operation_results: Listing::new(alloc),
+    }
+}
+
+/// The node of which details ask an update; none for details of another type.
+fn node_asked<'a>(details: &HistoryUpdateDetails<'a>) -> Option<NodeIdRef<'a>>
+    ensures { option_map node_of result ≡ node_asked (details_of details.now) }
+{
+    match details {
+        HistoryUpdateDetails::UpdateData(details) => Some(details.node_id),
+        HistoryUpdateDetails::DeleteRawModified(details) => Some(details.node_id),
+        HistoryUpdateDetails::DeleteAtTime(details) => Some(details.node_id),
+        HistoryUpdateDetails::Other => None,
+    }
+}
+
+/// The type of an archived variable. Its id has at most 256 bytes.
+fn type_of(space: &Space, node: NodeIdRef<'_>) -> Result<ValueType, Status>
+    ensures told { result ≡ found (node_at space.now (node_of node.entry)) }
+    ensures short { IfOk result (λ _. id_length (node_of node.entry) ≤ 256) }
+{
+    match space.variable(node) {
+        Some(variable) => Ok(variable.value_type),
+        None => {
+            if space.has_node(node) {
+                Err(Status::BAD_HISTORY_OPERATION_UNSUPPORTED)
+            } else {
+                Err(Status::BAD_NODE_ID_UNKNOWN)
+            }
+        }
+    }
+}
+
+/// What this user asks at this moment for an update of a node.
+fn asked_for(
+    alloc: Global,
+    user: &str,
+    now: Ticks,
+    node: NodeIdRef<'_>,
+) -> Result<Request, AllocError>
+    ensures { IfOk result (λ request. request ≡ asked_for user.now now (node_of node.entry)) }
+{
+    let Ok(node) = node.to_owned(alloc) else {
+        return Err(AllocError);
+    };
+    let user = Text::from_str(alloc, user)?;
+    Ok(Request {
+        node,
+        user,
+        reading: now.0,
+    })
+}
+
+/// Updates a variable of this type.
+fn update_of<A: Archive>(
+    alloc: Global,
+    archive: &mut A,
+    request: &Request,
+    value_type: ValueType,
+    details: &HistoryUpdateDetails<'_>,
+) -> HistoryUpdateResult
+    requires request { IsRequest request.now }
+    requires values { HasShortValues (details_of details.now) }
+    ensures acts { (used : List Mark) × Acts (A.state archive.old) (A.state archive.new) used (update_of (A.state archive.old).own (λ _. request.now) value_type (details_of details.now)) result }
+    ensures short { IsShortUpdate result }
+{
+    match details {
+        HistoryUpdateDetails::UpdateData(details) => {
+            let perform = details.perform;
+            let values = details.values.as_slice();
+            update_data(alloc, archive, request, value_type, perform, values)
+        }
+        HistoryUpdateDetails::DeleteRawModified(details) => delete_raw(
+            alloc,
+            archive,
+            request,
+            details.is_delete_modified,
+            details.start_time,
+            details.end_time,
+        ),
+        HistoryUpdateDetails::DeleteAtTime(details) => {
+            delete_at(alloc, archive, request, details.times.as_slice())
+        }
+        HistoryUpdateDetails::Other => refused(alloc, Status::BAD_HISTORY_OPERATION_UNSUPPORTED),
+    }
+}
+
+/// What one of the details is answered.
+fn update_item<A: Archive>(
+    alloc: Global,
+    space: &Space,
+    archive: &mut A,
+    user: &str,
+    now: Ticks,
+    details: &HistoryUpdateDetails<'_>,
+) -> HistoryUpdateResult
+    requires user { IsUserName user.now }
+    requires values { HasShortValues (details_of details.now) }
+    ensures acts { (used : List Mark) × Acts (A.state archive.old) (A.state archive.new) used (update_item (A.state archive.old).own space.now user.now now (details_of details.now)) result }
+    ensures short { IsShortUpdate result }
+{
+    let Some(node) = node_asked(details) else {
+        return refused(alloc, Status::BAD_HISTORY_OPERATION_UNSUPPORTED);
+    };
+    let value_type = match type_of(space, node) {
+        Ok(value_type) => value_type,
+        Err(status) => return refused(alloc, status),
+    };
+    match asked_for(alloc, user, now, node) {
+        Ok(request) => update_of(alloc, archive, &request, value_type, details),
+        Err(_) => refused(alloc, Status::BAD_OUT_OF_MEMORY),
+    }
+}
+
+/// What details are answered, in order, each over what those before it left.
+fn update_items<A: Archive>(
+    alloc: Global,
+    space: &Space,
+    archive: &mut A,
+    user: &str,
+    now: Ticks,
+    items: &[HistoryUpdateDetails<'_>],
+    results: &mut Vec<HistoryUpdateResult>,
+)
+    requires user { IsUserName user.now }
+    requires values { AllByRecursion HasShortValues (map details_of items.now) }
+    requires empty { results.old.items ≡ [] }
+    requires room { length items.now ≤ vec_capacity results.old }
+    ensures acts { (used : List Mark) × Acts (A.state archive.old) (A.state archive.new) used (each (update_item (A.state archive.old).own space.now user.now now) (map details_of items.now)) results.new.items }
+    ensures count { length results.new.items ≡ length items.now }
+    ensures short { All IsShortUpdate results.new.items }
+{
+    for details in items {
+        let result = update_item(alloc, space, archive, user, now, details);
+        results.push(result).unwrap();
+    }
+}
+
+/// What a HistoryUpdate of these details is answered.
+fn update_all<A: Archive>(
+    alloc: Global,
+    space: &Space,
+    archive: &mut A,
+    user: &str,
+    now: Ticks,
+    details: &[HistoryUpdateDetails<'_>],
+) -> Result<Answer, Status>
+    requires user { IsUserName user.now }
+    requires values { AllByRecursion HasShortValues (map details_of details.now) }
+    ensures comes { Comes (A.state archive.old) (A.state archive.new) (update_history (A.state archive.old).own space.now user.now now (map details_of details.now)) result }
+    ensures short { IfOk result IsShort }
+{
+    if let Some(status) = list_refusal(MOST_UPDATES, details.len()) {
+        return Err(status);
+    }
+    let Ok(mut results) = Vec::with_capacity(alloc, details.len()) else {
+        return Err(Status::BAD_OUT_OF_MEMORY);
+    };
+    update_items(alloc, space, archive, user, now, details, &mut results);
+    Ok(Answer::Updated(results))
+}
+
+/// HistoryUpdate (Part 4, 5.11.5), in a session that was activated, whose user is the one that the records name: 1 to 100
+/// details, in order. `BAD_NOTHING_TO_DO` for none, `BAD_TOO_MANY_OPERATIONS` for more. Each of the details has a status of
+/// its own: `BAD_HISTORY_OPERATION_UNSUPPORTED` for another type of details, `BAD_NODE_ID_UNKNOWN`,
+/// `BAD_HISTORY_OPERATION_UNSUPPORTED` where the node isn't archived, `BAD_OUT_OF_MEMORY`, and then those of `update_data`,
+/// `delete_raw` and `delete_at`.
+pub(crate) fn update_history<A: Archive>(
+    alloc: Global,
+    settings: &Settings,
+    archive: &mut A,
+    sessions: &Sessions,
+    now: Ticks,
+    token: NodeIdRef<'_>,
+    request: Cursor<'_>,
+) -> Result<Answer, Status>
+    ensures performs { Performs (A.state archive.old) (A.state archive.new)
+        (answered_call (site_of settings.now (A.state archive.old)) now (node_of token.entry) (call_in service.HistoryUpdate request.entry) sessions.now) sessions.now result }
+    ensures short { IfOk result IsShort }
+{
+    let asked = history_update_request(alloc, request)?;
+    let user = sessions.user_of(token)?;
+    update_all(alloc, settings.space(), archive, user, now, &asked.details)
+}
