@@ -11,7 +11,7 @@ use Rattle.uacp.specs.declared.types.Kind.TheVariants.{Hello, Open, Close, Messa
 use Rattle.uacp.specs.declared.greeting.Hello.{Hello as HelloNumbers}
 use Rattle.uacp.specs.declared.greeting.Ack.{Ack}
 use Rattle.uacp.specs.Stream.{Piece}
-use Rattle.uacp.specs.Greeting.{hello_at, ack_of, acknowledge}
+use Rattle.uacp.specs.Greeting.{hello_at, ack_of}
 use Rattle.uacp.specs.Fault.{code_of}
 use Rattle.ua_channel.specs.Fault as channel
 use Rattle.ua_channel.specs.declared.fault.ChannelFault.{ChannelFault}

@@ -1,6 +1,6 @@
 -- What stands first in some bytes stands there whatever follows.
 use Rattle.std.proofs.Common.{sym}
-use Rattle.uacp.specs.Held.{Held, next_of, next_or, after_next}
+use Rattle.uacp.specs.Held.{Held, next_or}
 use Rattle.ua_server.specs.Turns.{IsSound}
 use Rattle.std.proofs.Common.{◌≡◌, ◌≢◌, ℕ, ◌<◌, ◌≤◌, List, [], ◌∷◌, ◌++◌, length, take, drop, Some, None, Ok, Err, refl, ◌∙◌, ap, subst, arith}
 use Rattle.std.specs.Prelude.{Option, Result}

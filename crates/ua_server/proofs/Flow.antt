@@ -1,9 +1,9 @@
 -- How the answers to item after item make the answer to a connection.
-use Rattle.std.proofs.Common.{◌≡◌, ◌≢◌, ◌≤◌, ◌<◌, ◌+◌, ◌*◌, length, arith, Bool, false, inl, inr, ℕ, ℤ, List, [], ◌∷◌, ◌++◌, Some, None, Ok, Err, refl, sym, ◌∙◌, ap, subst, append_assoc}
+use Rattle.std.proofs.Common.{◌≡◌, ◌≤◌, ◌<◌, length, arith, Bool, false, inl, inr, ℕ, List, [], ◌++◌, Some, None, Ok, Err, refl, sym, ◌∙◌, ap, subst, append_assoc}
 use Rattle.std.specs.Prelude.{Option, Result}
-use Rattle.std.specs.Io.KnownBytes.{Appends, Consumes, IsAtEnd}
-use Rattle.std.proofs.KnownBytes.{Appends-trans, Appends-nil, Consumes-trans}
-use Rattle.std.proofs.lemmas.List.{append-nil, length-append}
+use Rattle.std.specs.Io.KnownBytes.{Appends}
+use Rattle.std.proofs.KnownBytes.{Appends-trans, Appends-nil}
+use Rattle.std.proofs.lemmas.List.{append-nil}
 use Rattle.uacp.specs.Chunks.{cut, greatest}
 use Rattle.uacp.specs.Stream.{IsPartial}
 use Rattle.uacp.specs.declared.types.Header.{Header}
@@ -11,13 +11,11 @@ use Rattle.uacp.specs.declared.types.Kind.{Kind}
 use Rattle.uacp.specs.declared.types.Kind.TheVariants.{Hello, Open, Close, Message}
 use Rattle.uacp.specs.declared.types.UacpFault.{UacpFault}
 use Rattle.uacp.proofs.Streams.{Cuts, cuts}
-use Rattle.uacp.specs.Greeting.{error}
 use Rattle.ua_settings.specs.Settings.{Values}
-use Rattle.ua_binary.specs.declared.codes.TheConstants.Status.{BAD_OUT_OF_MEMORY}
 use Rattle.records.specs.Contents.{Content}
-use Rattle.archive.specs.Store.{Store, Mark, Fine, faults_of, Passes}
+use Rattle.archive.specs.Store.{Store, faults_of, Passes}
 use Rattle.archive.specs.Steps.{Moves}
-use Rattle.archive.proofs.Acting.{moves-as, moves-then}
+use Rattle.archive.proofs.Acting.{moves-then}
 use Rattle.historian.specs.Services.{Site, site_of}
 use Rattle.ua_server.specs.declared.outcome.Served.{Served}
 use Rattle.ua_server.specs.declared.outcome.Served.TheVariants.{EndOfInput, Closed, Refused}
@@ -26,15 +24,13 @@ use Rattle.ua_server.specs.declared.outcome.ServeFault.TheVariants.{Read, Write,
 use Rattle.ua_server.specs.declared.turn.Turn.{Turn}
 use Rattle.ua_server.specs.declared.turn.Turn.TheVariants.{Waits, Greets, Goes, Ends}
 use Rattle.ua_server.specs.Bytes.{AppendsPart}
-use Rattle.ua_server.specs.Given.{Outside, before, Does}
-use Rattle.ua_server.specs.Run.{Reply, Answers, answered}
-use Rattle.ua_server.specs.Client.{Client, Standing, Ending, partial, chunks, new_client, found}
-use Rattle.ua_server.specs.Turns.{Link, IsShort, IsSmall, Reaches, Turned, TurnedInto, Drained, DrainsTo, DrainedSoFar, IsOwnEnd, ServesSoFar, SendsRefusal, RefusesTurn, IsNoLess, IsOwn, Shortens, new_link, ending_of, end_of}
-use Rattle.ua_server.specs.Serving.{IsWhole, IsServed, Serves}
-use Rattle.ua_server.proofs.Outsides.{nothing, marked, before-nothing}
-use Rattle.ua_server.proofs.Runs.{answers-start, answers-item, answers-then, answers-more}
-use Rattle.ua_server.proofs.Cutting.{falls, next-some}
-use Rattle.ua_server.proofs.Turning.{turned-none, starved-turned}
+use Rattle.ua_server.specs.Given.{Outside, before}
+use Rattle.ua_server.specs.Run.{Answers}
+use Rattle.ua_server.specs.Client.{Client, Standing, Ending, chunks}
+use Rattle.ua_server.specs.Turns.{Link, IsShort, IsSmall, Reaches, Turned, TurnedInto, Drained, DrainsTo, DrainedSoFar, IsOwnEnd, IsNoLess, IsOwn, Shortens, new_link, ending_of, end_of}
+use Rattle.ua_server.proofs.Outsides.{nothing}
+use Rattle.ua_server.proofs.Runs.{answers-then}
+use Rattle.ua_server.proofs.Turning.{turned-none}
 
 -- ---- stretches of one answer
 

@@ -1,10 +1,9 @@
 -- Steps that get something from outside.
-use Rattle.std.proofs.Common.{◌≡◌, ℤ, Bool, true, false, List, [], ◌∷◌, ◌++◌, refl, sym, ap, ◌∙◌, append_assoc}
+use Rattle.std.proofs.Common.{◌≡◌, ℤ, List, [], ◌∷◌, refl, ap, ◌∙◌, append_assoc}
 use Rattle.std.proofs.lemmas.List.{append-nil}
-use Rattle.ua_binary.specs.declared.values.Ticks.{Ticks}
 use Rattle.archive.specs.Store.{Mark, Fine, Starved}
-use Rattle.archive.specs.Steps.{Marked, step, Does as DoesMarked}
-use Rattle.ua_server.specs.Given.{Outside, before, Given, give, and_then, by_marks, is_starved, made, clock, Does}
+use Rattle.archive.specs.Steps.{Marked, Does as DoesMarked}
+use Rattle.ua_server.specs.Given.{Outside, before, Given, give, and_then, by_marks, made, clock, Does}
 
 outside_same : (m n : List Mark) (r s : List ℤ) → m ≡ n → r ≡ s → ◌≡◌ {A = Outside} (record { marks = m; readings = r }) (record { marks = n; readings = s })
 outside_same m n r s e f =

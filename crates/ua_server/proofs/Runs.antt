@@ -1,7 +1,7 @@
 -- How answers to streams are put together.
 use Rattle.std.proofs.Common.{◌≡◌, ℕ, zero, suc, ◌+◌, ◌<◌, ◌≤◌, List, [], ◌++◌, length, drop, Some, None, refl, sym, ◌∙◌, ap, subst, arith, append_assoc, add-one}
 use Rattle.std.specs.Prelude.{Option}
-use Rattle.std.proofs.lemmas.List.{length-drop, length-append, append-nil, drop-append-le}
+use Rattle.std.proofs.lemmas.List.{length-drop, length-append, drop-append-le}
 use Rattle.ua_server.specs.Given.{Outside, before, Does}
 use Rattle.ua_server.specs.Run.{Reply, Answer, Protocol, joined_by, joined, stepped, run, answered, Answers}
 use Rattle.ua_server.proofs.Outsides.{before-before, nothing}

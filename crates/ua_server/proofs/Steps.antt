@@ -1,6 +1,6 @@
 -- What the steps of answering one chunk do.
-use Rattle.std.proofs.Common.{◌≡◌, ℕ, ℤ, ◌==◌, Bool, true, false, List, [], ◌∷◌, ◌++◌, length, Some, None, Ok, Err, refl, sym, ◌∙◌, ap, subst}
-use Rattle.std.specs.Prelude.{Option, Result, if◌then◌else◌}
+use Rattle.std.proofs.Common.{◌≡◌, ℕ, ℤ, List, [], ◌∷◌, ◌++◌, Some, None, Ok, Err, refl, sym, ◌∙◌, ap, subst}
+use Rattle.std.specs.Prelude.{Option, Result}
 use Rattle.std.proofs.lemmas.List.{append-nil}
 use Rattle.ua_binary.specs.declared.codes.Status.{Status}
 use Rattle.ua_binary.specs.declared.codes.TheConstants.Status.{BAD_OUT_OF_MEMORY, BAD_TCP_MESSAGE_TYPE_INVALID}
@@ -18,29 +18,28 @@ use Rattle.ua_channel.specs.declared.fault.ChannelFault.{ChannelFault}
 use Rattle.ua_channel.specs.declared.fault.ChannelFault.TheVariants as fault
 use Rattle.ua_channel.specs.declared.taken.OpenRequest.{OpenRequest}
 use Rattle.ua_channel.specs.declared.taken.Taken.{Taken}
-use Rattle.ua_channel.specs.declared.taken.Taken.TheVariants as taken
-use Rattle.ua_channel.specs.Placed.{Placed, judged}
+use Rattle.ua_channel.specs.Placed.{Placed}
 use Rattle.ua_channel.specs.Taking.{State, fresh, after as heard_after, Refuses as RefusesChunk, Takes as TakesChunk}
-use Rattle.ua_channel.specs.Sending.{opened_chunk, number_after, message_bytes, chunk_count, Writes}
+use Rattle.ua_channel.specs.Sending.{opened_chunk, number_after, message_bytes, chunk_count}
 use Rattle.ua_session.specs.Sessions as session
 use Rattle.records.specs.Contents.{Content}
 use Rattle.archive.specs.Store.{Store, Mark, Fine, Starved, faults_of, Passes}
-use Rattle.archive.specs.Steps.{Moves, Acts, Does as DoesMarked}
+use Rattle.archive.specs.Steps.{Acts}
 use Rattle.archive.proofs.Calls.{passes-none}
-use Rattle.archive.proofs.Acting.{moves-as, faults-append}
+use Rattle.archive.proofs.Acting.{faults-append}
 use Rattle.historian.specs.Services.{Site, Outcome, answered as performed}
 use Rattle.historian.specs.Requests.{handle_of}
 use Rattle.historian.specs.Answers.{Response, response, service_fault}
-use Rattle.ua_server.specs.declared.outcome.Served.TheVariants.{Closed, Refused}
+use Rattle.ua_server.specs.declared.outcome.Served.TheVariants.{Closed}
 use Rattle.ua_server.specs.declared.outcome.ServeFault.{ServeFault}
 use Rattle.ua_server.specs.declared.outcome.ServeFault.TheVariants.{OutOfMemory}
 use Rattle.ua_server.specs.declared.turn.Turn.{Turn}
 use Rattle.ua_server.specs.declared.turn.Turn.TheVariants.{Waits, Greets, Goes, Ends}
-use Rattle.ua_server.specs.Given.{Outside, before, Given, give, and_then, by_marks, made, clock, Does}
+use Rattle.ua_server.specs.Given.{Outside, before, give, and_then, by_marks, made, clock, Does}
 use Rattle.ua_server.specs.Run.{Reply}
-use Rattle.ua_server.specs.Client.{Client, Standing, Ending, Answering, ends, goes, refuse, with_limit, acknowledged, greeted, opened, fitted, sent, told, responded, answered_come, answered_placed, answered_on, answered_piece, tried_on, tried}
-use Rattle.ua_server.specs.Turns.{Replies, Answered, AnsweredHere, RefusesTurn, SendsTurn, ending_of, went, behind, standing_of}
-use Rattle.ua_server.proofs.Outsides.{marked, read, nothing, does-give, does-then, does-marked, does-clock, does-made, does-starved}
+use Rattle.ua_server.specs.Client.{Client, Standing, Ending, Answering, ends, goes, refuse, acknowledged, greeted, opened, fitted, told, responded, answered_come, answered_placed, answered_on, answered_piece}
+use Rattle.ua_server.specs.Turns.{tried_on, tried, Replies, Answered, AnsweredHere, RefusesTurn, SendsTurn, ending_of, went, behind, standing_of}
+use Rattle.ua_server.proofs.Outsides.{marked, read, nothing, does-then, does-marked, does-clock, does-made, does-starved}
 
 -- ---- replies
 

@@ -1,7 +1,7 @@
 -- What one item's answer is in the answer to the stream.
-use Rattle.std.proofs.Common.{◌≡◌, ◌≢◌, ◌==◌, ℕ, ℤ, ◌+◌, ◌*◌, ◌<◌, ◌≤◌, Bool, true, false, List, [], ◌∷◌, ◌++◌, length, take, drop, Some, None, Ok, Err, refl, sym, ◌∙◌, ap, subst, arith}
+use Rattle.std.proofs.Common.{◌≡◌, ◌≢◌, ◌==◌, ℕ, ◌+◌, ◌<◌, ◌≤◌, Bool, true, false, List, [], ◌∷◌, ◌++◌, length, drop, Some, None, Ok, Err, refl, sym, ◌∙◌, ap, subst, arith}
 use Rattle.std.specs.Prelude.{Option, Result, max, if◌then◌else◌}
-use Rattle.std.proofs.lemmas.List.{append-nil, length-append, length-drop}
+use Rattle.std.proofs.lemmas.List.{append-nil, length-drop}
 use Rattle.std.proofs.lemmas.Bool.Decides.{nat_tests}
 use Rattle.ua_binary.specs.declared.codes.Status.{Status}
 use Rattle.ua_binary.specs.declared.codes.TheConstants.Status.{BAD_OUT_OF_MEMORY}
@@ -16,24 +16,22 @@ use Rattle.ua_channel.specs.Taking.{State, piece_of}
 use Rattle.ua_session.specs.Sessions as session
 use Rattle.ua_settings.specs.Settings.{Values}
 use Rattle.records.specs.Contents.{Content}
-use Rattle.archive.specs.Store.{Store, Mark, Fine, Starved, faults_of}
-use Rattle.archive.specs.Steps.{Moves}
+use Rattle.archive.specs.Store.{Store, Mark, Fine, Starved}
 use Rattle.archive.proofs.Acting.{moves-as, moves-none}
-use Rattle.historian.specs.Services.{Site, site_of}
-use Rattle.ua_server.specs.declared.outcome.Served.{Served}
+use Rattle.historian.specs.Services.{site_of}
 use Rattle.ua_server.specs.declared.outcome.ServeFault.{ServeFault}
 use Rattle.ua_server.specs.declared.outcome.Served.TheVariants.{EndOfInput, Closed, Refused}
 use Rattle.ua_server.specs.declared.outcome.ServeFault.TheVariants.{Read, Write, TooLong, OutOfMemory}
 use Rattle.ua_server.specs.declared.turn.Turn.{Turn}
 use Rattle.ua_server.specs.declared.turn.Turn.TheVariants.{Waits, Greets, Goes, Ends}
-use Rattle.ua_server.specs.Given.{Outside, before, Given, give, made, Does}
-use Rattle.ua_server.specs.Run.{Reply, Answers}
-use Rattle.ua_server.specs.Client.{Client, Standing, Ending, Answering, Item, whole, ill, partial, ends, refuse, answered_item, answered_piece, answer, found, next, chunks, tried}
-use Rattle.ua_server.specs.Turns.{Link, link_of, IsShort, Replies, Answered, AnsweredHere, Reaches, Turned, TurnedInto, RefusesTurn, IsSound, IsChunkLess, GivesOne, LeavesIntake, IsOwn, IsCounted, IsNoLess, IsSmall, Shortens, ending_of, behind, went, standing_of}
-use Rattle.ua_server.proofs.Outsides.{marked, nothing, before-before, does-made, does-starved, does-give}
+use Rattle.ua_server.specs.Given.{Outside, give, made, Does}
+use Rattle.ua_server.specs.Run.{Reply}
+use Rattle.ua_server.specs.Client.{Client, Standing, Ending, Answering, Item, whole, ill, partial, ends, refuse, answered_item, answered_piece, answer, found, next, chunks}
+use Rattle.ua_server.specs.Turns.{tried, Link, link_of, Replies, Answered, Reaches, Turned, TurnedInto, RefusesTurn, IsSound, GivesOne, LeavesIntake, IsOwn, IsCounted, ending_of}
+use Rattle.ua_server.proofs.Outsides.{marked, nothing}
 use Rattle.ua_server.proofs.Runs.{answers-start, answers-item, answers-end}
 use Rattle.ua_server.proofs.Cutting.{falls, next-some, some_more, chunk-stands, fault-stands}
-use Rattle.ua_server.proofs.Steps.{here-refused, here-starved, here-fine, answered-here, answered-by, replies-by}
+use Rattle.ua_server.proofs.Steps.{here-refused, here-starved, here-fine, answered-here, answered-by}
 
 at : Link → Content → Standing
 at link R = record { client = link.client; content = R }

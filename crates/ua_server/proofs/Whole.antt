@@ -1,6 +1,6 @@
 -- How stretches of the answer make the answer to a connection.
-use Rattle.std.proofs.Common.{◌≡◌, ◌≢◌, ◌≤◌, ◌<◌, ◌+◌, ◌*◌, length, arith, ℕ, ℤ, List, [], ◌∷◌, ◌++◌, take, Some, None, Ok, Err, refl, sym, ◌∙◌, ap, subst, append_assoc}
-use Rattle.std.specs.Prelude.{Option, Result}
+use Rattle.std.proofs.Common.{◌≡◌, ◌<◌, length, arith, ℕ, List, [], ◌∷◌, ◌++◌, Some, None, Ok, Err, refl, sym, ◌∙◌, ap, subst, append_assoc}
+use Rattle.std.specs.Prelude.{Option}
 use Rattle.std.specs.Io.KnownBytes.{Appends, Consumes, Keeps, IsAtEnd}
 use Rattle.std.proofs.KnownBytes.{Appends-trans, Appends-nil, Consumes-trans, Consumes-nil, Consumes-kept}
 use Rattle.std.proofs.lemmas.List.{append-nil, length-append}
@@ -17,12 +17,11 @@ use Rattle.ua_server.specs.declared.outcome.Served.{Served}
 use Rattle.ua_server.specs.declared.outcome.Served.TheVariants.{EndOfInput, Closed, Refused}
 use Rattle.ua_server.specs.declared.outcome.ServeFault.{ServeFault}
 use Rattle.ua_server.specs.declared.outcome.ServeFault.TheVariants.{Read, Write, TooLong, OutOfMemory}
-use Rattle.ua_server.specs.declared.turn.Turn.{Turn}
-use Rattle.ua_server.specs.declared.turn.Turn.TheVariants.{Waits, Greets, Goes, Ends}
-use Rattle.ua_server.specs.Given.{Outside, before, Does}
-use Rattle.ua_server.specs.Run.{Reply, Answer, Answers, answered, joined}
-use Rattle.ua_server.specs.Client.{Client, Standing, Ending, Item, partial, chunks, new_client, found, next}
-use Rattle.ua_server.specs.Turns.{Link, IsShort, IsSmall, Reaches, Turned, TurnedInto, Drained, DrainsTo, IsOwnEnd, ServesSoFar, SendsRefusal, RefusesTurn, IsNoLess, new_link, ending_of}
+use Rattle.ua_server.specs.declared.turn.Turn.TheVariants.{Ends}
+use Rattle.ua_server.specs.Given.{Outside, before}
+use Rattle.ua_server.specs.Run.{Reply, Answer, Answers, answered}
+use Rattle.ua_server.specs.Client.{Client, Standing, Ending, partial, chunks, new_client, found, next}
+use Rattle.ua_server.specs.Turns.{Link, IsShort, Reaches, Turned, Drained, IsOwnEnd, ServesSoFar, SendsRefusal, new_link}
 use Rattle.ua_server.specs.Serving.{IsWhole, IsServed, Serves}
 use Rattle.ua_server.proofs.Outsides.{nothing, marked, before-before}
 use Rattle.ua_server.proofs.Runs.{answered-step, answered-item, answers-more, joined-same}

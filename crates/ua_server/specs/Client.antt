@@ -1,11 +1,11 @@
 -- What a client's chunks are answered, one after the other (Part 6, 6.7 and 7.1; Part 4, 7.33 to 7.35).
-use Rattle.std.specs.Prelude.{ℕ, ◌+◌, ◌==◌, if◌then◌else◌, Bool, true, false, List, [], ◌∷◌, take, drop, length, Option, None, Some, Result, Ok, Err}
+use Rattle.std.specs.Prelude.{ℕ, ◌+◌, ◌==◌, if◌then◌else◌, Bool, true, false, List, [], ◌∷◌, length, Option, None, Some, Result, Ok, Err}
 use Rattle.ua_binary.specs.declared.codes.Status.{Status}
 use Rattle.ua_binary.specs.declared.codes.TheConstants.Status.{BAD_OUT_OF_MEMORY, BAD_RESPONSE_TOO_LARGE, BAD_TCP_MESSAGE_TYPE_INVALID}
 use Rattle.ua_binary.specs.declared.values.Ticks.{Ticks}
 use Rattle.uacp.specs.declared.types.Header.{Header}
 use Rattle.uacp.specs.declared.types.Kind.{Kind}
-use Rattle.uacp.specs.declared.types.Kind.TheVariants.{Hello, Open, Close, Message}
+use Rattle.uacp.specs.declared.types.Kind.TheVariants.{Hello}
 use Rattle.uacp.specs.declared.types.UacpFault.{UacpFault}
 use Rattle.uacp.specs.declared.greeting.Hello.{Hello as HelloNumbers}
 use Rattle.uacp.specs.declared.greeting.Ack.{Ack}
@@ -25,7 +25,7 @@ use Rattle.ua_session.specs.Sessions as session
 use Rattle.records.specs.Contents.{Content}
 use Rattle.historian.specs.Services.{Site, Outcome, answered as performed}
 use Rattle.historian.specs.Requests.{handle_of}
-use Rattle.historian.specs.Answers.{Response, response, service_fault}
+use Rattle.historian.specs.Answers.{response, service_fault}
 use Rattle.ua_server.specs.declared.outcome.Served.{Served}
 use Rattle.ua_server.specs.declared.outcome.Served.TheVariants.{EndOfInput, Closed, Refused}
 use Rattle.ua_server.specs.declared.outcome.ServeFault.{ServeFault}
@@ -133,14 +133,6 @@ answered_on site standing (Some state) piece = answered_placed site standing sta
 abbrev pub answered_piece : Site → Standing → Kind → Piece → Answering
 answered_piece site standing Hello piece = greeted standing (hello_at piece.body)
 answered_piece site standing kind piece = answered_on site standing standing.client.channel piece
-
--- memory for a chunk of the channel is had, and it is answered; or it is wanting
-abbrev pub tried_on : Site → Standing → Option State → Piece → Answering
-tried_on site standing channel piece = made (answered_on site standing channel piece) (refuse standing BAD_OUT_OF_MEMORY)
-
--- the same of any chunk
-abbrev pub tried : Site → Standing → Piece → Answering
-tried site standing piece = made (answered_piece site standing piece.kind piece) (refuse standing BAD_OUT_OF_MEMORY)
 
 -- ---- connections
 

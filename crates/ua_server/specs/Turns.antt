@@ -1,7 +1,9 @@
 -- What the server's steps come to.
-use Rattle.std.specs.Prelude.{◌≡◌, ◌≤◌, ◌<◌, ◌+◌, ◌*◌, ℕ, Bool, true, List, [], ◌++◌, length, Option, None, Some, Result, Ok, Err}
+use Rattle.std.specs.Prelude.{◌≡◌, ◌≤◌, ◌<◌, ◌+◌, ◌*◌, ℕ, true, List, [], ◌++◌, length, Option, None, Some, Result, Ok, Err}
 use Rattle.std.specs.Io.KnownBytes.{Appends, Consumes}
 use Rattle.ua_binary.specs.declared.codes.Status.{Status}
+use Rattle.ua_binary.specs.declared.codes.TheConstants.Status.{BAD_OUT_OF_MEMORY}
+use Rattle.uacp.specs.Stream.{Piece}
 use Rattle.uacp.specs.Held.{Held, next_of}
 use Rattle.uacp.specs.Chunks.{cut}
 use Rattle.uacp.specs.Greeting.{error}
@@ -14,14 +16,14 @@ use Rattle.archive.specs.Store.{Store, Mark, faults_of}
 use Rattle.archive.specs.Steps.{Moves}
 use Rattle.historian.specs.Services.{Site, site_of}
 use Rattle.ua_server.specs.declared.outcome.Served.{Served}
-use Rattle.ua_server.specs.declared.outcome.Served.TheVariants.{EndOfInput, Closed, Refused}
+use Rattle.ua_server.specs.declared.outcome.Served.TheVariants.{EndOfInput, Refused}
 use Rattle.ua_server.specs.declared.outcome.ServeFault.{ServeFault}
 use Rattle.ua_server.specs.declared.outcome.ServeFault.TheVariants.{Read, Write, TooLong, OutOfMemory}
 use Rattle.ua_server.specs.declared.turn.Turn.{Turn}
 use Rattle.ua_server.specs.declared.turn.Turn.TheVariants.{Waits, Greets, Goes, Ends}
-use Rattle.ua_server.specs.Given.{Outside, Does}
-use Rattle.ua_server.specs.Run.{Reply, Answers}
-use Rattle.ua_server.specs.Client.{Client, new_client, Standing, Ending, Answering, chunks, goes}
+use Rattle.ua_server.specs.Given.{Outside, made, Does}
+use Rattle.ua_server.specs.Run.{Answers}
+use Rattle.ua_server.specs.Client.{Client, new_client, Standing, Ending, Answering, refuse, answered_on, answered_piece, chunks}
 
 -- what a connection keeps: what is known of its client, and the bytes that came and weren't answered yet
 pub record Link : Type 0 where
@@ -110,6 +112,14 @@ pub record AnsweredHere (given : Content → Answering) (used : List Mark) (befo
   pub made : List ℕ
   pub appended : after ≡ before ++ made
   pub replies : (R : Content) → Replies (given R) (record { marks = used; readings = [] }) made ending client R
+
+-- memory for a chunk of the channel is had, and it is answered; or it is wanting
+abbrev pub tried_on : Site → Standing → Option State → Piece → Answering
+tried_on site standing channel piece = made (answered_on site standing channel piece) (refuse standing BAD_OUT_OF_MEMORY)
+
+-- the same of any chunk
+abbrev pub tried : Site → Standing → Piece → Answering
+tried site standing piece = made (answered_piece site standing piece.kind piece) (refuse standing BAD_OUT_OF_MEMORY)
 
 -- ---- stretches of the answer
 

@@ -5,8 +5,8 @@ ghost use Rattle.archive.specs.Store.{Mark};
 ghost use Rattle.ua_channel.specs.Taking.{LeavesReady, piece_of};
 ghost use Rattle.historian.specs.Services.{site_of};
 ghost use Rattle.ua_server.specs.Given.{Outside};
-ghost use Rattle.ua_server.specs.Client.{Client, opened, answered_come, tried_on, tried};
-ghost use Rattle.ua_server.specs.Turns.{IsOwn, AnsweredHere, Answered, ending_of, behind, standing_of};
+ghost use Rattle.ua_server.specs.Client.{Client, opened, answered_come};
+ghost use Rattle.ua_server.specs.Turns.{IsOwn, AnsweredHere, Answered, ending_of, behind, standing_of, tried_on, tried};
 
 use crate::clock::Clock;
 use crate::greeting::greet;

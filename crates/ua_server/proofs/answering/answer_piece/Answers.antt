@@ -7,8 +7,8 @@ use Rattle.std.proofs.Common.{◌∷◌, [], ◌∙◌}
 use Rattle.ua_channel.specs.Taking.{piece_of}
 use Rattle.historian.specs.Services.{site_of}
 use Rattle.ua_server.specs.Given.{before}
-use Rattle.ua_server.specs.Client.{Client, tried}
-use Rattle.ua_server.specs.Turns.{ending_of, behind, standing_of}
+use Rattle.ua_server.specs.Client.{Client}
+use Rattle.ua_server.specs.Turns.{ending_of, behind, standing_of, tried}
 use Rattle.ua_server.proofs.Outsides.{marked}
 use Rattle.ua_server.proofs.Steps.{tried-hello, tried-other, answered-client, behind-same, behind-channel}
 use Rattle.ua_server.proofs.answering.answer_piece.Goals as goal

@@ -1,4 +1,4 @@
-use Rattle.std.proofs.Common.{List, ℕ, ℤ, [], ◌∷◌, Some, None, Ok, sym, subst, w64, rules}
+use Rattle.std.proofs.Common.{List, ℕ, ℤ, Some, None, Ok, sym, subst, w64, rules}
 use Rattle.std.specs.Int.RustNames.{FitsSigned}
 use Rattle.std.proofs.lemmas.Int.{to_z-of_z}
 use Rattle.ua_binary.specs.declared.values.Ticks.{Ticks}

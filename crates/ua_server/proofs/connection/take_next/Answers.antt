@@ -1,6 +1,5 @@
-use Rattle.std.proofs.Common.{[], ◌≡◌, ◌<◌, ◌==◌, true, ◌∷◌, eq-eqb, arith, refl, sym}
+use Rattle.std.proofs.Common.{[], ◌≡◌, ◌<◌, ◌==◌, true, ◌∷◌, eq-eqb, arith}
 use Rattle.archive.specs.Store.{Fine}
-use Rattle.ua_channel.specs.Taking.{piece_of}
 use Rattle.ua_server.specs.Turns.{link_of, behind, ending_of}
 use Rattle.ua_server.proofs.Outsides.{marked, nothing}
 use Rattle.ua_server.proofs.Turning.{waits-turned, chunk-turned, many-turned, fault-turned, left-waiting, gives-one, sound-one, fault-leaves, chunk-leaves, refusal-leaves, counted-one, counted-refusal, own-turn}

@@ -1,7 +1,6 @@
-use Rattle.std.proofs.Common.{Ok, refl, subst, List, ℕ}
+use Rattle.std.proofs.Common.{refl, subst, List, ℕ}
 use Rattle.ua_binary.specs.declared.codes.TheConstants.Status.{BAD_OUT_OF_MEMORY}
 use Rattle.ua_server.specs.Turns.{RefusesTurn}
-use Rattle.ua_server.specs.Client.{acknowledged}
 use Rattle.ua_server.proofs.Steps.{at, acknowledges, here-memory}
 use Rattle.ua_server.specs.Turns.{behind}
 use Rattle.ua_server.specs.Client.{goes, with_limit}

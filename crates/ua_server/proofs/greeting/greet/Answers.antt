@@ -1,4 +1,3 @@
-use Rattle.std.proofs.Common.{Ok, sym}
 use Rattle.uacp.specs.Greeting.{hello_at}
 use Rattle.ua_server.specs.Turns.{behind}
 use Rattle.ua_server.proofs.Steps.{greet-refused, greet-ungranted, greet-granted}

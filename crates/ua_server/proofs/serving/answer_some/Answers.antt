@@ -1,6 +1,5 @@
-use Rattle.std.proofs.Common.{◌≡◌, ◌≤◌, Some, None, Ok, Err, arith, refl, length}
-use Rattle.ua_server.specs.Given.{Outside, before}
-use Rattle.ua_server.specs.Turns.{IsNoLess}
+use Rattle.std.proofs.Common.{Some, None, Ok, Err, arith}
+use Rattle.ua_server.specs.Given.{before}
 use Rattle.ua_server.proofs.Outsides.{nothing}
 use Rattle.ua_server.proofs.Flow.{into-none, into-then, no-less-then, shorter-then}
 use Rattle.ua_server.proofs.serving.answer_some.Goals as goal

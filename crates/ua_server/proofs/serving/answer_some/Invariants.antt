@@ -1,4 +1,4 @@
-use Rattle.std.proofs.Common.{◌≡◌, ◌≤◌, length}
+use Rattle.std.proofs.Common.{◌≤◌, length}
 use Rattle.ua_server.specs.Given.{Outside}
 use Rattle.std.proofs.Common.{None}
 use Rattle.ua_server.specs.Turns.{IsSmall, IsNoLess, TurnedInto}

@@ -1,8 +1,8 @@
 use Rattle.std.proofs.Common.{◌≡◌, Err, arith, refl, ◌∙◌}
 use Rattle.std.proofs.lemmas.Result.{err_from_is_err_and}
 use Rattle.ua_server.specs.declared.outcome.ServeFault.TheVariants.{Write}
-use Rattle.ua_server.specs.Given.{Outside, before}
-use Rattle.ua_server.specs.Turns.{IsNoLess, ending_of}
+use Rattle.ua_server.specs.Given.{before}
+use Rattle.ua_server.specs.Turns.{ending_of}
 use Rattle.ua_server.proofs.Outsides.{nothing}
 use Rattle.ua_server.proofs.Flow.{drains-start, drains-end, drains-more, drains-part, more-shorter, own-end, no-less-then}
 use Rattle.ua_server.proofs.serving.answer_waiting.Goals as goal

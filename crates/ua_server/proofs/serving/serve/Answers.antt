@@ -1,8 +1,8 @@
-use Rattle.std.proofs.Common.{[], ◌≡◌, ◌<◌, ◌++◌, List, ℤ, ℕ, Err, Ok, None, ◌∙◌, arith, take, refl, ap, length, subst, sym}
+use Rattle.std.proofs.Common.{◌≡◌, ◌<◌, ◌++◌, List, ℤ, Err, ◌∙◌, arith, take, refl, ap, length, subst, sym}
 use Rattle.std.proofs.lemmas.Result.{err_from_is_err_and}
 use Rattle.std.proofs.lemmas.List.{length-append, length-take, append-nil}
 use Rattle.ua_server.specs.declared.outcome.ServeFault.TheVariants.{Read}
-use Rattle.ua_server.specs.Given.{Outside, before}
+use Rattle.ua_server.specs.Given.{before}
 use Rattle.ua_server.specs.Turns.{Link, IsShort, IsNoLess}
 use Rattle.ua_server.proofs.Outsides.{nothing}
 use Rattle.ua_server.proofs.Flow.{starts-short, starts-small, short-length}
