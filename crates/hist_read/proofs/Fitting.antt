@@ -1,11 +1,11 @@
 -- The bytes of a page of what is held can be counted.
-use Rattle.std.proofs.Common.{◌≡◌, ℕ, zero, suc, ◌+◌, ◌*◌, ◌<◌, ◌≤◌, ◌^◌, ◌==◌, ◌&&◌, not, min, ℤ, pos, Bool, true, false, cond, filter, reverse, List, [], ◌∷◌, ◌++◌, map, take, length, Option, Some, None, IfSome, is_some, refl, sym, ap, ◌∙◌, subst, arith, inl, inr}
+use Rattle.std.proofs.Common.{◌≡◌, ℕ, ◌+◌, ◌*◌, ◌≤◌, ◌==◌, ◌&&◌, not, min, ℤ, pos, Bool, true, false, cond, filter, reverse, List, [], ◌∷◌, map, length, Option, Some, None, IfSome, is_some, refl, sym, ap, ◌∙◌, subst, arith, inl, inr}
 use Rattle.std.specs.List.{flat_map, All}
 use Rattle.std.specs.Ordering.{int_eq}
 use Rattle.std.proofs.lemmas.List.{length-append, length-take, length-map}
 use Rattle.std.proofs.lemmas.List.Concat.{flat_map-cons}
 use Rattle.ua_binary.specs.Format.{flagged}
-use Rattle.ua_binary.specs.Binary.{unsigned, signed, ticks, status, text}
+use Rattle.ua_binary.specs.Binary.{unsigned, signed, ticks, status}
 use Rattle.ua_binary.specs.declared.values.NodeId.{NodeId}
 use Rattle.ua_binary.specs.declared.values.Ticks.{Ticks}
 use Rattle.ua_binary.specs.declared.codes.Status.{Status}
@@ -25,7 +25,7 @@ use Rattle.ua_services.specs.History.{info_fields, modification_info}
 use Rattle.ua_services.specs.declared.history.ModificationInfo.{ModificationInfo}
 use Rattle.stamp.specs.Numbers.{number_of}
 use Rattle.ua_services.specs.declared.history.ReadRawModifiedDetails.{ReadRawModifiedDetails as Details}
-use Rattle.records.specs.Lists.{Has, last}
+use Rattle.records.specs.Lists.{Has}
 use Rattle.records.specs.Contents.{Content, numbers_of, cut}
 use Rattle.records.specs.Records.{write, value_shown, held_of, current, story, entries, entries_after, is_delete}
 use Rattle.records.specs.Spelling.{longest}

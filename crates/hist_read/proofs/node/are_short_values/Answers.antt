@@ -1,4 +1,4 @@
-use Rattle.std.proofs.Common.{rules, ◌≡◌, ◌∙◌, sym, ap, subst, IsTrue}
+use Rattle.std.proofs.Common.{rules, sym, subst, IsTrue}
 use Rattle.ua_variant.specs.DataValue.{IsShortData}
 use Rattle.hist_read.specs.Short.{IsWritable}
 use Rattle.hist_read.proofs.Lists.{all_next, all_taken}

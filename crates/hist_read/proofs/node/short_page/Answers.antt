@@ -1,4 +1,4 @@
-use Rattle.std.proofs.Common.{◌≡◌, sym, subst, IsTrue}
+use Rattle.std.proofs.Common.{sym, subst, IsTrue}
 use Rattle.std.proofs.lemmas.Bool.{true≢false}
 use Rattle.hist_read.specs.Short.{IsWritableHistory}
 use Rattle.hist_read.proofs.Nodes.{found_then}
