@@ -1,5 +1,5 @@
 -- Dialogs of two replicas over memory.
-use Rattle.std.specs.Prelude.{◌≡◌, ◌⊎◌, ⊤, ℕ, ◌+◌, ◌*◌, ◌≤◌, false, List, [], length, Result, Ok, Err, IfOk, IfErr, IfSome, ◌++◌}
+use Rattle.std.specs.Prelude.{◌≡◌, ◌⊎◌, ⊤, ℕ, ◌+◌, ◌*◌, ◌≤◌, false, List, [], length, Result, Ok, Err, IfOk, IfErr, IfSome, ◌++◌, ◌∷◌, Some}
 use Rattle.records.specs.Lists.{Has}
 use Rattle.stamp.specs.Numbers.{number_of}
 use Rattle.records.specs.Contents.{Content, AreCompatible, IsWithin, join, vec}
@@ -12,8 +12,9 @@ use Rattle.exchange.specs.declared.message.Message.{Message}
 use Rattle.exchange.specs.declared.message.Message.TheVariants.{Asks, Carries, Ends}
 use Rattle.exchange.specs.declared.message.Party.{Party}
 use Rattle.exchange.specs.declared.message.State.{State}
+use Rattle.exchange.specs.declared.message.State.TheVariants.{Pulling, Pushing}
 use Rattle.exchange.specs.Frames.{kind_of, body_of, frame_of, checked, IsSpelled}
-use Rattle.exchange.specs.Dialogs.{Standing, Takes, fault_on}
+use Rattle.exchange.specs.Dialogs.{Standing, Takes, fault_on, turned}
 use Rattle.exchange.specs.Fault.{store_fault_of}
 use Rattle.exchange.specs.declared.fault.ExchangeFault.{ExchangeFault}
 use Rattle.exchange.specs.declared.fault.ExchangeFault.TheVariants as exchange
@@ -93,3 +94,32 @@ checked_title p (Ends n) = ⊤
 -- the sender's vector is at least that of the content
 abbrev pub Covers : Title → Content → Type 0
 Covers t R = (origin : ℕ) → vec R origin ≤ number_of t.vector origin
+
+-- ---- the turns of one end
+
+-- what an end held, and what it was told then
+pub record Heard : Type 0 where
+  pub content : Content
+  pub message : Message
+
+-- one turn after the other, from one state to another, where nothing comes in the way
+abbrev pub Follows : Party → State → List Heard → State → Type 0
+Follows p state [] final = final ≡ state
+Follows p state (heard ∷ later) final = (between : State) × ((turned p state heard.content heard.message).result ≡ Ok between) × Follows p between later final
+
+-- an initiator's turns up to the one by which it was done
+pub record EndsDone (p : Party) (turns : List Heard) : Type 0 where
+  pub before : List Heard
+  pub final : Heard
+  pub parts : turns ≡ before ++ (final ∷ [])
+  pub state : State
+  -- the vector that the peer sent last is at least its own: with records that are none, or in answer to records
+  pub title : Title
+  pub sent : ((state ≡ Pulling) × (final.message ≡ Carries title [])) ⊎ ((state ≡ Pushing) × (final.message ≡ Asks title))
+  pub covers : Covers title final.content
+  -- it told the peer the end
+  pub told : (turned p state final.content final.message).reply ≡ Some (Ends 0)
+
+-- records that are none answered its vector
+abbrev pub HasPulled : List Heard → Type 0
+HasPulled turns = (heard : Heard) × Has turns heard × (title : Title) × (heard.message ≡ Carries title [])
