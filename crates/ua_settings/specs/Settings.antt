@@ -1,6 +1,7 @@
 -- What a server is set to.
 use Rattle.std.specs.Prelude.{◌≤◌, List, [], ℕ, length, replicate, codes, true, Option, None, IfSome}
 use Rattle.ua_session.specs.Users.{Allowed}
+use Rattle.ua_settings.specs.declared.settings.Parts.{Parts}
 use Rattle.ua_space.specs.declared.layout.Layout.{Layout}
 
 -- the archive's id, the number of this replica of it, and the file of its store, none for memory; where the server listens, the URL of its
@@ -31,3 +32,7 @@ bare = record {
 -- a text of settings has at most 65,536 bytes
 abbrev pub IsShort : List ℕ → Type 0
 IsShort text = length text ≤ 65536
+
+-- settings of these parts
+abbrev pub values_of : Parts → Values
+values_of parts = record { archive = parts.archive; replica = parts.replica; store = parts.store; listen = parts.listen; url = parts.url; application = parts.application; users = parts.users; space = parts.space }

@@ -5,7 +5,7 @@ mod fault;
 mod settings;
 
 pub use fault::SettingsFault;
-pub use settings::Settings;
+pub use settings::{Parts, Settings};
 
 #[cfg(test)]
 mod tests;

@@ -4,7 +4,7 @@ ghost use Rattle.std.specs.Prelude.{◌≡◌, IfOk, IfErr, IfSome, ℕ, List, O
 ghost use Rattle.std.specs.Option.{option_copied};
 ghost use Rattle.ua_session.specs.Users.{Allowed};
 ghost use Rattle.ua_space.specs.declared.layout.Layout.{Layout};
-ghost use Rattle.ua_settings.specs.Settings.{bare, IsShort};
+ghost use Rattle.ua_settings.specs.Settings.{bare, IsShort, values_of};
 
 use crate::fault::SettingsFault;
 use stamp::ReplicaNo;
@@ -15,7 +15,28 @@ use ua_session::Users;
 use ua_space::{Plan, Space};
 use uuid::Uuid;
 
-/// What a server is set to. Each text has at most 65,536 bytes.
+/// What settings are made of.
+#[derive(Debug, Drop)]
+pub struct Parts {
+    /// The id of the archive.
+    pub archive: Uuid,
+    /// The number of this replica of it.
+    pub replica: ReplicaNo,
+    /// The file of its store; none for memory.
+    pub store: Option<Text>,
+    /// Where the server listens.
+    pub listen: Text,
+    /// The URL of the server's endpoint.
+    pub url: Text,
+    /// The URI of the application.
+    pub application: Text,
+    /// Who may activate a session.
+    pub users: Users,
+    /// The nodes of the server.
+    pub space: Space,
+}
+
+/// What a server is set to.
 #[derive(Debug, Drop)]
 pub struct Settings {
     archive: Uuid,
@@ -71,6 +92,24 @@ impl Settings {
             users: Users::new(alloc, true),
             space,
         })
+    }
+
+    /// The settings of these parts. The URL and the name of the application have less than 2^31 bytes each.
+    pub fn of(parts: Parts) -> Settings
+        requires url { IsShort parts.url }
+        requires application { IsShort parts.application }
+        ensures { result ≡ values_of parts }
+    {
+        Settings {
+            archive: parts.archive,
+            replica: parts.replica,
+            store: parts.store,
+            listen: parts.listen,
+            url: parts.url,
+            application: parts.application,
+            users: parts.users,
+            space: parts.space,
+        }
     }
 
     /// The id of the archive.
