@@ -17,3 +17,6 @@ mod updating;
 pub use message::answer_message;
 pub use responses::put_service_fault;
 pub use service::handle_of;
+
+#[cfg(test)]
+mod tests;
