@@ -2,7 +2,7 @@ mod rows;
 
 use super::*;
 use crate::program::archive_of;
-use rows::{ACK, ANSWER, HELLO, OPEN, OPENED, PART, REQUEST, REST, ROWS};
+use rows::{ACK, ANSWER, HELLO, OPEN, OPENED, PART, REQUEST, REST, ROWS, SESSION};
 use std::alloc::Global;
 use std::io;
 use std::io::{Read, Write};
@@ -371,6 +371,27 @@ fn reads_the_clock(rt: HostRuntime) -> Result<(), Fail> {
     assert_eq!(rt; clock.0, 0x0102_0304_0506_070A);
     // the opening's answer has 270 digits after the Acknowledge's 56, the message's timestamp comes 28 bytes into its own
     assert!(rt; out.get(382..398) == Some(b"0907060504030201".as_slice()));
+    Ok(())
+}
+
+/// Each request of a session is answered so, behind those before it.
+#[test]
+fn serves_a_session(rt: HostRuntime) -> Result<(), Fail> {
+    let mut text = joined(rt.alloc(), &[HELLO, OPEN])?;
+    let mut want = joined(rt.alloc(), &[ACK, OPENED])?;
+    for (what, request, response) in SESSION {
+        text.push_str(request)?;
+        want.push_str(response)?;
+        assert!(rt;
+            is_answered(
+                rt.alloc(),
+                text.as_str(),
+                &[want.as_str()],
+                Served::EndOfInput
+            )?,
+            "{what}"
+        );
+    }
     Ok(())
 }
 
