@@ -72,14 +72,7 @@ impl Server {
         token: &str,
         body: &str,
     ) -> Result<String, Fail> {
-        let mut digits = Vec::new(alloc);
-        for text in [type_id, token, HEADER, body] {
-            for byte in text.as_bytes() {
-                if *byte != b' ' {
-                    digits.push(*byte)?;
-                }
-            }
-        }
+        let digits = digits_of(alloc, &[type_id, token, HEADER, body])?;
         let message = hex::decode(alloc, digits.as_slice())?;
         let mut out = Vec::new(alloc);
         answer_message(
@@ -95,24 +88,31 @@ impl Server {
     }
 }
 
+/// The digits of texts in a row, without spaces.
+fn digits_of(alloc: Global, texts: &[&str]) -> Result<Vec<u8>, AllocError> {
+    let mut digits = Vec::new(alloc);
+    for text in texts {
+        for byte in text.as_bytes() {
+            if *byte != b' ' {
+                digits.push(*byte)?;
+            }
+        }
+    }
+    Ok(digits)
+}
+
 /// Whether a response is this one: a type id, the head with this status, and what stands behind it; spaces aside.
-fn is_response(found: &str, type_id: &str, status: &str, body: &str) -> bool {
-    let head = "00803ED5DEB19D0102000000";
-    let tail = "00FFFFFFFF000000";
-    let mut left = found;
-    for part in [type_id, head, status, tail] {
-        match left.strip_prefix(part) {
-            Some(rest) => left = rest,
-            None => return false,
-        }
-    }
-    for part in body.split(' ') {
-        match left.strip_prefix(part) {
-            Some(rest) => left = rest,
-            None => return false,
-        }
-    }
-    left.is_empty()
+fn is_response(
+    alloc: Global,
+    found: &String,
+    type_id: &str,
+    status: &str,
+    body: &str,
+) -> Result<bool, AllocError> {
+    let head = "00803ED5DEB19D01 02000000";
+    let tail = "00 FFFFFFFF 000000";
+    let wanted = digits_of(alloc, &[type_id, head, status, tail, body])?;
+    Ok(found.as_bytes() == wanted.as_slice())
 }
 
 /// A session of the anonymous user; its token is `ns=1;i=3`.
@@ -135,9 +135,17 @@ fn open_session(alloc: Global, server: &mut Server) -> Result<bool, Fail> {
         TOKEN,
         "FFFFFFFF FFFFFFFF FFFFFFFF FFFFFFFF 000000 FFFFFFFF FFFFFFFF",
     )?;
-    Ok(created.as_str().starts_with("0100D001")
-        && is_response(&early, "01008D01", "00002780", "")
-        && is_response(&activated, "0100D601", "00000000", "FFFFFFFF FFFFFFFF FFFFFFFF"))
+    Ok(
+        created.as_str().starts_with("0100D001")
+            && is_response(alloc, &early, "01008D01", "00002780", "")?
+            && is_response(
+                alloc,
+                &activated,
+                "0100D601",
+                "00000000",
+                "FFFFFFFF FFFFFFFF FFFFFFFF",
+            )?,
+    )
 }
 
 const TOKEN: &str = "01010300";
@@ -151,9 +159,11 @@ fn endpoints_are_told_to_clients_of_the_profile(rt: HostRuntime) -> Result<(), F
         "0000",
         "FFFFFFFF FFFFFFFF 01000000 01000000 78",
     )?;
-    assert!(rt; is_response(&none, "0100AF01", "00000000", "00000000"));
+    assert!(rt; is_response(rt.alloc(), &none, "0100AF01", "00000000", "00000000")?);
     let one = server.ask(rt.alloc(), "0100AC01", "0000", "FFFFFFFF FFFFFFFF FFFFFFFF")?;
-    assert!(rt; one.as_str().starts_with("0100AF0100803ED5DEB19D01020000000000000000FFFFFFFF00000001000000"));
+    assert!(rt;
+        one.as_str().starts_with("0100AF0100803ED5DEB19D01020000000000000000FFFFFFFF00000001000000")
+    );
     Ok(())
 }
 
@@ -167,9 +177,9 @@ fn sessions_are_made_and_activated(rt: HostRuntime) -> Result<(), Fail> {
         "01010900",
         "0000000000000000 00000000 01000000 0301000100000054 0D000000 FFFFFFFF 0000 FFFFFFFF",
     )?;
-    assert!(rt; is_response(&other, "01008D01", "00002580", ""));
+    assert!(rt; is_response(rt.alloc(), &other, "01008D01", "00002580", "")?);
     let closed = server.ask(rt.alloc(), "0100D901", TOKEN, "00")?;
-    assert!(rt; is_response(&closed, "0100DC01", "00000000", ""));
+    assert!(rt; is_response(rt.alloc(), &closed, "0100DC01", "00000000", "")?);
     Ok(())
 }
 
@@ -177,9 +187,14 @@ fn sessions_are_made_and_activated(rt: HostRuntime) -> Result<(), Fail> {
 fn what_is_no_request_is_refused(rt: HostRuntime) -> Result<(), Fail> {
     let mut server = Server::new(rt.alloc())?;
     let unknown = server.ask(rt.alloc(), "0001", "0000", "")?;
-    assert!(rt; is_response(&unknown, "01008D01", "00000B80", ""));
-    let more = server.ask(rt.alloc(), "0100AC01", "0000", "FFFFFFFF FFFFFFFF FFFFFFFF 00")?;
-    assert!(rt; is_response(&more, "01008D01", "00000780", ""));
+    assert!(rt; is_response(rt.alloc(), &unknown, "01008D01", "00000B80", "")?);
+    let more = server.ask(
+        rt.alloc(),
+        "0100AC01",
+        "0000",
+        "FFFFFFFF FFFFFFFF FFFFFFFF 00",
+    )?;
+    assert!(rt; is_response(rt.alloc(), &more, "01008D01", "00000780", "")?);
     Ok(())
 }
 
@@ -193,26 +208,73 @@ fn a_variable_is_browsed_written_and_read(rt: HostRuntime) -> Result<(), Fail> {
         TOKEN,
         "0000 0000000000000000 00000000 00000000 01000000 0055 00000000 0021 01 00000000 3F000000",
     )?;
-    assert!(rt; is_response(&browsed, "01001202", "00000000",
-        "01000000 00000000 FFFFFFFF 01000000 0023 01 0301000100000054 01000100000054 020100000054 02000000 003F FFFFFFFF"));
-    let read = "0000000000000000 02000000 01000000 0301000100000054 0D000000 FFFFFFFF 0000 FFFFFFFF";
+    assert!(rt;
+        is_response(
+            rt.alloc(),
+            &browsed,
+            "01001202",
+            "00000000",
+            "01000000 00000000 FFFFFFFF 01000000 0023 01 0301000100000054 01000100000054 020100000054 02000000 003F FFFFFFFF"
+        )?
+    );
+    let read =
+        "0000000000000000 02000000 01000000 0301000100000054 0D000000 FFFFFFFF 0000 FFFFFFFF";
     let waiting = server.ask(rt.alloc(), "01007702", TOKEN, read)?;
-    assert!(rt; is_response(&waiting, "01007A02", "00000000", "01000000 02 00003280 FFFFFFFF"));
-    let insert = "01000000 0100AA02 01 1E000000 0301000100000054 01000000 01000000 05 0607000000 0A00000000000000";
+    assert!(rt;
+        is_response(
+            rt.alloc(),
+            &waiting,
+            "01007A02",
+            "00000000",
+            "01000000 02 00003280 FFFFFFFF"
+        )?
+    );
+    let insert =
+        "01000000 0100AA02 01 1E000000 0301000100000054 01000000 01000000 05 0607000000 0A00000000000000";
     let inserted = server.ask(rt.alloc(), "0100BC02", TOKEN, insert)?;
-    assert!(rt; is_response(&inserted, "0100BF02", "00000000", "01000000 00000000 01000000 0000A200 FFFFFFFF FFFFFFFF"));
+    assert!(rt;
+        is_response(
+            rt.alloc(),
+            &inserted,
+            "0100BF02",
+            "00000000",
+            "01000000 00000000 01000000 0000A200 FFFFFFFF FFFFFFFF"
+        )?
+    );
     let again = server.ask(rt.alloc(), "0100BC02", TOKEN, insert)?;
-    assert!(rt; is_response(&again, "0100BF02", "00000000", "01000000 00000000 01000000 00009F80 FFFFFFFF FFFFFFFF"));
+    assert!(rt;
+        is_response(
+            rt.alloc(),
+            &again,
+            "0100BF02",
+            "00000000",
+            "01000000 00000000 01000000 00009F80 FFFFFFFF FFFFFFFF"
+        )?
+    );
     let value = server.ask(rt.alloc(), "01007702", TOKEN, read)?;
-    assert!(rt; is_response(&value, "01007A02", "00000000",
-        "01000000 0D 0607000000 0A00000000000000 00803ED5DEB19D01 FFFFFFFF"));
+    assert!(rt;
+        is_response(
+            rt.alloc(),
+            &value,
+            "01007A02",
+            "00000000",
+            "01000000 0D 0607000000 0A00000000000000 00803ED5DEB19D01 FFFFFFFF"
+        )?
+    );
     let history = server.ask(
         rt.alloc(),
         "01009802",
         TOKEN,
         "01008902 01 16000000 00 0100000000000000 6400000000000000 00000000 00 00000000 00 01000000 0301000100000054 FFFFFFFF 0000 FFFFFFFF FFFFFFFF",
     )?;
-    assert!(rt; is_response(&history, "01009B02", "00000000",
-        "01000000 00000000 FFFFFFFF 01009202 01 12000000 01000000 05 0607000000 0A00000000000000 FFFFFFFF"));
+    assert!(rt;
+        is_response(
+            rt.alloc(),
+            &history,
+            "01009B02",
+            "00000000",
+            "01000000 00000000 FFFFFFFF 01009202 01 12000000 01000000 05 0607000000 0A00000000000000 FFFFFFFF"
+        )?
+    );
     Ok(())
 }

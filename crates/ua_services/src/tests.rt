@@ -7,7 +7,7 @@ use ua_binary::{
     Cursor, Listing, LocalizedText, NodeId, QualifiedName, Status, Text, Ticks, TryClone,
     array_size,
 };
-use ua_variant::{DataValue, Scalar, Variant};
+use ua_variant::{DataValue, HistoryUpdateType, Scalar, Variant};
 
 #[derive(Clone, Copy, Debug)]
 enum Kind {
@@ -310,7 +310,7 @@ fn tokens(alloc: Global) -> Result<Listing<UserTokenPolicy>, AllocError> {
     Ok(Listing::of(tokens))
 }
 
-fn endpoints(alloc: Global) -> Result<Listing<EndpointDescription>, AllocError> {
+fn endpoints(alloc: Global) -> Result<Vec<EndpointDescription>, AllocError> {
     let server = server(alloc)?;
     let user_identity_tokens = tokens(alloc)?;
     let mut endpoints = Vec::new(alloc);
@@ -323,7 +323,7 @@ fn endpoints(alloc: Global) -> Result<Listing<EndpointDescription>, AllocError> 
         transport_profile_uri: text(alloc, "t")?,
         security_level: 7,
     })?;
-    Ok(Listing::of(endpoints))
+    Ok(endpoints)
 }
 
 /// An array of that endpoint.
