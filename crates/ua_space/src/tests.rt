@@ -71,11 +71,17 @@ fn attributes_are_told(rt: HostRuntime) -> Result<(), Fail> {
     let space = space_of_one(rt.alloc())?;
     let t = NodeIdRef::Named(1, "T");
     assert!(rt; space.read_attribute(t, 13) == Ok(Answered::Archived));
-    assert!(rt; space.read_attribute(t, 17) == Ok(Answered::Value(Variant::Scalar(Scalar::Byte(13)))));
+    assert!(rt;
+        space.read_attribute(t, 17) == Ok(Answered::Value(Variant::Scalar(Scalar::Byte(13))))
+    );
     assert!(rt; space.read_attribute(t, 23) == Err(Status::BAD_ATTRIBUTE_ID_INVALID));
     let state = NodeIdRef::Numeric(0, 2259);
-    assert!(rt; space.read_attribute(state, 13) == Ok(Answered::Value(Variant::Scalar(Scalar::Int32(0)))));
-    assert!(rt; space.read_attribute(NodeIdRef::Named(0, "T"), 13) == Err(Status::BAD_NODE_ID_UNKNOWN));
+    assert!(rt;
+        space.read_attribute(state, 13) == Ok(Answered::Value(Variant::Scalar(Scalar::Int32(0))))
+    );
+    assert!(rt;
+        space.read_attribute(NodeIdRef::Named(0, "T"), 13) == Err(Status::BAD_NODE_ID_UNKNOWN)
+    );
     Ok(())
 }
 
