@@ -115,166 +115,176 @@ fn is_response(
     Ok(found.as_bytes() == wanted.as_slice())
 }
 
-/// A session of the anonymous user; its token is `ns=1;i=3`.
-fn open_session(alloc: Global, server: &mut Server) -> Result<bool, Fail> {
+/// The token of the first session.
+const TOKEN: &str = "01010300";
+
+/// A request, by its type id, its token and what stands behind its header, and its response, by its type id, its status
+/// and what stands behind its head.
+type Row = (
+    &'static str,
+    &'static str,
+    &'static str,
+    &'static str,
+    &'static str,
+    &'static str,
+);
+
+/// Requests of a client, one after the other.
+static DAY: &[Row] = &[
+    // endpoints for another transport profile: none
+    (
+        "0100AC01",
+        "0000",
+        "FFFFFFFF FFFFFFFF 01000000 01000000 78",
+        "0100AF01",
+        "00000000",
+        "00000000",
+    ),
+    // bytes behind a request; no service
+    (
+        "0100AC01",
+        "0000",
+        "FFFFFFFF FFFFFFFF FFFFFFFF 00",
+        "01008D01",
+        "00000780",
+        "",
+    ),
+    ("0001", "0000", "", "01008D01", "00000B80", ""),
+    // Read in no session, and in one that wasn't activated; its activation
+    ("01007702", "01010900", READ, "01008D01", "00002580", ""),
+    ("01007702", TOKEN, READ, "01008D01", "00002780", ""),
+    (
+        "0100D301",
+        TOKEN,
+        "FFFFFFFF FFFFFFFF FFFFFFFF FFFFFFFF 000000 FFFFFFFF FFFFFFFF",
+        "0100D601",
+        "00000000",
+        "FFFFFFFF FFFFFFFF FFFFFFFF",
+    ),
+    // what Objects organizes
+    (
+        "01000F02",
+        TOKEN,
+        "0000 0000000000000000 00000000 00000000 01000000 0055 00000000 0021 01 00000000 3F000000",
+        "01001202",
+        "00000000",
+        "01000000 00000000 FFFFFFFF 01000000 0023 01 0301000100000054 01000100000054 020100000054 02000000 003F FFFFFFFF",
+    ),
+    // no value yet; an insert; the same insert again; the value
+    (
+        "01007702",
+        TOKEN,
+        READ,
+        "01007A02",
+        "00000000",
+        "01000000 02 00003280 FFFFFFFF",
+    ),
+    (
+        "0100BC02",
+        TOKEN,
+        INSERT,
+        "0100BF02",
+        "00000000",
+        "01000000 00000000 01000000 0000A200 FFFFFFFF FFFFFFFF",
+    ),
+    (
+        "0100BC02",
+        TOKEN,
+        INSERT,
+        "0100BF02",
+        "00000000",
+        "01000000 00000000 01000000 00009F80 FFFFFFFF FFFFFFFF",
+    ),
+    (
+        "01007702",
+        TOKEN,
+        READ,
+        "01007A02",
+        "00000000",
+        "01000000 0D 0607000000 0A00000000000000 00803ED5DEB19D01 FFFFFFFF",
+    ),
+    // the raw values from 1 up to 100, and their modifications
+    (
+        "01009802",
+        TOKEN,
+        "01008902 01 16000000 00 0100000000000000 6400000000000000 00000000 00 00000000 00 01000000 0301000100000054 FFFFFFFF 0000 FFFFFFFF FFFFFFFF",
+        "01009B02",
+        "00000000",
+        "01000000 00000000 FFFFFFFF 01009202 01 12000000 01000000 05 0607000000 0A00000000000000 FFFFFFFF",
+    ),
+    (
+        "01009802",
+        TOKEN,
+        "01008902 01 16000000 01 0100000000000000 6400000000000000 00000000 00 00000000 00 01000000 0301000100000054 FFFFFFFF 0000 FFFFFFFF FFFFFFFF",
+        "01009B02",
+        "00000000",
+        "01000000 00000000 FFFFFFFF 0100DB2B 01 2F000000 01000000 05 0607000000 0A00000000000000 01000000 00803ED5DEB19D01 01000000 09000000 616E6F6E796D6F7573 FFFFFFFF",
+    ),
+    // no item; moments that history isn't read with; a node that isn't there; the end of the session
+    (
+        "01007702",
+        TOKEN,
+        "0000000000000000 02000000 00000000",
+        "01008D01",
+        "00000F80",
+        "",
+    ),
+    (
+        "01009802",
+        TOKEN,
+        "01008902 01 16000000 00 0100000000000000 6400000000000000 00000000 00 03000000 00 01000000 0301000100000054 FFFFFFFF 0000 FFFFFFFF FFFFFFFF",
+        "01008D01",
+        "00002B80",
+        "",
+    ),
+    (
+        "01007702",
+        TOKEN,
+        "0000000000000000 02000000 01000000 0001 0D000000 FFFFFFFF 0000 FFFFFFFF",
+        "01007A02",
+        "00000000",
+        "01000000 02 00003480 FFFFFFFF",
+    ),
+    ("0100D901", TOKEN, "00", "0100DC01", "00000000", ""),
+    ("01007702", TOKEN, READ, "01008D01", "00002580", ""),
+];
+
+/// Reads the value of `T`, with both moments.
+const READ: &str =
+    "0000000000000000 02000000 01000000 0301000100000054 0D000000 FFFFFFFF 0000 FFFFFFFF";
+
+/// Inserts 7 at the tick 10.
+const INSERT: &str =
+    "01000000 0100AA02 01 1E000000 0301000100000054 01000000 01000000 05 0607000000 0A00000000000000";
+
+/// Whether a row is answered so.
+fn is_answered(alloc: Global, server: &mut Server, row: &Row) -> Result<bool, Fail> {
+    let (type_id, token, body, told, status, rest) = *row;
+    let found = server.ask(alloc, type_id, token, body)?;
+    Ok(is_response(alloc, &found, told, status, rest)?)
+}
+
+/// Makes a session, whose token is `ns=1;i=3`.
+fn create_session(alloc: Global, server: &mut Server) -> Result<bool, Fail> {
     let created = server.ask(
         alloc,
         "0100CD01",
         "0000",
         "FFFFFFFF FFFFFFFF 00 00000000 FFFFFFFF FFFFFFFF FFFFFFFF FFFFFFFF FFFFFFFF FFFFFFFF FFFFFFFF FFFFFFFF 0000000000000000 00000000",
     )?;
-    let early = server.ask(
-        alloc,
-        "01007702",
-        TOKEN,
-        "0000000000000000 00000000 01000000 0301000100000054 0D000000 FFFFFFFF 0000 FFFFFFFF",
-    )?;
-    let activated = server.ask(
-        alloc,
-        "0100D301",
-        TOKEN,
-        "FFFFFFFF FFFFFFFF FFFFFFFF FFFFFFFF 000000 FFFFFFFF FFFFFFFF",
-    )?;
     Ok(
-        created.as_str().starts_with("0100D001")
-            && is_response(alloc, &early, "01008D01", "00002780", "")?
-            && is_response(
-                alloc,
-                &activated,
-                "0100D601",
-                "00000000",
-                "FFFFFFFF FFFFFFFF FFFFFFFF",
-            )?,
+        created.as_bytes().starts_with(
+            b"0100D00100803ED5DEB19D01020000000000000000FFFFFFFF000000010102000101030000",
+        ),
     )
 }
 
-const TOKEN: &str = "01010300";
-
 #[test]
-fn endpoints_are_told_to_clients_of_the_profile(rt: HostRuntime) -> Result<(), Fail> {
+fn a_day_of_a_client(rt: HostRuntime) -> Result<(), Fail> {
     let mut server = Server::new(rt.alloc())?;
-    let none = server.ask(
-        rt.alloc(),
-        "0100AC01",
-        "0000",
-        "FFFFFFFF FFFFFFFF 01000000 01000000 78",
-    )?;
-    assert!(rt; is_response(rt.alloc(), &none, "0100AF01", "00000000", "00000000")?);
-    let one = server.ask(rt.alloc(), "0100AC01", "0000", "FFFFFFFF FFFFFFFF FFFFFFFF")?;
-    assert!(rt;
-        one.as_str().starts_with("0100AF0100803ED5DEB19D01020000000000000000FFFFFFFF00000001000000")
-    );
-    Ok(())
-}
-
-#[test]
-fn sessions_are_made_and_activated(rt: HostRuntime) -> Result<(), Fail> {
-    let mut server = Server::new(rt.alloc())?;
-    assert!(rt; open_session(rt.alloc(), &mut server)?);
-    let other = server.ask(
-        rt.alloc(),
-        "01007702",
-        "01010900",
-        "0000000000000000 00000000 01000000 0301000100000054 0D000000 FFFFFFFF 0000 FFFFFFFF",
-    )?;
-    assert!(rt; is_response(rt.alloc(), &other, "01008D01", "00002580", "")?);
-    let closed = server.ask(rt.alloc(), "0100D901", TOKEN, "00")?;
-    assert!(rt; is_response(rt.alloc(), &closed, "0100DC01", "00000000", "")?);
-    Ok(())
-}
-
-#[test]
-fn what_is_no_request_is_refused(rt: HostRuntime) -> Result<(), Fail> {
-    let mut server = Server::new(rt.alloc())?;
-    let unknown = server.ask(rt.alloc(), "0001", "0000", "")?;
-    assert!(rt; is_response(rt.alloc(), &unknown, "01008D01", "00000B80", "")?);
-    let more = server.ask(
-        rt.alloc(),
-        "0100AC01",
-        "0000",
-        "FFFFFFFF FFFFFFFF FFFFFFFF 00",
-    )?;
-    assert!(rt; is_response(rt.alloc(), &more, "01008D01", "00000780", "")?);
-    Ok(())
-}
-
-#[test]
-fn a_variable_is_browsed_written_and_read(rt: HostRuntime) -> Result<(), Fail> {
-    let mut server = Server::new(rt.alloc())?;
-    assert!(rt; open_session(rt.alloc(), &mut server)?);
-    let browsed = server.ask(
-        rt.alloc(),
-        "01000F02",
-        TOKEN,
-        "0000 0000000000000000 00000000 00000000 01000000 0055 00000000 0021 01 00000000 3F000000",
-    )?;
-    assert!(rt;
-        is_response(
-            rt.alloc(),
-            &browsed,
-            "01001202",
-            "00000000",
-            "01000000 00000000 FFFFFFFF 01000000 0023 01 0301000100000054 01000100000054 020100000054 02000000 003F FFFFFFFF"
-        )?
-    );
-    let read =
-        "0000000000000000 02000000 01000000 0301000100000054 0D000000 FFFFFFFF 0000 FFFFFFFF";
-    let waiting = server.ask(rt.alloc(), "01007702", TOKEN, read)?;
-    assert!(rt;
-        is_response(
-            rt.alloc(),
-            &waiting,
-            "01007A02",
-            "00000000",
-            "01000000 02 00003280 FFFFFFFF"
-        )?
-    );
-    let insert =
-        "01000000 0100AA02 01 1E000000 0301000100000054 01000000 01000000 05 0607000000 0A00000000000000";
-    let inserted = server.ask(rt.alloc(), "0100BC02", TOKEN, insert)?;
-    assert!(rt;
-        is_response(
-            rt.alloc(),
-            &inserted,
-            "0100BF02",
-            "00000000",
-            "01000000 00000000 01000000 0000A200 FFFFFFFF FFFFFFFF"
-        )?
-    );
-    let again = server.ask(rt.alloc(), "0100BC02", TOKEN, insert)?;
-    assert!(rt;
-        is_response(
-            rt.alloc(),
-            &again,
-            "0100BF02",
-            "00000000",
-            "01000000 00000000 01000000 00009F80 FFFFFFFF FFFFFFFF"
-        )?
-    );
-    let value = server.ask(rt.alloc(), "01007702", TOKEN, read)?;
-    assert!(rt;
-        is_response(
-            rt.alloc(),
-            &value,
-            "01007A02",
-            "00000000",
-            "01000000 0D 0607000000 0A00000000000000 00803ED5DEB19D01 FFFFFFFF"
-        )?
-    );
-    let history = server.ask(
-        rt.alloc(),
-        "01009802",
-        TOKEN,
-        "01008902 01 16000000 00 0100000000000000 6400000000000000 00000000 00 00000000 00 01000000 0301000100000054 FFFFFFFF 0000 FFFFFFFF FFFFFFFF",
-    )?;
-    assert!(rt;
-        is_response(
-            rt.alloc(),
-            &history,
-            "01009B02",
-            "00000000",
-            "01000000 00000000 FFFFFFFF 01009202 01 12000000 01000000 05 0607000000 0A00000000000000 FFFFFFFF"
-        )?
-    );
+    assert!(rt; create_session(rt.alloc(), &mut server)?);
+    for row in DAY {
+        assert!(rt; is_answered(rt.alloc(), &mut server, row)?, "{}", row.2);
+    }
     Ok(())
 }
