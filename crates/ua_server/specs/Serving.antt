@@ -17,7 +17,7 @@ IsWhole p start bytes used out ending last =
     (later : Outside) → answered p start bytes (before used later) ≡ record { out = out; ending = ending; state = last; left = later }
 
 -- This went out of the answer to the bytes that came, which ended so, and this stands then. At the end of the input it is the whole answer. Where a read
--- failed it is the answer to the items that came whole; where a write failed, a first part of that. Any other end is the answer's own, whatever would
+-- failed it is the answer to some first items; where a write failed, a first part of such an answer. Any other end is the answer's own, whatever would
 -- have come behind the bytes.
 abbrev pub IsServed : {X : Type 0} → Protocol Standing X Ending → Standing → List ℕ → Outside → List ℕ → Ending → Standing → Type 0
 IsServed p start came used out (Ok EndOfInput) last = IsWhole p start came used out (Ok EndOfInput) last
