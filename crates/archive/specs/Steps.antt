@@ -1,7 +1,9 @@
 -- Steps that something may come in the way of, and steps over an archive.
-use Rattle.std.specs.Prelude.{◌≡◌, List, [], ◌∷◌, ◌++◌}
+use Rattle.std.specs.Prelude.{◌≡◌, List, [], ◌∷◌, ◌++◌, Option, Some, None}
+use Rattle.ua_binary.specs.declared.codes.Status.{Status}
+use Rattle.ua_binary.specs.declared.codes.TheConstants.Status.{BAD_OUT_OF_MEMORY}
 use Rattle.records.specs.Contents.{Content}
-use Rattle.archive.specs.Store.{Store, Mark, Fine, faults_of, Passes, HasContent}
+use Rattle.archive.specs.Store.{Store, Mark, Fine, Starved, faults_of, Passes, HasContent}
 
 -- what depends on what comes in the way of its steps: by a mark for each of them, its value, and the marks that are left
 abbrev pub Marked : Type 0 → Type 0
@@ -14,6 +16,12 @@ give a marks = (a, marks)
 abbrev pub step : {A : Type 0} → (Mark → A) → Marked A
 step f [] = (f Fine, [])
 step f (mark ∷ marks) = (f mark, marks)
+
+-- a step that takes memory alone, and why there is none; a fault of the store doesn't come in its way, and is left for later steps
+abbrev pub memory : Marked (Option Status)
+memory (Starved ∷ marks) = (Some BAD_OUT_OF_MEMORY, marks)
+memory (Fine ∷ marks) = (None, marks)
+memory marks = (None, marks)
 
 -- some steps, and then those that their value leads to
 abbrev pub and_then : {A B : Type 0} → Marked A → (A → Marked B) → Marked B

@@ -1,5 +1,5 @@
 -- Whole updates: refusals, steps that come before the operations, and the operations.
-use Rattle.std.proofs.Common.{◌≡◌, ℕ, Bool, List, [], ◌∷◌, ◌||◌, map, length, Option, Some, None, refl, sym, ap, subst}
+use Rattle.std.proofs.Common.{◌≡◌, ◌∙◌, ℕ, Bool, List, [], ◌∷◌, ◌++◌, ◌||◌, map, length, Option, Some, None, refl, sym, ap, subst}
 use Rattle.std.proofs.Math.Bool.{or-false}
 use Rattle.ua_binary.specs.declared.codes.Status.{Status}
 use Rattle.ua_binary.specs.declared.codes.TheConstants.Status.{BAD_OUT_OF_MEMORY}
@@ -9,8 +9,7 @@ use Rattle.ua_variant.specs.declared.value.ValueType.{ValueType}
 use Rattle.ua_variant.specs.declared.update_type.HistoryUpdateType.{HistoryUpdateType}
 use Rattle.ua_services.specs.declared.updates.HistoryUpdateResult.{HistoryUpdateResult}
 use Rattle.records.specs.Contents.{Content}
-use Rattle.archive.specs.Fault.{status_told}
-use Rattle.archive.specs.Steps.{Marked, Does, Acts}
+use Rattle.archive.specs.Steps.{Marked, memory, Does, Acts}
 use Rattle.archive.specs.Store.{Store, Mark, Fine, Starved, faults_of, Passes, Stays}
 use Rattle.archive.proofs.Calls.{passes-none}
 use Rattle.archive.proofs.Acting.{holds-stays, moves-none, moves-as, does-give}
@@ -31,18 +30,21 @@ pub acts-free : (a b : Store) (used : List Mark) (reason : Option Status) (f : C
 acts-free a b used reason f x e p = subst (λ o. Acts a b used (λ R. unless o R (f R)) x) (sym e) p
 
 -- something came in the way of a step
-pub acts-hindered : (a b : Store) (mark : Mark) (code : Status) (f : Content → Marked Updated) → Passes a b (faults_of (mark ∷ [])) → Stays a b → status_told mark ≡ Some code
-    → Acts a b (mark ∷ []) (λ R. past R (f R)) (refused code)
-acts-hindered a b mark code f passes stays e = record {
+pub acts-hindered : (a b : Store) (mark : Mark) (code : Status) (first : Marked (Option Status)) (f : Content → Marked Updated) → Passes a b (faults_of (mark ∷ [])) → Stays a b
+    → ((later : List Mark) → first (mark ∷ later) ≡ (Some code, later)) → Acts a b (mark ∷ []) (λ R. past first R (f R)) (refused code)
+acts-hindered a b mark code first f passes stays e = record {
   passes = passes;
-  acts = λ honest R h. (R, record { does = λ later. ap (λ (reason : Option Status). unless reason R (f R) later) e }, holds-stays a b (faults_of (mark ∷ [])) R stays passes honest h);
+  acts = λ honest R h. (R, record { does = λ later. ap (λ (r : Option Status × List Mark). unless r.0 R (f R) r.1) (e later) }, holds-stays a b (faults_of (mark ∷ [])) R stays passes honest h);
 }
 
 -- nothing did
-pub acts-past : (a b : Store) (used : List Mark) (f : Content → Marked Updated) (x : HistoryUpdateResult) → Acts a b used f x → Acts a b (Fine ∷ used) (λ R. past R (f R)) x
-acts-past a b used f x p = record {
+pub acts-past : (a b : Store) (used : List Mark) (first : Marked (Option Status)) (f : Content → Marked Updated) (x : HistoryUpdateResult) → ((later : List Mark) → first (Fine ∷ later) ≡ (None, later)) → Acts a b used f x
+    → Acts a b (Fine ∷ used) (λ R. past first R (f R)) x
+acts-past a b used first f x e p = record {
   passes = p.passes;
-  acts = λ honest R h. let q = p.acts honest R h in (q.0, record { does = q.1.does }, q.2);
+  acts = λ honest R h.
+      let q = p.acts honest R h in
+      (q.0, record { does = λ later. ap (λ (r : Option Status × List Mark). unless r.0 R (f R) r.1) (e (used ++ later)) ∙ q.1.does later }, q.2);
 }
 
 -- the operations of an update
@@ -67,7 +69,7 @@ pub begins-starved : (a : Store) (request : Request) (status : List Status → S
     → result ≡ refused BAD_OUT_OF_MEMORY → Begins a a request status ops result
 begins-starved a request status ops result is = subst (λ r. Begins a a request status ops r) (sym is) (record {
   used = Starved ∷ [];
-  acts = acts-hindered a a Starved BAD_OUT_OF_MEMORY (run a.own request status ops) (passes-none a) (stays-none a) refl;
+  acts = acts-hindered a a Starved BAD_OUT_OF_MEMORY memory (run a.own request status ops) (passes-none a) (stays-none a) (λ later. refl);
   ended = (λ e f. refl, none-ended (a.broken || breaks Starved) (map (needs_store a.own request) ops));
 })
 
@@ -77,7 +79,7 @@ pub begins-run : (a b : Store) (request : Request) (status : List Status → Sta
 begins-run a b request status ops codes result u is =
     subst (λ r. Begins a b request status ops r) (sym is) (record {
       used = Fine ∷ u.used;
-      acts = acts-past a b u.used (run a.own request status ops) (told status codes) (acts-run a b u.used a.own request status ops codes u.acts);
+      acts = acts-past a b u.used memory (run a.own request status ops) (told status codes) (λ later. refl) (acts-run a b u.used a.own request status ops codes u.acts);
       ended = (λ e f. refl, subst (λ (x : Bool). AreEnded x (map (needs_store a.own request) ops) u.used) (sym (or-false a.broken)) u.ended);
     })
 

@@ -2,15 +2,14 @@
 use Rattle.std.proofs.Common.{ℕ, ℤ, Bool, List, [], ◌∷◌, ◌++◌, map, length, Option, Some, None, subst}
 use Rattle.std.proofs.lemmas.Option.{none-some}
 use Rattle.ua_binary.specs.declared.codes.Status.{Status}
-use Rattle.ua_binary.specs.declared.codes.TheConstants.Status.{BAD_OUT_OF_MEMORY}
 use Rattle.ua_binary.specs.declared.values.Ticks.{Ticks}
 use Rattle.ua_services.specs.declared.updates.HistoryUpdateResult.{HistoryUpdateResult}
 use Rattle.ua_variant.specs.declared.data.DataValue.{DataValue}
 use Rattle.ua_variant.specs.declared.value.ValueType.{ValueType}
 use Rattle.records.specs.Contents.{Content, IsWithin}
-use Rattle.archive.specs.Fault.{status_of}
-use Rattle.archive.specs.Steps.{Marked, Does}
-use Rattle.archive.specs.Store.{Mark, Fine, Starved, Met, MayBeFound}
+use Rattle.archive.specs.Fault.{status_told}
+use Rattle.archive.specs.Steps.{Marked, step, memory, Does}
+use Rattle.archive.specs.Store.{Mark, MayBeFound}
 use Rattle.hist_update.specs.declared.request.Request.{Request}
 use Rattle.hist_update.specs.Codes.{asked_by, count_refusal, first_other}
 use Rattle.hist_update.specs.Outcome.{Operation, DeleteAt}
@@ -26,11 +25,8 @@ always_unless : (P : Updated → Type 0) (reason : Option Status) (R : Content) 
 always_unless P (Some code) R more fails goes marks = fails code
 always_unless P None R more fails goes marks = goes marks
 
-always_past : (P : Updated → Type 0) (R : Content) (more : Marked Updated) → ((code : Status) → P (refused code, R)) → Always P more → Always P (past R more)
-always_past P R more fails goes [] = goes []
-always_past P R more fails goes (Fine ∷ marks) = goes marks
-always_past P R more fails goes (Starved ∷ marks) = fails BAD_OUT_OF_MEMORY
-always_past P R more fails goes (Met fault ∷ marks) = fails (status_of fault)
+always_past : (P : Updated → Type 0) (first : Marked (Option Status)) (R : Content) (more : Marked Updated) → ((code : Status) → P (refused code, R)) → Always P more → Always P (past first R more)
+always_past P first R more fails goes marks = let r = first marks in always_unless P r.0 R more fails goes r.1
 
 -- each operation of a Good code has its record
 abbrev Stand : ℕ → Request → List Operation → Updated → Type 0
@@ -41,10 +37,10 @@ none_stand own request ops R code k op a = absurd (none-some _ a.told)
 
 begun_stand : (own : ℕ) (request : Request) (status : List Status → Status) (ops : List Operation) (R : Content) → Always (Stand own request ops) (begin own request status ops R)
 begun_stand own request status ops R =
-    always_past (Stand own request ops) R (run own request status ops R) (none_stand own request ops R) (λ marks k op a. all_stand own request ops R marks k op (record { asked = a.asked; code = a.code; told = a.told; good = a.good }))
+    always_past (Stand own request ops) memory R (run own request status ops R) (none_stand own request ops R) (λ marks k op a. all_stand own request ops R marks k op (record { asked = a.asked; code = a.code; told = a.told; good = a.good }))
 
 begun_within : (own : ℕ) (request : Request) (status : List Status → Status) (ops : List Operation) (R : Content) → Always (λ u. IsWithin R u.1) (begin own request status ops R)
-begun_within own request status ops R = always_past (λ u. IsWithin R u.1) R (run own request status ops R) (λ code r h. h) (λ marks. all_within own request ops R marks)
+begun_within own request status ops R = always_past (λ u. IsWithin R u.1) memory R (run own request status ops R) (λ code r h. h) (λ marks. all_within own request ops R marks)
 
 -- of what it did
 stood : (own : ℕ) (request : Request) (ops : List Operation) (marked : Marked Updated) (used : List Mark) (result : HistoryUpdateResult) (S left : Content) (k : ℕ) (op : Operation) (broken : Bool)
@@ -83,8 +79,8 @@ stretches_stand R S left own request modified start end_ used result k op broken
     let ops = map DeleteAt times in
     let all = always_unless (Stand own request ops) (listing_refusal times) R (begin own request first_other ops R) (none_stand own request ops R) (begun_stand own request first_other ops R) in
     stood own request ops (delete_raw own request modified start end_ R) used result S left k op broken
-    (always_unless (Stand own request ops) (stretch_refusal modified start.0 end_.0) R (past R (delete_listed own request times R)) (none_stand own request ops R)
-    (always_past (Stand own request ops) R (delete_listed own request times R) (none_stand own request ops R) all)) d
+    (always_unless (Stand own request ops) (stretch_refusal modified start.0 end_.0) R (past (step status_told) R (delete_listed own request times R)) (none_stand own request ops R)
+    (always_past (Stand own request ops) (step status_told) R (delete_listed own request times R) (none_stand own request ops R) all)) d
 
 pub writes_keep : (R S : Content) (own : ℕ) (request : Request) (type : ValueType) (perform : ℤ) (values : List DataValue) (used : List Mark) (result : HistoryUpdateResult)
     → Does (update_data own request type perform values R) used (result, S) → IsWithin R S
@@ -106,5 +102,5 @@ stretches_keep R S own request modified start end_ used result =
     let ops = map DeleteAt times in
     let all = always_unless (λ u. IsWithin R u.1) (listing_refusal times) R (begin own request first_other ops R) (λ code r h. h) (begun_within own request first_other ops R) in
     kept R S (delete_raw own request modified start end_ R) used result
-    (always_unless (λ u. IsWithin R u.1) (stretch_refusal modified start.0 end_.0) R (past R (delete_listed own request times R)) (λ code r h. h)
-    (always_past (λ u. IsWithin R u.1) R (delete_listed own request times R) (λ code r h. h) all))
+    (always_unless (λ u. IsWithin R u.1) (stretch_refusal modified start.0 end_.0) R (past (step status_told) R (delete_listed own request times R)) (λ code r h. h)
+    (always_past (λ u. IsWithin R u.1) (step status_told) R (delete_listed own request times R) (λ code r h. h) all))

@@ -20,9 +20,9 @@ use Rattle.records.specs.declared.shown.Held.{Held}
 use Rattle.records.proofs.CutLemmas.{cut_whole}
 use Rattle.archive.specs.declared.fault.StoreFault.{StoreFault}
 use Rattle.archive.specs.declared.reading.Direction.TheVariants.{Forward}
-use Rattle.archive.specs.Fault.{status_of}
+use Rattle.archive.specs.Fault.{status_of, status_told}
 use Rattle.archive.specs.Reading.{range_of}
-use Rattle.archive.specs.Steps.{Marked, Acts, Does}
+use Rattle.archive.specs.Steps.{Marked, step, Acts, Does}
 use Rattle.archive.specs.Store.{Store, Mark, Fine, Met, Asks, HasContent}
 use Rattle.archive.proofs.Calls.{asks-then, in_use, left_in_use}
 use Rattle.hist_update.specs.declared.request.Request.{Request}
@@ -125,7 +125,7 @@ listed-begun a b request lives result e u =
 
 abbrev pub AnswersPast : Store → Store → Request → ℤ → ℤ → HistoryUpdateResult → Type 0
 AnswersPast a c request start end_ result =
-    (used : List Mark) × Acts a c used (λ R. past R (delete_listed a.own request (doomed R request.node start end_) R)) result
+    (used : List Mark) × Acts a c used (λ R. past (step status_told) R (delete_listed a.own request (doomed R request.node start end_) R)) result
     × (c.honest → (R : Content) → HasContent a R → AreEnded a.broken (true ∷ needs_of a.own request (map DeleteAt (doomed R request.node start end_))) used)
 
 fine-met : {X : Type 0} (fault : StoreFault) → Met fault ≡ Fine → X
@@ -137,7 +137,7 @@ pub stretch-failed : {B : Type 0} (a c : Store) (fault : StoreFault) (P : B → 
 stretch-failed a c fault P request start end_ result p is =
     let f : Content → Marked Updated = λ R. delete_listed a.own request (doomed R request.node start end_) R in (
       Met fault ∷ [],
-      subst (λ r. Acts a c (Met fault ∷ []) (λ R. past R (f R)) r) (sym is) (acts-hindered a c (Met fault) (status_of fault) f p.leaves.passes p.stays refl),
+      subst (λ r. Acts a c (Met fault ∷ []) (λ R. past (step status_told) R (f R)) r) (sym is) (acts-hindered a c (Met fault) (status_of fault) (step status_told) f p.leaves.passes p.stays (λ later. refl)),
       λ honest R h. (λ e m. fine-met fault m, tt),
     )
 
@@ -147,7 +147,7 @@ pub stretch-listed : {B : Type 0} (a b c : Store) (lives : B) (items : B → Lis
     → BeginsListed b c request times result → AnswersPast a c request start end_ result
 stretch-listed {B} a b c lives items times request start end_ from to result p first final is u = (
   Fine ∷ u.used,
-  moves-behind a b c lives (λ (w : B). items w ≡ take 1001 (range_of a.content request.node from to Forward)) (Fine ∷ u.used) (λ R S. Does (past R (delete_listed a.own request (doomed R request.node start end_) R)) (Fine ∷ u.used) (result, S)) p u.acts.passes
+  moves-behind a b c lives (λ (w : B). items w ≡ take 1001 (range_of a.content request.node from to Forward)) (Fine ∷ u.used) (λ R S. Does (past (step status_told) R (delete_listed a.own request (doomed R request.node start end_) R)) (Fine ∷ u.used) (result, S)) p u.acts.passes
       (λ honest told h. let q = u.acts.acts honest a.content h in (q.0, step_past q.0 told q.1, q.2)),
   λ honest R h.
       let same : a.content ≡ R = h.content used in
@@ -167,7 +167,7 @@ stretch-listed {B} a b c lives items times request start end_ from to result p f
 
     step_past : (S : Content) → items lives ≡ take 1001 (range_of a.content request.node from to Forward)
         → Does {A = Updated} (delete_listed b.own request times a.content) u.used (result, S)
-        → Does {A = Updated} (past a.content (delete_listed a.own request (doomed a.content request.node start end_) a.content)) (Fine ∷ u.used) (result, S)
+        → Does {A = Updated} (past (step status_told) a.content (delete_listed a.own request (doomed a.content request.node start end_) a.content)) (Fine ∷ u.used) (result, S)
     step_past S told d =
         let e : Does {A = Updated} (delete_listed a.own request (doomed a.content request.node start end_) a.content) u.used (result, S) =
         subst (λ m. Does {A = Updated} m u.used (result, S)) (listed-by-first a.own request (doomed a.content request.node start end_) a.content)
@@ -196,7 +196,7 @@ pub stretch-free : (a c : Store) (request : Request) (modified : Bool) (start en
     → (used : List Mark) × Acts a c used (delete_raw a.own request modified start end_) result × (c.honest → (R : Content) → HasContent a R → AreEnded a.broken (needs_of_stretch a.own request start end_ R) used)
 stretch-free a c request modified start end_ result e u = (
   u.0,
-  acts-free a c u.0 (stretch_refusal modified start.0 end_.0) (λ R. past R (delete_listed a.own request (doomed R request.node start.0 end_.0) R)) result e u.1,
+  acts-free a c u.0 (stretch_refusal modified start.0 end_.0) (λ R. past (step status_told) R (delete_listed a.own request (doomed R request.node start.0 end_.0) R)) result e u.1,
   u.2,
 )
 
@@ -205,6 +205,6 @@ pub stretch-refused : (a : Store) (request : Request) (modified : Bool) (start e
 stretch-refused a request modified start end_ code result e is = (
   [],
   subst (λ r. Acts a a [] (delete_raw a.own request modified start end_) r) (sym is)
-      (acts-refused a (stretch_refusal modified start.0 end_.0) code (λ R. past R (delete_listed a.own request (doomed R request.node start.0 end_.0) R)) e),
+      (acts-refused a (stretch_refusal modified start.0 end_.0) code (λ R. past (step status_told) R (delete_listed a.own request (doomed R request.node start.0 end_.0) R)) e),
   λ honest R h. none-ended a.broken (needs_of_stretch a.own request start end_ R),
 )

@@ -15,7 +15,7 @@ use Rattle.records.specs.Contents.{Content}
 use Rattle.archive.specs.declared.reading.Direction.TheVariants.{Forward}
 use Rattle.archive.specs.Fault.{status_of, status_told}
 use Rattle.archive.specs.Reading.{range_of}
-use Rattle.archive.specs.Steps.{Marked, give, step, and_then, each}
+use Rattle.archive.specs.Steps.{Marked, give, step, memory, and_then, each}
 use Rattle.archive.specs.Store.{Mark, Fine, Starved, Met, is_break, faults_in}
 use Rattle.hist_update.specs.declared.request.Request.{Request}
 use Rattle.hist_update.specs.Codes.{asked_by, count_refusal, first_other, most}
@@ -59,9 +59,9 @@ abbrev pub unless : Option Status → Content → Marked Updated → Marked Upda
 unless (Some code) R more = give (refused code, R)
 unless None R more = more
 
--- one step: what comes in its way refuses the update as a whole, and else it goes on
-abbrev pub past : Content → Marked Updated → Marked Updated
-past R more = and_then (step status_told) (λ reason. unless reason R more)
+-- a step first: what is told of what comes in its way refuses the update as a whole, and else it goes on
+abbrev pub past : Marked (Option Status) → Content → Marked Updated → Marked Updated
+past first R more = and_then first (λ reason. unless reason R more)
 
 -- the operations of an update, whose status goes by their codes
 abbrev pub run : ℕ → Request → (List Status → Status) → List Operation → Content → Marked Updated
@@ -69,7 +69,7 @@ run own request status operations R = and_then (update_all own request operation
 
 -- a step for the memory of the codes, and then the operations
 abbrev pub begin : ℕ → Request → (List Status → Status) → List Operation → Content → Marked Updated
-begin own request status operations R = past R (run own request status operations R)
+begin own request status operations R = past memory R (run own request status operations R)
 
 abbrev pub all_good : List Status → Status
 all_good codes = GOOD
@@ -126,7 +126,7 @@ delete_listed own request times R = unless (listing_refusal times) R (begin own 
 -- a step for the listing, and then the deletes
 abbrev pub delete_raw : ℕ → Request → Bool → Ticks → Ticks → Content → Marked Updated
 delete_raw own request modified start end_ R =
-    unless (stretch_refusal modified start.0 end_.0) R (past R (delete_listed own request (doomed R request.node start.0 end_.0) R))
+    unless (stretch_refusal modified start.0 end_.0) R (past (step status_told) R (delete_listed own request (doomed R request.node start.0 end_.0) R))
 
 -- ---- a broken store
 
