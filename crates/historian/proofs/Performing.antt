@@ -16,7 +16,7 @@ use Rattle.ua_session.specs.Sessions.{State, user_at}
 use Rattle.records.specs.Contents.{Content}
 use Rattle.archive.specs.Store.{Store, Mark, Fine, Starved, faults_of, Passes}
 use Rattle.archive.proofs.Calls.{passes-none}
-use Rattle.archive.specs.Steps.{Marked, step, Does, Acts}
+use Rattle.archive.specs.Steps.{Marked, give, step, Does, Acts}
 use Rattle.historian.specs.declared.service.Service.{Service}
 use Rattle.historian.specs.declared.service.Service.TheVariants as service
 use Rattle.historian.specs.declared.answer.Answer.{Answer as Made}
@@ -94,6 +94,14 @@ pub performs-called : (site : Site) (now : Ticks) (token : NodeId) (sessions new
 performs-called site now token sessions new service call bytes f mark told result is same faultless does tells =
     performs-read site now token sessions new service call bytes (mark ∷ []) told result is faultless
     (λ R. record { does = λ later. same R (mark ∷ later) ∙ (does-stepped f mark told new R does).does later }) tells
+
+-- a call that takes no memory was made
+pub performs-given : (site : Site) (now : Ticks) (token : NodeId) (sessions new : State) (service : Service) (call : Call) (bytes : List ℕ) (given : Response × State) (told : Response) (result : Result Made Status)
+    → call_in service bytes ≡ Some call → ((R : Content) (marks : List Mark) → served site now token call sessions R marks ≡ give (given, R) marks) → given ≡ (told, new) → Tells told result
+    → PerformsHere (answered_call site now token (call_in service bytes) sessions) new result
+performs-given site now token sessions new service call bytes given told result is same gives tells =
+    performs-read site now token sessions new service call bytes [] told result is refl
+    (λ R. record { does = λ later. same R later ∙ ap (λ (x : Response × State). let r : Outcome × List Mark = ((x, R), later) in r) gives }) tells
 
 -- a call that was refused, or for which memory was wanting
 pub performs-refused : {A : Type 0} (site : Site) (now : Ticks) (token : NodeId) (sessions new : State) (service : Service) (call : Call) (bytes : List ℕ) (done : A → Answer × State) (answer : Result A SessionFault)

@@ -24,12 +24,12 @@ use Rattle.archive.specs.declared.reading.Direction.TheVariants.{Backward}
 use Rattle.archive.specs.Fault.{status_of, status_told}
 use Rattle.archive.specs.Reading.{range_of}
 use Rattle.archive.specs.Store.{Store, Mark, Fine, Starved, Met, faults_of, Passes, Stays, HasContent, Asks}
-use Rattle.archive.specs.Steps.{Marked, step, Does, Acts}
+use Rattle.archive.specs.Steps.{Marked, give, step, and_then, Does, Acts}
 use Rattle.archive.proofs.Acting.{moves-as, acts-as, acts-stays}
 use Rattle.archive.proofs.Calls.{passes-none, passes-leaves, in_use, asks-then}
 use Rattle.hist_read.specs.Asking.{first_time}
 use Rattle.hist_read.specs.Reads.{greatest_time}
-use Rattle.historian.specs.Reading.{stored, value_of, value_rules, item_value, unless_met, item_told, value_step}
+use Rattle.historian.specs.Reading.{stored, latest, value_of, value_rules, item_at, item_value, telling, unless_met, item_told, value_step}
 
 -- ---- a listing over all that is held
 
@@ -53,10 +53,30 @@ listed a b c v node from to d limit {B} items result p q =
 -- ---- values in one step
 
 -- the archive isn't asked
-pub value-here : (s : Store) (value : Content → Result DataValue Status) (mark : Mark) (x : Result DataValue Status) → faults_of (mark ∷ []) ≡ [] → ((R : Content) → x ≡ unless_met (status_told mark) (value R))
-    → Acts s s (mark ∷ []) (value_step value) x
-value-here s value mark x faultless so =
-    acts-stays s s mark (λ R m. unless_met (status_told m) (value R)) x (subst (Passes s s) (sym faultless) (passes-none s)) (record { content = λ honest used. refl; crash = λ honest left m. m }) (λ honest R h. so R)
+pub value-here : (s : Store) (told : Marked (Option Status)) (value : Content → Result DataValue Status) (mark : Mark) (reason : Option Status) (x : Result DataValue Status) → faults_of (mark ∷ []) ≡ []
+    → ((later : List Mark) → told (mark ∷ later) ≡ (reason, later)) → ((R : Content) → x ≡ unless_met reason (value R)) → Acts s s (mark ∷ []) (value_step told value) x
+value-here s told value mark reason x faultless is so = record {
+  passes = subst (Passes s s) (sym faultless) (passes-none s);
+  acts = λ honest R h. (
+    R,
+    record {
+      does = λ later.
+          ap (λ (r : Option Status × List Mark). let z : (Result DataValue Status × Content) × List Mark = ((unless_met r.0 (value R), R), r.1) in z) (is later)
+          ∙ ap (λ (v : Result DataValue Status). let z : (Result DataValue Status × Content) × List Mark = ((v, R), later) in z) (sym (so R));
+    },
+    h,
+  );
+}
+
+-- the archive is asked
+step-told : (value : Content → Result DataValue Status) (R : Content) (marks : List Mark) → step (λ m. (unless_met (status_told m) (value R), R)) marks ≡ value_step (step status_told) value R marks
+step-told value R [] = refl
+step-told value R (mark ∷ marks) = refl
+
+value-stays : (a b : Store) (value : Content → Result DataValue Status) (mark : Mark) (x : Result DataValue Status) → Passes a b (faults_of (mark ∷ [])) → Stays a b
+    → (b.honest → (R : Content) → HasContent a R → x ≡ unless_met (status_told mark) (value R)) → Acts a b (mark ∷ []) (value_step (step status_told) value) x
+value-stays a b value mark x passes stays so =
+    acts-as a b (mark ∷ []) (λ R. step (λ m. (unless_met (status_told m) (value R), R))) (value_step (step status_told) value) x (step-told value) (acts-stays a b mark (λ R m. unless_met (status_told m) (value R)) x passes stays so)
 
 first-stored : (l : List Held) → stored (take 1 l) ≡ stored l
 first-stored [] = refl
@@ -65,10 +85,10 @@ first-stored (h ∷ l) = refl
 -- the latest value was found, and is told unless memory is wanting
 pub value-found : {B : Type 0} (a b : Store) (node : NodeId) (items : B → List Held) (lives : B) (x : Result DataValue Status)
     → Asks a b (Ok lives) (λ v. items v ≡ take 1 (range_of a.content node first_time greatest_time Backward)) → (x ≡ stored (items lives)) ⊎ (x ≡ Err BAD_OUT_OF_MEMORY)
-    → (mark : Mark) × Acts a b (mark ∷ []) (value_step (λ R. value_of R node Archived)) x
+    → (mark : Mark) × Acts a b (mark ∷ []) (value_step (step status_told) (latest node)) x
 value-found a b node items lives x p (inl told) = (
   Fine,
-  acts-stays a b Fine (λ R m. unless_met (status_told m) (value_of R node Archived)) x (passes-leaves a b None p.leaves) p.stays (λ honest R h.
+  value-stays a b (latest node) Fine x (passes-leaves a b None p.leaves) p.stays (λ honest R h.
       told
       ∙ (ap stored (p.answer honest)
       ∙ (first-stored (range_of a.content node first_time greatest_time Backward)
@@ -76,30 +96,55 @@ value-found a b node items lives x p (inl told) = (
 )
 value-found a b node items lives x p (inr starved) = (
   Starved,
-  acts-stays a b Starved (λ R m. unless_met (status_told m) (value_of R node Archived)) x (passes-leaves a b None p.leaves) p.stays (λ honest R h. starved),
+  value-stays a b (latest node) Starved x (passes-leaves a b None p.leaves) p.stays (λ honest R h. starved),
 )
 
 -- the store met a fault
 pub value-failed : {B : Type 0} (a b : Store) (node : NodeId) (P : B → Type 0) (fault : StoreFault) (x : Result DataValue Status) → Asks a b (Err fault) P → x ≡ Err (status_of fault)
-    → Acts a b (Met fault ∷ []) (value_step (λ R. value_of R node Archived)) x
+    → Acts a b (Met fault ∷ []) (value_step (step status_told) (latest node)) x
 value-failed a b node P fault x p is =
-    acts-stays a b (Met fault) (λ R m. unless_met (status_told m) (value_of R node Archived)) x (passes-leaves a b (Some fault) p.leaves) p.stays (λ honest R h. is)
+    value-stays a b (latest node) (Met fault) x (passes-leaves a b (Some fault) p.leaves) p.stays (λ honest R h. is)
 
 -- ---- items
 
+telling-fine : (answered : Result Answered Status) (later : List Mark) → telling answered (Fine ∷ later) ≡ (None, later)
+telling-fine (Ok (Value value)) later = refl
+telling-fine (Ok Archived) later = refl
+telling-fine (Err status) later = refl
+
+telling-starved : (answered : Result Answered Status) (later : List Mark) → telling answered (Starved ∷ later) ≡ (Some BAD_OUT_OF_MEMORY, later)
+telling-starved (Ok (Value value)) later = refl
+telling-starved (Ok Archived) later = refl
+telling-starved (Err status) later = refl
+
+-- nothing came in the way of an item, and the archive isn't asked
+item-here : (s : Store) (now : Ticks) (space : Layout) (item : ReadFields) (answered : Result Answered Status) (x : Result DataValue Status) → item_at space item ≡ answered → ((R : Content) → x ≡ (answered >>= value_of now item R))
+    → Acts s s (Fine ∷ []) (value_step (telling (item_at space item)) (item_value now space item)) x
+item-here s now space item answered x there is =
+    value-here s (telling (item_at space item)) (item_value now space item) Fine None x refl (telling-fine (item_at space item)) (λ R.
+    is R ∙ sym (ap (λ (r : Result Answered Status). r >>= value_of now item R) there))
+
+-- memory for it is wanting
+item-starved : (s : Store) (now : Ticks) (space : Layout) (item : ReadFields) (x : Result DataValue Status) → x ≡ Err BAD_OUT_OF_MEMORY
+    → Acts s s (Starved ∷ []) (value_step (telling (item_at space item)) (item_value now space item)) x
+item-starved s now space item x is =
+    value-here s (telling (item_at space item)) (item_value now space item) Starved (Some BAD_OUT_OF_MEMORY) x refl (telling-starved (item_at space item)) (λ R. is)
+
+item-at : (space : Layout) (item : ReadFields) (answered : Result Answered Status) → attribute_at space item.0 item.1.0 ≡ answered
+    → item_at space item ≡ (answered >>= λ answered. checked (value_rules item.1.1.0 item.1.1.1) >>= λ _. Ok answered)
+item-at space item answered at = ap (λ (r : Result Answered Status). r >>= λ answered. checked (value_rules item.1.1.0 item.1.1.1) >>= λ _. Ok answered) at
+
 -- an item whose node or attribute isn't there, or memory for it is wanting
-pub item-refused : (s : Store) (space : Layout) (item : ReadFields) (status : Status) (x : Result DataValue Status) → IsOrStarved BAD_OUT_OF_MEMORY (attribute_at space item.0 item.1.0) (Err status) → x ≡ Err status
-    → (mark : Mark) × Acts s s (mark ∷ []) (value_step (λ R. item_value R space item)) x
-item-refused s space item status x told told_so = by (attribute_at space item.0 item.1.0) refl told
+pub item-refused : (s : Store) (now : Ticks) (space : Layout) (item : ReadFields) (status : Status) (x : Result DataValue Status) → IsOrStarved BAD_OUT_OF_MEMORY (attribute_at space item.0 item.1.0) (Err status) → x ≡ Err status
+    → (mark : Mark) × Acts s s (mark ∷ []) (value_step (telling (item_at space item)) (item_value now space item)) x
+item-refused s now space item status x told told_so = by (attribute_at space item.0 item.1.0) refl told
   where
-    by : (r : Result Answered Status) → attribute_at space item.0 item.1.0 ≡ r → IsOrStarved BAD_OUT_OF_MEMORY r (Err status) → (mark : Mark) × Acts s s (mark ∷ []) (value_step (λ R. item_value R space item)) x
-    by (Ok answered) there starved = (Starved, value-here s (λ R. item_value R space item) Starved x refl (λ R. told_so ∙ ap Err starved))
+    by : (r : Result Answered Status) → attribute_at space item.0 item.1.0 ≡ r → IsOrStarved BAD_OUT_OF_MEMORY r (Err status)
+        → (mark : Mark) × Acts s s (mark ∷ []) (value_step (telling (item_at space item)) (item_value now space item)) x
+    by (Ok answered) there starved = (Starved, item-starved s now space item x (told_so ∙ ap Err starved))
     by (Err why) there same =
-        let equal : status ≡ why = cc in (
-          Fine,
-          value-here s (λ R. item_value R space item) Fine x refl (λ R.
-              told_so ∙ (ap Err equal ∙ sym (ap (λ (r : Result Answered Status). r >>= λ answered. checked (value_rules item.1.1.0 item.1.1.1) >>= λ _. value_of R item.0 answered) there))),
-        )
+        let equal : status ≡ why = cc in
+        (Fine, item-here s now space item (Err why) x (item-at space item (Err why) there) (λ R. told_so ∙ ap Err equal))
 
 -- the attribute is there
 pub item-there : (space : Layout) (item : ReadFields) (answered : Answered) → IsOrStarved BAD_OUT_OF_MEMORY (attribute_at space item.0 item.1.0) (Ok answered) → attribute_at space item.0 item.1.0 ≡ Ok answered
@@ -109,42 +154,37 @@ item-there space item answered told = by (attribute_at space item.0 item.1.0) to
     by (Ok other) same = ap Ok (sym same)
     by (Err why) same = absurd cc
 
-pub item-at : (space : Layout) (item : ReadFields) (answered : Answered) (R : Content) → attribute_at space item.0 item.1.0 ≡ Ok answered
-    → item_value R space item ≡ (checked (value_rules item.1.1.0 item.1.1.1) >>= λ _. value_of R item.0 answered)
-item-at space item answered R at = ap (λ (r : Result Answered Status). r >>= λ answered. checked (value_rules item.1.1.0 item.1.1.1) >>= λ _. value_of R item.0 answered) at
+-- the attribute, its range and its encoding are given
+pub item-judged : (space : Layout) (item : ReadFields) (answered : Answered) (judged : Result (Unit {0}) Status) → attribute_at space item.0 item.1.0 ≡ Ok answered → checked (value_rules item.1.1.0 item.1.1.1) ≡ judged
+    → item_at space item ≡ (judged >>= λ _. Ok answered)
+item-judged space item answered judged at is = item-at space item (Ok answered) at ∙ ap (λ (r : Result (Unit {0}) Status). r >>= λ _. Ok answered) is
 
--- a range or an encoding of it that isn't given
-pub item-judged : (s : Store) (space : Layout) (item : ReadFields) (answered : Answered) (status : Status) (x : Result DataValue Status) → attribute_at space item.0 item.1.0 ≡ Ok answered
-    → checked (value_rules item.1.1.0 item.1.1.1) ≡ Err status → x ≡ Err status → Acts s s (Fine ∷ []) (value_step (λ R. item_value R space item)) x
-item-judged s space item answered status x at judged is =
-    value-here s (λ R. item_value R space item) Fine x refl (λ R.
-    is ∙ sym (item-at space item answered R at ∙ ap (λ (r : Result (Unit {0}) Status). r >>= λ _. value_of R item.0 answered) judged))
-
-pub item-as : (space : Layout) (item : ReadFields) (answered : Answered) (R : Content) → attribute_at space item.0 item.1.0 ≡ Ok answered → checked (value_rules item.1.1.0 item.1.1.1) ≡ Ok tt
-    → item_value R space item ≡ value_of R item.0 answered
-item-as space item answered R at judged = item-at space item answered R at ∙ ap (λ (r : Result (Unit {0}) Status). r >>= λ _. value_of R item.0 answered) judged
+-- a range or an encoding of it isn't given
+pub item-unfit : (s : Store) (now : Ticks) (space : Layout) (item : ReadFields) (answered : Answered) (status : Status) (x : Result DataValue Status) → attribute_at space item.0 item.1.0 ≡ Ok answered
+    → checked (value_rules item.1.1.0 item.1.1.1) ≡ Err status → x ≡ Err status → Acts s s (Fine ∷ []) (value_step (telling (item_at space item)) (item_value now space item)) x
+item-unfit s now space item answered status x at judged is = item-here s now space item (Err status) x (item-judged space item answered (Err status) at judged) (λ R. is)
 
 -- the value of the attribute
-pub item-valued : (s : Store) (space : Layout) (item : ReadFields) (answered : Answered) (x : Result DataValue Status) → attribute_at space item.0 item.1.0 ≡ Ok answered → checked (value_rules item.1.1.0 item.1.1.1) ≡ Ok tt
-    → ((R : Content) → x ≡ value_of R item.0 answered) → (mark : Mark) × Acts s s (mark ∷ []) (value_step (λ R. item_value R space item)) x
-item-valued s space item answered x at judged is = (Fine, value-here s (λ R. item_value R space item) Fine x refl (λ R. is R ∙ sym (item-as space item answered R at judged)))
+pub item-valued : (s : Store) (now : Ticks) (space : Layout) (item : ReadFields) (answered : Answered) (x : Result DataValue Status) → attribute_at space item.0 item.1.0 ≡ Ok answered → checked (value_rules item.1.1.0 item.1.1.1) ≡ Ok tt
+    → ((R : Content) → x ≡ value_of now item R answered) → (mark : Mark) × Acts s s (mark ∷ []) (value_step (telling (item_at space item)) (item_value now space item)) x
+item-valued s now space item answered x at judged is = (Fine, item-here s now space item (Ok answered) x (item-judged space item answered (Ok tt) at judged) is)
 
 -- the archive gives it
-pub item-archived : (a b : Store) (space : Layout) (item : ReadFields) (mark : Mark) (x : Result DataValue Status) → attribute_at space item.0 item.1.0 ≡ Ok Archived → checked (value_rules item.1.1.0 item.1.1.1) ≡ Ok tt
-    → Acts a b (mark ∷ []) (value_step (λ R. value_of R item.0 Archived)) x → Acts a b (mark ∷ []) (value_step (λ R. item_value R space item)) x
-item-archived a b space item mark x at judged acts =
-    acts-as a b (mark ∷ []) (value_step (λ R. value_of R item.0 Archived)) (value_step (λ R. item_value R space item)) x
-    (λ R marks. ap (λ v. step (λ m. (unless_met (status_told m) v, R)) marks) (sym (item-as space item Archived R at judged))) acts
+pub item-archived : (a b : Store) (now : Ticks) (space : Layout) (item : ReadFields) (mark : Mark) (x : Result DataValue Status) → attribute_at space item.0 item.1.0 ≡ Ok Archived → checked (value_rules item.1.1.0 item.1.1.1) ≡ Ok tt
+    → Acts a b (mark ∷ []) (value_step (step status_told) (latest item.0)) x → Acts a b (mark ∷ []) (value_step (telling (item_at space item)) (item_value now space item)) x
+item-archived a b now space item mark x at judged acts =
+    acts-as a b (mark ∷ []) (value_step (step status_told) (latest item.0)) (value_step (telling (item_at space item)) (item_value now space item)) x
+    (λ R marks. ap (λ (r : Result Answered Status). value_step (telling r) (λ S. r >>= value_of now item S) R marks) (sym (item-judged space item Archived (Ok tt) at judged))) acts
 
 -- ---- what is told of them
 
-abbrev pub told_step : TimestampsToReturn → Ticks → (Content → Result DataValue Status) → Content → Marked (DataValue × Content)
-told_step stamps now value R = step (λ mark. (item_told stamps now (unless_met (status_told mark) (value R)), R))
+abbrev pub told_step : TimestampsToReturn → Ticks → Marked (Option Status) → (Content → Result DataValue Status) → Content → Marked (DataValue × Content)
+told_step stamps now told value R = and_then told (λ reason. give (item_told stamps now (unless_met reason (value R)), R))
 
-pub item-told : (a b : Store) (stamps : TimestampsToReturn) (now : Ticks) (value : Content → Result DataValue Status) (mark : Mark) (x : Result DataValue Status) (y : DataValue) → y ≡ item_told stamps now x
-    → Acts a b (mark ∷ []) (value_step value) x → Acts a b (mark ∷ []) (told_step stamps now value) y
-item-told a b stamps now value mark x y is acts =
-    moves-as a b (mark ∷ []) (λ R S. Does (value_step value R) (mark ∷ []) (x, S)) (λ R S. Does (told_step stamps now value R) (mark ∷ []) (y, S))
+pub item-told : (a b : Store) (stamps : TimestampsToReturn) (now : Ticks) (told : Marked (Option Status)) (value : Content → Result DataValue Status) (mark : Mark) (x : Result DataValue Status) (y : DataValue) → y ≡ item_told stamps now x
+    → Acts a b (mark ∷ []) (value_step told value) x → Acts a b (mark ∷ []) (told_step stamps now told value) y
+item-told a b stamps now told value mark x y is acts =
+    moves-as a b (mark ∷ []) (λ R S. Does (value_step told value R) (mark ∷ []) (x, S)) (λ R S. Does (told_step stamps now told value R) (mark ∷ []) (y, S))
     (λ R S does. record {
       does = λ later.
           ap (λ (r : (Result DataValue Status × Content) × List Mark). let z : (DataValue × Content) × List Mark = ((item_told stamps now r.0.0, r.0.1), r.1) in z) (does.does later)

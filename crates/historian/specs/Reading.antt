@@ -30,7 +30,7 @@ use Rattle.archive.specs.declared.reading.Direction.TheVariants.{Backward}
 use Rattle.archive.specs.Fault.{status_told}
 use Rattle.archive.specs.Reading.{range_of}
 use Rattle.archive.specs.Store.{Mark}
-use Rattle.archive.specs.Steps.{Marked, give, step, and_then, each}
+use Rattle.archive.specs.Steps.{Marked, give, step, memory, and_then, each}
 use Rattle.hist_read.specs.Asking.{first_time}
 use Rattle.hist_read.specs.Reads.{greatest_time}
 use Rattle.hist_read.specs.Showing.{at_time, no_value, with_status, with_stamps}
@@ -51,7 +51,7 @@ unless None R more = more
 
 -- one step for the memory of the answers, and then the items in order, each over what those before it left
 abbrev pub items : {X Y : Type 0} → (List Y → Answer) → (X → Content → Marked (Y × Content)) → List X → Content → Served
-items answer item xs R = and_then (step status_told) (λ reason. unless reason R (and_then (each item xs R) (λ p. give (Ok (answer p.0), p.1))))
+items answer item xs R = and_then memory (λ reason. unless reason R (and_then (each item xs R) (λ p. give (Ok (answer p.0), p.1))))
 
 -- ---- what is refused of an item, whichever node it is of
 
@@ -74,9 +74,9 @@ value_rules range encoding = (is_whole range, BAD_INDEX_RANGE_INVALID) ∷ (is_d
 abbrev pub most_read : ℕ
 most_read = 1000
 
--- a value without moments of its own
-abbrev pub valued : Variant → DataValue
-valued value = record no_value { value = Some value }
+-- a value that no archive keeps: as the attribute Value, which is 13, it is of the moment of the read, and else it has no moment of its own
+abbrev pub valued : Ticks → ℕ → Variant → DataValue
+valued now attribute value = record no_value { value = Some value; source_time = if attribute == 13 then Some now else None }
 
 -- a live value as it is stored, with its source time
 abbrev pub stored : List Held → Result DataValue Status
@@ -84,16 +84,27 @@ stored [] = Err BAD_WAITING_FOR_INITIAL_DATA
 stored (h ∷ held) = Ok (at_time h.time h.value)
 
 -- the value of an archived variable is the live one of the greatest source time
-abbrev pub value_of : Content → NodeId → Answered → Result DataValue Status
-value_of R node (Value value) = Ok (valued value)
-value_of R node Archived = stored (range_of R node first_time greatest_time Backward)
+abbrev pub latest : NodeId → Content → Result DataValue Status
+latest node R = stored (range_of R node first_time greatest_time Backward)
 
--- by node and attribute, then index range, then data encoding
-abbrev pub item_value : Content → Layout → ReadFields → Result DataValue Status
-item_value R space item =
+abbrev pub value_of : Ticks → ReadFields → Content → Answered → Result DataValue Status
+value_of now item R (Value value) = Ok (valued now item.1.0 value)
+value_of now item R Archived = latest item.0 R
+
+-- what gives the value of an item: by node and attribute, then index range, then data encoding
+abbrev pub item_at : Layout → ReadFields → Result Answered Status
+item_at space item =
     attribute_at space item.0 item.1.0 >>= λ answered.
     checked (value_rules item.1.1.0 item.1.1.1) >>= λ _.
-    value_of R item.0 answered
+    Ok answered
+
+abbrev pub item_value : Ticks → Layout → ReadFields → Content → Result DataValue Status
+item_value now space item R = item_at space item >>= value_of now item R
+
+-- want of memory may come in the way of any item, and a fault of the store where the archive gives the value
+abbrev pub telling : Result Answered Status → Marked (Option Status)
+telling (Ok Archived) = step status_told
+telling answered = memory
 
 -- what came in the way of an item is told in the place of its value
 abbrev pub unless_met : Option Status → Result DataValue Status → Result DataValue Status
@@ -105,13 +116,14 @@ abbrev pub item_told : TimestampsToReturn → Ticks → Result DataValue Status 
 item_told stamps now (Err status) = with_status (Some status) no_value
 item_told stamps now (Ok value) = with_stamps stamps (record value { server_time = Some now; server_pico = None })
 
--- what a value comes to, by what comes in its way, in one step
-abbrev pub value_step : (Content → Result DataValue Status) → Content → Marked (Result DataValue Status × Content)
-value_step value R = step (λ mark. (unless_met (status_told mark) (value R), R))
+-- what a value comes to, by what is told of what comes in its way, in one step
+abbrev pub value_step : Marked (Option Status) → (Content → Result DataValue Status) → Content → Marked (Result DataValue Status × Content)
+value_step told value R = and_then told (λ reason. give (unless_met reason (value R), R))
 
 -- each item is one step
 abbrev pub read_item : Layout → Ticks → TimestampsToReturn → ReadFields → Content → Marked (DataValue × Content)
-read_item space now stamps item R = step (λ mark. (item_told stamps now (unless_met (status_told mark) (item_value R space item)), R))
+read_item space now stamps item R =
+    and_then (telling (item_at space item)) (λ reason. give (item_told stamps now (unless_met reason (item_value now space item R)), R))
 
 abbrev pub read_by : Layout → Ticks → Option TimestampsToReturn → List ReadFields → Content → Served
 read_by space now None nodes R = give (Err BAD_TIMESTAMPS_TO_RETURN_INVALID, R)
@@ -139,14 +151,15 @@ is_bad status = nat_le 2147483648 status.0
 abbrev pub released : Bool → HistoryReadResult → HistoryReadResult
 released release result = if release && not (is_bad result.status) then record { status = GOOD; continuation_point = None; history_data = Nothing } else result
 
--- one step for the memory of the node's id, and then the read of the node
+-- the read of a node, unless memory is wanting
 abbrev pub node_read : List ℕ → Query → Bool → HistoryReadFields → Content → Option Status → Marked (HistoryReadResult × Content)
 node_read id query release item R (Some status) = give (refused status, R)
 node_read id query release item R None = and_then (read_node id item.0 query item.1.1.1 R) (λ p. give (released release p.0, p.1))
 
+-- one step for the memory of the node's id, and then the read of the node
 abbrev pub history_by : List ℕ → Query → Bool → HistoryReadFields → Content → Result (Unit {0}) Status → Marked (HistoryReadResult × Content)
 history_by id query release item R (Err status) = give (refused status, R)
-history_by id query release item R (Ok _) = and_then (step status_told) (node_read id query release item R)
+history_by id query release item R (Ok _) = and_then memory (node_read id query release item R)
 
 abbrev pub read_history_of : List ℕ → Layout → Query → Bool → HistoryReadFields → Content → Marked (HistoryReadResult × Content)
 read_history_of id space query release item R = history_by id query release item R (checked (history_rules space item))

@@ -11,7 +11,7 @@ use Rattle.ua_session.specs.Users.{Claim}
 use Rattle.ua_session.specs.Sessions.{State, create_answer, activate_answer, close_answer, user_at, with_new, with_user, without_session}
 use Rattle.ua_settings.specs.Settings.{Values}
 use Rattle.records.specs.Contents.{Content}
-use Rattle.archive.specs.Store.{Store, Mark, Starved}
+use Rattle.archive.specs.Store.{Store, Mark, Fine, Starved}
 use Rattle.archive.specs.Steps.{Marked, give, step, and_then}
 use Rattle.historian.specs.Answers.{Answer, Endpoints, Created, Activated, Closed, Response}
 use Rattle.historian.specs.Requests.{Call, GetEndpoints, CreateSession, ActivateSession, CloseSession, Browse, Read, HistoryRead, HistoryUpdate, Request, request_in}
@@ -55,9 +55,9 @@ create settings timeout sessions = called sessions (λ ids. (Created (ids.0, (id
 abbrev pub activate : Values → NodeId → Claim → State → Mark → Response × State
 activate settings token claim sessions = called sessions (λ user. (Activated, record sessions { alive = with_user token user sessions.alive })) (activate_answer sessions token settings.users claim)
 
--- the token's session is gone
-abbrev pub close : NodeId → State → Mark → Response × State
-close token sessions = called sessions (λ _. (Closed, record sessions { alive = without_session token sessions.alive })) (close_answer sessions token)
+-- the token's session is gone; this takes no memory
+abbrev pub close : NodeId → State → Response × State
+close token sessions = called sessions (λ _. (Closed, record sessions { alive = without_session token sessions.alive })) (close_answer sessions token) Fine
 
 -- ---- services
 
@@ -70,7 +70,7 @@ abbrev pub served : Site → Ticks → NodeId → Call → State → Content →
 served site now token (GetEndpoints profiles) sessions R = give ((Ok (Endpoints (endpoints_for site.settings profiles)), sessions), R)
 served site now token (CreateSession timeout) sessions R = step (λ mark. (create site.settings timeout sessions mark, R))
 served site now token (ActivateSession claim) sessions R = step (λ mark. (activate site.settings token claim sessions mark, R))
-served site now token CloseSession sessions R = step (λ mark. (close token sessions mark, R))
+served site now token CloseSession sessions R = give (close token sessions, R)
 served site now token (Browse nodes) sessions R = in_session sessions (user_at sessions token) (λ user. give (browse site.settings.space nodes, R)) R
 served site now token (Read asked) sessions R = in_session sessions (user_at sessions token) (λ user. read site.settings.space now asked R) R
 served site now token (HistoryRead asked) sessions R = in_session sessions (user_at sessions token) (λ user. read_history site.id site.settings.space asked R) R

@@ -10,8 +10,7 @@ use Rattle.ua_services.specs.declared.updates.HistoryUpdateResult.{HistoryUpdate
 use Rattle.ua_space.specs.declared.layout.Layout.{Layout}
 use Rattle.ua_space.specs.Space.{Node, node_at, type_of_node}
 use Rattle.records.specs.Contents.{Content}
-use Rattle.archive.specs.Fault.{status_told}
-use Rattle.archive.specs.Steps.{Marked, give, step, and_then}
+use Rattle.archive.specs.Steps.{Marked, give, memory, and_then}
 use Rattle.hist_update.specs.declared.request.Request.{Request}
 use Rattle.hist_update.specs.Updates.{Updated, refused, update_data, delete_raw, delete_at}
 use Rattle.historian.specs.Answers.{Updated as AllUpdated}
@@ -49,14 +48,14 @@ update_of own request type (DeleteRawModified d) R = delete_raw own (request d.0
 update_of own request type (DeleteAtTime d) R = delete_at own (request d.0) d.1 R
 update_of own request type Other R = give (refused BAD_HISTORY_OPERATION_UNSUPPORTED, R)
 
--- one step for the memory of the request, and then the update
 abbrev pub updated_unless : ℕ → (NodeId → Request) → ValueType → Details → Content → Option Status → Marked Updated
 updated_unless own request type details R (Some status) = give (refused status, R)
 updated_unless own request type details R None = update_of own request type details R
 
+-- one step for the memory of the request, and then the update
 abbrev pub update_by : ℕ → (NodeId → Request) → Details → Content → Result ValueType Status → Marked Updated
 update_by own request details R (Err status) = give (refused status, R)
-update_by own request details R (Ok type) = and_then (step status_told) (updated_unless own request type details R)
+update_by own request details R (Ok type) = and_then memory (updated_unless own request type details R)
 
 -- this user asks at this moment for an update of a node
 abbrev pub asked_for : List ℕ → Ticks → NodeId → Request

@@ -8,16 +8,16 @@ ghost use Rattle.ua_binary.specs.Rules.{checked};
 ghost use Rattle.ua_variant.specs.DataValue.{IsShortData};
 ghost use Rattle.ua_services.specs.Attributes.{read_fields};
 ghost use Rattle.ua_space.specs.Attributes.{attribute_at, IsShortAnswered};
-ghost use Rattle.ua_space.specs.declared.attributes.Answered.TheVariants.{Archived};
+ghost use Rattle.archive.specs.Fault.{status_told};
 ghost use Rattle.archive.specs.Reading.{range_of};
 ghost use Rattle.archive.specs.Store.{Store, Asks, Mark};
-ghost use Rattle.archive.specs.Steps.{Acts, each};
+ghost use Rattle.archive.specs.Steps.{Acts, step, each};
 ghost use Rattle.archive.specs.declared.reading.Direction.TheVariants as direction;
 ghost use Rattle.hist_read.specs.Asking.{first_time};
 ghost use Rattle.hist_read.specs.Finding.{Finds};
 ghost use Rattle.hist_read.specs.Reads.{greatest_time};
 ghost use Rattle.historian.specs.declared.service.Service.TheVariants as service;
-ghost use Rattle.historian.specs.Reading.{is_whole, is_default, value_rules, valued, stored, value_of, item_value, item_told, value_step, read_item, read};
+ghost use Rattle.historian.specs.Reading.{is_whole, is_default, value_rules, valued, stored, latest, item_at, item_value, telling, item_told, value_step, read_item, read};
 ghost use Rattle.historian.specs.Requests.{call_in};
 ghost use Rattle.historian.specs.Services.{Site, site_of, answered_call};
 ghost use Rattle.historian.specs.Telling.{IsShort, Comes, Performs};
@@ -38,6 +38,9 @@ use ua_variant::{DataValue, Variant};
 
 /// The most items of a Read.
 const MOST_READ: usize = 1000;
+
+/// The attribute Value (Part 6, A.1).
+const VALUE: u32 = 13;
 
 /// The name of the default encoding (Part 6).
 const DEFAULT_ENCODING: &str = "Default Binary";
@@ -81,14 +84,14 @@ pub(crate) fn judge_value(range: Option<&str>, encoding: QualifiedRef<'_>) -> Re
     Ok(())
 }
 
-/// A value without moments.
-fn valued(value: Variant) -> DataValue
-    ensures { result ≡ valued value }
+/// A value that no archive keeps: as the attribute Value it is of this moment, and else it has none of its own.
+fn valued(now: Ticks, attribute: u32, value: Variant) -> DataValue
+    ensures { result ≡ valued now attribute value }
 {
     DataValue {
         value: Some(value),
         status: None,
-        source_time: None,
+        source_time: if attribute == VALUE { Some(now) } else { None },
         source_pico: None,
         server_time: None,
         server_pico: None,
@@ -179,7 +182,7 @@ fn archived_value<A: Archive>(
     archive: &mut A,
     node: NodeIdRef<'_>,
 ) -> Result<DataValue, Status>
-    ensures acts { (mark : Mark) × Acts (A.state archive.old) (A.state archive.new) (mark ∷ []) (value_step (λ R. value_of R (node_of node.entry) Archived)) result }
+    ensures acts { (mark : Mark) × Acts (A.state archive.old) (A.state archive.new) (mark ∷ []) (value_step (step status_told) (latest (node_of node.entry))) result }
     ensures short { IfOk result IsShortData }
 {
     let Ok(node) = node.to_owned(alloc) else {
@@ -198,15 +201,16 @@ fn item_value<A: Archive>(
     alloc: Global,
     space: &Space,
     archive: &mut A,
+    now: Ticks,
     item: ReadValueId<'_>,
 ) -> Result<DataValue, Status>
-    ensures acts { (mark : Mark) × Acts (A.state archive.old) (A.state archive.new) (mark ∷ []) (value_step (λ R. item_value R space.now (read_fields item.entry))) result }
+    ensures acts { (mark : Mark) × Acts (A.state archive.old) (A.state archive.new) (mark ∷ []) (value_step (telling (item_at space.now (read_fields item.entry))) (item_value now space.now (read_fields item.entry))) result }
     ensures short { IfOk result IsShortData }
 {
     let answered = space.read_attribute(item.node_id, item.attribute_id)?;
     judge_value(item.index_range, item.data_encoding)?;
     match answered {
-        Answered::Value(value) => Ok(valued(value)),
+        Answered::Value(value) => Ok(valued(now, item.attribute_id, value)),
         Answered::Archived => archived_value(alloc, archive, item.node_id),
     }
 }
@@ -223,7 +227,7 @@ fn read_item<A: Archive>(
     ensures acts { (mark : Mark) × Acts (A.state archive.old) (A.state archive.new) (mark ∷ []) (read_item space.now now stamps (read_fields item.entry)) result }
     ensures short { IsShortData result }
 {
-    match item_value(alloc, space, archive, item) {
+    match item_value(alloc, space, archive, now, item) {
         Ok(value) => shown(stamps, now, value),
         Err(status) => status_alone(status),
     }
@@ -279,7 +283,8 @@ fn read_all<A: Archive>(
 /// Read (Part 4, 5.11.2), in a session that was activated: 1 to 1,000 items. `BAD_NOTHING_TO_DO` for no item,
 /// `BAD_TOO_MANY_OPERATIONS` for more, then `BAD_TIMESTAMPS_TO_RETURN_INVALID`. Each item has a status of its own: that of its
 /// node, attribute, index range and data encoding, in this order; `BAD_WAITING_FOR_INITIAL_DATA` where an archived
-/// variable has no value; those of memory and of the store. The moment of the server is that of the request.
+/// variable has no value; those of memory and of the store. The moment of the server is that of the request, and so is the
+/// source time of a value that no archive keeps.
 pub(crate) fn read<A: Archive>(
     alloc: Global,
     settings: &Settings,

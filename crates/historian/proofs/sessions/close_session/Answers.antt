@@ -1,16 +1,17 @@
-use Rattle.std.proofs.Common.{◌≡◌, ◌∙◌, Ok, Err, refl, ap, subst}
+use Rattle.std.proofs.Common.{◌≡◌, ◌∙◌, inl, Ok, Err, refl, sym, ap, subst}
 use Rattle.std.specs.Prelude.{Result}
 use Rattle.std.proofs.lemmas.Result.{err_from_is_err_and}
 use Rattle.ua_binary.specs.Binary.{node_of}
-use Rattle.ua_binary.specs.Format.{IsOrStarved}
 use Rattle.ua_session.specs.declared.fault.SessionFault.{SessionFault}
-use Rattle.ua_session.specs.declared.fault.SessionFault.TheVariants.{OutOfMemory}
-use Rattle.ua_session.specs.Sessions.{without_session, close_answer}
+use Rattle.ua_session.specs.Fault.{code_of}
+use Rattle.ua_session.specs.Sessions.{State, without_session}
+use Rattle.archive.specs.Store.{Fine}
 use Rattle.historian.specs.declared.service.Service.TheVariants as service
 use Rattle.historian.specs.declared.answer.Answer.TheVariants as made
 use Rattle.historian.specs.Answers.{Closed}
 use Rattle.historian.specs.Requests.{CloseSession}
-use Rattle.historian.proofs.Performing.{performs-unread, performs-refused, performs-done}
+use Rattle.historian.specs.Services.{called, close}
+use Rattle.historian.proofs.Performing.{performs-unread, performs-given}
 use Rattle.historian.proofs.sessions.close_session.Goals as goal
 
 pub returns-in_err-closing_request-clause-performs : goal.returns-in_err-closing_request-clause-performs
@@ -22,14 +23,15 @@ pub returns-in-Ok-clause-performs : goal.returns-in-Ok-clause-performs
 returns-in-Ok-clause-performs c = λ site now.
     let s = c.args.sessions.now in
     let token = node_of c.args.token in
-    let P : Result (Unit {0}) SessionFault → Type 0 = λ r. IsOrStarved OutOfMemory r (Ok tt) in
-    performs-done site now token s c.close.new.self service.CloseSession CloseSession c.args.request (λ _. (Closed, record s { alive = without_session token s.alive })) (close_answer s token) tt made.Closed
-    c.in_ok-closing_request.ensures (λ R marks. refl) (subst P c.in-Ok.ensures.answer refl) c.in-Ok.ensures.leaves refl
+    let P : Result (Unit {0}) SessionFault → State → Type 0 = λ r n. called s (λ _. (Closed, record s { alive = without_session token s.alive })) r Fine ≡ (Ok Closed, n) in
+    performs-given site now token s c.close.new.self service.CloseSession CloseSession c.args.request (close token s) (Ok Closed) (Ok made.Closed)
+    c.in_ok-closing_request.ensures (λ R marks. refl) (subst (λ r. P r c.close.new.self) c.in-Ok.ensures.answer (subst (P (Ok tt)) (sym c.in-Ok.ensures.leaves) refl)) refl
 
 pub returns-in-Err-clause-performs : goal.returns-in-Err-clause-performs
 returns-in-Err-clause-performs c = λ site now.
     let s = c.args.sessions.now in
     let token = node_of c.args.token in
-    let P : Result (Unit {0}) SessionFault → Type 0 = λ r. IsOrStarved OutOfMemory r (Err c.in-Err.fault) in
-    performs-refused site now token s c.close.new.self service.CloseSession CloseSession c.args.request (λ _. (Closed, record s { alive = without_session token s.alive })) (close_answer s token) c.in-Err.fault c.code.result (Err c.code.result)
-    c.in_ok-closing_request.ensures (λ R marks. refl) (subst P c.in-Err.ensures.answer refl) c.in-Err.ensures.leaves c.code.ensures refl
+    let fault = c.in-Err.fault in
+    let P : Result (Unit {0}) SessionFault → State → Type 0 = λ r n. called s (λ _. (Closed, record s { alive = without_session token s.alive })) r Fine ≡ (Err (code_of fault), n) in
+    performs-given site now token s c.close.new.self service.CloseSession CloseSession c.args.request (close token s) (Err (code_of fault)) (Err c.code.result)
+    c.in_ok-closing_request.ensures (λ R marks. refl) (subst (λ r. P r c.close.new.self) c.in-Err.ensures.answer (subst (P (Err fault)) (sym c.in-Err.ensures.leaves) refl)) (inl (ap Err (sym c.code.ensures)))
