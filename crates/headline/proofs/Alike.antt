@@ -1,0 +1,103 @@
+-- Replicas that have learned the same answer alike.
+use Rattle.std.proofs.Common.{◌≡◌, ℕ, List, [], ◌∷◌, map, Option, Some, Result, Ok, Err, refl, sym, ap, ◌∙◌, subst, inl, inr}
+use Rattle.std.specs.List.{AllByRecursion}
+use Rattle.std.proofs.lemmas.Option.{none-some, same_Some}
+use Rattle.ua_binary.specs.declared.values.NodeId.{NodeId}
+use Rattle.ua_binary.specs.declared.codes.Status.{Status}
+use Rattle.ua_services.specs.declared.history.HistoryReadResult.{HistoryReadResult}
+use Rattle.records.specs.Contents.{Content}
+use Rattle.archive.specs.declared.fault.StoreFault.{StoreFault}
+use Rattle.archive.specs.declared.fault.StoreFault.TheVariants as store
+use Rattle.archive.specs.Store.{Store, Mark, Fine, Starved, Met}
+use Rattle.archive.specs.Steps.{Does}
+use Rattle.hist_read.specs.declared.query.Query.{Query}
+use Rattle.hist_read.specs.Node.{Behind, judged, told, page_from, read_from, read_node}
+use Rattle.hist_read.specs.Chains.{Page, IsRead, Chain}
+use Rattle.exchange.specs.Worlds.{Site}
+use Rattle.headline.specs.Pasts.{Past, IsPast, Was, HaveLearnedSame}
+use Rattle.headline.specs.Answers.{Asked, answer_of, results_of, AreFromEither, IsReplicaOf, IsAnswered, IsFree}
+use Rattle.headline.proofs.Times.{same_learned}
+
+-- ---- replicas of a world
+
+pub same_results : (s t : Site) (asked : Asked) → s.id ≡ t.id → s.content ≡ t.content → results_of asked s ≡ results_of asked t
+same_results s t asked id content =
+    ap (λ (i : List ℕ). map (λ item. (read_node i item.0 asked.query item.1 s.content []).0.0) asked.nodes) id
+    ∙ ap (λ (R : Content). map (λ item. (read_node t.id item.0 asked.query item.1 R []).0.0) asked.nodes) content
+
+-- what is read of one content from one point
+read_one : (id : List ℕ) (node : NodeId) (query : Query) (point : Option (List ℕ)) (R : Content) (page : Page) → page.content ≡ R → IsRead id node query point page
+    → page.result ≡ (read_node id node query point R (Fine ∷ [])).0.0
+read_one id node query point R page same read =
+    ap (λ (x : (HistoryReadResult × Content) × List Mark). x.0.0) (sym (read.does [])) ∙ ap (λ (S : Content). (read_node id node query point S (Fine ∷ [])).0.0) same
+
+same_chains : (id : List ℕ) (node : NodeId) (query : Query) (point : Option (List ℕ)) (R : Content) (pages others : List Page)
+    → AllByRecursion (λ page. page.content ≡ R) pages → AllByRecursion (λ page. page.content ≡ R) others
+    → Chain id node query point pages → Chain id node query point others → map (λ page. page.result) pages ≡ map (λ page. page.result) others
+same_chains id node query point R [] others a b c d = absurd c
+same_chains id node query point R (p ∷ ps) [] a b c d = absurd d
+same_chains id node query point R (p ∷ []) (q ∷ []) a b c d =
+    let e = read_one id node query point R p a.0 c.0 ∙ sym (read_one id node query point R q b.0 d.0) in
+    ap (λ (r : HistoryReadResult). r ∷ []) e
+same_chains id node query point R (p ∷ []) (q ∷ u ∷ us) a b c d =
+    let e = read_one id node query point R p a.0 c.0 ∙ sym (read_one id node query point R q b.0 d.0) in
+    absurd (none-some _ (sym c.1 ∙ (ap (λ (r : HistoryReadResult). r.continuation_point) e ∙ d.2)))
+same_chains id node query point R (p ∷ v ∷ vs) (q ∷ []) a b c d =
+    let e = read_one id node query point R p a.0 c.0 ∙ sym (read_one id node query point R q b.0 d.0) in
+    absurd (none-some _ (sym d.1 ∙ (ap (λ (r : HistoryReadResult). r.continuation_point) (sym e) ∙ c.2)))
+same_chains id node query point R (p ∷ v ∷ vs) (q ∷ u ∷ us) a b c d =
+    let e = read_one id node query point R p a.0 c.0 ∙ sym (read_one id node query point R q b.0 d.0) in
+    let bytes : c.1 ≡ d.1 = same_Some _ _ (sym c.2 ∙ (ap (λ (r : HistoryReadResult). r.continuation_point) e ∙ d.2)) in
+    let rest : Chain id node query (Some c.1) (u ∷ us) = subst (λ x. Chain id node query (Some x) (u ∷ us)) (sym bytes) d.3 in
+    let behind = same_chains id node query (Some c.1) R (v ∷ vs) (u ∷ us) a.1 b.1 c.3 rest in
+    ap (λ (r : HistoryReadResult). r ∷ map (λ page. page.result) (v ∷ vs)) e ∙ ap (λ rs. q.result ∷ rs) behind
+
+from_one : (s t : Site) (pages : List Page) → s.content ≡ t.content → AreFromEither s t pages → AllByRecursion (λ page. page.content ≡ t.content) pages
+from_one s t [] e all = tt
+from_one s t (page ∷ pages) e all = (elim all.0 [ inl h ↦ h ∙ e | inr h ↦ h ], from_one s t pages e all.1)
+
+pub same_turns : (s t : Site) (node : NodeId) (query : Query) (point : Option (List ℕ)) (pages others : List Page) → s.id ≡ t.id → s.content ≡ t.content → AreFromEither s t pages → AreFromEither s t others
+    → Chain s.id node query point pages → Chain t.id node query point others → map (λ page. page.result) pages ≡ map (λ page. page.result) others
+same_turns s t node query point pages others id content a b c d =
+    same_chains t.id node query point t.content pages others (from_one s t pages content a) (from_one s t others content b) (subst (λ i. Chain i node query point pages) id c) d
+
+-- ---- archives
+
+-- what a fault is told as
+hindered : (answer : HistoryReadResult) (fault : StoreFault) → IsFree (told answer (Met fault)) → ⊥
+hindered answer store.OutOfMemory free = free.memory refl
+hindered answer store.Refused free = free.store refl
+hindered answer store.WrongReplica free = free.store refl
+hindered answer store.WrongArchive free = free.store refl
+hindered answer store.Broken free = free.store refl
+
+module _ (id : List ℕ) (node : NodeId) (query : Query) (R S : Content) (one : HistoryReadResult) where
+  abbrev first_of : (HistoryReadResult × Content) × List Mark → HistoryReadResult
+  first_of x = x.0.0
+
+  by_marks : (j : Result (Option Behind) Status) (used : List Mark) → Does (read_from id node query R j) used (one, S) → IsFree one → one ≡ (read_from id node query R j []).0.0
+  by_marks (Err status) used does free = ap first_of (sym (does.does []))
+  by_marks (Ok behind) [] does free = ap first_of (sym (does.does []))
+  by_marks (Ok behind) (Fine ∷ used) does free = ap first_of (sym (does.does []))
+  by_marks (Ok behind) (Starved ∷ used) does free =
+      let e : one ≡ told (page_from R id node query behind) Starved = ap first_of (sym (does.does [])) in
+      absurd ((subst IsFree e free).memory refl)
+  by_marks (Ok behind) (Met fault ∷ used) does free =
+      let e : one ≡ told (page_from R id node query behind) (Met fault) = ap first_of (sym (does.does [])) in
+      absurd (hindered (page_from R id node query behind) fault (subst IsFree e free))
+
+pub answered_so : (s : Site) (a c : Store) (node : NodeId) (query : Query) (point : Option (List ℕ)) (one : HistoryReadResult) → IsReplicaOf a s → c.honest → IsAnswered a c node query point one → IsFree one
+    → one ≡ answer_of query s node point
+answered_so s a c node query point one is honest answered free =
+    let found = answered.1.acts honest s.content is.content in
+    by_marks s.id node query s.content found.0 one (judged s.id node query.details point) answered.0
+    (subst (λ i. Does (read_node i node query point s.content) answered.0 (one, found.0)) is.id found.1) free
+
+pub answered_alike : (p : Past) (s t : Site) (a c b d : Store) (node : NodeId) (query : Query) (point : Option (List ℕ)) (one other : HistoryReadResult) → IsPast p → Was p s → Was p t → HaveLearnedSame s t
+    → IsReplicaOf a s → IsReplicaOf b t → c.honest → d.honest → IsAnswered a c node query point one → IsAnswered b d node query point other → IsFree one → IsFree other → one ≡ other
+answered_alike p s t a c b d node query point one other past was was' same is is' honest honest' answered answered' free free' =
+    let e = same_learned p s t past was was' same in
+    answered_so s a c node query point one is honest answered free
+    ∙ (ap (λ (i : List ℕ). (read_node i node query point s.content []).0.0) e.0
+    ∙ (ap (λ (R : Content). (read_node t.id node query point R []).0.0) e.1
+    ∙ sym (answered_so t b d node query point other is' honest' answered' free')))

@@ -1,0 +1,6 @@
+pub mod Times
+pub mod Alike
+pub mod Updates
+pub mod Shown
+pub mod Paging
+pub mod Merging

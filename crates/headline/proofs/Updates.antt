@@ -1,0 +1,87 @@
+-- Updates of a past, and their records.
+use Rattle.std.proofs.Common.{◌≡◌, suc, ◌+◌, ◌≤◌, List, [], ◌∷◌, Some, refl, sym, ap, ◌∙◌, subst, inl, inr, ◌⊎◌, Less}
+use Rattle.std.specs.Prelude.{◌↔◌}
+use Rattle.stamp.specs.Limits.{lift}
+use Rattle.ua_binary.specs.declared.codes.Status.{Status}
+use Rattle.records.specs.Lists.{Has, Rises}
+use Rattle.records.specs.Records.{stamp_cmp, story}
+use Rattle.records.specs.declared.record.Record.{Record}
+use Rattle.records.specs.Contents.{IsLatest, vec, top, put}
+use Rattle.records.proofs.CloseLemmas.{closed_stamps}
+use Rattle.records.proofs.ContentLemmas.{vec_bounds}
+use Rattle.records.proofs.LatestLemmas.{story_rises, story_has}
+use Rattle.records.proofs.PutLemmas.{has-put}
+use Rattle.records.proofs.Sorting.{all-has}
+use Rattle.archive.specs.Store.{Fine}
+use Rattle.hist_update.specs.declared.request.Request.{Request}
+use Rattle.hist_update.specs.Outcome.{Operation, Added, outcome, after}
+use Rattle.hist_update.specs.Laws.{IsGood, IsRecordOf}
+use Rattle.hist_update.proofs.Answered.{good_done}
+use Rattle.hist_update.proofs.NewRecords.{made}
+use Rattle.exchange.specs.Worlds.{Site, Operates, IsSite, step}
+use Rattle.exchange.proofs.WorldLemmas.{list_run, next_world}
+use Rattle.headline.specs.Pasts.{Past, IsPast, Was, WasAnswered, WasRecorded, world_at}
+use Rattle.headline.specs.Readings.{HasLater}
+use Rattle.headline.proofs.Times.{lawful_was, together}
+
+-- ---- the record of an update
+
+pub recorded : (p : Past) (s : Site) (request : Request) (op : Operation) (code : Status) → IsPast p → WasAnswered p s request op code → IsGood code
+    → (r : Record) × WasRecorded p s request op r × IsRecordOf request s.number op r × (r.number ≡ vec s.content s.number + 1) × (lift request.reading (top s.content) ≡ Some r.tick)
+recorded p s request op code past answered good =
+    let d = good_done s.content s.number request op Fine (subst IsGood (sym answered.told) good) in
+    let m = made s.content s.number request op _ d.0 d.1 in (
+      d.0,
+      record { code = code; answered = answered; added = d.1 ∙ ap (λ c. Added c d.0) answered.told },
+      d.3,
+      ap (λ (x : Record). x.number) m.is,
+      m.lifts ∙ ap Some (sym (ap (λ (x : Record). x.tick) m.is)),
+    )
+
+-- the replica behind its update
+with_record : (p : Past) (s : Site) (request : Request) (op : Operation) (r : Record) → WasRecorded p s request op r → Was p (record s { content = put r s.content })
+with_record p s request op r recorded =
+    let a = recorded.answered in
+    let w = world_at p a.time in
+    let there : IsSite (step w (Operates a.place request op)) a.place (record s { content = after s.content (outcome s.content s.number request op) }) = (list_run (op ∷ []) w a.place s request a.at_that).here in
+    let changed : IsSite (step w (Operates a.place request op)) a.place (record s { content = put r s.content }) =
+    subst (λ o. IsSite (step w (Operates a.place request op)) a.place (record s { content = after s.content o })) recorded.added there in
+    record {
+      time = suc a.time;
+      place = a.place;
+      at_that = subst (λ v. IsSite v a.place (record s { content = put r s.content })) (sym (next_world p.events a.time p.start (Operates a.place request op) a.event)) changed;
+    }
+
+pub has_learned : (p : Past) (s t : Site) (request : Request) (op : Operation) (r : Record) → IsPast p → WasRecorded p s request op r → Was p t → Has t.content r ↔ (r.number ≤ vec t.content r.origin)
+has_learned p s t request op r past recorded was = (
+  vec_bounds t.content r,
+  λ le.
+      let here = with_record p s request op r recorded in
+      let own : Has (put r s.content) r = has-put r s.content r (inl refl) in
+      let one = (lawful_was p (record s { content = put r s.content }) past here).closed.numbers r own in
+      let named = (lawful_was p t past was).closed.whole r.origin r.number one le in
+      let same : r ≡ named.0 = (together p (record s { content = put r s.content }) t past here was).compatible r named.0 own named.1 (sym named.2.from) (sym named.2.numbered) in
+      subst (Has t.content) (sym same) named.1,
+)
+
+-- ---- the greatest stamp
+
+latest_or : (xs : List Record) (r : Record) → Rises stamp_cmp xs → Has xs r → ((z : Record) × Has xs z × (stamp_cmp r z ≡ Less)) ⊎ ((z : Record) → Has xs z → (z ≡ r) ⊎ (stamp_cmp z r ≡ Less))
+latest_or [] r up h = absurd h
+latest_or (x ∷ []) r up h = inr (λ z m. elim m [ inl e ↦ elim h [ inl f ↦ inl (sym e ∙ f) | inr k ↦ absurd k ] | inr k ↦ absurd k ])
+latest_or (x ∷ y ∷ ys) r up h = elim h [
+  | inl e ↦ inl (y, inr (inl refl), subst (λ z. stamp_cmp z y ≡ Less) e up.0.0)
+  | inr k ↦ elim (latest_or (y ∷ ys) r up.1 k) [
+    | inl m ↦ inl (m.0, inr m.1, m.2)
+    | inr all ↦ inr (λ z m. elim m [ inl e ↦ inr (subst (λ a. stamp_cmp a r ≡ Less) e (all-has (λ b. stamp_cmp x b ≡ Less) (y ∷ ys) r up.0 k)) | inr n ↦ all z n ])
+  ]
+]
+
+pub latest_later : (p : Past) (t : Site) (r : Record) → IsPast p → Was p t → Has t.content r → IsLatest t.content r ⊎ HasLater t.content r
+latest_later p t r past was h =
+    let R = t.content in
+    let rises = story_rises R r.node r.time (closed_stamps R (lawful_was p t past was).closed) in
+    elim (latest_or (story R r.node r.time) r rises ((story_has R r.node r.time r).1 (h, refl, refl))) [
+      | inl m ↦ let z = (story_has R r.node r.time m.0).0 m.1 in inr (record { later = m.0; there = z.0; node = z.1; time = z.2; greater = m.2 })
+      | inr all ↦ inl (record { there = h; above = λ z k e f. all z ((story_has R r.node r.time z).1 (k, e, f)) })
+    ]

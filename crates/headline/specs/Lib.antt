@@ -1,0 +1,4 @@
+pub mod Pasts
+pub mod Answers
+pub mod Readings
+pub mod Joins

@@ -1,0 +1,76 @@
+-- Worlds from their beginning on, replicas at some time of them, and the updates that they answered.
+use Rattle.std.specs.Prelude.{◌≡◌, ◌↔◌, ⊤, ℕ, ◌≤◌, List, take, length, slice_get, Some}
+use Rattle.std.specs.List.{AllByRecursion}
+use Rattle.stamp.specs.Limits.{IsReplica}
+use Rattle.ua_binary.specs.declared.codes.Status.{Status}
+use Rattle.records.specs.Contents.{vec, HasName}
+use Rattle.records.specs.declared.record.Record.{Record}
+use Rattle.hist_update.specs.declared.request.Request.{Request}
+use Rattle.hist_update.specs.Outcome.{Operation, Added, IsRequest, outcome, code_in}
+use Rattle.hist_update.specs.Laws.{IsSpelled, IsOperation}
+use Rattle.exchange.specs.Worlds.{Site, World, Event, Operates, IsSite, AreApart, AreOne, IsEmpty, run}
+
+-- replicas of one archive, each with a number of its own from 1 to 64, that hold nothing, with nothing on its way
+pub record IsBeginning (w : World) : Type 0 where
+  pub apart : AreApart w
+  pub one : AreOne w
+  pub empty : IsEmpty w
+  pub replicas : (i : ℕ) (s : Site) → IsSite w i s → IsReplica s.number × (length s.id ≡ 16)
+
+-- what the types of a request and of an operation see to, and the conditions of an update
+abbrev pub IsLawfulEvent : Event → Type 0
+IsLawfulEvent (Operates replica request operation) = IsRequest request × IsSpelled request × IsOperation operation
+IsLawfulEvent event = ⊤
+
+-- a world as it began, and what happened since: updates, and deliveries of what was sent, in any order, any number of times
+pub record Past : Type 0 where
+  pub start : World
+  pub events : List Event
+
+pub record IsPast (p : Past) : Type 0 where
+  pub begins : IsBeginning p.start
+  pub lawful : AllByRecursion IsLawfulEvent p.events
+
+-- the world after so many of the events
+abbrev pub world_at : Past → ℕ → World
+world_at p time = run (take time p.events) p.start
+
+-- the replica at this place is so, at this time
+abbrev pub IsAt : Past → (time place : ℕ) → Site → Type 0
+IsAt p time place s = IsSite (world_at p time) place s
+
+-- some replica is so, at some time
+pub record Was (p : Past) (s : Site) : Type 0 where
+  pub time : ℕ
+  pub place : ℕ
+  pub at_that : IsAt p time place s
+
+-- ---- what was learned
+
+-- the two hold records of the same names
+abbrev pub HaveLearnedSame : Site → Site → Type 0
+HaveLearnedSame s t = (origin number : ℕ) → HasName s.content origin number ↔ HasName t.content origin number
+
+-- their vectors are equal
+abbrev pub AreEven : Site → Site → Type 0
+AreEven s t = (origin : ℕ) → vec s.content origin ≡ vec t.content origin
+
+-- the one's vector is at least the other's
+abbrev pub Covers : Site → Site → Type 0
+Covers t s = (origin : ℕ) → vec s.content origin ≤ vec t.content origin
+
+-- ---- updates
+
+-- an update was done at a replica that was so, and answered by this code
+pub record WasAnswered (p : Past) (s : Site) (request : Request) (operation : Operation) (code : Status) : Type 0 where
+  pub time : ℕ
+  pub place : ℕ
+  pub event : slice_get p.events time ≡ Some (Operates place request operation)
+  pub at_that : IsAt p time place s
+  pub told : code_in (outcome s.content s.number request operation) ≡ code
+
+-- and this is its record
+pub record WasRecorded (p : Past) (s : Site) (request : Request) (operation : Operation) (r : Record) : Type 0 where
+  pub code : Status
+  pub answered : WasAnswered p s request operation code
+  pub added : outcome s.content s.number request operation ≡ Added code r

@@ -1,0 +1,139 @@
+//! The laws. Each function's contract is a law.
+
+ghost use Rattle.std.specs.Prelude.{◌≡◌, ◌⊎◌, ◌↔◌, ◌||◌, ℕ, ◌+◌, ◌≤◌, ◌<◌, max, Bool, true, false, List, [], ◌∷◌, length, filter, map, Option, Some, None, Ok};
+ghost use Rattle.stamp.specs.Limits.{lift};
+ghost use Rattle.stamp.specs.Numbers.{number_of};
+ghost use Rattle.ua_binary.specs.Binary.{IsNodeId};
+ghost use Rattle.ua_binary.specs.declared.codes.Status.{Status as Code};
+ghost use Rattle.ua_binary.specs.declared.codes.TheConstants.Status.{BAD_CONTINUATION_POINT_INVALID};
+ghost use Rattle.ua_binary.specs.declared.values.NodeId.{NodeId};
+ghost use Rattle.ua_services.specs.declared.attributes.TimestampsToReturn.{TimestampsToReturn};
+ghost use Rattle.ua_services.specs.declared.history.HistoryReadResult.{HistoryReadResult};
+ghost use Rattle.records.specs.Lists.{Has};
+ghost use Rattle.records.specs.Moments.{ticks_of};
+ghost use Rattle.records.specs.Records.{missing, is_beyond, is_delete};
+ghost use Rattle.records.specs.Contents.{IsLatest, numbers_of, vec, top, join, merged};
+ghost use Rattle.records.specs.declared.record.Record.{Record};
+ghost use Rattle.records.specs.declared.shown.Entry.{Entry};
+ghost use Rattle.archive.specs.Store.{HasContent};
+ghost use Rattle.hist_update.specs.declared.request.Request.{Request};
+ghost use Rattle.hist_update.specs.Outcome.{Operation};
+ghost use Rattle.hist_update.specs.Laws.{IsGood, IsRecordOf};
+ghost use Rattle.hist_read.specs.declared.query.Query.{Query};
+ghost use Rattle.hist_read.specs.Node.{judged, refused, point_at};
+ghost use Rattle.hist_read.specs.declared.point.Position.{Position};
+ghost use Rattle.hist_read.specs.Chains.{Page, Chain, IsRead, whole, values_in, infos_in, joined_values, joined_infos, contents_from};
+ghost use Rattle.hist_read.specs.Asking.{is_given};
+ghost use Rattle.hist_read.specs.Point.{Point, IsDetails, point_in};
+ghost use Rattle.exchange.specs.Worlds.{Site, World, IsSite, Sends, Delivers, run};
+ghost use Rattle.headline.specs.Pasts.{Past, IsPast, IsAt, Was, world_at, HaveLearnedSame, AreEven, Covers, WasAnswered, WasRecorded};
+ghost use Rattle.headline.specs.Answers.{Asked, answer_of, results_of, bytes_of, AreFromEither, IsReplicaOf, IsAnswered, IsFree};
+ghost use Rattle.headline.specs.Joins.{IsLeastAbove};
+ghost use Rattle.headline.specs.Readings.{IsReading, Reaches, at_one_time, IsOfRaw, ShowsModification, IsOwn, ShowsAsLive, ShowsNoneAt, HasLater, ShowWhole, HavePages};
+
+use archive::Archive;
+use hist_read::pages_show_the_whole_read;
+use ua_services::ReadRawModifiedDetails;
+
+/// Whether one of both times is given.
+fn is_timed(details: &ReadRawModifiedDetails) -> bool
+    ensures { result ≡ (is_given details.now.start_time.0 || is_given details.now.end_time.0) }
+{
+    details.start_time.0 >= 1 || details.end_time.0 >= 1
+}
+
+/// What pages show, of any content and what follows it; a read to which neither time is given has no pages.
+fn whole_reads(details: ReadRawModifiedDetails)
+    ensures details { IsDetails details }
+    ensures shows { ShowWhole details }
+    ensures ends { HavePages details }
+{
+    let (_start, _end) = (details.start_time.0, details.end_time.0);
+    let _count = details.num_values_per_node;
+    if is_timed(&details) {
+        pages_show_the_whole_read(details);
+    }
+}
+
+/// Two replicas that have learned the same updates, each at any time of one past, in whatever order and with whatever
+/// repeats, answer reads of history alike: any nodes, any details and any continuation points, to the byte. That they have
+/// learned the same is told by their vectors. So pages may be taken at both, in any turns: they are the pages that are
+/// taken in any other turns, or at one of them alone.
+pub fn replicas_answer_alike()
+    ensures vectors { (p : Past) (s t : Site) → IsPast p → Was p s → Was p t → HaveLearnedSame s t ↔ AreEven s t }
+    ensures contents { (p : Past) (s t : Site) → IsPast p → Was p s → Was p t → HaveLearnedSame s t → (s.id ≡ t.id) × (s.content ≡ t.content) }
+    ensures results { (p : Past) (s t : Site) (asked : Asked) → IsPast p → Was p s → Was p t → HaveLearnedSame s t → results_of asked s ≡ results_of asked t }
+    ensures bytes { (p : Past) (s t : Site) (asked : Asked) → IsPast p → Was p s → Was p t → HaveLearnedSame s t → bytes_of (results_of asked s) ≡ bytes_of (results_of asked t) }
+    ensures turns { (p : Past) (s t : Site) (node : NodeId) (query : Query) (point : Option (List ℕ)) (pages others : List Page) → IsPast p → Was p s → Was p t → HaveLearnedSame s t
+        → AreFromEither s t pages → AreFromEither s t others → Chain s.id node query point pages → Chain t.id node query point others → map (λ page. page.result) pages ≡ map (λ page. page.result) others }
+{}
+
+/// Two archives, in whatever stores, that hold what replicas do that have learned the same updates: where neither answer
+/// reports want of memory or a fault of the store, they answer a read of a node's history alike, and a response with it has
+/// the same bytes.
+pub fn archives_answer_alike<A: Archive, B: Archive>()
+    ensures result { (p : Past) (s t : Site) (a c : A) (b d : B) (node : NodeId) (query : Query) (point : Option (List ℕ)) (one other : HistoryReadResult) → IsPast p → Was p s → Was p t → HaveLearnedSame s t
+        → IsReplicaOf (A.state a) s → IsReplicaOf (B.state b) t → (A.state c).honest → (B.state d).honest
+        → IsAnswered (A.state a) (A.state c) node query point one → IsAnswered (B.state b) (B.state d) node query point other → IsFree one → IsFree other → one ≡ other }
+    ensures answer { (s : Site) (a c : A) (node : NodeId) (query : Query) (point : Option (List ℕ)) (one : HistoryReadResult) → IsReplicaOf (A.state a) s → (A.state c).honest
+        → IsAnswered (A.state a) (A.state c) node query point one → IsFree one → one ≡ answer_of query s node point }
+{}
+
+/// Merging is a join of what replicas hold, each at any time of one past: it commutes, associates, repeats without change, and is
+/// the least content above both; its vector is the greater of both for each origin. Learning all that a peer has beyond
+/// one's vector gives the join; and a peer's sending it and its delivery do so in the world.
+pub fn merging_is_a_join()
+    ensures commutes { (p : Past) (s t : Site) → IsPast p → Was p s → Was p t → join s.content t.content ≡ join t.content s.content }
+    ensures associates { (p : Past) (s t u : Site) → IsPast p → Was p s → Was p t → Was p u → join (join s.content t.content) u.content ≡ join s.content (join t.content u.content) }
+    ensures repeats { (p : Past) (s : Site) → IsPast p → Was p s → join s.content s.content ≡ s.content }
+    ensures least { (p : Past) (s t : Site) → IsPast p → Was p s → Was p t → IsLeastAbove s.content t.content (join s.content t.content) }
+    ensures vectors { (p : Past) (s t : Site) (origin : ℕ) → IsPast p → Was p s → Was p t → vec (join s.content t.content) origin ≡ max (vec s.content origin) (vec t.content origin) }
+    ensures learned { (p : Past) (s t : Site) (count : ℕ) → IsPast p → Was p s → Was p t → length (filter (is_beyond (vec s.content)) t.content) ≤ count
+        → merged (missing t.content (vec s.content) count) s.content ≡ join s.content t.content }
+    ensures delivered { (p : Past) (time i j count : ℕ) (s t : Site) → IsPast p → IsAt p time i s → IsAt p time j t → length (filter (is_beyond (vec s.content)) t.content) ≤ count
+        → IsSite (run (Sends j (vec s.content) count ∷ Delivers i (length (world_at p time).pool) count ∷ []) (world_at p time)) i (record s { content = join s.content t.content }) }
+{}
+
+/// An update that was answered Good has a record, of what was asked for, with its user, and with the tick that its clock reading
+/// comes to above all that was held: a replica has learned it, at any time, exactly where its vector covers it. Wherever
+/// it was learned, it stands, in all reads of its node that reach its time, their pages joined: its own modification is
+/// shown, with its user and its tick; where its stamp is the greatest of its node and time, a write's value is the live
+/// one, and no other is, and behind a delete none is; and where another one is greater, a write's value is shown by a
+/// modification. One of the two is so, and a read of its one time reaches it.
+pub fn every_update_stands(details: ReadRawModifiedDetails)
+    ensures recorded { (p : Past) (s : Site) (request : Request) (op : Operation) (code : Code) → IsPast p → WasAnswered p s request op code → IsGood code
+        → (r : Record) × WasRecorded p s request op r × IsRecordOf request s.number op r × (r.number ≡ vec s.content s.number + 1) × (lift request.reading (top s.content) ≡ Some r.tick) }
+    ensures learned { (p : Past) (s t : Site) (request : Request) (op : Operation) (r : Record) → IsPast p → WasRecorded p s request op r → Was p t → Has t.content r ↔ (r.number ≤ vec t.content r.origin) }
+    ensures told { (p : Past) (t : Site) (r : Record) (stamps : TimestampsToReturn) (pages : List Page) → IsPast p → Was p t → Has t.content r → IsReading p t r.node (record { details = details; stamps = stamps }) pages
+        → Reaches details r.time → details.is_read_modified ≡ true → (e : Entry) × IsOwn r e × ShowsModification stamps pages e }
+    ensures live { (p : Past) (t : Site) (r : Record) (stamps : TimestampsToReturn) (pages : List Page) → IsPast p → Was p t → IsLatest t.content r → IsReading p t r.node (record { details = details; stamps = stamps }) pages
+        → Reaches details r.time → IsOfRaw details → is_delete r.asked ≡ false → ShowsAsLive stamps pages r }
+    ensures gone { (p : Past) (t : Site) (r : Record) (stamps : TimestampsToReturn) (pages : List Page) → IsPast p → Was p t → IsLatest t.content r → IsReading p t r.node (record { details = details; stamps = stamps }) pages
+        → Reaches details r.time → IsOfRaw details → is_delete r.asked ≡ true → ShowsNoneAt stamps pages r.time }
+    ensures replaced { (p : Past) (t : Site) (r : Record) (stamps : TimestampsToReturn) (pages : List Page) → IsPast p → Was p t → Has t.content r → HasLater t.content r
+        → IsReading p t r.node (record { details = details; stamps = stamps }) pages → Reaches details r.time → details.is_read_modified ≡ true → is_delete r.asked ≡ false
+        → (e : Entry) × (e.time ≡ r.time) × (e.value ≡ Some r.value) × ShowsModification stamps pages e }
+    ensures either { (p : Past) (t : Site) (r : Record) → IsPast p → Was p t → Has t.content r → IsLatest t.content r ⊎ HasLater t.content r }
+    ensures reached { (p : Past) (t : Site) (r : Record) (modified : Bool) → IsPast p → Was p t → Has t.content r → Reaches (at_one_time (ticks_of r.time) modified) r.time }
+{
+    whole_reads(details);
+}
+
+/// Pages that are read one after the other show together the whole read of what the first one's replica held then, whatever
+/// happens in the world in between, and at whichever replica that covers it each further one is read; the replica itself covers it at
+/// all later times. The point of the first page carries the replica's vector, and a replica that has less of an origin than the
+/// vector of a point refuses it. And such pages come to an end.
+pub fn pages_stay(details: ReadRawModifiedDetails)
+    ensures shows { (p : Past) (t : Site) (node : NodeId) (stamps : TimestampsToReturn) (pages : List Page) → IsPast p → Was p t → IsNodeId node → IsReading p t node (record { details = details; stamps = stamps }) pages
+        → (joined_values pages ≡ values_in (whole t.content node (record { details = details; stamps = stamps }))) × (joined_infos pages ≡ infos_in (whole t.content node (record { details = details; stamps = stamps }))) }
+    ensures later { (p : Past) (now then place : ℕ) (t u : Site) → IsPast p → now ≤ then → IsAt p now place t → IsAt p then place u → (t.id ≡ u.id) × (t.number ≡ u.number) × Covers u t }
+    ensures carried { (p : Past) (t : Site) (node : NodeId) (stamps : TimestampsToReturn) (first : Page) (bytes : List ℕ) → IsPast p → Was p t → IsNodeId node → first.content ≡ t.content
+        → IsRead t.id node (record { details = details; stamps = stamps }) None first → first.result.continuation_point ≡ Some bytes → (next : Position) × (bytes ≡ point_at t.id node details (numbers_of t.content) next) }
+    ensures refused { (p : Past) (u : Site) (node : NodeId) (stamps : TimestampsToReturn) (bytes : List ℕ) (point : Point) (origin : ℕ) → IsPast p → Was p u → judged u.id node details None ≡ Ok None
+        → point_in bytes ≡ Some point → vec u.content origin < number_of point.vector origin → answer_of (record { details = details; stamps = stamps }) u node (Some bytes) ≡ refused BAD_CONTINUATION_POINT_INVALID }
+    ensures ends { (p : Past) (visits : ℕ → Site) (node : NodeId) (stamps : TimestampsToReturn) → IsPast p → ((n : ℕ) → Was p (visits n) × Covers (visits n) (visits 0)) → IsNodeId node
+        → judged (visits 0).id node details None ≡ Ok None
+        → (pages : List Page) × IsReading p (visits 0) node (record { details = details; stamps = stamps }) pages × (count : ℕ) × (map (λ page. page.content) pages ≡ contents_from (λ n. (visits n).content) 0 count) }
+{
+    whole_reads(details);
+}
