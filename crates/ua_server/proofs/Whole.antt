@@ -78,20 +78,6 @@ serves-drained settings a b c unread left old written sent used more link next s
 
 -- ---- ends
 
--- a fault of the reader
-pub serves-read : (settings : Values) (a b : Store) (unread left rest old written : Option (List ℕ)) (used : Outside) (link : Link) → ServesSoFar settings a b unread left old written used link → Keeps left rest
-    → Serves settings a b unread rest old written used (Err Read)
-serves-read settings a b unread left rest old written used link so keeps = record {
-  came = so.came;
-  out = so.out;
-  read = Consumes-kept unread left rest so.came so.read keeps;
-  over = λ e. absurd cc;
-  written = so.written;
-  served = moves-as a b used.marks (λ R S. Reaches (site_of settings a) (start_of so.came) R used so.out None link S)
-      (λ R S. (last : Standing) × (last.content ≡ S) × IsServed (chunks (site_of settings a)) (record { client = new_client; content = R }) so.came used so.out (Err Read) last)
-      (λ R S r. (r.last, r.content, (link.waiting, r.answers))) so.turned;
-}
-
 -- ends of the answer's own
 abbrev pub IsFinal : Ending → Type 0
 IsFinal (Ok EndOfInput) = ⊥
@@ -201,30 +187,46 @@ moves-more a b us vs P To quiet so m = record {
   acts = λ honest R held. let s = m.acts honest R held in (s.0, so R s.0 s.1, s.2);
 }
 
--- where less than a chunk waits
-pub serves-end : (settings : Values) (a b : Store) (unread left rest old written : Option (List ℕ)) (used : Outside) (link : Link) (bytes : List ℕ) → ServesSoFar settings a b unread left old written used link → Consumes left rest bytes → bytes ≡ []
-    → IsAtEnd rest → IsShort link → (more : Outside) × (more.readings ≡ []) × Serves settings a b unread rest old written (before used more) (Ok EndOfInput)
-serves-end settings a b unread left rest old written used link bytes so read empty end short =
+-- less than a chunk waits, and this was read so far
+serves-over : (settings : Values) (a b : Store) (unread left rest old written : Option (List ℕ)) (used : Outside) (link : Link) (ending : Ending) (so : ServesSoFar settings a b unread left old written used link) → Consumes unread rest so.came
+    → (ending ≡ Ok EndOfInput → IsAtEnd rest) → IsShort link
+    → ((R : Content) (all : Outside) (last : Standing) → IsWhole (chunks (site_of settings a)) (record { client = new_client; content = R }) so.came all so.out (Ok EndOfInput) last
+    → IsServed (chunks (site_of settings a)) (record { client = new_client; content = R }) so.came all so.out ending last)
+    → (more : Outside) × (more.readings ≡ []) × Serves settings a b unread rest old written (before used more) ending
+serves-over settings a b unread left rest old written used link ending so read over short is =
     let site = site_of settings a in
-    let ms = end_marks link.waiting in
-    let N : List ℕ → Type 0 = λ c. Consumes unread rest c in
-    let none : so.came ++ bytes ≡ so.came = ap (λ (x : List ℕ). so.came ++ x) empty ∙ append-nil so.came in (
+    let ms = end_marks link.waiting in (
       marked ms,
       refl,
       record {
         came = so.came;
         out = so.out;
-        read = subst N none (Consumes-trans unread left rest so.came bytes so.read read);
-        over = λ e. end;
+        read = read;
+        over = over;
         written = so.written;
         served = moves-more a b used.marks ms (λ R S. Reaches site (start_of so.came) R used so.out None link S)
-            (λ R S. (last : Standing) × (last.content ≡ S) × IsServed (chunks site) (record { client = new_client; content = R }) so.came (before used (marked ms)) so.out (Ok EndOfInput) last)
+            (λ R S. (last : Standing) × (last.content ≡ S) × IsServed (chunks site) (record { client = new_client; content = R }) so.came (before used (marked ms)) so.out ending last)
             (end-quiet link.waiting)
             (λ R S r.
             let C : Client → Type 0 = λ c. cut c.greeted c.limit link.waiting ≡ Ok None in
-            (r.last, r.content, whole-of site (record { client = new_client; content = R }) r.last so.came link.waiting so.out used r.answers (subst C (sym (r.goes refl)) short))) so.turned;
+            let whole = whole-of site (record { client = new_client; content = R }) r.last so.came link.waiting so.out used r.answers (subst C (sym (r.goes refl)) short) in
+            (r.last, r.content, is R (before used (marked ms)) r.last whole)) so.turned;
       },
     )
+
+-- the input is at its end
+pub serves-end : (settings : Values) (a b : Store) (unread left rest old written : Option (List ℕ)) (used : Outside) (link : Link) (bytes : List ℕ) → ServesSoFar settings a b unread left old written used link → Consumes left rest bytes → bytes ≡ []
+    → IsAtEnd rest → IsShort link → (more : Outside) × (more.readings ≡ []) × Serves settings a b unread rest old written (before used more) (Ok EndOfInput)
+serves-end settings a b unread left rest old written used link bytes so read empty end short =
+    let N : List ℕ → Type 0 = λ c. Consumes unread rest c in
+    let none : so.came ++ bytes ≡ so.came = ap (λ (x : List ℕ). so.came ++ x) empty ∙ append-nil so.came in
+    serves-over settings a b unread left rest old written used link (Ok EndOfInput) so (subst N none (Consumes-trans unread left rest so.came bytes so.read read)) (λ e. end) short (λ R all last w. w)
+
+-- a fault of the reader
+pub serves-read : (settings : Values) (a b : Store) (unread left rest old written : Option (List ℕ)) (used : Outside) (link : Link) → ServesSoFar settings a b unread left old written used link → Keeps left rest → IsShort link
+    → (more : Outside) × (more.readings ≡ []) × Serves settings a b unread rest old written (before used more) (Err Read)
+serves-read settings a b unread left rest old written used link so keeps short =
+    serves-over settings a b unread left rest old written used link (Err Read) so (Consumes-kept unread left rest so.came so.read keeps) (λ e. absurd cc) short (λ R all last w. w)
 
 -- ---- memory for bytes that came is wanting
 

@@ -16,12 +16,12 @@ abbrev pub IsWhole : {C X E : Type 0} → Protocol C X E → C → List ℕ → 
 IsWhole p start bytes used out ending last =
     (later : Outside) → answered p start bytes (before used later) ≡ record { out = out; ending = ending; state = last; left = later }
 
--- This went out of the answer to the bytes that came, which ended so, and this stands then. At the end of the input it is the whole answer. Where a read
--- failed it is the answer to some first items; where a write failed, a first part of such an answer. Any other end is the answer's own, whatever would
--- have come behind the bytes.
+-- This went out of the answer to the bytes that came, which ended so, and this stands then. At the end of the input, and where a read failed, it is the
+-- whole answer. Where a write failed it is a first part of the answer to some first items. Any other end is the answer's own, whatever would have come
+-- behind the bytes.
 abbrev pub IsServed : {X : Type 0} → Protocol Standing X Ending → Standing → List ℕ → Outside → List ℕ → Ending → Standing → Type 0
 IsServed p start came used out (Ok EndOfInput) last = IsWhole p start came used out (Ok EndOfInput) last
-IsServed p start came used out (Err Read) last = (rest : List ℕ) × Answers p start came used (record { out = out; ending = None; state = last }) rest
+IsServed p start came used out (Err Read) last = IsWhole p start came used out (Ok EndOfInput) last
 IsServed p start came used out (Err Write) last =
     (unsent rest : List ℕ) × (ending : Option Ending) × Answers p start came used (record { out = out ++ unsent; ending = ending; state = last }) rest
 IsServed p start came used out ending last = (rest : List ℕ) × Answers p start came used (record { out = out; ending = Some ending; state = last }) rest

@@ -48,6 +48,7 @@ fn answer_taken<A: Archive, C: Clock>(
     sessions: &mut Sessions,
     taken: Taken<'_>,
     clock: &mut C,
+    body: &mut Vec<u8>,
     out: &mut Vec<u8>,
 ) -> Result<Turn, ServeFault>
     requires ready { LeavesReady taken channel.old }
@@ -70,6 +71,7 @@ fn answer_taken<A: Archive, C: Clock>(
                 request_id,
                 message.as_slice(),
                 now,
+                body,
                 out,
             )
         }
@@ -86,6 +88,7 @@ fn answer_chunk<A: Archive, C: Clock>(
     sessions: &mut Sessions,
     chunk: Chunk<'_>,
     clock: &mut C,
+    body: &mut Vec<u8>,
     out: &mut Vec<u8>,
 ) -> Result<Turn, ServeFault>
     ensures answered { (client : Client) → (used : Outside) × C.gave clock.old used.readings clock.new
@@ -97,7 +100,7 @@ fn answer_chunk<A: Archive, C: Clock>(
     };
     match channel.take(chunk) {
         Ok(taken) => answer_taken(
-            alloc, settings, archive, channel, sessions, taken, clock, out,
+            alloc, settings, archive, channel, sessions, taken, clock, body, out,
         ),
         Err(fault) => refuse(fault.code(), out),
     }
@@ -112,6 +115,7 @@ pub(crate) fn answer_piece<A: Archive, C: Clock>(
     sessions: &mut Sessions,
     chunk: Chunk<'_>,
     clock: &mut C,
+    body: &mut Vec<u8>,
     out: &mut Vec<u8>,
 ) -> Result<Turn, ServeFault>
     ensures answered { (client : Client) → (used : Outside) × C.gave clock.old used.readings clock.new
@@ -122,7 +126,7 @@ pub(crate) fn answer_piece<A: Archive, C: Clock>(
         Kind::Hello => greet(alloc, chunk.body, channel, out),
         Kind::Open | Kind::Close | Kind::Message => {
             answer_chunk(
-                alloc, settings, archive, channel, sessions, chunk, clock, out,
+                alloc, settings, archive, channel, sessions, chunk, clock, body, out,
             )
         }
     }

@@ -29,6 +29,8 @@ pub(crate) struct Connection {
     sessions: Sessions,
     // the chunks so far
     taken: u32,
+    // where responses are made
+    body: Vec<u8>,
 }
 
 impl Model for Connection {
@@ -52,6 +54,7 @@ fn take_next<A: Archive, C: Clock>(
     sessions: &mut Sessions,
     taken: u32,
     clock: &mut C,
+    body: &mut Vec<u8>,
     out: &mut Vec<u8>,
 ) -> Result<Turn, ServeFault>
     requires few { taken ≤ MOST_CHUNKS }
@@ -72,7 +75,7 @@ fn take_next<A: Archive, C: Clock>(
                 return Err(ServeFault::TooLong);
             }
             answer_piece(
-                alloc, settings, archive, channel, sessions, chunk, clock, out,
+                alloc, settings, archive, channel, sessions, chunk, clock, body, out,
             )
         }
     }
@@ -88,6 +91,7 @@ impl Connection {
             channel: None,
             sessions: Sessions::new(alloc),
             taken: 0,
+            body: Vec::new(alloc),
         }
     }
 
@@ -130,6 +134,7 @@ impl Connection {
             &mut self.sessions,
             self.taken,
             clock,
+            &mut self.body,
             out,
         );
         match turn {

@@ -89,7 +89,7 @@ fn send_starved(
     }
 }
 
-/// Answers a message; where memory for its response is wanting, by a ServiceFault that says so, and what the service did
+/// Answers a message by a response that is made in `body`, whatever stands there; where memory for its response is wanting, by a ServiceFault that says so, and what the service did
 /// stands.
 pub(crate) fn respond<A: Archive>(
     alloc: Global,
@@ -100,6 +100,7 @@ pub(crate) fn respond<A: Archive>(
     request_id: u32,
     message: &[u8],
     now: Ticks,
+    body: &mut Vec<u8>,
     out: &mut Vec<u8>,
 ) -> Result<Turn, ServeFault>
     requires { IsReady channel.old }
@@ -107,13 +108,13 @@ pub(crate) fn respond<A: Archive>(
         × Answered (A.state archive.old) (A.state archive.new) (λ R. responded (site_of settings.now (A.state archive.old)) (standing_of client sessions.old R) channel.old request_id message.now now) (record { marks = used; readings = [] }) out.old.items out.new.items (ending_of result) (behind client result (Some channel.new) sessions.new) }
     ensures own { IsOwn ⊥ 65536 result }
 {
-    let mut body = Vec::new(alloc);
+    body.clear();
     let handle = handle_of(message);
-    match answer_message(alloc, settings, archive, sessions, now, message, &mut body) {
-        Ok(()) => match send_fitting(channel, request_id, now, handle, &mut body, out) {
+    match answer_message(alloc, settings, archive, sessions, now, message, body) {
+        Ok(()) => match send_fitting(channel, request_id, now, handle, body, out) {
             Ok(()) => Ok(Turn::Goes),
-            Err(_) => send_starved(channel, request_id, now, handle, &mut body, out),
+            Err(_) => send_starved(channel, request_id, now, handle, body, out),
         },
-        Err(_) => send_starved(channel, request_id, now, handle, &mut body, out),
+        Err(_) => send_starved(channel, request_id, now, handle, body, out),
     }
 }

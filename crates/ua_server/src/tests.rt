@@ -1,14 +1,20 @@
+mod clients;
 mod rows;
 
 use super::*;
 use crate::program::archive_of;
+use clients::{BEGIN, BEGUN, CLIENTS};
 use rows::{ACK, ANSWER, HELLO, OPEN, OPENED, PART, REQUEST, REST, ROWS, SESSION};
+use stamp::ReplicaNo;
 use std::alloc::Global;
 use std::io;
 use std::io::{Read, Write};
 use std::test::Fail;
-use ua_binary::Status;
-use ua_settings::Settings;
+use ua_binary::{Status, Text};
+use ua_session::Users;
+use ua_settings::{Parts, Settings};
+use ua_space::{Plan, Space, VariablePlan};
+use uuid::Uuid;
 
 /// Takes one byte a call, and none once it has `room`.
 #[derive(Drop)]
@@ -184,6 +190,88 @@ fn answers_in_hex(rt: HostRuntime) -> Result<(), Fail> {
         assert!(rt;
             is_answered(rt.alloc(), text.as_str(), want, ending)?,
             "{what}"
+        );
+    }
+    Ok(())
+}
+
+/// A plant with the one variable `ns=1;s=T`, an Int32.
+fn plant(alloc: Global) -> Result<Settings, Fail> {
+    let plan = Plan {
+        namespace: "urn:uahist:archive",
+        folders: &[],
+        variables: &[VariablePlan {
+            id: "T",
+            name: "T",
+            type_name: "Int32",
+            array: false,
+            folder: None,
+        }],
+    };
+    Ok(Settings::of(Parts {
+        archive: Uuid::nil(),
+        replica: ReplicaNo::new(1).ok_or("a replica")?,
+        store: None,
+        listen: Text::from_str(alloc, "127.0.0.1:4840")?,
+        url: Text::from_str(alloc, "opc.tcp://localhost:4840")?,
+        application: Text::from_str(alloc, "urn:uahist")?,
+        users: Users::new(alloc, true),
+        space: Space::build(alloc, &plan)?,
+    }))
+}
+
+/// What the plant writes to a client that begins a session and asks this.
+fn served_to(alloc: Global, rows: &[(&str, &str, &str)]) -> Result<Vec<u8>, Fail> {
+    let mut input = bytes_of(alloc, &[HELLO, OPEN, BEGIN[0], BEGIN[1]])?;
+    for (_, request, _) in rows {
+        let bytes = bytes_of(alloc, &[request])?;
+        input.extend_from_slice(bytes.as_slice())?;
+    }
+    let settings = plant(alloc)?;
+    let mut archive = archive_of(alloc, &settings);
+    let mut reader = Counted::new(input.as_slice());
+    let mut writer = Counted::new(Vec::new(alloc));
+    serve(
+        alloc,
+        &settings,
+        &mut archive,
+        &mut reader,
+        &mut writer,
+        &mut clock(),
+    )?;
+    Ok(writer.into_inner())
+}
+
+/// The first row, by its name, whose answer isn't the next one that was written; what is behind all rows is named so.
+fn first_other<'a>(
+    alloc: Global,
+    written: &[u8],
+    rows: &[(&'a str, &str, &str)],
+) -> Result<Option<&'a str>, Fail> {
+    let begun = bytes_of(alloc, &[ACK, OPENED, BEGUN[0], BEGUN[1]])?;
+    let mut rest = written.strip_prefix(begun.as_slice()).ok_or("a session")?;
+    for (name, _, answer) in rows {
+        let want = bytes_of(alloc, &[answer])?;
+        match rest.strip_prefix(want.as_slice()) {
+            Some(after) => rest = after,
+            None => return Ok(Some(name)),
+        }
+    }
+    Ok(if rest.is_empty() {
+        None
+    } else {
+        Some("the end")
+    })
+}
+
+#[test]
+fn serves_clients_of_a_plant(rt: HostRuntime) -> Result<(), Fail> {
+    for (client, rows) in CLIENTS {
+        let written = served_to(rt.alloc(), rows)?;
+        assert_eq!(rt;
+            first_other(rt.alloc(), written.as_slice(), rows)?,
+            None,
+            "{client}"
         );
     }
     Ok(())

@@ -14,8 +14,8 @@ returns-in-Ok-send_fitting-clause-answered g c client =
     sends-response (state c.args.archive.now) (state c.answer_message.new.archive) (site_of c.args.settings.now (state c.args.archive.now)) client c.args.sessions.now c.args.channel.now c.send_fitting.new.channel c.args.request_id c.args.message.now c.args.now c.handle_of-handle.result
     done.0 done.1 c.answer_message.new.sessions c.args.out.now.items c.send_fitting.new.out.items c.answer_message.new.body.items c.handle_of-handle.ensures done.3 done.2 c.in-Ok-send_fitting.ensures.0 c.in-Ok-send_fitting.ensures.1
 
-pub returns-in-Ok-clause-answered : goal.returns-in-Ok-clause-answered
-returns-in-Ok-clause-answered g c client =
+pub returns-in-Err-send_fitting-clause-answered : goal.returns-in-Err-send_fitting-clause-answered
+returns-in-Err-send_fitting-clause-answered g c client =
     let done = c.answer_message.ensures in
     let state = g.A.Archive.state in
     let handle = c.handle_of-handle.result in
@@ -26,8 +26,8 @@ returns-in-Ok-clause-answered g c client =
     sends-starved (state c.args.archive.now) (state c.answer_message.new.archive) (site_of c.args.settings.now (state c.args.archive.now)) client c.args.sessions.now c.args.channel.now c.send_starved.new.channel c.args.request_id c.args.message.now c.args.now handle
     done.0 (done.1, c.answer_message.new.sessions) c.args.out.now.items c.send_starved.new.out.items c.send_starved.result c.handle_of-handle.ensures done.2 (subst P unsent.1 (subst Q unsent.2 c.send_starved.ensures.sends))
 
-pub returns-clause-answered : goal.returns-clause-answered
-returns-clause-answered g c client =
+pub returns-in-Err-clause-answered : goal.returns-in-Err-clause-answered
+returns-in-Err-clause-answered g c client =
     let done = c.answer_message.ensures in
     let state = g.A.Archive.state in
     sends-starved (state c.args.archive.now) (state c.answer_message.new.archive) (site_of c.args.settings.now (state c.args.archive.now)) client c.args.sessions.now c.args.channel.now c.send_starved-in-Err.new.channel c.args.request_id c.args.message.now c.args.now c.handle_of-handle.result

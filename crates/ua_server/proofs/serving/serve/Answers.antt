@@ -27,7 +27,10 @@ returns-in_err-n-clause-serves g c =
     let state = g.A.Archive.state in
     let left = g.R.Read.remaining in
     let contents = g.W.Write.contents in
-    (so.0, so.1, rw is (serves-read c.args.settings.now (state c.args.archive.now) (state c.reads.archive) (left c.args.reader.now.inner) (left c.reads.reader.inner) (left c.read_piece.new.self.inner) (contents c.args.writer.now.inner) (contents c.reads.writer.inner) so.0 c.reads.connection so.2 c.in_err-n.ensures.kept))
+    let end = serves-read c.args.settings.now (state c.args.archive.now) (state c.reads.archive) (left c.args.reader.now.inner) (left c.reads.reader.inner) (left c.read_piece.new.self.inner) (contents c.args.writer.now.inner) (contents c.reads.writer.inner) so.0
+    c.reads.connection so.2 c.in_err-n.ensures.kept c.reads.invariant.short in
+    let P : List ℤ → Type 0 = λ r. g.C.Clock.gave c.args.clock.now r c.reads.clock in
+    (before so.0 end.0, subst P (sym (append-nil so.0.readings) ∙ ap (λ (r : List ℤ). so.0.readings ++ r) (sym end.1)) so.1, rw is end.2)
 
 pub returns-then-n-eq0-clause-serves : goal.returns-then-n-eq0-clause-serves
 returns-then-n-eq0-clause-serves g c =
