@@ -14,7 +14,7 @@ use crate::browsing::browse;
 use crate::histories::read_history;
 use crate::reading::read;
 use crate::responses::put_service_fault;
-use crate::service::{Service, handle_of, service_of};
+use crate::service::{Service, service_of};
 use crate::sessions::{activate_session, close_session, create_session, get_endpoints};
 use crate::updating::update_history;
 use archive::Archive;
@@ -85,7 +85,8 @@ fn perform<A: Archive>(
     )
 }
 
-/// Answers a message of a client: performs what it asks, and makes the bytes of the response in `body`, which is empty.
+/// Answers a message of a client whose header has this handle (`handle_of`): performs what it asks, and makes the bytes of the
+/// response in `body`, which is empty.
 ///
 /// Where the type id can't be read, the service isn't served, or the header or the body can't be read, where the session
 /// isn't there or wasn't activated, and where the service refuses the request as a whole, the response is a ServiceFault
@@ -96,15 +97,16 @@ pub fn answer_message<A: Archive>(
     archive: &mut A,
     sessions: &mut Sessions,
     now: Ticks,
+    handle: u32,
     message: &[u8],
     body: &mut Vec<u8>,
 ) -> Result<(), AllocError>
-    requires { body.old.items ≡ [] }
+    requires handle { handle ≡ handle_of message.now }
+    requires body { body.old.items ≡ [] }
     ensures { (used : List Mark) × (told : Response)
         × Acts (A.state archive.old) (A.state archive.new) used (answered (site_of settings.now (A.state archive.old)) now message.now sessions.old) (told, sessions.new)
         × OnOk result (body.new.items ≡ response now (handle_of message.now) told) }
 {
-    let handle = handle_of(message);
     let put = match perform(alloc, settings, archive, sessions, now, message) {
         Ok(answer) => answer.put(body, now, handle),
         Err(Status::BAD_OUT_OF_MEMORY) => return Err(AllocError),

@@ -110,7 +110,9 @@ pub(crate) fn respond<A: Archive>(
 {
     body.clear();
     let handle = handle_of(message);
-    match answer_message(alloc, settings, archive, sessions, now, message, body) {
+    match answer_message(
+        alloc, settings, archive, sessions, now, handle, message, body,
+    ) {
         Ok(()) => match send_fitting(channel, request_id, now, handle, body, out) {
             Ok(()) => Ok(Turn::Goes),
             Err(_) => send_starved(channel, request_id, now, handle, body, out),
