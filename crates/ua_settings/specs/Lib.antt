@@ -1,2 +1,7 @@
 pub mod Fault
+pub mod File
+pub mod Keys
+pub mod Place
+pub mod Reading
 pub mod Settings
+pub mod Sound

@@ -1,5 +1,5 @@
 -- What a server is set to.
-use Rattle.std.specs.Prelude.{◌≤◌, List, [], ℕ, length, replicate, codes, true, Option, None, IfSome}
+use Rattle.std.specs.Prelude.{◌≤◌, List, [], ℕ, length, replicate, codes, true, Option, None}
 use Rattle.ua_session.specs.Users.{Allowed}
 use Rattle.ua_settings.specs.declared.settings.Parts.{Parts}
 use Rattle.ua_space.specs.declared.layout.Layout.{Layout}

@@ -2,9 +2,16 @@
 #![tactic(auto)]
 
 mod fault;
+mod judging;
+mod keys;
+mod looking;
+mod place;
+mod reading;
 mod settings;
 
 pub use fault::SettingsFault;
+pub use keys::Section;
+pub use place::Place;
 pub use settings::{Parts, Settings};
 
 #[cfg(test)]

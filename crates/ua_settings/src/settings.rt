@@ -1,15 +1,20 @@
 //! The settings of a server.
 
-ghost use Rattle.std.specs.Prelude.{◌≡◌, IfOk, IfErr, IfSome, ℕ, List, Option};
+ghost use Rattle.std.specs.Prelude.{◌≡◌, ◌⊎◌, IfOk, IfErr, Option, Some};
 ghost use Rattle.std.specs.Option.{option_copied};
-ghost use Rattle.ua_session.specs.Users.{Allowed};
-ghost use Rattle.ua_space.specs.declared.layout.Layout.{Layout};
+ghost use Rattle.toml.specs.Errors.{IsMemory};
+ghost use Rattle.toml.specs.Parse.{parse_document};
+ghost use Rattle.toml.specs.View.{table_view};
+ghost use Rattle.ua_settings.specs.Reading.{IsReadOrStarved};
 ghost use Rattle.ua_settings.specs.Settings.{bare, IsShort, values_of};
 
 use crate::fault::SettingsFault;
+use crate::judging::judge;
+use crate::reading::read_document;
 use stamp::ReplicaNo;
 use std::alloc::Global;
 use std::marker::Model;
+use toml::Table;
 use ua_binary::Text;
 use ua_session::Users;
 use ua_space::{Plan, Space};
@@ -94,6 +99,20 @@ impl Settings {
         })
     }
 
+    /// The settings that a text gives (TOML 1.1), each of its texts with at most 65,536 bytes.
+    ///
+    /// Errors: `NotToml` where `toml` refuses the text; then `UnknownKey`, `MissingKey` and `BadValue`, each over the
+    /// whole text, in this order; then `Space` for what the folders and variables lack to be an address space;
+    /// `OutOfMemory` where it is met.
+    pub fn read(alloc: Global, text: &str) -> Result<Settings, SettingsFault>
+        ensures { IsReadOrStarved (parse_document text.now) result }
+    {
+        match toml::table_from_str(alloc, text) {
+            Ok(document) => read_judged(alloc, &document),
+            Err(error) => Err(fault_of(&error)),
+        }
+    }
+
     /// The settings of these parts. The URL and the name of the application have less than 2^31 bytes each.
     pub fn of(parts: Parts) -> Settings
         requires url { IsShort parts.url }
@@ -171,5 +190,26 @@ impl Settings {
         ensures { result.now ≡ self.now.space }
     {
         &self.space
+    }
+}
+
+/// What an error of the TOML reader is called here.
+fn fault_of(error: &toml::de::Error) -> SettingsFault
+    ensures { ((result ≡ SettingsFault.OutOfMemory) × IsMemory error.now) ⊎ ((result ≡ SettingsFault.NotToml) × ¬ IsMemory error.now) }
+{
+    if error.is_memory() {
+        SettingsFault::OutOfMemory
+    } else {
+        SettingsFault::NotToml
+    }
+}
+
+/// The settings that a document gives.
+fn read_judged(alloc: Global, document: &Table) -> Result<Settings, SettingsFault>
+    ensures { IsReadOrStarved (Some (table_view document.now)) result }
+{
+    match judge(alloc, document)? {
+        Some((wrong, _)) => Err(wrong.fault()),
+        None => read_document(alloc, document),
     }
 }

@@ -1,0 +1,148 @@
+-- A sound document's plan is one that makes a space.
+use Rattle.std.proofs.Common.{◌≡◌, ◌≤◌, ◌<◌, ◌^◌, ℕ, Bool, true, List, [], ◌∷◌, map, length, codes, refl, ap, sym, subst, ◌∙◌, arith, inl, inr, Option, None, Some, IfSome, IfOk, IfErr, Result, Ok, Err, nat_eq, option_copied, Bor, is_ok}
+use Rattle.std.proofs.lemmas.Bool.{and_parts, leb-true, false≢true}
+use Rattle.std.specs.List.{list_any, AllByRecursion}
+use Rattle.std.specs.Cmp.Lexicographic.{pointwise}
+use Rattle.toml.specs.Data.{Members}
+use Rattle.ua_session.specs.Users.{Allowed}
+use Rattle.ua_session.specs.declared.identity.User.{User as SessionUser}
+use Rattle.ua_binary.specs.Format.{IsOrStarved}
+use Rattle.ua_space.specs.declared.fault.BuildFault.{BuildFault}
+use Rattle.ua_space.specs.declared.fault.BuildFault.TheVariants as build
+use Rattle.ua_space.specs.declared.layout.Layout.{Layout}
+use Rattle.ua_space.specs.declared.plan.Plan.{Plan}
+use Rattle.ua_space.specs.declared.plan.FolderPlan.{FolderPlan}
+use Rattle.ua_space.specs.declared.plan.VariablePlan.{VariablePlan}
+use Rattle.ua_space.specs.Plan.{planned, HasPlannedId, HasFolder, HasShortPlan, folder_of, variable_of}
+use Rattle.ua_space.specs.Space.{IsCountable, HasShortTexts, HasShortName}
+use Rattle.ua_settings.specs.declared.fault.SettingsFault.{SettingsFault}
+use Rattle.ua_settings.specs.declared.fault.SettingsFault.TheVariants.{OutOfMemory}
+use Rattle.ua_settings.specs.declared.keys.Section.TheVariants.{User, Folder, Variable}
+use Rattle.ua_settings.specs.File.{tables, text_at, is_name, is_short, names_in}
+use Rattle.ua_settings.specs.Reading.{Entry, entry_of, folder_in, variable_in, table_at, truth_at, user_in, values_of_tables, users_in, space_of, space_fault, IsPlanOf, IsSpaceOf, IsSpaceOrStarved, IsAcceptedOrStarved}
+use Rattle.ua_settings.specs.Settings.{Values}
+use Rattle.ua_settings.specs.Sound.{IsSound, IsSoundFolder, IsSoundVariable}
+use Rattle.ua_settings.proofs.Mapped.{any_of_mapped}
+
+pub map_twice : {A B C : Type 0} (g : B → C) (f : A → B) (xs : List A) → map g (map f xs) ≡ map (λ x. g (f x)) xs
+map_twice g f [] = refl
+map_twice g f (x ∷ xs) = ap (λ more. g (f x) ∷ more) (map_twice g f xs)
+
+pub all_under : {A B : Type 0} (f : A → B) (P : B → Type 0) (xs : List A) → AllByRecursion P (map f xs) → AllByRecursion (λ x. P (f x)) xs
+all_under f P [] all = tt
+all_under f P (x ∷ xs) all = (all.0, all_under f P xs all.1)
+
+all_to : {A B : Type 0} (f : A → B) (P : A → Type 0) (Q : B → Type 0) → ((x : A) → P x → Q (f x)) → (xs : List A) → AllByRecursion P xs → AllByRecursion Q (map f xs)
+all_to f P Q to [] all = tt
+all_to f P Q to (x ∷ xs) all = (to x all.0, all_to f P Q to xs all.1)
+
+all_from : {A B : Type 0} (f : A → B) (P : A → Type 0) (Q : B → Type 0) → ((x : A) → Q (f x) → P x) → (xs : List A) → AllByRecursion Q (map f xs) → AllByRecursion P xs
+all_from f P Q from [] all = tt
+all_from f P Q from (x ∷ xs) all = (from x all.0, all_from f P Q from xs all.1)
+
+short_length : (text : List ℕ) → is_short text ≡ true → length text < 2 ^ 31
+short_length text short =
+    let within = leb-true (length text) 65536 short in
+    omega arith
+
+pub short_text : (text : List ℕ) → is_short text ≡ true → length text ≤ 65536
+short_text text short = leb-true (length text) 65536 short
+
+pub name_bounds : (text : List ℕ) → is_name text ≡ true → (0 < length text) × (length text ≤ 256)
+name_bounds text named =
+    let parts = and_parts _ _ named in
+    let some = leb-true 1 (length text) parts.0 in
+    (omega arith, leb-true (length text) 256 parts.1)
+
+-- ---- of an entry
+
+IsIdentified : Entry → Type 0
+IsIdentified entry = (0 < length entry.id) × (length entry.id ≤ 256)
+
+IsAmong : List (List ℕ) → Entry → Type 0
+IsAmong ids entry = IfSome entry.folder (λ id. list_any (λ folder. pointwise nat_eq folder id) ids ≡ true)
+
+HasCountable : Entry → Type 0
+HasCountable entry = IsCountable entry.name
+
+module _ (document : Members) (sound : IsSound document) (folders : List FolderPlan) (variables : List VariablePlan)
+    (same_folders : map folder_of folders ≡ map folder_in (tables document Folder))
+    (same_variables : map entry_of variables ≡ map variable_in (tables document Variable)) where
+  pub ids_planned : AllByRecursion HasPlannedId variables
+  unfolding IsIdentified
+  ids_planned =
+      all_from entry_of HasPlannedId IsIdentified (λ variable held. held) variables
+      (subst (AllByRecursion IsIdentified) (sym same_variables)
+      (all_to variable_in (IsSoundVariable (names_in document).folders) IsIdentified (λ members held. name_bounds _ held.id) (tables document Variable) sound.variables))
+
+  folder_ids : (names_in document).folders ≡ map (λ folder. folder.id.now) folders
+  folder_ids =
+      sym (map_twice (λ folder. folder.id) folder_in (tables document Folder)) ∙ ap (map (λ folder. folder.id)) (sym same_folders) ∙ map_twice (λ folder. folder.id) folder_of folders
+
+  lent_folder : (folder : Option (Bor (List ℕ))) → IfSome (option_copied folder) (λ id. list_any (λ f. pointwise nat_eq f id) (names_in document).folders ≡ true)
+      → IfSome folder (λ id. list_any (λ f. pointwise nat_eq f.id.now id.now) folders ≡ true)
+  lent_folder None held = tt
+  lent_folder (Some id) held =
+      sym (any_of_mapped (λ f. f.id.now) (λ f. pointwise nat_eq f id.now) folders) ∙ ap (list_any (λ f. pointwise nat_eq f id.now)) (sym folder_ids) ∙ held
+
+  pub folders_planned : AllByRecursion (HasFolder folders) variables
+  unfolding IsAmong
+  folders_planned =
+      all_from entry_of (HasFolder folders) (IsAmong (names_in document).folders) (λ variable held. lent_folder variable.folder held) variables
+      (subst (AllByRecursion (IsAmong (names_in document).folders)) (sym same_variables)
+      (all_to variable_in (IsSoundVariable (names_in document).folders) (IsAmong (names_in document).folders) (λ members held. held.folder) (tables document Variable) sound.variables))
+
+  folders_short : AllByRecursion (λ folder. HasShortTexts (folder_of folder)) folders
+  folders_short =
+      all_under folder_of HasShortTexts folders
+      (subst (AllByRecursion HasShortTexts) (sym same_folders)
+      (all_to folder_in IsSoundFolder HasShortTexts (λ members held. (short_length _ held.id, short_length _ held.name)) (tables document Folder) sound.folders))
+
+  variables_short : AllByRecursion (λ variable. HasShortName (variable_of variable)) variables
+  unfolding HasCountable
+  variables_short =
+      all_from entry_of (λ variable. HasShortName (variable_of variable)) HasCountable (λ variable held. held) variables
+      (subst (AllByRecursion HasCountable) (sym same_variables)
+      (all_to variable_in (IsSoundVariable (names_in document).folders) HasCountable (λ members held. short_length _ held.name) (tables document Variable) sound.variables))
+
+  pub plan_short : (plan : Plan) → plan.folders.now ≡ folders → plan.variables.now ≡ variables
+      → plan.namespace.now ≡ text_at (codes "namespace") (table_at (codes "server") document) → HasShortPlan plan
+  plan_short plan f v n = record {
+    namespace = subst IsCountable (sym n) (short_length _ sound.server.namespace);
+    folders = subst (AllByRecursion (λ folder. HasShortTexts (folder_of folder))) (sym f) folders_short;
+    variables = subst (AllByRecursion (λ variable. HasShortName (variable_of variable))) (sym v) variables_short;
+  }
+
+-- ---- the settings of a sound document
+
+values_same : (document archive server : Members) (users : Allowed) (space : Layout) → archive ≡ table_at (codes "archive") document → server ≡ table_at (codes "server") document → users ≡ users_in document
+    → values_of_tables archive server users space ≡ values_of_tables (table_at (codes "archive") document) (table_at (codes "server") document) (users_in document) space
+values_same document archive server users space a s u = ap (λ t. values_of_tables t server users space) a ∙ ap (λ t. values_of_tables (table_at (codes "archive") document) t users space) s ∙ ap (λ t. values_of_tables (table_at (codes "archive") document) (table_at (codes "server") document) t space) u
+
+built : (document : Members) (plan : Plan) (made : Result Layout BuildFault) → IsPlanOf document plan → made ≡ planned plan → (result : Result Layout BuildFault)
+    → IsOrStarved build.OutOfMemory made result → IsSpaceOrStarved document (space_of result)
+built document plan (Ok answer) is_plan same (Ok space) is = inr (plan, is_plan, ap space_of (ap Ok is ∙ same))
+built document plan (Ok answer) is_plan same (Err fault) is = inl (ap (λ f. Err (space_fault f)) is)
+built document plan (Err refusal) is_plan same result is = inr (plan, is_plan, ap space_of (is ∙ same))
+
+pub space_built : (document : Members) (plan : Plan) (result : Result Layout BuildFault) → IsPlanOf document plan
+    → IsOrStarved build.OutOfMemory (planned plan) result → IsSpaceOrStarved document (space_of result)
+space_built document plan result is_plan is = built document plan (planned plan) is_plan refl result is
+
+has_space : (document : Members) (space : Layout) → IsSpaceOrStarved document (Ok space) → IsSpaceOf document (Ok space)
+has_space document space (inl starved) = absurd (false≢true (sym (ap is_ok starved)))
+has_space document space (inr is_space) = is_space
+
+pub accepted : (document archive server : Members) (users : Allowed) (space : Layout) (result : Result Values SettingsFault)
+    → archive ≡ table_at (codes "archive") document → server ≡ table_at (codes "server") document → users ≡ users_in document
+    → IsSpaceOrStarved document (Ok space)
+    → IfOk result (λ settings. settings ≡ values_of_tables archive server users space) → IfErr result (λ fault. fault ≡ OutOfMemory)
+    → IsAcceptedOrStarved document result
+accepted document archive server users space (Ok settings) a s u is_space ok err = inr (Ok space, has_space document space is_space, ap Ok (ok ∙ values_same document archive server users space a s u))
+accepted document archive server users space (Err fault) a s u is_space ok err = inl (ap Err err)
+
+pub users_same : (document server : Members) (anonymous : Bool) (named : List SessionUser) → server ≡ table_at (codes "server") document
+    → anonymous ≡ truth_at (codes "anonymous") server → named ≡ map user_in (tables document User)
+    → record { anonymous = anonymous; named = named } ≡ users_in document
+users_same document server anonymous named s a n =
+    ap (λ b. record { anonymous = b; named = named }) (a ∙ ap (truth_at (codes "anonymous")) s) ∙ ap (λ l. record { anonymous = truth_at (codes "anonymous") (table_at (codes "server") document); named = l }) n

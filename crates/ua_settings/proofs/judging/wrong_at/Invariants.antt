@@ -1,0 +1,8 @@
+use Rattle.std.proofs.Common.{◌≡◌, drop}
+use Rattle.toml.specs.View.{table_view}
+use Rattle.ua_settings.specs.File.{wrong_in, wrong_at, first_of}
+use Rattle.ua_settings.specs.declared.judging.TheConstants.{SECTIONS}
+use Rattle.ua_settings.proofs.judging.wrong_at.Given as goal
+
+abbrev pub invariant-loop-section : goal.invariant-loop-section
+invariant-loop-section l = wrong_at (table_view l.document) l.wrong ≡ first_of (wrong_in (table_view l.document) l.wrong) (drop l.section-index SECTIONS)

@@ -1,0 +1,7 @@
+use Rattle.std.proofs.Common.{◌≡◌, map, take}
+use Rattle.toml.specs.View.{table_view}
+use Rattle.ua_settings.specs.Reading.{user_in}
+use Rattle.ua_settings.proofs.reading.read_users.Given as goal
+
+abbrev pub invariant-loop-table : goal.invariant-loop-table
+invariant-loop-table l = l.users ≡ record { anonymous = l.anonymous; named = map (λ user. user_in (table_view user.now)) (take l.table-index l.tables) }

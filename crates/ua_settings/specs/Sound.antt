@@ -1,0 +1,38 @@
+-- What holds of a document in which nothing is wrong.
+use Rattle.std.specs.Prelude.{◌≡◌, true, codes, nat_eq, List, ℕ, IfSome, is_some, option_and_then}
+use Rattle.std.specs.List.{list_any, AllByRecursion}
+use Rattle.std.specs.Cmp.Lexicographic.{pointwise}
+use Rattle.toml.specs.Data.{Members, get_member, as_str, as_integer, as_table}
+use Rattle.ua_settings.specs.declared.keys.Section.TheVariants.{User, Folder, Variable}
+use Rattle.ua_settings.specs.File.{tables, text_at, is_id, is_name, is_replica, is_short, test, names_in}
+use Rattle.ua_settings.specs.Reading.{table_at}
+
+pub record IsSoundArchive (archive : Members) : Type 0 where
+  pub id : is_id (text_at (codes "id") archive) ≡ true
+  pub replica : test is_replica (option_and_then as_integer (get_member (codes "replica") archive)) ≡ true
+
+pub record IsSoundServer (server : Members) : Type 0 where
+  pub url : is_short (text_at (codes "url") server) ≡ true
+  pub application : is_short (text_at (codes "application") server) ≡ true
+  pub namespace : is_short (text_at (codes "namespace") server) ≡ true
+
+pub record IsSoundUser (user : Members) : Type 0 where
+  pub name : is_name (text_at (codes "name") user) ≡ true
+
+pub record IsSoundFolder (folder : Members) : Type 0 where
+  pub id : is_short (text_at (codes "id") folder) ≡ true
+  pub name : is_short (text_at (codes "name") folder) ≡ true
+
+pub record IsSoundVariable (folders : List (List ℕ)) (variable : Members) : Type 0 where
+  pub id : is_name (text_at (codes "id") variable) ≡ true
+  pub name : is_short (text_at (codes "name") variable) ≡ true
+  pub folder : IfSome (option_and_then as_str (get_member (codes "folder") variable)) (λ id. list_any (λ folder. pointwise nat_eq folder id) folders ≡ true)
+
+pub record IsSound (document : Members) : Type 0 where
+  pub has_archive : is_some (option_and_then as_table (get_member (codes "archive") document)) ≡ true
+  pub has_server : is_some (option_and_then as_table (get_member (codes "server") document)) ≡ true
+  pub archive : IsSoundArchive (table_at (codes "archive") document)
+  pub server : IsSoundServer (table_at (codes "server") document)
+  pub users : AllByRecursion IsSoundUser (tables document User)
+  pub folders : AllByRecursion IsSoundFolder (tables document Folder)
+  pub variables : AllByRecursion (IsSoundVariable (names_in document).folders) (tables document Variable)

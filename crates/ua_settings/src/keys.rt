@@ -1,0 +1,142 @@
+//! The keys of a settings file.
+
+ghost use Rattle.std.specs.Prelude.{◌≡◌, map};
+ghost use Rattle.ua_settings.specs.File.{rules};
+ghost use Rattle.ua_settings.specs.Keys.{rule_of};
+
+use crate::fault::SettingsFault;
+
+/// A kind of table of a settings file: the file itself, or one under the name of its header.
+#[derive(Clone, Copy, Debug, PartialEq, Eq)]
+pub enum Section {
+    Document,
+    Archive,
+    Server,
+    User,
+    Folder,
+    Variable,
+}
+
+/// What a key must hold.
+#[derive(Clone, Copy, Debug, PartialEq, Eq)]
+pub(crate) enum Holds {
+    /// A text of at most 65,536 bytes.
+    Text,
+    /// The text of a UUID.
+    Id,
+    /// A number of 1 to 64.
+    Replica,
+    /// `true` or `false`.
+    Truth,
+    /// A text of 1 to 256 bytes.
+    NodeName,
+    /// A text of 1 to 256 bytes that no other user has for a name, and not `anonymous`.
+    UserName,
+    /// The id of a folder.
+    FolderId,
+    OneTable,
+    /// An array of tables.
+    Tables,
+    /// No value is taken.
+    Nothing,
+}
+
+/// What may be wrong with a key of a table.
+#[derive(Clone, Copy, Debug, PartialEq, Eq)]
+pub(crate) enum Wrong {
+    /// The table may not have it.
+    Unknown,
+    /// The table has to have it.
+    Missing,
+    /// It doesn't hold what it must.
+    Bad,
+}
+
+impl Wrong {
+    ghost use Rattle.ua_settings.specs.Reading.{fault_of};
+
+    /// What it is called outside.
+    pub fn fault(self) -> SettingsFault
+        ensures { result ≡ fault_of self }
+    {
+        match self {
+            Wrong::Unknown => SettingsFault::UnknownKey,
+            Wrong::Missing => SettingsFault::MissingKey,
+            Wrong::Bad => SettingsFault::BadValue,
+        }
+    }
+}
+
+/// A key that a table may have.
+#[derive(Clone, Copy, Debug)]
+pub(crate) struct Key {
+    pub name: &'static str,
+    pub required: bool,
+    pub holds: Holds,
+}
+
+/// A key that has to be there, and one that may be.
+macro_rules! key {
+    ($name:literal, $holds:ident) => {
+        Key {
+            name: $name,
+            required: true,
+            holds: Holds::$holds,
+        }
+    };
+    ($name:literal, $holds:ident, optional) => {
+        Key {
+            name: $name,
+            required: false,
+            holds: Holds::$holds,
+        }
+    };
+}
+
+static DOCUMENT: [Key; 5] = [
+    key!("archive", OneTable),
+    key!("server", OneTable),
+    key!("user", Tables, optional),
+    key!("folder", Tables, optional),
+    key!("variable", Tables, optional),
+];
+
+static ARCHIVE: [Key; 3] = [
+    key!("id", Id),
+    key!("replica", Replica),
+    key!("store", Nothing, optional),
+];
+
+static SERVER: [Key; 5] = [
+    key!("listen", Text),
+    key!("url", Text),
+    key!("application", Text),
+    key!("namespace", Text),
+    key!("anonymous", Truth),
+];
+
+static USER: [Key; 2] = [key!("name", UserName), key!("password", Text)];
+
+static FOLDER: [Key; 2] = [key!("id", Text), key!("name", Text)];
+
+static VARIABLE: [Key; 5] = [
+    key!("id", NodeName),
+    key!("name", Text),
+    key!("type", Text),
+    key!("array", Truth, optional),
+    key!("folder", FolderId, optional),
+];
+
+/// The keys of a kind of table.
+pub(crate) fn keys_of(section: Section) -> &'static [Key]
+    ensures { map rule_of result.now ≡ rules section }
+{
+    match section {
+        Section::Document => &DOCUMENT,
+        Section::Archive => &ARCHIVE,
+        Section::Server => &SERVER,
+        Section::User => &USER,
+        Section::Folder => &FOLDER,
+        Section::Variable => &VARIABLE,
+    }
+}

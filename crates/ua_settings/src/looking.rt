@@ -1,0 +1,141 @@
+//! What a TOML table holds.
+
+ghost use Rattle.std.specs.Prelude.{◌≡◌, map, find, IfOk, option_map, option_copied, option_and_then, unwrap_or, false, true, pos, MatchOption};
+ghost use Rattle.toml.specs.Data.{get_member, as_str, as_bool, as_integer, as_table};
+ghost use Rattle.toml.specs.View.{view, table_view};
+ghost use Rattle.ua_settings.specs.File.{tables, items_of, text_at, is_replica, one_table, many_tables};
+ghost use Rattle.toml.specs.Data.{as_array};
+
+use crate::keys::Section;
+use stamp::ReplicaNo;
+use std::alloc::{AllocError, Global};
+use toml::{Table, Value};
+
+/// The value at a key.
+pub(crate) fn find<'a>(table: &'a Table, key: &str) -> Option<&'a Value>
+    ensures { option_map (λ value. view value.now) result ≡ get_member key.now (table_view table.now) }
+{
+    table.get(key)
+}
+
+/// The text at a key.
+pub(crate) fn find_text<'a>(table: &'a Table, key: &str) -> Option<&'a str>
+    ensures { option_copied result ≡ option_and_then as_str (get_member key.now (table_view table.now)) }
+{
+    match find(table, key) {
+        Some(value) => value.as_str(),
+        None => None,
+    }
+}
+
+/// The text at a key, empty where there is none.
+pub(crate) fn text<'a>(table: &'a Table, key: &str) -> &'a str
+    ensures { result.now ≡ text_at key.now (table_view table.now) }
+{
+    match find_text(table, key) {
+        Some(text) => text,
+        None => "",
+    }
+}
+
+/// Whether `true` stands at a key.
+pub(crate) fn truth(table: &Table, key: &str) -> bool
+    ensures { result ≡ unwrap_or (option_and_then as_bool (get_member key.now (table_view table.now))) false }
+{
+    match find(table, key) {
+        Some(value) => value.as_bool().unwrap_or(false),
+        None => false,
+    }
+}
+
+/// The number at a key.
+pub(crate) fn number(table: &Table, key: &str) -> Option<i64>
+    ensures { result ≡ option_and_then as_integer (get_member key.now (table_view table.now)) }
+{
+    match find(table, key) {
+        Some(value) => value.as_integer(),
+        None => None,
+    }
+}
+
+/// The table at a key.
+pub(crate) fn table_at<'a>(table: &'a Table, key: &str) -> Option<&'a Table>
+    ensures { option_map (λ inner. table_view inner.now) result ≡ option_and_then as_table (get_member key.now (table_view table.now)) }
+{
+    match find(table, key) {
+        Some(value) => value.as_table(),
+        None => None,
+    }
+}
+
+/// The replica of a number.
+pub(crate) fn replica(number: i64) -> Option<ReplicaNo>
+    ensures { MatchOption result (is_replica number ≡ false) (λ replica. (is_replica number ≡ true) × (number ≡ pos replica)) }
+{
+    match u8::try_from(number) {
+        Ok(number) => ReplicaNo::new(number),
+        Err(_) => None,
+    }
+}
+
+/// The table at a key, where it holds one.
+fn one<'a>(alloc: Global, table: &'a Table, key: &str) -> Result<Vec<&'a Table>, AllocError>
+    ensures { IfOk result (λ found. map (λ t. table_view t.now) found.items ≡ one_table (get_member key.now (table_view table.now))) }
+{
+    let mut found = Vec::new(alloc);
+    if let Some(inner) = table_at(table, key) {
+        found.push(inner)?;
+    }
+    Ok(found)
+}
+
+/// The values of the array at a key.
+#[tactic(auto, using(crate::proofs::Tables::values_of_array))]
+fn items<'a>(table: &'a Table, key: &str) -> &'a [Value]
+    ensures { map view result.now ≡ items_of (option_and_then as_array (get_member key.now (table_view table.now))) }
+{
+    match find(table, key) {
+        Some(value) => match value.as_array() {
+            Some(items) => items.as_slice(),
+            None => &[],
+        },
+        None => &[],
+    }
+}
+
+/// The tables in the array at a key.
+
+fn many<'a>(alloc: Global, table: &'a Table, key: &str) -> Result<Vec<&'a Table>, AllocError>
+    ensures { IfOk result (λ found. map (λ t. table_view t.now) found.items ≡ many_tables (get_member key.now (table_view table.now))) }
+{
+    let mut found = Vec::new(alloc);
+    let values = items(table, key);
+    for value in values {
+        if let Some(inner) = value.as_table() {
+            found.push(inner)?;
+        }
+    }
+    Ok(found)
+}
+
+/// The tables of a section.
+pub(crate) fn tables_of<'a>(
+    alloc: Global,
+    document: &'a Table,
+    section: Section,
+) -> Result<Vec<&'a Table>, AllocError>
+    ensures { IfOk result (λ found. map (λ t. table_view t.now) found.items ≡ tables (table_view document.now) section) }
+{
+    match section {
+        Section::Document => {
+            let mut found = Vec::new(alloc);
+            found.push(document)?;
+            Ok(found)
+        }
+        Section::Archive => one(alloc, document, "archive"),
+        Section::Server => one(alloc, document, "server"),
+        Section::User => many(alloc, document, "user"),
+        Section::Folder => many(alloc, document, "folder"),
+        Section::Variable => many(alloc, document, "variable"),
+    }
+}
