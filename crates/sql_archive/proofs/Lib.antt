@@ -1,0 +1,15 @@
+pub mod Texts
+pub mod WriteLemmas
+pub mod QueryLemmas
+pub mod RowLemmas
+pub mod StoreLemmas
+pub mod StoryLemmas
+pub mod LearnLemmas
+pub mod OpenLemmas
+pub mod LastLemmas
+pub mod AskLemmas
+pub mod WalkLemmas
+pub mod PageLemmas
+pub mod RangeLemmas
+pub mod LoopLemmas
+pub mod SinceLemmas

@@ -1,0 +1,213 @@
+-- Records that come in turn are a closed content.
+use Rattle.std.proofs.Common.{◌≡◌, ℕ, ◌+◌, ◌≤◌, ◌<◌, nat_lt, ◌==◌, ℤ, pos, ◌≤ℤ◌, ◌<ℤ◌, int_lt, Bool, true, false, ◌&&◌, cond, List, [], ◌∷◌, ◌++◌, refl, sym, ap, subst, ◌∙◌, arith, inl, inr, ◌⊎◌, Ordering, Less, is_gt, append_assoc, append-nil}
+use Rattle.std.proofs.lemmas.Bool.{and_parts, eqb-true, ltb-true, ltb-false, true≢false}
+use Rattle.std.proofs.lemmas.Int.{ints}
+use Rattle.std.specs.List.{AllByRecursion}
+use Rattle.stamp.specs.Limits.{greatest}
+use Rattle.records.specs.Lists.{Has, Rises, insert_sorted}
+use Rattle.records.specs.Records.{name_cmp}
+use Rattle.records.specs.Contents.{Content, IsClosed, IsNext, vec, last_tick, put}
+use Rattle.records.specs.Spelling.{IsRecord}
+use Rattle.records.specs.declared.record.Record.{Record}
+use Rattle.records.proofs.ChangeLemmas.{vec_next_own, vec_next_other, last_next_own, last_next_other}
+use Rattle.records.proofs.LearnLemmas.{closed-next, lt_from_test}
+use Rattle.records.proofs.PutLemmas.{has_from_put}
+use Rattle.archive.specs.Store.{IsLawfulContent}
+use Rattle.std.proofs.Common.{map, IsPermutation}
+use Rattle.std.proofs.lemmas.List.Sorted.{IsPermutation-sym}
+use Rattle.sqlite_value.specs.Order.{Row}
+use Rattle.sqlite_trees.specs.Tree.{Trees}
+use Rattle.records.proofs.Sorting.{all-has}
+use Rattle.sql_archive.specs.Words.{cells}
+use Rattle.sql_archive.specs.Rows.{row_of, content_in, AreRecords, IsFilled}
+use Rattle.sql_archive.proofs.RowLemmas.{content_is}
+use Rattle.sql_archive.specs.State.{shown_of}
+use Rattle.sql_archive.proofs.QueryLemmas.{shown_all}
+use Rattle.std.proofs.Common.{Result, Ok, Err, IfOk, IfErr, OnOk, not, negsuc, length}
+use Rattle.std.proofs.lemmas.Slice.Eq.{bytes_eq-Decides}
+use Rattle.std.proofs.lemmas.List.Sorted.{length_permutation, All-permutation}
+use Rattle.std.proofs.lemmas.List.Elements.{recursion_from_All, All-from_recursion}
+use Rattle.sqlite_value.specs.Order.{column}
+use Rattle.sqlite_value.specs.declared.value.Value.{Value}
+use Rattle.sqlite_value.specs.declared.value.Value.TheVariants.{Null, Int, Real, Text, Blob as Bytes}
+use Rattle.sqlite.specs.Effect.{Database}
+use Rattle.sqlite.specs.State.{State, HasCleanDisk}
+use Rattle.sqlite.proofs.StateLemmas.{survives_then}
+use Rattle.sqlite.proofs.Callers.{one_permutation}
+use Rattle.archive.specs.declared.fault.StoreFault.{StoreFault}
+use Rattle.archive.specs.declared.fault.StoreFault.TheVariants.{WrongArchive, WrongReplica, Refused}
+use Rattle.archive.specs.Store.{IsOfOpening, fault_in}
+use Rattle.archive.specs.Listed.{is_broken}
+use Rattle.sql_archive.specs.Rows.{IsStored, meta_row, meta_columns, meta_cells}
+use Rattle.sql_archive.specs.State.{Asked, Stays}
+use Rattle.sql_archive.specs.Opening.{Mark, mark_of, nowhere, comes_next, are_in_turn, has_number, has_bytes, judged_row, judged, Opens}
+
+-- the content ends with this mark: its origin's last number and tick, and no later origin
+record Ends (P : Content) (m : Mark) : Type 0 where
+  number : vec P m.origin ≡ m.number
+  tick : last_tick P m.origin ≡ m.tick
+  later : (origin : ℕ) → m.origin < origin → (vec P origin ≡ 0) × (last_tick P origin ≡ pos 0)
+  names : (z : Record) → Has P z → (z.origin < m.origin) ⊎ ((z.origin ≡ m.origin) × (z.number ≤ m.number))
+
+put_last : (r : Record) (P : Content) → ((z : Record) → Has P z → is_gt (name_cmp r z) ≡ true) → put r P ≡ P ++ r ∷ []
+put_last r [] above = refl
+put_last r (x ∷ P) above = rw (above x (inl refl)) (ap (λ l. x ∷ l) (put_last r P (λ z h. above z (inr h))))
+
+above_other : (r z : Record) → z.origin < r.origin → is_gt (name_cmp r z) ≡ true
+above_other r z l = grind arith
+
+above_same : (r z : Record) → z.origin ≡ r.origin → z.number < r.number → is_gt (name_cmp r z) ≡ true
+above_same r z e l = grind (arith, e)
+
+abbrev Follows : Content → Mark → Record → Type 0
+Follows P m r = IsNext P r × ((z : Record) → Has P z → is_gt (name_cmp r z) ≡ true)
+
+next_in : (P : Content) (m : Mark) (r : Record) → Ends P m → IsRecord r → comes_next m r ≡ true → Follows P m r
+next_in P m r at ok h = go (nat_lt m.origin r.origin) refl h
+  where
+    tick_from : pos 1 ≤ℤ r.tick
+    tick_from = ok.1.0
+
+    go : (b : Bool) → nat_lt m.origin r.origin ≡ b → cond b (r.number == 1) ((m.origin == r.origin) && (r.number == (m.number + 1)) && int_lt m.tick r.tick) ≡ true → Follows P m r
+    go true p e =
+        let up = ltb-true m.origin r.origin p in
+        let first = eqb-true r.number 1 e in
+        let none = at.later r.origin up in (
+          record { number = first ∙ sym (ap (λ n. n + 1) none.0); rises = subst (λ t. t <ℤ r.tick) (sym none.1) (grind (arith, ints, tick_from)); within = ok.1.1 },
+          λ z has. above_other r z (elim (at.names z has) [ inl l ↦ omega (arith, l, up) | inr s ↦ omega (arith, s.0, up) ]),
+        )
+    go false p e =
+        let parts = and_parts ((m.origin == r.origin) && (r.number == (m.number + 1))) (int_lt m.tick r.tick) e in
+        let more = and_parts (m.origin == r.origin) (r.number == (m.number + 1)) parts.0 in
+        let same = eqb-true m.origin r.origin more.0 in
+        let number = eqb-true r.number (m.number + 1) more.1 in
+        let rises = lt_from_test m.tick r.tick parts.1 in (
+          record { number = number ∙ ap (λ n. n + 1) (sym at.number ∙ ap (vec P) same); rises = subst (λ t. t <ℤ r.tick) (sym at.tick ∙ ap (last_tick P) same) rises; within = ok.1.1 },
+          λ z has. elim (at.names z has) [ inl l ↦ above_other r z (subst (λ o. z.origin < o) same l) | inr s ↦ above_same r z (s.0 ∙ same) (omega (arith, s.1, number)) ],
+        )
+
+ends_then : (P : Content) (m : Mark) (r : Record) → Ends P m → IsNext P r → comes_next m r ≡ true → Ends (put r P) (mark_of r)
+ends_then P m r at next h = record {
+  number = vec_next_own P r next;
+  tick = last_next_own P r next;
+  later = λ origin up.
+      let apart : r.origin ≡ origin → ⊥ = λ e. absurd (omega (arith, e, up)) in
+      let none = at.later origin (omega (arith, up, not_below)) in (vec_next_other P r origin apart ∙ none.0, last_next_other P r origin apart ∙ none.1);
+  names = λ z has. elim (has_from_put r P z has) [
+    | inl e ↦ inr (sym (ap (λ (x : Record). x.origin) e), omega (arith, ap (λ (x : Record). x.number) e))
+    | inr old ↦ placed z (at.names z old)
+  ];
+}
+  where
+    which : (m.origin < r.origin) ⊎ ((m.origin ≡ r.origin) × (r.number ≡ m.number + 1))
+    which = go (nat_lt m.origin r.origin) refl h
+      where
+        go : (b : Bool) → nat_lt m.origin r.origin ≡ b → cond b (r.number == 1) ((m.origin == r.origin) && (r.number == (m.number + 1)) && int_lt m.tick r.tick) ≡ true → (m.origin < r.origin) ⊎ ((m.origin ≡ r.origin) × (r.number ≡ m.number + 1))
+        go true p e = inl (ltb-true m.origin r.origin p)
+        go false p e = let parts = and_parts ((m.origin == r.origin) && (r.number == (m.number + 1))) (int_lt m.tick r.tick) e in let more = and_parts (m.origin == r.origin) (r.number == (m.number + 1)) parts.0 in inr (eqb-true m.origin r.origin more.0, eqb-true r.number (m.number + 1) more.1)
+
+    not_below : m.origin ≤ r.origin
+    not_below = elim which [ inl l ↦ omega (arith, l) | inr s ↦ omega (arith, s.0) ]
+
+    placed : (z : Record) → (z.origin < m.origin) ⊎ ((z.origin ≡ m.origin) × (z.number ≤ m.number)) → (z.origin < r.origin) ⊎ ((z.origin ≡ r.origin) × (z.number ≤ r.number))
+    placed z (inl l) = inl (omega (arith, l, not_below))
+    placed z (inr s) = elim which [ inl l ↦ inl (omega (arith, l, s.0)) | inr e ↦ inr (s.0 ∙ e.0, omega (arith, s.1, e.1)) ]
+
+turn : (P : Content) (m : Mark) (rs : List Record) → IsClosed P → Ends P m → ((r : Record) → Has rs r → IsRecord r) → are_in_turn m rs ≡ true → IsClosed (P ++ rs)
+turn P m [] closed at each h = subst IsClosed (sym (append-nil P)) closed
+turn P m (r ∷ rs) closed at each h =
+    let parts = and_parts (comes_next m r) (are_in_turn (mark_of r) rs) h in
+    let both = next_in P m r at (each r (inl refl)) parts.0 in
+    let last = put_last r P both.1 in
+    let more = turn (put r P) (mark_of r) rs (closed-next P r closed both.0) (ends_then P m r at both.0 parts.0) (λ z has. each z (inr has)) parts.1 in
+    subst IsClosed (ap (λ l. l ++ rs) last ∙ append_assoc P (r ∷ []) rs) more
+
+nothing_closed : IsClosed []
+nothing_closed = record { ordered = tt; numbers = λ r h. absurd h; whole = λ o n a b. absurd (omega (arith, a, b)); ticks = λ r h. absurd h; rising = λ r s h. absurd h }
+
+-- records that come in turn are a lawful content
+pub lawful_in_turn : (rs : List Record) → ((r : Record) → Has rs r → IsRecord r) → are_in_turn nowhere rs ≡ true → IsLawfulContent rs
+lawful_in_turn rs each h = record {
+  closed = turn [] nowhere rs nothing_closed (record { number = refl; tick = refl; later = λ o up. (refl, refl); names = λ z has. absurd has }) each h;
+  records = λ r has. (each r has).0;
+}
+
+-- what the walk of rows has shown
+pub walked : (db : Trees) (rows : List Row) (items : List Record) → IsPermutation (cells (db 1)) rows → map row_of items ≡ map shown_of rows → AllByRecursion IsRecord items → are_in_turn nowhere items ≡ true → IsFilled db × (content_in db ≡ items)
+walked db rows items same read each h =
+    let is : map row_of items ≡ rows = read ∙ shown_all (db 1) rows same in
+    let lawful = lawful_in_turn items (λ r has. all-has IsRecord items r each has) h in
+    let stands : AreRecords items db = subst (λ xs. IsPermutation xs (cells (db 1))) (sym is) (IsPermutation-sym (cells (db 1)) rows same) in
+    ((items, lawful, stands), content_is items db lawful stands)
+
+-- ---- whose store it is
+
+number_is : (v : Value) (n : ℕ) → has_number v n ≡ true → v ≡ Int (pos n)
+number_is Null n e = absurd (true≢false (sym e))
+number_is (Int (pos m)) n e = ap (λ k. Int (pos k)) (eqb-true m n e)
+number_is (Int (negsuc m)) n e = absurd (true≢false (sym e))
+number_is (Real x) n e = absurd (true≢false (sym e))
+number_is (Text t) n e = absurd (true≢false (sym e))
+number_is (Bytes b) n e = absurd (true≢false (sym e))
+
+bytes_are : (v : Value) (bytes : List ℕ) → has_bytes v bytes ≡ true → v ≡ Bytes bytes
+bytes_are Null b e = absurd (true≢false (sym e))
+bytes_are (Int m) b e = absurd (true≢false (sym e))
+bytes_are (Real x) b e = absurd (true≢false (sym e))
+bytes_are (Text t) b e = absurd (true≢false (sym e))
+bytes_are (Bytes c) b e = ap Bytes ((bytes_eq-Decides c b).0 e)
+
+pub judged_permuted : (id : List ℕ) (own : ℕ) (xs ys : List Row) → IsPermutation xs ys → judged id own ys ≡ judged id own xs
+judged_permuted id own [] [] same = refl
+judged_permuted id own [] (y ∷ ys) same = absurd (omega (arith, length_permutation [] (y ∷ ys) same))
+judged_permuted id own (x ∷ []) ys same = ap (judged id own) (one_permutation x ys same)
+judged_permuted id own (x ∷ z ∷ xs) [] same = absurd (omega (arith, length_permutation (x ∷ z ∷ xs) [] same))
+judged_permuted id own (x ∷ z ∷ xs) (y ∷ []) same = absurd (omega (arith, length_permutation (x ∷ z ∷ xs) (y ∷ []) same))
+judged_permuted id own (x ∷ z ∷ xs) (y ∷ w ∷ ys) same = refl
+
+pub four_columns : (rows : List Row) (found : List Row) → IsPermutation (map meta_columns rows) found → AllByRecursion (λ r. length r ≡ 4) found
+four_columns rows found same = recursion_from_All (λ r. length r ≡ 4) found (All-permutation (λ r. length r ≡ 4) (map meta_columns rows) found same (All-from_recursion (λ r. length r ≡ 4) (map meta_columns rows) (each rows)))
+  where
+    each : (rs : List Row) → AllByRecursion (λ r. length r ≡ 4) (map meta_columns rs)
+    each [] = tt
+    each (r ∷ rs) = (refl, each rs)
+
+row_passed : (id : List ℕ) (own : ℕ) (a b c d : Value) → judged_row id own (a ∷ b ∷ c ∷ d ∷ []) ≡ Ok tt → a ∷ b ∷ c ∷ d ∷ [] ≡ meta_row id own
+row_passed id own a b c d e = go (has_bytes c id) (has_number d own) (has_number a 1 && has_number b 2) refl refl refl e
+  where
+    go : (x y z : Bool) → has_bytes c id ≡ x → has_number d own ≡ y → (has_number a 1 && has_number b 2) ≡ z → ◌≡◌ {A = Result Unit StoreFault} (cond (not x) (Err WrongArchive) (cond (not y) (Err WrongReplica) (cond (not z) (Err Refused) (Ok tt)))) (Ok tt)
+        → a ∷ b ∷ c ∷ d ∷ [] ≡ meta_row id own
+    go true true true p q r e =
+        let both = and_parts (has_number a 1) (has_number b 2) r in
+        let is_c = bytes_are c id p in
+        let is_d = number_is d own q in
+        let is_a = number_is a 1 both.0 in
+        let is_b = number_is b 2 both.1 in ap (λ v. v ∷ b ∷ c ∷ d ∷ []) is_a ∙ ap (λ v. Int (pos 1) ∷ v ∷ c ∷ d ∷ []) is_b ∙ ap (λ v. Int (pos 1) ∷ Int (pos 2) ∷ v ∷ d ∷ []) is_c ∙ ap (λ v. Int (pos 1) ∷ Int (pos 2) ∷ Bytes id ∷ v ∷ []) is_d
+    go true true false p q r e = absurd cc
+    go true false z p q r e = absurd cc
+    go false y z p q r e = absurd cc
+
+meta_passed : (id : List ℕ) (own : ℕ) (rows : List Row) → judged id own (map meta_columns rows) ≡ Ok tt → map meta_columns rows ≡ meta_row id own ∷ []
+meta_passed id own [] e = absurd cc
+meta_passed id own (r ∷ []) e = ap (λ x. x ∷ []) (row_passed id own (column r 0) (column r 2) (column r 3) (column r 4) e)
+meta_passed id own (r ∷ s ∷ rows) e = absurd cc
+
+pub opened_by : {A : Type 0} (id : List ℕ) (own : ℕ) (a b c : State) (P : Trees → A → Type 0) (result : Result A StoreFault) → Asked a b (Ok (Ok tt)) (λ told. told ≡ judged id own (meta_cells a.now.trees))
+    → Asked b c result (λ l. IsFilled b.now.trees × P b.now.trees l) → (HasCleanDisk c → HasCleanDisk b) → Opens id own a c (P a.now.trees) result
+opened_by {A} id own a b c P result one two early = record {
+  opened = λ clean. go result (one.kept (early clean) refl) (one.answer (early clean)) (two.kept clean) (two.answer clean);
+  wrong = λ clean. never result two.met;
+  crash = survives_then a b c _ _ _ (λ clean db none. none) (λ clean db none. none) one.crash two.crash;
+}
+  where
+    go : (r : Result A StoreFault) → Stays a b → Ok tt ≡ judged id own (meta_cells a.now.trees) → (is_broken (fault_in r) ≡ false → Stays b c) → IfOk r (λ l. IsFilled b.now.trees × P b.now.trees l) → IfOk r (λ l. Stays a c × IsStored id own a.now.trees × P a.now.trees l)
+    go (Ok l) s is more filled =
+        let t = more refl in
+        let same = ap (λ (d : Database). d.trees) s.same in
+        let all = subst (λ d. IsFilled d × P d l) same filled in
+        (record { idles = t.idles; same = t.same ∙ s.same }, record { content = all.0.0; lawful = all.0.1; stands = record { meta = meta_passed id own (a.now.trees 0) (sym is); records = all.0.2 } }, all.1)
+    go (Err f) s is more filled = tt
+
+    never : (r : Result A StoreFault) → IfErr r (λ f. IsOfOpening f → ⊥) → IfErr r (λ f. IsOfOpening f → judged id own (meta_cells a.now.trees) ≡ Err f)
+    never (Ok t) h = tt
+    never (Err f) h = λ o. absurd (h o)

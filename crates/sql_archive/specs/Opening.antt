@@ -1,0 +1,71 @@
+-- What a walk over the records of a store judges.
+use Rattle.std.specs.Prelude.{◌≡◌, Result, Ok, Err, IfOk, IfErr, OnOk, not, false, negsuc, ℕ, ◌+◌, ◌==◌, nat_lt, ℤ, pos, int_lt, Bool, true, ◌&&◌, if◌then◌else◌, List, [], ◌∷◌}
+use Rattle.std.specs.Str.{bytes_eq}
+use Rattle.sqlite_value.specs.Order.{Row, column}
+use Rattle.sqlite_value.specs.declared.value.Value.{Value}
+use Rattle.sqlite_value.specs.declared.value.Value.TheVariants.{Null, Int, Real, Text, Blob as Bytes}
+use Rattle.sqlite.specs.State.{State, HasCleanDisk, Survives}
+use Rattle.records.specs.declared.record.Record.{Record}
+use Rattle.archive.specs.declared.fault.StoreFault.{StoreFault}
+use Rattle.archive.specs.declared.fault.StoreFault.TheVariants.{WrongArchive, WrongReplica, Refused}
+use Rattle.archive.specs.Store.{IsOfOpening}
+use Rattle.sql_archive.specs.Rows.{IsStored, meta_cells}
+use Rattle.sql_archive.specs.State.{Stays}
+
+-- an origin, a number and a tick
+pub record Mark : Type 0 where
+  pub origin : ℕ
+  pub number : ℕ
+  pub tick : ℤ
+
+abbrev pub mark_of : Record → Mark
+mark_of r = record { origin = r.origin; number = r.number; tick = r.tick }
+
+abbrev pub nowhere : Mark
+nowhere = record { origin = 0; number = 0; tick = pos 0 }
+
+-- the record is the first of a later origin, or the next of the same one, with a tick that rises
+abbrev pub comes_next : Mark → Record → Bool
+comes_next m r = if nat_lt m.origin r.origin then r.number == 1 else (m.origin == r.origin) && (r.number == m.number + 1) && int_lt m.tick r.tick
+
+abbrev pub are_in_turn : Mark → List Record → Bool
+are_in_turn m [] = true
+are_in_turn m (r ∷ rs) = comes_next m r && are_in_turn (mark_of r) rs
+
+-- ---- whose store it is
+
+abbrev pub has_number : Value → ℕ → Bool
+has_number Null n = false
+has_number (Int (pos m)) n = m == n
+has_number (Int (negsuc m)) n = false
+has_number (Real x) n = false
+has_number (Text t) n = false
+has_number (Bytes b) n = false
+
+abbrev pub has_bytes : Value → List ℕ → Bool
+has_bytes Null bytes = false
+has_bytes (Int m) bytes = false
+has_bytes (Real x) bytes = false
+has_bytes (Text t) bytes = false
+has_bytes (Bytes b) bytes = bytes_eq b bytes
+
+-- a row of meta is judged: the archive first, then the replica, then the format
+abbrev pub judged_row : List ℕ → ℕ → Row → Result Unit StoreFault
+judged_row id own r =
+    if not (has_bytes (column r 2) id) then Err WrongArchive
+    else if not (has_number (column r 3) own) then Err WrongReplica
+    else if not (has_number (column r 0) 1 && has_number (column r 1) 2) then Err Refused
+    else Ok tt
+
+-- another count of rows is no archive's
+abbrev pub judged : List ℕ → ℕ → List Row → Result Unit StoreFault
+judged id own [] = Err Refused
+judged id own (r ∷ []) = judged_row id own r
+judged id own (r ∷ s ∷ rs) = Err Refused
+
+-- what an opening makes of the tables that are there: Ok only where they stand for a lawful content of this archive and replica;
+-- WrongArchive and WrongReplica only as meta says
+pub record Opens {A : Type 0} (id : List ℕ) (own : ℕ) (old new : State) (IsAnswer : A → Type 0) (result : Result A StoreFault) : Type 0 where
+  pub opened : HasCleanDisk new → IfOk result (λ a. Stays old new × IsStored id own old.now.trees × IsAnswer a)
+  pub wrong : HasCleanDisk new → IfErr result (λ fault. IsOfOpening fault → judged id own (meta_cells old.now.trees) ≡ Err fault)
+  pub crash : Survives old new (λ _. ⊥)

@@ -1,0 +1,58 @@
+-- The tables of the archive.
+use Rattle.std.specs.Prelude.{true, false, [], ◌∷◌, Some, None, codes, List, ℕ, pos, Bool}
+use Rattle.sqlite_value.specs.declared.keys.Collation.TheVariants.{Binary}
+use Rattle.sqlite_value.specs.declared.value.Value.TheVariants.{Null, Int, Blob as Bytes}
+use Rattle.sqlite_value.specs.Keys.{plain}
+use Rattle.sqlite_schema.specs.declared.schema.Column.{Column}
+use Rattle.sqlite_schema.specs.declared.schema.Table.{Table}
+use Rattle.sqlite_schema.specs.declared.schema.Index.{Index}
+use Rattle.sqlite_schema.specs.declared.schema.Schema.{Schema}
+use Rattle.sqlite_schema.specs.declared.schema.Kind.{Kind}
+use Rattle.sqlite_schema.specs.declared.schema.Kind.TheVariants.{Integer, Blob}
+use Rattle.sqlite_sql.specs.declared.ops.BinaryOp.TheVariants.{Compare}
+use Rattle.sqlite_sql.specs.declared.ops.CompareOp.TheVariants.{Eq}
+use Rattle.sqlite_sql.specs.Term.{Term, lit, col, op2}
+use Rattle.sqlite_catalog.specs.Change.{created}
+
+abbrev pub strict : List ℕ → Kind → Bool → Column
+strict name kind needed = record { name = name; kind = kind; is_strict = true; not_null = needed; default = Null; collation = Binary }
+
+abbrev pub bare : List ℕ → List Column → Table
+bare name columns = record {
+  name = name;
+  tree = 0;
+  columns = columns;
+  key = None;
+  primary = [];
+  uniques = [];
+  orders = [];
+  checks = [];
+  references = [];
+  computed = [];
+  stamps = record { places = []; terms = []; formats = [] };
+  is_counted = false;
+}
+
+abbrev pub meta : Table
+meta = record (bare (codes "meta") (strict (codes "one") Integer false ∷ strict (codes "format") Integer true ∷ strict (codes "archive") Blob true ∷ strict (codes "replica") Integer true ∷ [])) {
+  key = Some 0;
+  primary = 0 ∷ [];
+  checks = op2 (Compare Eq Binary) (col 1 0) (lit (Int (pos 1))) ∷ [];
+}
+
+abbrev pub records2 : Table
+records2 = record (bare (codes "records2") (strict (codes "origin") Integer true ∷ strict (codes "number") Integer true ∷ strict (codes "tick") Integer true ∷ strict (codes "node") Blob true ∷ strict (codes "time") Integer true
+    ∷ strict (codes "pico") Integer true ∷ strict (codes "asked") Integer true ∷ strict (codes "who") Blob true ∷ strict (codes "value") Blob true ∷ [])) {
+      primary = 1 ∷ 2 ∷ [];
+      uniques = (1 ∷ 2 ∷ []) ∷ (4 ∷ 5 ∷ 6 ∷ 3 ∷ 1 ∷ []) ∷ [];
+      orders = plain ∷ plain ∷ [];
+    }
+
+abbrev pub no_schema : Schema
+no_schema = record { tables = []; indexes = []; views = [] }
+
+abbrev pub with_meta : Schema
+with_meta = created no_schema meta
+
+abbrev pub archive_schema : Schema
+archive_schema = created with_meta records2

@@ -1,0 +1,66 @@
+-- Going over the times of a node in a direction.
+use Rattle.std.specs.Prelude.{◌≡◌, ◌-◌, ◌^◌, true, false, not, ℕ, ℤ, pos, negsuc, ◌≤ℤ◌, ◌+ℤ◌, ◌*ℤ◌, List, [], ◌∷◌, filter, reverse, Option, Some, None}
+use Rattle.std.specs.List.{flat_map, cons_option}
+use Rattle.ua_binary.specs.declared.values.NodeId.{NodeId}
+use Rattle.records.specs.Lists.{Has}
+use Rattle.sql_archive.specs.declared.reads.Story.{Story}
+use Rattle.records.specs.Contents.{Content, cut}
+use Rattle.records.specs.Records.{story, current, entries}
+use Rattle.records.specs.declared.record.Record.{Record}
+use Rattle.records.specs.Moments.{moment}
+use Rattle.records.specs.declared.shown.Held.{Held}
+use Rattle.records.specs.declared.shown.Entry.{Entry}
+use Rattle.archive.specs.Reading.{times, in_direction, is_past, follows}
+use Rattle.archive.specs.declared.reading.Direction.{Direction}
+use Rattle.archive.specs.declared.reading.Direction.TheVariants.{Forward, Backward}
+use Rattle.archive.specs.declared.reading.LogPlace.{LogPlace}
+
+-- the moment of a place, whose picoseconds may be one below or above those of a moment
+abbrev pub moment_at : ℤ → ℤ → ℤ
+moment_at ticks pico = ticks *ℤ pos 10000 +ℤ pico
+
+-- a place beyond which moments are told by ticks and picoseconds
+abbrev pub IsPlace : Direction → ℤ → Type 0
+IsPlace Forward pico = (negsuc 0 ≤ℤ pico) × (pico ≤ℤ pos 9999)
+IsPlace Backward pico = (pos 0 ≤ℤ pico) × (pico ≤ℤ pos 10000)
+
+-- of these times, the first in the direction that is strictly beyond a place
+abbrev pub IsNextTime : Direction → ℤ → List ℤ → Option ℤ → Type 0
+IsNextTime d place ts None = (t : ℤ) → Has ts t → is_past d place t ≡ false
+IsNextTime d place ts (Some t) = Has ts t × (is_past d place t ≡ true) × ((s : ℤ) → Has ts s → is_past d place s ≡ true → is_past d s t ≡ false)
+
+-- the times strictly beyond a place, in the direction, up to a far one
+abbrev pub stretch : Direction → ℤ → ℤ → List ℤ → List ℤ
+stretch d place far ts = filter (λ t. not (is_past d far t)) (filter (is_past d place) (in_direction d ts))
+
+-- a range's ends, in the direction: the place right before the near one, and the far one
+abbrev pub IsSpan : Direction → ℤ → ℤ → ℤ → ℤ → Type 0
+IsSpan Forward from to near far = (near ≡ from +ℤ negsuc 0) × (far ≡ to)
+IsSpan Backward from to near far = (near ≡ to +ℤ pos 1) × (far ≡ from)
+
+-- the last moment that a record may have, in the direction
+abbrev pub end_of_time : Direction → ℤ
+end_of_time Forward = moment (pos (2 ^ 63 - 1)) 9999
+end_of_time Backward = moment (pos 0) 0
+
+-- the time of the first of some records
+abbrev pub first_time : List Record → Option ℤ
+first_time [] = None
+first_time (r ∷ rs) = Some r.time
+
+-- ---- what is shown of a time
+
+abbrev pub values_at : Content → NodeId → ℤ → List Held
+values_at C node t = cons_option (current C node t) []
+
+abbrev pub entries_at : Content → NodeId → Option LogPlace → Direction → ℤ → List Entry
+entries_at C node after d t = filter (follows d after) (in_direction d (reverse (entries C node t)))
+
+-- at the first of the times beyond a place and up to a far one stand these records; None where there is no such time
+pub record IsStoryAt (R : Content) (node : NodeId) (v : ℕ → ℕ) (d : Direction) (place far : ℤ) (time : ℤ) (records : List Record) : Type 0 where
+  pub first : stretch d place far (times R node) ≡ time ∷ stretch d time far (times R node)
+  pub there : records ≡ story (cut R v) node time
+
+abbrev pub IsNextStory : Content → NodeId → (ℕ → ℕ) → Direction → ℤ → ℤ → Option Story → Type 0
+IsNextStory R node v d place far None = stretch d place far (times R node) ≡ []
+IsNextStory R node v d place far (Some s) = IsStoryAt R node v d place far s.time s.records.items

@@ -1,0 +1,88 @@
+//! The tables of an archive.
+
+ghost use Rattle.std.specs.Prelude.{◌≡◌, false, [], OnOk, OnErr, IsTrue};
+ghost use Rattle.sqlite.specs.State.{HasCleanDisk, Survives, KeepsCommit};
+ghost use Rattle.sqlite.specs.Held.{state};
+ghost use Rattle.sql_archive.specs.Tables.{no_schema, with_meta, archive_schema};
+ghost use Rattle.sql_archive.specs.State.{Making, Makes, IsNewArchive, Idles};
+
+use sqlite::{Alter, Connection, Error, Transaction, params};
+
+fn make_meta<S: Alter>(tx: &mut Transaction<'_, S>) -> Result<usize, Error>
+    requires { HasCleanDisk (state S.Store tx.old.conn.now) → Making no_schema (state S.Store tx.old.conn.now) }
+    ensures made { HasCleanDisk (state S.Store tx.new.conn.now) → OnOk result (Makes (state S.Store tx.old.conn.now) (state S.Store tx.new.conn.now) with_meta 0) }
+    ensures kept { HasCleanDisk (state S.Store tx.new.conn.now) → KeepsCommit (state S.Store tx.old.conn.now) (state S.Store tx.new.conn.now) }
+    ensures same { tx.new.conn.ghost_name ≡ tx.old.conn.ghost_name }
+    ensures crash { Survives (state S.Store tx.old.conn.now) (state S.Store tx.new.conn.now) (λ _. ⊥) }
+{
+    tx.execute(
+        "CREATE TABLE meta (one INTEGER PRIMARY KEY CHECK (one = 1), format INTEGER NOT NULL, archive BLOB NOT NULL, replica INTEGER NOT NULL) STRICT",
+        &[],
+    )
+}
+
+fn make_records<S: Alter>(tx: &mut Transaction<'_, S>) -> Result<usize, Error>
+    requires { HasCleanDisk (state S.Store tx.old.conn.now) → Making with_meta (state S.Store tx.old.conn.now) }
+    ensures made { HasCleanDisk (state S.Store tx.new.conn.now) → OnOk result (Makes (state S.Store tx.old.conn.now) (state S.Store tx.new.conn.now) archive_schema 1 × ((state S.Store tx.new.conn.now).now.trees 0 ≡ (state S.Store tx.old.conn.now).now.trees 0)) }
+    ensures kept { HasCleanDisk (state S.Store tx.new.conn.now) → KeepsCommit (state S.Store tx.old.conn.now) (state S.Store tx.new.conn.now) }
+    ensures same { tx.new.conn.ghost_name ≡ tx.old.conn.ghost_name }
+    ensures crash { Survives (state S.Store tx.old.conn.now) (state S.Store tx.new.conn.now) (λ _. ⊥) }
+{
+    tx.execute(
+        "CREATE TABLE records2 (origin INTEGER NOT NULL, number INTEGER NOT NULL, tick INTEGER NOT NULL, node BLOB NOT NULL, time INTEGER NOT NULL, pico INTEGER NOT NULL, asked INTEGER NOT NULL, who BLOB NOT NULL, value BLOB NOT NULL, PRIMARY KEY (origin, number), UNIQUE (node, time, pico, tick, origin)) STRICT",
+        &[],
+    )
+}
+
+fn fill_meta<S: Alter>(
+    tx: &mut Transaction<'_, S>,
+    archive: &[u8],
+    replica: &i64,
+) -> Result<usize, Error>
+    requires making { HasCleanDisk (state S.Store tx.old.conn.now) → Making archive_schema (state S.Store tx.old.conn.now) }
+    requires empty { HasCleanDisk (state S.Store tx.old.conn.now) → ((state S.Store tx.old.conn.now).now.trees 0 ≡ []) × ((state S.Store tx.old.conn.now).now.trees 1 ≡ []) }
+    ensures made { HasCleanDisk (state S.Store tx.new.conn.now) → OnOk result (Making archive_schema (state S.Store tx.new.conn.now) × IsNewArchive archive.now replica.now (state S.Store tx.new.conn.now).now.trees × ((state S.Store tx.new.conn.now).committed ≡ (state S.Store tx.old.conn.now).committed)) }
+    ensures kept { HasCleanDisk (state S.Store tx.new.conn.now) → KeepsCommit (state S.Store tx.old.conn.now) (state S.Store tx.new.conn.now) }
+    ensures same { tx.new.conn.ghost_name ≡ tx.old.conn.ghost_name }
+    ensures crash { Survives (state S.Store tx.old.conn.now) (state S.Store tx.new.conn.now) (λ _. ⊥) }
+{
+    tx.execute(
+        "INSERT INTO meta VALUES (1, 2, ?1, ?2)",
+        params![archive, replica],
+    )
+}
+
+/// Makes all tables, in a transaction.
+fn make_tables<S: Alter>(
+    tx: &mut Transaction<'_, S>,
+    archive: &[u8],
+    replica: &i64,
+) -> Result<(), Error>
+    requires { HasCleanDisk (state S.Store tx.old.conn.now) → Making no_schema (state S.Store tx.old.conn.now) }
+    ensures made { HasCleanDisk (state S.Store tx.new.conn.now) → OnOk result (Making archive_schema (state S.Store tx.new.conn.now) × IsNewArchive archive.now replica.now (state S.Store tx.new.conn.now).now.trees × ((state S.Store tx.new.conn.now).committed ≡ (state S.Store tx.old.conn.now).committed)) }
+    ensures kept { HasCleanDisk (state S.Store tx.new.conn.now) → KeepsCommit (state S.Store tx.old.conn.now) (state S.Store tx.new.conn.now) }
+    ensures same { tx.new.conn.ghost_name ≡ tx.old.conn.ghost_name }
+    ensures crash { Survives (state S.Store tx.old.conn.now) (state S.Store tx.new.conn.now) (λ _. ⊥) }
+{
+    make_meta(tx)?;
+    make_records(tx)?;
+    fill_meta(tx, archive, replica)?;
+    Ok(())
+}
+
+/// Makes an archive in an empty database, in one commit.
+pub fn first_open<S: Alter>(
+    conn: &mut Connection<S>,
+    archive: &[u8],
+    replica: &i64,
+) -> Result<(), Error>
+    requires idle { conn.old.in_transaction ≡ false }
+    requires empty { HasCleanDisk (state S.Store conn.old) → (state S.Store conn.old).now.schema ≡ no_schema }
+    ensures made { HasCleanDisk (state S.Store conn.new) → OnOk result (Idles (state S.Store conn.new) × IsNewArchive archive.now replica.now (state S.Store conn.new).now.trees) }
+    ensures refused { HasCleanDisk (state S.Store conn.new) → IsTrue (state S.Store conn.new).is_open → OnErr result ((state S.Store conn.new).now ≡ (state S.Store conn.old).committed) }
+    ensures crash { Survives (state S.Store conn.old) (state S.Store conn.new) (IsNewArchive archive.now replica.now) }
+{
+    let mut tx = conn.transaction();
+    make_tables(&mut tx, archive, replica)?;
+    tx.commit()
+}

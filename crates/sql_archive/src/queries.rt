@@ -1,0 +1,153 @@
+//! The queries over the rows of records.
+
+ghost use Rattle.std.specs.Prelude.{◌≡◌, pos, Some, filter, IsPermutation};
+ghost use Rattle.sqlite.specs.State.{HasCleanDisk};
+ghost use Rattle.sqlite.specs.Held.{state};
+ghost use Rattle.records.specs.Moments.{ticks_of, pico_of};
+ghost use Rattle.sql_archive.specs.Words.{cells, is_named, is_from, descending_number, is_after, is_before, moment_order, IsPage, IsNextRow};
+ghost use Rattle.sql_archive.specs.Rows.{meta_cells};
+ghost use Rattle.sql_archive.specs.State.{AreAt, Asked, Idles};
+
+use crate::statements::select;
+use archive::{Direction, StoreFault};
+use records::Moment;
+use sqlite::{Alter, Connection, Row, params};
+use stamp::ReplicaNo;
+
+/// A place in time, as rows have it: ticks, and picoseconds in tens.
+#[derive(Clone, Copy, Debug)]
+pub(crate) struct Place {
+    pub(crate) ticks: i64,
+    pub(crate) pico: i64,
+}
+
+/// The place of a moment.
+pub(crate) fn place_of(time: Moment) -> Place
+    ensures { (result.ticks ≡ ticks_of time) × (result.pico ≡ pos (pico_of time)) }
+{
+    Place {
+        ticks: time.ticks(),
+        pico: i64::from(time.pico()),
+    }
+}
+
+/// The name of a record, as its row has it.
+#[derive(Clone, Copy, Debug)]
+pub(crate) struct Name {
+    pub(crate) origin: i64,
+    pub(crate) number: i64,
+}
+
+/// The rows of a node and a place in time, by stamp.
+pub(crate) fn rows_at<S: Alter>(
+    conn: &mut Connection<S>,
+    node: &[u8],
+    place: &Place,
+) -> Result<Vec<Row>, StoreFault>
+    requires { HasCleanDisk (state S.Store conn.old) → Idles (state S.Store conn.old) }
+    ensures { Asked (state S.Store conn.old) (state S.Store conn.new) result (λ rows. AreAt node.now place.now.ticks place.now.pico (state S.Store conn.old) rows.items) }
+{
+    select(
+        conn,
+        "SELECT origin, number, tick, node, time, pico, asked, who, value FROM records2 WHERE node = ?1 AND time = ?2 AND pico = ?3 ORDER BY tick, origin",
+        params![node, &place.ticks, &place.pico],
+    )
+}
+
+/// The first row of a node, by time, whose time is after a place.
+fn rows_after<S: Alter>(
+    conn: &mut Connection<S>,
+    node: &[u8],
+    place: &Place,
+) -> Result<Vec<Row>, StoreFault>
+    requires { HasCleanDisk (state S.Store conn.old) → Idles (state S.Store conn.old) }
+    ensures { Asked (state S.Store conn.old) (state S.Store conn.new) result (λ rows. IsPage (is_after node.now place.now.ticks place.now.pico) moment_order (Some 1) (cells ((state S.Store conn.old).now.trees 1)) rows.items) }
+{
+    select(
+        conn,
+        "SELECT origin, number, tick, node, time, pico, asked, who, value FROM records2 WHERE node = ?1 AND time >= ?2 AND (time > ?2 OR pico > ?3) ORDER BY time, pico, tick, origin LIMIT 1",
+        params![node, &place.ticks, &place.pico],
+    )
+}
+
+/// The last row of a node, by time, whose time is before a place.
+fn rows_before<S: Alter>(
+    conn: &mut Connection<S>,
+    node: &[u8],
+    place: &Place,
+) -> Result<Vec<Row>, StoreFault>
+    requires { HasCleanDisk (state S.Store conn.old) → Idles (state S.Store conn.old) }
+    ensures { Asked (state S.Store conn.old) (state S.Store conn.new) result (λ rows. IsPage (is_before node.now place.now.ticks place.now.pico) (λ a b. moment_order b a) (Some 1) (cells ((state S.Store conn.old).now.trees 1)) rows.items) }
+{
+    select(
+        conn,
+        "SELECT origin, number, tick, node, time, pico, asked, who, value FROM records2 WHERE node = ?1 AND time <= ?2 AND (time < ?2 OR pico < ?3) ORDER BY time DESC, pico DESC, tick DESC, origin DESC LIMIT 1",
+        params![node, &place.ticks, &place.pico],
+    )
+}
+
+/// The first row of a node, in the direction, whose time is beyond a place.
+pub(crate) fn rows_next<S: Alter>(
+    conn: &mut Connection<S>,
+    node: &[u8],
+    place: &Place,
+    direction: Direction,
+) -> Result<Vec<Row>, StoreFault>
+    requires { HasCleanDisk (state S.Store conn.old) → Idles (state S.Store conn.old) }
+    ensures { Asked (state S.Store conn.old) (state S.Store conn.new) result (λ rows. IsNextRow direction node.now place.now.ticks place.now.pico (cells ((state S.Store conn.old).now.trees 1)) rows.items) }
+{
+    match direction {
+        Direction::Forward => rows_after(conn, node, place),
+        Direction::Backward => rows_before(conn, node, place),
+    }
+}
+
+/// The row of a name.
+pub(crate) fn rows_named<S: Alter>(
+    conn: &mut Connection<S>,
+    name: &Name,
+) -> Result<Vec<Row>, StoreFault>
+    requires { HasCleanDisk (state S.Store conn.old) → Idles (state S.Store conn.old) }
+    ensures { Asked (state S.Store conn.old) (state S.Store conn.new) result (λ rows. IsPermutation (filter (is_named name.now.origin name.now.number) (cells ((state S.Store conn.old).now.trees 1))) rows.items) }
+{
+    select(
+        conn,
+        "SELECT origin, number, tick, node, time, pico, asked, who, value FROM records2 WHERE origin = ?1 AND number = ?2",
+        params![&name.origin, &name.number],
+    )
+}
+
+/// The last row of an origin.
+pub(crate) fn rows_last<S: Alter>(
+    conn: &mut Connection<S>,
+    name: &Name,
+) -> Result<Vec<Row>, StoreFault>
+    requires { HasCleanDisk (state S.Store conn.old) → Idles (state S.Store conn.old) }
+    ensures { Asked (state S.Store conn.old) (state S.Store conn.new) result (λ rows. IsPage (is_from name.now.origin) descending_number (Some 1) (cells ((state S.Store conn.old).now.trees 1)) rows.items) }
+{
+    select(
+        conn,
+        "SELECT origin, number, tick, node, time, pico, asked, who, value FROM records2 WHERE origin = ?1 ORDER BY number DESC LIMIT 1",
+        params![&name.origin],
+    )
+}
+
+/// All rows of records.
+pub(crate) fn rows_all<S: Alter>(conn: &mut Connection<S>) -> Result<Vec<Row>, StoreFault>
+    requires { HasCleanDisk (state S.Store conn.old) → Idles (state S.Store conn.old) }
+    ensures { Asked (state S.Store conn.old) (state S.Store conn.new) result (λ rows. IsPermutation (cells ((state S.Store conn.old).now.trees 1)) rows.items) }
+{
+    select(
+        conn,
+        "SELECT origin, number, tick, node, time, pico, asked, who, value FROM records2 ORDER BY origin, number",
+        &[],
+    )
+}
+
+/// The rows of meta.
+pub(crate) fn rows_of_meta<S: Alter>(conn: &mut Connection<S>) -> Result<Vec<Row>, StoreFault>
+    requires { HasCleanDisk (state S.Store conn.old) → Idles (state S.Store conn.old) }
+    ensures { Asked (state S.Store conn.old) (state S.Store conn.new) result (λ rows. IsPermutation (meta_cells (state S.Store conn.old).now.trees) rows.items) }
+{
+    select(conn, "SELECT one, format, archive, replica FROM meta", &[])
+}

@@ -1,0 +1,174 @@
+//! What an archive shows of a node: values in a range and nearest outside it, and modifications.
+
+ghost use Rattle.std.specs.Prelude.{◌≡◌, take};
+ghost use Rattle.sqlite.specs.State.{HasCleanDisk};
+ghost use Rattle.sqlite.specs.Held.{state};
+ghost use Rattle.stamp.specs.Numbers.{number_of};
+ghost use Rattle.records.specs.Contents.{cut};
+ghost use Rattle.archive.specs.Reading.{first, range_of, log_of, outside_of};
+ghost use Rattle.sql_archive.specs.Rows.{content_in, IsFilled};
+ghost use Rattle.sql_archive.specs.State.{Idles, Asked};
+ghost use Rattle.sql_archive.specs.Walking.{moment_at, IsPlace, IsSpan, end_of_time};
+ghost use Rattle.ua_binary.specs.Binary.{node_id, IsNodeId};
+
+use crate::queries::{Place, place_of};
+use crate::reads::spelled_node;
+use crate::walking::{entries, values};
+use archive::{Direction, LogPlace, StoreFault};
+use records::{Entry, Held, Moment};
+use sqlite::{Alter, Connection};
+use stamp::Vector;
+use std::alloc::Global;
+use ua_binary::NodeId;
+
+/// Where a reading starts, and the time at which it ends.
+#[derive(Clone, Copy, Debug)]
+struct Span {
+    start: Place,
+    far: Moment,
+}
+
+/// The span from one time to another in a direction, both included.
+fn span_of(from: Moment, to: Moment, direction: Direction) -> Span
+    ensures place { IsPlace direction result.start.pico }
+    ensures span { IsSpan direction from to (moment_at result.start.ticks result.start.pico) result.far }
+{
+    match direction {
+        Direction::Forward => {
+            let place = place_of(from);
+            Span {
+                start: Place {
+                    ticks: place.ticks,
+                    pico: place.pico - 1,
+                },
+                far: to,
+            }
+        }
+        Direction::Backward => {
+            let place = place_of(to);
+            Span {
+                start: Place {
+                    ticks: place.ticks,
+                    pico: place.pico + 1,
+                },
+                far: from,
+            }
+        }
+    }
+}
+
+/// The last time there is, in a direction.
+fn end_of_time(direction: Direction) -> Moment
+    ensures { result ≡ end_of_time direction }
+{
+    match direction {
+        Direction::Forward => Moment {
+            ticks: i64::MAX,
+            pico: 9_999,
+        },
+        Direction::Backward => Moment::at(0),
+    }
+}
+
+/// The first of some values.
+fn first_of(mut found: Vec<Held>) -> Option<Held>
+    ensures { result ≡ first (take 1 found.items) }
+{
+    found.truncate(1);
+    found.pop()
+}
+
+/// The first `limit` of a node's live values from one source time to another, both included.
+pub(crate) fn range_in<S: Alter>(
+    alloc: Global,
+    conn: &mut Connection<S>,
+    node: &NodeId,
+    from: Moment,
+    to: Moment,
+    direction: Direction,
+    limit: usize,
+    within: &Vector,
+) -> Result<Vec<Held>, StoreFault>
+    requires idles { HasCleanDisk (state S.Store conn.old) → Idles (state S.Store conn.old) }
+    requires filled { HasCleanDisk (state S.Store conn.old) → IsFilled (state S.Store conn.old).now.trees }
+    ensures { Asked (state S.Store conn.old) (state S.Store conn.new) result (λ v. v.items ≡ take limit (range_of (cut (content_in (state S.Store conn.old).now.trees) (number_of within.now)) node.now from to direction)) }
+{
+    match spelled_node(alloc, node)? {
+        Some(bytes) => {
+            let span = span_of(from, to, direction);
+            values(
+                alloc, conn, node, &bytes, span.start, span.far, direction, limit, within,
+            )
+        }
+        None => Ok(Vec::new(alloc)),
+    }
+}
+
+/// The first `limit` of a node's modifications from one source time to another, both included, that
+/// stand behind a place, where one is given.
+pub(crate) fn log_in<S: Alter>(
+    alloc: Global,
+    conn: &mut Connection<S>,
+    node: &NodeId,
+    from: Moment,
+    to: Moment,
+    after: &Option<LogPlace>,
+    direction: Direction,
+    limit: usize,
+    within: &Vector,
+) -> Result<Vec<Entry>, StoreFault>
+    requires idles { HasCleanDisk (state S.Store conn.old) → Idles (state S.Store conn.old) }
+    requires filled { HasCleanDisk (state S.Store conn.old) → IsFilled (state S.Store conn.old).now.trees }
+    ensures { Asked (state S.Store conn.old) (state S.Store conn.new) result (λ v. v.items ≡ take limit (log_of (cut (content_in (state S.Store conn.old).now.trees) (number_of within.now)) node.now from to after.now direction)) }
+{
+    match spelled_node(alloc, node)? {
+        Some(bytes) => {
+            let span = span_of(from, to, direction);
+            entries(
+                alloc, conn, node, &bytes, span.start, span.far, after, direction, limit, within,
+            )
+        }
+        None => Ok(Vec::new(alloc)),
+    }
+}
+
+/// The live value of a node, by its spelling, that is nearest to a source time, strictly beyond it.
+fn outside_of<S: Alter>(
+    alloc: Global,
+    conn: &mut Connection<S>,
+    node: &NodeId,
+    bytes: &[u8],
+    time: Moment,
+    direction: Direction,
+    within: &Vector,
+) -> Result<Option<Held>, StoreFault>
+    requires idles { HasCleanDisk (state S.Store conn.old) → Idles (state S.Store conn.old) }
+    requires filled { HasCleanDisk (state S.Store conn.old) → IsFilled (state S.Store conn.old).now.trees }
+    requires spelled { bytes.now ≡ node_id.canon node.now }
+    requires lawful { IsNodeId node.now }
+    ensures { Asked (state S.Store conn.old) (state S.Store conn.new) result (λ h. h ≡ outside_of (cut (content_in (state S.Store conn.old).now.trees) (number_of within.now)) node.now time direction) }
+{
+    let place = place_of(time);
+    let far = end_of_time(direction);
+    let found = values(alloc, conn, node, bytes, place, far, direction, 1, within)?;
+    Ok(first_of(found))
+}
+
+/// The live value of a node that is nearest to a source time, strictly beyond it.
+pub(crate) fn outside_in<S: Alter>(
+    alloc: Global,
+    conn: &mut Connection<S>,
+    node: &NodeId,
+    time: Moment,
+    direction: Direction,
+    within: &Vector,
+) -> Result<Option<Held>, StoreFault>
+    requires idles { HasCleanDisk (state S.Store conn.old) → Idles (state S.Store conn.old) }
+    requires filled { HasCleanDisk (state S.Store conn.old) → IsFilled (state S.Store conn.old).now.trees }
+    ensures { Asked (state S.Store conn.old) (state S.Store conn.new) result (λ h. h ≡ outside_of (cut (content_in (state S.Store conn.old).now.trees) (number_of within.now)) node.now time direction) }
+{
+    match spelled_node(alloc, node)? {
+        Some(bytes) => outside_of(alloc, conn, node, &bytes, time, direction, within),
+        None => Ok(None),
+    }
+}

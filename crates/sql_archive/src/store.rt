@@ -1,0 +1,298 @@
+//! An archive in a database.
+
+ghost use Rattle.std.specs.Prelude.{◌≡◌, false, ⊤};
+ghost use Rattle.sqlite.specs.State.{HasCleanDisk};
+ghost use Rattle.sqlite.specs.Held.{state};
+ghost use Rattle.archive.specs.Store.{fault_in};
+ghost use Rattle.archive.specs.Listed.{failures, is_broken};
+ghost use Rattle.sql_archive.specs.State.{Asked, Idles};
+
+use crate::latest::{Latest, latest_after};
+use crate::layout::first_open;
+use crate::learning::{flat, learn_in};
+use crate::opening::open_tables;
+use crate::ranges::{log_in, outside_in, range_in};
+use crate::reads::records_at;
+use crate::since::records_since;
+use crate::statements::still_open;
+use archive::{Archive, Direction, LearnFault, LogPlace, StoreFault};
+use records::{Entry, Held, Moment, Record};
+use sqlite::{Alter, Connection, MemStore};
+use stamp::{ReplicaNo, Vector};
+use std::alloc::Global;
+use std::marker::Model;
+use ua_binary::NodeId;
+use uuid::Uuid;
+
+/// An archive in a database.
+#[derive(Drop)]
+pub struct SqlArchive<S: Alter> {
+    alloc: Global,
+    conn: Connection<S>,
+    id: Uuid,
+    number: ReplicaNo,
+    latest: Latest,
+    faults: u64,
+    broken: bool,
+}
+
+impl<S: Alter> Model for SqlArchive<S> {
+    ghost use Rattle.sql_archive.specs.Kept.{Kept, kept_code, Serves};
+
+    ghost Value = { Kept S };
+
+    ghost coded = { kept_code S.code };
+
+    ghost view = { λ a. record { conn = a.conn; id = a.id; number = a.number; numbers = a.latest.numbers; tick = a.latest.tick; faults = a.faults; broken = a.broken } };
+
+    ghost invariant = { λ a. Serves S.Store (record { conn = a.conn; id = a.id; number = a.number; numbers = a.latest.numbers; tick = a.latest.tick; faults = a.faults; broken = a.broken }) };
+}
+
+/// Counts a fault, and breaks behind `Broken`.
+fn tell<T>(
+    faults: &mut u64,
+    broken: &mut bool,
+    answer: Result<T, StoreFault>,
+) -> Result<T, StoreFault>
+    requires { broken.old ≡ false }
+    ensures same { result ≡ answer }
+    ensures faults { faults.new ≡ failures faults.old (fault_in answer) }
+    ensures broken { broken.new ≡ is_broken (fault_in answer) }
+{
+    if let Err(fault) = &answer {
+        *faults = faults.saturating_add(1);
+        *broken = *fault == StoreFault::Broken;
+    }
+    answer
+}
+
+impl<S: Alter> Archive for SqlArchive<S> {
+    ghost use Rattle.sql_archive.specs.Kept.{store_of};
+
+    ghost state = { store_of S.Store };
+
+    fn id(&self) -> Uuid {
+        self.id
+    }
+
+    fn number(&self) -> ReplicaNo {
+        self.tables_stand();
+        self.number
+    }
+
+    fn faults(&self) -> u64 {
+        self.faults
+    }
+
+    fn vector(&mut self) -> Result<Vector, StoreFault> {
+        if self.broken {
+            return Err(self.refuse());
+        }
+        Ok(self.latest.numbers)
+    }
+
+    fn top(&mut self) -> Result<i64, StoreFault> {
+        if self.broken {
+            return Err(self.refuse());
+        }
+        Ok(self.latest.tick)
+    }
+
+    fn at(
+        &mut self,
+        alloc: Global,
+        node: &NodeId,
+        time: Moment,
+    ) -> Result<Vec<Record>, StoreFault> {
+        if self.broken {
+            return Err(self.refuse());
+        }
+        let answer = records_at(alloc, &mut self.conn, node, time);
+        tell(&mut self.faults, &mut self.broken, answer)
+    }
+
+    fn range(
+        &mut self,
+        alloc: Global,
+        node: &NodeId,
+        from: Moment,
+        to: Moment,
+        direction: Direction,
+        limit: usize,
+        within: &Vector,
+    ) -> Result<Vec<Held>, StoreFault> {
+        if self.broken {
+            return Err(self.refuse());
+        }
+        let answer = range_in(
+            alloc,
+            &mut self.conn,
+            node,
+            from,
+            to,
+            direction,
+            limit,
+            within,
+        );
+        tell(&mut self.faults, &mut self.broken, answer)
+    }
+
+    fn log(
+        &mut self,
+        alloc: Global,
+        node: &NodeId,
+        from: Moment,
+        to: Moment,
+        after: Option<LogPlace>,
+        direction: Direction,
+        limit: usize,
+        within: &Vector,
+    ) -> Result<Vec<Entry>, StoreFault> {
+        if self.broken {
+            return Err(self.refuse());
+        }
+        let answer = log_in(
+            alloc,
+            &mut self.conn,
+            node,
+            from,
+            to,
+            &after,
+            direction,
+            limit,
+            within,
+        );
+        tell(&mut self.faults, &mut self.broken, answer)
+    }
+
+    fn next_outside(
+        &mut self,
+        alloc: Global,
+        node: &NodeId,
+        time: Moment,
+        direction: Direction,
+        within: &Vector,
+    ) -> Result<Option<Held>, StoreFault> {
+        if self.broken {
+            return Err(self.refuse());
+        }
+        let answer = outside_in(alloc, &mut self.conn, node, time, direction, within);
+        tell(&mut self.faults, &mut self.broken, answer)
+    }
+
+    fn since(
+        &mut self,
+        alloc: Global,
+        vector: &Vector,
+        limit: usize,
+    ) -> Result<Vec<Record>, StoreFault> {
+        if self.broken {
+            return Err(self.refuse());
+        }
+        let answer = records_since(alloc, &mut self.conn, vector, limit);
+        tell(&mut self.faults, &mut self.broken, answer)
+    }
+
+    fn learn(&mut self, candidate: &Record) -> Result<bool, LearnFault> {
+        if self.broken {
+            return Err(LearnFault::Store(self.refuse()));
+        }
+        let answer = learn_in(self.alloc, &mut self.conn, candidate);
+        self.latest = latest_after(self.latest, candidate, &answer);
+        flat(tell(&mut self.faults, &mut self.broken, answer))
+    }
+
+    fn reload(&mut self) -> Result<(), StoreFault> {
+        if self.broken {
+            return Err(self.refuse());
+        }
+        let answer = still_open(&mut self.conn);
+        tell(&mut self.faults, &mut self.broken, answer)
+    }
+}
+
+impl<S: Alter> SqlArchive<S> {
+    ghost use Rattle.std.specs.Prelude.{◌≡◌, true, false, Some, ◌≢◌, IfOk};
+    ghost use Rattle.sqlite.specs.State.{HasCleanDisk};
+    ghost use Rattle.sqlite.specs.Held.{state};
+    ghost use Rattle.sql_archive.specs.State.{Idles};
+    ghost use Rattle.archive.specs.Store.{IsOfOpening};
+    ghost use Rattle.archive.specs.Listed.{failures, is_broken};
+    ghost use Rattle.sql_archive.specs.Kept.{Serves};
+    ghost use Rattle.archive.specs.declared.fault.StoreFault.TheVariants as store;
+
+    /// An archive over a connection whose tables are there: Ok only where they stand for a lawful content
+    /// of this archive and replica.
+    fn over(
+        alloc: Global,
+        mut conn: Connection<S>,
+        id: Uuid,
+        number: ReplicaNo,
+    ) -> Result<SqlArchive<S>, (StoreFault, Connection<S>)>
+        requires { HasCleanDisk (state S.Store conn) → Idles (state S.Store conn) }
+        ensures { IfOk result (λ a. (a.id ≡ id) × (a.number ≡ number) × (a.faults ≡ 0) × (a.broken ≡ false)) }
+    {
+        match open_tables(alloc, &mut conn, &id, number) {
+            Ok(latest) => Ok(SqlArchive {
+                alloc,
+                conn,
+                id,
+                number,
+                latest,
+                faults: 0,
+                broken: false,
+            }),
+            Err(fault) => Err((fault, conn)),
+        }
+    }
+
+    /// Between any two calls its tables stand for its content. This call says so and does nothing.
+    pub fn tables_stand(&self)
+        ensures { Serves S.Store self.now }
+    {
+        let _faults = self.faults;
+    }
+
+    /// Counts a refusal; Broken stays.
+    fn refuse(&mut self) -> StoreFault
+        ensures conn { self.new.conn ≡ self.old.conn }
+        ensures id { self.new.id ≡ self.old.id }
+        ensures number { self.new.number ≡ self.old.number }
+        ensures faults { self.new.faults ≡ failures self.old.faults (Some result) }
+        ensures broken { self.new.broken ≡ is_broken (Some result) }
+        ensures ended { self.old.broken ≡ true → result ≡ store.Broken }
+        ensures met { IsOfOpening result → ⊥ }
+        ensures was { Serves S.Store self.old }
+        ensures is { Serves S.Store self.new }
+    {
+        self.faults = self.faults.saturating_add(1);
+        if self.broken {
+            StoreFault::Broken
+        } else {
+            StoreFault::Refused
+        }
+    }
+}
+
+impl SqlArchive<MemStore> {
+    ghost use Rattle.std.specs.Prelude.{◌≡◌, IfOk};
+
+    /// An empty archive in memory.
+    pub fn open_in_memory(alloc: Global, id: Uuid, number: ReplicaNo) -> Result<Self, StoreFault>
+        ensures { IfOk result (λ a. (a.id ≡ id) × (a.number ≡ number)) }
+    {
+        let mut conn = match Connection::open_in_memory(alloc) {
+            Ok(conn) => conn,
+            Err(_) => return Err(StoreFault::OutOfMemory),
+        };
+        let own = i64::from(number.get());
+        match first_open(&mut conn, id.as_bytes(), &own) {
+            Ok(()) => {}
+            Err(_) => return Err(StoreFault::Refused),
+        }
+        match SqlArchive::over(alloc, conn, id, number) {
+            Ok(archive) => Ok(archive),
+            Err((fault, _)) => Err(fault),
+        }
+    }
+}

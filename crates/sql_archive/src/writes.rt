@@ -1,0 +1,135 @@
+//! The writes of a record.
+
+ghost use Rattle.std.specs.Prelude.{◌≡◌, ◌≢◌, IsTrue, IfOk, IfErr, OnOk};
+ghost use Rattle.sqlite.specs.State.{HasCleanDisk, Survives};
+ghost use Rattle.sqlite.specs.Held.{state};
+ghost use Rattle.archive.specs.Store.{IsOfOpening};
+ghost use Rattle.sql_archive.specs.Words.{cells_of};
+ghost use Rattle.sql_archive.specs.State.{Adds, Idles, Stays};
+ghost use Rattle.ua_binary.specs.Binary.{node_id, IsShortNode};
+ghost use Rattle.ua_variant.specs.DataValue.{data_value, IsShortData};
+ghost use Rattle.records.specs.Spelling.{IsLawfulRecord};
+ghost use Rattle.sql_archive.specs.Rows.{row_of};
+ghost use Rattle.sql_archive.specs.Learning.{Stored};
+
+use crate::statements::fault_of;
+use archive::StoreFault;
+use records::Record;
+use sqlite::{Alter, Connection, Error, params};
+use std::alloc::Global;
+use ua_binary::{NodeId, put_node_id};
+use ua_variant::{DataValue, put_data_value};
+
+/// A record as its row has it.
+#[derive(Debug, Drop)]
+pub(crate) struct Cells {
+    pub(crate) origin: i64,
+    pub(crate) number: i64,
+    pub(crate) tick: i64,
+    pub(crate) node: Vec<u8>,
+    pub(crate) time: i64,
+    pub(crate) pico: i64,
+    pub(crate) asked: i64,
+    pub(crate) who: Vec<u8>,
+    pub(crate) value: Vec<u8>,
+}
+
+/// Adds one row.
+fn insert<S: Alter>(conn: &mut Connection<S>, r: &Cells) -> Result<usize, Error>
+    requires { HasCleanDisk (state S.Store conn.old) → Idles (state S.Store conn.old) }
+    ensures added { HasCleanDisk (state S.Store conn.new) → OnOk result (Idles (state S.Store conn.new) × Adds (cells_of r.now.origin r.now.number r.now.tick r.now.node.items r.now.time r.now.pico r.now.asked r.now.who.items r.now.value.items) (state S.Store conn.old).now.trees (state S.Store conn.new).now.trees) }
+    ensures refused { HasCleanDisk (state S.Store conn.new) → IfErr result (λ _. IsTrue (state S.Store conn.new).is_open → Stays (state S.Store conn.old) (state S.Store conn.new)) }
+    ensures crash { Survives (state S.Store conn.old) (state S.Store conn.new) (Adds (cells_of r.now.origin r.now.number r.now.tick r.now.node.items r.now.time r.now.pico r.now.asked r.now.who.items r.now.value.items) (state S.Store conn.old).now.trees) }
+{
+    conn.execute(
+        "INSERT INTO records2 VALUES (?1, ?2, ?3, ?4, ?5, ?6, ?7, ?8, ?9)",
+        params![
+            &r.origin, &r.number, &r.tick, &r.node, &r.time, &r.pico, &r.asked, &r.who, &r.value
+        ],
+    )
+}
+
+/// Adds a record, in one commit.
+pub(crate) fn store_cells<S: Alter>(conn: &mut Connection<S>, r: &Cells) -> Result<(), StoreFault>
+    requires { HasCleanDisk (state S.Store conn.old) → Idles (state S.Store conn.old) }
+    ensures added { HasCleanDisk (state S.Store conn.new) → OnOk result (Idles (state S.Store conn.new) × Adds (cells_of r.now.origin r.now.number r.now.tick r.now.node.items r.now.time r.now.pico r.now.asked r.now.who.items r.now.value.items) (state S.Store conn.old).now.trees (state S.Store conn.new).now.trees) }
+    ensures refused { HasCleanDisk (state S.Store conn.new) → IfErr result (λ fault. fault ≢ StoreFault.Broken → Stays (state S.Store conn.old) (state S.Store conn.new)) }
+    ensures met { IfErr result (λ fault. IsOfOpening fault → ⊥) }
+    ensures crash { Survives (state S.Store conn.old) (state S.Store conn.new) (Adds (cells_of r.now.origin r.now.number r.now.tick r.now.node.items r.now.time r.now.pico r.now.asked r.now.who.items r.now.value.items) (state S.Store conn.old).now.trees) }
+{
+    match insert(conn, r) {
+        Ok(_) => Ok(()),
+        Err(error) => Err(fault_of(conn, error)),
+    }
+}
+
+fn copy(alloc: Global, bytes: &[u8]) -> Result<Vec<u8>, StoreFault>
+    ensures copied { IfOk result (λ b. b.items ≡ bytes.now) }
+    ensures met { IfErr result (λ fault. fault ≡ StoreFault.OutOfMemory) }
+{
+    let mut out = Vec::new(alloc);
+    out.extend_from_slice(bytes)?;
+    Ok(out)
+}
+
+fn node_bytes(alloc: Global, node: &NodeId) -> Result<Vec<u8>, StoreFault>
+    requires { IsShortNode node.now }
+    ensures spelled { IfOk result (λ b. b.items ≡ node_id.canon node.now) }
+    ensures met { IfErr result (λ fault. fault ≡ StoreFault.OutOfMemory) }
+{
+    let mut out = Vec::new(alloc);
+    match put_node_id(&mut out, node) {
+        Ok(()) => Ok(out),
+        Err(_) => Err(StoreFault::OutOfMemory),
+    }
+}
+
+fn value_bytes(alloc: Global, value: &DataValue) -> Result<Vec<u8>, StoreFault>
+    requires { IsShortData value.now }
+    ensures spelled { IfOk result (λ b. b.items ≡ data_value.canon value.now) }
+    ensures met { IfErr result (λ fault. fault ≡ StoreFault.OutOfMemory) }
+{
+    let mut out = Vec::new(alloc);
+    match put_data_value(&mut out, value) {
+        Ok(()) => Ok(out),
+        Err(_) => Err(StoreFault::OutOfMemory),
+    }
+}
+
+/// A record as its row has it.
+#[tactic(auto, using(crate::proofs::LearnLemmas::short_enough))]
+pub(crate) fn make_cells(alloc: Global, r: &Record) -> Result<Cells, StoreFault>
+    requires { IsLawfulRecord r.now }
+    ensures row { IfOk result (λ c. cells_of c.origin c.number c.tick c.node.items c.time c.pico c.asked c.who.items c.value.items ≡ row_of r.now) }
+    ensures met { IfErr result (λ fault. fault ≡ StoreFault.OutOfMemory) }
+{
+    let number = r.number as i64;
+    let node = node_bytes(alloc, &r.node)?;
+    let who = copy(alloc, r.user.as_str().as_bytes())?;
+    let value = value_bytes(alloc, &r.value)?;
+    Ok(Cells {
+        origin: i64::from(r.origin.get()),
+        number,
+        tick: r.tick,
+        node,
+        time: r.time.ticks(),
+        pico: i64::from(r.time.pico()),
+        asked: i64::from(r.asked.number()),
+        who,
+        value,
+    })
+}
+
+/// Adds a record, in one commit.
+pub(crate) fn store_record<S: Alter>(
+    alloc: Global,
+    conn: &mut Connection<S>,
+    r: &Record,
+) -> Result<(), StoreFault>
+    requires idles { HasCleanDisk (state S.Store conn.old) → Idles (state S.Store conn.old) }
+    requires lawful { IsLawfulRecord r.now }
+    ensures { Stored (state S.Store conn.old) (state S.Store conn.new) r.now result }
+{
+    let row = make_cells(alloc, r)?;
+    store_cells(conn, &row)
+}
