@@ -1,0 +1,262 @@
+-- One event at one archive.
+use Rattle.std.proofs.Common.{◌≡◌, ℕ, zero, suc, ◌+◌, ◌-◌, ◌^◌, ◌<◌, ◌≤◌, min, ℤ, pos, Bool, true, false, List, [], ◌∷◌, ◌++◌, take, length, get_or, Option, Some, None, Result, Ok, Err, refl, sym, ap, ◌∙◌, subst, arith, inl, inr, ◌⊎◌}
+use Rattle.std.specs.Prelude.{slice_get, unwrap_or, IfOk}
+use Rattle.std.proofs.lemmas.Bool.{true≢false}
+use Rattle.std.proofs.lemmas.List.{take_more}
+use Rattle.std.proofs.lemmas.Option.{slice_get-get_or}
+use Rattle.std.specs.Result.{is_ok}
+use Rattle.ua_binary.specs.declared.codes.Status.{Status}
+use Rattle.ua_binary.specs.declared.codes.TheConstants.Status.{GOOD, BAD_OUT_OF_MEMORY, BAD_RESOURCE_UNAVAILABLE}
+use Rattle.ua_services.specs.declared.updates.HistoryUpdateResult.{HistoryUpdateResult}
+use Rattle.ua_variant.specs.declared.update_type.HistoryUpdateType.{HistoryUpdateType}
+use Rattle.ua_variant.specs.declared.update_type.HistoryUpdateType.TheVariants.{Insert, Replace, Update, Delete}
+use Rattle.ua_variant.specs.UpdateType.{update_number}
+use Rattle.ua_variant.specs.declared.data.DataValue.{DataValue}
+use Rattle.ua_variant.specs.declared.value.ValueType.{ValueType}
+use Rattle.ua_binary.specs.declared.values.Ticks.{Ticks}
+use Rattle.records.specs.Moments.{moment}
+use Rattle.records.specs.Contents.{Content, finding, learned, merged}
+use Rattle.records.specs.Records.{is_delete}
+use Rattle.records.specs.declared.record.Record.{Record}
+use Rattle.archive.specs.declared.fault.StoreFault.{StoreFault}
+use Rattle.archive.specs.declared.fault.StoreFault.TheVariants as store
+use Rattle.archive.specs.declared.fault.LearnFault.{LearnFault}
+use Rattle.archive.specs.declared.fault.LearnFault.TheVariants as refused
+use Rattle.archive.specs.Store.{Store, Mark, Fine, Starved, Met, faults_in, faults_of, faults_by, failed_by, fault_in, raised, Passes, Asks, Learns, HasContent, answer_to, store_fault_in}
+use Rattle.archive.specs.Steps.{Does, Acts, step}
+use Rattle.archive.proofs.Calls.{passes-none, passes-then}
+use Rattle.archive.proofs.Acting.{acts-as, acts-learned, acts-unlearned, holds-stays}
+use Rattle.hist_update.specs.declared.request.Request.{Request}
+use Rattle.hist_update.specs.Codes.{asked_by, count_refusal}
+use Rattle.hist_update.specs.Outcome.{Operation, Write, DeleteAt, outcome, after}
+use Rattle.hist_update.specs.Laws.{IsBad}
+use Rattle.hist_update.specs.Updates.{code_by, left_by, unless, begin, all_good, data_refusal, writes, deletes_at, update_data, delete_at}
+use Rattle.hist_update.proofs.Answered.{bad_kept}
+use Rattle.exchange.specs.declared.world.Halted.{Halted}
+use Rattle.exchange.specs.Merging.{AreLearned, Meets, IsRefusal, StopsAt}
+use Rattle.exchange.specs.Running.{Turns, IsSame, HasFirst, EndsBy, IsClear, code_of}
+use Rattle.exchange.proofs.MergeLemmas.{are_learned_push, learned_told, refused_left, merged_stops}
+
+-- ---- an update
+
+pub asked_again : (how : HistoryUpdateType) → is_delete how ≡ false → asked_by (pos (update_number how)) ≡ Some how
+asked_again Insert e = refl
+asked_again Replace e = refl
+asked_again Update e = refl
+asked_again Delete e = cc
+
+-- an update of one value
+pub one_written : (a b : Store) (used : List Mark) (request : Request) (type : ValueType) (how : HistoryUpdateType) (v : DataValue) (n : ℤ) (values : List DataValue) (told : HistoryUpdateResult)
+    → n ≡ pos (update_number how) → Acts a b used (update_data a.own request type n values) told → is_delete how ≡ false → values ≡ v ∷ [] → Acts a b used (begin a.own request all_good (Write how type v ∷ [])) told
+one_written a b used request type how v n values told same acts is one =
+    acts-as a b used (update_data a.own request type n values) (begin a.own request all_good (Write how type v ∷ [])) told (λ R marks.
+    ap (λ (o : Option HistoryUpdateType). unless (data_refusal o (length values)) R (begin a.own request all_good (writes o type values) R) marks) (ap asked_by same ∙ asked_again how is)
+    ∙ ap (λ (vs : List DataValue). unless (data_refusal (Some how) (length vs)) R (begin a.own request all_good (writes (Some how) type vs) R) marks) one) acts
+
+-- a delete at one time
+pub one_deleted : (a b : Store) (used : List Mark) (request : Request) (time : Ticks) (times : List Ticks) (told : HistoryUpdateResult)
+    → times ≡ time ∷ [] → Acts a b used (delete_at a.own request times) told → Acts a b used (begin a.own request all_good (DeleteAt (moment time.0 0) ∷ [])) told
+one_deleted a b used request time times told one acts =
+    acts-as a b used (delete_at a.own request times) (begin a.own request all_good (DeleteAt (moment time.0 0) ∷ [])) told (λ R marks.
+    ap (λ (ts : List Ticks). unless (count_refusal (length ts)) R (begin a.own request all_good (deletes_at ts) R) marks) one) acts
+
+not_below : (faults : List StoreFault) (n : ℕ) → n ≤ 2 ^ 64 - 1 → n ≤ failed_by faults n
+not_below [] n le = omega arith
+not_below (f ∷ faults) n le = let more = not_below faults (raised 1 n) (omega arith) in omega (arith, more)
+
+-- a fault shows in the count, as long as that isn't at its end
+rises : (faults : List StoreFault) (n : ℕ) → n < 2 ^ 64 - 1 → 0 < length faults → n < failed_by faults n
+rises [] n lt some = absurd (omega (arith, some))
+rises (f ∷ faults) n lt some = let more = not_below faults (raised 1 n) (omega arith) in omega (arith, more)
+
+-- what an update of one operation came to
+record Came (R S : Content) (own : ℕ) (request : Request) (op : Operation) (used : List Mark) (told : HistoryUpdateResult) (mark : Mark) : Type 0 where
+  code : code_of told ≡ code_by (outcome R own request op) mark
+  left : S ≡ left_by R (outcome R own request op) mark
+  counted : (fault : StoreFault) → mark ≡ Met fault → 0 < length (faults_of used)
+
+counted_in : (mark : Mark) (marks : List Mark) (fault : StoreFault) → mark ≡ Met fault → 0 < length (faults_of (mark ∷ marks))
+counted_in Fine marks fault e = absurd (cc)
+counted_in Starved marks fault e = absurd (cc)
+counted_in (Met f) marks fault e = omega arith
+
+module _ (R S : Content) (own : ℕ) (request : Request) (op : Operation) (told : HistoryUpdateResult) where
+  abbrev told_in : (HistoryUpdateResult × Content) × List Mark → Status
+  told_in x = code_of x.0.0
+
+  abbrev left_in : (HistoryUpdateResult × Content) × List Mark → Content
+  left_in x = x.0.1
+
+  came : (used : List Mark) → Does (begin own request all_good (op ∷ []) R) used (told, S) → ((code_of told ≡ BAD_OUT_OF_MEMORY) × (S ≡ R)) ⊎ ((mark : Mark) × Came R S own request op used told mark)
+  came [] d = inr (Fine, record { code = ap told_in (sym (d.does [])); left = ap left_in (sym (d.does [])); counted = λ f e. absurd (cc) })
+  came (Starved ∷ used) d = inl (ap told_in (sym (d.does [])), ap left_in (sym (d.does [])))
+  came (Fine ∷ []) d = inr (Fine, record { code = ap told_in (sym (d.does [])); left = ap left_in (sym (d.does [])); counted = λ f e. absurd (cc) })
+  came (Fine ∷ mark ∷ used) d = inr (mark, record { code = ap told_in (sym (d.does [])); left = ap left_in (sym (d.does [])); counted = counted_in mark used })
+  came (Met fault ∷ used) d = inr (Met fault, record { code = ap told_in (sym (d.does [])); left = ap left_in (sym (d.does [])); counted = counted_in (Met fault) used })
+
+module _ (a b : Store) (request : Request) (op : Operation) (used : List Mark) (told : HistoryUpdateResult) (acts : Acts a b used (begin a.own request all_good (op ∷ [])) told) where
+  abbrev change : Content → Content
+  change R = after R (outcome R a.own request op)
+
+  -- neither memory nor a store came in its way
+  pub operated : IsClear (code_of told) a.failed b.failed → Turns a b change IsSame (Ok tt)
+  operated is = record {
+    faults = faults_of used;
+    passes = acts.passes;
+    done = λ honest R h.
+        let q = acts.acts honest R h in
+        subst (HasContent b) (elim (came R q.0 a.own request op told used q.1) [
+          | inl none ↦ absurd (is.memory none.0)
+          | inr c ↦ clear R q.0 c.0 c.1
+        ]) q.2;
+    halted = λ honest R h. tt;
+  }
+    where
+      unmet : (R S : Content) (fault : StoreFault) → Came R S a.own request op used told (Met fault) → code_by (outcome R a.own request op) (Met fault) ≡ BAD_RESOURCE_UNAVAILABLE → ⊥
+      unmet R S fault c e =
+          let quiet = is.store (c.code ∙ e) in
+          let more = rises (faults_of used) a.failed quiet.0 (c.counted fault refl) in
+          let count = acts.passes.failed in
+          omega (arith, more, count, quiet.1)
+
+      clear : (R S : Content) (mark : Mark) → Came R S a.own request op used told mark → S ≡ change R
+      clear R S Fine c = c.left
+      clear R S Starved c = absurd (is.memory c.code)
+      clear R S (Met store.OutOfMemory) c = absurd (is.memory c.code)
+      clear R S (Met store.Refused) c = absurd (unmet R S store.Refused c refl)
+      clear R S (Met store.WrongReplica) c = absurd (unmet R S store.WrongReplica c refl)
+      clear R S (Met store.WrongArchive) c = absurd (unmet R S store.WrongArchive c refl)
+      clear R S (Met store.Broken) c = absurd (unmet R S store.Broken c refl)
+
+  -- something may have
+  pub hindered : IsBad (code_of told) → (end : Halted) → Turns a b change IsSame (Err end)
+  hindered bad end = record {
+    faults = faults_of used;
+    passes = acts.passes;
+    done = λ honest R h. tt;
+    halted = λ honest R h.
+        let q = acts.acts honest R h in (
+          q.0,
+          elim (came R q.0 a.own request op told used q.1) [
+            | inl none ↦ none.1
+            | inr c ↦ c.1.left ∙ bad_kept R a.own request op c.0 (subst IsBad c.1.code bad)
+          ],
+          q.2,
+        );
+  }
+
+-- ---- a restart
+
+pub restarted : (a b : Store) (result : Result (Unit {0}) StoreFault) (P : Unit {0} → Type 0) → Asks a b result P → Turns a b (λ R. R) IsSame (Ok tt)
+restarted a b result P asks = record {
+  faults = faults_by (fault_in result);
+  passes = asks.leaves.passes;
+  done = λ honest R h. holds-stays a b (faults_by (fault_in result)) R asks.stays asks.leaves.passes honest h;
+  halted = λ honest R h. tt;
+}
+
+-- ---- a delivery
+
+-- these were learned, all of them
+pub record Learned (a b : Store) (rs : List Record) : Type 0 where
+  pub faults : List StoreFault
+  pub passes : Passes a b faults
+  pub all : b.honest → (R : Content) → HasContent a R → AreLearned R rs × HasContent b (merged rs R)
+
+pub learned_none : (a : Store) → Learned a a []
+learned_none a = record { faults = []; passes = passes-none a; all = λ honest R h. (refl, h) }
+
+module _ (a b c : Store) (xs : List Record) (i : ℕ) (d r : Record) (so_far : Learned a b (take i xs)) (lt : i < length xs) (is : r ≡ get_or xs i d) where
+  with_next : take (i + 1) xs ≡ take i xs ++ r ∷ []
+  with_next = take_more xs i d lt ∙ ap (λ x. take i xs ++ x ∷ []) (sym is)
+
+  -- and the next one too
+  pub learned_more : (x : Bool) → Learns b c r (Ok x) → Learned a c (take (i + 1) xs)
+  learned_more x learns = record {
+    faults = so_far.faults ++ [];
+    passes = passes-then a b c so_far.faults [] so_far.passes learns.leaves.passes;
+    all = λ honest R h.
+        let here = so_far.all (learns.leaves.passes.honest honest) R h in
+        let M = merged (take i xs) R in
+        let q = (acts-learned b c r (Ok x) learns refl).acts honest M here.1 in
+        let told : (answer_to (finding M r), unwrap_or (learned M r) M) ≡ (Ok x, q.0) = ap (λ (z : (Result Bool LearnFault × Content) × List Mark). z.0) (q.1.does []) in
+        let left : unwrap_or (learned M r) M ≡ q.0 = ap (λ (z : Result Bool LearnFault × Content). z.1) told in
+        let next = are_learned_push (take i xs) r R (unwrap_or (learned M r) M) here.0 (learned_told M r x (sym (ap (λ (z : Result Bool LearnFault × Content). z.0) told))).0 in (
+          subst (AreLearned R) (sym with_next) next.0,
+          subst (HasContent c) (sym left ∙ (sym next.1 ∙ ap (λ rs. merged rs R) (sym with_next))) q.2,
+        );
+  }
+
+  -- the store met a fault
+  pub learned_halted : (fault : StoreFault) (end : Halted) → Learns b c r (Err (refused.Store fault)) → Turns a c (merged xs) (HasFirst xs) (Err end)
+  learned_halted fault end learns = record {
+    faults = so_far.faults ++ faults_by (Some fault);
+    passes = passes-then a b c so_far.faults (faults_by (Some fault)) so_far.passes learns.leaves.passes;
+    done = λ honest R h. tt;
+    halted = λ honest R h.
+        let here = so_far.all (learns.leaves.passes.honest honest) R h in
+        let q = (acts-unlearned b c r (Err (refused.Store fault)) fault (λ S m. (Err (refused.Store fault), S)) (Err (refused.Store fault)) learns refl (λ S. refl)).acts honest (merged (take i xs) R) here.1 in
+        (q.0, (i, sym (ap (λ (z : (Result Bool LearnFault × Content) × List Mark). z.0.1) (q.1.does []))), q.2);
+  }
+
+  -- the record was refused
+  pub learned_refused : (cause : LearnFault) → IsRefusal cause → Learns b c r (Err cause) → Turns a c (merged xs) (HasFirst xs) (Ok tt)
+  learned_refused cause is_refusal learns =
+      let quiet = no_fault cause is_refusal in
+      record {
+        faults = so_far.faults ++ faults_by (store_fault_in (Err cause));
+        passes = passes-then a b c so_far.faults (faults_by (store_fault_in (Err cause))) so_far.passes learns.leaves.passes;
+        done = λ honest R h.
+            let here = so_far.all (learns.leaves.passes.honest honest) R h in
+            let M = merged (take i xs) R in
+            let q = (acts-learned b c r (Err cause) learns quiet).acts honest M here.1 in
+            let told : (answer_to (finding M r), unwrap_or (learned M r) M) ≡ (Err cause, q.0) = ap (λ (z : (Result Bool LearnFault × Content) × List Mark). z.0) (q.1.does []) in
+            let answer : answer_to (finding M r) ≡ Err cause = ap (λ (z : Result Bool LearnFault × Content). z.0) told in
+            let left : unwrap_or (learned M r) M ≡ q.0 = ap (λ (z : Result Bool LearnFault × Content). z.1) told in
+            let same : unwrap_or (learned M r) M ≡ M = refused_left M r cause (sym answer) in
+            let stops : merged xs R ≡ M = merged_stops R xs i cause (record { held = here.0; next = r; there = slice_get-get_or xs i d lt ∙ ap Some (sym is); met = meets cause is_refusal M answer }) is_refusal in
+            subst (HasContent c) (sym left ∙ (same ∙ sym stops)) q.2;
+        halted = λ honest R h. tt;
+      }
+    where
+      no_fault : (f : LearnFault) → IsRefusal f → store_fault_in (Err f) ≡ None
+      no_fault (refused.Gap held got) is = refl
+      no_fault refused.Clash is = refl
+      no_fault refused.TickNotRising is = refl
+      no_fault refused.TickTooFar is = refl
+      no_fault (refused.Store fault) is = absurd is
+
+      meets : (f : LearnFault) → IsRefusal f → (M : Content) → answer_to (finding M r) ≡ Err f → Meets M r f
+      meets (refused.Gap held got) is M e = e
+      meets refused.Clash is M e = e
+      meets refused.TickNotRising is M e = e
+      meets refused.TickTooFar is M e = e
+      meets (refused.Store fault) is M e = absurd is
+
+-- the record wasn't learned
+pub learned_stopped : (a b c : Store) (xs : List Record) (i : ℕ) (d r : Record) → Learned a b (take i xs) → i < length xs → r ≡ get_or xs i d → (cause : LearnFault) (result : Result (Unit {0}) Halted) → EndsBy cause result → Learns b c r (Err cause)
+    → Turns a c (merged xs) (HasFirst xs) result
+learned_stopped a b c xs i d r so lt is (refused.Store fault) (Ok u) ends learns = absurd ends
+learned_stopped a b c xs i d r so lt is (refused.Store fault) (Err end) ends learns = learned_halted a b c xs i d r so lt is fault end learns
+learned_stopped a b c xs i d r so lt is (refused.Gap held got) result ends learns = subst (Turns a c (merged xs) (HasFirst xs)) (sym ends) (learned_refused a b c xs i d r so lt is (refused.Gap held got) tt learns)
+learned_stopped a b c xs i d r so lt is refused.Clash result ends learns = subst (Turns a c (merged xs) (HasFirst xs)) (sym ends) (learned_refused a b c xs i d r so lt is refused.Clash tt learns)
+learned_stopped a b c xs i d r so lt is refused.TickNotRising result ends learns = subst (Turns a c (merged xs) (HasFirst xs)) (sym ends) (learned_refused a b c xs i d r so lt is refused.TickNotRising tt learns)
+learned_stopped a b c xs i d r so lt is refused.TickTooFar result ends learns = subst (Turns a c (merged xs) (HasFirst xs)) (sym ends) (learned_refused a b c xs i d r so lt is refused.TickTooFar tt learns)
+
+-- all were learned, and none is left
+pub learned_all : (a b : Store) (rs : List Record) → Learned a b rs → Turns a b (merged rs) (HasFirst rs) (Ok tt)
+learned_all a b rs learned = record {
+  faults = learned.faults;
+  passes = learned.passes;
+  done = λ honest R h. (learned.all honest R h).1;
+  halted = λ honest R h. tt;
+}
+
+-- or one that isn't lawful came
+pub learned_ended : (a b : Store) (rs : List Record) (i : ℕ) (end : Halted) → Learned a b (take i rs) → Turns a b (merged rs) (HasFirst rs) (Err end)
+learned_ended a b rs i end learned = record {
+  faults = learned.faults;
+  passes = learned.passes;
+  done = λ honest R h. tt;
+  halted = λ honest R h. (merged (take i rs) R, (i, refl), (learned.all honest R h).1);
+}
