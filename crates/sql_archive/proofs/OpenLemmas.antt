@@ -4,7 +4,9 @@ use Rattle.std.proofs.lemmas.Bool.{and_parts, eqb-true, ltb-true, ltb-false, tru
 use Rattle.std.proofs.lemmas.Int.{ints}
 use Rattle.std.specs.List.{AllByRecursion}
 use Rattle.stamp.specs.Limits.{greatest}
-use Rattle.records.specs.Lists.{Has, Rises, insert_sorted}
+use Rattle.records.specs.Lists.{Has, Rises, insert_sorted, sort_by}
+use Rattle.std.specs.List.{flat_map}
+use Rattle.sql_archive.specs.Rows.{records_in}
 use Rattle.records.specs.Records.{name_cmp}
 use Rattle.records.specs.Contents.{Content, IsClosed, IsNext, vec, last_tick, put}
 use Rattle.records.specs.Spelling.{IsRecord}
@@ -211,3 +213,7 @@ opened_by {A} id own a b c P result one two early = record {
     never : (r : Result A StoreFault) → IfErr r (λ f. IsOfOpening f → ⊥) → IfErr r (λ f. IsOfOpening f → judged id own (meta_cells a.now.trees) ≡ Err f)
     never (Ok t) h = tt
     never (Err f) h = λ o. absurd (h o)
+
+-- tables without records hold nothing
+pub nothing_in : (db : Trees) → db 1 ≡ [] → content_in db ≡ []
+nothing_in db none = ap (λ rows. sort_by name_cmp (flat_map records_in (cells rows))) none

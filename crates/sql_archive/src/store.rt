@@ -230,7 +230,8 @@ impl<S: Alter> SqlArchive<S> {
         number: ReplicaNo,
     ) -> Result<SqlArchive<S>, (StoreFault, Connection<S>)>
         requires { HasCleanDisk (state S.Store conn) → Idles (state S.Store conn) }
-        ensures { IfOk result (λ a. (a.id ≡ id) × (a.number ≡ number) × (a.faults ≡ 0) × (a.broken ≡ false)) }
+        ensures own { IfOk result (λ a. (a.id ≡ id) × (a.number ≡ number) × (a.faults ≡ 0) × (a.broken ≡ false)) }
+        ensures same { IfOk result (λ a. HasCleanDisk (state S.Store a.conn) → (state S.Store a.conn).now ≡ (state S.Store conn).now) }
     {
         match open_tables(alloc, &mut conn, &id, number) {
             Ok(latest) => Ok(SqlArchive {
@@ -253,8 +254,9 @@ impl<S: Alter> SqlArchive<S> {
         let _faults = self.faults;
     }
 
-    /// Counts a refusal; Broken stays.
+    /// Counts one more `Broken`.
     fn refuse(&mut self) -> StoreFault
+        requires { self.old.broken ≡ true }
         ensures conn { self.new.conn ≡ self.old.conn }
         ensures id { self.new.id ≡ self.old.id }
         ensures number { self.new.number ≡ self.old.number }
@@ -266,20 +268,20 @@ impl<S: Alter> SqlArchive<S> {
         ensures is { Serves S.Store self.new }
     {
         self.faults = self.faults.saturating_add(1);
-        if self.broken {
-            StoreFault::Broken
-        } else {
-            StoreFault::Refused
-        }
+        StoreFault::Broken
     }
 }
 
 impl SqlArchive<MemStore> {
-    ghost use Rattle.std.specs.Prelude.{◌≡◌, IfOk};
+    ghost use Rattle.std.specs.Prelude.{◌≡◌, false, [], IfOk};
+    ghost use Rattle.sqlite.specs.Held.{state};
+    ghost use Rattle.sqlite.specs.Steps.{over_memory};
+    ghost use Rattle.sql_archive.specs.Rows.{content_in};
 
-    /// An empty archive in memory.
+    /// An archive of this id and replica in memory, which holds nothing.
     pub fn open_in_memory(alloc: Global, id: Uuid, number: ReplicaNo) -> Result<Self, StoreFault>
-        ensures { IfOk result (λ a. (a.id ≡ id) × (a.number ≡ number)) }
+        ensures own { IfOk result (λ a. (a.id ≡ id) × (a.number ≡ number) × (a.faults ≡ 0) × (a.broken ≡ false)) }
+        ensures empty { IfOk result (λ a. content_in (state over_memory a.conn).now.trees ≡ []) }
     {
         let mut conn = match Connection::open_in_memory(alloc) {
             Ok(conn) => conn,
