@@ -17,3 +17,6 @@ mod walking;
 mod writes;
 
 pub use store::SqlArchive;
+
+#[cfg(test)]
+mod tests;
