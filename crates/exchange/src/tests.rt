@@ -1,16 +1,20 @@
 ghost use Rattle.std.specs.Prelude.{IsTrue};
 ghost use Rattle.std.specs.List.{AllByRecursion};
+ghost use Rattle.ua_variant.specs.DataValue.{IsShortData};
 ghost use Rattle.records.specs.Spelling.{IsLawfulRecord};
+ghost use Rattle.hist_update.specs.Outcome.{IsRequest};
+ghost use Rattle.exchange.specs.Running.{IsAsked, IsEvent};
 
 use super::*;
 use HistoryUpdateType::{Insert, Replace};
 use archive::{Archive, Direction, Failure, LearnFault, ListArchive, ScriptedArchive, StoreFault};
+use hist_update::Request;
 use records::{Entry, Held, HistoryUpdateType, Moment, Record};
 use stamp::{ReplicaNo, Vector};
 use std::alloc::{AllocError, Global};
 use std::test::Fail;
-use ua_binary::{Bytes, Listing, NodeId, Text};
-use ua_variant::{DataValue, Scalar, Variant};
+use ua_binary::{Bytes, Listing, NodeId, Text, Ticks};
+use ua_variant::{DataValue, Scalar, ValueType, Variant};
 use uuid::Uuid;
 
 /// An insert at node ns=1;s=T and source time 10: origin, number, tick, and the value.
@@ -163,10 +167,10 @@ fn is_live_alone(lives: &[Held], written: i32) -> bool {
 }
 
 /// Whether 8 is live, and the modifications are a replacement of 7 and the insert of it.
-fn shows_both(alloc: Global, replica: &mut Replica<ListArchive>) -> Result<bool, StoreFault> {
+fn shows_both(alloc: Global, archive: &mut ListArchive) -> Result<bool, StoreFault> {
     let node = node(alloc)?;
-    let all = replica.archive.vector()?;
-    let log = replica.archive.log(
+    let all = archive.vector()?;
+    let log = archive.log(
         alloc,
         &node,
         Moment::at(1),
@@ -176,7 +180,7 @@ fn shows_both(alloc: Global, replica: &mut Replica<ListArchive>) -> Result<bool,
         9,
         &all,
     )?;
-    let lives = replica.archive.range(
+    let lives = archive.range(
         alloc,
         &node,
         Moment::at(1),
@@ -209,8 +213,164 @@ fn two_inserts_meet(rt: HostRuntime) -> Result<(), Fail> {
     assert!(rt; send(alloc, &mut one, &mut two) == Ok(1));
     assert!(rt; send(alloc, &mut two, &mut one) == Ok(1));
     assert!(rt; send(alloc, &mut one, &mut two) == Ok(0));
-    assert!(rt; shows_both(alloc, &mut one)? && shows_both(alloc, &mut two)?);
+    assert!(rt; shows_both(alloc, &mut one.archive)? && shows_both(alloc, &mut two.archive)?);
     assert!(rt; are_equal(alloc, &mut one, &mut two)?);
+    Ok(())
+}
+
+/// An insert of this value at a replica, at this reading of the clock.
+fn insert(alloc: Global, replica: usize, reading: i64, written: i32) -> Result<Event, AllocError> {
+    let node = node(alloc)?;
+    let user = Text::from_str(alloc, "ann")?;
+    Ok(Event::Operation {
+        replica,
+        request: Request {
+            node,
+            user,
+            reading,
+        },
+        operation: Operation::Write {
+            asked: Insert,
+            value_type: ValueType {
+                number: 6,
+                array: false,
+            },
+            value: DataValue {
+                value: Some(Variant::Scalar(Scalar::Int32(written))),
+                status: None,
+                source_time: Some(Ticks(10)),
+                source_pico: None,
+                server_time: None,
+                server_pico: None,
+            },
+        },
+    })
+}
+
+fn add(events: &mut Vec<Event>, event: Event) -> Result<(), AllocError> {
+    events.push(event)?;
+    Ok(())
+}
+
+fn send_all(replica: usize) -> Event {
+    Event::Send {
+        replica,
+        vector: Vector::new(),
+        limit: 1000,
+    }
+}
+
+fn deliver_all(replica: usize, batch: usize) -> Event {
+    Event::Deliver {
+        replica,
+        batch,
+        count: 1000,
+    }
+}
+
+/// Both replicas insert, and each is sent what the other one holds; a delivery comes twice, one to a replica
+/// that isn't there, one of a batch that isn't there.
+fn events(alloc: Global) -> Result<Vec<Event>, AllocError> {
+    let mut events = Vec::new(alloc);
+    for (replica, written) in [(0, 7), (1, 8)] {
+        add(&mut events, insert(alloc, replica, 100, written)?)?;
+    }
+    for replica in [0, 1] {
+        add(&mut events, send_all(replica))?;
+    }
+    for (replica, batch) in [(1, 0), (0, 1), (0, 1), (2, 0), (0, 2)] {
+        add(&mut events, deliver_all(replica, batch))?;
+    }
+    add(&mut events, Event::Restart { replica: 1 })?;
+    Ok(events)
+}
+
+/// Whether the node's id and the user's name are within their limits.
+fn is_request(request: &Request) -> bool
+    ensures { IsTrue result → IsRequest request.now }
+{
+    let short = match &request.node {
+        NodeId::Named(_, name) => name.len() <= 256,
+        NodeId::Opaque(_, id) => id.as_slice().len() <= 256,
+        _ => true,
+    };
+    short && request.user.len() <= 256
+}
+
+/// Whether a value may be written.
+fn is_short(value: &DataValue) -> bool
+    ensures { IsTrue result → IsShortData value.now }
+{
+    let close = match value.source_pico {
+        Some(pico) => pico <= 9999,
+        None => true,
+    };
+    close && value.server_pico.is_none() && value.size() < 0x8000_0000
+}
+
+fn is_asked(operation: &Operation) -> bool
+    ensures { IsTrue result → IsAsked operation.now }
+{
+    match operation {
+        Operation::Write { asked, value, .. } => match asked {
+            HistoryUpdateType::Delete => false,
+            _ => is_short(value),
+        },
+        Operation::Delete { .. } => true,
+    }
+}
+
+/// Whether an update's conditions hold.
+fn is_event(event: &Event) -> bool
+    ensures { IsTrue result → IsEvent event.now }
+{
+    match event {
+        Event::Operation {
+            request,
+            operation,
+            ..
+        } => is_request(request) && is_asked(operation),
+        _ => true,
+    }
+}
+
+fn are_events(events: &[Event]) -> bool
+    ensures { IsTrue result → AllByRecursion IsEvent events.now }
+{
+    events.iter().all(is_event)
+}
+
+/// Lets events happen whose conditions hold.
+fn run<A: Archive>(alloc: Global, replicas: &mut [A], events: &[Event]) -> Result<(), usize> {
+    if are_events(events) {
+        run_world(alloc, replicas, events)
+    } else {
+        Err(events.len())
+    }
+}
+
+/// Two replicas that hold nothing.
+fn archives(alloc: Global) -> Result<Vec<ListArchive>, StoreFault> {
+    let mut archives = Vec::new(alloc);
+    for number in [1, 2] {
+        let number = replica_number(number)?;
+        match archives.push(ListArchive::new(alloc, Uuid::nil(), number)) {
+            Ok(()) => {}
+            Err(_) => return Err(StoreFault::OutOfMemory),
+        }
+    }
+    Ok(archives)
+}
+
+#[test]
+fn two_inserts_meet_in_a_world(rt: HostRuntime) -> Result<(), Fail> {
+    let alloc = rt.alloc();
+    let mut replicas = archives(alloc)?;
+    let events = events(alloc)?;
+    assert!(rt; run(alloc, &mut replicas, &events) == Ok(()));
+    for archive in replicas.iter_mut() {
+        assert!(rt; shows_both(alloc, archive)?);
+    }
     Ok(())
 }
 
