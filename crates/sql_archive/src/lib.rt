@@ -1,8 +1,9 @@
-//! An archive on disk or in memory, over SQLite: one row for each record, in the tables of store format 2.
+//! An archive over SQLite, in memory: one row for each record, in the tables of store format 2.
 #![tactic(auto)]
 
 mod decode;
 mod latest;
+mod laws;
 mod layout;
 mod learning;
 mod opening;
@@ -16,6 +17,7 @@ mod store;
 mod walking;
 mod writes;
 
+pub use laws::memory_is_honest;
 pub use store::SqlArchive;
 
 #[cfg(test)]
