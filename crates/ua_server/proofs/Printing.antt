@@ -1,7 +1,7 @@
 -- A line is printed in two writes.
-use Rattle.std.proofs.Common.{◌≡◌, ℕ, ℤ, Bool, true, false, List, [], ◌++◌, Some, None, Ok, Err, IfErr, OnErr, refl, sym, ◌∙◌, ap, subst, inl, append_assoc, IsUtf8}
+use Rattle.std.proofs.Common.{◌≡◌, ℕ, ℤ, Bool, true, List, [], ◌++◌, Some, None, Ok, Err, IfErr, OnErr, IsErr, refl, sym, ◌∙◌, ap, subst, inl, inr, append_assoc, option_copied, IsUtf8}
 use Rattle.std.proofs.lemmas.List.{append-nil}
-use Rattle.hex.specs.Hex.{encode_upper}
+use Rattle.hex.specs.Hex.{decode_of, encode_upper}
 use Rattle.clap.specs.Words.{Row, Text}
 use Rattle.std.specs.Prelude.{Option, Result}
 use Rattle.std.specs.Io.KnownBytes.{Appends, Consumes, IsAtEnd}
@@ -11,19 +11,20 @@ use Rattle.ua_server.specs.declared.outcome.ServeFault.{ServeFault}
 use Rattle.ua_server.specs.declared.outcome.ServeFault.TheVariants.{Read, Write, TooLong, OutOfMemory}
 use Rattle.ua_server.specs.declared.outcome.Served.{Served}
 use Rattle.ua_server.specs.declared.hexed.HexFault.{HexFault}
-use Rattle.ua_server.specs.declared.hexed.HexFault.TheVariants.{Serve}
+use Rattle.ua_server.specs.declared.hexed.HexFault.TheVariants as hexed
 use Rattle.ua_server.specs.declared.program.ProgramFault.{ProgramFault}
-use Rattle.ua_server.specs.declared.program.ProgramFault.TheVariants.{Line, BadHex, Connection}
+use Rattle.ua_server.specs.declared.program.ProgramFault.TheVariants.{Line, File, Settings, BadHex, Connection}
 use Rattle.ua_server.specs.declared.line.Line.TheVariants.{Answer}
 use Rattle.ua_server.specs.declared.line.LineFault.{LineFault}
 use Rattle.ua_server.specs.declared.line.LineFault.TheVariants.{Words, OutOfMemory as NoMemory}
 use Rattle.ua_server.specs.Line.{IsLine, IsNoCommand}
 use Rattle.clap.specs.declared.error.ErrorKind.{ErrorKind}
-use Rattle.ua_settings.specs.Settings.{Values, bare}
+use Rattle.ua_settings.specs.Settings.{Values}
 use Rattle.archive.specs.Listed.{Listed, store_of}
 use Rattle.ua_server.specs.Given.{Outside}
-use Rattle.ua_server.specs.Hexed.{AnswersHex}
-use Rattle.ua_server.specs.Program.{empty, AnswersBare, AnswersDigits, IsUnmade, IsBadText, IsUnbegun, IsRefused, DoesAnswer, DoesLine, Runs}
+use Rattle.ua_server.specs.Hexed.{AnswersHex, digits_of}
+use Rattle.ua_server.specs.Program.{empty_of, AnswersFirst, AnswersDigits, IsUnmade, IsBadText, IsUnbegun, SettingsAt, Continues, program_result, IsRefused, DoesLine, Runs}
+use Rattle.ua_server.specs.declared.line.Line.{Line as CommandLine}
 
 -- the first write failed
 pub part-first : (old written : Option (List ℕ)) (first second : List ℕ) → AppendsPart old written first → AppendsPart old written (first ++ second)
@@ -39,13 +40,18 @@ pub part-rest : {T : Type 0} (result : Result T ServeFault) (old middle written 
 part-rest (Ok done) old middle written first second whole part = tt
 part-rest (Err fault) old middle written first second whole part = part-second old middle written first second whole part.1
 
+-- the second of two parts failed
+pub part-after : {T : Type 0} (result : Result T ServeFault) (old middle written : Option (List ℕ)) (first second : List ℕ) → Appends old middle first → OnErr result (AppendsPart middle written second) → OnErr result (AppendsPart old written (first ++ second))
+part-after (Ok done) old middle written first second whole part = tt
+part-after (Err fault) old middle written first second whole part = part-second old middle written first second whole part
+
 -- ---- why no digits were made
 
-pub made-read : (known : Option (List ℕ)) (used : Outside) (fault : ServeFault) → (fault ≡ Write → ⊥) → (fault ≡ TooLong → ⊥) → IsUnmade known used (Connection fault)
-made-read known used Read write long = tt
-made-read known used Write write long = absurd (write refl)
-made-read known used TooLong write long = absurd (long refl)
-made-read known used OutOfMemory write long = tt
+pub made-read : (settings : Values) (known : Option (List ℕ)) (used : Outside) (fault : ServeFault) → (fault ≡ Write → ⊥) → (fault ≡ TooLong → ⊥) → IsUnmade settings known used (hexed.Serve fault)
+made-read settings known used Read write long = tt
+made-read settings known used Write write long = absurd (write refl)
+made-read settings known used TooLong write long = absurd (long refl)
+made-read settings known used OutOfMemory write long = tt
 
 -- all bytes of a known input were read
 whole-text : (text rest bytes : List ℕ) → text ≡ bytes ++ rest → rest ≡ [] → bytes ≡ text
@@ -58,43 +64,49 @@ made-bad (Some text) (Some rest) bytes read over bad =
     let P : List ℕ → Type 0 = λ t. IsUtf8 t → ⊥ in
     inl (subst P (whole-text text rest bytes read over) bad)
 
-unmade : (known left : Option (List ℕ)) (last : Listed) (bytes : List ℕ) (used : Outside) (old new : List ℕ) (fault : ServeFault) → Consumes known left bytes → IsAtEnd left
-    → AnswersHex bare (store_of empty) (store_of last) bytes used old new (Err (Serve fault)) → IsUnmade known used (Connection fault)
-unmade known left last bytes used old new Read read over so = absurd so
-unmade known left last bytes used old new Write read over so = absurd so
-unmade None left last bytes used old new TooLong read over so = tt
-unmade (Some text) None last bytes used old new TooLong read over so = absurd read
-unmade (Some text) (Some rest) last bytes used old new TooLong read over so =
-    let P : List ℕ → Type 0 = λ t. (out : List ℕ) × AnswersBare t used out (Err TooLong) in
-    subst P (whole-text text rest bytes read over) (so.0.0, (last, so.0.1))
-unmade known left last bytes used old new OutOfMemory read over so = tt
+unspelled : (known left : Option (List ℕ)) (bytes : List ℕ) → Consumes known left bytes → IsAtEnd left → IsErr (decode_of (digits_of bytes)) → IsBadText known
+unspelled None left bytes read over bad = tt
+unspelled (Some text) None bytes read over bad = absurd read
+unspelled (Some text) (Some rest) bytes read over bad =
+    let P : List ℕ → Type 0 = λ t. IsErr (decode_of (digits_of t)) in
+    inr (subst P (whole-text text rest bytes read over) bad)
 
-pub made-connection : (known left : Option (List ℕ)) (settings : Values) (first last : Listed) (text bytes : List ℕ) (used : Outside) (old new : List ℕ) (result : Result Served HexFault) (fault : ServeFault) → settings ≡ bare → first ≡ empty → Consumes known left bytes → IsAtEnd left
-    → text ≡ bytes → result ≡ Err (Serve fault) → AnswersHex settings (store_of first) (store_of last) text used old new result → IsUnmade known used (Connection fault)
-made-connection known left settings first last text bytes used old new result fault plain begins read over same is so =
-    let A : Values → Type 0 = λ v. AnswersHex v (store_of first) (store_of last) text used old new result in
-    let B : Listed → Type 0 = λ f. AnswersHex bare (store_of f) (store_of last) text used old new result in
-    let P : Result Served HexFault → Type 0 = AnswersHex bare (store_of empty) (store_of last) text used old new in
-    let Q : List ℕ → Type 0 = λ t. AnswersHex bare (store_of empty) (store_of last) t used old new (Err (Serve fault)) in
-    unmade known left last bytes used old new fault read over (subst Q same (subst P is (subst B begins (subst A plain so))))
+unmade : (settings : Values) (known left : Option (List ℕ)) (last : Listed) (bytes : List ℕ) (used : Outside) (old new : List ℕ) (fault : HexFault) → Consumes known left bytes → IsAtEnd left
+    → AnswersHex settings (store_of (empty_of settings)) (store_of last) bytes used old new (Err fault) → IsUnmade settings known used fault
+unmade settings known left last bytes used old new hexed.BadHex read over so = unspelled known left bytes read over so.0
+unmade settings known left last bytes used old new (hexed.Serve Read) read over so = absurd so
+unmade settings known left last bytes used old new (hexed.Serve Write) read over so = absurd so
+unmade settings None left last bytes used old new (hexed.Serve TooLong) read over so = tt
+unmade settings (Some text) None last bytes used old new (hexed.Serve TooLong) read over so = absurd read
+unmade settings (Some text) (Some rest) last bytes used old new (hexed.Serve TooLong) read over so =
+    let P : List ℕ → Type 0 = λ t. (out : List ℕ) × AnswersFirst settings t used out (Err TooLong) in
+    subst P (whole-text text rest bytes read over) (so.0.0, (last, so.0.1))
+unmade settings known left last bytes used old new (hexed.Serve OutOfMemory) read over so = tt
+
+pub made-none : (settings : Values) (known left : Option (List ℕ)) (first last : Listed) (text bytes : List ℕ) (used : Outside) (old new : List ℕ) (result : Result Served HexFault) (fault : HexFault) → first ≡ empty_of settings → Consumes known left bytes → IsAtEnd left
+    → text ≡ bytes → result ≡ Err fault → AnswersHex settings (store_of first) (store_of last) text used old new result → IsUnmade settings known used fault
+made-none settings known left first last text bytes used old new result fault begins read over same is so =
+    let B : Listed → Type 0 = λ f. AnswersHex settings (store_of f) (store_of last) text used old new result in
+    let P : Result Served HexFault → Type 0 = AnswersHex settings (store_of (empty_of settings)) (store_of last) text used old new in
+    let Q : List ℕ → Type 0 = λ t. AnswersHex settings (store_of (empty_of settings)) (store_of last) t used old new (Err fault) in
+    unmade settings known left last bytes used old new fault read over (subst Q same (subst P is (subst B begins so)))
 
 -- the digits that were made
-made : (known left : Option (List ℕ)) (last : Listed) (bytes : List ℕ) (used : Outside) (old new : List ℕ) (served : Served) → Consumes known left bytes → IsAtEnd left → old ≡ []
-    → AnswersHex bare (store_of empty) (store_of last) bytes used old new (Ok served) → AnswersDigits known used new
-made None left last bytes used old new served read over none so = tt
-made (Some text) None last bytes used old new served read over none so = absurd read
-made (Some text) (Some rest) last bytes used old new served read over none so =
-    let P : List ℕ → Type 0 = λ t. AnswersBare t used so.0 (Ok served) in
+made : (settings : Values) (known left : Option (List ℕ)) (last : Listed) (bytes : List ℕ) (used : Outside) (old new : List ℕ) (served : Served) → Consumes known left bytes → IsAtEnd left → old ≡ []
+    → AnswersHex settings (store_of (empty_of settings)) (store_of last) bytes used old new (Ok served) → AnswersDigits settings known used new
+made settings None left last bytes used old new served read over none so = tt
+made settings (Some text) None last bytes used old new served read over none so = absurd read
+made settings (Some text) (Some rest) last bytes used old new served read over none so =
+    let P : List ℕ → Type 0 = λ t. AnswersFirst settings t used so.0 (Ok served) in
     (so.0, served, subst P (whole-text text rest bytes read over) (last, so.1), so.2 ∙ ap (λ (front : List ℕ). front ++ encode_upper so.0) none)
 
-pub made-digits : (known left : Option (List ℕ)) (settings : Values) (first last : Listed) (text bytes : List ℕ) (used : Outside) (old new : List ℕ) (result : Result Served HexFault) (served : Served) → settings ≡ bare → first ≡ empty → Consumes known left bytes → IsAtEnd left
-    → text ≡ bytes → old ≡ [] → result ≡ Ok served → AnswersHex settings (store_of first) (store_of last) text used old new result → AnswersDigits known used new
-made-digits known left settings first last text bytes used old new result served plain begins read over same none is so =
-    let A : Values → Type 0 = λ v. AnswersHex v (store_of first) (store_of last) text used old new result in
-    let B : Listed → Type 0 = λ f. AnswersHex bare (store_of f) (store_of last) text used old new result in
-    let P : Result Served HexFault → Type 0 = AnswersHex bare (store_of empty) (store_of last) text used old new in
-    let Q : List ℕ → Type 0 = λ t. AnswersHex bare (store_of empty) (store_of last) t used old new (Ok served) in
-    made known left last bytes used old new served read over none (subst Q same (subst P is (subst B begins (subst A plain so))))
+pub made-digits : (settings : Values) (known left : Option (List ℕ)) (first last : Listed) (text bytes : List ℕ) (used : Outside) (old new : List ℕ) (result : Result Served HexFault) (served : Served) → first ≡ empty_of settings → Consumes known left bytes → IsAtEnd left
+    → text ≡ bytes → old ≡ [] → result ≡ Ok served → AnswersHex settings (store_of first) (store_of last) text used old new result → AnswersDigits settings known used new
+made-digits settings known left first last text bytes used old new result served begins read over same none is so =
+    let B : Listed → Type 0 = λ f. AnswersHex settings (store_of f) (store_of last) text used old new result in
+    let P : Result Served HexFault → Type 0 = AnswersHex settings (store_of (empty_of settings)) (store_of last) text used old new in
+    let Q : List ℕ → Type 0 = λ t. AnswersHex settings (store_of (empty_of settings)) (store_of last) t used old new (Ok served) in
+    made settings known left last bytes used old new served read over none (subst Q same (subst P is (subst B begins so)))
 
 pub line-refused : (taken : Bool) (matches : Option (Text × List Row)) (fault : LineFault) → (fault ≡ Words → taken ≡ true → IsNoCommand matches) → IsRefused taken matches fault
 line-refused taken matches Words told = told refl
@@ -102,25 +114,39 @@ line-refused taken matches NoMemory told = tt
 
 -- ---- what a command does
 
-begun : (hex : Bool) (input left old written : Option (List ℕ)) (used : Outside) (fault : LineFault) → DoesAnswer hex input left old written used (Err (Line fault)) → IsUnbegun fault × (written ≡ old)
-begun false input left old written used fault so = so
-begun true input left old written used fault so = so
-
-answers-line : (hex : Bool) (now : Option ℤ) (input left old written : Option (List ℕ)) (used : Outside) (fault : LineFault) → DoesLine (Answer hex now) input left old written used (Err (Line fault)) → IsUnbegun fault × (written ≡ old)
-answers-line hex None input left old written used fault so = begun hex input left old written used fault so
-answers-line hex (Some now) input left old written used fault so = begun hex input left old written so.1.0 fault so.1.2
-
 unbegun-refused : (taken : Bool) (matches : Option (Text × List Row)) (fault : LineFault) → IsUnbegun fault → IsRefused taken matches fault
 unbegun-refused taken matches Words so = absurd so
 unbegun-refused taken matches NoMemory so = tt
 
+-- settings are refused as a line where memory for those without a file was wanting
+unset : (reads : List ℕ → Option (List ℕ) → Type 0) (path : Option (List ℕ)) (fault : LineFault) → SettingsAt reads path (Err (Line fault)) → IsUnbegun fault
+unset reads None fault so = so
+unset reads (Some path) fault (None, read, so) = cc
+unset reads (Some path) fault (Some text, read, so) = absurd so
+
+answered-line : (answered : Result (Unit {0}) HexFault) (line : LineFault) (result : Result (Unit {0}) ProgramFault) → result ≡ Err (Line line) → result ≡ program_result answered → ⊥
+answered-line (Ok done) line result refused same = cc
+answered-line (Err hexed.BadHex) line result refused same = cc
+answered-line (Err (hexed.Serve cause)) line result refused same = cc
+
+stopped : (reads : List ℕ → Option (List ℕ) → Type 0) (path : Option (List ℕ)) (settings : Result Values ProgramFault) (hex : Bool) (now : Option ℤ) (input left old written : Option (List ℕ)) (used : Outside) (line : LineFault)
+    → SettingsAt reads path settings → Continues settings hex now input left old written used (Err (Line line)) → IsUnbegun line × (written ≡ old)
+stopped reads path (Ok settings) hex now input left old written used line set so = absurd (answered-line so.0 line (Err (Line line)) refl so.2)
+stopped reads path (Err fault) hex now input left old written used line set so =
+    let same : fault ≡ Line line = cc in
+    let P : ProgramFault → Type 0 = λ f. SettingsAt reads path (Err f) in
+    (unset reads path line (subst P same set), so.2)
+
 -- a command that a line names
-pub line-done : (faults : List ErrorKind) (taken : Bool) (matches : Option (Text × List Row)) (hex : Bool) (now : Option ℤ) (input left old written : Option (List ℕ)) (used : Outside) (result : Result (Unit {0}) ProgramFault)
-    → faults ≡ [] → IsLine matches (Answer hex now) → DoesLine (Answer hex now) input left old written used result → Runs faults taken matches input left old written used result
-line-done faults taken matches hex now input left old written used (Ok done) free is so = (free, (Answer hex now, is, so))
-line-done faults taken matches hex now input left old written used (Err (Line fault)) free is so =
-    let b = answers-line hex now input left old written used fault so in (unbegun-refused taken matches fault b.0, b.1)
-line-done faults taken matches hex now input left old written used (Err BadHex) free is so = (free, (Answer hex now, is, so))
-line-done faults taken matches hex now input left old written used (Err (Connection fault)) free is so = (free, (Answer hex now, is, so))
+pub line-done : (faults : List ErrorKind) (taken : Bool) (matches : Option (Text × List Row)) (reads : List ℕ → Option (List ℕ) → Type 0) (line : CommandLine) (input left old written : Option (List ℕ)) (used : Outside) (result : Result (Unit {0}) ProgramFault)
+    → faults ≡ [] → IsLine matches line → DoesLine reads line input left old written used result → Runs faults taken matches reads input left old written used result
+line-done faults taken matches reads line input left old written used (Ok done) free is so = (free, (line, is, so))
+line-done faults taken matches reads (Answer path hex now) input left old written used (Err (Line fault)) free is so =
+    let b = stopped reads (option_copied path) so.0 hex now input left old written used fault so.1 so.2 in
+    (unbegun-refused taken matches fault b.0, b.1)
+line-done faults taken matches reads line input left old written used (Err File) free is so = (free, (line, is, so))
+line-done faults taken matches reads line input left old written used (Err (Settings fault place)) free is so = (free, (line, is, so))
+line-done faults taken matches reads line input left old written used (Err BadHex) free is so = (free, (line, is, so))
+line-done faults taken matches reads line input left old written used (Err (Connection fault)) free is so = (free, (line, is, so))
 
 pub ruleset lines = (line-done)

@@ -1,16 +1,22 @@
 -- What a run of the program prints, and its exit status.
-use Rattle.std.specs.Prelude.{◌≡◌, ℕ, List, [], ◌∷◌, ◌++◌, Option, None, Some, Result, Ok, Err, IsErr, Bool, true, false, ◌⊎◌, codes}
+use Rattle.std.specs.Prelude.{◌≡◌, ◌≤◌, ℕ, ℤ, List, [], ◌∷◌, ◌++◌, length, Option, None, Some, IfSome, option_copied, Result, Ok, Err, IsErr, Bool, true, false, ◌⊎◌, codes}
 use Rattle.std.specs.Io.KnownBytes.{Appends}
 use Rattle.std.specs.Str.{IsUtf8}
 use Rattle.hex.specs.Hex.{encode_upper, decode_of}
+use Rattle.toml.specs.Parse.{parse_document}
 use Rattle.ua_server.specs.declared.outcome.Served.{Served}
 use Rattle.ua_server.specs.declared.outcome.ServeFault.TheVariants.{Read, Write, TooLong, OutOfMemory}
+use Rattle.ua_server.specs.declared.hexed.HexFault.{HexFault}
+use Rattle.ua_server.specs.declared.hexed.HexFault.TheVariants as hexed
 use Rattle.ua_server.specs.declared.program.ProgramFault.{ProgramFault}
-use Rattle.ua_server.specs.declared.program.ProgramFault.TheVariants.{Line, BadHex, Connection}
+use Rattle.ua_server.specs.declared.program.ProgramFault.TheVariants.{Line, File, Settings, BadHex, Connection}
 use Rattle.ua_server.specs.Bytes.{AppendsPart, counted}
 use Rattle.ua_server.specs.Tally.{Tally}
 use Rattle.ua_server.specs.Readings.{AllAre}
-use Rattle.ua_settings.specs.Settings.{bare}
+use Rattle.ua_settings.specs.declared.fault.SettingsFault.{SettingsFault}
+use Rattle.ua_settings.specs.declared.fault.SettingsFault.TheVariants as refused
+use Rattle.ua_settings.specs.Settings.{Values, bare}
+use Rattle.ua_settings.specs.Reading.{IsReadOrStarved}
 use Rattle.archive.specs.Listed.{Listed, store_of}
 use Rattle.ua_server.specs.Given.{Outside}
 use Rattle.ua_server.specs.Client.{Ending}
@@ -26,6 +32,8 @@ use Rattle.ua_server.specs.Line.{IsLine, IsNoCommand}
 
 abbrev pub fault_status : ProgramFault → ℕ
 fault_status (Line fault) = 2
+fault_status File = 2
+fault_status (Settings fault place) = 2
 fault_status BadHex = 2
 fault_status (Connection fault) = 1
 
@@ -35,21 +43,48 @@ status_of (Err fault) = fault_status fault
 
 -- the text that tells a refused command line
 abbrev pub line_text_of : LineFault → List ℕ
-line_text_of Words = codes "usage: uahist answer [--hex] [--now N]"
+line_text_of Words = codes "usage: uahist answer [--settings FILE] [--hex] [--now N]"
 line_text_of NoMemory = codes "memory ran out before the command began"
+
+-- the text that tells refused settings
+abbrev pub refusal_text : SettingsFault → List ℕ
+refusal_text refused.NotToml = codes "settings refused (1)"
+refusal_text refused.MissingKey = codes "settings refused (2)"
+refusal_text refused.BadValue = codes "settings refused (3)"
+refusal_text refused.UnknownKey = codes "settings refused (4)"
+refusal_text (refused.Space fault) = codes "settings refused (5)"
+refusal_text refused.OutOfMemory = codes "settings refused (6)"
 
 -- the text that tells a fault
 abbrev pub text_of : ProgramFault → List ℕ
 text_of (Line fault) = line_text_of fault
+text_of File = codes "settings file can't be read"
+text_of (Settings fault place) = refusal_text fault
 text_of BadHex = codes "bad hex"
 text_of (Connection Read) = codes "connection ended (1)"
 text_of (Connection Write) = codes "connection ended (2)"
 text_of (Connection TooLong) = codes "connection ended (3)"
 text_of (Connection OutOfMemory) = codes "connection ended (4)"
 
--- the line that standard error has of it
-abbrev pub error_line : ProgramFault → List ℕ
-error_line fault = codes "uahist: " ++ (text_of fault ++ 10 ∷ [])
+-- where settings are refused
+abbrev pub place_of : ProgramFault → Option (List ℕ)
+place_of (Line fault) = None
+place_of File = None
+place_of (Settings fault place) = place
+place_of BadHex = None
+place_of (Connection fault) = None
+
+-- a line of the program's
+abbrev pub told_line : List ℕ → List ℕ
+told_line text = codes "uahist: " ++ (text ++ 10 ∷ [])
+
+abbrev pub place_line : Option (List ℕ) → List ℕ
+place_line None = []
+place_line (Some place) = told_line place
+
+-- what standard error has of a fault: a line, and a second one where settings are refused
+abbrev pub error_lines : ProgramFault → List ℕ
+error_lines fault = told_line (text_of fault) ++ place_line (place_of fault)
 
 -- the whole line was written, or a first part of it, and one call more failed
 abbrev pub IsTold : {W : Type 0} → (W → Option (List ℕ)) → Tally W → Tally W → List ℕ → Type 0
@@ -57,36 +92,30 @@ IsTold contents old new line =
     (Appends (contents old.inner) (contents new.inner) line × (new.faults ≡ old.faults))
     ⊎ (AppendsPart (contents old.inner) (contents new.inner) line × (new.faults ≡ counted old.faults))
 
--- ---- the server of a program without settings
+-- ---- the server of a program
 
 -- the archive that the program makes: it holds nothing
-abbrev pub empty : Listed
-empty = record { id = bare.archive; number = bare.replica; records = []; faults = 0 }
+abbrev pub empty_of : Values → Listed
+empty_of settings = record { id = settings.archive; number = settings.replica; records = []; faults = 0 }
 
--- a client of a server without settings was served, over an archive that held nothing
-abbrev pub ServesBare : Option (List ℕ) → Option (List ℕ) → Option (List ℕ) → Option (List ℕ) → Outside → Ending → Type 0
-ServesBare unread left old written used ending = (last : Listed) × Serves bare (store_of empty) (store_of last) unread left old written used ending
+-- a client was served, over an archive that held nothing
+abbrev pub ServesFirst : Values → Option (List ℕ) → Option (List ℕ) → Option (List ℕ) → Option (List ℕ) → Outside → Ending → Type 0
+ServesFirst settings unread left old written used ending = (last : Listed) × Serves settings (store_of (empty_of settings)) (store_of last) unread left old written used ending
 
--- memory for the server was wanting, and nothing was done
-abbrev pub IsUnbegun : LineFault → Type 0
-IsUnbegun Words = ⊥
-IsUnbegun NoMemory = Unit {0}
-
--- a connection ended so, or memory for the server was wanting
-abbrev pub EndsAs : Option (List ℕ) → Option (List ℕ) → (Ending → Type 0) → Result (Unit {0}) ProgramFault → Type 0
-EndsAs old written P (Ok done) = (served : Served) × P (Ok served)
-EndsAs old written P (Err (Line fault)) = IsUnbegun fault × (written ≡ old)
-EndsAs old written P (Err BadHex) = ⊥
-EndsAs old written P (Err (Connection fault)) = P (Err fault)
+-- a connection ended so
+abbrev pub EndsAs : (Ending → Type 0) → Result (Unit {0}) HexFault → Type 0
+EndsAs P (Ok done) = (served : Served) × P (Ok served)
+EndsAs P (Err hexed.BadHex) = ⊥
+EndsAs P (Err (hexed.Serve fault)) = P (Err fault)
 
 -- the text spells a client's bytes, and this is what it was answered
-abbrev pub AnswersBare : List ℕ → Outside → List ℕ → Ending → Type 0
-AnswersBare text used out ending = (last : Listed) × AnswersText bare (store_of empty) (store_of last) text used out ending
+abbrev pub AnswersFirst : Values → List ℕ → Outside → List ℕ → Ending → Type 0
+AnswersFirst settings text used out ending = (last : Listed) × AnswersText settings (store_of (empty_of settings)) (store_of last) text used out ending
 
 -- where the input is known, these are the digits of the whole answer to the connection that it spells
-abbrev pub AnswersDigits : Option (List ℕ) → Outside → List ℕ → Type 0
-AnswersDigits None used digits = Unit {0}
-AnswersDigits (Some text) used digits = (out : List ℕ) × (served : Served) × AnswersBare text used out (Ok served) × (digits ≡ encode_upper out)
+abbrev pub AnswersDigits : Values → Option (List ℕ) → Outside → List ℕ → Type 0
+AnswersDigits settings None used digits = Unit {0}
+AnswersDigits settings (Some text) used digits = (out : List ℕ) × (served : Served) × AnswersFirst settings text used out (Ok served) × (digits ≡ encode_upper out)
 
 -- a known input spells no connection in hex
 abbrev pub IsBadText : Option (List ℕ) → Type 0
@@ -94,47 +123,96 @@ IsBadText None = Unit {0}
 IsBadText (Some text) = ¬ (IsUtf8 text) ⊎ IsErr (decode_of (digits_of text))
 
 -- a known input spells a connection of too many chunks
-abbrev pub IsTooLong : Option (List ℕ) → Outside → Type 0
-IsTooLong None used = Unit {0}
-IsTooLong (Some text) used = (out : List ℕ) × AnswersBare text used out (Err TooLong)
+abbrev pub IsTooLong : Values → Option (List ℕ) → Outside → Type 0
+IsTooLong settings None used = Unit {0}
+IsTooLong settings (Some text) used = (out : List ℕ) × AnswersFirst settings text used out (Err TooLong)
 
 -- why no digits were made
-abbrev pub IsUnmade : Option (List ℕ) → Outside → ProgramFault → Type 0
-IsUnmade input used (Line fault) = IsUnbegun fault
-IsUnmade input used BadHex = IsBadText input
-IsUnmade input used (Connection Read) = Unit {0}
-IsUnmade input used (Connection Write) = ⊥
-IsUnmade input used (Connection TooLong) = IsTooLong input used
-IsUnmade input used (Connection OutOfMemory) = Unit {0}
+abbrev pub IsUnmade : Values → Option (List ℕ) → Outside → HexFault → Type 0
+IsUnmade settings input used hexed.BadHex = IsBadText input
+IsUnmade settings input used (hexed.Serve Read) = Unit {0}
+IsUnmade settings input used (hexed.Serve Write) = ⊥
+IsUnmade settings input used (hexed.Serve TooLong) = IsTooLong settings input used
+IsUnmade settings input used (hexed.Serve OutOfMemory) = Unit {0}
 
 -- the digits of the answer were made, or it is said why not
-abbrev pub MakesDigits : {T : Type 0} → (T → List ℕ) → Option (List ℕ) → Outside → Result T ProgramFault → Type 0
-MakesDigits items_of input used (Ok made) = AnswersDigits input used (items_of made)
-MakesDigits items_of input used (Err fault) = IsUnmade input used fault
+abbrev pub MakesDigits : {T : Type 0} → Values → (T → List ℕ) → Option (List ℕ) → Outside → Result T HexFault → Type 0
+MakesDigits settings items_of input used (Ok made) = AnswersDigits settings input used (items_of made)
+MakesDigits settings items_of input used (Err fault) = IsUnmade settings input used fault
 
 -- the digits of the whole answer and a line end were printed, a first part of them where the writer failed, else nothing
-abbrev pub PrintsHex : Option (List ℕ) → Option (List ℕ) → Option (List ℕ) → Outside → Result (Unit {0}) ProgramFault → Type 0
-PrintsHex input old written used (Ok done) = (digits : List ℕ) × AnswersDigits input used digits × Appends old written (digits ++ 10 ∷ [])
-PrintsHex input old written used (Err (Line fault)) = IsUnbegun fault × (written ≡ old)
-PrintsHex input old written used (Err BadHex) = IsBadText input × (written ≡ old)
-PrintsHex input old written used (Err (Connection Read)) = written ≡ old
-PrintsHex input old written used (Err (Connection Write)) = (digits : List ℕ) × AnswersDigits input used digits × AppendsPart old written (digits ++ 10 ∷ [])
-PrintsHex input old written used (Err (Connection TooLong)) = IsTooLong input used × (written ≡ old)
-PrintsHex input old written used (Err (Connection OutOfMemory)) = written ≡ old
+abbrev pub PrintsHex : Values → Option (List ℕ) → Option (List ℕ) → Option (List ℕ) → Outside → Result (Unit {0}) HexFault → Type 0
+PrintsHex settings input old written used (Ok done) = (digits : List ℕ) × AnswersDigits settings input used digits × Appends old written (digits ++ 10 ∷ [])
+PrintsHex settings input old written used (Err hexed.BadHex) = IsBadText input × (written ≡ old)
+PrintsHex settings input old written used (Err (hexed.Serve Read)) = written ≡ old
+PrintsHex settings input old written used (Err (hexed.Serve Write)) = (digits : List ℕ) × AnswersDigits settings input used digits × AppendsPart old written (digits ++ 10 ∷ [])
+PrintsHex settings input old written used (Err (hexed.Serve TooLong)) = IsTooLong settings input used × (written ≡ old)
+PrintsHex settings input old written used (Err (hexed.Serve OutOfMemory)) = written ≡ old
 
 -- one connection is answered, in hex digits or in bytes
-abbrev pub DoesAnswer : Bool → Option (List ℕ) → Option (List ℕ) → Option (List ℕ) → Option (List ℕ) → Outside → Result (Unit {0}) ProgramFault → Type 0
-DoesAnswer false input left old written used result = EndsAs old written (ServesBare input left old written used) result
-DoesAnswer true input left old written used result = PrintsHex input old written used result
+abbrev pub DoesAnswer : Values → Bool → Option (List ℕ) → Option (List ℕ) → Option (List ℕ) → Option (List ℕ) → Outside → Result (Unit {0}) HexFault → Type 0
+DoesAnswer settings false input left old written used result = EndsAs (ServesFirst settings input left old written used) result
+DoesAnswer settings true input left old written used result = PrintsHex settings input old written used result
 
--- what each command does, by what the outside gives; a moment that is given stands for each reading of the clock
-abbrev pub DoesLine : CommandLine → Option (List ℕ) → Option (List ℕ) → Option (List ℕ) → Option (List ℕ) → Outside → Result (Unit {0}) ProgramFault → Type 0
-DoesLine (Answer hex None) input left old written used result = DoesAnswer hex input left old written used result
-DoesLine (Answer hex (Some now)) input left old written used result = (used.readings ≡ []) × ((given : Outside) × AllAre now given.readings × DoesAnswer hex input left old written given result)
+-- and a moment that is given stands for each reading of the clock
+abbrev pub AnswersAt : Values → Bool → Option ℤ → Option (List ℕ) → Option (List ℕ) → Option (List ℕ) → Option (List ℕ) → Outside → Result (Unit {0}) HexFault → Type 0
+AnswersAt settings hex None input left old written used result = DoesAnswer settings hex input left old written used result
+AnswersAt settings hex (Some now) input left old written used result = (used.readings ≡ []) × ((given : Outside) × AllAre now given.readings × DoesAnswer settings hex input left old written given result)
+
+-- ---- settings
+
+-- memory for the server was wanting, and nothing was done
+abbrev pub IsUnbegun : LineFault → Type 0
+IsUnbegun Words = ⊥
+IsUnbegun NoMemory = Unit {0}
+
+-- the settings without a file
+abbrev pub IsBare : Result Values ProgramFault → Type 0
+IsBare (Ok settings) = settings ≡ bare
+IsBare (Err (Line fault)) = IsUnbegun fault
+IsBare (Err fault) = ⊥
+
+-- the settings that a text gives; where they are refused, what tells the place has at most 180 bytes
+abbrev pub IsSetIn : List ℕ → Result Values ProgramFault → Type 0
+IsSetIn text (Ok settings) = IsReadOrStarved (parse_document text) (Ok settings)
+IsSetIn text (Err (Settings fault place)) = IsReadOrStarved (parse_document text) (Err fault) × IfSome place (λ told. length told ≤ 180)
+IsSetIn text (Err fault) = ⊥
+
+-- by the text of a file, where it can be read
+abbrev pub IsSetBy : Option (List ℕ) → Result Values ProgramFault → Type 0
+IsSetBy None result = result ≡ Err File
+IsSetBy (Some text) result = IsSetIn text result
+
+-- the settings of a server that is given this path, by what was read at it
+abbrev pub SettingsAt : (List ℕ → Option (List ℕ) → Type 0) → Option (List ℕ) → Result Values ProgramFault → Type 0
+SettingsAt reads None result = IsBare result
+SettingsAt reads (Some path) result = (text : Option (List ℕ)) × reads path text × IsSetBy text result
+
+-- ---- a command
+
+-- what a fault of a connection is called by the program
+abbrev pub fault_of : HexFault → ProgramFault
+fault_of hexed.BadHex = BadHex
+fault_of (hexed.Serve fault) = Connection fault
+
+abbrev pub program_result : Result (Unit {0}) HexFault → Result (Unit {0}) ProgramFault
+program_result (Ok done) = Ok done
+program_result (Err fault) = Err (fault_of fault)
+
+-- without settings nothing is read or written; with them a connection is answered
+abbrev pub Continues : Result Values ProgramFault → Bool → Option ℤ → Option (List ℕ) → Option (List ℕ) → Option (List ℕ) → Option (List ℕ) → Outside → Result (Unit {0}) ProgramFault → Type 0
+Continues (Err fault) hex now input left old written used result = (result ≡ Err fault) × (left ≡ input) × (written ≡ old)
+Continues (Ok settings) hex now input left old written used result =
+    (answered : Result (Unit {0}) HexFault) × AnswersAt settings hex now input left old written used answered × (result ≡ program_result answered)
+
+-- what each command does, by what the outside gives
+abbrev pub DoesLine : (List ℕ → Option (List ℕ) → Type 0) → CommandLine → Option (List ℕ) → Option (List ℕ) → Option (List ℕ) → Option (List ℕ) → Outside → Result (Unit {0}) ProgramFault → Type 0
+DoesLine reads (Answer path hex now) input left old written used result =
+    (settings : Result Values ProgramFault) × SettingsAt reads (option_copied path) settings × Continues settings hex now input left old written used result
 
 -- what the command does that the matches name
-abbrev pub DoesMatches : Option (Text × List Row) → Option (List ℕ) → Option (List ℕ) → Option (List ℕ) → Option (List ℕ) → Outside → Result (Unit {0}) ProgramFault → Type 0
-DoesMatches matches input left old written used result = (line : CommandLine) × IsLine matches line × DoesLine line input left old written used result
+abbrev pub DoesMatches : Option (Text × List Row) → (List ℕ → Option (List ℕ) → Type 0) → Option (List ℕ) → Option (List ℕ) → Option (List ℕ) → Option (List ℕ) → Outside → Result (Unit {0}) ProgramFault → Type 0
+DoesMatches matches reads input left old written used result = (line : CommandLine) × IsLine matches line × DoesLine reads line input left old written used result
 
 -- a line is refused for want of memory, or where clap refuses it or its matches name no command
 abbrev pub IsRefused : Bool → Option (Text × List Row) → LineFault → Type 0
@@ -143,8 +221,6 @@ IsRefused taken matches NoMemory = Unit {0}
 
 -- A run by the faults that clap finds in a command line, by whether it takes it, and by its matches. What is done is done for a line without
 -- faults; where the line is refused nothing is printed.
-abbrev pub Runs : List ErrorKind → Bool → Option (Text × List Row) → Option (List ℕ) → Option (List ℕ) → Option (List ℕ) → Option (List ℕ) → Outside → Result (Unit {0}) ProgramFault → Type 0
-Runs faults taken matches input left old written used (Ok done) = (faults ≡ []) × DoesMatches matches input left old written used (Ok done)
-Runs faults taken matches input left old written used (Err (Line fault)) = IsRefused taken matches fault × (written ≡ old)
-Runs faults taken matches input left old written used (Err BadHex) = (faults ≡ []) × DoesMatches matches input left old written used (Err BadHex)
-Runs faults taken matches input left old written used (Err (Connection fault)) = (faults ≡ []) × DoesMatches matches input left old written used (Err (Connection fault))
+abbrev pub Runs : List ErrorKind → Bool → Option (Text × List Row) → (List ℕ → Option (List ℕ) → Type 0) → Option (List ℕ) → Option (List ℕ) → Option (List ℕ) → Option (List ℕ) → Outside → Result (Unit {0}) ProgramFault → Type 0
+Runs faults taken matches reads input left old written used (Err (Line fault)) = IsRefused taken matches fault × (written ≡ old)
+Runs faults taken matches reads input left old written used result = (faults ≡ []) × DoesMatches matches reads input left old written used result

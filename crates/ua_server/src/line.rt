@@ -2,9 +2,10 @@
 
 ghost use Rattle.std.specs.Prelude.{◌≡◌, [], map, codes, IfOk, OnErr, IsErrOf, true, false};
 ghost use Rattle.clap.specs.Words.{app_of, rule_of, rows_of, found_of, subcommand_of};
+ghost use Rattle.clap.specs.declared.builder.command.Command.TheViews.{out-Command};
 ghost use Rattle.clap.specs.Takes.{takes};
 ghost use Rattle.clap.specs.Faults.{fault_of as fault_kinds};
-ghost use Rattle.ua_server.specs.Line.{IsAnswer, IsLine, GivesNoNumber, IsNoCommand, now, uahist};
+ghost use Rattle.ua_server.specs.Line.{IsAnswer, IsLine, GivesNoNumber, IsNoCommand, answer, now, settings, uahist};
 
 use clap::builder::ValueParser;
 use clap::error::ErrorKind;
@@ -19,10 +20,14 @@ const MOST_NOW: u64 = 9_223_372_036_854_775_807;
 
 /// What the program is asked to do.
 #[derive(Clone, Copy, Debug, PartialEq, Eq)]
-pub enum Line {
-    /// Answer one connection from standard input to standard output, both in hex digits where `hex` is set. The clock
-    /// stands at `now` where that is given.
-    Answer { hex: bool, now: Option<i64> },
+pub enum Line<'a> {
+    /// Answer one connection from standard input to standard output, both in hex digits where `hex` is set. The server is
+    /// set by the file at `settings` where that is given, and the clock stands at `now` where that is.
+    Answer {
+        settings: Option<&'a str>,
+        hex: bool,
+        now: Option<i64>,
+    },
 }
 
 /// Why a command line is no command.
@@ -42,7 +47,7 @@ impl LineFault {
         ensures { result.now ≡ line_text_of self }
     {
         match self {
-            LineFault::Words => "usage: uahist answer [--hex] [--now N]",
+            LineFault::Words => "usage: uahist answer [--settings FILE] [--hex] [--now N]",
             LineFault::OutOfMemory => "memory ran out before the command began",
         }
     }
@@ -72,15 +77,36 @@ fn now_option<'a>(alloc: Global) -> Arg<'a>
         .value_parser(ValueParser::unsigned(0, MOST_NOW))
 }
 
-/// The program's commands and their options.
-fn command<'a>(alloc: Global) -> Result<Command<'a>, AllocError>
-    ensures { IfOk result (λ command. app_of command ≡ uahist) }
+/// The option `--settings FILE`.
+fn settings_option<'a>(alloc: Global) -> Arg<'a>
+    ensures rule { rule_of result ≡ settings }
+    ensures local { result.global ≡ false }
+{
+    Arg::new(alloc, "settings")
+        .long("settings")
+        .action(ArgAction::Set)
+}
+
+/// The command `answer` and its options.
+fn answer_command<'a>(alloc: Global) -> Result<Command<'a>, AllocError>
+    ensures app { IfOk result (λ command. app_of command ≡ answer) }
+    ensures local { IfOk result (λ command. (out-Command command).has_globals ≡ false) }
 {
     let hex = Arg::new(alloc, "hex")
         .long("hex")
         .action(ArgAction::SetTrue);
+    let settings = settings_option(alloc);
     let now = now_option(alloc);
-    let answer = Command::new(alloc, "answer").arg(hex)?.arg(now)?;
+    let command = Command::new(alloc, "answer");
+    let command = command.arg(settings)?.arg(hex)?.arg(now)?;
+    Ok(command)
+}
+
+/// The program's commands and their options.
+fn command<'a>(alloc: Global) -> Result<Command<'a>, AllocError>
+    ensures { IfOk result (λ command. app_of command ≡ uahist) }
+{
+    let answer = answer_command(alloc)?;
     let whole = Command::new(alloc, "uahist").subcommand(answer)?;
     Ok(whole)
 }
@@ -96,13 +122,14 @@ fn fault_of(kind: ErrorKind) -> LineFault
 }
 
 /// Reads the options of `answer`.
-fn read_answer(answer: &ArgMatches<'_>) -> Result<Line, LineFault>
+fn read_answer<'a>(answer: &ArgMatches<'a>) -> Result<Line<'a>, LineFault>
     ensures ok { IfOk result (IsAnswer (rows_of (found_of answer.now))) }
     ensures words { OnErr result (GivesNoNumber (codes "now") (rows_of (found_of answer.now))) }
 {
+    let settings = answer.get_str("settings");
     let hex = answer.get_flag("hex");
     match answer.try_get_one("now") {
-        Ok(now) => Ok(Line::Answer { hex, now }),
+        Ok(now) => Ok(Line::Answer { settings, hex, now }),
         Err(_) => Err(LineFault::Words),
     }
 }
@@ -111,7 +138,7 @@ fn read_answer(answer: &ArgMatches<'_>) -> Result<Line, LineFault>
 ///
 /// `Ok` has the command that `clap`'s matches name and the values that they give for it. Errors: `Words` where `clap`
 /// refuses the words, they name no command, or a value is no number; `OutOfMemory` where memory ran out.
-pub fn read_line<'a, S: AsStr>(alloc: Global, words: &'a [S]) -> Result<Line, LineFault>
+pub fn read_line<'a, S: AsStr>(alloc: Global, words: &'a [S]) -> Result<Line<'a>, LineFault>
     ensures ok { IfOk result (IsLine (subcommand_of uahist (map S.text words.now))) }
     ensures taken { IfOk result (λ line. fault_kinds uahist (map S.text words.now) ≡ []) }
     ensures words { IsErrOf result LineFault.Words → takes uahist (map S.text words.now) ≡ true → IsNoCommand (subcommand_of uahist (map S.text words.now)) }

@@ -1,12 +1,10 @@
 //! The program, over any reader and writers.
 
-ghost use Rattle.std.specs.Prelude.{◌≡◌, ◌+◌, ℕ, ℤ, List, [], ◌∷◌, ◌++◌, IfOk, IfErr, OnOk, OnErr, IsErrOf, map, codes};
+ghost use Rattle.std.specs.Prelude.{◌≡◌, ◌+◌, ℕ, ℤ, List, [], ◌∷◌, ◌++◌, IfOk, IfErr, OnOk, OnErr, IsErrOf, map, option_copied};
 ghost use Rattle.std.specs.Io.KnownBytes.{Appends, Consumes, IsAtEnd};
 ghost use Rattle.ua_server.specs.Bytes.{counted, AppendsPart};
-ghost use Rattle.ua_settings.specs.Settings.{bare};
-ghost use Rattle.archive.specs.Listed.{Listed};
 ghost use Rattle.ua_server.specs.Given.{Outside};
-ghost use Rattle.ua_server.specs.Program.{status_of, empty, ServesBare, EndsAs, MakesDigits, PrintsHex, DoesAnswer, DoesLine, Runs, IsTold, error_line};
+ghost use Rattle.ua_server.specs.Program.{status_of, empty_of, ServesFirst, EndsAs, MakesDigits, PrintsHex, DoesAnswer, AnswersAt, fault_of, DoesLine, Runs, IsTold, refusal_text, told_line, place_line, error_lines};
 ghost use Rattle.clap.specs.Words.{subcommand_of};
 ghost use Rattle.clap.specs.Takes.{takes};
 ghost use Rattle.clap.specs.Faults.{fault_of as fault_kinds};
@@ -14,6 +12,7 @@ ghost use Rattle.ua_server.specs.Line.{uahist};
 
 use crate::clock::{Clock, ConstantClock};
 use crate::counted::Counted;
+use crate::files::{SettingsFiles, settings_at};
 use crate::hexed::{HexFault, answer_hex};
 use crate::line::{Line, LineFault, read_line};
 use crate::outcome::ServeFault;
@@ -24,13 +23,18 @@ use std::convert::AsStr;
 use std::error::Error;
 use std::fmt;
 use std::io::{Read, Write};
-use ua_settings::Settings;
+use ua_binary::Text;
+use ua_settings::{Settings, SettingsFault};
 
 /// What went wrong in a run of the program.
-#[derive(Clone, Copy, Debug, PartialEq, Eq)]
+#[derive(Debug, PartialEq, Eq, Drop)]
 pub enum ProgramFault {
     /// The command line is no command.
     Line(LineFault),
+    /// The settings file can't be read.
+    File,
+    /// The settings are refused; the text says where, unless memory for it is wanting.
+    Settings(SettingsFault, Option<Text>),
     /// The input isn't hex.
     BadHex,
     /// A connection met a fault.
@@ -38,20 +42,50 @@ pub enum ProgramFault {
 }
 
 impl ProgramFault {
-    ghost use Rattle.ua_server.specs.Program.{text_of};
+    ghost use Rattle.ua_server.specs.Program.{text_of, place_of};
 
-    /// The text that tells it: of a connection's fault its number.
-    pub fn text(self) -> &'static str
-        ensures { result.now ≡ text_of self }
+    /// The text that tells it: of settings and of a connection the number of the fault.
+    pub fn text(&self) -> &'static str
+        ensures { result.now ≡ text_of self.now }
     {
         match self {
             ProgramFault::Line(fault) => fault.text(),
+            ProgramFault::File => "settings file can't be read",
+            ProgramFault::Settings(fault, _) => refusal_text(*fault),
             ProgramFault::BadHex => "bad hex",
             ProgramFault::Connection(ServeFault::Read) => "connection ended (1)",
             ProgramFault::Connection(ServeFault::Write) => "connection ended (2)",
             ProgramFault::Connection(ServeFault::TooLong) => "connection ended (3)",
             ProgramFault::Connection(ServeFault::OutOfMemory) => "connection ended (4)",
         }
+    }
+
+    /// Where the settings are refused.
+    pub fn place(&self) -> Option<&str>
+        ensures { option_copied result ≡ place_of self.now }
+    {
+        match self {
+            ProgramFault::Settings(_, Some(place)) => Some(place.as_str()),
+            ProgramFault::Settings(_, None)
+            | ProgramFault::Line(_)
+            | ProgramFault::File
+            | ProgramFault::BadHex
+            | ProgramFault::Connection(_) => None,
+        }
+    }
+}
+
+/// The text that tells a fault of the settings, with its number.
+fn refusal_text(fault: SettingsFault) -> &'static str
+    ensures { result.now ≡ refusal_text fault }
+{
+    match fault {
+        SettingsFault::NotToml => "settings refused (1)",
+        SettingsFault::MissingKey => "settings refused (2)",
+        SettingsFault::BadValue => "settings refused (3)",
+        SettingsFault::UnknownKey => "settings refused (4)",
+        SettingsFault::Space(_) => "settings refused (5)",
+        SettingsFault::OutOfMemory => "settings refused (6)",
     }
 }
 
@@ -93,57 +127,52 @@ fn read_all<R: Read>(alloc: Global, input: &mut Counted<R>) -> Result<Vec<u8>, S
 
 /// The archive of these settings, in memory: it holds nothing.
 pub(crate) fn archive_of(alloc: Global, settings: &Settings) -> ListArchive
-    ensures { settings.now ≡ bare → result ≡ empty }
+    ensures { result ≡ empty_of settings.now }
 {
     ListArchive::new(alloc, settings.archive(), settings.replica())
 }
 
-/// Answers one connection, as the server without settings, over an archive in memory that holds nothing.
+/// Answers one connection over an archive in memory that holds nothing.
 fn answer<R: Read, W: Write, C: Clock>(
     alloc: Global,
+    settings: &Settings,
     input: &mut Counted<R>,
     output: &mut Counted<W>,
     clock: &mut C,
-) -> Result<(), ProgramFault>
-    ensures read { IsErrOf result (ProgramFault.Connection ServeFault.Read) → input.new.faults ≡ counted input.old.faults }
-    ensures write { IsErrOf result (ProgramFault.Connection ServeFault.Write) → output.new.faults ≡ counted output.old.faults }
-    ensures ends { (used : Outside) × C.gave clock.old used.readings clock.new × EndsAs (W.contents output.old.inner) (W.contents output.new.inner) (ServesBare (R.remaining input.old.inner) (R.remaining input.new.inner) (W.contents output.old.inner) (W.contents output.new.inner) used) result }
+) -> Result<(), HexFault>
+    ensures read { IsErrOf result (HexFault.Serve ServeFault.Read) → input.new.faults ≡ counted input.old.faults }
+    ensures write { IsErrOf result (HexFault.Serve ServeFault.Write) → output.new.faults ≡ counted output.old.faults }
+    ensures ends { (used : Outside) × C.gave clock.old used.readings clock.new × EndsAs (ServesFirst settings.now (R.remaining input.old.inner) (R.remaining input.new.inner) (W.contents output.old.inner) (W.contents output.new.inner) used) result }
 {
-    let Ok(settings) = Settings::bare(alloc) else {
-        return Err(ProgramFault::Line(LineFault::OutOfMemory));
-    };
-    let mut archive = archive_of(alloc, &settings);
-    match serve(alloc, &settings, &mut archive, input, output, clock) {
+    let mut archive = archive_of(alloc, settings);
+    match serve(alloc, settings, &mut archive, input, output, clock) {
         Ok(_) => Ok(()),
-        Err(fault) => Err(ProgramFault::Connection(fault)),
+        Err(fault) => Err(HexFault::Serve(fault)),
     }
 }
 
 /// The answer in hex digits to the connection in hex digits that the reader has.
 fn hex_answer<R: Read, C: Clock>(
     alloc: Global,
+    settings: &Settings,
     input: &mut Counted<R>,
     clock: &mut C,
-) -> Result<Vec<u8>, ProgramFault>
-    ensures digits { (used : Outside) × C.gave clock.old used.readings clock.new × MakesDigits (λ digits. digits.items) (R.remaining input.old.inner) used result }
-    ensures read { IsErrOf result (ProgramFault.Connection ServeFault.Read) → input.new.faults ≡ counted input.old.faults }
+) -> Result<Vec<u8>, HexFault>
+    ensures digits { (used : Outside) × C.gave clock.old used.readings clock.new × MakesDigits settings.now (λ digits. digits.items) (R.remaining input.old.inner) used result }
+    ensures read { IsErrOf result (HexFault.Serve ServeFault.Read) → input.new.faults ≡ counted input.old.faults }
 {
     let bytes = match read_all(alloc, input) {
         Ok(bytes) => bytes,
-        Err(fault) => return Err(ProgramFault::Connection(fault)),
+        Err(fault) => return Err(HexFault::Serve(fault)),
     };
     let Ok(text) = std::str::from_utf8(bytes.as_slice()) else {
-        return Err(ProgramFault::BadHex);
+        return Err(HexFault::BadHex);
     };
-    let Ok(settings) = Settings::bare(alloc) else {
-        return Err(ProgramFault::Line(LineFault::OutOfMemory));
-    };
-    let mut archive = archive_of(alloc, &settings);
+    let mut archive = archive_of(alloc, settings);
     let mut digits = Vec::new(alloc);
-    match answer_hex(alloc, &settings, &mut archive, text, &mut digits, clock) {
+    match answer_hex(alloc, settings, &mut archive, text, &mut digits, clock) {
         Ok(_) => Ok(digits),
-        Err(HexFault::BadHex) => Err(ProgramFault::BadHex),
-        Err(HexFault::Serve(fault)) => Err(ProgramFault::Connection(fault)),
+        Err(fault) => Err(fault),
     }
 }
 
@@ -167,67 +196,130 @@ fn print_line<W: Write>(line: &[u8], output: &mut Counted<W>) -> Result<(), Serv
 /// Answers one connection in hex digits, and ends the line.
 fn answer_in_hex<R: Read, W: Write, C: Clock>(
     alloc: Global,
+    settings: &Settings,
     input: &mut Counted<R>,
     output: &mut Counted<W>,
     clock: &mut C,
-) -> Result<(), ProgramFault>
-    ensures read { IsErrOf result (ProgramFault.Connection ServeFault.Read) → input.new.faults ≡ counted input.old.faults }
-    ensures write { IsErrOf result (ProgramFault.Connection ServeFault.Write) → output.new.faults ≡ counted output.old.faults }
-    ensures prints { (used : Outside) × C.gave clock.old used.readings clock.new × PrintsHex (R.remaining input.old.inner) (W.contents output.old.inner) (W.contents output.new.inner) used result }
+) -> Result<(), HexFault>
+    ensures read { IsErrOf result (HexFault.Serve ServeFault.Read) → input.new.faults ≡ counted input.old.faults }
+    ensures write { IsErrOf result (HexFault.Serve ServeFault.Write) → output.new.faults ≡ counted output.old.faults }
+    ensures prints { (used : Outside) × C.gave clock.old used.readings clock.new × PrintsHex settings.now (R.remaining input.old.inner) (W.contents output.old.inner) (W.contents output.new.inner) used result }
 {
-    let digits = hex_answer(alloc, input, clock)?;
+    let digits = hex_answer(alloc, settings, input, clock)?;
     match print_line(digits.as_slice(), output) {
         Ok(()) => Ok(()),
-        Err(fault) => Err(ProgramFault::Connection(fault)),
+        Err(fault) => Err(HexFault::Serve(fault)),
     }
 }
 
 /// Answers one connection, in hex digits or in bytes.
 fn answer_either<R: Read, W: Write, C: Clock>(
     alloc: Global,
+    settings: &Settings,
     hex: bool,
     input: &mut Counted<R>,
     output: &mut Counted<W>,
     clock: &mut C,
-) -> Result<(), ProgramFault>
-    ensures read { IsErrOf result (ProgramFault.Connection ServeFault.Read) → input.new.faults ≡ counted input.old.faults }
-    ensures write { IsErrOf result (ProgramFault.Connection ServeFault.Write) → output.new.faults ≡ counted output.old.faults }
-    ensures does { (used : Outside) × C.gave clock.old used.readings clock.new × DoesAnswer hex (R.remaining input.old.inner) (R.remaining input.new.inner) (W.contents output.old.inner) (W.contents output.new.inner) used result }
+) -> Result<(), HexFault>
+    ensures read { IsErrOf result (HexFault.Serve ServeFault.Read) → input.new.faults ≡ counted input.old.faults }
+    ensures write { IsErrOf result (HexFault.Serve ServeFault.Write) → output.new.faults ≡ counted output.old.faults }
+    ensures does { (used : Outside) × C.gave clock.old used.readings clock.new × DoesAnswer settings.now hex (R.remaining input.old.inner) (R.remaining input.new.inner) (W.contents output.old.inner) (W.contents output.new.inner) used result }
 {
     if hex {
-        answer_in_hex(alloc, input, output, clock)
+        answer_in_hex(alloc, settings, input, output, clock)
     } else {
-        answer(alloc, input, output, clock)
+        answer(alloc, settings, input, output, clock)
     }
 }
 
 /// Answers one connection. Where a moment is given the clock isn't read, and stands at that.
 fn answer_at<R: Read, W: Write, C: Clock>(
     alloc: Global,
+    settings: &Settings,
     hex: bool,
     now: Option<i64>,
+    input: &mut Counted<R>,
+    output: &mut Counted<W>,
+    clock: &mut C,
+) -> Result<(), HexFault>
+    ensures read { IsErrOf result (HexFault.Serve ServeFault.Read) → input.new.faults ≡ counted input.old.faults }
+    ensures write { IsErrOf result (HexFault.Serve ServeFault.Write) → output.new.faults ≡ counted output.old.faults }
+    ensures does { (used : Outside) × C.gave clock.old used.readings clock.new × AnswersAt settings.now hex now (R.remaining input.old.inner) (R.remaining input.new.inner) (W.contents output.old.inner) (W.contents output.new.inner) used result }
+{
+    match now {
+        None => answer_either(alloc, settings, hex, input, output, clock),
+        Some(now) => answer_either(alloc, settings, hex, input, output, &mut ConstantClock(now)),
+    }
+}
+
+/// What a fault of a connection is called by the program.
+fn fault_of(fault: HexFault) -> ProgramFault
+    ensures { result ≡ fault_of fault }
+{
+    match fault {
+        HexFault::BadHex => ProgramFault::BadHex,
+        HexFault::Serve(fault) => ProgramFault::Connection(fault),
+    }
+}
+
+/// Answers one connection by the settings of the file at a path, where there is one.
+fn answer_by<F: SettingsFiles, R: Read, W: Write, C: Clock>(
+    alloc: Global,
+    path: Option<&str>,
+    hex: bool,
+    now: Option<i64>,
+    files: &mut F,
     input: &mut Counted<R>,
     output: &mut Counted<W>,
     clock: &mut C,
 ) -> Result<(), ProgramFault>
     ensures read { IsErrOf result (ProgramFault.Connection ServeFault.Read) → input.new.faults ≡ counted input.old.faults }
     ensures write { IsErrOf result (ProgramFault.Connection ServeFault.Write) → output.new.faults ≡ counted output.old.faults }
-    ensures does { (used : Outside) × C.gave clock.old used.readings clock.new × DoesLine (Line.Answer hex now) (R.remaining input.old.inner) (R.remaining input.new.inner) (W.contents output.old.inner) (W.contents output.new.inner) used result }
+    ensures does { (used : Outside) × C.gave clock.old used.readings clock.new
+        × DoesLine (λ path text. F.gave files.old path text files.new) (Line.Answer path.entry hex now) (R.remaining input.old.inner) (R.remaining input.new.inner) (W.contents output.old.inner) (W.contents output.new.inner) used result }
 {
-    match now {
-        None => answer_either(alloc, hex, input, output, clock),
-        Some(now) => answer_either(alloc, hex, input, output, &mut ConstantClock(now)),
+    let settings = match settings_at(alloc, path, files) {
+        Ok(settings) => settings,
+        Err(fault) => return Err(fault),
+    };
+    match answer_at(alloc, &settings, hex, now, input, output, clock) {
+        Ok(()) => Ok(()),
+        Err(fault) => Err(fault_of(fault)),
     }
 }
 
-/// Does what a command line asks for. Where that gives a moment, the clock isn't read.
+/// Does what a line says.
+fn do_line<F: SettingsFiles, R: Read, W: Write, C: Clock>(
+    alloc: Global,
+    line: Line<'_>,
+    files: &mut F,
+    input: &mut Counted<R>,
+    output: &mut Counted<W>,
+    clock: &mut C,
+) -> Result<(), ProgramFault>
+    ensures read { IsErrOf result (ProgramFault.Connection ServeFault.Read) → input.new.faults ≡ counted input.old.faults }
+    ensures write { IsErrOf result (ProgramFault.Connection ServeFault.Write) → output.new.faults ≡ counted output.old.faults }
+    ensures does { (used : Outside) × C.gave clock.old used.readings clock.new
+        × DoesLine (λ path text. F.gave files.old path text files.new) line.entry (R.remaining input.old.inner) (R.remaining input.new.inner) (W.contents output.old.inner) (W.contents output.new.inner) used result }
+{
+    match line {
+        Line::Answer { settings, hex, now } => answer_by(
+            alloc, settings, hex, now, files, input, output, clock,
+        ),
+    }
+}
+
+/// Does what a command line asks for. Where that names a file of settings, it is read first; where it gives a moment, the
+/// clock isn't read.
 ///
-/// Errors: `Line` where the words are no command, `BadHex` where the input is to be hex and isn't, `Connection` where the
-/// connection met a fault; what went out before it stands.
+/// Errors: `Line` where the words are no command, `File` and `Settings` where the settings file can't be read or is refused,
+/// `BadHex` where the input is to be hex and isn't, `Connection` where the connection met a fault; what went out before it
+/// stands.
 #[tactic(auto, using(crate::proofs::Printing::lines))]
-pub fn run<S: AsStr, R: Read, W: Write, C: Clock>(
+pub fn run<S: AsStr, F: SettingsFiles, R: Read, W: Write, C: Clock>(
     alloc: Global,
     words: &[S],
+    files: &mut F,
     input: &mut Counted<R>,
     output: &mut Counted<W>,
     clock: &mut C,
@@ -235,19 +327,19 @@ pub fn run<S: AsStr, R: Read, W: Write, C: Clock>(
     ensures read { IsErrOf result (ProgramFault.Connection ServeFault.Read) → input.new.faults ≡ counted input.old.faults }
     ensures write { IsErrOf result (ProgramFault.Connection ServeFault.Write) → output.new.faults ≡ counted output.old.faults }
     ensures runs { (used : Outside) × C.gave clock.old used.readings clock.new
-        × Runs (fault_kinds uahist (map S.text words.now)) (takes uahist (map S.text words.now)) (subcommand_of uahist (map S.text words.now)) (R.remaining input.old.inner) (R.remaining input.new.inner) (W.contents output.old.inner) (W.contents output.new.inner) used result }
+        × Runs (fault_kinds uahist (map S.text words.now)) (takes uahist (map S.text words.now)) (subcommand_of uahist (map S.text words.now)) (λ path text. F.gave files.old path text files.new) (R.remaining input.old.inner) (R.remaining input.new.inner) (W.contents output.old.inner) (W.contents output.new.inner) used result }
 {
     match read_line(alloc, words) {
-        Ok(Line::Answer { hex, now }) => answer_at(alloc, hex, now, input, output, clock),
+        Ok(line) => do_line(alloc, line, files, input, output, clock),
         Err(fault) => Err(ProgramFault::Line(fault)),
     }
 }
 
 /// Writes a line that begins with `uahist: `.
 fn tell<W: Write>(text: &[u8], errors: &mut Counted<W>) -> Result<(), ServeFault>
-    ensures ok { OnOk result (Appends (W.contents errors.old.inner) (W.contents errors.new.inner) (codes "uahist: " ++ (text.now ++ 10 ∷ []))) }
+    ensures ok { OnOk result (Appends (W.contents errors.old.inner) (W.contents errors.new.inner) (told_line text.now)) }
     ensures kept { OnOk result (errors.new.faults ≡ errors.old.faults) }
-    ensures part { OnErr result (AppendsPart (W.contents errors.old.inner) (W.contents errors.new.inner) (codes "uahist: " ++ (text.now ++ 10 ∷ []))) }
+    ensures part { OnErr result (AppendsPart (W.contents errors.old.inner) (W.contents errors.new.inner) (told_line text.now)) }
     ensures write { OnErr result (errors.new.faults ≡ counted errors.old.faults) }
 {
     match errors.send(b"uahist: ") {
@@ -256,20 +348,50 @@ fn tell<W: Write>(text: &[u8], errors: &mut Counted<W>) -> Result<(), ServeFault
     }
 }
 
-/// Tells on `errors` what went wrong, in a line that begins with `uahist: `, and answers the exit status: 0 where nothing
-/// did, 1 where a connection ended by a fault, 2 where the command line or the input was refused. Of a line that can't be
-/// written whole a first part stands, and the failed call is counted.
+/// Tells on `errors` what went wrong, in a line that begins with `uahist: `, and where settings are refused in a second one;
+/// answers the exit status: 0 where nothing went wrong, 1 where a connection ended by a fault, 2 where the command line, the
+/// settings or the input was refused. Of a line that can't be written whole a first part stands, and the failed call is
+/// counted.
 pub fn report<W: Write>(ending: Result<(), ProgramFault>, errors: &mut Counted<W>) -> u8
     ensures status { result ≡ status_of ending }
     ensures silent { OnOk ending (errors.new ≡ errors.old) }
-    ensures told { IfErr ending (λ fault. IsTold W.contents errors.old errors.new (error_line fault)) }
+    ensures told { IfErr ending (λ fault. IsTold W.contents errors.old errors.new (error_lines fault)) }
 {
     let Err(fault) = ending else {
         return 0;
     };
-    let _ = tell(fault.text().as_bytes(), errors);
+    let _ = tell_fault(&fault, errors);
     match fault {
-        ProgramFault::Line(_) | ProgramFault::BadHex => 2,
+        ProgramFault::Line(_)
+        | ProgramFault::File
+        | ProgramFault::Settings(..)
+        | ProgramFault::BadHex => 2,
         ProgramFault::Connection(_) => 1,
+    }
+}
+
+/// Writes what went wrong, and where in the settings.
+fn tell_fault<W: Write>(fault: &ProgramFault, errors: &mut Counted<W>) -> Result<(), ServeFault>
+    ensures ok { OnOk result (Appends (W.contents errors.old.inner) (W.contents errors.new.inner) (error_lines fault.now)) }
+    ensures kept { OnOk result (errors.new.faults ≡ errors.old.faults) }
+    ensures part { OnErr result (AppendsPart (W.contents errors.old.inner) (W.contents errors.new.inner) (error_lines fault.now)) }
+    ensures write { OnErr result (errors.new.faults ≡ counted errors.old.faults) }
+{
+    match tell(fault.text().as_bytes(), errors) {
+        Ok(()) => tell_place(fault.place(), errors),
+        Err(cause) => Err(cause),
+    }
+}
+
+/// Writes a line that begins with `uahist: `, unless there is nothing to tell.
+fn tell_place<W: Write>(place: Option<&str>, errors: &mut Counted<W>) -> Result<(), ServeFault>
+    ensures ok { OnOk result (Appends (W.contents errors.old.inner) (W.contents errors.new.inner) (place_line (option_copied place.entry))) }
+    ensures kept { OnOk result (errors.new.faults ≡ errors.old.faults) }
+    ensures part { OnErr result (AppendsPart (W.contents errors.old.inner) (W.contents errors.new.inner) (place_line (option_copied place.entry))) }
+    ensures write { OnErr result (errors.new.faults ≡ counted errors.old.faults) }
+{
+    match place {
+        None => Ok(()),
+        Some(place) => tell(place.as_bytes(), errors),
     }
 }

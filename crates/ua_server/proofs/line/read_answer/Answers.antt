@@ -5,7 +5,7 @@ use Rattle.std.specs.Str.Parse.{ParsesSigned, ExplainsSignedError, HasSignedDigi
 use Rattle.std.specs.declared.num.ParseIntError.{ParseIntError}
 use Rattle.clap.specs.Matches.{TriesOne}
 use Rattle.clap.specs.Words.{Row, Text, found_of, one_of, one_text, rows_of}
-use Rattle.clap.proofs.WalkLemmas.{one_text-rows}
+use Rattle.clap.proofs.WalkLemmas.{first_value-rows, one_text-rows}
 use Rattle.ua_server.specs.Line.{IsFlag, IsNumber, GivesNoNumber}
 use Rattle.ua_server.proofs.line.read_answer.Goals as goal
 
@@ -41,7 +41,7 @@ returns-in-Ok-clause-ok c =
       given = λ text e. number_of gives (λ t r g. g.0) text c.try_get_one.result c.in-Ok.now (c.try_get_one.ensures.value text (one_text-rows found (codes "now") ∙ e)) c.in-Ok.is;
       absent = λ e. let none = c.try_get_one.ensures.none (one_text-rows found (codes "now") ∙ e) in cc;
     } in
-    (flag, number)
+    (c.get_str-settings.ensures ∙ first_value-rows found (codes "settings"), flag, number)
 
 pub returns-in-Err-clause-words : goal.returns-in-Err-clause-words
 returns-in-Err-clause-words c =

@@ -1,0 +1,25 @@
+use Rattle.std.proofs.Common.{◌≡◌, ℕ, List, subst, ◌∙◌}
+use Rattle.std.specs.Prelude.{Option, OnErr}
+use Rattle.ua_server.specs.Bytes.{AppendsPart}
+use Rattle.std.specs.Io.KnownBytes.{Appends}
+use Rattle.ua_server.specs.Program.{text_of, place_of, told_line, place_line}
+use Rattle.ua_server.proofs.Printing.{part-first, part-after}
+use Rattle.ua_server.proofs.program.tell_fault.Goals as goal
+
+pub returns-in-Ok-clause-part : goal.returns-in-Ok-clause-part
+returns-in-Ok-clause-part g c =
+    let old = g.W.Write.contents c.args.errors.now.inner in
+    let middle = g.W.Write.contents c.tell.new.errors.inner in
+    let new = g.W.Write.contents c.tell_place.new.errors.inner in
+    let told : c.as_bytes.result.now ≡ text_of c.args.fault.now = c.as_bytes.ensures.value ∙ c.text.ensures in
+    let P : List ℕ → Type 0 = λ text. Appends old middle (told_line text) in
+    let Q : Option (List ℕ) → Type 0 = λ place. OnErr c.tell_place.result (AppendsPart middle new (place_line place)) in
+    part-after c.tell_place.result old middle new (told_line (text_of c.args.fault.now)) (place_line (place_of c.args.fault.now)) (subst P told c.in-Ok.ensures.ok) (subst Q c.place.ensures c.tell_place.ensures.part)
+
+pub returns-in-Err-clause-part : goal.returns-in-Err-clause-part
+returns-in-Err-clause-part g c =
+    let old = g.W.Write.contents c.args.errors.now.inner in
+    let middle = g.W.Write.contents c.tell.new.errors.inner in
+    let told : c.as_bytes.result.now ≡ text_of c.args.fault.now = c.as_bytes.ensures.value ∙ c.text.ensures in
+    let P : List ℕ → Type 0 = λ text. AppendsPart old middle (told_line text) in
+    part-first old middle (told_line (text_of c.args.fault.now)) (place_line (place_of c.args.fault.now)) (subst P told c.in-Err.ensures.part)
