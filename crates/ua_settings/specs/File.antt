@@ -7,7 +7,7 @@ use Rattle.uuid.specs.Text.{parsed}
 use Rattle.ua_settings.specs.declared.keys.Section.{Section}
 use Rattle.ua_settings.specs.declared.keys.Section.TheVariants.{Document, Archive, Server, User, Folder, Variable}
 use Rattle.ua_settings.specs.declared.keys.Holds.{Holds}
-use Rattle.ua_settings.specs.declared.keys.Holds.TheVariants.{Text, Id, Replica, Truth, NodeName, UserName, FolderId, OneTable, Tables, Nothing}
+use Rattle.ua_settings.specs.declared.keys.Holds.TheVariants.{Text, Id, Replica, Truth, NodeName, UserName, FolderId, OneTable, Tables}
 use Rattle.ua_settings.specs.declared.keys.Wrong.{Wrong}
 use Rattle.ua_settings.specs.declared.keys.Wrong.TheVariants.{Unknown, Missing, Bad}
 
@@ -27,7 +27,7 @@ optional name holds = record { name = name; required = false; holds = holds }
 
 abbrev pub rules : Section → List Rule
 rules Document = required (codes "archive") OneTable ∷ required (codes "server") OneTable ∷ optional (codes "user") Tables ∷ optional (codes "folder") Tables ∷ optional (codes "variable") Tables ∷ []
-rules Archive = required (codes "id") Id ∷ required (codes "replica") Replica ∷ optional (codes "store") Nothing ∷ []
+rules Archive = required (codes "id") Id ∷ required (codes "replica") Replica ∷ optional (codes "store") Text ∷ []
 rules Server = required (codes "listen") Text ∷ required (codes "url") Text ∷ required (codes "application") Text ∷ required (codes "namespace") Text ∷ required (codes "anonymous") Truth ∷ []
 rules User = required (codes "name") UserName ∷ required (codes "password") Text ∷ []
 rules Folder = required (codes "id") Text ∷ required (codes "name") Text ∷ []
@@ -120,7 +120,6 @@ fits names UserName value = test (is_user_name names.users) (as_str value)
 fits names FolderId value = test (λ id. list_any (λ folder. pointwise nat_eq folder id) names.folders) (as_str value)
 fits names OneTable value = is_some (as_table value)
 fits names Tables value = test are_tables (as_array value)
-fits names Nothing value = false
 
 -- ---- where a document is wrong
 

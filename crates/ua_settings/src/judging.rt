@@ -99,7 +99,7 @@ fn fits_text(known: &Known<'_>, holds: Holds, text: &str) -> bool
         Holds::NodeName => is_name(text),
         Holds::UserName => is_user_name(known, text),
         Holds::FolderId => is_among(text, known.folders.as_slice()),
-        Holds::Replica | Holds::Truth | Holds::OneTable | Holds::Tables | Holds::Nothing => false,
+        Holds::Replica | Holds::Truth | Holds::OneTable | Holds::Tables => false,
     }
 }
 
@@ -133,7 +133,6 @@ fn fits(known: &Known<'_>, holds: Holds, value: &Value) -> bool
             Some(values) => are_tables(values.as_slice()),
             None => false,
         },
-        Holds::Nothing => false,
         Holds::Text | Holds::Id | Holds::NodeName | Holds::UserName | Holds::FolderId => {
             match value.as_str() {
                 Some(text) => fits_text(known, holds, text),

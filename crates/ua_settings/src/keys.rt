@@ -37,8 +37,6 @@ pub(crate) enum Holds {
     OneTable,
     /// An array of tables.
     Tables,
-    /// No value is taken.
-    Nothing,
 }
 
 /// What may be wrong with a key of a table.
@@ -104,7 +102,7 @@ static DOCUMENT: [Key; 5] = [
 static ARCHIVE: [Key; 3] = [
     key!("id", Id),
     key!("replica", Replica),
-    key!("store", Nothing, optional),
+    key!("store", Text, optional),
 ];
 
 static SERVER: [Key; 5] = [

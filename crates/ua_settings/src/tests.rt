@@ -8,6 +8,7 @@ use ua_space::BuildFault;
 const SAMPLE: &str = r#"[archive]
 id = "6f9619ff-8b86-d011-b42d-00c04fc964ff"
 replica = 2
+store = "plant.db"
 [server]
 listen = "127.0.0.1:4840"
 url = "opc.tcp://localhost:4840"
@@ -169,7 +170,7 @@ fn files_are_judged(rt: HostRuntime) -> Result<(), Fail> {
 fn is_sample(settings: &Settings) -> bool {
     settings.replica().get() == 2
         && settings.archive().as_bytes()[0] == 0x6f
-        && settings.store().is_none()
+        && settings.store() == Some("plant.db")
         && settings.listen() == "127.0.0.1:4840"
         && settings.url() == "opc.tcp://localhost:4840"
         && settings.application() == "urn:uahist"
@@ -184,6 +185,14 @@ fn sample_is_read(rt: HostRuntime) -> Result<(), Fail> {
     let found = settings.space().variable(NodeIdRef::Named(1, "T"));
     assert_eq!(rt; found.map(|variable| variable.value_type.number), Some(11));
     Ok(())
+}
+
+/// The path of a store is a text.
+#[test]
+fn a_store_is_a_path(rt: HostRuntime) {
+    let text =
+        "[archive]\nid = '00000000000000000000000000000000'\nreplica = 1\nstore = 1\n[server]\nlisten = ''\nurl = ''\napplication = ''\nnamespace = ''\nanonymous = true\n";
+    assert_eq!(rt; refusal(rt.alloc(), text), Some(SettingsFault::BadValue));
 }
 
 /// Without settings, these texts and users.
