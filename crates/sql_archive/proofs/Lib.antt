@@ -13,3 +13,6 @@ pub mod PageLemmas
 pub mod RangeLemmas
 pub mod LoopLemmas
 pub mod SinceLemmas
+pub mod StandingLemmas
+pub mod FileLemmas
+pub mod StartLemmas

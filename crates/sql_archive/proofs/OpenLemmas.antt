@@ -1,5 +1,5 @@
 -- Records that come in turn are a closed content.
-use Rattle.std.proofs.Common.{◌≡◌, ℕ, ◌+◌, ◌≤◌, ◌<◌, nat_lt, ◌==◌, ℤ, pos, ◌≤ℤ◌, ◌<ℤ◌, int_lt, Bool, true, false, ◌&&◌, cond, List, [], ◌∷◌, ◌++◌, refl, sym, ap, subst, ◌∙◌, arith, inl, inr, ◌⊎◌, Ordering, Less, is_gt, append_assoc, append-nil}
+use Rattle.std.proofs.Common.{◌≡◌, ℕ, ◌+◌, ◌≤◌, ◌<◌, nat_lt, ◌==◌, ℤ, pos, ◌≤ℤ◌, ◌<ℤ◌, int_lt, Bool, true, false, ◌&&◌, cond, List, [], ◌∷◌, ◌++◌, refl, sym, ap, subst, ◌∙◌, arith, inl, inr, eq-eqb, ◌⊎◌, Ordering, Less, is_gt, append_assoc, append-nil}
 use Rattle.std.proofs.lemmas.Bool.{and_parts, eqb-true, ltb-true, ltb-false, true≢false}
 use Rattle.std.proofs.lemmas.Int.{ints}
 use Rattle.std.specs.List.{AllByRecursion}
@@ -41,7 +41,7 @@ use Rattle.archive.specs.declared.fault.StoreFault.TheVariants.{WrongArchive, Wr
 use Rattle.archive.specs.Store.{IsOfOpening, fault_in}
 use Rattle.archive.specs.Listed.{is_broken}
 use Rattle.sql_archive.specs.Rows.{IsStored, meta_row, meta_columns, meta_cells}
-use Rattle.sql_archive.specs.State.{Asked, Stays}
+use Rattle.sql_archive.specs.State.{Asked, Stays, IsNewArchive}
 use Rattle.sql_archive.specs.Opening.{Mark, mark_of, nowhere, comes_next, are_in_turn, has_number, has_bytes, judged_row, judged, Opens}
 
 -- the content ends with this mark: its origin's last number and tick, and no later origin
@@ -217,3 +217,13 @@ opened_by {A} id own a b c P result one two early = record {
 -- tables without records hold nothing
 pub nothing_in : (db : Trees) → db 1 ≡ [] → content_in db ≡ []
 nothing_in db none = ap (λ rows. sort_by name_cmp (flat_map records_in (cells rows))) none
+
+same_number : (n : ℕ) → (n == n) ≡ true
+same_number n = eq-eqb n n refl
+
+own_row : (id : List ℕ) (own : ℕ) → judged id own (meta_row id own ∷ []) ≡ Ok tt
+own_row id own = rw ((bytes_eq-Decides id id).1 refl, same_number own) refl
+
+-- new tables are those of their archive and replica
+pub new_is_own : (id : List ℕ) (own : ℕ) (db : Trees) → IsNewArchive id (pos own) db → judged id own (meta_cells db) ≡ Ok tt
+new_is_own id own db new = ap (λ rows. judged id own (map meta_columns rows)) new.meta ∙ own_row id own

@@ -6,3 +6,4 @@ pub mod Kept
 pub mod Learning
 pub mod Opening
 pub mod Walking
+pub mod Files

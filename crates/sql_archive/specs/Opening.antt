@@ -1,5 +1,5 @@
 -- What a walk over the records of a store judges.
-use Rattle.std.specs.Prelude.{◌≡◌, Result, Ok, Err, IfOk, IfErr, OnOk, not, false, negsuc, ℕ, ◌+◌, ◌==◌, nat_lt, ℤ, pos, int_lt, Bool, true, ◌&&◌, if◌then◌else◌, List, [], ◌∷◌}
+use Rattle.std.specs.Prelude.{◌≡◌, ◌⊎◌, Result, Ok, Err, IfOk, IfErr, OnOk, not, false, negsuc, ℕ, ◌+◌, ◌==◌, nat_lt, ℤ, pos, int_lt, Bool, true, ◌&&◌, if◌then◌else◌, List, [], ◌∷◌}
 use Rattle.std.specs.Str.{bytes_eq}
 use Rattle.sqlite_value.specs.Order.{Row, column}
 use Rattle.sqlite_value.specs.declared.value.Value.{Value}
@@ -10,7 +10,9 @@ use Rattle.archive.specs.declared.fault.StoreFault.{StoreFault}
 use Rattle.archive.specs.declared.fault.StoreFault.TheVariants.{WrongArchive, WrongReplica, Refused}
 use Rattle.archive.specs.Store.{IsOfOpening}
 use Rattle.sql_archive.specs.Rows.{IsStored, meta_cells}
-use Rattle.sql_archive.specs.State.{Stays}
+use Rattle.sqlite.specs.Effect.{Database}
+use Rattle.sql_archive.specs.Tables.{no_schema, archive_schema}
+use Rattle.sql_archive.specs.State.{Stays, IsNewArchive}
 
 -- an origin, a number and a tick
 pub record Mark : Type 0 where
@@ -69,3 +71,12 @@ pub record Opens {A : Type 0} (id : List ℕ) (own : ℕ) (old new : State) (IsA
   pub opened : HasCleanDisk new → IfOk result (λ a. Stays old new × IsStored id own old.now.trees × IsAnswer a)
   pub wrong : HasCleanDisk new → IfErr result (λ fault. IsOfOpening fault → judged id own (meta_cells old.now.trees) ≡ Err fault)
   pub crash : Survives old new (λ _. ⊥)
+
+-- an archive begins with new tables in a store that had none, or with those that stood there, which are those of a lawful content of this archive and replica
+abbrev pub Starts : List ℕ → ℕ → Database → Database → Type 0
+Starts id own old new = ((old.schema ≡ no_schema) × IsNewArchive id (pos own) new.trees) ⊎ ((old.schema ≡ archive_schema) × IsStored id own old.trees × (new ≡ old))
+
+-- meta says that this is another archive's store, or another replica's
+pub record IsRefused (id : List ℕ) (own : ℕ) (old : Database) (fault : StoreFault) : Type 0 where
+  pub schema : old.schema ≡ archive_schema
+  pub judged : judged id own (meta_cells old.trees) ≡ Err fault

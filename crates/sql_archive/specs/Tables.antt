@@ -56,3 +56,16 @@ with_meta = created no_schema meta
 
 abbrev pub archive_schema : Schema
 archive_schema = created with_meta records2
+
+-- the tables with the trees that they get, and the index of a key of records2
+abbrev pub first_table : Table
+first_table = record meta { tree = 0 }
+
+abbrev pub second_table : Table
+second_table = record records2 { tree = 1 }
+
+abbrev pub index_of : List ℕ → ℕ → List ℕ → Index
+index_of name tree columns = record { name = name; tree = tree; table = 1; columns = columns; order = plain; is_unique = true }
+
+abbrev pub key_indexes : List Index
+key_indexes = index_of (codes "sqlite_autoindex_records2_1") 2 (1 ∷ 2 ∷ []) ∷ index_of (codes "sqlite_autoindex_records2_2") 3 (4 ∷ 5 ∷ 6 ∷ 3 ∷ 1 ∷ []) ∷ []

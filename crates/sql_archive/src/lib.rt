@@ -1,7 +1,8 @@
-//! An archive over SQLite, in memory: one row for each record, in the tables of store format 2.
+//! An archive over SQLite, in memory or in a file: one row for each record, in the tables of store format 2.
 #![tactic(auto)]
 
 mod decode;
+mod files;
 mod latest;
 mod laws;
 mod layout;
@@ -12,13 +13,18 @@ mod ranges;
 mod reads;
 mod shown;
 mod since;
+mod standing;
+mod starting;
 mod statements;
 mod store;
 mod walking;
 mod writes;
 
+pub use files::FileArchive;
 pub use laws::memory_is_honest;
 pub use store::SqlArchive;
 
+#[cfg(test)]
+mod file_tests;
 #[cfg(test)]
 mod tests;

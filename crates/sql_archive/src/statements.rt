@@ -1,6 +1,6 @@
 //! Statements over a connection, and what their faults tell.
 
-ghost use Rattle.std.specs.Prelude.{◌≡◌, ◌≢◌, ⊤, IsTrue, IfOk, IfErr, OnOk};
+ghost use Rattle.std.specs.Prelude.{◌≡◌, ◌≢◌, ◌⊎◌, ⊤, IsTrue, IfOk, IfErr, OnOk};
 ghost use Rattle.sqlite.specs.State.{HasCleanDisk, IsUnchanged, Shown, Survives};
 ghost use Rattle.sqlite.specs.Held.{state};
 ghost use Rattle.sqlite.specs.Values.{bound};
@@ -31,6 +31,13 @@ pub(crate) fn fault_of<S: Alter>(conn: &mut Connection<S>, error: Error) -> Stor
     if !is_alive(conn) {
         return StoreFault::Broken;
     }
+    refusal_of(error)
+}
+
+/// What an error is told as, as long as the store is open: want of memory, or a refusal.
+pub(crate) fn refusal_of(error: Error) -> StoreFault
+    ensures named { (result ≡ StoreFault.OutOfMemory) ⊎ (result ≡ StoreFault.Refused) }
+{
     match error {
         Error::SqliteFailure(ErrorCode::OutOfMemory) => StoreFault::OutOfMemory,
         _ => StoreFault::Refused,

@@ -220,10 +220,14 @@ impl<S: Alter> SqlArchive<S> {
     ghost use Rattle.archive.specs.Listed.{failures, is_broken};
     ghost use Rattle.sql_archive.specs.Kept.{Serves};
     ghost use Rattle.archive.specs.declared.fault.StoreFault.TheVariants as store;
+    ghost use Rattle.std.specs.Prelude.{IfErr, Err};
+    ghost use Rattle.sqlite.specs.State.{Survives};
+    ghost use Rattle.sql_archive.specs.Opening.{judged};
+    ghost use Rattle.sql_archive.specs.Rows.{meta_cells, IsStored};
 
     /// An archive over a connection whose tables are there: Ok only where they stand for a lawful content
     /// of this archive and replica.
-    fn over(
+    pub(crate) fn over(
         alloc: Global,
         mut conn: Connection<S>,
         id: Uuid,
@@ -232,6 +236,10 @@ impl<S: Alter> SqlArchive<S> {
         requires { HasCleanDisk (state S.Store conn) → Idles (state S.Store conn) }
         ensures own { IfOk result (λ a. (a.id ≡ id) × (a.number ≡ number) × (a.faults ≡ 0) × (a.broken ≡ false)) }
         ensures same { IfOk result (λ a. HasCleanDisk (state S.Store a.conn) → (state S.Store a.conn).now ≡ (state S.Store conn).now) }
+        ensures stored { IfOk result (λ a. HasCleanDisk (state S.Store a.conn) → IsStored id number (state S.Store conn).now.trees) }
+        ensures wrong { IfErr result (λ e. HasCleanDisk (state S.Store e.1) → IsOfOpening e.0 → judged id number (meta_cells (state S.Store conn).now.trees) ≡ Err e.0) }
+        ensures opened { IfOk result (λ a. Survives (state S.Store conn) (state S.Store a.conn) (λ _. ⊥)) }
+        ensures left { IfErr result (λ e. Survives (state S.Store conn) (state S.Store e.1) (λ _. ⊥)) }
     {
         match open_tables(alloc, &mut conn, &id, number) {
             Ok(latest) => Ok(SqlArchive {
@@ -245,6 +253,13 @@ impl<S: Alter> SqlArchive<S> {
             }),
             Err(fault) => Err((fault, conn)),
         }
+    }
+
+    /// The connection that it has.
+    pub(crate) fn into_connection(self) -> Connection<S>
+        ensures { result ≡ self.conn }
+    {
+        self.conn
     }
 
     /// Between any two calls its tables stand for its content. This call says so and does nothing.

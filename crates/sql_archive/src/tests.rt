@@ -12,7 +12,7 @@ use ua_variant::{DataValue, Scalar, Variant};
 use uuid::Uuid;
 
 /// An update of node ns=1;s=T: origin, number, tick, source time, what was asked, and the value.
-type Row = (u8, u64, i64, i64, HistoryUpdateType, Option<i32>);
+pub(crate) type Row = (u8, u64, i64, i64, HistoryUpdateType, Option<i32>);
 
 fn node(alloc: Global) -> Result<NodeId, AllocError> {
     Ok(NodeId::Named(1, Text::from_str(alloc, "T")?))
@@ -29,7 +29,7 @@ fn value(written: Option<i32>) -> DataValue {
     }
 }
 
-fn record(alloc: Global, row: &Row) -> Result<Record, StoreFault> {
+pub(crate) fn record(alloc: Global, row: &Row) -> Result<Record, StoreFault> {
     let (origin, number, tick, time, asked, written) = *row;
     let Some(origin) = ReplicaNo::new(origin) else {
         return Err(StoreFault::WrongReplica);
@@ -49,7 +49,11 @@ fn record(alloc: Global, row: &Row) -> Result<Record, StoreFault> {
 }
 
 /// What an archive answers to this update.
-fn learn<A: Archive>(alloc: Global, archive: &mut A, row: &Row) -> Result<bool, LearnFault> {
+pub(crate) fn learn<A: Archive>(
+    alloc: Global,
+    archive: &mut A,
+    row: &Row,
+) -> Result<bool, LearnFault> {
     let record = record(alloc, row)?;
     if record.is_lawful() {
         archive.learn(&record)

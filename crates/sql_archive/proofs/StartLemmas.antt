@@ -1,0 +1,76 @@
+-- How an archive begins over a connection.
+use Rattle.std.proofs.Common.{◌≡◌, inl, inr, ℕ, pos, List, Result, Ok, Err, IfOk, IfErr, sym, ◌∙◌, arith}
+use Rattle.sqlite_trees.specs.declared.store.Store.{Ghosts}
+use Rattle.sqlite_trees.specs.Tree.{Trees}
+use Rattle.sqlite.specs.Held.{Held, state}
+use Rattle.sqlite.specs.State.{State, HasCleanDisk, Survives}
+use Rattle.sqlite.proofs.StateLemmas.{survives_then}
+use Rattle.archive.specs.declared.fault.StoreFault.{StoreFault}
+use Rattle.archive.specs.Store.{IsOfOpening}
+use Rattle.sqlite.specs.Effect.{Database}
+use Rattle.sql_archive.specs.Tables.{no_schema, archive_schema}
+use Rattle.sql_archive.specs.Rows.{meta_cells, IsStored}
+use Rattle.sql_archive.specs.State.{IsNewArchive}
+use Rattle.sql_archive.specs.Opening.{judged, Starts, IsRefused}
+use Rattle.sql_archive.specs.Kept.{Kept}
+use Rattle.sql_archive.proofs.OpenLemmas.{new_is_own}
+use Rattle.sql_archive.proofs.AskLemmas.{survives_itself}
+
+module _ {S : Type 0} (g : Ghosts S) (old mid : State) (result : Result (Kept S) (StoreFault × Held S)) where
+  -- with tables that were just made no opening is wrong
+  pub never_wrong : (id : List ℕ) (own : ℕ) → (HasCleanDisk mid → IsNewArchive id (pos own) mid.now.trees)
+      → IfErr result (λ e. HasCleanDisk (state g e.1) → IsOfOpening e.0 → judged id own (meta_cells mid.now.trees) ≡ Err e.0) → IfErr result (λ e. Survives mid (state g e.1) (λ _. ⊥))
+      → IfErr result (λ e. HasCleanDisk (state g e.1) → IsOfOpening e.0 → ⊥)
+  never_wrong id own new = go result
+    where
+      other : (f : StoreFault) → ◌≡◌ {A = Result Unit StoreFault} (Ok tt) (Err f) → ⊥
+      other f e = let no = e in cc
+
+      go : (r : Result (Kept S) (StoreFault × Held S)) → IfErr r (λ e. HasCleanDisk (state g e.1) → IsOfOpening e.0 → judged id own (meta_cells mid.now.trees) ≡ Err e.0) → IfErr r (λ e. Survives mid (state g e.1) (λ _. ⊥))
+          → IfErr r (λ e. HasCleanDisk (state g e.1) → IsOfOpening e.0 → ⊥)
+      go (Ok a) wrong left = tt
+      go (Err e) wrong left = λ clean of. other e.0 (sym (new_is_own id own mid.now.trees (new (omega (arith, left.clean, clean)))) ∙ wrong clean of)
+
+  -- what a crash leaves behind a step and a quiet one is what it leaves behind the step
+  pub opened_then : (P : Trees → Type 0) → Survives old mid P → IfOk result (λ a. Survives mid (state g a.conn) (λ _. ⊥)) → IfOk result (λ a. Survives old (state g a.conn) P)
+  opened_then P one = go result
+    where
+      go : (r : Result (Kept S) (StoreFault × Held S)) → IfOk r (λ a. Survives mid (state g a.conn) (λ _. ⊥)) → IfOk r (λ a. Survives old (state g a.conn) P)
+      go (Ok a) two = survives_then old mid (state g a.conn) _ _ _ (λ clean db p. p) (λ clean db none. absurd none) one two
+      go (Err e) two = tt
+
+  pub left_then : (P : Trees → Type 0) → Survives old mid P → IfErr result (λ e. Survives mid (state g e.1) (λ _. ⊥)) → IfErr result (λ e. Survives old (state g e.1) P)
+  left_then P one = go result
+    where
+      go : (r : Result (Kept S) (StoreFault × Held S)) → IfErr r (λ e. Survives mid (state g e.1) (λ _. ⊥)) → IfErr r (λ e. Survives old (state g e.1) P)
+      go (Ok a) two = tt
+      go (Err e) two = survives_then old mid (state g e.1) _ _ _ (λ clean db p. p) (λ clean db none. absurd none) one two
+
+-- a quiet step is one that may commit
+widened : (a b : State) (P : Trees → Type 0) → Survives a b (λ _. ⊥) → Survives a b P
+widened a b P one = survives_then a a b (λ _. ⊥) (λ _. ⊥) P (λ clean db none. absurd none) (λ clean db none. absurd none) (survives_itself a) one
+
+module _ {S : Type 0} (g : Ghosts S) (old : State) where
+  pub opened_quiet : (P : Trees → Type 0) (r : Result (Kept S) (StoreFault × Held S)) → IfOk r (λ a. Survives old (state g a.conn) (λ _. ⊥)) → IfOk r (λ a. Survives old (state g a.conn) P)
+  opened_quiet P (Ok a) one = widened old (state g a.conn) P one
+  opened_quiet P (Err e) one = tt
+
+  pub left_quiet : (P : Trees → Type 0) (r : Result (Kept S) (StoreFault × Held S)) → IfErr r (λ e. Survives old (state g e.1) (λ _. ⊥)) → IfErr r (λ e. Survives old (state g e.1) P)
+  left_quiet P (Ok a) one = tt
+  left_quiet P (Err e) one = widened old (state g e.1) P one
+
+  -- how it begins: with new tables, or with those that stood there
+  pub started_new : (id : List ℕ) (own : ℕ) (r : Result (Kept S) (StoreFault × Held S)) → old.now.schema ≡ no_schema → IfOk r (λ a. HasCleanDisk (state g a.conn) → IsNewArchive id (pos own) (state g a.conn).now.trees)
+      → IfOk r (λ a. HasCleanDisk (state g a.conn) → Starts id own old.now (state g a.conn).now)
+  started_new id own (Ok a) none made = λ clean. inl (none, made clean)
+  started_new id own (Err e) none made = tt
+
+  pub started_old : (id : List ℕ) (own : ℕ) (r : Result (Kept S) (StoreFault × Held S)) → old.now.schema ≡ archive_schema → IfOk r (λ a. HasCleanDisk (state g a.conn) → IsStored id own old.now.trees)
+      → IfOk r (λ a. HasCleanDisk (state g a.conn) → (state g a.conn).now ≡ old.now) → IfOk r (λ a. HasCleanDisk (state g a.conn) → Starts id own old.now (state g a.conn).now)
+  started_old id own (Ok a) has stored same = λ clean. inr (has, stored clean, same clean)
+  started_old id own (Err e) has stored same = tt
+
+  pub refused_by : (id : List ℕ) (own : ℕ) (r : Result (Kept S) (StoreFault × Held S)) → old.now.schema ≡ archive_schema
+      → IfErr r (λ e. HasCleanDisk (state g e.1) → IsOfOpening e.0 → judged id own (meta_cells old.now.trees) ≡ Err e.0) → IfErr r (λ e. HasCleanDisk (state g e.1) → IsOfOpening e.0 → IsRefused id own old.now e.0)
+  refused_by id own (Ok a) has wrong = tt
+  refused_by id own (Err e) has wrong = λ clean of. record { schema = has; judged = wrong clean of }

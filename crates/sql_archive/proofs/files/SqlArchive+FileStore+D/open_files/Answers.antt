@@ -1,0 +1,12 @@
+use Rattle.std.proofs.Common.{arith}
+use Rattle.sqlite.specs.State.{HasCleanDisk}
+use Rattle.sqlite.specs.Files.{file_state, image_of}
+use Rattle.sql_archive.proofs.FileLemmas.{resumes}
+use Rattle.sql_archive.proofs.files.SqlArchive+FileStore+D.open_files.Goals as goal
+
+pub returns-in-Ok-start-clause-resumed : goal.returns-in-Ok-start-clause-resumed
+returns-in-Ok-start-clause-resumed g c clean =
+    let early : HasCleanDisk (file_state c.in-Ok.conn) = omega (arith, c.in-Ok-start.ensures.opened.clean, clean) in
+    let opened = c.in-Ok.ensures.opened early in
+    let found = c.in-Ok.ensures.found early in
+    resumes (image_of g.D.Disk c.args.files) c.args.id c.args.number (file_state c.in-Ok.conn) (file_state c.in-Ok-start.archive.conn) opened.0 opened.1 (record { holds = found.holds; reads = found.reads }) (c.in-Ok-start.ensures.started clean)

@@ -1,0 +1,33 @@
+-- What the files of an archive hold.
+use Rattle.std.specs.Prelude.{◌≡◌, ◌⊎◌, ℕ, List, []}
+use Rattle.sqlite_wal.specs.Recovery.{Image}
+use Rattle.sqlite_trees.specs.Tree.{Trees}
+use Rattle.sqlite_trees.specs.Objects.{catalog_tree}
+use Rattle.sqlite_catalog.specs.Listing.{Lists}
+use Rattle.sqlite.specs.Files.{HoldsDatabase, AreFoundIn}
+use Rattle.records.specs.Contents.{Content}
+use Rattle.sql_archive.specs.Tables.{no_schema, archive_schema}
+use Rattle.sql_archive.specs.Rows.{content_in, IsStored}
+
+-- an opening finds these trees in the two files: the database that they hold, or none
+pub record IsFound (image : Image) (db : Trees) : Type 0 where
+  pub holds : (held : Trees) → HoldsDatabase image held → db ≡ held
+  pub reads : AreFoundIn image db
+
+-- the content of a store: nothing where it has no tables; else its tables, and nothing else, are those of a lawful content of this archive and replica, and that is it
+abbrev pub Tells : List ℕ → ℕ → Trees → Content → Type 0
+Tells id own db R = (Lists (db catalog_tree) no_schema × (R ≡ [])) ⊎ (Lists (db catalog_tree) archive_schema × IsStored id own db × (R ≡ content_in db))
+
+-- the content that an archive of this id and replica goes on with where the two files hold this
+pub record Resumes (image : Image) (id : List ℕ) (own : ℕ) (R : Content) : Type 0 where
+  pub db : Trees
+  pub found : IsFound image db
+  pub tells : Tells id own db R
+
+-- whichever archive goes on with them, this is its content
+abbrev pub ResumesOnly : Image → Content → Type 0
+ResumesOnly image R = (id : List ℕ) (own : ℕ) (S : Content) → Resumes image id own S → S ≡ R
+
+-- whichever archive goes on with them, it is with trees that are among these
+abbrev pub ResumesAmong : Image → (Trees → Type 0) → Type 0
+ResumesAmong image Among = (id : List ℕ) (own : ℕ) (R : Content) → Resumes image id own R → ∥ ((db : Trees) × Among db × Tells id own db R) ∥₁

@@ -1,0 +1,114 @@
+//! Archives in files: a database file and its log.
+
+ghost use Rattle.std.specs.Prelude.{◌≡◌, false, IfOk, IsTrue};
+ghost use Rattle.sqlite.specs.State.{HasCleanDisk};
+ghost use Rattle.sqlite.specs.Files.{file_state, image_of};
+ghost use Rattle.sqlite_wal.specs.Files.{image_at};
+ghost use Rattle.sqlite_wal.specs.Reads.{AreClean};
+ghost use Rattle.sql_archive.specs.Rows.{content_in};
+ghost use Rattle.sql_archive.specs.Files.{Resumes, ResumesOnly, ResumesAmong};
+
+use crate::starting::start;
+use crate::statements::refusal_of;
+use crate::store::SqlArchive;
+use archive::StoreFault;
+use sqlite::{Connection, File, FileFrom, FileStore, Files, Options, Start, Unknown};
+use sqlite_disk::Disk;
+use stamp::ReplicaNo;
+use std::alloc::Global;
+use std::rt::HostRuntime;
+use uuid::Uuid;
+
+/// An archive in a file of this machine.
+pub type FileArchive = SqlArchive<FileStore<File>>;
+
+impl<D: Disk + Drop> SqlArchive<FileStore<D>> {
+    /// Opens the archive of this id and replica that a database file and its log hold. Where they hold no
+    /// table yet, its own are made, in one commit. A refusal gives the files back; `may_be_used` of them tells
+    /// whether they can be opened again.
+    ///
+    /// It is refused by `WrongArchive` and `WrongReplica` where the tables are those of another archive or
+    /// replica, in this order; and by `Refused` where other tables stand there, where the rows are those of
+    /// no lawful content, and where the files hold no database or can't be read.
+    pub fn open_files(
+        alloc: Global,
+        files: Files<D>,
+        options: Options,
+        id: Uuid,
+        number: ReplicaNo,
+    ) -> Result<SqlArchive<FileStore<D>>, (StoreFault, Files<D>)>
+        requires log { IsTrue (D.Disk.is_usable files.log) }
+        requires db { IsTrue (D.Disk.is_usable files.db) }
+        ensures own { IfOk result (λ a. (a.id ≡ id) × (a.number ≡ number) × (a.faults ≡ 0) × (a.broken ≡ false)) }
+        ensures resumed { IfOk result (λ a. HasCleanDisk (file_state a.conn) → Resumes (image_of D.Disk files) id number (content_in (file_state a.conn).now.trees)) }
+    {
+        match Connection::open_files(alloc, files, options) {
+            Ok(conn) => match start(alloc, conn, id, number) {
+                Ok(archive) => Ok(archive),
+                Err((fault, conn)) => Err((fault, conn.into_store().close())),
+            },
+            Err((error, left)) => Err((refusal_of(error), left.into_files())),
+        }
+    }
+
+    /// Copies the log into the database file and gives the files back, which may then be opened again. Where
+    /// that fails they come back as an error, as they are.
+    pub fn close_files(self) -> Result<Files<D>, Files<D>>
+        ensures usable { IfOk result (λ files. IsTrue (D.Disk.is_usable files.log) × IsTrue (D.Disk.is_usable files.db)) }
+        ensures kept { self.broken ≡ false → IfOk result (λ files. AreClean D.Disk files.log files.db → ResumesOnly (image_of D.Disk files) (content_in (file_state self.conn).now.trees)) }
+    {
+        self.tables_stand();
+        let conn = self.into_connection();
+        let _schema = conn.schema();
+        match conn.close_files() {
+            Ok(files) => Ok(files),
+            Err((_, store)) => Err(store.close()),
+        }
+    }
+
+    /// Gives the files back as they are, also those of an archive that is broken: what an opening finds there
+    /// is what a crash could leave.
+    pub fn into_files(self) -> Files<D>
+        ensures { AreClean D.Disk result.log result.db → ResumesAmong (image_of D.Disk result) (file_state self.conn).may_leave }
+    {
+        self.into_connection().into_store().close()
+    }
+}
+
+impl<T: Start> SqlArchive<FileStore<FileFrom<T>>> {
+    /// Opens the archive of this id and replica in the file at a path, with its log beside it, as
+    /// `open_files` does; `start` stands for what the two files hold. No file there is an empty one. One
+    /// process at a time opens it: another one is refused.
+    pub fn open_from(
+        rt: &HostRuntime,
+        path: &str,
+        start_of: T,
+        id: Uuid,
+        number: ReplicaNo,
+    ) -> Result<SqlArchive<FileStore<FileFrom<T>>>, StoreFault>
+        ensures own { IfOk result (λ a. (a.id ≡ id) × (a.number ≡ number) × (a.faults ≡ 0) × (a.broken ≡ false)) }
+        ensures resumed { IfOk result (λ a. HasCleanDisk (file_state a.conn) → Resumes (image_at T.Start) id number (content_in (file_state a.conn).now.trees)) }
+    {
+        match Connection::open_from(rt, path, false, start_of) {
+            Ok(conn) => match start(rt.alloc(), conn, id, number) {
+                Ok(archive) => Ok(archive),
+                Err((fault, _)) => Err(fault),
+            },
+            Err((error, _)) => Err(refusal_of(error)),
+        }
+    }
+}
+
+impl SqlArchive<FileStore<File>> {
+    /// `open_from` of files of which nothing is said.
+    pub fn open(
+        rt: &HostRuntime,
+        path: &str,
+        id: Uuid,
+        number: ReplicaNo,
+    ) -> Result<FileArchive, StoreFault>
+        ensures own { IfOk result (λ a. (a.id ≡ id) × (a.number ≡ number) × (a.faults ≡ 0) × (a.broken ≡ false)) }
+    {
+        SqlArchive::open_from(rt, path, Unknown, id, number)
+    }
+}

@@ -1,0 +1,75 @@
+//! How an archive begins over a connection.
+
+ghost use Rattle.std.specs.Prelude.{◌≡◌, ◌≤◌, pos, false, IfOk, IfErr, Err};
+ghost use Rattle.sqlite.specs.State.{HasCleanDisk, Survives, Opens};
+ghost use Rattle.sqlite.specs.Held.{state};
+ghost use Rattle.archive.specs.Store.{IsOfOpening};
+ghost use Rattle.sql_archive.specs.Tables.{no_schema};
+ghost use Rattle.sql_archive.specs.State.{IsNewArchive};
+ghost use Rattle.sql_archive.specs.Opening.{Starts, IsRefused};
+
+use crate::layout::first_open;
+use crate::standing::{Standing, standing_in};
+use crate::statements::fault_of;
+use crate::store::SqlArchive;
+use archive::StoreFault;
+use sqlite::{Alter, Connection};
+use stamp::ReplicaNo;
+use std::alloc::Global;
+use uuid::Uuid;
+
+fn number_of(number: ReplicaNo) -> i64
+    ensures same { result ≡ pos number }
+    ensures small { number ≤ 64 }
+{
+    i64::from(number.get())
+}
+
+/// Makes the tables in a store that has none, in one commit, and begins with them.
+pub(crate) fn make<S: Alter>(
+    alloc: Global,
+    mut conn: Connection<S>,
+    id: Uuid,
+    number: ReplicaNo,
+) -> Result<SqlArchive<S>, (StoreFault, Connection<S>)>
+    requires idle { conn.in_transaction ≡ false }
+    requires empty { HasCleanDisk (state S.Store conn) → (state S.Store conn).now.schema ≡ no_schema }
+    ensures own { IfOk result (λ a. (a.id ≡ id) × (a.number ≡ number) × (a.faults ≡ 0) × (a.broken ≡ false)) }
+    ensures made { IfOk result (λ a. HasCleanDisk (state S.Store a.conn) → IsNewArchive id (pos number) (state S.Store a.conn).now.trees) }
+    ensures wrong { IfErr result (λ e. HasCleanDisk (state S.Store e.1) → IsOfOpening e.0 → ⊥) }
+    ensures opened { IfOk result (λ a. Survives (state S.Store conn) (state S.Store a.conn) (IsNewArchive id (pos number))) }
+    ensures left { IfErr result (λ e. Survives (state S.Store conn) (state S.Store e.1) (IsNewArchive id (pos number))) }
+{
+    let own = number_of(number);
+    match first_open(&mut conn, id.as_bytes(), &own) {
+        Ok(()) => SqlArchive::over(alloc, conn, id, number),
+        Err(error) => {
+            let fault = fault_of(&mut conn, error);
+            Err((fault, conn))
+        }
+    }
+}
+
+/// Begins over a connection: in a store without tables they are made; else those that are there have to be
+/// the tables of a lawful content of this archive and replica, and nothing else.
+pub(crate) fn start<S: Alter>(
+    alloc: Global,
+    conn: Connection<S>,
+    id: Uuid,
+    number: ReplicaNo,
+) -> Result<SqlArchive<S>, (StoreFault, Connection<S>)>
+    requires idle { conn.in_transaction ≡ false }
+    requires open { HasCleanDisk (state S.Store conn) → Opens (state S.Store conn) }
+    ensures own { IfOk result (λ a. (a.id ≡ id) × (a.number ≡ number) × (a.faults ≡ 0) × (a.broken ≡ false)) }
+    ensures started { IfOk result (λ a. HasCleanDisk (state S.Store a.conn) → Starts id number (state S.Store conn).now (state S.Store a.conn).now) }
+    ensures wrong { IfErr result (λ e. HasCleanDisk (state S.Store e.1) → IsOfOpening e.0 → IsRefused id number (state S.Store conn).now e.0) }
+    ensures opened { IfOk result (λ a. Survives (state S.Store conn) (state S.Store a.conn) (IsNewArchive id (pos number))) }
+    ensures left { IfErr result (λ e. Survives (state S.Store conn) (state S.Store e.1) (IsNewArchive id (pos number))) }
+{
+    match standing_in(alloc, conn.schema()) {
+        Ok(Standing::Empty) => make(alloc, conn, id, number),
+        Ok(Standing::Archive) => SqlArchive::over(alloc, conn, id, number),
+        Ok(Standing::Foreign) => Err((StoreFault::Refused, conn)),
+        Err(_) => Err((StoreFault::OutOfMemory, conn)),
+    }
+}
