@@ -8,3 +8,4 @@ pub mod Whole
 pub mod Printing
 pub mod Counting
 pub mod Tried
+pub mod Networks

@@ -13,8 +13,8 @@ use Rattle.ua_server.specs.declared.outcome.Served.{Served}
 use Rattle.ua_server.specs.declared.hexed.HexFault.{HexFault}
 use Rattle.ua_server.specs.declared.hexed.HexFault.TheVariants as hexed
 use Rattle.ua_server.specs.declared.program.ProgramFault.{ProgramFault}
-use Rattle.ua_server.specs.declared.program.ProgramFault.TheVariants.{Line, File, Settings, BadHex, Connection}
-use Rattle.ua_server.specs.declared.line.Line.TheVariants.{Answer}
+use Rattle.ua_server.specs.declared.program.ProgramFault.TheVariants.{Line, File, Settings, BadHex, Address, Connection}
+use Rattle.ua_server.specs.declared.line.Line.TheVariants.{Answer, Serve}
 use Rattle.ua_server.specs.declared.line.LineFault.{LineFault}
 use Rattle.ua_server.specs.declared.line.LineFault.TheVariants.{Words, OutOfMemory as NoMemory}
 use Rattle.ua_server.specs.Line.{IsLine, IsNoCommand}
@@ -23,7 +23,10 @@ use Rattle.ua_settings.specs.Settings.{Values}
 use Rattle.archive.specs.Listed.{Listed, store_of}
 use Rattle.ua_server.specs.Given.{Outside}
 use Rattle.ua_server.specs.Hexed.{AnswersHex, digits_of}
-use Rattle.ua_server.specs.Program.{empty_of, AnswersFirst, AnswersDigits, IsUnmade, IsBadText, IsUnbegun, SettingsAt, Continues, program_result, IsRefused, DoesLine, Runs}
+use Rattle.ua_server.specs.Program.{empty_of, AnswersFirst, AnswersDigits, IsUnmade, IsBadText, IsUnbegun, SettingsAt, Continues, ServesSet, Scene, program_result, IsRefused, DoesLine, Runs}
+use Rattle.ua_server.specs.Tally.{Tally}
+use Rattle.ua_server.specs.Network.{Means}
+use Rattle.std.specs.declared.net.socket_addr.SocketAddr.{SocketAddr}
 use Rattle.ua_server.specs.declared.line.Line.{Line as CommandLine}
 
 -- the first write failed
@@ -137,16 +140,31 @@ stopped reads path (Err fault) hex now input left old written used line set so =
     let P : ProgramFault → Type 0 = λ f. SettingsAt reads path (Err f) in
     (unset reads path line (subst P same set), so.2)
 
+-- settings that are refused as a line where connections were to be served: nothing was told
+unserved : {N L R W C E : Type 0} (means : Means L R W Listed C) (listened : N → SocketAddr → Option L → N → Type 0) (told : E → Option (List ℕ)) (reads : List ℕ → Option (List ℕ) → Type 0) (path : List ℕ) (count : ℕ) (settings : Result Values ProgramFault)
+    (network after : N) (clock later : C) (before errors : Tally E) (line : LineFault)
+    → SettingsAt reads (Some path) settings → ServesSet means listened told count settings network after clock later before errors (Err (Line line)) → IsUnbegun line × (errors ≡ before)
+unserved means listened told reads path count (Ok settings) network after clock later before errors line set so = absurd so.1
+unserved means listened told reads path count (Err fault) network after clock later before errors line set so =
+    let same : fault ≡ Line line = cc in
+    let P : ProgramFault → Type 0 = λ f. SettingsAt reads (Some path) (Err f) in
+    (unset reads (Some path) line (subst P same set), so.3)
+
 -- a command that a line names
-pub line-done : (faults : List ErrorKind) (taken : Bool) (matches : Option (Text × List Row)) (reads : List ℕ → Option (List ℕ) → Type 0) (line : CommandLine) (input left old written : Option (List ℕ)) (used : Outside) (result : Result (Unit {0}) ProgramFault)
-    → faults ≡ [] → IsLine matches line → DoesLine reads line input left old written used result → Runs faults taken matches reads input left old written used result
-line-done faults taken matches reads line input left old written used (Ok done) free is so = (free, (line, is, so))
-line-done faults taken matches reads (Answer path hex now) input left old written used (Err (Line fault)) free is so =
-    let b = stopped reads (option_copied path) so.0 hex now input left old written used fault so.1 so.2 in
-    (unbegun-refused taken matches fault b.0, b.1)
-line-done faults taken matches reads line input left old written used (Err File) free is so = (free, (line, is, so))
-line-done faults taken matches reads line input left old written used (Err (Settings fault place)) free is so = (free, (line, is, so))
-line-done faults taken matches reads line input left old written used (Err BadHex) free is so = (free, (line, is, so))
-line-done faults taken matches reads line input left old written used (Err (Connection fault)) free is so = (free, (line, is, so))
+pub line-done : {N L R W C E : Type 0} (faults : List ErrorKind) (taken : Bool) (matches : Option (Text × List Row)) (means : Means L R W Listed C) (listened : N → SocketAddr → Option L → N → Type 0) (told : E → Option (List ℕ)) (reads : List ℕ → Option (List ℕ) → Type 0)
+    (line : CommandLine) (old new : Scene N C E) (result : Result (Unit {0}) ProgramFault)
+    → faults ≡ [] → IsLine matches line → DoesLine means listened told reads line old new result → Runs faults taken matches means listened told reads old new result
+line-done faults taken matches means listened told reads line old new (Ok done) free is so = (free, (line, is, so))
+line-done faults taken matches means listened told reads (Answer path hex now) old new (Err (Line fault)) free is (network, errors, (used, gave, (settings, set, so))) =
+    let b = stopped reads (option_copied path) settings hex now old.unread new.unread old.written new.written used fault set so in
+    (unbegun-refused taken matches fault b.0, b.1, errors)
+line-done faults taken matches means listened told reads (Serve path count) old new (Err (Line fault)) free is (unread, written, (settings, set, so)) =
+    let b = unserved means listened told reads path.now count settings old.network new.network old.clock new.clock old.errors new.errors fault set so in
+    (unbegun-refused taken matches fault b.0, written, b.1)
+line-done faults taken matches means listened told reads line old new (Err File) free is so = (free, (line, is, so))
+line-done faults taken matches means listened told reads line old new (Err (Settings fault place)) free is so = (free, (line, is, so))
+line-done faults taken matches means listened told reads line old new (Err BadHex) free is so = (free, (line, is, so))
+line-done faults taken matches means listened told reads line old new (Err Address) free is so = (free, (line, is, so))
+line-done faults taken matches means listened told reads line old new (Err (Connection fault)) free is so = (free, (line, is, so))
 
 pub ruleset lines = (line-done)

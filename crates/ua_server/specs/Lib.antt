@@ -9,4 +9,6 @@ pub mod Turns
 pub mod Serving
 pub mod Hexed
 pub mod Line
+pub mod Telling
+pub mod Network
 pub mod Program

@@ -1,6 +1,7 @@
--- What a run of the program prints, and its exit status.
-use Rattle.std.specs.Prelude.{◌≡◌, ◌≤◌, ℕ, ℤ, List, [], ◌∷◌, ◌++◌, length, Option, None, Some, IfSome, option_copied, Result, Ok, Err, IsErr, Bool, true, false, ◌⊎◌, codes}
+-- What a run of the program does.
+use Rattle.std.specs.Prelude.{◌≡◌, ◌≤◌, ℕ, ℤ, List, [], ◌∷◌, ◌++◌, length, Option, None, Some, IfSome, option_copied, Result, Ok, Err, IsErr, Bool, true, false, ◌⊎◌}
 use Rattle.std.specs.Io.KnownBytes.{Appends}
+use Rattle.std.specs.declared.net.socket_addr.SocketAddr.{SocketAddr}
 use Rattle.std.specs.Str.{IsUtf8}
 use Rattle.hex.specs.Hex.{encode_upper, decode_of}
 use Rattle.toml.specs.Parse.{parse_document}
@@ -10,7 +11,7 @@ use Rattle.ua_server.specs.declared.hexed.HexFault.{HexFault}
 use Rattle.ua_server.specs.declared.hexed.HexFault.TheVariants as hexed
 use Rattle.ua_server.specs.declared.program.ProgramFault.{ProgramFault}
 use Rattle.ua_server.specs.declared.program.ProgramFault.TheVariants.{Line, File, Settings, BadHex, Connection}
-use Rattle.ua_server.specs.Bytes.{AppendsPart, counted}
+use Rattle.ua_server.specs.Bytes.{AppendsPart}
 use Rattle.ua_server.specs.Tally.{Tally}
 use Rattle.ua_server.specs.Readings.{AllAre}
 use Rattle.ua_settings.specs.declared.fault.SettingsFault.{SettingsFault}
@@ -22,75 +23,14 @@ use Rattle.ua_server.specs.Given.{Outside}
 use Rattle.ua_server.specs.Client.{Ending}
 use Rattle.ua_server.specs.Hexed.{AnswersText, digits_of}
 use Rattle.ua_server.specs.Serving.{Serves}
+use Rattle.ua_server.specs.Network.{Means, Around, Listens}
 use Rattle.clap.specs.Words.{Row, Text}
 use Rattle.clap.specs.declared.error.ErrorKind.{ErrorKind}
 use Rattle.ua_server.specs.declared.line.Line.{Line as CommandLine}
-use Rattle.ua_server.specs.declared.line.Line.TheVariants.{Answer}
+use Rattle.ua_server.specs.declared.line.Line.TheVariants.{Answer, Serve}
 use Rattle.ua_server.specs.declared.line.LineFault.{LineFault}
 use Rattle.ua_server.specs.declared.line.LineFault.TheVariants.{Words, OutOfMemory as NoMemory}
 use Rattle.ua_server.specs.Line.{IsLine, IsNoCommand}
-
-abbrev pub fault_status : ProgramFault → ℕ
-fault_status (Line fault) = 2
-fault_status File = 2
-fault_status (Settings fault place) = 2
-fault_status BadHex = 2
-fault_status (Connection fault) = 1
-
-abbrev pub status_of : Result (Unit {0}) ProgramFault → ℕ
-status_of (Ok done) = 0
-status_of (Err fault) = fault_status fault
-
--- the text that tells a refused command line
-abbrev pub line_text_of : LineFault → List ℕ
-line_text_of Words = codes "usage: uahist answer [--settings FILE] [--hex] [--now N]"
-line_text_of NoMemory = codes "memory ran out before the command began"
-
--- the text that tells refused settings
-abbrev pub refusal_text : SettingsFault → List ℕ
-refusal_text refused.NotToml = codes "settings refused (1)"
-refusal_text refused.MissingKey = codes "settings refused (2)"
-refusal_text refused.BadValue = codes "settings refused (3)"
-refusal_text refused.UnknownKey = codes "settings refused (4)"
-refusal_text (refused.Space fault) = codes "settings refused (5)"
-refusal_text refused.OutOfMemory = codes "settings refused (6)"
-
--- the text that tells a fault
-abbrev pub text_of : ProgramFault → List ℕ
-text_of (Line fault) = line_text_of fault
-text_of File = codes "settings file can't be read"
-text_of (Settings fault place) = refusal_text fault
-text_of BadHex = codes "bad hex"
-text_of (Connection Read) = codes "connection ended (1)"
-text_of (Connection Write) = codes "connection ended (2)"
-text_of (Connection TooLong) = codes "connection ended (3)"
-text_of (Connection OutOfMemory) = codes "connection ended (4)"
-
--- where settings are refused
-abbrev pub place_of : ProgramFault → Option (List ℕ)
-place_of (Line fault) = None
-place_of File = None
-place_of (Settings fault place) = place
-place_of BadHex = None
-place_of (Connection fault) = None
-
--- a line of the program's
-abbrev pub told_line : List ℕ → List ℕ
-told_line text = codes "uahist: " ++ (text ++ 10 ∷ [])
-
-abbrev pub place_line : Option (List ℕ) → List ℕ
-place_line None = []
-place_line (Some place) = told_line place
-
--- what standard error has of a fault: a line, and a second one where settings are refused
-abbrev pub error_lines : ProgramFault → List ℕ
-error_lines fault = told_line (text_of fault) ++ place_line (place_of fault)
-
--- the whole line was written, or a first part of it, and one call more failed
-abbrev pub IsTold : {W : Type 0} → (W → Option (List ℕ)) → Tally W → Tally W → List ℕ → Type 0
-IsTold contents old new line =
-    (Appends (contents old.inner) (contents new.inner) line × (new.faults ≡ old.faults))
-    ⊎ (AppendsPart (contents old.inner) (contents new.inner) line × (new.faults ≡ counted old.faults))
 
 -- ---- the server of a program
 
@@ -172,10 +112,15 @@ IsBare (Ok settings) = settings ≡ bare
 IsBare (Err (Line fault)) = IsUnbegun fault
 IsBare (Err fault) = ⊥
 
--- the settings that a text gives; where they are refused, what tells the place has at most 180 bytes
+-- what tells where settings are refused has at most 180 bytes; want of memory has no place
+abbrev pub IsPlace : SettingsFault → Option (List ℕ) → Type 0
+IsPlace refused.OutOfMemory place = place ≡ None
+IsPlace fault place = IfSome place (λ told. length told ≤ 180)
+
+-- the settings that a text gives; where they are refused, the place may be told
 abbrev pub IsSetIn : List ℕ → Result Values ProgramFault → Type 0
 IsSetIn text (Ok settings) = IsReadOrStarved (parse_document text) (Ok settings)
-IsSetIn text (Err (Settings fault place)) = IsReadOrStarved (parse_document text) (Err fault) × IfSome place (λ told. length told ≤ 180)
+IsSetIn text (Err (Settings fault place)) = IsReadOrStarved (parse_document text) (Err fault) × IsPlace fault place
 IsSetIn text (Err fault) = ⊥
 
 -- by the text of a file, where it can be read
@@ -205,14 +150,37 @@ Continues (Err fault) hex now input left old written used result = (result ≡ E
 Continues (Ok settings) hex now input left old written used result =
     (answered : Result (Unit {0}) HexFault) × AnswersAt settings hex now input left old written used answered × (result ≡ program_result answered)
 
--- what each command does, by what the outside gives
-abbrev pub DoesLine : (List ℕ → Option (List ℕ) → Type 0) → CommandLine → Option (List ℕ) → Option (List ℕ) → Option (List ℕ) → Option (List ℕ) → Outside → Result (Unit {0}) ProgramFault → Type 0
-DoesLine reads (Answer path hex now) input left old written used result =
-    (settings : Result Values ProgramFault) × SettingsAt reads (option_copied path) settings × Continues settings hex now input left old written used result
+-- a connection is answered by the settings of the file at a path, where there is one
+abbrev pub AnswersBy : (List ℕ → Option (List ℕ) → Type 0) → Option (List ℕ) → Bool → Option ℤ → Option (List ℕ) → Option (List ℕ) → Option (List ℕ) → Option (List ℕ) → Outside → Result (Unit {0}) ProgramFault → Type 0
+AnswersBy reads path hex now input left old written used result =
+    (settings : Result Values ProgramFault) × SettingsAt reads path settings × Continues settings hex now input left old written used result
 
--- what the command does that the matches name
-abbrev pub DoesMatches : Option (Text × List Row) → (List ℕ → Option (List ℕ) → Type 0) → Option (List ℕ) → Option (List ℕ) → Option (List ℕ) → Option (List ℕ) → Outside → Result (Unit {0}) ProgramFault → Type 0
-DoesMatches matches reads input left old written used result = (line : CommandLine) × IsLine matches line × DoesLine reads line input left old written used result
+-- connections are served over an archive that holds nothing, or the settings are refused and nothing is done
+abbrev pub ServesSet : {N L R W C E : Type 0} → Means L R W Listed C → (N → SocketAddr → Option L → N → Type 0) → (E → Option (List ℕ)) → ℕ → Result Values ProgramFault → N → N → C → C → Tally E → Tally E → Result (Unit {0}) ProgramFault → Type 0
+ServesSet means listened told count (Ok settings) network after clock later before errors result =
+    (last : Listed) × Listens means listened told settings count (record { source = network; archive = empty_of settings; clock = clock }) before (record { source = after; archive = last; clock = later }) errors result
+ServesSet means listened told count (Err fault) network after clock later before errors result = (result ≡ Err fault) × (after ≡ network) × (later ≡ clock) × (errors ≡ before)
+
+-- connections are served by the settings of the file at a path
+abbrev pub ServesBy : {N L R W C E : Type 0} → Means L R W Listed C → (N → SocketAddr → Option L → N → Type 0) → (E → Option (List ℕ)) → (List ℕ → Option (List ℕ) → Type 0) → List ℕ → ℕ → N → N → C → C → Tally E → Tally E → Result (Unit {0}) ProgramFault → Type 0
+ServesBy means listened told reads path count network after clock later before errors result =
+    (settings : Result Values ProgramFault) × SettingsAt reads (Some path) settings × ServesSet means listened told count settings network after clock later before errors result
+
+-- what stands around a run: what is unread of the input and written to the output, as far as that is known, the network, the clock, and standard error
+pub record Scene (N C E : Type 0) : Type 0 where
+  pub unread : Option (List ℕ)
+  pub written : Option (List ℕ)
+  pub network : N
+  pub clock : C
+  pub errors : Tally E
+
+-- what each command does
+abbrev pub DoesLine : {N L R W C E : Type 0} → Means L R W Listed C → (N → SocketAddr → Option L → N → Type 0) → (E → Option (List ℕ)) → (List ℕ → Option (List ℕ) → Type 0) → CommandLine → Scene N C E → Scene N C E → Result (Unit {0}) ProgramFault → Type 0
+DoesLine means listened told reads (Answer path hex now) old new result =
+    (new.network ≡ old.network) × (new.errors ≡ old.errors)
+    × ((used : Outside) × means.gave old.clock used.readings new.clock × AnswersBy reads (option_copied path) hex now old.unread new.unread old.written new.written used result)
+DoesLine means listened told reads (Serve path count) old new result =
+    (new.unread ≡ old.unread) × (new.written ≡ old.written) × ServesBy means listened told reads path.now count old.network new.network old.clock new.clock old.errors new.errors result
 
 -- a line is refused for want of memory, or where clap refuses it or its matches name no command
 abbrev pub IsRefused : Bool → Option (Text × List Row) → LineFault → Type 0
@@ -220,7 +188,7 @@ IsRefused taken matches Words = taken ≡ true → IsNoCommand matches
 IsRefused taken matches NoMemory = Unit {0}
 
 -- A run by the faults that clap finds in a command line, by whether it takes it, and by its matches. What is done is done for a line without
--- faults; where the line is refused nothing is printed.
-abbrev pub Runs : List ErrorKind → Bool → Option (Text × List Row) → (List ℕ → Option (List ℕ) → Type 0) → Option (List ℕ) → Option (List ℕ) → Option (List ℕ) → Option (List ℕ) → Outside → Result (Unit {0}) ProgramFault → Type 0
-Runs faults taken matches reads input left old written used (Err (Line fault)) = IsRefused taken matches fault × (written ≡ old)
-Runs faults taken matches reads input left old written used result = (faults ≡ []) × DoesMatches matches reads input left old written used result
+-- faults; where the line is refused nothing is printed or told.
+abbrev pub Runs : {N L R W C E : Type 0} → List ErrorKind → Bool → Option (Text × List Row) → Means L R W Listed C → (N → SocketAddr → Option L → N → Type 0) → (E → Option (List ℕ)) → (List ℕ → Option (List ℕ) → Type 0) → Scene N C E → Scene N C E → Result (Unit {0}) ProgramFault → Type 0
+Runs faults taken matches means listened told reads old new (Err (Line fault)) = IsRefused taken matches fault × (new.written ≡ old.written) × (new.errors ≡ old.errors)
+Runs faults taken matches means listened told reads old new result = (faults ≡ []) × ((line : CommandLine) × IsLine matches line × DoesLine means listened told reads line old new result)

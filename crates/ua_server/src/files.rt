@@ -1,14 +1,14 @@
 //! Settings files.
 
 ghost use Rattle.std.specs.Prelude.{◌≡◌, ◌≤◌, ℕ, List, Option, IfSome, length, option_map, option_copied, string_bytes};
-ghost use Rattle.ua_server.specs.Program.{IsBare, IsSetIn, SettingsAt};
+ghost use Rattle.ua_server.specs.Program.{IsBare, IsPlace, IsSetIn, SettingsAt};
 
 use crate::line::LineFault;
 use crate::program::ProgramFault;
 use std::alloc::Global;
 use std::fmt::InlineText;
 use ua_binary::Text;
-use ua_settings::{Place, Settings};
+use ua_settings::{Place, Settings, SettingsFault};
 
 /// What the texts of settings files are read from.
 pub trait SettingsFiles {
@@ -47,13 +47,27 @@ fn place_in(alloc: Global, text: &str) -> Option<Text>
     }
 }
 
+/// Where a text is refused by this fault, in at most 180 bytes; none where memory is wanting.
+fn place_of(alloc: Global, fault: SettingsFault, text: &str) -> Option<Text>
+    ensures { IsPlace fault result }
+{
+    match fault {
+        SettingsFault::OutOfMemory => None,
+        SettingsFault::NotToml
+        | SettingsFault::MissingKey
+        | SettingsFault::BadValue
+        | SettingsFault::UnknownKey
+        | SettingsFault::Space(_) => place_in(alloc, text),
+    }
+}
+
 /// The settings that a text gives.
 fn settings_in(alloc: Global, text: &str) -> Result<Settings, ProgramFault>
     ensures { IsSetIn text.now result }
 {
     match Settings::read(alloc, text) {
         Ok(settings) => Ok(settings),
-        Err(fault) => Err(ProgramFault::Settings(fault, place_in(alloc, text))),
+        Err(fault) => Err(ProgramFault::Settings(fault, place_of(alloc, fault, text))),
     }
 }
 

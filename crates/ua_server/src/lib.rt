@@ -4,12 +4,14 @@
 mod answering;
 mod clock;
 mod connection;
+mod connections;
 mod counted;
 mod files;
 mod greeting;
 mod hexed;
 mod laws;
 mod line;
+mod network;
 mod outcome;
 mod program;
 mod responding;
@@ -18,11 +20,13 @@ mod turn;
 
 pub use clock::{Clock, ConstantClock, SystemClock};
 pub use connection::MOST_CHUNKS;
+pub use connections::serve_connections;
 pub use counted::Counted;
 pub use files::SettingsFiles;
 pub use hexed::{HexFault, answer_hex};
 pub use laws::{answers_go_item_by_item, chunks_are_counted};
 pub use line::{Line, LineFault, read_line};
+pub use network::{Listener, Network};
 pub use outcome::{ServeFault, Served};
 pub use program::{ProgramFault, report, run};
 pub use serving::serve;

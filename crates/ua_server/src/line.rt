@@ -1,11 +1,11 @@
 //! The command line.
 
 ghost use Rattle.std.specs.Prelude.{◌≡◌, [], map, codes, IfOk, OnErr, IsErrOf, true, false};
-ghost use Rattle.clap.specs.Words.{app_of, rule_of, rows_of, found_of, subcommand_of};
+ghost use Rattle.clap.specs.Words.{app_of, rule_of, rows_of, found_of, subcommand_of, subcommand_rows_of};
 ghost use Rattle.clap.specs.declared.builder.command.Command.TheViews.{out-Command};
 ghost use Rattle.clap.specs.Takes.{takes};
 ghost use Rattle.clap.specs.Faults.{fault_of as fault_kinds};
-ghost use Rattle.ua_server.specs.Line.{IsAnswer, IsLine, GivesNoNumber, IsNoCommand, answer, now, settings, uahist};
+ghost use Rattle.ua_server.specs.Line.{IsAnswer, IsServe, IsLine, GivesNoNumber, IsNoServe, IsNoCommand, answer, connections, now, serve, settings, uahist};
 
 use clap::builder::ValueParser;
 use clap::error::ErrorKind;
@@ -18,6 +18,9 @@ use std::fmt;
 /// The greatest moment that a clock may stand at, 2^63 - 1.
 const MOST_NOW: u64 = 9_223_372_036_854_775_807;
 
+/// The most connections that a run serves, and as many as it serves where no number is given, 2^32 - 1.
+const MOST_CONNECTIONS: u64 = 4_294_967_295;
+
 /// What the program is asked to do.
 #[derive(Clone, Copy, Debug, PartialEq, Eq)]
 pub enum Line<'a> {
@@ -27,6 +30,11 @@ pub enum Line<'a> {
         settings: Option<&'a str>,
         hex: bool,
         now: Option<i64>,
+    },
+    /// Serve so many connections over TCP, one after the other, by the settings of the file at `settings`.
+    Serve {
+        settings: &'a str,
+        connections: u32,
     },
 }
 
@@ -40,14 +48,15 @@ pub enum LineFault {
 }
 
 impl LineFault {
-    ghost use Rattle.ua_server.specs.Program.{line_text_of};
+    ghost use Rattle.ua_server.specs.Telling.{line_text_of};
 
     /// The text that tells it.
     pub fn text(self) -> &'static str
         ensures { result.now ≡ line_text_of self }
     {
         match self {
-            LineFault::Words => "usage: uahist answer [--settings FILE] [--hex] [--now N]",
+            LineFault::Words =>
+                "usage: uahist answer [--settings FILE] [--hex] [--now N] | serve --settings FILE [--connections N]",
             LineFault::OutOfMemory => "memory ran out before the command began",
         }
     }
@@ -55,7 +64,7 @@ impl LineFault {
 
 impl fmt::Display for LineFault {
     ghost use Rattle.std.specs.Prelude.{Some};
-    ghost use Rattle.ua_server.specs.Program.{line_text_of};
+    ghost use Rattle.ua_server.specs.Telling.{line_text_of};
 
     ghost output = { λ fault. Some (line_text_of fault) };
 
@@ -87,6 +96,17 @@ fn settings_option<'a>(alloc: Global) -> Arg<'a>
         .action(ArgAction::Set)
 }
 
+/// The option `--connections N`.
+fn connections_option<'a>(alloc: Global) -> Arg<'a>
+    ensures rule { rule_of result ≡ connections }
+    ensures local { result.global ≡ false }
+{
+    Arg::new(alloc, "connections")
+        .long("connections")
+        .action(ArgAction::Set)
+        .value_parser(ValueParser::unsigned(1, MOST_CONNECTIONS))
+}
+
 /// The command `answer` and its options.
 fn answer_command<'a>(alloc: Global) -> Result<Command<'a>, AllocError>
     ensures app { IfOk result (λ command. app_of command ≡ answer) }
@@ -102,12 +122,26 @@ fn answer_command<'a>(alloc: Global) -> Result<Command<'a>, AllocError>
     Ok(command)
 }
 
+/// The command `serve` and its options.
+fn serve_command<'a>(alloc: Global) -> Result<Command<'a>, AllocError>
+    ensures app { IfOk result (λ command. app_of command ≡ serve) }
+    ensures local { IfOk result (λ command. (out-Command command).has_globals ≡ false) }
+{
+    let settings = settings_option(alloc);
+    let connections = connections_option(alloc);
+    let command = Command::new(alloc, "serve");
+    let command = command.arg(settings)?.arg(connections)?;
+    Ok(command)
+}
+
 /// The program's commands and their options.
 fn command<'a>(alloc: Global) -> Result<Command<'a>, AllocError>
     ensures { IfOk result (λ command. app_of command ≡ uahist) }
 {
     let answer = answer_command(alloc)?;
-    let whole = Command::new(alloc, "uahist").subcommand(answer)?;
+    let serve = serve_command(alloc)?;
+    let whole = Command::new(alloc, "uahist");
+    let whole = whole.subcommand(answer)?.subcommand(serve)?;
     Ok(whole)
 }
 
@@ -134,6 +168,37 @@ fn read_answer<'a>(answer: &ArgMatches<'a>) -> Result<Line<'a>, LineFault>
     }
 }
 
+/// Reads the options of `serve`.
+fn read_serve<'a>(serve: &ArgMatches<'a>) -> Result<Line<'a>, LineFault>
+    ensures ok { IfOk result (IsServe (rows_of (found_of serve.now))) }
+    ensures words { OnErr result (IsNoServe (rows_of (found_of serve.now))) }
+{
+    let Some(settings) = serve.get_str("settings") else {
+        return Err(LineFault::Words);
+    };
+    match serve.try_get_one("connections") {
+        Ok(connections) => Ok(Line::Serve {
+            settings,
+            connections: connections.unwrap_or(u32::MAX),
+        }),
+        Err(_) => Err(LineFault::Words),
+    }
+}
+
+/// Reads the command that the matches name.
+fn read_matches<'a>(matches: &ArgMatches<'a>) -> Result<Line<'a>, LineFault>
+    ensures ok { IfOk result (IsLine (subcommand_rows_of matches.now)) }
+    ensures words { OnErr result (IsNoCommand (subcommand_rows_of matches.now)) }
+{
+    if let Some(answer) = matches.subcommand_matches("answer") {
+        return read_answer(answer);
+    }
+    match matches.subcommand_matches("serve") {
+        None => Err(LineFault::Words),
+        Some(serve) => read_serve(serve),
+    }
+}
+
 /// Reads a command line, the program's name first, as `clap` reads it.
 ///
 /// `Ok` has the command that `clap`'s matches name and the values that they give for it. Errors: `Words` where `clap`
@@ -146,12 +211,8 @@ pub fn read_line<'a, S: AsStr>(alloc: Global, words: &'a [S]) -> Result<Line<'a>
     let Ok(command) = command(alloc) else {
         return Err(LineFault::OutOfMemory);
     };
-    let matches = match command.try_get_matches_from(words) {
-        Ok(matches) => matches,
-        Err(error) => return Err(fault_of(error.kind())),
-    };
-    match matches.subcommand_matches("answer") {
-        None => Err(LineFault::Words),
-        Some(answer) => read_answer(answer),
+    match command.try_get_matches_from(words) {
+        Ok(matches) => read_matches(&matches),
+        Err(error) => Err(fault_of(error.kind())),
     }
 }

@@ -4,17 +4,21 @@ ghost use Rattle.std.specs.Prelude.{◌≡◌, ◌+◌, ℕ, ℤ, List, [], ◌�
 ghost use Rattle.std.specs.Io.KnownBytes.{Appends, Consumes, IsAtEnd};
 ghost use Rattle.ua_server.specs.Bytes.{counted, AppendsPart};
 ghost use Rattle.ua_server.specs.Given.{Outside};
-ghost use Rattle.ua_server.specs.Program.{status_of, empty_of, ServesFirst, EndsAs, MakesDigits, PrintsHex, DoesAnswer, AnswersAt, fault_of, DoesLine, Runs, IsTold, refusal_text, told_line, place_line, error_lines};
+ghost use Rattle.archive.specs.Listed.{store_of};
+ghost use Rattle.ua_server.specs.Telling.{status_of, IsTold, refusal_text, told_line, place_line, error_lines};
+ghost use Rattle.ua_server.specs.Program.{empty_of, ServesFirst, EndsAs, MakesDigits, PrintsHex, DoesAnswer, AnswersAt, fault_of, AnswersBy, ServesBy, DoesLine, Runs};
 ghost use Rattle.clap.specs.Words.{subcommand_of};
 ghost use Rattle.clap.specs.Takes.{takes};
 ghost use Rattle.clap.specs.Faults.{fault_of as fault_kinds};
 ghost use Rattle.ua_server.specs.Line.{uahist};
 
 use crate::clock::{Clock, ConstantClock};
+use crate::connections::serve_at;
 use crate::counted::Counted;
 use crate::files::{SettingsFiles, settings_at};
 use crate::hexed::{HexFault, answer_hex};
 use crate::line::{Line, LineFault, read_line};
+use crate::network::Network;
 use crate::outcome::ServeFault;
 use crate::serving::serve;
 use archive::ListArchive;
@@ -37,12 +41,14 @@ pub enum ProgramFault {
     Settings(SettingsFault, Option<Text>),
     /// The input isn't hex.
     BadHex,
+    /// The settings' address is none, or can't be listened at.
+    Address,
     /// A connection met a fault.
     Connection(ServeFault),
 }
 
 impl ProgramFault {
-    ghost use Rattle.ua_server.specs.Program.{text_of, place_of};
+    ghost use Rattle.ua_server.specs.Telling.{text_of, place_of};
 
     /// The text that tells it: of settings and of a connection the number of the fault.
     pub fn text(&self) -> &'static str
@@ -53,6 +59,7 @@ impl ProgramFault {
             ProgramFault::File => "settings file can't be read",
             ProgramFault::Settings(fault, _) => refusal_text(*fault),
             ProgramFault::BadHex => "bad hex",
+            ProgramFault::Address => "address refused",
             ProgramFault::Connection(ServeFault::Read) => "connection ended (1)",
             ProgramFault::Connection(ServeFault::Write) => "connection ended (2)",
             ProgramFault::Connection(ServeFault::TooLong) => "connection ended (3)",
@@ -70,6 +77,7 @@ impl ProgramFault {
             | ProgramFault::Line(_)
             | ProgramFault::File
             | ProgramFault::BadHex
+            | ProgramFault::Address
             | ProgramFault::Connection(_) => None,
         }
     }
@@ -91,7 +99,7 @@ fn refusal_text(fault: SettingsFault) -> &'static str
 
 impl fmt::Display for ProgramFault {
     ghost use Rattle.std.specs.Prelude.{Some};
-    ghost use Rattle.ua_server.specs.Program.{text_of};
+    ghost use Rattle.ua_server.specs.Telling.{text_of};
 
     ghost output = { λ fault. Some (text_of fault) };
 
@@ -276,7 +284,7 @@ fn answer_by<F: SettingsFiles, R: Read, W: Write, C: Clock>(
     ensures read { IsErrOf result (ProgramFault.Connection ServeFault.Read) → input.new.faults ≡ counted input.old.faults }
     ensures write { IsErrOf result (ProgramFault.Connection ServeFault.Write) → output.new.faults ≡ counted output.old.faults }
     ensures does { (used : Outside) × C.gave clock.old used.readings clock.new
-        × DoesLine (λ path text. F.gave files.old path text files.new) (Line.Answer path.entry hex now) (R.remaining input.old.inner) (R.remaining input.new.inner) (W.contents output.old.inner) (W.contents output.new.inner) used result }
+        × AnswersBy (λ path text. F.gave files.old path text files.new) (option_copied path.entry) hex now (R.remaining input.old.inner) (R.remaining input.new.inner) (W.contents output.old.inner) (W.contents output.new.inner) used result }
 {
     let settings = match settings_at(alloc, path, files) {
         Ok(settings) => settings,
@@ -288,49 +296,92 @@ fn answer_by<F: SettingsFiles, R: Read, W: Write, C: Clock>(
     }
 }
 
+/// Serves so many connections by the settings of the file at a path, over an archive that holds nothing.
+fn serve_by<F: SettingsFiles, N: Network, C: Clock, E: Write>(
+    alloc: Global,
+    path: &str,
+    connections: u32,
+    files: &mut F,
+    network: &mut N,
+    clock: &mut C,
+    errors: &mut Counted<E>,
+) -> Result<(), ProgramFault>
+    ensures serves { ServesBy (record { accepted = N.Listener.accepted; closed = N.Listener.closed; gave = C.gave; unread = N.Listener.Reader.remaining; written = N.Listener.Writer.contents; held = store_of }) N.listened E.contents
+        (λ path text. F.gave files.old path text files.new) path.now connections network.old network.new clock.old clock.new errors.old errors.new result }
+    ensures connection { (fault : ServeFault) → IsErrOf result (ProgramFault.Connection fault) → ⊥ }
+{
+    let settings = match settings_at(alloc, Some(path), files) {
+        Ok(settings) => settings,
+        Err(fault) => return Err(fault),
+    };
+    let mut archive = archive_of(alloc, &settings);
+    serve_at(
+        alloc,
+        &settings,
+        &mut archive,
+        connections,
+        network,
+        clock,
+        errors,
+    )
+}
+
 /// Does what a line says.
-fn do_line<F: SettingsFiles, R: Read, W: Write, C: Clock>(
+fn do_line<F: SettingsFiles, N: Network, R: Read, W: Write, E: Write, C: Clock>(
     alloc: Global,
     line: Line<'_>,
     files: &mut F,
+    network: &mut N,
     input: &mut Counted<R>,
     output: &mut Counted<W>,
+    errors: &mut Counted<E>,
     clock: &mut C,
 ) -> Result<(), ProgramFault>
     ensures read { IsErrOf result (ProgramFault.Connection ServeFault.Read) → input.new.faults ≡ counted input.old.faults }
     ensures write { IsErrOf result (ProgramFault.Connection ServeFault.Write) → output.new.faults ≡ counted output.old.faults }
-    ensures does { (used : Outside) × C.gave clock.old used.readings clock.new
-        × DoesLine (λ path text. F.gave files.old path text files.new) line.entry (R.remaining input.old.inner) (R.remaining input.new.inner) (W.contents output.old.inner) (W.contents output.new.inner) used result }
+    ensures does { DoesLine (record { accepted = N.Listener.accepted; closed = N.Listener.closed; gave = C.gave; unread = N.Listener.Reader.remaining; written = N.Listener.Writer.contents; held = store_of }) N.listened E.contents
+        (λ path text. F.gave files.old path text files.new) line.entry
+        (record { unread = R.remaining input.old.inner; written = W.contents output.old.inner; network = network.old; clock = clock.old; errors = errors.old })
+        (record { unread = R.remaining input.new.inner; written = W.contents output.new.inner; network = network.new; clock = clock.new; errors = errors.new }) result }
 {
     match line {
         Line::Answer { settings, hex, now } => answer_by(
             alloc, settings, hex, now, files, input, output, clock,
         ),
+        Line::Serve {
+            settings,
+            connections,
+        } => serve_by(alloc, settings, connections, files, network, clock, errors),
     }
 }
 
 /// Does what a command line asks for. Where that names a file of settings, it is read first; where it gives a moment, the
-/// clock isn't read.
+/// clock isn't read. What a connection over the network ended by is told on `errors` when it ends.
 ///
 /// Errors: `Line` where the words are no command, `File` and `Settings` where the settings file can't be read or is refused,
-/// `BadHex` where the input is to be hex and isn't, `Connection` where the connection met a fault; what went out before it
-/// stands.
+/// `Address` where the settings' address is none or can't be listened at, `BadHex` where the input is to be hex and isn't,
+/// `Connection` where the connection of standard input met a fault; what went out before it stands.
 #[tactic(auto, using(crate::proofs::Printing::lines))]
-pub fn run<S: AsStr, F: SettingsFiles, R: Read, W: Write, C: Clock>(
+pub fn run<S: AsStr, F: SettingsFiles, N: Network, R: Read, W: Write, E: Write, C: Clock>(
     alloc: Global,
     words: &[S],
     files: &mut F,
+    network: &mut N,
     input: &mut Counted<R>,
     output: &mut Counted<W>,
+    errors: &mut Counted<E>,
     clock: &mut C,
 ) -> Result<(), ProgramFault>
     ensures read { IsErrOf result (ProgramFault.Connection ServeFault.Read) → input.new.faults ≡ counted input.old.faults }
     ensures write { IsErrOf result (ProgramFault.Connection ServeFault.Write) → output.new.faults ≡ counted output.old.faults }
-    ensures runs { (used : Outside) × C.gave clock.old used.readings clock.new
-        × Runs (fault_kinds uahist (map S.text words.now)) (takes uahist (map S.text words.now)) (subcommand_of uahist (map S.text words.now)) (λ path text. F.gave files.old path text files.new) (R.remaining input.old.inner) (R.remaining input.new.inner) (W.contents output.old.inner) (W.contents output.new.inner) used result }
+    ensures runs { Runs (fault_kinds uahist (map S.text words.now)) (takes uahist (map S.text words.now)) (subcommand_of uahist (map S.text words.now))
+        (record { accepted = N.Listener.accepted; closed = N.Listener.closed; gave = C.gave; unread = N.Listener.Reader.remaining; written = N.Listener.Writer.contents; held = store_of }) N.listened E.contents
+        (λ path text. F.gave files.old path text files.new)
+        (record { unread = R.remaining input.old.inner; written = W.contents output.old.inner; network = network.old; clock = clock.old; errors = errors.old })
+        (record { unread = R.remaining input.new.inner; written = W.contents output.new.inner; network = network.new; clock = clock.new; errors = errors.new }) result }
 {
     match read_line(alloc, words) {
-        Ok(line) => do_line(alloc, line, files, input, output, clock),
+        Ok(line) => do_line(alloc, line, files, network, input, output, errors, clock),
         Err(fault) => Err(ProgramFault::Line(fault)),
     }
 }
@@ -366,7 +417,7 @@ pub fn report<W: Write>(ending: Result<(), ProgramFault>, errors: &mut Counted<W
         | ProgramFault::File
         | ProgramFault::Settings(..)
         | ProgramFault::BadHex => 2,
-        ProgramFault::Connection(_) => 1,
+        ProgramFault::Address | ProgramFault::Connection(_) => 1,
     }
 }
 

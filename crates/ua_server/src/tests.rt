@@ -1,4 +1,5 @@
 mod clients;
+mod network;
 mod rows;
 mod runs;
 

@@ -1,5 +1,6 @@
 //! Command lines, settings files and what runs print.
 
+use super::network::{Client, Machine};
 use super::rows::{ACK, ANSWER, HELLO, OPEN, OPENED, REQUEST};
 use super::{Narrow, Ticking, is_joined, joined};
 use crate::{
@@ -10,7 +11,7 @@ use std::alloc::Global;
 use std::test::Fail;
 
 /// Command lines, and what they are.
-static LINES: [(&[&str], Result<Line<'static>, LineFault>); 22] = [
+static LINES: [(&[&str], Result<Line<'static>, LineFault>); 31] = [
     (
         &["uahist", "answer"],
         Ok(Line::Answer {
@@ -94,6 +95,59 @@ static LINES: [(&[&str], Result<Line<'static>, LineFault>); 22] = [
         &["uahist", "answer", "--hex", "--hex"],
         Err(LineFault::Words),
     ),
+    (
+        &["uahist", "serve", "--settings", "plant.toml"],
+        Ok(Line::Serve {
+            settings: "plant.toml",
+            connections: u32::MAX,
+        }),
+    ),
+    (
+        &[
+            "uahist",
+            "serve",
+            "--connections",
+            "4294967295",
+            "--settings=a",
+        ],
+        Ok(Line::Serve {
+            settings: "a",
+            connections: u32::MAX,
+        }),
+    ),
+    (
+        &["uahist", "serve", "--settings", "a", "--connections", "1"],
+        Ok(Line::Serve {
+            settings: "a",
+            connections: 1,
+        }),
+    ),
+    (&["uahist", "serve"], Err(LineFault::Words)),
+    (
+        &["uahist", "serve", "--connections", "1"],
+        Err(LineFault::Words),
+    ),
+    (
+        &["uahist", "serve", "--settings", "a", "--connections", "0"],
+        Err(LineFault::Words),
+    ),
+    (
+        &[
+            "uahist",
+            "serve",
+            "--settings=a",
+            "--connections=4294967296",
+        ],
+        Err(LineFault::Words),
+    ),
+    (
+        &["uahist", "serve", "--settings", "a", "--hex"],
+        Err(LineFault::Words),
+    ),
+    (
+        &["uahist", "answer", "--connections", "1"],
+        Err(LineFault::Words),
+    ),
 ];
 
 #[test]
@@ -104,7 +158,7 @@ fn reads_lines(rt: HostRuntime) {
 }
 
 /// Command lines, the input, the room of the output, what it has then, what is said, and the exit status.
-static RUNS: [(&[&str], &[u8], usize, &str, &str, u8); 12] = [
+static RUNS: [(&[&str], &[u8], usize, &str, &str, u8); 17] = [
     (
         &["uahist", "answer", "--hex"],
         b"474554202F000000",
@@ -151,7 +205,7 @@ static RUNS: [(&[&str], &[u8], usize, &str, &str, u8); 12] = [
         b"",
         1000,
         "",
-        "uahist: usage: uahist answer [--settings FILE] [--hex] [--now N]\n",
+        "uahist: usage: uahist answer [--settings FILE] [--hex] [--now N] | serve --settings FILE [--connections N]\n",
         2,
     ),
     (
@@ -194,10 +248,65 @@ static RUNS: [(&[&str], &[u8], usize, &str, &str, u8); 12] = [
         "uahist: bad hex\n",
         2,
     ),
+    (
+        &["uahist", "serve", "--settings", "none"],
+        b"",
+        1000,
+        "",
+        "uahist: settings file can't be read\n",
+        2,
+    ),
+    (
+        &["uahist", "serve", "--settings", "short"],
+        b"",
+        1000,
+        "",
+        "uahist: settings refused (2)\nuahist: [server] namespace\n",
+        2,
+    ),
+    (
+        &["uahist", "serve", "--settings", "good"],
+        b"",
+        1000,
+        "",
+        "uahist: address refused\n",
+        1,
+    ),
+    (
+        &["uahist", "serve", "--settings", "busy"],
+        b"",
+        1000,
+        "",
+        "uahist: address refused\n",
+        1,
+    ),
+    (
+        &[
+            "uahist",
+            "serve",
+            "--settings",
+            "open",
+            "--connections",
+            "3",
+        ],
+        b"",
+        1000,
+        "",
+        "uahist: connection ended (2)\nuahist: connection ended (1)\n",
+        0,
+    ),
 ];
 
 /// Settings files that are kept in memory: their names, and their texts.
-static FILES: [(&str, &str); 3] = [
+static FILES: [(&str, &str); 5] = [
+    (
+        "open",
+        "[archive]\nid = '00000000000000000000000000000000'\nreplica = 1\n[server]\nlisten = '127.0.0.1:4840'\nurl = ''\napplication = ''\nnamespace = ''\nanonymous = true\n",
+    ),
+    (
+        "busy",
+        "[archive]\nid = '00000000000000000000000000000000'\nreplica = 1\n[server]\nlisten = '[::1]:4841'\nurl = ''\napplication = ''\nnamespace = ''\nanonymous = true\n",
+    ),
     (
         "good",
         "[archive]\nid = '00000000000000000000000000000000'\nreplica = 1\n[server]\nlisten = ''\nurl = ''\napplication = ''\nnamespace = ''\nanonymous = true\n",
@@ -225,6 +334,28 @@ impl SettingsFiles for Kept {
     }
 }
 
+/// Over the network come a client that ends well, one that takes no answer, and then nobody.
+static CALLERS: [Option<Client<'static>>; 2] = [
+    Some(Client {
+        bytes: b"GET /\0\0\0",
+        breaks: false,
+        room: 100,
+    }),
+    Some(Client {
+        bytes: b"GET /\0\0\0",
+        breaks: false,
+        room: 0,
+    }),
+];
+
+/// They come to this machine.
+fn machine(alloc: Global) -> Machine<'static> {
+    Machine {
+        alloc,
+        clients: &CALLERS,
+    }
+}
+
 /// What a run prints begins so, and this is said.
 fn is_run(
     alloc: Global,
@@ -245,8 +376,10 @@ fn is_run(
         alloc,
         words,
         &mut Kept(alloc),
+        &mut machine(alloc),
         &mut reader,
         &mut writer,
+        &mut errors,
         &mut ConstantClock(116_444_736_000_000_000),
     );
     report(ending, &mut errors) == status
@@ -278,8 +411,10 @@ fn runs_at_a_moment(rt: HostRuntime) -> Result<(), Fail> {
         rt.alloc(),
         &words,
         &mut Kept(rt.alloc()),
+        &mut machine(rt.alloc()),
         &mut reader,
         &mut writer,
+        &mut Counted::new(Vec::new(rt.alloc())),
         &mut Ticking(7),
     );
     assert!(rt; ending.is_ok());

@@ -1,7 +1,6 @@
 use Rattle.std.proofs.Common.{Err, ap, refl}
-use Rattle.ua_server.proofs.Outsides.{nothing}
 use Rattle.ua_server.proofs.Printing.{line-refused}
 use Rattle.ua_server.proofs.program.run.Goals as goal
 
 pub returns-in-Err-clause-runs : goal.returns-in-Err-clause-runs
-returns-in-Err-clause-runs g c = (nothing, g.met.C.Clock.gave_none c.args.clock.now, (line-refused _ _ c.in-Err.fault (λ e. c.in-Err.ensures.words (ap Err e)), refl))
+returns-in-Err-clause-runs g c = (line-refused _ _ c.in-Err.fault (λ e. c.in-Err.ensures.words (ap Err e)), refl, refl)

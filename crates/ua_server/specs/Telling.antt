@@ -1,0 +1,77 @@
+-- What a run of the program tells on standard error, and its exit status.
+use Rattle.std.specs.Prelude.{◌≡◌, ℕ, List, [], ◌∷◌, ◌++◌, Option, None, Some, Result, Ok, Err, ◌⊎◌, codes}
+use Rattle.std.specs.Io.KnownBytes.{Appends}
+use Rattle.ua_server.specs.declared.outcome.ServeFault.TheVariants.{Read, Write, TooLong, OutOfMemory}
+use Rattle.ua_server.specs.declared.program.ProgramFault.{ProgramFault}
+use Rattle.ua_server.specs.declared.program.ProgramFault.TheVariants.{Line, File, Settings, BadHex, Address, Connection}
+use Rattle.ua_server.specs.declared.line.LineFault.{LineFault}
+use Rattle.ua_server.specs.declared.line.LineFault.TheVariants.{Words, OutOfMemory as NoMemory}
+use Rattle.ua_server.specs.Bytes.{AppendsPart, counted}
+use Rattle.ua_server.specs.Tally.{Tally}
+use Rattle.ua_settings.specs.declared.fault.SettingsFault.{SettingsFault}
+use Rattle.ua_settings.specs.declared.fault.SettingsFault.TheVariants as refused
+
+abbrev pub fault_status : ProgramFault → ℕ
+fault_status (Line fault) = 2
+fault_status File = 2
+fault_status (Settings fault place) = 2
+fault_status BadHex = 2
+fault_status Address = 1
+fault_status (Connection fault) = 1
+
+abbrev pub status_of : Result (Unit {0}) ProgramFault → ℕ
+status_of (Ok done) = 0
+status_of (Err fault) = fault_status fault
+
+-- the text that tells a refused command line
+abbrev pub line_text_of : LineFault → List ℕ
+line_text_of Words = codes "usage: uahist answer [--settings FILE] [--hex] [--now N] | serve --settings FILE [--connections N]"
+line_text_of NoMemory = codes "memory ran out before the command began"
+
+-- the text that tells refused settings
+abbrev pub refusal_text : SettingsFault → List ℕ
+refusal_text refused.NotToml = codes "settings refused (1)"
+refusal_text refused.MissingKey = codes "settings refused (2)"
+refusal_text refused.BadValue = codes "settings refused (3)"
+refusal_text refused.UnknownKey = codes "settings refused (4)"
+refusal_text (refused.Space fault) = codes "settings refused (5)"
+refusal_text refused.OutOfMemory = codes "settings refused (6)"
+
+-- the text that tells a fault
+abbrev pub text_of : ProgramFault → List ℕ
+text_of (Line fault) = line_text_of fault
+text_of File = codes "settings file can't be read"
+text_of (Settings fault place) = refusal_text fault
+text_of BadHex = codes "bad hex"
+text_of Address = codes "address refused"
+text_of (Connection Read) = codes "connection ended (1)"
+text_of (Connection Write) = codes "connection ended (2)"
+text_of (Connection TooLong) = codes "connection ended (3)"
+text_of (Connection OutOfMemory) = codes "connection ended (4)"
+
+-- where settings are refused
+abbrev pub place_of : ProgramFault → Option (List ℕ)
+place_of (Line fault) = None
+place_of File = None
+place_of (Settings fault place) = place
+place_of BadHex = None
+place_of Address = None
+place_of (Connection fault) = None
+
+-- a line of the program's
+abbrev pub told_line : List ℕ → List ℕ
+told_line text = codes "uahist: " ++ (text ++ 10 ∷ [])
+
+abbrev pub place_line : Option (List ℕ) → List ℕ
+place_line None = []
+place_line (Some place) = told_line place
+
+-- what standard error has of a fault: a line, and a second one where settings are refused
+abbrev pub error_lines : ProgramFault → List ℕ
+error_lines fault = told_line (text_of fault) ++ place_line (place_of fault)
+
+-- the whole line was written, or a first part of it, and one call more failed
+abbrev pub IsTold : {W : Type 0} → (W → Option (List ℕ)) → Tally W → Tally W → List ℕ → Type 0
+IsTold contents old new line =
+    (Appends (contents old.inner) (contents new.inner) line × (new.faults ≡ old.faults))
+    ⊎ (AppendsPart (contents old.inner) (contents new.inner) line × (new.faults ≡ counted old.faults))
