@@ -60,7 +60,8 @@ impl<'a> Listener for Clients<'a> {
         Some((reader, writer))
     }
 
-    fn close(&mut self, _reader: Counted<Slow<'a>>, writer: Counted<Narrow>) {
+    fn close(&mut self, reader: Counted<Slow<'a>>, writer: Counted<Narrow>) {
+        drop(reader);
         let _ = self.written.push(writer.into_inner().bytes);
     }
 }
