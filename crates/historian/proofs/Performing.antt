@@ -137,18 +137,11 @@ performs-here s service sessions result (used, told, faultless, does, tells) = (
 
 -- ---- messages
 
-pub told-unread : (fault : BinaryFault) → (status_of fault ≡ BAD_DECODING_ERROR) ⊎ (status_of fault ≡ BAD_OUT_OF_MEMORY)
-told-unread binary.OutOfMemory = inr refl
-told-unread fault = inl refl
-
 -- a message that is no request
-pub performs-none : (s : Store) (site : Site) (now : Ticks) (message : List ℕ) (sessions : State) (why status : Status) (result : Result Made Status)
-    → request_in message ≡ Err why → (status ≡ why) ⊎ (status ≡ BAD_OUT_OF_MEMORY) → result ≡ Err status → Performs s s (answered site now message sessions) sessions result
-performs-none s site now message sessions why status result none told is =
-    let P : Result Made Status → Type 0 = Performs s s (answered site now message sessions) sessions in
-    let does : (R : Content) → Does (answered site now message sessions R) [] ((Err why, sessions), R) = λ R. subst (λ q. Does (answered_request site now q sessions R) [] ((Err why, sessions), R)) (sym none) (record { does = λ later. refl }) in
-    subst P (sym is) (performs-here s (answered site now message sessions) sessions (Err status)
-    ([], Err why, refl, does, elim told [ inl same ↦ inl (ap Err (sym same)) | inr starved ↦ inr starved ]))
+pub performs-none : (s : Store) (site : Site) (now : Ticks) (sessions : State) (status : Status) (result : Result Made Status) → result ≡ Err status → Performs s s (answered_request site now (Err status) sessions) sessions result
+performs-none s site now sessions status result is =
+    let P : Result Made Status → Type 0 = Performs s s (answered_request site now (Err status) sessions) sessions in
+    subst P (sym is) (performs-here s (answered_request site now (Err status) sessions) sessions (Err status) ([], Err status, refl, λ R. record { does = λ later. refl }, inl refl))
 
 -- ---- services of a session
 

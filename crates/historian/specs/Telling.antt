@@ -1,7 +1,7 @@
 -- How the services' functions tell what they came to.
 use Rattle.std.specs.Prelude.{◌≡◌, ◌⊎◌, ◌<◌, ◌^◌, ℕ, List, [], ◌∷◌, map, Option, Some, None, Result, Ok, Err}
 use Rattle.ua_binary.specs.declared.codes.Status.{Status}
-use Rattle.ua_binary.specs.declared.codes.TheConstants.Status.{BAD_OUT_OF_MEMORY, BAD_DECODING_ERROR}
+use Rattle.ua_binary.specs.declared.codes.TheConstants.Status.{BAD_OUT_OF_MEMORY, BAD_DECODING_ERROR, BAD_SERVICE_UNSUPPORTED}
 use Rattle.ua_services.specs.Endpoints.{endpoint_fields, AreShortEndpoints}
 use Rattle.ua_services.specs.Sessions.{session_made, IsShortSession}
 use Rattle.ua_services.specs.Browsing.{AreShortBrowsed}
@@ -12,13 +12,31 @@ use Rattle.ua_session.specs.Sessions.{State}
 use Rattle.records.specs.Contents.{Content}
 use Rattle.archive.specs.Store.{Store, Mark, faults_of}
 use Rattle.archive.specs.Steps.{Marked, Does, Acts}
+use Rattle.ua_binary.specs.declared.values.NodeIdRef.{NodeIdRef}
+use Rattle.ua_binary.specs.Binary.{node_of}
 use Rattle.historian.specs.declared.service.Service.{Service}
+use Rattle.historian.specs.declared.service.Request.{Request as Opened}
 use Rattle.historian.specs.declared.answer.Answer.{Answer as Made}
 use Rattle.historian.specs.declared.answer.Answer.TheVariants as made
 use Rattle.historian.specs.Answers.{Answer, Endpoints, Created, Activated, Closed, Browsed, Values, Updated, Histories, Response}
-use Rattle.historian.specs.Requests.{Call, call_in}
+use Rattle.historian.specs.Requests.{Call, call_in, Request}
 use Rattle.historian.specs.Reading.{Served}
 use Rattle.historian.specs.Services.{Outcome}
+
+-- what a message asks whose type id and header were read
+abbrev pub asked_of : Result Opened Status → Result Request Status
+asked_of (Ok request) = Ok (node_of request.token, call_in request.service request.body)
+asked_of (Err status) = Err status
+
+-- with a header that was read
+abbrev pub request_with : Option Service → NodeIdRef → List ℕ → Result Opened Status
+request_with (Some service) token body = Ok (record { service = service; token = token; body = body })
+request_with None token body = Err BAD_SERVICE_UNSUPPORTED
+
+-- and without
+abbrev pub refusal_of : Option Service → Status
+refusal_of (Some service) = BAD_DECODING_ERROR
+refusal_of None = BAD_SERVICE_UNSUPPORTED
 
 -- a request was read, or none fills the bytes, or memory was wanting
 abbrev pub Asks : {T : Type 0} → Service → (T → Call) → List ℕ → Result T Status → Type 0

@@ -16,7 +16,7 @@ mod updating;
 
 pub use message::answer_message;
 pub use responses::put_service_fault;
-pub use service::handle_of;
+pub use service::Message;
 
 #[cfg(test)]
 mod tests;

@@ -5,22 +5,21 @@ ghost use Rattle.ua_binary.specs.Binary.{node_of};
 ghost use Rattle.archive.specs.Store.{Mark};
 ghost use Rattle.archive.specs.Steps.{Acts};
 ghost use Rattle.historian.specs.Answers.{Response, response};
-ghost use Rattle.historian.specs.Requests.{call_in, handle_of};
-ghost use Rattle.historian.specs.Services.{site_of, answered_call, answered};
-ghost use Rattle.historian.specs.Telling.{IsShort, Performs};
+ghost use Rattle.historian.specs.Requests.{call_in};
+ghost use Rattle.historian.specs.Services.{site_of, answered_call, answered_request};
+ghost use Rattle.historian.specs.Telling.{IsShort, Performs, asked_of};
 
 use crate::answer::Answer;
 use crate::browsing::browse;
 use crate::histories::read_history;
 use crate::reading::read;
 use crate::responses::put_service_fault;
-use crate::service::{Service, service_of};
+use crate::service::{Message, Service};
 use crate::sessions::{activate_session, close_session, create_session, get_endpoints};
 use crate::updating::update_history;
 use archive::Archive;
 use std::alloc::{AllocError, Global};
 use ua_binary::{Cursor, NodeIdRef, Status, Ticks};
-use ua_channel::read_request_header;
 use ua_session::Sessions;
 use ua_settings::Settings;
 
@@ -55,38 +54,34 @@ fn serve<A: Archive>(
     }
 }
 
-/// Performs what a message asks, in the order type id, header, body, session, what the service asks.
+/// Performs what a message asks.
 fn perform<A: Archive>(
     alloc: Global,
     settings: &Settings,
     archive: &mut A,
     sessions: &mut Sessions,
     now: Ticks,
-    message: &[u8],
+    message: Message<'_>,
 ) -> Result<Answer, Status>
-    ensures performs { Performs (A.state archive.old) (A.state archive.new) (answered (site_of settings.now (A.state archive.old)) now message.now sessions.old) sessions.new result }
+    ensures performs { Performs (A.state archive.old) (A.state archive.new) (answered_request (site_of settings.now (A.state archive.old)) now (asked_of message.request) sessions.old) sessions.new result }
     ensures short { IfOk result IsShort }
 {
-    let mut request = Cursor::new(message);
-    let type_id = request.node_id()?;
-    let Some(service) = service_of(type_id) else {
-        return Err(Status::BAD_SERVICE_UNSUPPORTED);
-    };
-    let header = read_request_header(&mut request)?;
-    serve(
-        alloc,
-        settings,
-        archive,
-        sessions,
-        now,
-        service,
-        header.token,
-        request,
-    )
+    match message.request {
+        Ok(request) => serve(
+            alloc,
+            settings,
+            archive,
+            sessions,
+            now,
+            request.service,
+            request.token,
+            request.body,
+        ),
+        Err(status) => Err(status),
+    }
 }
 
-/// Answers a message of a client whose header has this handle (`handle_of`): performs what it asks, and makes the bytes of the
-/// response in `body`, which is empty.
+/// Answers a message of a client: performs what it asks, and makes the bytes of the response in `body`, which is empty.
 ///
 /// Where the type id can't be read, the service isn't served, or the header or the body can't be read, where the session
 /// isn't there or wasn't activated, and where the service refuses the request as a whole, the response is a ServiceFault
@@ -97,16 +92,15 @@ pub fn answer_message<A: Archive>(
     archive: &mut A,
     sessions: &mut Sessions,
     now: Ticks,
-    handle: u32,
-    message: &[u8],
+    message: Message<'_>,
     body: &mut Vec<u8>,
 ) -> Result<(), AllocError>
-    requires handle { handle ≡ handle_of message.now }
-    requires body { body.old.items ≡ [] }
+    requires { body.old.items ≡ [] }
     ensures { (used : List Mark) × (told : Response)
-        × Acts (A.state archive.old) (A.state archive.new) used (answered (site_of settings.now (A.state archive.old)) now message.now sessions.old) (told, sessions.new)
-        × OnOk result (body.new.items ≡ response now (handle_of message.now) told) }
+        × Acts (A.state archive.old) (A.state archive.new) used (answered_request (site_of settings.now (A.state archive.old)) now (asked_of message.request) sessions.old) (told, sessions.new)
+        × OnOk result (body.new.items ≡ response now message.handle told) }
 {
+    let handle = message.handle();
     let put = match perform(alloc, settings, archive, sessions, now, message) {
         Ok(answer) => answer.put(body, now, handle),
         Err(Status::BAD_OUT_OF_MEMORY) => return Err(AllocError),

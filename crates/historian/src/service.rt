@@ -2,9 +2,10 @@
 
 ghost use Rattle.std.specs.Prelude.{◌≡◌};
 ghost use Rattle.ua_binary.specs.Binary.{node_of};
-ghost use Rattle.historian.specs.Requests.{service_of, handle_of};
+ghost use Rattle.historian.specs.Requests.{service_of};
+ghost use Rattle.historian.specs.Telling.{request_with, refusal_of};
 
-use ua_binary::{Cursor, NodeIdRef};
+use ua_binary::{Cursor, NodeIdRef, Status};
 use ua_channel::read_request_header;
 
 /// The services that are served.
@@ -40,17 +41,87 @@ pub(crate) fn service_of(type_id: NodeIdRef<'_>) -> Option<Service>
     }
 }
 
-/// The handle that the answer to a message repeats: that of its header (Part 4, 7.33), 0 where its type id
-/// or its header can't be read. It takes no memory.
-pub fn handle_of(message: &[u8]) -> u32
-    ensures { result ≡ handle_of message.now }
-{
-    let mut cursor = Cursor::new(message);
-    if cursor.node_id().is_err() {
-        return 0;
+/// A request whose type id and header are read, and the bytes behind them.
+#[derive(Drop)]
+pub(crate) struct Request<'a> {
+    pub service: Service,
+    pub token: NodeIdRef<'a>,
+    pub body: Cursor<'a>,
+}
+
+/// A message of a client, whose type id and header (Part 4, 7.33) are read as far as they can be.
+#[derive(Drop)]
+pub struct Message<'a> {
+    handle: u32,
+    // the code that refuses it where it is no request
+    pub(crate) request: Result<Request<'a>, Status>,
+}
+
+impl<'a> Message<'a> {
+    ghost use Rattle.std.specs.Prelude.{◌≡◌};
+    ghost use Rattle.historian.specs.Requests.{handle_of, request_in};
+    ghost use Rattle.historian.specs.Telling.{asked_of};
+
+    /// Reads the type id and the header of a message. It takes no memory.
+    ///
+    /// It is no request where the type id can't be read (`BAD_DECODING_ERROR`), where that is no service's
+    /// (`BAD_SERVICE_UNSUPPORTED`), and where the header can't be read (`BAD_DECODING_ERROR`), in this order.
+    pub fn read(bytes: &'a [u8]) -> Message<'a>
+        ensures handle { result.handle ≡ handle_of bytes.now }
+        ensures request { asked_of result.request ≡ request_in bytes.now }
+    {
+        let mut cursor = Cursor::new(bytes);
+        let Ok(type_id) = cursor.node_id() else {
+            return Message {
+                handle: 0,
+                request: Err(Status::BAD_DECODING_ERROR),
+            };
+        };
+        let service = service_of(type_id);
+        match read_request_header(&mut cursor) {
+            Ok(header) => Message {
+                handle: header.handle,
+                request: request_for(service, header.token, cursor),
+            },
+            Err(_) => Message {
+                handle: 0,
+                request: Err(refusal_of(service)),
+            },
+        }
     }
-    match read_request_header(&mut cursor) {
-        Ok(header) => header.handle,
-        Err(_) => 0,
+
+    /// The handle that the answer repeats: that of the header, 0 where type id or header can't be read.
+    pub fn handle(&self) -> u32
+        ensures { result ≡ self.now.handle }
+    {
+        self.handle
+    }
+}
+
+/// The request for a service, where it is served.
+fn request_for<'a>(
+    service: Option<Service>,
+    token: NodeIdRef<'a>,
+    body: Cursor<'a>,
+) -> Result<Request<'a>, Status>
+    ensures { result ≡ request_with service token.entry body.entry }
+{
+    match service {
+        Some(service) => Ok(Request {
+            service,
+            token,
+            body,
+        }),
+        None => Err(Status::BAD_SERVICE_UNSUPPORTED),
+    }
+}
+
+/// Why a message whose header can't be read is refused.
+fn refusal_of(service: Option<Service>) -> Status
+    ensures { result ≡ refusal_of service }
+{
+    match service {
+        Some(_) => Status::BAD_DECODING_ERROR,
+        None => Status::BAD_SERVICE_UNSUPPORTED,
     }
 }

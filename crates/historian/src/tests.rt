@@ -81,8 +81,7 @@ impl Server {
             &mut self.archive,
             &mut self.sessions,
             Ticks(NOW),
-            handle_of(message.as_slice()),
-            message.as_slice(),
+            Message::read(message.as_slice()),
             &mut out,
         )?;
         Ok(hex::encode_upper(alloc, out.as_slice())?)
