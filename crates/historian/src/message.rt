@@ -63,7 +63,7 @@ fn perform<A: Archive>(
     now: Ticks,
     message: Message<'_>,
 ) -> Result<Answer, Status>
-    ensures performs { Performs (A.state archive.old) (A.state archive.new) (answered_request (site_of settings.now (A.state archive.old)) now (asked_of message.request) sessions.old) sessions.new result }
+    ensures performs { Performs (A.state archive.old) (A.state archive.new) (answered_request (site_of settings.now (A.state archive.old)) now (asked_of message.entry.request) sessions.old) sessions.new result }
     ensures short { IfOk result IsShort }
 {
     match message.request {
@@ -97,8 +97,8 @@ pub fn answer_message<A: Archive>(
 ) -> Result<(), AllocError>
     requires { body.old.items ≡ [] }
     ensures { (used : List Mark) × (told : Response)
-        × Acts (A.state archive.old) (A.state archive.new) used (answered_request (site_of settings.now (A.state archive.old)) now (asked_of message.request) sessions.old) (told, sessions.new)
-        × OnOk result (body.new.items ≡ response now message.handle told) }
+        × Acts (A.state archive.old) (A.state archive.new) used (answered_request (site_of settings.now (A.state archive.old)) now (asked_of message.entry.request) sessions.old) (told, sessions.new)
+        × OnOk result (body.new.items ≡ response now message.entry.handle told) }
 {
     let handle = message.handle();
     let put = match perform(alloc, settings, archive, sessions, now, message) {
