@@ -9,3 +9,5 @@ pub mod Printing
 pub mod Counting
 pub mod Tried
 pub mod Networks
+pub mod DumpLemmas
+pub mod Opened

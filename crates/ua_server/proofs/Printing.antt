@@ -14,16 +14,24 @@ use Rattle.ua_server.specs.declared.hexed.HexFault.{HexFault}
 use Rattle.ua_server.specs.declared.hexed.HexFault.TheVariants as hexed
 use Rattle.ua_server.specs.declared.program.ProgramFault.{ProgramFault}
 use Rattle.ua_server.specs.declared.program.ProgramFault.TheVariants.{Line, File, Settings, BadHex, Address, Connection}
-use Rattle.ua_server.specs.declared.line.Line.TheVariants.{Answer, Serve}
+use Rattle.ua_server.specs.declared.program.ProgramFault.TheVariants as program
+use Rattle.ua_server.specs.declared.dumps.DumpFault.{DumpFault}
+use Rattle.ua_server.specs.declared.dumps.DumpFault.TheVariants as dump
+use Rattle.ua_server.specs.declared.line.Line.TheVariants.{Answer, Serve, Dump}
 use Rattle.ua_server.specs.declared.line.LineFault.{LineFault}
 use Rattle.ua_server.specs.declared.line.LineFault.TheVariants.{Words, OutOfMemory as NoMemory}
 use Rattle.ua_server.specs.Line.{IsLine, IsNoCommand}
 use Rattle.clap.specs.declared.error.ErrorKind.{ErrorKind}
 use Rattle.ua_settings.specs.Settings.{Values}
+use Rattle.archive.specs.Store.{Store}
+use Rattle.archive.specs.Steps.{Moves}
+use Rattle.archive.proofs.Acting.{moves-none}
 use Rattle.archive.specs.Listed.{Listed, store_of}
 use Rattle.ua_server.specs.Given.{Outside}
-use Rattle.ua_server.specs.Hexed.{AnswersHex, digits_of}
-use Rattle.ua_server.specs.Program.{empty_of, AnswersFirst, AnswersDigits, IsUnmade, IsBadText, IsUnbegun, SettingsAt, Continues, ServesSet, Scene, program_result, IsRefused, DoesLine, Runs}
+use Rattle.ua_server.specs.Client.{Ending}
+use Rattle.ua_server.proofs.Outsides.{nothing}
+use Rattle.ua_server.specs.Hexed.{AnswersText, AnswersHex, IsUntouched, digits_of}
+use Rattle.ua_server.specs.Program.{empty_of, AnswersDigits, IsAnswered, IsUnmade, IsBadText, IsUnbegun, SettingsAt, Machine, OverStore, By, Scene, program_result, dump_result, IsRefused, DoesLine, Runs}
 use Rattle.ua_server.specs.Tally.{Tally}
 use Rattle.ua_server.specs.Network.{Means}
 use Rattle.std.specs.declared.net.socket_addr.SocketAddr.{SocketAddr}
@@ -50,11 +58,15 @@ part-after (Err fault) old middle written first second whole part = part-second 
 
 -- ---- why no digits were made
 
-pub made-read : (settings : Values) (known : Option (List ℕ)) (used : Outside) (fault : ServeFault) → (fault ≡ Write → ⊥) → (fault ≡ TooLong → ⊥) → IsUnmade settings known used (hexed.Serve fault)
-made-read settings known used Read write long = tt
-made-read settings known used Write write long = absurd (write refl)
-made-read settings known used TooLong write long = absurd (long refl)
-made-read settings known used OutOfMemory write long = tt
+-- nothing was done
+pub idle : (s : Store) (used : Outside) → used.marks ≡ [] → used.readings ≡ [] → IsUntouched s s used
+idle s used marks readings = (moves-none s (λ R S. S ≡ R) (λ R. refl), readings)
+
+pub made-read : (settings : Values) (s : Store) (known : Option (List ℕ)) (fault : ServeFault) → (fault ≡ Write → ⊥) → (fault ≡ TooLong → ⊥) → IsUnmade settings s s known nothing (hexed.Serve fault)
+made-read settings s known Read write long = idle s nothing refl refl
+made-read settings s known Write write long = absurd (write refl)
+made-read settings s known TooLong write long = absurd (long refl)
+made-read settings s known OutOfMemory write long = inl (idle s nothing refl refl)
 
 -- all bytes of a known input were read
 whole-text : (text rest bytes : List ℕ) → text ≡ bytes ++ rest → rest ≡ [] → bytes ≡ text
@@ -74,42 +86,48 @@ unspelled (Some text) (Some rest) bytes read over bad =
     let P : List ℕ → Type 0 = λ t. IsErr (decode_of (digits_of t)) in
     inr (subst P (whole-text text rest bytes read over) bad)
 
-unmade : (settings : Values) (known left : Option (List ℕ)) (last : Listed) (bytes : List ℕ) (used : Outside) (old new : List ℕ) (fault : HexFault) → Consumes known left bytes → IsAtEnd left
-    → AnswersHex settings (store_of (empty_of settings)) (store_of last) bytes used old new (Err fault) → IsUnmade settings known used fault
-unmade settings known left last bytes used old new hexed.BadHex read over so = unspelled known left bytes read over so.0
-unmade settings known left last bytes used old new (hexed.Serve Read) read over so = absurd so
-unmade settings known left last bytes used old new (hexed.Serve Write) read over so = absurd so
-unmade settings None left last bytes used old new (hexed.Serve TooLong) read over so = tt
-unmade settings (Some text) None last bytes used old new (hexed.Serve TooLong) read over so = absurd read
-unmade settings (Some text) (Some rest) last bytes used old new (hexed.Serve TooLong) read over so =
-    let P : List ℕ → Type 0 = λ t. (out : List ℕ) × AnswersFirst settings t used out (Err TooLong) in
-    subst P (whole-text text rest bytes read over) (so.0.0, (last, so.0.1))
-unmade settings known left last bytes used old new (hexed.Serve OutOfMemory) read over so = tt
+module _ (settings : Values) (first last : Store) where
+  -- what was answered to the bytes that were read was answered to the known input
+  answered-known : (known left : Option (List ℕ)) (bytes : List ℕ) (used : Outside) (out : List ℕ) (ending : Ending) (P : Ending → Type 0) → Consumes known left bytes → IsAtEnd left → AnswersText settings first last bytes used out ending → P ending
+      → IsAnswered settings first last known used P
+  answered-known None left bytes used out ending P read over answers so = tt
+  answered-known (Some text) None bytes used out ending P read over answers so = absurd read
+  answered-known (Some text) (Some rest) bytes used out ending P read over answers so =
+      (out, ending, subst (λ t. AnswersText settings first last t used out ending) (whole-text text rest bytes read over) answers, so)
 
-pub made-none : (settings : Values) (known left : Option (List ℕ)) (first last : Listed) (text bytes : List ℕ) (used : Outside) (old new : List ℕ) (result : Result Served HexFault) (fault : HexFault) → first ≡ empty_of settings → Consumes known left bytes → IsAtEnd left
-    → text ≡ bytes → result ≡ Err fault → AnswersHex settings (store_of first) (store_of last) text used old new result → IsUnmade settings known used fault
-made-none settings known left first last text bytes used old new result fault begins read over same is so =
-    let B : Listed → Type 0 = λ f. AnswersHex settings (store_of f) (store_of last) text used old new result in
-    let P : Result Served HexFault → Type 0 = AnswersHex settings (store_of (empty_of settings)) (store_of last) text used old new in
-    let Q : List ℕ → Type 0 = λ t. AnswersHex settings (store_of (empty_of settings)) (store_of last) t used old new (Err fault) in
-    unmade settings known left last bytes used old new fault read over (subst Q same (subst P is (subst B begins so)))
+  unmade : (known left : Option (List ℕ)) (bytes : List ℕ) (used : Outside) (old new : List ℕ) (fault : HexFault) → Consumes known left bytes → IsAtEnd left
+      → AnswersHex settings first last bytes used old new (Err fault) → IsUnmade settings first last known used fault
+  unmade known left bytes used old new hexed.BadHex read over so = (unspelled known left bytes read over so.0, so.2)
+  unmade known left bytes used old new (hexed.Serve Read) read over so = absurd so
+  unmade known left bytes used old new (hexed.Serve Write) read over so = absurd so
+  unmade known left bytes used old new (hexed.Serve TooLong) read over so = answered-known known left bytes used so.0.0 (Err TooLong) (λ ending. ending ≡ Err TooLong) read over so.0.1 refl
+  unmade known left bytes used old new (hexed.Serve OutOfMemory) read over so = elim so.1 [
+    | inl quiet ↦ inl quiet
+    | inr done ↦ inr (answered-known known left bytes used done.0 done.1 (λ ending. Unit {0}) read over done.2 tt)
+  ]
 
--- the digits that were made
-made : (settings : Values) (known left : Option (List ℕ)) (last : Listed) (bytes : List ℕ) (used : Outside) (old new : List ℕ) (served : Served) → Consumes known left bytes → IsAtEnd left → old ≡ []
-    → AnswersHex settings (store_of (empty_of settings)) (store_of last) bytes used old new (Ok served) → AnswersDigits settings known used new
-made settings None left last bytes used old new served read over none so = tt
-made settings (Some text) None last bytes used old new served read over none so = absurd read
-made settings (Some text) (Some rest) last bytes used old new served read over none so =
-    let P : List ℕ → Type 0 = λ t. AnswersFirst settings t used so.0 (Ok served) in
-    (so.0, served, subst P (whole-text text rest bytes read over) (last, so.1), so.2 ∙ ap (λ (front : List ℕ). front ++ encode_upper so.0) none)
+  pub made-none : (known left : Option (List ℕ)) (text bytes : List ℕ) (used : Outside) (old new : List ℕ) (result : Result Served HexFault) (fault : HexFault) → Consumes known left bytes → IsAtEnd left → text ≡ bytes → result ≡ Err fault
+      → AnswersHex settings first last text used old new result → IsUnmade settings first last known used fault
+  made-none known left text bytes used old new result fault read over same is so =
+      let P : Result Served HexFault → Type 0 = AnswersHex settings first last text used old new in
+      let Q : List ℕ → Type 0 = λ t. AnswersHex settings first last t used old new (Err fault) in
+      unmade known left bytes used old new fault read over (subst Q same (subst P is so))
 
-pub made-digits : (settings : Values) (known left : Option (List ℕ)) (first last : Listed) (text bytes : List ℕ) (used : Outside) (old new : List ℕ) (result : Result Served HexFault) (served : Served) → first ≡ empty_of settings → Consumes known left bytes → IsAtEnd left
-    → text ≡ bytes → old ≡ [] → result ≡ Ok served → AnswersHex settings (store_of first) (store_of last) text used old new result → AnswersDigits settings known used new
-made-digits settings known left first last text bytes used old new result served begins read over same none is so =
-    let B : Listed → Type 0 = λ f. AnswersHex settings (store_of f) (store_of last) text used old new result in
-    let P : Result Served HexFault → Type 0 = AnswersHex settings (store_of (empty_of settings)) (store_of last) text used old new in
-    let Q : List ℕ → Type 0 = λ t. AnswersHex settings (store_of (empty_of settings)) (store_of last) t used old new (Ok served) in
-    made settings known left last bytes used old new served read over none (subst Q same (subst P is (subst B begins so)))
+  -- the digits that were made
+  made : (known left : Option (List ℕ)) (bytes : List ℕ) (used : Outside) (old new : List ℕ) (served : Served) → Consumes known left bytes → IsAtEnd left → old ≡ [] → AnswersHex settings first last bytes used old new (Ok served)
+      → AnswersDigits settings first last known used new
+  made None left bytes used old new served read over none so = tt
+  made (Some text) None bytes used old new served read over none so = absurd read
+  made (Some text) (Some rest) bytes used old new served read over none so =
+      let P : List ℕ → Type 0 = λ t. AnswersText settings first last t used so.0 (Ok served) in
+      (so.0, served, subst P (whole-text text rest bytes read over) so.1, so.2 ∙ ap (λ (front : List ℕ). front ++ encode_upper so.0) none)
+
+  pub made-digits : (known left : Option (List ℕ)) (text bytes : List ℕ) (used : Outside) (old new : List ℕ) (result : Result Served HexFault) (served : Served) → Consumes known left bytes → IsAtEnd left → text ≡ bytes → old ≡ [] → result ≡ Ok served
+      → AnswersHex settings first last text used old new result → AnswersDigits settings first last known used new
+  made-digits known left text bytes used old new result served read over same none is so =
+      let P : Result Served HexFault → Type 0 = AnswersHex settings first last text used old new in
+      let Q : List ℕ → Type 0 = λ t. AnswersHex settings first last t used old new (Ok served) in
+      made known left bytes used old new served read over none (subst Q same (subst P is so))
 
 pub line-refused : (taken : Bool) (matches : Option (Text × List Row)) (fault : LineFault) → (fault ≡ Words → taken ≡ true → IsNoCommand matches) → IsRefused taken matches fault
 line-refused taken matches Words told = told refl
@@ -127,44 +145,52 @@ unset reads None fault so = so
 unset reads (Some path) fault (None, read, so) = cc
 unset reads (Some path) fault (Some text, read, so) = absurd so
 
-answered-line : (answered : Result (Unit {0}) HexFault) (line : LineFault) (result : Result (Unit {0}) ProgramFault) → result ≡ Err (Line line) → result ≡ program_result answered → ⊥
-answered-line (Ok done) line result refused same = cc
-answered-line (Err hexed.BadHex) line result refused same = cc
-answered-line (Err (hexed.Serve cause)) line result refused same = cc
+-- a command that ends as a refused line: its settings were refused so, and nothing was done
+by-line : {K : Type 0} (machine : Machine K) (path : Option (List ℕ)) (does : Values → (T : Type 0) → (T → Store) → T → Type 0) (refused : ProgramFault → Type 0) (line : LineFault) (Q : Type 0)
+    → ((settings : Values) (T : Type 0) (held : T → Store) (first : T) → does settings T held first → ⊥) → ((fault : ProgramFault) → refused fault → (fault ≡ Line line) × Q) → By machine path does refused → IsUnbegun line × Q
+by-line {K} machine path does refused line Q never told (Ok settings, set, so) = go settings.store so
+  where
+    go : (store : Option (List ℕ)) → OverStore machine.held (λ path opening. machine.opened path settings.archive settings.replica opening) settings store (does settings) (λ fault. refused (program.Store fault)) → IsUnbegun line × Q
+    go None so = absurd (never settings Listed store_of (empty_of settings) so)
+    go (Some path) (Ok first, opened, so) = absurd (never settings K machine.held first so)
+    go (Some path) (Err fault, opened, so) = let t = told (program.Store fault) so in absurd cc
+by-line machine path does refused line Q never told (Err fault, set, so) =
+    let t = told fault so in
+    (unset machine.reads path line (subst (λ f. SettingsAt machine.reads path (Err f)) t.0 set), t.1)
 
-stopped : (reads : List ℕ → Option (List ℕ) → Type 0) (path : Option (List ℕ)) (settings : Result Values ProgramFault) (hex : Bool) (now : Option ℤ) (input left old written : Option (List ℕ)) (used : Outside) (line : LineFault)
-    → SettingsAt reads path settings → Continues settings hex now input left old written used (Err (Line line)) → IsUnbegun line × (written ≡ old)
-stopped reads path (Ok settings) hex now input left old written used line set so = absurd (answered-line so.0 line (Err (Line line)) refl so.2)
-stopped reads path (Err fault) hex now input left old written used line set so =
-    let same : fault ≡ Line line = cc in
-    let P : ProgramFault → Type 0 = λ f. SettingsAt reads path (Err f) in
-    (unset reads path line (subst P same set), so.2)
+answered-line : (answered : Result (Unit {0}) HexFault) (line : LineFault) → Err (Line line) ≡ program_result answered → ⊥
+answered-line (Ok done) line same = cc
+answered-line (Err hexed.BadHex) line same = cc
+answered-line (Err (hexed.Serve cause)) line same = cc
 
--- settings that are refused as a line where connections were to be served: nothing was told
-unserved : {N L R W C E : Type 0} (means : Means L R W Listed C) (listened : N → SocketAddr → Option L → N → Type 0) (told : E → Option (List ℕ)) (reads : List ℕ → Option (List ℕ) → Type 0) (path : List ℕ) (count : ℕ) (settings : Result Values ProgramFault)
-    (network after : N) (clock later : C) (before errors : Tally E) (line : LineFault)
-    → SettingsAt reads (Some path) settings → ServesSet means listened told count settings network after clock later before errors (Err (Line line)) → IsUnbegun line × (errors ≡ before)
-unserved means listened told reads path count (Ok settings) network after clock later before errors line set so = absurd so.1
-unserved means listened told reads path count (Err fault) network after clock later before errors line set so =
-    let same : fault ≡ Line line = cc in
-    let P : ProgramFault → Type 0 = λ f. SettingsAt reads (Some path) (Err f) in
-    (unset reads (Some path) line (subst P same set), so.3)
+dumped-line : (dumped : Result (Unit {0}) DumpFault) (line : LineFault) → Err (Line line) ≡ dump_result dumped → ⊥
+dumped-line (Ok done) line same = cc
+dumped-line (Err (dump.Store fault)) line same = cc
+dumped-line (Err dump.Write) line same = cc
+dumped-line (Err dump.OutOfMemory) line same = cc
+
+same-line : (line : LineFault) (fault : ProgramFault) (x : Result (Unit {0}) ProgramFault) → x ≡ Err (Line line) → x ≡ Err fault → fault ≡ Line line
+same-line line fault x is so = cc
 
 -- a command that a line names
-pub line-done : {N L R W C E : Type 0} (faults : List ErrorKind) (taken : Bool) (matches : Option (Text × List Row)) (means : Means L R W Listed C) (listened : N → SocketAddr → Option L → N → Type 0) (told : E → Option (List ℕ)) (reads : List ℕ → Option (List ℕ) → Type 0)
+pub line-done : {K N L R W C E : Type 0} (faults : List ErrorKind) (taken : Bool) (matches : Option (Text × List Row)) (machine : Machine K) (means : Means L R W K C) (listened : N → SocketAddr → Option L → N → Type 0) (told : E → Option (List ℕ))
     (line : CommandLine) (old new : Scene N C E) (result : Result (Unit {0}) ProgramFault)
-    → faults ≡ [] → IsLine matches line → DoesLine means listened told reads line old new result → Runs faults taken matches means listened told reads old new result
-line-done faults taken matches means listened told reads line old new (Ok done) free is so = (free, (line, is, so))
-line-done faults taken matches means listened told reads (Answer path hex now) old new (Err (Line fault)) free is (network, errors, (used, gave, (settings, set, so))) =
-    let b = stopped reads (option_copied path) settings hex now old.unread new.unread old.written new.written used fault set so in
+    → faults ≡ [] → IsLine matches line → DoesLine machine means listened told line old new result → Runs faults taken matches machine means listened told old new result
+line-done faults taken matches machine means listened told line old new (Ok done) free is so = (free, (line, is, so))
+line-done faults taken matches machine means listened told (Answer path hex now) old new (Err (Line fault)) free is (network, errors, (used, gave, so)) =
+    let b = by-line machine (option_copied path) _ _ fault (new.written ≡ old.written) (λ settings T held first x. answered-line x.1 fault x.3) (λ f x. (same-line fault f (Err (Line fault)) refl x.0, x.2)) so in
     (unbegun-refused taken matches fault b.0, b.1, errors)
-line-done faults taken matches means listened told reads (Serve path count) old new (Err (Line fault)) free is (unread, written, (settings, set, so)) =
-    let b = unserved means listened told reads path.now count settings old.network new.network old.clock new.clock old.errors new.errors fault set so in
+line-done faults taken matches machine means listened told (Serve path count) old new (Err (Line fault)) free is (unread, written, so) =
+    let b = by-line machine (Some path.now) _ _ fault (new.errors ≡ old.errors) (λ settings T held first x. x.1) (λ f x. (same-line fault f (Err (Line fault)) refl x.0, x.3)) so in
     (unbegun-refused taken matches fault b.0, written, b.1)
-line-done faults taken matches means listened told reads line old new (Err File) free is so = (free, (line, is, so))
-line-done faults taken matches means listened told reads line old new (Err (Settings fault place)) free is so = (free, (line, is, so))
-line-done faults taken matches means listened told reads line old new (Err BadHex) free is so = (free, (line, is, so))
-line-done faults taken matches means listened told reads line old new (Err Address) free is so = (free, (line, is, so))
-line-done faults taken matches means listened told reads line old new (Err (Connection fault)) free is so = (free, (line, is, so))
+line-done faults taken matches machine means listened told (Dump path) old new (Err (Line fault)) free is (unread, network, clock, errors, so) =
+    let b = by-line machine (Some path.now) _ _ fault (new.written ≡ old.written) (λ settings T held first x. dumped-line x.1 fault x.3) (λ f x. (same-line fault f (Err (Line fault)) refl x.0, x.1)) so in
+    (unbegun-refused taken matches fault b.0, b.1, errors)
+line-done faults taken matches machine means listened told line old new (Err File) free is so = (free, (line, is, so))
+line-done faults taken matches machine means listened told line old new (Err (Settings fault place)) free is so = (free, (line, is, so))
+line-done faults taken matches machine means listened told line old new (Err (program.Store fault)) free is so = (free, (line, is, so))
+line-done faults taken matches machine means listened told line old new (Err BadHex) free is so = (free, (line, is, so))
+line-done faults taken matches machine means listened told line old new (Err Address) free is so = (free, (line, is, so))
+line-done faults taken matches machine means listened told line old new (Err (Connection fault)) free is so = (free, (line, is, so))
 
 pub ruleset lines = (line-done)

@@ -11,4 +11,5 @@ pub mod Hexed
 pub mod Line
 pub mod Telling
 pub mod Network
+pub mod Dumping
 pub mod Program

@@ -11,6 +11,9 @@ use Rattle.ua_server.specs.declared.hexed.HexFault.{HexFault}
 use Rattle.ua_server.specs.declared.hexed.HexFault.TheVariants as hexed
 use Rattle.ua_server.specs.declared.program.ProgramFault.{ProgramFault}
 use Rattle.ua_server.specs.declared.program.ProgramFault.TheVariants.{Line, File, Settings, BadHex, Connection}
+use Rattle.ua_server.specs.declared.program.ProgramFault.TheVariants as program
+use Rattle.ua_server.specs.declared.dumps.DumpFault.{DumpFault}
+use Rattle.ua_server.specs.declared.dumps.DumpFault.TheVariants as dump
 use Rattle.ua_server.specs.Bytes.{AppendsPart}
 use Rattle.ua_server.specs.Tally.{Tally}
 use Rattle.ua_server.specs.Readings.{AllAre}
@@ -18,29 +21,48 @@ use Rattle.ua_settings.specs.declared.fault.SettingsFault.{SettingsFault}
 use Rattle.ua_settings.specs.declared.fault.SettingsFault.TheVariants as refused
 use Rattle.ua_settings.specs.Settings.{Values, bare}
 use Rattle.ua_settings.specs.Reading.{IsReadOrStarved}
+use Rattle.archive.specs.declared.fault.StoreFault.{StoreFault}
+use Rattle.archive.specs.Store.{Store}
 use Rattle.archive.specs.Listed.{Listed, store_of}
 use Rattle.ua_server.specs.Given.{Outside}
 use Rattle.ua_server.specs.Client.{Ending}
-use Rattle.ua_server.specs.Hexed.{AnswersText, digits_of}
+use Rattle.ua_server.specs.Hexed.{AnswersText, IsUntouched, digits_of}
 use Rattle.ua_server.specs.Serving.{Serves}
+use Rattle.ua_server.specs.Dumping.{Dumps}
 use Rattle.ua_server.specs.Network.{Means, Around, Listens}
 use Rattle.clap.specs.Words.{Row, Text}
 use Rattle.clap.specs.declared.error.ErrorKind.{ErrorKind}
 use Rattle.ua_server.specs.declared.line.Line.{Line as CommandLine}
-use Rattle.ua_server.specs.declared.line.Line.TheVariants.{Answer, Serve}
+use Rattle.ua_server.specs.declared.line.Line.TheVariants.{Answer, Serve, Dump}
 use Rattle.ua_server.specs.declared.line.LineFault.{LineFault}
 use Rattle.ua_server.specs.declared.line.LineFault.TheVariants.{Words, OutOfMemory as NoMemory}
 use Rattle.ua_server.specs.Line.{IsLine, IsNoCommand}
 
--- ---- the server of a program
+-- ---- the archive of a program
 
--- the archive that the program makes: it holds nothing
+-- an archive in memory that holds nothing
 abbrev pub empty_of : Values → Listed
 empty_of settings = record { id = settings.archive; number = settings.replica; records = []; faults = 0 }
 
--- a client was served, over an archive that held nothing
-abbrev pub ServesFirst : Values → Option (List ℕ) → Option (List ℕ) → Option (List ℕ) → Option (List ℕ) → Outside → Ending → Type 0
-ServesFirst settings unread left old written used ending = (last : Listed) × Serves settings (store_of (empty_of settings)) (store_of last) unread left old written used ending
+-- what a store that can't be opened is called by the program
+abbrev pub unopened : {K : Type 0} → Result K StoreFault → Result K ProgramFault
+unopened (Ok kept) = Ok kept
+unopened (Err fault) = Err (program.Store fault)
+
+-- what is done over the archive of a file, or where that is refused
+abbrev pub OverOpened : {K : Type 0} → (K → Store) → Result K StoreFault → ((T : Type 0) → (T → Store) → T → Type 0) → (StoreFault → Type 0) → Type 0
+OverOpened {K} held (Ok first) does refused = does K held first
+OverOpened held (Err fault) does refused = refused fault
+
+abbrev pub OverStore : {K : Type 0} → (K → Store) → (List ℕ → Result K StoreFault → Type 0) → Values → Option (List ℕ) → ((T : Type 0) → (T → Store) → T → Type 0) → (StoreFault → Type 0) → Type 0
+OverStore held opened settings None does refused = does Listed store_of (empty_of settings)
+OverStore {K} held opened settings (Some path) does refused = (opening : Result K StoreFault) × opened path opening × OverOpened held opening does refused
+
+-- what is done over the archive of the settings: that of their file, as it was opened, or one in memory that holds nothing
+abbrev pub Over : {K : Type 0} → (K → Store) → (List ℕ → Result K StoreFault → Type 0) → Values → ((T : Type 0) → (T → Store) → T → Type 0) → (StoreFault → Type 0) → Type 0
+Over held opened settings does refused = OverStore held opened settings settings.store does refused
+
+-- ---- one connection
 
 -- a connection ended so
 abbrev pub EndsAs : (Ending → Type 0) → Result (Unit {0}) HexFault → Type 0
@@ -48,56 +70,50 @@ EndsAs P (Ok done) = (served : Served) × P (Ok served)
 EndsAs P (Err hexed.BadHex) = ⊥
 EndsAs P (Err (hexed.Serve fault)) = P (Err fault)
 
--- the text spells a client's bytes, and this is what it was answered
-abbrev pub AnswersFirst : Values → List ℕ → Outside → List ℕ → Ending → Type 0
-AnswersFirst settings text used out ending = (last : Listed) × AnswersText settings (store_of (empty_of settings)) (store_of last) text used out ending
-
 -- where the input is known, these are the digits of the whole answer to the connection that it spells
-abbrev pub AnswersDigits : Values → Option (List ℕ) → Outside → List ℕ → Type 0
-AnswersDigits settings None used digits = Unit {0}
-AnswersDigits settings (Some text) used digits = (out : List ℕ) × (served : Served) × AnswersFirst settings text used out (Ok served) × (digits ≡ encode_upper out)
+abbrev pub AnswersDigits : Values → Store → Store → Option (List ℕ) → Outside → List ℕ → Type 0
+AnswersDigits settings first last None used digits = Unit {0}
+AnswersDigits settings first last (Some text) used digits = (out : List ℕ) × (served : Served) × AnswersText settings first last text used out (Ok served) × (digits ≡ encode_upper out)
 
 -- a known input spells no connection in hex
 abbrev pub IsBadText : Option (List ℕ) → Type 0
 IsBadText None = Unit {0}
 IsBadText (Some text) = ¬ (IsUtf8 text) ⊎ IsErr (decode_of (digits_of text))
 
--- a known input spells a connection of too many chunks
-abbrev pub IsTooLong : Values → Option (List ℕ) → Outside → Type 0
-IsTooLong settings None used = Unit {0}
-IsTooLong settings (Some text) used = (out : List ℕ) × AnswersFirst settings text used out (Err TooLong)
+-- a known input spells a connection, which was answered and ended so
+abbrev pub IsAnswered : Values → Store → Store → Option (List ℕ) → Outside → (Ending → Type 0) → Type 0
+IsAnswered settings first last None used P = Unit {0}
+IsAnswered settings first last (Some text) used P = (out : List ℕ) × (ending : Ending) × AnswersText settings first last text used out ending × P ending
 
--- why no digits were made
-abbrev pub IsUnmade : Values → Option (List ℕ) → Outside → HexFault → Type 0
-IsUnmade settings input used hexed.BadHex = IsBadText input
-IsUnmade settings input used (hexed.Serve Read) = Unit {0}
-IsUnmade settings input used (hexed.Serve Write) = ⊥
-IsUnmade settings input used (hexed.Serve TooLong) = IsTooLong settings input used
-IsUnmade settings input used (hexed.Serve OutOfMemory) = Unit {0}
+-- why no digits were made: nothing was done, or the connection was answered, and was too long, or memory for the digits was wanting
+abbrev pub IsUnmade : Values → Store → Store → Option (List ℕ) → Outside → HexFault → Type 0
+IsUnmade settings first last input used hexed.BadHex = IsBadText input × IsUntouched first last used
+IsUnmade settings first last input used (hexed.Serve Read) = IsUntouched first last used
+IsUnmade settings first last input used (hexed.Serve Write) = ⊥
+IsUnmade settings first last input used (hexed.Serve TooLong) = IsAnswered settings first last input used (λ ending. ending ≡ Err TooLong)
+IsUnmade settings first last input used (hexed.Serve OutOfMemory) = IsUntouched first last used ⊎ IsAnswered settings first last input used (λ ending. Unit {0})
 
 -- the digits of the answer were made, or it is said why not
-abbrev pub MakesDigits : {T : Type 0} → Values → (T → List ℕ) → Option (List ℕ) → Outside → Result T HexFault → Type 0
-MakesDigits settings items_of input used (Ok made) = AnswersDigits settings input used (items_of made)
-MakesDigits settings items_of input used (Err fault) = IsUnmade settings input used fault
+abbrev pub MakesDigits : {T : Type 0} → Values → Store → Store → (T → List ℕ) → Option (List ℕ) → Outside → Result T HexFault → Type 0
+MakesDigits settings first last items_of input used (Ok made) = AnswersDigits settings first last input used (items_of made)
+MakesDigits settings first last items_of input used (Err fault) = IsUnmade settings first last input used fault
 
 -- the digits of the whole answer and a line end were printed, a first part of them where the writer failed, else nothing
-abbrev pub PrintsHex : Values → Option (List ℕ) → Option (List ℕ) → Option (List ℕ) → Outside → Result (Unit {0}) HexFault → Type 0
-PrintsHex settings input old written used (Ok done) = (digits : List ℕ) × AnswersDigits settings input used digits × Appends old written (digits ++ 10 ∷ [])
-PrintsHex settings input old written used (Err hexed.BadHex) = IsBadText input × (written ≡ old)
-PrintsHex settings input old written used (Err (hexed.Serve Read)) = written ≡ old
-PrintsHex settings input old written used (Err (hexed.Serve Write)) = (digits : List ℕ) × AnswersDigits settings input used digits × AppendsPart old written (digits ++ 10 ∷ [])
-PrintsHex settings input old written used (Err (hexed.Serve TooLong)) = IsTooLong settings input used × (written ≡ old)
-PrintsHex settings input old written used (Err (hexed.Serve OutOfMemory)) = written ≡ old
+abbrev pub PrintsHex : Values → Store → Store → Option (List ℕ) → Option (List ℕ) → Option (List ℕ) → Outside → Result (Unit {0}) HexFault → Type 0
+PrintsHex settings first last input old written used (Ok done) = (digits : List ℕ) × AnswersDigits settings first last input used digits × Appends old written (digits ++ 10 ∷ [])
+PrintsHex settings first last input old written used (Err (hexed.Serve Write)) = (digits : List ℕ) × AnswersDigits settings first last input used digits × AppendsPart old written (digits ++ 10 ∷ [])
+PrintsHex settings first last input old written used (Err fault) = IsUnmade settings first last input used fault × (written ≡ old)
 
 -- one connection is answered, in hex digits or in bytes
-abbrev pub DoesAnswer : Values → Bool → Option (List ℕ) → Option (List ℕ) → Option (List ℕ) → Option (List ℕ) → Outside → Result (Unit {0}) HexFault → Type 0
-DoesAnswer settings false input left old written used result = EndsAs (ServesFirst settings input left old written used) result
-DoesAnswer settings true input left old written used result = PrintsHex settings input old written used result
+abbrev pub DoesAnswer : Values → Store → Store → Bool → Option (List ℕ) → Option (List ℕ) → Option (List ℕ) → Option (List ℕ) → Outside → Result (Unit {0}) HexFault → Type 0
+DoesAnswer settings first last false input left old written used result = EndsAs (Serves settings first last input left old written used) result
+DoesAnswer settings first last true input left old written used result = PrintsHex settings first last input old written used result
 
 -- and a moment that is given stands for each reading of the clock
-abbrev pub AnswersAt : Values → Bool → Option ℤ → Option (List ℕ) → Option (List ℕ) → Option (List ℕ) → Option (List ℕ) → Outside → Result (Unit {0}) HexFault → Type 0
-AnswersAt settings hex None input left old written used result = DoesAnswer settings hex input left old written used result
-AnswersAt settings hex (Some now) input left old written used result = (used.readings ≡ []) × ((given : Outside) × AllAre now given.readings × DoesAnswer settings hex input left old written given result)
+abbrev pub AnswersAt : Values → Store → Store → Bool → Option ℤ → Option (List ℕ) → Option (List ℕ) → Option (List ℕ) → Option (List ℕ) → Outside → Result (Unit {0}) HexFault → Type 0
+AnswersAt settings first last hex None input left old written used result = DoesAnswer settings first last hex input left old written used result
+AnswersAt settings first last hex (Some now) input left old written used result =
+    (used.readings ≡ []) × ((given : Outside) × AllAre now given.readings × DoesAnswer settings first last hex input left old written given result)
 
 -- ---- settings
 
@@ -144,27 +160,51 @@ abbrev pub program_result : Result (Unit {0}) HexFault → Result (Unit {0}) Pro
 program_result (Ok done) = Ok done
 program_result (Err fault) = Err (fault_of fault)
 
--- without settings nothing is read or written; with them a connection is answered
-abbrev pub Continues : Result Values ProgramFault → Bool → Option ℤ → Option (List ℕ) → Option (List ℕ) → Option (List ℕ) → Option (List ℕ) → Outside → Result (Unit {0}) ProgramFault → Type 0
-Continues (Err fault) hex now input left old written used result = (result ≡ Err fault) × (left ≡ input) × (written ≡ old)
-Continues (Ok settings) hex now input left old written used result =
-    (answered : Result (Unit {0}) HexFault) × AnswersAt settings hex now input left old written used answered × (result ≡ program_result answered)
+-- the machine that a program runs on: how its files give their texts and their archives, and what these hold
+pub record Machine (K : Type 0) : Type 1 where
+  pub reads : List ℕ → Option (List ℕ) → Type 0
+  pub opened : List ℕ → List ℕ → ℕ → Result K StoreFault → Type 0
+  pub held : K → Store
 
--- a connection is answered by the settings of the file at a path, where there is one
-abbrev pub AnswersBy : (List ℕ → Option (List ℕ) → Type 0) → Option (List ℕ) → Bool → Option ℤ → Option (List ℕ) → Option (List ℕ) → Option (List ℕ) → Option (List ℕ) → Outside → Result (Unit {0}) ProgramFault → Type 0
-AnswersBy reads path hex now input left old written used result =
-    (settings : Result Values ProgramFault) × SettingsAt reads path settings × Continues settings hex now input left old written used result
+-- what is done by the settings of the file at a path, over their archive; or nothing is
+abbrev pub BySettings : {K : Type 0} → Machine K → Result Values ProgramFault → (Values → (T : Type 0) → (T → Store) → T → Type 0) → (ProgramFault → Type 0) → Type 0
+BySettings machine (Ok settings) does refused = Over machine.held (λ path opening. machine.opened path settings.archive settings.replica opening) settings (does settings) (λ fault. refused (program.Store fault))
+BySettings machine (Err fault) does refused = refused fault
 
--- connections are served over an archive that holds nothing, or the settings are refused and nothing is done
-abbrev pub ServesSet : {N L R W C E : Type 0} → Means L R W Listed C → (N → SocketAddr → Option L → N → Type 0) → (E → Option (List ℕ)) → ℕ → Result Values ProgramFault → N → N → C → C → Tally E → Tally E → Result (Unit {0}) ProgramFault → Type 0
-ServesSet means listened told count (Ok settings) network after clock later before errors result =
-    (last : Listed) × Listens means listened told settings count (record { source = network; archive = empty_of settings; clock = clock }) before (record { source = after; archive = last; clock = later }) errors result
-ServesSet means listened told count (Err fault) network after clock later before errors result = (result ≡ Err fault) × (after ≡ network) × (later ≡ clock) × (errors ≡ before)
+abbrev pub By : {K : Type 0} → Machine K → Option (List ℕ) → (Values → (T : Type 0) → (T → Store) → T → Type 0) → (ProgramFault → Type 0) → Type 0
+By machine path does refused = (settings : Result Values ProgramFault) × SettingsAt machine.reads path settings × BySettings machine settings does refused
 
--- connections are served by the settings of the file at a path
-abbrev pub ServesBy : {N L R W C E : Type 0} → Means L R W Listed C → (N → SocketAddr → Option L → N → Type 0) → (E → Option (List ℕ)) → (List ℕ → Option (List ℕ) → Type 0) → List ℕ → ℕ → N → N → C → C → Tally E → Tally E → Result (Unit {0}) ProgramFault → Type 0
-ServesBy means listened told reads path count network after clock later before errors result =
-    (settings : Result Values ProgramFault) × SettingsAt reads (Some path) settings × ServesSet means listened told count settings network after clock later before errors result
+-- a connection is answered, or nothing is read or written
+abbrev pub AnswersBy : {K : Type 0} → Machine K → Option (List ℕ) → Bool → Option ℤ → Option (List ℕ) → Option (List ℕ) → Option (List ℕ) → Option (List ℕ) → Outside → Result (Unit {0}) ProgramFault → Type 0
+AnswersBy machine path hex now input left old written used result =
+    By machine path
+    (λ settings T held first. (last : T) × (answered : Result (Unit {0}) HexFault) × AnswersAt settings (held first) (held last) hex now input left old written used answered × (result ≡ program_result answered))
+    (λ fault. (result ≡ Err fault) × (left ≡ input) × (written ≡ old))
+
+-- the same over another kind of archive
+abbrev pub means_over : {L R W A B C : Type 0} → Means L R W A C → (B → Store) → Means L R W B C
+means_over means held = record { accepted = means.accepted; closed = means.closed; gave = means.gave; unread = means.unread; written = means.written; held = held }
+
+-- connections are served, or nothing is done
+abbrev pub ServesBy : {K N L R W C E : Type 0} → Machine K → Means L R W K C → (N → SocketAddr → Option L → N → Type 0) → (E → Option (List ℕ)) → List ℕ → ℕ → N → N → C → C → Tally E → Tally E → Result (Unit {0}) ProgramFault → Type 0
+ServesBy machine means listened told path count network after clock later before errors result =
+    By machine (Some path)
+    (λ settings T held first. (last : T) × Listens (means_over means held) listened told settings count (record { source = network; archive = first; clock = clock }) before (record { source = after; archive = last; clock = later }) errors result)
+    (λ fault. (result ≡ Err fault) × (after ≡ network) × (later ≡ clock) × (errors ≡ before))
+
+-- what a dump is called by the program
+abbrev pub dump_result : Result (Unit {0}) DumpFault → Result (Unit {0}) ProgramFault
+dump_result (Ok done) = Ok done
+dump_result (Err (dump.Store fault)) = Err (program.Store fault)
+dump_result (Err dump.Write) = Err (Connection Write)
+dump_result (Err dump.OutOfMemory) = Err (Connection OutOfMemory)
+
+-- the archive is dumped, or nothing is written
+abbrev pub DumpsBy : {K : Type 0} → Machine K → List ℕ → Option (List ℕ) → Option (List ℕ) → Result (Unit {0}) ProgramFault → Type 0
+DumpsBy machine path old written result =
+    By machine (Some path)
+    (λ settings T held first. (last : T) × (dumped : Result (Unit {0}) DumpFault) × Dumps (held first) (held last) old written dumped × (result ≡ dump_result dumped))
+    (λ fault. (result ≡ Err fault) × (written ≡ old))
 
 -- what stands around a run: what is unread of the input and written to the output, as far as that is known, the network, the clock, and standard error
 pub record Scene (N C E : Type 0) : Type 0 where
@@ -175,12 +215,14 @@ pub record Scene (N C E : Type 0) : Type 0 where
   pub errors : Tally E
 
 -- what each command does
-abbrev pub DoesLine : {N L R W C E : Type 0} → Means L R W Listed C → (N → SocketAddr → Option L → N → Type 0) → (E → Option (List ℕ)) → (List ℕ → Option (List ℕ) → Type 0) → CommandLine → Scene N C E → Scene N C E → Result (Unit {0}) ProgramFault → Type 0
-DoesLine means listened told reads (Answer path hex now) old new result =
+abbrev pub DoesLine : {K N L R W C E : Type 0} → Machine K → Means L R W K C → (N → SocketAddr → Option L → N → Type 0) → (E → Option (List ℕ)) → CommandLine → Scene N C E → Scene N C E → Result (Unit {0}) ProgramFault → Type 0
+DoesLine machine means listened told (Answer path hex now) old new result =
     (new.network ≡ old.network) × (new.errors ≡ old.errors)
-    × ((used : Outside) × means.gave old.clock used.readings new.clock × AnswersBy reads (option_copied path) hex now old.unread new.unread old.written new.written used result)
-DoesLine means listened told reads (Serve path count) old new result =
-    (new.unread ≡ old.unread) × (new.written ≡ old.written) × ServesBy means listened told reads path.now count old.network new.network old.clock new.clock old.errors new.errors result
+    × ((used : Outside) × means.gave old.clock used.readings new.clock × AnswersBy machine (option_copied path) hex now old.unread new.unread old.written new.written used result)
+DoesLine machine means listened told (Serve path count) old new result =
+    (new.unread ≡ old.unread) × (new.written ≡ old.written) × ServesBy machine means listened told path.now count old.network new.network old.clock new.clock old.errors new.errors result
+DoesLine machine means listened told (Dump path) old new result =
+    (new.unread ≡ old.unread) × (new.network ≡ old.network) × (new.clock ≡ old.clock) × (new.errors ≡ old.errors) × DumpsBy machine path.now old.written new.written result
 
 -- a line is refused for want of memory, or where clap refuses it or its matches name no command
 abbrev pub IsRefused : Bool → Option (Text × List Row) → LineFault → Type 0
@@ -189,6 +231,6 @@ IsRefused taken matches NoMemory = Unit {0}
 
 -- A run by the faults that clap finds in a command line, by whether it takes it, and by its matches. What is done is done for a line without
 -- faults; where the line is refused nothing is printed or told.
-abbrev pub Runs : {N L R W C E : Type 0} → List ErrorKind → Bool → Option (Text × List Row) → Means L R W Listed C → (N → SocketAddr → Option L → N → Type 0) → (E → Option (List ℕ)) → (List ℕ → Option (List ℕ) → Type 0) → Scene N C E → Scene N C E → Result (Unit {0}) ProgramFault → Type 0
-Runs faults taken matches means listened told reads old new (Err (Line fault)) = IsRefused taken matches fault × (new.written ≡ old.written) × (new.errors ≡ old.errors)
-Runs faults taken matches means listened told reads old new result = (faults ≡ []) × ((line : CommandLine) × IsLine matches line × DoesLine means listened told reads line old new result)
+abbrev pub Runs : {K N L R W C E : Type 0} → List ErrorKind → Bool → Option (Text × List Row) → Machine K → Means L R W K C → (N → SocketAddr → Option L → N → Type 0) → (E → Option (List ℕ)) → Scene N C E → Scene N C E → Result (Unit {0}) ProgramFault → Type 0
+Runs faults taken matches machine means listened told old new (Err (Line fault)) = IsRefused taken matches fault × (new.written ≡ old.written) × (new.errors ≡ old.errors)
+Runs faults taken matches machine means listened told old new result = (faults ≡ []) × ((line : CommandLine) × IsLine matches line × DoesLine machine means listened told line old new result)

@@ -3,11 +3,13 @@ use Rattle.std.specs.Prelude.{◌≡◌, ℕ, List, [], ◌∷◌, ◌++◌, Opt
 use Rattle.std.specs.Io.KnownBytes.{Appends}
 use Rattle.ua_server.specs.declared.outcome.ServeFault.TheVariants.{Read, Write, TooLong, OutOfMemory}
 use Rattle.ua_server.specs.declared.program.ProgramFault.{ProgramFault}
-use Rattle.ua_server.specs.declared.program.ProgramFault.TheVariants.{Line, File, Settings, BadHex, Address, Connection}
+use Rattle.ua_server.specs.declared.program.ProgramFault.TheVariants.{Line, File, Settings, Store, BadHex, Address, Connection}
 use Rattle.ua_server.specs.declared.line.LineFault.{LineFault}
 use Rattle.ua_server.specs.declared.line.LineFault.TheVariants.{Words, OutOfMemory as NoMemory}
 use Rattle.ua_server.specs.Bytes.{AppendsPart, counted}
 use Rattle.ua_server.specs.Tally.{Tally}
+use Rattle.archive.specs.declared.fault.StoreFault.{StoreFault}
+use Rattle.archive.specs.declared.fault.StoreFault.TheVariants as store
 use Rattle.ua_settings.specs.declared.fault.SettingsFault.{SettingsFault}
 use Rattle.ua_settings.specs.declared.fault.SettingsFault.TheVariants as refused
 
@@ -15,6 +17,7 @@ abbrev pub fault_status : ProgramFault → ℕ
 fault_status (Line fault) = 2
 fault_status File = 2
 fault_status (Settings fault place) = 2
+fault_status (Store fault) = 3
 fault_status BadHex = 2
 fault_status Address = 1
 fault_status (Connection fault) = 1
@@ -25,7 +28,7 @@ status_of (Err fault) = fault_status fault
 
 -- the text that tells a refused command line
 abbrev pub line_text_of : LineFault → List ℕ
-line_text_of Words = codes "usage: uahist answer [--settings FILE] [--hex] [--now N] | serve --settings FILE [--connections N]"
+line_text_of Words = codes "usage: uahist answer [--settings FILE] [--hex] [--now N] | serve --settings FILE [--connections N] | dump --settings FILE"
 line_text_of NoMemory = codes "memory ran out before the command began"
 
 -- the text that tells refused settings
@@ -37,11 +40,20 @@ refusal_text refused.UnknownKey = codes "settings refused (4)"
 refusal_text (refused.Space fault) = codes "settings refused (5)"
 refusal_text refused.OutOfMemory = codes "settings refused (6)"
 
+-- the text that tells a store that can't be opened or read
+abbrev pub store_text : StoreFault → List ℕ
+store_text store.OutOfMemory = codes "store refused (1)"
+store_text store.Refused = codes "store refused (2)"
+store_text store.WrongReplica = codes "store refused (3)"
+store_text store.WrongArchive = codes "store refused (4)"
+store_text store.Broken = codes "store refused (5)"
+
 -- the text that tells a fault
 abbrev pub text_of : ProgramFault → List ℕ
 text_of (Line fault) = line_text_of fault
 text_of File = codes "settings file can't be read"
 text_of (Settings fault place) = refusal_text fault
+text_of (Store fault) = store_text fault
 text_of BadHex = codes "bad hex"
 text_of Address = codes "address refused"
 text_of (Connection Read) = codes "connection ended (1)"
@@ -54,6 +66,7 @@ abbrev pub place_of : ProgramFault → Option (List ℕ)
 place_of (Line fault) = None
 place_of File = None
 place_of (Settings fault place) = place
+place_of (Store fault) = None
 place_of BadHex = None
 place_of Address = None
 place_of (Connection fault) = None

@@ -6,6 +6,7 @@ mod clock;
 mod connection;
 mod connections;
 mod counted;
+mod dumps;
 mod files;
 mod greeting;
 mod hexed;
@@ -16,12 +17,15 @@ mod outcome;
 mod program;
 mod responding;
 mod serving;
+mod single;
+mod stores;
 mod turn;
 
 pub use clock::{Clock, ConstantClock, SystemClock};
 pub use connection::MOST_CHUNKS;
 pub use connections::serve_connections;
 pub use counted::Counted;
+pub use dumps::{DumpFault, dump};
 pub use files::SettingsFiles;
 pub use hexed::{HexFault, answer_hex};
 pub use laws::{answers_go_item_by_item, chunks_are_counted};
@@ -30,6 +34,7 @@ pub use network::{Listener, Network};
 pub use outcome::{ServeFault, Served};
 pub use program::{ProgramFault, report, run};
 pub use serving::serve;
+pub use stores::Stores;
 
 #[cfg(test)]
 mod tests;

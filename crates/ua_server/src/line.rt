@@ -1,11 +1,11 @@
 //! The command line.
 
-ghost use Rattle.std.specs.Prelude.{◌≡◌, [], map, codes, IfOk, OnErr, IsErrOf, true, false};
-ghost use Rattle.clap.specs.Words.{app_of, rule_of, rows_of, found_of, subcommand_of, subcommand_rows_of};
+ghost use Rattle.std.specs.Prelude.{◌≡◌, [], map, codes, IfOk, OnErr, IsErrOf, None, true, false};
+ghost use Rattle.clap.specs.Words.{app_of, rule_of, rows_of, found_of, first_of, subcommand_of, subcommand_rows_of};
 ghost use Rattle.clap.specs.declared.builder.command.Command.TheViews.{out-Command};
 ghost use Rattle.clap.specs.Takes.{takes};
 ghost use Rattle.clap.specs.Faults.{fault_of as fault_kinds};
-ghost use Rattle.ua_server.specs.Line.{IsAnswer, IsServe, IsLine, GivesNoNumber, IsNoServe, IsNoCommand, answer, connections, now, serve, settings, uahist};
+ghost use Rattle.ua_server.specs.Line.{IsAnswer, IsServe, IsDump, IsLine, GivesNoNumber, IsNoServe, IsNoCommand, answer, connections, dump, now, serve, settings, uahist};
 
 use clap::builder::ValueParser;
 use clap::error::ErrorKind;
@@ -36,6 +36,10 @@ pub enum Line<'a> {
         settings: &'a str,
         connections: u32,
     },
+    /// Print the records of the archive that the file at `settings` sets.
+    Dump {
+        settings: &'a str,
+    },
 }
 
 /// Why a command line is no command.
@@ -56,7 +60,7 @@ impl LineFault {
     {
         match self {
             LineFault::Words =>
-                "usage: uahist answer [--settings FILE] [--hex] [--now N] | serve --settings FILE [--connections N]",
+                "usage: uahist answer [--settings FILE] [--hex] [--now N] | serve --settings FILE [--connections N] | dump --settings FILE",
             LineFault::OutOfMemory => "memory ran out before the command began",
         }
     }
@@ -134,14 +138,29 @@ fn serve_command<'a>(alloc: Global) -> Result<Command<'a>, AllocError>
     Ok(command)
 }
 
+/// The command `dump` and its option.
+fn dump_command<'a>(alloc: Global) -> Result<Command<'a>, AllocError>
+    ensures app { IfOk result (λ command. app_of command ≡ dump) }
+    ensures local { IfOk result (λ command. (out-Command command).has_globals ≡ false) }
+{
+    let settings = settings_option(alloc);
+    let command = Command::new(alloc, "dump");
+    let command = command.arg(settings)?;
+    Ok(command)
+}
+
 /// The program's commands and their options.
 fn command<'a>(alloc: Global) -> Result<Command<'a>, AllocError>
     ensures { IfOk result (λ command. app_of command ≡ uahist) }
 {
     let answer = answer_command(alloc)?;
     let serve = serve_command(alloc)?;
+    let dump = dump_command(alloc)?;
     let whole = Command::new(alloc, "uahist");
-    let whole = whole.subcommand(answer)?.subcommand(serve)?;
+    let whole = whole
+        .subcommand(answer)?
+        .subcommand(serve)?
+        .subcommand(dump)?;
     Ok(whole)
 }
 
@@ -185,6 +204,17 @@ fn read_serve<'a>(serve: &ArgMatches<'a>) -> Result<Line<'a>, LineFault>
     }
 }
 
+/// Reads the option of `dump`.
+fn read_dump<'a>(dump: &ArgMatches<'a>) -> Result<Line<'a>, LineFault>
+    ensures ok { IfOk result (IsDump (rows_of (found_of dump.now))) }
+    ensures words { OnErr result (first_of (codes "settings") (rows_of (found_of dump.now)) ≡ None) }
+{
+    match dump.get_str("settings") {
+        Some(settings) => Ok(Line::Dump { settings }),
+        None => Err(LineFault::Words),
+    }
+}
+
 /// Reads the command that the matches name.
 fn read_matches<'a>(matches: &ArgMatches<'a>) -> Result<Line<'a>, LineFault>
     ensures ok { IfOk result (IsLine (subcommand_rows_of matches.now)) }
@@ -193,9 +223,12 @@ fn read_matches<'a>(matches: &ArgMatches<'a>) -> Result<Line<'a>, LineFault>
     if let Some(answer) = matches.subcommand_matches("answer") {
         return read_answer(answer);
     }
-    match matches.subcommand_matches("serve") {
+    if let Some(serve) = matches.subcommand_matches("serve") {
+        return read_serve(serve);
+    }
+    match matches.subcommand_matches("dump") {
         None => Err(LineFault::Words),
-        Some(serve) => read_serve(serve),
+        Some(dump) => read_dump(dump),
     }
 }
 

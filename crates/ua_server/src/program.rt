@@ -1,27 +1,29 @@
 //! The program, over any reader and writers.
 
 ghost use Rattle.std.specs.Prelude.{◌≡◌, ◌+◌, ℕ, ℤ, List, [], ◌∷◌, ◌++◌, IfOk, IfErr, OnOk, OnErr, IsErrOf, map, option_copied};
-ghost use Rattle.std.specs.Io.KnownBytes.{Appends, Consumes, IsAtEnd};
+ghost use Rattle.std.specs.Io.KnownBytes.{Appends};
 ghost use Rattle.ua_server.specs.Bytes.{counted, AppendsPart};
 ghost use Rattle.ua_server.specs.Given.{Outside};
-ghost use Rattle.archive.specs.Listed.{store_of};
-ghost use Rattle.ua_server.specs.Telling.{status_of, IsTold, refusal_text, told_line, place_line, error_lines};
-ghost use Rattle.ua_server.specs.Program.{empty_of, ServesFirst, EndsAs, MakesDigits, PrintsHex, DoesAnswer, AnswersAt, fault_of, AnswersBy, ServesBy, DoesLine, Runs};
+ghost use Rattle.ua_server.specs.Telling.{status_of, IsTold, refusal_text, store_text, told_line, place_line, error_lines};
+ghost use Rattle.ua_server.specs.Program.{empty_of, AnswersAt, fault_of, program_result, unopened, AnswersBy, ServesBy, dump_result, DumpsBy, DoesLine, Runs};
+ghost use Rattle.ua_server.specs.Dumping.{Dumps};
 ghost use Rattle.clap.specs.Words.{subcommand_of};
 ghost use Rattle.clap.specs.Takes.{takes};
 ghost use Rattle.clap.specs.Faults.{fault_of as fault_kinds};
 ghost use Rattle.ua_server.specs.Line.{uahist};
 
-use crate::clock::{Clock, ConstantClock};
+use crate::clock::Clock;
 use crate::connections::serve_at;
 use crate::counted::Counted;
+use crate::dumps::{DumpFault, dump};
 use crate::files::{SettingsFiles, settings_at};
-use crate::hexed::{HexFault, answer_hex};
+use crate::hexed::HexFault;
 use crate::line::{Line, LineFault, read_line};
 use crate::network::Network;
 use crate::outcome::ServeFault;
-use crate::serving::serve;
-use archive::ListArchive;
+use crate::single::answer_at;
+use crate::stores::Stores;
+use archive::{Archive, ListArchive, StoreFault};
 use std::alloc::Global;
 use std::convert::AsStr;
 use std::error::Error;
@@ -39,6 +41,8 @@ pub enum ProgramFault {
     File,
     /// The settings are refused; the text says where, unless memory for it is wanting.
     Settings(SettingsFault, Option<Text>),
+    /// The store can't be opened or read.
+    Store(StoreFault),
     /// The input isn't hex.
     BadHex,
     /// The settings' address is none, or can't be listened at.
@@ -58,6 +62,7 @@ impl ProgramFault {
             ProgramFault::Line(fault) => fault.text(),
             ProgramFault::File => "settings file can't be read",
             ProgramFault::Settings(fault, _) => refusal_text(*fault),
+            ProgramFault::Store(fault) => store_text(*fault),
             ProgramFault::BadHex => "bad hex",
             ProgramFault::Address => "address refused",
             ProgramFault::Connection(ServeFault::Read) => "connection ended (1)",
@@ -76,6 +81,7 @@ impl ProgramFault {
             ProgramFault::Settings(_, None)
             | ProgramFault::Line(_)
             | ProgramFault::File
+            | ProgramFault::Store(_)
             | ProgramFault::BadHex
             | ProgramFault::Address
             | ProgramFault::Connection(_) => None,
@@ -97,6 +103,19 @@ fn refusal_text(fault: SettingsFault) -> &'static str
     }
 }
 
+/// The text that tells a store that can't be opened or read, with the number of the fault.
+fn store_text(fault: StoreFault) -> &'static str
+    ensures { result.now ≡ store_text fault }
+{
+    match fault {
+        StoreFault::OutOfMemory => "store refused (1)",
+        StoreFault::Refused => "store refused (2)",
+        StoreFault::WrongReplica => "store refused (3)",
+        StoreFault::WrongArchive => "store refused (4)",
+        StoreFault::Broken => "store refused (5)",
+    }
+}
+
 impl fmt::Display for ProgramFault {
     ghost use Rattle.std.specs.Prelude.{Some};
     ghost use Rattle.ua_server.specs.Telling.{text_of};
@@ -110,29 +129,6 @@ impl fmt::Display for ProgramFault {
 
 impl Error for ProgramFault {}
 
-/// The bytes that one read of a text asks for.
-const PIECE: usize = 4096;
-
-/// All bytes that the reader has.
-fn read_all<R: Read>(alloc: Global, input: &mut Counted<R>) -> Result<Vec<u8>, ServeFault>
-    ensures bytes { IfOk result (λ bytes. Consumes (R.remaining input.old.inner) (R.remaining input.new.inner) bytes.items × IsAtEnd (R.remaining input.new.inner)) }
-    ensures read { IsErrOf result ServeFault.Read → input.new.faults ≡ counted input.old.faults }
-    ensures no_write { IsErrOf result ServeFault.Write → ⊥ }
-    ensures no_long { IsErrOf result ServeFault.TooLong → ⊥ }
-{
-    let mut bytes = Vec::new(alloc);
-    let mut piece = [0u8; PIECE];
-    'pieces: loop {
-        let n = input.read_piece(&mut piece)?;
-        if n == 0 {
-            return Ok(bytes);
-        }
-        if bytes.extend_from_slice(&piece[..n]).is_err() {
-            return Err(ServeFault::OutOfMemory);
-        }
-    }
-}
-
 /// The archive of these settings, in memory: it holds nothing.
 pub(crate) fn archive_of(alloc: Global, settings: &Settings) -> ListArchive
     ensures { result ≡ empty_of settings.now }
@@ -140,52 +136,8 @@ pub(crate) fn archive_of(alloc: Global, settings: &Settings) -> ListArchive
     ListArchive::new(alloc, settings.archive(), settings.replica())
 }
 
-/// Answers one connection over an archive in memory that holds nothing.
-fn answer<R: Read, W: Write, C: Clock>(
-    alloc: Global,
-    settings: &Settings,
-    input: &mut Counted<R>,
-    output: &mut Counted<W>,
-    clock: &mut C,
-) -> Result<(), HexFault>
-    ensures read { IsErrOf result (HexFault.Serve ServeFault.Read) → input.new.faults ≡ counted input.old.faults }
-    ensures write { IsErrOf result (HexFault.Serve ServeFault.Write) → output.new.faults ≡ counted output.old.faults }
-    ensures ends { (used : Outside) × C.gave clock.old used.readings clock.new × EndsAs (ServesFirst settings.now (R.remaining input.old.inner) (R.remaining input.new.inner) (W.contents output.old.inner) (W.contents output.new.inner) used) result }
-{
-    let mut archive = archive_of(alloc, settings);
-    match serve(alloc, settings, &mut archive, input, output, clock) {
-        Ok(_) => Ok(()),
-        Err(fault) => Err(HexFault::Serve(fault)),
-    }
-}
-
-/// The answer in hex digits to the connection in hex digits that the reader has.
-fn hex_answer<R: Read, C: Clock>(
-    alloc: Global,
-    settings: &Settings,
-    input: &mut Counted<R>,
-    clock: &mut C,
-) -> Result<Vec<u8>, HexFault>
-    ensures digits { (used : Outside) × C.gave clock.old used.readings clock.new × MakesDigits settings.now (λ digits. digits.items) (R.remaining input.old.inner) used result }
-    ensures read { IsErrOf result (HexFault.Serve ServeFault.Read) → input.new.faults ≡ counted input.old.faults }
-{
-    let bytes = match read_all(alloc, input) {
-        Ok(bytes) => bytes,
-        Err(fault) => return Err(HexFault::Serve(fault)),
-    };
-    let Ok(text) = std::str::from_utf8(bytes.as_slice()) else {
-        return Err(HexFault::BadHex);
-    };
-    let mut archive = archive_of(alloc, settings);
-    let mut digits = Vec::new(alloc);
-    match answer_hex(alloc, settings, &mut archive, text, &mut digits, clock) {
-        Ok(_) => Ok(digits),
-        Err(fault) => Err(fault),
-    }
-}
-
 /// Writes a line.
-fn print_line<W: Write>(line: &[u8], output: &mut Counted<W>) -> Result<(), ServeFault>
+pub(crate) fn print_line<W: Write>(line: &[u8], output: &mut Counted<W>) -> Result<(), ServeFault>
     ensures ok { OnOk result (Appends (W.contents output.old.inner) (W.contents output.new.inner) (line.now ++ 10 ∷ [])) }
     ensures kept { OnOk result (output.new.faults ≡ output.old.faults) }
     ensures write { OnErr result (output.new.faults ≡ counted output.old.faults) }
@@ -201,65 +153,6 @@ fn print_line<W: Write>(line: &[u8], output: &mut Counted<W>) -> Result<(), Serv
     }
 }
 
-/// Answers one connection in hex digits, and ends the line.
-fn answer_in_hex<R: Read, W: Write, C: Clock>(
-    alloc: Global,
-    settings: &Settings,
-    input: &mut Counted<R>,
-    output: &mut Counted<W>,
-    clock: &mut C,
-) -> Result<(), HexFault>
-    ensures read { IsErrOf result (HexFault.Serve ServeFault.Read) → input.new.faults ≡ counted input.old.faults }
-    ensures write { IsErrOf result (HexFault.Serve ServeFault.Write) → output.new.faults ≡ counted output.old.faults }
-    ensures prints { (used : Outside) × C.gave clock.old used.readings clock.new × PrintsHex settings.now (R.remaining input.old.inner) (W.contents output.old.inner) (W.contents output.new.inner) used result }
-{
-    let digits = hex_answer(alloc, settings, input, clock)?;
-    match print_line(digits.as_slice(), output) {
-        Ok(()) => Ok(()),
-        Err(fault) => Err(HexFault::Serve(fault)),
-    }
-}
-
-/// Answers one connection, in hex digits or in bytes.
-fn answer_either<R: Read, W: Write, C: Clock>(
-    alloc: Global,
-    settings: &Settings,
-    hex: bool,
-    input: &mut Counted<R>,
-    output: &mut Counted<W>,
-    clock: &mut C,
-) -> Result<(), HexFault>
-    ensures read { IsErrOf result (HexFault.Serve ServeFault.Read) → input.new.faults ≡ counted input.old.faults }
-    ensures write { IsErrOf result (HexFault.Serve ServeFault.Write) → output.new.faults ≡ counted output.old.faults }
-    ensures does { (used : Outside) × C.gave clock.old used.readings clock.new × DoesAnswer settings.now hex (R.remaining input.old.inner) (R.remaining input.new.inner) (W.contents output.old.inner) (W.contents output.new.inner) used result }
-{
-    if hex {
-        answer_in_hex(alloc, settings, input, output, clock)
-    } else {
-        answer(alloc, settings, input, output, clock)
-    }
-}
-
-/// Answers one connection. Where a moment is given the clock isn't read, and stands at that.
-fn answer_at<R: Read, W: Write, C: Clock>(
-    alloc: Global,
-    settings: &Settings,
-    hex: bool,
-    now: Option<i64>,
-    input: &mut Counted<R>,
-    output: &mut Counted<W>,
-    clock: &mut C,
-) -> Result<(), HexFault>
-    ensures read { IsErrOf result (HexFault.Serve ServeFault.Read) → input.new.faults ≡ counted input.old.faults }
-    ensures write { IsErrOf result (HexFault.Serve ServeFault.Write) → output.new.faults ≡ counted output.old.faults }
-    ensures does { (used : Outside) × C.gave clock.old used.readings clock.new × AnswersAt settings.now hex now (R.remaining input.old.inner) (R.remaining input.new.inner) (W.contents output.old.inner) (W.contents output.new.inner) used result }
-{
-    match now {
-        None => answer_either(alloc, settings, hex, input, output, clock),
-        Some(now) => answer_either(alloc, settings, hex, input, output, &mut ConstantClock(now)),
-    }
-}
-
 /// What a fault of a connection is called by the program.
 fn fault_of(fault: HexFault) -> ProgramFault
     ensures { result ≡ fault_of fault }
@@ -270,13 +163,50 @@ fn fault_of(fault: HexFault) -> ProgramFault
     }
 }
 
+/// Opens the archive of the file at a path by the settings.
+fn open_store<D: Stores>(
+    settings: &Settings,
+    path: &str,
+    stores: &mut D,
+) -> Result<D::Kept, ProgramFault>
+    ensures { (opening : _) × D.opened stores.old path.now settings.now.archive settings.now.replica opening stores.new × (result ≡ unopened opening) }
+{
+    match stores.open(path, settings.archive(), settings.replica()) {
+        Ok(archive) => Ok(archive),
+        Err(fault) => Err(ProgramFault::Store(fault)),
+    }
+}
+
+/// Answers one connection over an archive, as the program tells it.
+fn answer_over<A: Archive, R: Read, W: Write, C: Clock>(
+    alloc: Global,
+    settings: &Settings,
+    archive: &mut A,
+    hex: bool,
+    now: Option<i64>,
+    input: &mut Counted<R>,
+    output: &mut Counted<W>,
+    clock: &mut C,
+) -> Result<(), ProgramFault>
+    ensures read { IsErrOf result (ProgramFault.Connection ServeFault.Read) → input.new.faults ≡ counted input.old.faults }
+    ensures write { IsErrOf result (ProgramFault.Connection ServeFault.Write) → output.new.faults ≡ counted output.old.faults }
+    ensures does { (used : Outside) × C.gave clock.old used.readings clock.new × (answered : _)
+        × AnswersAt settings.now (A.state archive.old) (A.state archive.new) hex now (R.remaining input.old.inner) (R.remaining input.new.inner) (W.contents output.old.inner) (W.contents output.new.inner) used answered × (result ≡ program_result answered) }
+{
+    match answer_at(alloc, settings, archive, hex, now, input, output, clock) {
+        Ok(()) => Ok(()),
+        Err(fault) => Err(fault_of(fault)),
+    }
+}
+
 /// Answers one connection by the settings of the file at a path, where there is one.
-fn answer_by<F: SettingsFiles, R: Read, W: Write, C: Clock>(
+fn answer_by<F: SettingsFiles, D: Stores, R: Read, W: Write, C: Clock>(
     alloc: Global,
     path: Option<&str>,
     hex: bool,
     now: Option<i64>,
     files: &mut F,
+    stores: &mut D,
     input: &mut Counted<R>,
     output: &mut Counted<W>,
     clock: &mut C,
@@ -284,53 +214,132 @@ fn answer_by<F: SettingsFiles, R: Read, W: Write, C: Clock>(
     ensures read { IsErrOf result (ProgramFault.Connection ServeFault.Read) → input.new.faults ≡ counted input.old.faults }
     ensures write { IsErrOf result (ProgramFault.Connection ServeFault.Write) → output.new.faults ≡ counted output.old.faults }
     ensures does { (used : Outside) × C.gave clock.old used.readings clock.new
-        × AnswersBy (λ path text. F.gave files.old path text files.new) (option_copied path.entry) hex now (R.remaining input.old.inner) (R.remaining input.new.inner) (W.contents output.old.inner) (W.contents output.new.inner) used result }
+        × AnswersBy (record { reads = λ path text. F.gave files.old path text files.new; opened = λ path id number opening. D.opened stores.old path id number opening stores.new; held = D.Kept.state }) (option_copied path.entry) hex now (R.remaining input.old.inner) (R.remaining input.new.inner) (W.contents output.old.inner) (W.contents output.new.inner) used result }
 {
     let settings = match settings_at(alloc, path, files) {
         Ok(settings) => settings,
         Err(fault) => return Err(fault),
     };
-    match answer_at(alloc, &settings, hex, now, input, output, clock) {
-        Ok(()) => Ok(()),
-        Err(fault) => Err(fault_of(fault)),
+    match settings.store() {
+        None => answer_over(
+            alloc,
+            &settings,
+            &mut archive_of(alloc, &settings),
+            hex,
+            now,
+            input,
+            output,
+            clock,
+        ),
+        Some(path) => match open_store(&settings, path, stores) {
+            Ok(mut archive) => answer_over(
+                alloc,
+                &settings,
+                &mut archive,
+                hex,
+                now,
+                input,
+                output,
+                clock,
+            ),
+            Err(fault) => Err(fault),
+        },
     }
 }
 
-/// Serves so many connections by the settings of the file at a path, over an archive that holds nothing.
-fn serve_by<F: SettingsFiles, N: Network, C: Clock, E: Write>(
+/// Serves so many connections by the settings of the file at a path.
+fn serve_by<F: SettingsFiles, D: Stores, N: Network, C: Clock, E: Write>(
     alloc: Global,
     path: &str,
     connections: u32,
     files: &mut F,
+    stores: &mut D,
     network: &mut N,
     clock: &mut C,
     errors: &mut Counted<E>,
 ) -> Result<(), ProgramFault>
-    ensures serves { ServesBy (record { accepted = N.Listener.accepted; closed = N.Listener.closed; gave = C.gave; unread = N.Listener.Reader.remaining; written = N.Listener.Writer.contents; held = store_of }) N.listened E.contents
-        (λ path text. F.gave files.old path text files.new) path.now connections network.old network.new clock.old clock.new errors.old errors.new result }
+    ensures serves { ServesBy (record { reads = λ path text. F.gave files.old path text files.new; opened = λ path id number opening. D.opened stores.old path id number opening stores.new; held = D.Kept.state })
+        (record { accepted = N.Listener.accepted; closed = N.Listener.closed; gave = C.gave; unread = N.Listener.Reader.remaining; written = N.Listener.Writer.contents; held = D.Kept.state }) N.listened E.contents path.now connections network.old network.new clock.old clock.new errors.old errors.new result }
     ensures connection { (fault : ServeFault) → IsErrOf result (ProgramFault.Connection fault) → ⊥ }
 {
     let settings = match settings_at(alloc, Some(path), files) {
         Ok(settings) => settings,
         Err(fault) => return Err(fault),
     };
-    let mut archive = archive_of(alloc, &settings);
-    serve_at(
-        alloc,
-        &settings,
-        &mut archive,
-        connections,
-        network,
-        clock,
-        errors,
-    )
+    match settings.store() {
+        None => serve_at(
+            alloc,
+            &settings,
+            &mut archive_of(alloc, &settings),
+            connections,
+            network,
+            clock,
+            errors,
+        ),
+        Some(path) => match open_store(&settings, path, stores) {
+            Ok(mut archive) => serve_at(
+                alloc,
+                &settings,
+                &mut archive,
+                connections,
+                network,
+                clock,
+                errors,
+            ),
+            Err(fault) => Err(fault),
+        },
+    }
+}
+
+/// Dumps an archive, as the program tells it.
+fn dump_over<A: Archive, W: Write>(
+    alloc: Global,
+    archive: &mut A,
+    output: &mut Counted<W>,
+) -> Result<(), ProgramFault>
+    ensures read { IsErrOf result (ProgramFault.Connection ServeFault.Read) → ⊥ }
+    ensures write { IsErrOf result (ProgramFault.Connection ServeFault.Write) → output.new.faults ≡ counted output.old.faults }
+    ensures dumps { (dumped : _) × Dumps (A.state archive.old) (A.state archive.new) (W.contents output.old.inner) (W.contents output.new.inner) dumped × (result ≡ dump_result dumped) }
+{
+    match dump(alloc, archive, output) {
+        Ok(()) => Ok(()),
+        Err(DumpFault::Store(fault)) => Err(ProgramFault::Store(fault)),
+        Err(DumpFault::Write) => Err(ProgramFault::Connection(ServeFault::Write)),
+        Err(DumpFault::OutOfMemory) => Err(ProgramFault::Connection(ServeFault::OutOfMemory)),
+    }
+}
+
+/// Dumps the archive of the settings of the file at a path.
+fn dump_by<F: SettingsFiles, D: Stores, W: Write>(
+    alloc: Global,
+    path: &str,
+    files: &mut F,
+    stores: &mut D,
+    output: &mut Counted<W>,
+) -> Result<(), ProgramFault>
+    ensures read { IsErrOf result (ProgramFault.Connection ServeFault.Read) → ⊥ }
+    ensures write { IsErrOf result (ProgramFault.Connection ServeFault.Write) → output.new.faults ≡ counted output.old.faults }
+    ensures dumps { DumpsBy (record { reads = λ path text. F.gave files.old path text files.new; opened = λ path id number opening. D.opened stores.old path id number opening stores.new; held = D.Kept.state }) path.now (W.contents output.old.inner) (W.contents output.new.inner) result }
+{
+    let settings = match settings_at(alloc, Some(path), files) {
+        Ok(settings) => settings,
+        Err(fault) => return Err(fault),
+    };
+    match settings.store() {
+        None => dump_over(alloc, &mut archive_of(alloc, &settings), output),
+        Some(path) => match open_store(&settings, path, stores) {
+            Ok(mut archive) => dump_over(alloc, &mut archive, output),
+            Err(fault) => Err(fault),
+        },
+    }
 }
 
 /// Does what a line says.
-fn do_line<F: SettingsFiles, N: Network, R: Read, W: Write, E: Write, C: Clock>(
+fn do_line<F: SettingsFiles, D: Stores, N: Network, R: Read, W: Write, E: Write, C: Clock>(
     alloc: Global,
     line: Line<'_>,
     files: &mut F,
+    stores: &mut D,
     network: &mut N,
     input: &mut Counted<R>,
     output: &mut Counted<W>,
@@ -339,33 +348,55 @@ fn do_line<F: SettingsFiles, N: Network, R: Read, W: Write, E: Write, C: Clock>(
 ) -> Result<(), ProgramFault>
     ensures read { IsErrOf result (ProgramFault.Connection ServeFault.Read) → input.new.faults ≡ counted input.old.faults }
     ensures write { IsErrOf result (ProgramFault.Connection ServeFault.Write) → output.new.faults ≡ counted output.old.faults }
-    ensures does { DoesLine (record { accepted = N.Listener.accepted; closed = N.Listener.closed; gave = C.gave; unread = N.Listener.Reader.remaining; written = N.Listener.Writer.contents; held = store_of }) N.listened E.contents
-        (λ path text. F.gave files.old path text files.new) line.entry
+    ensures does { DoesLine (record { reads = λ path text. F.gave files.old path text files.new; opened = λ path id number opening. D.opened stores.old path id number opening stores.new; held = D.Kept.state })
+        (record { accepted = N.Listener.accepted; closed = N.Listener.closed; gave = C.gave; unread = N.Listener.Reader.remaining; written = N.Listener.Writer.contents; held = D.Kept.state }) N.listened E.contents line.entry
         (record { unread = R.remaining input.old.inner; written = W.contents output.old.inner; network = network.old; clock = clock.old; errors = errors.old })
         (record { unread = R.remaining input.new.inner; written = W.contents output.new.inner; network = network.new; clock = clock.new; errors = errors.new }) result }
 {
     match line {
         Line::Answer { settings, hex, now } => answer_by(
-            alloc, settings, hex, now, files, input, output, clock,
+            alloc, settings, hex, now, files, stores, input, output, clock,
         ),
         Line::Serve {
             settings,
             connections,
-        } => serve_by(alloc, settings, connections, files, network, clock, errors),
+        } => serve_by(
+            alloc,
+            settings,
+            connections,
+            files,
+            stores,
+            network,
+            clock,
+            errors,
+        ),
+        Line::Dump { settings } => dump_by(alloc, settings, files, stores, output),
     }
 }
 
-/// Does what a command line asks for. Where that names a file of settings, it is read first; where it gives a moment, the
-/// clock isn't read. What a connection over the network ended by is told on `errors` when it ends.
+/// Does what a command line asks for. Where that names a file of settings, it is read first, and then the store that they
+/// name is opened; where it gives a moment, the clock isn't read. What a connection over the network ended by is told on
+/// `errors` when it ends.
 ///
 /// Errors: `Line` where the words are no command, `File` and `Settings` where the settings file can't be read or is refused,
-/// `Address` where the settings' address is none or can't be listened at, `BadHex` where the input is to be hex and isn't,
-/// `Connection` where the connection of standard input met a fault; what went out before it stands.
+/// `Store` where the settings' store can't be opened, or can't be read for a dump, `Address` where the settings' address is
+/// none or can't be listened at, `BadHex` where the input is to be hex and isn't, `Connection` where the connection of
+/// standard input met a fault, or a dump's writer did; what went out before it stands.
 #[tactic(auto, using(crate::proofs::Printing::lines))]
-pub fn run<S: AsStr, F: SettingsFiles, N: Network, R: Read, W: Write, E: Write, C: Clock>(
+pub fn run<
+    S: AsStr,
+    F: SettingsFiles,
+    D: Stores,
+    N: Network,
+    R: Read,
+    W: Write,
+    E: Write,
+    C: Clock,
+>(
     alloc: Global,
     words: &[S],
     files: &mut F,
+    stores: &mut D,
     network: &mut N,
     input: &mut Counted<R>,
     output: &mut Counted<W>,
@@ -375,13 +406,15 @@ pub fn run<S: AsStr, F: SettingsFiles, N: Network, R: Read, W: Write, E: Write, 
     ensures read { IsErrOf result (ProgramFault.Connection ServeFault.Read) → input.new.faults ≡ counted input.old.faults }
     ensures write { IsErrOf result (ProgramFault.Connection ServeFault.Write) → output.new.faults ≡ counted output.old.faults }
     ensures runs { Runs (fault_kinds uahist (map S.text words.now)) (takes uahist (map S.text words.now)) (subcommand_of uahist (map S.text words.now))
-        (record { accepted = N.Listener.accepted; closed = N.Listener.closed; gave = C.gave; unread = N.Listener.Reader.remaining; written = N.Listener.Writer.contents; held = store_of }) N.listened E.contents
-        (λ path text. F.gave files.old path text files.new)
+        (record { reads = λ path text. F.gave files.old path text files.new; opened = λ path id number opening. D.opened stores.old path id number opening stores.new; held = D.Kept.state })
+        (record { accepted = N.Listener.accepted; closed = N.Listener.closed; gave = C.gave; unread = N.Listener.Reader.remaining; written = N.Listener.Writer.contents; held = D.Kept.state }) N.listened E.contents
         (record { unread = R.remaining input.old.inner; written = W.contents output.old.inner; network = network.old; clock = clock.old; errors = errors.old })
         (record { unread = R.remaining input.new.inner; written = W.contents output.new.inner; network = network.new; clock = clock.new; errors = errors.new }) result }
 {
     match read_line(alloc, words) {
-        Ok(line) => do_line(alloc, line, files, network, input, output, errors, clock),
+        Ok(line) => do_line(
+            alloc, line, files, stores, network, input, output, errors, clock,
+        ),
         Err(fault) => Err(ProgramFault::Line(fault)),
     }
 }
@@ -401,7 +434,7 @@ fn tell<W: Write>(text: &[u8], errors: &mut Counted<W>) -> Result<(), ServeFault
 
 /// Tells on `errors` what went wrong, in a line that begins with `uahist: `, and where settings are refused in a second one;
 /// answers the exit status: 0 where nothing went wrong, 1 where a connection ended by a fault, 2 where the command line, the
-/// settings or the input was refused. Of a line that can't be written whole a first part stands, and the failed call is
+/// settings or the input was refused, 3 where the store was. Of a line that can't be written whole a first part stands, and the failed call is
 /// counted.
 pub fn report<W: Write>(ending: Result<(), ProgramFault>, errors: &mut Counted<W>) -> u8
     ensures status { result ≡ status_of ending }
@@ -417,6 +450,7 @@ pub fn report<W: Write>(ending: Result<(), ProgramFault>, errors: &mut Counted<W
         | ProgramFault::File
         | ProgramFault::Settings(..)
         | ProgramFault::BadHex => 2,
+        ProgramFault::Store(_) => 3,
         ProgramFault::Address | ProgramFault::Connection(_) => 1,
     }
 }

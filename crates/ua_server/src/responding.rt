@@ -13,7 +13,7 @@ ghost use Rattle.ua_server.specs.Turns.{IsOwn, Answered, SendsTurn, ending_of, b
 use crate::outcome::ServeFault;
 use crate::turn::Turn;
 use archive::Archive;
-use historian::{answer_message, handle_of, put_service_fault};
+use historian::{Message, answer_message, put_service_fault};
 use std::alloc::Global;
 use ua_binary::{Status, Ticks};
 use ua_channel::{Channel, ChannelFault};
@@ -109,10 +109,9 @@ pub(crate) fn respond<A: Archive>(
     ensures own { IsOwn ⊥ 65536 result }
 {
     body.clear();
-    let handle = handle_of(message);
-    match answer_message(
-        alloc, settings, archive, sessions, now, handle, message, body,
-    ) {
+    let request = Message::read(message);
+    let handle = request.handle();
+    match answer_message(alloc, settings, archive, sessions, now, request, body) {
         Ok(()) => match send_fitting(channel, request_id, now, handle, body, out) {
             Ok(()) => Ok(Turn::Goes),
             Err(_) => send_starved(channel, request_id, now, handle, body, out),

@@ -4,14 +4,28 @@ use super::network::{Client, Machine};
 use super::rows::{ACK, ANSWER, HELLO, OPEN, OPENED, REQUEST};
 use super::{Narrow, Ticking, is_joined, joined};
 use crate::{
-    ConstantClock, Counted, Line, LineFault, ProgramFault, ServeFault, SettingsFiles, read_line,
-    report, run,
+    ConstantClock, Counted, Line, LineFault, ProgramFault, ServeFault, SettingsFiles, Stores,
+    read_line, report, run,
 };
+use archive::{ListArchive, StoreFault};
+use stamp::ReplicaNo;
 use std::alloc::Global;
 use std::test::Fail;
+use uuid::Uuid;
 
 /// Command lines, and what they are.
-static LINES: [(&[&str], Result<Line<'static>, LineFault>); 31] = [
+static LINES: [(&[&str], Result<Line<'static>, LineFault>); 34] = [
+    (
+        &["uahist", "dump", "--settings", "plant.toml"],
+        Ok(Line::Dump {
+            settings: "plant.toml",
+        }),
+    ),
+    (&["uahist", "dump"], Err(LineFault::Words)),
+    (
+        &["uahist", "dump", "--settings", "a", "--hex"],
+        Err(LineFault::Words),
+    ),
     (
         &["uahist", "answer"],
         Ok(Line::Answer {
@@ -158,7 +172,39 @@ fn reads_lines(rt: HostRuntime) {
 }
 
 /// Command lines, the input, the room of the output, what it has then, what is said, and the exit status.
-static RUNS: [(&[&str], &[u8], usize, &str, &str, u8); 17] = [
+static RUNS: [(&[&str], &[u8], usize, &str, &str, u8); 21] = [
+    (
+        &["uahist", "dump", "--settings", "good"],
+        b"",
+        1000,
+        "",
+        "",
+        0,
+    ),
+    (
+        &["uahist", "dump", "--settings", "kept"],
+        b"",
+        1000,
+        "",
+        "",
+        0,
+    ),
+    (
+        &["uahist", "dump", "--settings", "others"],
+        b"",
+        1000,
+        "",
+        "uahist: store refused (4)\n",
+        3,
+    ),
+    (
+        &["uahist", "answer", "--settings", "others", "--hex"],
+        b"4G",
+        1000,
+        "",
+        "uahist: store refused (4)\n",
+        3,
+    ),
     (
         &["uahist", "answer", "--hex"],
         b"474554202F000000",
@@ -205,7 +251,7 @@ static RUNS: [(&[&str], &[u8], usize, &str, &str, u8); 17] = [
         b"",
         1000,
         "",
-        "uahist: usage: uahist answer [--settings FILE] [--hex] [--now N] | serve --settings FILE [--connections N]\n",
+        "uahist: usage: uahist answer [--settings FILE] [--hex] [--now N] | serve --settings FILE [--connections N] | dump --settings FILE\n",
         2,
     ),
     (
@@ -298,7 +344,15 @@ static RUNS: [(&[&str], &[u8], usize, &str, &str, u8); 17] = [
 ];
 
 /// Settings files that are kept in memory: their names, and their texts.
-static FILES: [(&str, &str); 5] = [
+static FILES: [(&str, &str); 7] = [
+    (
+        "kept",
+        "[archive]\nid = '00000000000000000000000000000000'\nreplica = 1\nstore = 'own.db'\n[server]\nlisten = ''\nurl = ''\napplication = ''\nnamespace = ''\nanonymous = true\n",
+    ),
+    (
+        "others",
+        "[archive]\nid = '00000000000000000000000000000000'\nreplica = 1\nstore = 'other.db'\n[server]\nlisten = ''\nurl = ''\napplication = ''\nnamespace = ''\nanonymous = true\n",
+    ),
     (
         "open",
         "[archive]\nid = '00000000000000000000000000000000'\nreplica = 1\n[server]\nlisten = '127.0.0.1:4840'\nurl = ''\napplication = ''\nnamespace = ''\nanonymous = true\n",
@@ -331,6 +385,23 @@ impl SettingsFiles for Kept {
     fn text(&mut self, path: &str) -> Option<String> {
         let (_, text) = FILES.iter().find(|(name, _)| *name == path)?;
         String::from_str(self.0, text).ok()
+    }
+}
+
+/// Stores in memory: each path but one opens an archive that holds nothing.
+#[derive(Drop)]
+struct Memories(Global);
+
+impl Stores for Memories {
+    type Kept = ListArchive;
+
+    ghost opened = { λ old path id number opening new. Unit {0} };
+
+    fn open(&mut self, path: &str, id: Uuid, number: ReplicaNo) -> Result<ListArchive, StoreFault> {
+        if path == "other.db" {
+            return Err(StoreFault::WrongArchive);
+        }
+        Ok(ListArchive::new(self.0, id, number))
     }
 }
 
@@ -376,6 +447,7 @@ fn is_run(
         alloc,
         words,
         &mut Kept(alloc),
+        &mut Memories(alloc),
         &mut machine(alloc),
         &mut reader,
         &mut writer,
@@ -411,6 +483,7 @@ fn runs_at_a_moment(rt: HostRuntime) -> Result<(), Fail> {
         rt.alloc(),
         &words,
         &mut Kept(rt.alloc()),
+        &mut Memories(rt.alloc()),
         &mut machine(rt.alloc()),
         &mut reader,
         &mut writer,

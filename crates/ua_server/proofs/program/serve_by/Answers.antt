@@ -1,11 +1,40 @@
-use Rattle.std.proofs.Common.{Ok, List, Option, subst}
+use Rattle.std.proofs.Common.{◌≡◌, ◌∙◌, ℕ, ℤ, List, Bool, Some, None, Ok, Err, Option, Result, refl, sym, ap, subst, option_copied}
+use Rattle.archive.specs.declared.fault.StoreFault.{StoreFault}
+use Rattle.archive.specs.Store.{Store}
 use Rattle.archive.specs.Listed.{Listed, store_of}
-use Rattle.ua_server.specs.Network.{Listens}
+use Rattle.ua_server.specs.Given.{Outside}
+use Rattle.ua_server.specs.Network.{Means, Listens}
+use Rattle.ua_server.specs.Dumping.{Dumps}
+use Rattle.ua_server.specs.declared.hexed.HexFault.{HexFault}
+use Rattle.ua_server.specs.declared.dumps.DumpFault.{DumpFault}
+use Rattle.ua_server.specs.declared.program.ProgramFault.{ProgramFault}
+use Rattle.ua_server.specs.declared.program.ProgramFault.TheVariants as program
+use Rattle.ua_server.specs.Program.{AnswersAt, program_result, means_over, dump_result}
+use Rattle.ua_server.proofs.Outsides.{nothing}
+use Rattle.ua_server.proofs.Opened.{over-none, over-opened, over-refused}
 use Rattle.ua_server.proofs.program.serve_by.Goals as goal
 
-pub returns-clause-serves : goal.returns-clause-serves
-returns-clause-serves g c =
-    let P : Listed → Type 0 = λ first. Listens (record { accepted = g.N.Listener.Listener.accepted; closed = g.N.Listener.Listener.closed; gave = g.C.Clock.gave; unread = g.N.Listener.Reader.Read.remaining; written = g.N.Listener.Writer.Write.contents; held = store_of })
-    g.N.Network.listened g.E.Write.contents c.in-Ok.settings c.args.connections (record { source = c.args.network.now; archive = first; clock = c.args.clock.now }) c.args.errors.now
-    (record { source = c.serve_at.new.network; archive = c.serve_at.new.archive; clock = c.serve_at.new.clock }) c.serve_at.new.errors c.serve_at.result in
-    (Ok c.in-Ok.settings, c.in-Ok.ensures, (c.serve_at.new.archive, subst P c.archive_of-archive.ensures c.serve_at.ensures.listens))
+pub returns-in-None-clause-serves : goal.returns-in-None-clause-serves
+returns-in-None-clause-serves g c =
+    let settings = c.in-Ok.settings in (
+      Ok settings,
+      c.in-Ok.ensures,
+      over-none g.D.Kept.Archive.state (λ path opening. g.D.Stores.opened c.args.stores.now path settings.archive settings.replica opening c.args.stores.now) settings
+          (λ T held first. (last : T) × Listens (record { accepted = g.N.Listener.Listener.accepted; closed = g.N.Listener.Listener.closed; gave = g.C.Clock.gave; unread = g.N.Listener.Reader.Read.remaining; written = g.N.Listener.Writer.Write.contents; held = held }) g.N.Network.listened g.E.Write.contents settings c.args.connections (record { source = c.args.network.now; archive = first; clock = c.args.clock.now }) c.args.errors.now
+          (record { source = c.serve_at.new.network; archive = last; clock = c.serve_at.new.clock }) c.serve_at.new.errors c.serve_at.result)
+          (λ fault. (c.serve_at.result ≡ Err (program.Store fault)) × (c.serve_at.new.network ≡ c.args.network.now) × (c.serve_at.new.clock ≡ c.args.clock.now) × (c.serve_at.new.errors ≡ c.args.errors.now))
+          c.archive_of.result (sym c.store.ensures ∙ ap option_copied c.in-None.is) c.archive_of.ensures (c.serve_at.new.archive, c.serve_at.ensures.listens),
+    )
+
+pub returns-in-Ok-open_store-clause-serves : goal.returns-in-Ok-open_store-clause-serves
+returns-in-Ok-open_store-clause-serves g c =
+    let settings = c.in-Ok.settings in
+    let opening = c.in-Ok-open_store.ensures in (
+      Ok settings,
+      c.in-Ok.ensures,
+      over-opened g.D.Kept.Archive.state (λ path opening. g.D.Stores.opened c.args.stores.now path settings.archive settings.replica opening c.open_store.new.stores) settings
+          (λ T held first. (last : T) × Listens (record { accepted = g.N.Listener.Listener.accepted; closed = g.N.Listener.Listener.closed; gave = g.C.Clock.gave; unread = g.N.Listener.Reader.Read.remaining; written = g.N.Listener.Writer.Write.contents; held = held }) g.N.Network.listened g.E.Write.contents settings c.args.connections (record { source = c.args.network.now; archive = first; clock = c.args.clock.now }) c.args.errors.now
+          (record { source = c.serve_at-in-Ok-open_store.new.network; archive = last; clock = c.serve_at-in-Ok-open_store.new.clock }) c.serve_at-in-Ok-open_store.new.errors c.serve_at-in-Ok-open_store.result)
+          (λ fault. (c.serve_at-in-Ok-open_store.result ≡ Err (program.Store fault)) × (c.serve_at-in-Ok-open_store.new.network ≡ c.args.network.now) × (c.serve_at-in-Ok-open_store.new.clock ≡ c.args.clock.now) × (c.serve_at-in-Ok-open_store.new.errors ≡ c.args.errors.now))
+          c.in-Some.path.now opening.0 c.in-Ok-open_store.archive (sym c.store.ensures ∙ ap option_copied c.in-Some.is) opening.1 opening.2 (c.serve_at-in-Ok-open_store.new.archive, c.serve_at-in-Ok-open_store.ensures.listens),
+    )
