@@ -3,10 +3,12 @@
 
     plant_day.py            writes what the client sends, in hex, a request a line
     plant_day.py ANSWER     tells what the answer in the file ANSWER (hex digits) says, a response a line
+    plant_day.py HOST:PORT  sends it to the server there over TCP, and tells the same of what comes back
 
 ann writes the 24 hourly temperatures of 2026-03-01 and reads the morning; ben corrects 07:00 and reads who changed what;
 then he deletes the night. The server's clock stands (--now), so that the same bytes come out each time.
 """
+import socket
 import struct
 import sys
 import opcua
@@ -55,9 +57,22 @@ def told(letters, chunk):
     return f"{TYPES.get(type_id, type_id)}: request {handle}, status {status:08X}, {len(chunk) - start} bytes"
 
 
+def over_network(address):
+    """Each request of the day with the chunk that the server at HOST:PORT answers."""
+    host, port = address.rsplit(":", 1)
+    with socket.create_connection((host, int(port))) as line, line.makefile("rb") as answers:
+        for name, sent in requests():
+            line.sendall(sent)
+            head = answers.read(8)
+            yield name, head[:4].decode(), head + answers.read(struct.unpack_from("<I", head, 4)[0] - 8)
+
+
 if len(sys.argv) == 1:
     for name, sent in requests():
         print(sent.hex().upper())
+elif ":" in sys.argv[1]:
+    for name, letters, chunk in over_network(sys.argv[1]):
+        print(f"{name}: {told(letters, chunk)}")
 else:
     names = [name for name, _ in requests()]
     for name, (letters, chunk) in zip(names, opcua.cut(bytes.fromhex(open(sys.argv[1]).read()))):
