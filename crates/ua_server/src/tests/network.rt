@@ -60,7 +60,9 @@ impl<'a> Listener for Clients<'a> {
         Some((reader, writer))
     }
 
-    fn close(&mut self, reader: Counted<Slow<'a>>, writer: Counted<Narrow>) {
+    fn close(&mut self, reader: Counted<Slow<'a>>, writer: Counted<Narrow>)
+        ensures { Unit {0} }
+    {
         drop(reader);
         let _ = self.written.push(writer.into_inner().bytes);
     }
