@@ -21,15 +21,17 @@ pub(super) struct Client<'a> {
 #[derive(Drop)]
 pub(super) struct Clients<'a> {
     alloc: Global,
-    waiting: &'a [Option<Client<'a>>],
+    clients: &'a [Option<Client<'a>>],
+    taken: usize,
     written: Vec<Vec<u8>>,
 }
 
 impl<'a> Clients<'a> {
-    fn new(alloc: Global, waiting: &'a [Option<Client<'a>>]) -> Self {
+    fn new(alloc: Global, clients: &'a [Option<Client<'a>>]) -> Self {
         Clients {
             alloc,
-            waiting,
+            clients,
+            taken: 0,
             written: Vec::new(alloc),
         }
     }
@@ -45,9 +47,9 @@ impl<'a> Listener for Clients<'a> {
     ghost closed = { λ old reader writer new. Unit {0} };
 
     fn accept(&mut self) -> Option<(Slow<'a>, Narrow)> {
-        let (next, rest) = self.waiting.split_first()?;
-        self.waiting = rest;
-        let client = (*next)?;
+        let next = self.taken;
+        self.taken = next.saturating_add(1);
+        let client = (*self.clients.get(next)?)?;
         let reader = Slow {
             bytes: client.bytes,
             size: 40,
