@@ -27,10 +27,11 @@ use Rattle.sqlite.specs.Files.{file_state, HoldsDatabase, image_of}
 use Rattle.sqlite.specs.Closing.{IsCopied}
 use Rattle.records.specs.Contents.{Content}
 use Rattle.sql_archive.specs.Tables.{no_schema, archive_schema}
-use Rattle.sql_archive.specs.Rows.{content_in, IsStored}
+use Rattle.sql_archive.specs.Rows.{content_in, IsStored, meta_cells}
 use Rattle.sql_archive.specs.Kept.{Stands}
-use Rattle.sql_archive.specs.Opening.{Starts}
-use Rattle.sql_archive.specs.Files.{IsFound, Tells, Resumes, ResumesOnly, ResumesAmong}
+use Rattle.archive.specs.declared.fault.StoreFault.{StoreFault}
+use Rattle.sql_archive.specs.Opening.{Starts, IsRefused, judged}
+use Rattle.sql_archive.specs.Files.{IsFound, Tells, Resumes, ResumesOnly, ResumesAmong, IsAnothers}
 use Rattle.sql_archive.proofs.OpenLemmas.{nothing_in}
 
 -- what an archive that began with what an opening found goes on with
@@ -47,6 +48,18 @@ resumes image id own old new opens live found starts = record { db = old.committ
     go (inl made) = inl (subst (Lists (old.committed.trees catalog_tree)) made.0 lists, nothing_in new.now.trees made.1.records)
     go (inr stood) =
         inr (subst (Lists (old.committed.trees catalog_tree)) stood.0 lists, subst (IsStored id own) same stood.1, ap content_in (ap (λ (d : Database). d.trees) stood.2 ∙ same))
+
+-- the files of another archive, or of another replica, say so
+pub another : (image : Image) (id : List ℕ) (own : ℕ) (fault : StoreFault) (old : State) → Opens old → IsLive old → FindsIn image old → IsRefused id own old.now fault → IsAnothers image id own fault
+another image id own fault old opens live found refused = record {
+  db = old.committed.trees;
+  found = record { holds = found.holds; reads = found.reads };
+  lists = subst (Lists (old.committed.trees catalog_tree)) refused.schema (subst (λ (t : Trees). Lists (t catalog_tree) old.now.schema) same (live opens.is_open).0.lists);
+  judged = subst (λ t. judged id own (meta_cells t) ≡ Err fault) same refused.judged;
+}
+  where
+    same : old.now.trees ≡ old.committed.trees
+    same = ap (λ (d : Database). d.trees) opens.clean
 
 two_schemas : no_schema ≡ archive_schema → ⊥
 two_schemas e = let n : 0 ≡ 2 = ap (λ (s : Schema). length s.tables) e in absurd (omega (arith, n))

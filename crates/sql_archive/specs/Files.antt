@@ -1,5 +1,5 @@
 -- What the files of an archive hold.
-use Rattle.std.specs.Prelude.{◌≡◌, ◌⊎◌, ℕ, List, []}
+use Rattle.std.specs.Prelude.{◌≡◌, ◌⊎◌, ℕ, List, [], Err}
 use Rattle.sqlite_wal.specs.Recovery.{Image}
 use Rattle.sqlite_trees.specs.Tree.{Trees}
 use Rattle.sqlite_trees.specs.Objects.{catalog_tree}
@@ -7,7 +7,9 @@ use Rattle.sqlite_catalog.specs.Listing.{Lists}
 use Rattle.sqlite.specs.Files.{HoldsDatabase, AreFoundIn}
 use Rattle.records.specs.Contents.{Content}
 use Rattle.sql_archive.specs.Tables.{no_schema, archive_schema}
-use Rattle.sql_archive.specs.Rows.{content_in, IsStored}
+use Rattle.archive.specs.declared.fault.StoreFault.{StoreFault}
+use Rattle.sql_archive.specs.Opening.{judged}
+use Rattle.sql_archive.specs.Rows.{content_in, IsStored, meta_cells}
 
 -- an opening finds these trees in the two files: the database that they hold, or none
 pub record IsFound (image : Image) (db : Trees) : Type 0 where
@@ -31,3 +33,10 @@ ResumesOnly image R = (id : List ℕ) (own : ℕ) (S : Content) → Resumes imag
 -- whichever archive goes on with them, it is with trees that are among these
 abbrev pub ResumesAmong : Image → (Trees → Type 0) → Type 0
 ResumesAmong image Among = (id : List ℕ) (own : ℕ) (R : Content) → Resumes image id own R → ∥ ((db : Trees) × Among db × Tells id own db R) ∥₁
+
+-- the files hold the tables of an archive, of which meta says that they are another archive's, or another replica's
+pub record IsAnothers (image : Image) (id : List ℕ) (own : ℕ) (fault : StoreFault) : Type 0 where
+  pub db : Trees
+  pub found : IsFound image db
+  pub lists : Lists (db catalog_tree) archive_schema
+  pub judged : judged id own (meta_cells db) ≡ Err fault

@@ -1,12 +1,13 @@
-use crate::SqlArchive;
 use crate::tests::{Row, learn};
+use crate::{FileArchive, SqlArchive};
 use HistoryUpdateType::{Delete, Insert, Update};
 use archive::{Archive, StoreFault};
 use records::HistoryUpdateType;
 use sqlite::{Connection, FileStore, Files, Options};
-use sqlite_disk::{Disk, Memory};
+use sqlite_disk::{Crash, Disk, Fuse, Memory};
 use stamp::{ReplicaNo, Vector};
 use std::alloc::Global;
+use std::fs;
 use std::test::Fail;
 use uuid::Uuid;
 
@@ -46,14 +47,12 @@ fn open<D: Disk + Drop>(alloc: Global, files: Files<D>, id: Uuid, number: Replic
 
 /// How many of the updates are learned, up to the first that isn't.
 fn learn_five<A: Archive>(alloc: Global, archive: &mut A) -> usize {
-    let mut learned = 0;
-    for row in &FIVE {
-        match learn(alloc, archive, row) {
-            Ok(true) => learned += 1,
-            _ => return learned,
+    for (at, row) in FIVE.iter().enumerate() {
+        if learn(alloc, archive, row) != Ok(true) {
+            return at;
         }
     }
-    learned
+    FIVE.len()
 }
 
 /// How many records are held, where they are the first of the updates.
@@ -153,9 +152,86 @@ static SPOILED: [&[&str]; 8] = [
 #[test]
 fn other_tables_and_rows_are_refused(rt: HostRuntime) -> Result<(), Fail> {
     for statements in &SPOILED {
-        let fault = refused_after(rt.alloc(), statements);
-        println!(rt; "{fault:?}")?;
-        assert!(rt; fault == Some(StoreFault::Refused));
+        assert!(rt; refused_after(rt.alloc(), statements) == Some(StoreFault::Refused));
     }
+    Ok(())
+}
+
+/// How many records the store at a path holds, and how many of the five updates are then learned.
+fn use_file(rt: &HostRuntime, path: &str) -> Result<(Option<usize>, usize), StoreFault> {
+    let mut archive = FileArchive::open(rt, path, Uuid::nil(), one()?)?;
+    let before = held(rt.alloc(), &mut archive);
+    Ok((before, learn_five(rt.alloc(), &mut archive)))
+}
+
+#[test]
+fn a_file_is_opened_and_found_again(rt: HostRuntime) -> Result<(), Fail> {
+    let _ = fs::remove_dir_all(&rt, "sql_archive_test");
+    fs::create_dir(&rt, "sql_archive_test")?;
+    assert!(rt; use_file(&rt, "sql_archive_test/a.db")? == (Some(0), 5));
+    assert!(rt; use_file(&rt, "sql_archive_test/a.db")? == (Some(5), 0));
+    fs::remove_dir_all(&rt, "sql_archive_test")?;
+    Ok(())
+}
+
+/// A run that opens a store, learns the five records and closes, over files that fail from some call on: how
+/// many were learned, whether all went well, and the files.
+fn run(alloc: Global, files: Files<Fuse<Memory>>) -> Option<(usize, bool, Files<Fuse<Memory>>)> {
+    let mut archive = match open(alloc, files, Uuid::nil(), one().ok()?) {
+        Ok(archive) => archive,
+        Err((_, left)) => return Some((0, false, left)),
+    };
+    let learned = learn_five(alloc, &mut archive);
+    match archive.close_files() {
+        Ok(files) => Some((learned, learned == 5, files)),
+        Err(files) => Some((learned, false, files)),
+    }
+}
+
+/// Whether a run that is stopped there, and crashes, leaves the records that were learned, and at most one
+/// more; and whether it went to its end.
+fn survives(alloc: Global, log_calls: u64, db_calls: u64) -> Option<(bool, bool)> {
+    let Files { log, db } = empty(alloc);
+    let files = Files {
+        log: Fuse::new(log, log_calls),
+        db: Fuse::new(db, db_calls),
+    };
+    let (learned, ended, mut files) = run(alloc, files)?;
+    files.log.crash();
+    files.db.crash();
+    let Ok(mut again) = open(alloc, files, Uuid::nil(), one().ok()?) else {
+        return Some((false, ended));
+    };
+    let found = held(alloc, &mut again)?;
+    Some((learned <= found && found - learned <= 1, ended))
+}
+
+/// Calls of the log, and of the database, at which runs are stopped. Each of the first 80 and of the first 40
+/// can be tried here; all of them take minutes.
+static LOG_STOPS: [u64; 5] = [5, 22, 39, 56, 73];
+
+static DATABASE_STOPS: [u64; 3] = [4, 17, 30];
+
+#[test]
+fn a_stop_of_the_log_leaves_what_was_learned(rt: HostRuntime) -> Result<(), Fail> {
+    for calls in &LOG_STOPS {
+        assert!(rt; survives(rt.alloc(), *calls, u64::MAX).is_some_and(|(kept, _)| kept));
+    }
+    Ok(())
+}
+
+#[test]
+fn a_stop_of_the_database_leaves_what_was_learned(rt: HostRuntime) -> Result<(), Fail> {
+    for calls in &DATABASE_STOPS {
+        assert!(rt; survives(rt.alloc(), u64::MAX, *calls).is_some_and(|(kept, _)| kept));
+    }
+    Ok(())
+}
+
+/// No stop comes behind these calls.
+#[test]
+fn a_run_has_no_more_calls(rt: HostRuntime) -> Result<(), Fail> {
+    assert!(rt; survives(rt.alloc(), 80, u64::MAX) == Some((true, true)));
+    assert!(rt; survives(rt.alloc(), u64::MAX, 40) == Some((true, true)));
     Ok(())
 }

@@ -1,12 +1,13 @@
 //! Archives in files: a database file and its log.
 
-ghost use Rattle.std.specs.Prelude.{◌≡◌, false, IfOk, IsTrue};
+ghost use Rattle.std.specs.Prelude.{◌≡◌, false, IfOk, IfErr, IsTrue};
 ghost use Rattle.sqlite.specs.State.{HasCleanDisk};
 ghost use Rattle.sqlite.specs.Files.{file_state, image_of};
 ghost use Rattle.sqlite_wal.specs.Files.{image_at};
 ghost use Rattle.sqlite_wal.specs.Reads.{AreClean};
+ghost use Rattle.archive.specs.Store.{IsOfOpening};
 ghost use Rattle.sql_archive.specs.Rows.{content_in};
-ghost use Rattle.sql_archive.specs.Files.{Resumes, ResumesOnly, ResumesAmong};
+ghost use Rattle.sql_archive.specs.Files.{Resumes, ResumesOnly, ResumesAmong, IsAnothers};
 
 use crate::starting::start;
 use crate::statements::refusal_of;
@@ -21,6 +22,14 @@ use uuid::Uuid;
 
 /// An archive in a file of this machine.
 pub type FileArchive = SqlArchive<FileStore<File>>;
+
+/// The files of a connection, as they are.
+fn files_of<D: Disk + Drop>(conn: Connection<FileStore<D>>) -> Files<D>
+    ensures clean { AreClean D.Disk result.log result.db → HasCleanDisk (file_state conn) }
+    ensures among { AreClean D.Disk result.log result.db → ResumesAmong (image_of D.Disk result) (file_state conn).may_leave }
+{
+    conn.into_store().close()
+}
 
 impl<D: Disk + Drop> SqlArchive<FileStore<D>> {
     /// Opens the archive of this id and replica that a database file and its log hold. Where they hold no
@@ -41,11 +50,12 @@ impl<D: Disk + Drop> SqlArchive<FileStore<D>> {
         requires db { IsTrue (D.Disk.is_usable files.db) }
         ensures own { IfOk result (λ a. (a.id ≡ id) × (a.number ≡ number) × (a.faults ≡ 0) × (a.broken ≡ false)) }
         ensures resumed { IfOk result (λ a. HasCleanDisk (file_state a.conn) → Resumes (image_of D.Disk files) id number (content_in (file_state a.conn).now.trees)) }
+        ensures wrong { IfErr result (λ e. AreClean D.Disk e.1.log e.1.db → IsOfOpening e.0 → IsAnothers (image_of D.Disk files) id number e.0) }
     {
         match Connection::open_files(alloc, files, options) {
             Ok(conn) => match start(alloc, conn, id, number) {
                 Ok(archive) => Ok(archive),
-                Err((fault, conn)) => Err((fault, conn.into_store().close())),
+                Err((fault, conn)) => Err((fault, files_of(conn))),
             },
             Err((error, left)) => Err((refusal_of(error), left.into_files())),
         }
@@ -71,7 +81,7 @@ impl<D: Disk + Drop> SqlArchive<FileStore<D>> {
     pub fn into_files(self) -> Files<D>
         ensures { AreClean D.Disk result.log result.db → ResumesAmong (image_of D.Disk result) (file_state self.conn).may_leave }
     {
-        self.into_connection().into_store().close()
+        files_of(self.into_connection())
     }
 }
 

@@ -37,6 +37,7 @@ pub(crate) fn fault_of<S: Alter>(conn: &mut Connection<S>, error: Error) -> Stor
 /// What an error is told as, as long as the store is open: want of memory, or a refusal.
 pub(crate) fn refusal_of(error: Error) -> StoreFault
     ensures named { (result ≡ StoreFault.OutOfMemory) ⊎ (result ≡ StoreFault.Refused) }
+    ensures met { IsOfOpening result → ⊥ }
 {
     match error {
         Error::SqliteFailure(ErrorCode::OutOfMemory) => StoreFault::OutOfMemory,

@@ -1,7 +1,7 @@
 use Rattle.std.proofs.Common.{arith}
 use Rattle.sqlite.specs.State.{HasCleanDisk}
 use Rattle.sqlite.specs.Files.{file_state, image_of}
-use Rattle.sql_archive.proofs.FileLemmas.{resumes}
+use Rattle.sql_archive.proofs.FileLemmas.{resumes, another}
 use Rattle.sql_archive.proofs.files.SqlArchive+FileStore+D.open_files.Goals as goal
 
 pub returns-in-Ok-start-clause-resumed : goal.returns-in-Ok-start-clause-resumed
@@ -10,3 +10,11 @@ returns-in-Ok-start-clause-resumed g c clean =
     let opened = c.in-Ok.ensures.opened early in
     let found = c.in-Ok.ensures.found early in
     resumes (image_of g.D.Disk c.args.files) c.args.id c.args.number (file_state c.in-Ok.conn) (file_state c.in-Ok-start.archive.conn) opened.0 opened.1 (record { holds = found.holds; reads = found.reads }) (c.in-Ok-start.ensures.started clean)
+
+pub returns-in-Err-start-clause-wrong : goal.returns-in-Err-start-clause-wrong
+returns-in-Err-start-clause-wrong g c clean of =
+    let late = c.files_of.ensures.clean clean in
+    let early : HasCleanDisk (file_state c.in-Ok.conn) = omega (arith, c.in-Err-start.ensures.left.clean, late) in
+    let opened = c.in-Ok.ensures.opened early in
+    let found = c.in-Ok.ensures.found early in
+    another (image_of g.D.Disk c.args.files) c.args.id c.args.number c.in-Err-start.fault (file_state c.in-Ok.conn) opened.0 opened.1 (record { holds = found.holds; reads = found.reads }) (c.in-Err-start.ensures.wrong late of)
