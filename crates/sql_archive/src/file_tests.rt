@@ -121,7 +121,11 @@ fn another_archive_and_another_replica_are_refused(rt: HostRuntime) -> Result<()
 
 /// What opening a database that these statements made is refused by.
 fn refused_after(alloc: Global, statements: &[&str]) -> Option<StoreFault> {
-    let Ok(mut conn) = Connection::open_files(alloc, filled(alloc).ok()?, Options::new(7)) else {
+    let files = filled(alloc).ok()?;
+    if !files.may_be_used() {
+        return None;
+    }
+    let Ok(mut conn) = Connection::open_files(alloc, files, Options::new(7)) else {
         return None;
     };
     for sql in statements {
