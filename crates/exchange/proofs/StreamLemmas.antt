@@ -90,7 +90,7 @@ cut_front bytes h within e =
     ∙ titled_front (length bytes) (take 8 bytes) (kind_at (take 8 bytes)) h (sym (cut_long bytes long) ∙ e)))
 
 -- what is given out is a whole frame
-given_frame : (bytes : List ℕ) (piece : Piece) → cut bytes ≡ Ok (Some (header_of piece)) → IsWithin bytes (header_of piece) → piece.body ≡ drop 8 (take (8 + length piece.body) bytes)
+pub given_frame : (bytes : List ℕ) (piece : Piece) → cut bytes ≡ Ok (Some (header_of piece)) → IsWithin bytes (header_of piece) → piece.body ≡ drop 8 (take (8 + length piece.body) bytes)
     → IsFrame piece (take (8 + length piece.body) bytes)
 given_frame bytes piece e within body =
     let size : ℕ = 8 + length piece.body in
@@ -102,7 +102,7 @@ given_frame bytes piece e within body =
 
 -- ---- runs
 
-next_sound : (held : Held) (r : Result (Option Header) ExchangeFault) → next_of held ≡ r → r ≢ Err Frame → (held.failed ≡ false) × (cut held.waiting ≡ r)
+pub next_sound : (held : Held) (r : Result (Option Header) ExchangeFault) → next_of held ≡ r → r ≢ Err Frame → (held.failed ≡ false) × (cut held.waiting ≡ r)
 next_sound held r e sound = go held.failed refl e
   where
     go : (x : Bool) → held.failed ≡ x → cond x (Err Frame) (cut held.waiting) ≡ r → (held.failed ≡ false) × (cut held.waiting ≡ r)

@@ -1,5 +1,5 @@
 -- What an end makes of a frame.
-use Rattle.std.proofs.Common.{◌≡◌, ℕ, zero, suc, List, [], ◌++◌, take, Option, Result, Ok, Err, refl, sym, ap, ◌∙◌, subst, inl, inr}
+use Rattle.std.proofs.Common.{◌≡◌, ℕ, zero, suc, List, [], ◌++◌, take, Option, Some, None, Result, Ok, Err, IfOk, refl, sym, ap, ◌∙◌, subst, inl, inr}
 use Rattle.stamp.specs.Numbers.{number_of, IsVector}
 use Rattle.ua_binary.specs.Format.{Puts}
 use Rattle.records.specs.Contents.{vec, merged}
@@ -15,8 +15,8 @@ use Rattle.exchange.specs.declared.message.Message.TheVariants as message
 use Rattle.exchange.specs.declared.message.State.{State}
 use Rattle.exchange.specs.declared.message.State.TheVariants as state
 use Rattle.exchange.specs.declared.dialog.Reply.{Reply}
-use Rattle.exchange.specs.Frames.{frame_of}
-use Rattle.exchange.specs.Dialogs.{Turn, failing, turned, title_by, Way, Clear, Unread, Stopped, Starved, Met, IsWay, gone, fault_on, records_in, records_read, Standing, unfit, received, answered, answered_to, standing_after, state_after, code_after, taken_after, party_of, bytes_of, Tells, TellsFault, Handles, Writes, Takes, Greets, Sends, SendsHandled, AnswersTo, Concludes}
+use Rattle.exchange.specs.Frames.{frame_of, message_at}
+use Rattle.exchange.specs.Dialogs.{Turn, failing, turned, title_by, Way, Clear, Unread, Stopped, Starved, Met, IsWay, gone, fault_on, records_in, records_read, Standing, unfit, received, received_by, answered, answered_to, standing_after, state_after, code_after, taken_after, party_of, bytes_of, Tells, TellsFault, Handles, Writes, Takes, Greets, Sends, SendsHandled, AnswersTo, Concludes}
 use Rattle.exchange.proofs.HandleLemmas.{title_in, title_is}
 
 -- ---- what was handled is written
@@ -26,6 +26,7 @@ pub answers_sent : (a c : Store) (state : State) (m : Message) (handled : Result
 answers_sent a c state m (Ok reply) (Ok done) out written handles sends = record {
   way = handles.way;
   unmoved = tt;
+  untaken = tt;
   outside = handles.outside;
   sends = λ h.
       let told = handles.tells h in (
@@ -40,6 +41,7 @@ answers_sent a c state m (Ok reply) (Ok done) out written handles sends = record
 answers_sent a c state m (Ok reply) (Err fault) out written handles sends = record {
   way = Starved;
   unmoved = tt;
+  untaken = tt;
   outside = tt;
   sends = λ h. (ap (failing _) (sym sends.0), sends.1);
   content = λ h u. subst (λ w. c.content ≡ (gone w a.content (records_in m) (turned (party_of a) state a.content m)).content) handles.clear (handles.content h u);
@@ -50,6 +52,7 @@ answers_sent a c state m (Err fault) (Ok done) out written handles sends = absur
 answers_sent a c state m (Err fault) (Err told) out written handles sends = record {
   way = handles.way;
   unmoved = tt;
+  untaken = tt;
   outside = handles.outside;
   sends = λ h. (handles.tells h ∙ ap (failing _) (sym sends.0), sends.1);
   content = handles.content;
@@ -90,6 +93,27 @@ module _ (a c : Store) (before counted after : Standing) (kind : FrameKind) (out
   started_is (Ok done) concludes = ap (λ (s : Standing). s.started) concludes.0 ∙ ap (λ (s : Standing). s.started) counts
   started_is (Err fault) concludes = ap (λ (s : Standing). s.started) concludes.0 ∙ ap (λ (s : Standing). s.started) counts
 
+  could : (o : Option ExchangeFault) (message : Result Message ExchangeFault) (m : Message) → received_by o message ≡ Ok m → o ≡ None
+  could None message m e = refl
+  could (Some fault) message m e = absurd (cc)
+
+  always : {X : Type 0} (r : Result State ExchangeFault) → X → IfOk r (λ _. X)
+  always (Ok s) x = x
+  always (Err f) x = tt
+
+  failed : (fault : ExchangeFault) (answered : Result (State × Option ℕ) ExchangeFault) → answered ≡ Err fault → Concludes counted after answered result mid written → IfOk result (λ _. unfit before kind ≡ None)
+  failed fault (Ok done) is concludes = absurd (cc)
+  failed fault (Err told) is concludes = elim concludes.1 [
+    | inl told ↦ subst (λ (r : Result State ExchangeFault). IfOk r (λ _. unfit before kind ≡ None)) (sym told.0) tt
+    | inr starved ↦ subst (λ (r : Result State ExchangeFault). IfOk r (λ _. unfit before kind ≡ None)) (sym starved.0) tt
+  ]
+
+  -- where the dialog goes on, the frame could be taken
+  fits : (message r : Result Message ExchangeFault) (answered : Result (State × Option ℕ) ExchangeFault) → received_by (unfit before kind) message ≡ r → AnswersTo a c before.state r out mid answered
+      → Concludes counted after answered result mid written → IfOk result (λ _. unfit before kind ≡ None)
+  fits message (Ok m) answered e answers concludes = always result (could (unfit before kind) message m e)
+  fits message (Err fault) answered e answers concludes = failed fault answered answers.untaken concludes
+
   -- what was received is what the frame says
   takes_it : (body : List ℕ) (answered : Result (State × Option ℕ) ExchangeFault) → AnswersTo a c before.state (received (party_of a) before kind body) out mid answered
       → Concludes counted after answered result mid written → Takes a c before after kind body out written result
@@ -102,6 +126,7 @@ module _ (a c : Store) (before counted after : Standing) (kind : FrameKind) (out
     crash = answers.crash;
     passes = answers.passes;
     counted = taken_is answered concludes;
+    fit = fits (message_at (party_of a) kind body) (received (party_of a) before kind body) answered refl answers concludes;
     started = started_is answered concludes;
   }
 
@@ -120,6 +145,7 @@ module _ (a c : Store) (before counted after : Standing) (kind : FrameKind) (out
     ];
     passes = subst (λ w. Passes a c (faults_by (fault_on w))) answers.unmoved answers.passes;
     counted = taken_is answered concludes;
+    fit = failed exchange.OutOfMemory answered answers.untaken concludes;
     started = started_is answered concludes;
   }
     where

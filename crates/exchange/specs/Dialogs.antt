@@ -273,6 +273,8 @@ pub record Takes (old new : Store) (before after : Standing) (kind : FrameKind) 
   pub passes : Passes old new (faults_by (fault_on way))
   -- whatever the store, frames are counted
   pub counted : after.taken ≡ taken_after (unfit before kind) before.taken
+  -- and the dialog goes on only behind one that may be taken
+  pub fit : IfOk result (λ _. unfit before kind ≡ None)
   pub started : after.started ≡ before.started
 
 -- a message that carries no record
@@ -310,6 +312,8 @@ pub record AnswersTo (old new : Store) (state : State) (received : Result Messag
   pub way : Way
   -- what wasn't received moves nothing
   pub unmoved : IfErr received (λ _. way ≡ Clear)
+  -- and its fault is told, whatever the store
+  pub untaken : IfErr received (λ fault. result ≡ Err fault)
   pub outside : IsWay (records_read received) way
   pub sends : new.honest → Sends (answered_to (party_of old) state old.content way received) result out written
   pub content : new.honest → new.broken ≡ false → new.content ≡ (answered_to (party_of old) state old.content way received).content
