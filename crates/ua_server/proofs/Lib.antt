@@ -11,3 +11,5 @@ pub mod Tried
 pub mod Networks
 pub mod DumpLemmas
 pub mod Opened
+pub mod Talks
+pub mod Talking

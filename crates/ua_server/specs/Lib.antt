@@ -13,3 +13,5 @@ pub mod Telling
 pub mod Network
 pub mod Dumping
 pub mod Program
+pub mod Peers
+pub mod Talking

@@ -1,5 +1,6 @@
 mod clients;
 mod network;
+mod peers;
 mod rows;
 mod runs;
 

@@ -1,0 +1,267 @@
+-- How the frames of a dialog make the dialog.
+use Rattle.std.proofs.Common.{◌≡◌, ◌≢◌, ℕ, zero, suc, ◌+◌, ◌<◌, ◌≤◌, ◌||◌, Bool, true, false, List, [], ◌∷◌, ◌++◌, map, take, drop, length, Option, Some, None, Result, Ok, Err, refl, sym, ◌∙◌, ap, subst, arith, append_assoc, inl, inr}
+use Rattle.std.specs.List.{AllByRecursion, flat_map, list_any}
+use Rattle.std.proofs.Math.Bool.{or-false}
+use Rattle.std.proofs.lemmas.List.{map-append, append-nil, take-append-drop, length-drop, length-append}
+use Rattle.std.proofs.lemmas.Grind.{flat_map-append}
+use Rattle.records.specs.Contents.{Content, merged}
+use Rattle.archive.specs.declared.fault.StoreFault.{StoreFault}
+use Rattle.archive.specs.Store.{Store, Passes, faults_by, is_break}
+use Rattle.archive.proofs.Calls.{passes-none, passes-then}
+use Rattle.exchange.specs.declared.fault.ExchangeFault.{ExchangeFault}
+use Rattle.exchange.specs.declared.fault.ExchangeFault.TheVariants as exchange
+use Rattle.exchange.specs.declared.message.FrameKind.{FrameKind}
+use Rattle.exchange.specs.declared.message.State.{State}
+use Rattle.exchange.specs.declared.message.State.TheVariants.{Pulling, Pushing, Serving, Done, Failed}
+use Rattle.exchange.specs.Named.{Party, Message, end_frame}
+use Rattle.exchange.specs.Frames.{cut, Held, Gives, next_of, after_next}
+use Rattle.exchange.specs.Streams.{Piece, AreFrames, header_of}
+use Rattle.exchange.specs.Dialogs.{Turn, Way, Clear, Unread, Stopped, Starved, Met, Standing, fault_on, unfit, received, records_in, turned, answered_to, gone, answered, standing_after, party_of, Writes, Takes, TellsFault}
+use Rattle.exchange.proofs.StreamLemmas.{given_frame, next_sound}
+use Rattle.ua_server.specs.declared.outcome.ServeFault.{ServeFault}
+use Rattle.ua_server.specs.declared.outcome.ServeFault.TheVariants.{Read, Write, TooLong, OutOfMemory}
+use Rattle.ua_server.specs.declared.peers.Parted.{Parted}
+use Rattle.ua_server.specs.declared.peers.Parted.TheVariants as parted
+use Rattle.ua_server.specs.Peers.{Taken, Side, side_of, turn_of, after, after_all, AreAnswered, MayLeave, faults_met, is_open, AreOpen, failed_as, ended_as, is_silent, EndsByFrame, EndsByBytes, EndsByWant, IsEnd, Talks}
+
+-- ---- lists of frames
+
+answered-append : (p : Party) (side : Side) (xs ys : List Taken) → AreAnswered p side xs → AreAnswered p (after_all p side xs) ys → AreAnswered p side (xs ++ ys)
+answered-append p side [] ys a b = b
+answered-append p side (x ∷ xs) ys a b = (a.0, answered-append p (after p side x) xs ys a.1 b)
+
+after-append : (p : Party) (side : Side) (xs ys : List Taken) → after_all p side (xs ++ ys) ≡ after_all p (after_all p side xs) ys
+after-append p side [] ys = refl
+after-append p side (x ∷ xs) ys = after-append p (after p side x) xs ys
+
+leave-front : (p : Party) (side : Side) (xs ys : List Taken) (left : Content) → MayLeave p side xs left → MayLeave p side (xs ++ ys) left
+leave-front p side [] ys left m = absurd m
+leave-front p side (x ∷ xs) ys left m = elim m [
+  | inl here ↦ inl here
+  | inr later ↦ inr (leave-front p (after p side x) xs ys left later)
+]
+
+leave-back : (p : Party) (side : Side) (xs ys : List Taken) (left : Content) → MayLeave p (after_all p side xs) ys left → MayLeave p side (xs ++ ys) left
+leave-back p side [] ys left m = m
+leave-back p side (x ∷ xs) ys left m = inr (leave-back p (after p side x) xs ys left m)
+
+open-append : (xs ys : List Taken) → AreOpen xs → AreOpen ys → AreOpen (xs ++ ys)
+open-append [] ys a b = b
+open-append (x ∷ xs) ys a b = (a.0, open-append xs ys a.1 b)
+
+frames-append : (bytes : List ℕ) (ps qs : List Piece) (mid rest : List ℕ) → AreFrames bytes ps mid → AreFrames mid qs rest → AreFrames bytes (ps ++ qs) rest
+frames-append bytes [] qs mid rest f g = subst (λ (b : List ℕ). AreFrames b qs rest) (sym f) g
+frames-append bytes (p ∷ ps) qs mid rest f g = (f.0, f.1, f.2, f.3, frames-append f.1 ps qs mid rest f.4 g)
+
+frames-more : (bytes : List ℕ) (ps : List Piece) (rest piece : List ℕ) → AreFrames bytes ps rest → AreFrames (bytes ++ piece) ps (rest ++ piece)
+frames-more bytes [] rest piece f = ap (λ (b : List ℕ). b ++ piece) f
+frames-more bytes (p ∷ ps) rest piece f =
+    (f.0, f.1 ++ piece, ap (λ (b : List ℕ). b ++ piece) f.2 ∙ append_assoc f.0 f.1 piece, f.3, frames-more f.1 ps rest piece f.4)
+
+end-behind : (xs ys : List Taken) (code : Option ℕ) (rest beside : List ℕ) (ending : Option (Result Parted ServeFault)) → AreOpen xs → IsEnd ys code rest beside ending → IsEnd (xs ++ ys) code rest beside ending
+end-behind xs ys code rest beside None on e = (open-append xs ys on e.0, e.1)
+end-behind xs ys code rest beside (Some ending) on e = elim e [
+  | inl f ↦ inl (
+    record {
+      before = xs ++ f.0.before;
+      last = f.0.last;
+      all = ap (λ (l : List Taken). xs ++ l) f.0.all ∙ sym (append_assoc xs f.0.before (f.0.last ∷ []));
+      goes = open-append xs f.0.before on f.0.goes;
+      ends = f.0.ends;
+    },
+    f.1,
+  )
+  | inr q ↦ elim q [
+    | inl b ↦ inr (inl (record { goes = open-append xs ys on b.goes; ill = b.ill; fault = b.fault; told = b.told; ends = b.ends }))
+    | inr w ↦ inr (inr (record { goes = open-append xs ys on w.goes; told = w.told; ends = w.ends }))
+  ]
+]
+
+-- ---- dialogs
+
+-- nothing came yet
+pub talks-start : (start : Standing) (a : Store) (rest : List ℕ) → Talks start a a rest [] rest None start
+talks-start start a rest = record {
+  taken = [];
+  beside = [];
+  frames = refl;
+  wrote = refl;
+  ends = (tt, refl);
+  passes = passes-none a;
+  answered = λ h u. tt;
+  stands = λ h u. refl;
+  content = λ h u v. refl;
+  used = λ h u o. u;
+  crash = λ h u left m. inl m;
+}
+
+same-party : (a b : Store) (faults : List StoreFault) → Passes a b faults → party_of b ≡ party_of a
+same-party a b faults p =
+    ap (λ (l : List ℕ). let q : Party = record { id = l; own = b.own } in q) p.id ∙ ap (λ (n : ℕ). let q : Party = record { id = a.id; own = n } in q) p.own
+
+same-side : (x : Side) (s : Standing) (R : Content) → s ≡ x.standing → R ≡ x.content → (let y : Side = record { standing = s; content = R } in y) ≡ x
+same-side x s R e f =
+    ap (λ (t : Standing). let y : Side = record { standing = t; content = R } in y) e ∙ ap (λ (S : Content). let y : Side = record { standing = x.standing; content = S } in y) f
+
+-- one stretch after another
+pub talks-then : (start mid last : Standing) (a b c : Store) (came out rest more left : List ℕ) (ending : Option (Result Parted ServeFault)) → Talks start a b came out rest None mid → Talks mid b c rest more left ending last
+    → Talks start a c came (out ++ more) left ending last
+talks-then start mid last a b c came out rest more left ending t s =
+    let p : Party = party_of a in
+    let xs : List Taken = t.taken in
+    let ys : List Taken = s.taken in
+    let side : Side = side_of start a in
+    let before : c.honest → b.honest = s.passes.honest in
+    let party : party_of b ≡ party_of a = same-party a b (faults_met xs) t.passes in
+    let at : (h : c.honest) (u : a.broken ≡ false) → side_of mid b ≡ after_all (party_of a) (side_of start a) t.taken =
+    λ h u. same-side (after_all (party_of a) (side_of start a) t.taken) mid b.content (t.stands (before h) u) (t.content (before h) u (t.used (before h) u refl)) in
+    let whole : (h : c.honest) (u : a.broken ≡ false) → after_all (party_of b) (side_of mid b) s.taken ≡ after_all (party_of a) (side_of start a) (t.taken ++ s.taken) =
+    λ h u.
+    ap (λ (q : Party). after_all q (side_of mid b) s.taken) party
+    ∙ (ap (λ (x : Side). after_all (party_of a) x s.taken) (at h u) ∙ sym (after-append (party_of a) (side_of start a) t.taken s.taken)) in
+    record {
+      taken = t.taken ++ s.taken;
+      beside = s.beside;
+      frames = subst (λ (ps : List Piece). AreFrames came ps left) (sym (map-append (λ (t : Taken). t.frame) t.taken s.taken)) (frames-append came (map (λ t. t.frame) t.taken) (map (λ t. t.frame) s.taken) rest left t.frames s.frames);
+      wrote =
+          ap (λ (o : List ℕ). o ++ more) (t.wrote ∙ (ap (λ (o : List ℕ). flat_map (λ t. t.said) t.taken ++ o) t.ends.1 ∙ append-nil (flat_map (λ t. t.said) t.taken)))
+          ∙ (ap (λ (o : List ℕ). flat_map (λ t. t.said) t.taken ++ o) s.wrote
+          ∙ (sym (append_assoc (flat_map (λ t. t.said) t.taken) (flat_map (λ t. t.said) s.taken) s.beside)
+          ∙ ap (λ (o : List ℕ). o ++ s.beside) (sym (flat_map-append (λ (t : Taken). t.said) t.taken s.taken))));
+      ends = end-behind t.taken s.taken last.code left s.beside ending t.ends.0 s.ends;
+      passes = subst (λ (fs : List StoreFault). Passes a c fs) (sym (flat_map-append (λ (t : Taken). faults_by (fault_on t.way)) t.taken s.taken)) (passes-then a b c (faults_met t.taken) (faults_met s.taken) t.passes s.passes);
+      answered = λ h u.
+          answered-append (party_of a) (side_of start a) t.taken s.taken (t.answered (before h) u)
+          (subst (λ (x : Side). AreAnswered (party_of a) x s.taken) (at h u)
+          (subst (λ (q : Party). AreAnswered q (side_of mid b) s.taken) party (s.answered h (t.used (before h) u refl))));
+      stands = λ h u. s.stands h (t.used (before h) u refl) ∙ ap (λ (x : Side). x.standing) (whole h u);
+      content = λ h u v. s.content h (t.used (before h) u refl) v ∙ ap (λ (x : Side). x.content) (whole h u);
+      used = λ h u o. s.used h (t.used (before h) u refl) o;
+      crash = λ h u x m. elim (s.crash h (t.used (before h) u refl) x m) [
+        | inl old ↦ elim (t.crash (before h) u x old) [
+          | inl older ↦ inl older
+          | inr k ↦ inr (leave-front (party_of a) (side_of start a) t.taken s.taken x k)
+        ]
+        | inr k ↦ inr (leave-back (party_of a) (side_of start a) t.taken s.taken x
+            (subst (λ (y : Side). MayLeave (party_of a) y s.taken x) (at h u) (subst (λ (q : Party). MayLeave q (side_of mid b) s.taken x) party k)))
+      ];
+    }
+
+-- more bytes came
+pub talks-more : (start last : Standing) (a b : Store) (came out rest piece : List ℕ) → Talks start a b came out rest None last → Talks start a b (came ++ piece) out (rest ++ piece) None last
+talks-more start last a b came out rest piece t = record {
+  taken = t.taken;
+  beside = t.beside;
+  frames = frames-more came (map (λ t. t.frame) t.taken) rest piece t.frames;
+  wrote = t.wrote;
+  ends = t.ends;
+  passes = t.passes;
+  answered = t.answered;
+  stands = t.stands;
+  content = t.content;
+  used = t.used;
+  crash = t.crash;
+}
+
+-- memory for what came was wanting
+pub talks-starved : (start last : Standing) (a b : Store) (came out rest : List ℕ) → Talks start a b came out rest None last
+    → Talks start a b came (out ++ end_frame 4) rest (Some (Ok (parted.Failed exchange.OutOfMemory))) last
+talks-starved start last a b came out rest t = record {
+  taken = t.taken;
+  beside = end_frame 4;
+  frames = t.frames;
+  wrote = ap (λ (o : List ℕ). o ++ end_frame 4) (t.wrote ∙ (ap (λ (o : List ℕ). flat_map (λ t. t.said) t.taken ++ o) t.ends.1 ∙ append-nil (flat_map (λ t. t.said) t.taken)));
+  ends = inr (inr (record { goes = t.ends.0; told = refl; ends = refl }));
+  passes = t.passes;
+  answered = t.answered;
+  stands = t.stands;
+  content = t.content;
+  used = λ h u o. absurd (cc);
+  crash = t.crash;
+}
+
+-- ---- one frame
+
+-- where the dialog goes on, no fault of the store came in the way
+clear-so : (p : Party) (state next : State) (R : Content) (way : Way) (r : Result Message ExchangeFault) → (answered_to p state R way r).result ≡ Ok next → fault_on way ≡ None
+clear-so p state next R Clear r e = refl
+clear-so p state next R Unread r e = refl
+clear-so p state next R Starved r e = refl
+clear-so p state next R (Stopped learned fault) (Ok m) e = absurd (cc)
+clear-so p state next R (Stopped learned fault) (Err f) e = absurd (cc)
+clear-so p state next R (Met fault) (Ok m) e = absurd (cc)
+clear-so p state next R (Met fault) (Err f) e = absurd (cc)
+
+written-so : (turn : Turn) (next : State) (said : List ℕ) → Writes turn (Ok next) [] said → turn.result ≡ Ok next
+written-so turn next said w = elim w [
+  | inl told ↦ sym told.0
+  | inr starved ↦ absurd (cc)
+]
+
+end-one : (frame : Piece) (way : Way) (said : List ℕ) (result : Result State ExchangeFault) (code : Option ℕ) (rest : List ℕ)
+    → IsEnd ((record { frame = frame; way = way; result = result; said = said }) ∷ []) code rest [] (ended_as code (is_silent said) result)
+end-one frame way said (Ok Pulling) code rest = ((refl, tt), refl)
+end-one frame way said (Ok Pushing) code rest = ((refl, tt), refl)
+end-one frame way said (Ok Serving) code rest = ((refl, tt), refl)
+end-one frame way said (Ok Done) code rest = inl (record { before = []; last = record { frame = frame; way = way; result = Ok Done; said = said }; all = refl; goes = tt; ends = refl }, refl)
+end-one frame way said (Ok Failed) code rest = inl (record { before = []; last = record { frame = frame; way = way; result = Ok Failed; said = said }; all = refl; goes = tt; ends = refl }, refl)
+end-one frame way said (Err fault) code rest = inl (record { before = []; last = record { frame = frame; way = way; result = Err fault; said = said }; all = refl; goes = tt; ends = refl }, refl)
+
+goes-on : (code : Option ℕ) (silent : Bool) (result : Result State ExchangeFault) → ended_as code silent result ≡ None → (next : State) × (result ≡ Ok next)
+goes-on code silent (Ok state) e = (state, refl)
+goes-on code silent (Err fault) e = absurd (cc)
+
+still-used : (a b : Store) (fault : Option StoreFault) → Passes a b (faults_by fault) → fault ≡ None → a.broken ≡ false → b.broken ≡ false
+still-used a b fault p none u =
+    let q : Passes a b [] = subst (λ (f : Option StoreFault). Passes a b (faults_by f)) none p in
+    q.broken ∙ (or-false a.broken ∙ u)
+
+pub talks-frame : (a b : Store) (before next : Standing) (frame : Piece) (waiting said : List ℕ) (result : Result State ExchangeFault)
+    → cut waiting ≡ Ok (Some (header_of frame)) → Rattle.exchange.specs.Frames.IsWithin waiting (header_of frame) → frame.body ≡ drop 8 (take (8 + length frame.body) waiting)
+    → Takes a b before next frame.kind frame.body [] said result
+    → Talks before a b waiting said (drop (8 + length frame.body) waiting) (ended_as next.code (is_silent said) result) next
+talks-frame a b before next frame waiting said result stands within body takes =
+    let t : Taken = record { frame = frame; way = takes.way; result = result; said = said } in
+    record {
+      taken = t ∷ [];
+      beside = [];
+      frames = (
+        take (8 + length frame.body) waiting,
+        drop (8 + length frame.body) waiting,
+        sym (take-append-drop (8 + length frame.body) waiting),
+        given_frame waiting frame stands within body,
+        refl,
+      );
+      wrote = sym (append-nil (said ++ []) ∙ append-nil said);
+      ends = end-one frame takes.way said result next.code (drop (8 + length frame.body) waiting);
+      passes = subst (λ (fs : List StoreFault). Passes a b fs) (sym (append-nil (faults_by (fault_on takes.way)))) takes.passes;
+      answered = λ h u. (takes.writes h, tt);
+      stands = λ h u. takes.stands h;
+      content = λ h u v. takes.content h v;
+      used = λ h u o.
+          let on = goes-on next.code (is_silent said) result o in
+          let w = subst (λ (r : Result State ExchangeFault). Writes (answered (party_of a) before a.content takes.way frame.kind frame.body) r [] said) on.1 (takes.writes h) in
+          let none = clear-so (party_of a) before.state on.0 a.content takes.way (received (party_of a) before frame.kind frame.body) (written-so (answered (party_of a) before a.content takes.way frame.kind frame.body) on.0 said w) in
+          still-used a b (fault_on takes.way) takes.passes none u;
+      crash = λ h u left m. elim (takes.crash h left m) [
+        | inl old ↦ inl old
+        | inr k ↦ inr (inl (k.1, k.2))
+      ];
+    }
+
+-- what came is no frame
+pub talks-ill : (a : Store) (before : Standing) (waiting beside : List ℕ) (fault : ExchangeFault) → cut waiting ≡ Err exchange.Frame → TellsFault exchange.Frame (Err fault) [] beside
+    → Talks before a a waiting beside waiting (Some (failed_as (is_silent beside) fault)) before
+talks-ill a before waiting beside fault ill told = record {
+  taken = [];
+  beside = beside;
+  frames = refl;
+  wrote = refl;
+  ends = inr (inl (record { goes = tt; ill = ill; fault = fault; told = told; ends = refl }));
+  passes = passes-none a;
+  answered = λ h u. tt;
+  stands = λ h u. refl;
+  content = λ h u v. refl;
+  used = λ h u o. absurd (cc);
+  crash = λ h u left m. inl m;
+}
