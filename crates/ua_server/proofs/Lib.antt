@@ -13,3 +13,4 @@ pub mod DumpLemmas
 pub mod Opened
 pub mod Talks
 pub mod Talking
+pub mod Syncing

@@ -15,3 +15,4 @@ pub mod Dumping
 pub mod Program
 pub mod Peers
 pub mod Talking
+pub mod Calling

@@ -2,6 +2,7 @@
 #![tactic(auto)]
 
 mod answering;
+mod calling;
 mod clock;
 mod connection;
 mod connections;
@@ -22,6 +23,7 @@ mod single;
 mod stores;
 mod turn;
 
+pub use calling::{SyncFault, sync};
 pub use clock::{Clock, ConstantClock, SystemClock};
 pub use connection::MOST_CHUNKS;
 pub use connections::serve_connections;

@@ -126,7 +126,7 @@ fn send_starved<W: Write>(writer: &mut Counted<W>) -> Result<Parted, ServeFault>
 }
 
 /// Carries a dialog on over a connection until it ends or the input does.
-fn talk<R: Read, W: Write, A: Archive>(
+pub(crate) fn talk<R: Read, W: Write, A: Archive>(
     alloc: Global,
     replica: &mut Replica<A>,
     dialog: &mut Dialog,

@@ -1,9 +1,15 @@
+ghost use Rattle.std.specs.Prelude.{IsTrue};
+ghost use Rattle.records.specs.Spelling.{IsLawfulRecord};
+
 use super::*;
-use archive::{ListArchive, StoreFault};
+use archive::{Archive, ListArchive, StoreFault};
 use exchange::{ExchangeFault, Replica};
-use stamp::ReplicaNo;
+use records::{HistoryUpdateType, Moment, Record};
+use stamp::{ReplicaNo, Vector};
 use std::alloc::Global;
 use std::test::Fail;
+use ua_binary::{NodeId, Text};
+use ua_variant::{DataValue, Scalar, Variant};
 use uuid::Uuid;
 
 /// The first frame of replica 2, which holds nothing.
@@ -163,6 +169,121 @@ fn peers_are_answered_as_far_as_the_reader_goes(rt: HostRuntime) -> Result<(), F
         );
         let out = want.get(..count / 27 * 31).ok_or("a front")?;
         assert!(rt; writer.into_inner().as_slice() == out, "{count}");
+    }
+    Ok(())
+}
+
+fn is_lawful(held: &Record) -> bool
+    ensures { IsTrue result → IsLawfulRecord held.now }
+{
+    held.is_lawful()
+}
+
+/// A replica with a record of its own, an insert at node `ns=1;s=T`.
+fn filled_replica(alloc: Global, number: u8) -> Result<Replica<ListArchive>, Fail> {
+    let mut held = replica(alloc, number)?;
+    let origin = held.archive.number();
+    let record = Record {
+        origin,
+        number: 1,
+        tick: 100,
+        node: NodeId::Named(1, Text::from_str(alloc, "T")?),
+        time: Moment::at(10),
+        asked: HistoryUpdateType::Insert,
+        user: Text::from_str(alloc, "ann")?,
+        value: DataValue {
+            value: Some(Variant::Scalar(Scalar::Int32(7))),
+            status: None,
+            source_time: None,
+            source_pico: None,
+            server_time: None,
+            server_pico: None,
+        },
+    };
+    if is_lawful(&record) {
+        held.archive.learn(&record)?;
+    }
+    Ok(held)
+}
+
+/// What replica 1 writes that calls a peer which sent these bytes, and how that ends.
+fn called(
+    alloc: Global,
+    one: &mut Replica<ListArchive>,
+    bytes: &[u8],
+) -> (Vec<u8>, Result<(), SyncFault>) {
+    let mut reader = Counted::new(bytes);
+    let mut writer = Counted::new(Vec::new(alloc));
+    let result = sync(alloc, one, &mut reader, &mut writer);
+    (writer.into_inner(), result)
+}
+
+/// What replica 2 writes to a peer which sent these bytes.
+fn answered(alloc: Global, two: &mut Replica<ListArchive>, bytes: &[u8]) -> Vec<u8> {
+    let mut reader = Counted::new(bytes);
+    let mut writer = Counted::new(Vec::new(alloc));
+    let _ = serve_peer(alloc, two, &mut reader, &mut writer);
+    writer.into_inner()
+}
+
+/// The letters of the frames in some bytes, one after the other.
+fn letters(alloc: Global, bytes: &[u8]) -> Result<Vec<u8>, Fail> {
+    let mut letters = Vec::new(alloc);
+    let mut rest = bytes;
+    for _ in 0..bytes.len() {
+        if rest.len() < 8 {
+            break;
+        }
+        letters.push(rest[2])?;
+        let size = u32::from_le_bytes([rest[4], rest[5], rest[6], rest[7]]) as usize;
+        rest = rest.get(size..).ok_or("a frame")?;
+    }
+    Ok(letters)
+}
+
+/// Two replicas, each with a record of its own, meet: each answers what the other one wrote before.
+#[test]
+fn replicas_meet(rt: HostRuntime) -> Result<(), Fail> {
+    let alloc = rt.alloc();
+    let mut back = Vec::new(alloc);
+    for round in 0..4 {
+        let mut one = filled_replica(alloc, 1)?;
+        let mut two = filled_replica(alloc, 2)?;
+        let (there, result) = called(alloc, &mut one, back.as_slice());
+        let answer = answered(alloc, &mut two, there.as_slice());
+        if round == 3 {
+            assert!(rt; result == Ok(()));
+            assert!(rt; letters(alloc, there.as_slice())?.as_slice() == b"VVDE".as_slice());
+            assert!(rt; letters(alloc, answer.as_slice())?.as_slice() == b"DDV".as_slice());
+            let ones = one.archive.since(alloc, &Vector::new(), 99)?;
+            let twos = two.archive.since(alloc, &Vector::new(), 99)?;
+            assert!(rt; ones.len() == 2 && ones.as_slice() == twos.as_slice());
+        } else {
+            assert!(rt;
+                result == Err(SyncFault::Exchange(ExchangeFault::Frame)),
+                "{round}"
+            );
+        }
+        back = answer;
+    }
+    Ok(())
+}
+
+/// What a called peer sends, and how the dialog ends.
+static CALLS: [(&[&[u8]], SyncFault); 4] = [
+    (&[], SyncFault::Exchange(ExchangeFault::Frame)),
+    (&[BROKEN_OFF], SyncFault::Peer(7)),
+    (&[END], SyncFault::Exchange(ExchangeFault::Frame)),
+    (&[NO_FRAME], SyncFault::Exchange(ExchangeFault::Frame)),
+];
+
+#[test]
+fn calls_end_so(rt: HostRuntime) -> Result<(), Fail> {
+    for (came, fault) in &CALLS {
+        let bytes = joined(rt.alloc(), came)?;
+        let mut one = replica(rt.alloc(), 1)?;
+        let (_, result) = called(rt.alloc(), &mut one, bytes.as_slice());
+        assert!(rt; result == Err(*fault), "{fault:?}");
     }
     Ok(())
 }
