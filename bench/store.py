@@ -1,0 +1,109 @@
+#!/usr/bin/env python3
+"""Kills the built program, which serves over a store on disk, at random moments of 1,000 inserts, and looks at what it kept.
+
+    bench/store.py PROGRAM [ROUNDS [SEED]]
+
+In each round a client inserts value after value, and the program is killed (SIGKILL) while it answers. Then `dump` has to
+show each insert that was answered Good, in order, and at most one more; and Debian's sqlite3, on a copy of the files, has to
+say that the database is whole. Needs sqlite3. Prints a line a round; the first that fails ends the script by an error.
+"""
+import os, random, shutil, socket, struct, subprocess, sys, tempfile, threading, time
+from opcua import EPOCH, Client, int32, node, value_at
+
+here = os.path.dirname(os.path.abspath(__file__))
+program = os.path.abspath(sys.argv[1])
+rounds = int(sys.argv[2]) if len(sys.argv) > 2 else 20
+chance = random.Random(int(sys.argv[3]) if len(sys.argv) > 3 else 1)
+folder = tempfile.mkdtemp()
+settings = os.path.join(folder, "settings.toml")
+store = os.path.join(folder, "store.db")
+INSERTED = struct.pack("<I", 0x00A20000)
+MOST = 1000
+
+
+def free_port():
+    with socket.socket() as probe:
+        probe.bind(("127.0.0.1", 0))
+        return probe.getsockname()[1]
+
+
+def write_settings(port):
+    text = open(os.path.join(here, "bench.toml")).read().replace("127.0.0.1:4840", f"127.0.0.1:{port}")
+    open(settings, "w").write(text.replace("[server]", f"store = '{store}'\n[server]", 1))
+
+
+def connect(port):
+    until = time.monotonic() + 10
+    while True:
+        try:
+            return socket.create_connection(("127.0.0.1", port))
+        except ConnectionRefusedError:
+            assert time.monotonic() < until, "nobody listens"
+            time.sleep(0.01)
+
+
+def take(line, count):
+    taken = b""
+    while len(taken) < count:
+        more = line.recv(count - len(taken))
+        if not more:
+            raise ConnectionError
+        taken += more
+    return taken
+
+
+def ask(line, sent):
+    line.sendall(sent)
+    head = take(line, 8)
+    return head + take(line, struct.unpack_from("<I", head, 4)[0] - 8)
+
+
+def inserts(line, first):
+    """How many values were inserted, each answered Good, until the program was gone or all were done."""
+    client, good = Client(), 0
+    try:
+        for sent in (client.hello(), client.open(), client.create_session(), client.activate("ann", b"pw")):
+            ask(line, sent)
+        for k in range(MOST):
+            answer = ask(line, client.update(node("T", 1), 1, [value_at(int32(k), first + k)]))
+            assert INSERTED in answer, answer.hex()
+            good += 1
+    except (ConnectionError, OSError):
+        pass
+    return good
+
+
+def dumped():
+    done = subprocess.run([program, "dump", "--settings", settings], stdout=subprocess.PIPE, text=True, check=True)
+    return [line.split() for line in done.stdout.splitlines()]
+
+
+def whole():
+    """What sqlite3 says of a copy of the files."""
+    copy = os.path.join(folder, "copy.db")
+    for end in ("", "-wal"):
+        if os.path.exists(store + end):
+            shutil.copyfile(store + end, copy + end)
+    said = subprocess.run(["sqlite3", copy, "PRAGMA integrity_check; SELECT count(*) FROM records2"], stdout=subprocess.PIPE, text=True, check=True)
+    for end in ("", "-wal", "-shm"):
+        if os.path.exists(copy + end):
+            os.remove(copy + end)
+    return said.stdout.split()
+
+
+before = 0
+for k in range(rounds):
+    port = free_port()
+    write_settings(port)
+    server = subprocess.Popen([program, "serve", "--settings", settings, "--connections", "1"], stderr=subprocess.DEVNULL)
+    line = connect(port)
+    threading.Timer(chance.uniform(0.02, 0.6), server.kill).start()
+    good = inserts(line, EPOCH + MOST * k)
+    server.wait()
+    found = dumped()
+    assert [r[:2] for r in found] == [["1", str(n + 1)] for n in range(len(found))], "numbers have gaps"
+    assert before + good <= len(found) <= before + good + 1, (before, good, len(found))
+    assert whole() == ["ok", str(len(found))]
+    print(f"round {k + 1}: {good} inserts answered Good, {len(found) - before} found again, {len(found)} in all", flush=True)
+    before = len(found)
+print("nothing that was answered Good is missing")
