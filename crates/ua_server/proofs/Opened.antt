@@ -1,5 +1,5 @@
 -- What is done over the archive of some settings.
-use Rattle.std.proofs.Common.{◌≡◌, ℕ, List, Some, None, Ok, Err, refl, sym, subst}
+use Rattle.std.proofs.Common.{◌≡◌, ◌∙◌, ℕ, List, Some, None, Ok, Err, refl, sym, ap, subst}
 use Rattle.std.specs.Prelude.{Option, Result}
 use Rattle.archive.specs.declared.fault.StoreFault.{StoreFault}
 use Rattle.archive.specs.Store.{Store}
@@ -7,7 +7,13 @@ use Rattle.archive.specs.Listed.{Listed, store_of}
 use Rattle.ua_settings.specs.Settings.{Values}
 use Rattle.ua_server.specs.declared.program.ProgramFault.{ProgramFault}
 use Rattle.ua_server.specs.declared.program.ProgramFault.TheVariants as program
-use Rattle.ua_server.specs.Program.{empty_of, unopened, OverOpened, OverStore, Over}
+use Rattle.ua_server.specs.declared.outcome.ServeFault.TheVariants.{Read, Write}
+use Rattle.ua_server.specs.declared.calling.SyncFault.{SyncFault}
+use Rattle.ua_server.specs.declared.calling.SyncFault.TheVariants as sync
+use Rattle.ua_server.specs.Bytes.{counted}
+use Rattle.ua_server.specs.Tally.{Tally}
+use Rattle.ua_server.specs.Calling.{Syncs}
+use Rattle.ua_server.specs.Program.{empty_of, unopened, OverOpened, OverStore, Over, Calls, IsSynced, sync_result}
 
 kept-opened : {K : Type 0} (opening : Result K StoreFault) (kept : K) → Ok kept ≡ unopened opening → opening ≡ Ok kept
 kept-opened (Ok first) kept is = cc
@@ -33,3 +39,22 @@ pub over-refused : {K : Type 0} (held : K → Store) (opened : List ℕ → Resu
 over-refused held opened settings does P path opening fault is gave none so =
     let r = refused-opened opening fault P none so in
     subst (λ o. OverStore held opened settings o does (λ f. P (program.Store f))) (sym is) (opening, gave, subst (λ x. OverOpened held x does (λ f. P (program.Store f))) (sym r.1) r.2)
+
+-- a peer was called over a connection that had no failed call before
+pub was-synced : {N R W : Type 0} (calls : Calls N R W) (first last : Store) (reader : R) (writer : W) (reader_counted read : Tally R) (writer_counted wrote : Tally W) (between after : N) (ending : Result (Unit {0}) SyncFault) (result : Result (Unit {0}) ProgramFault)
+    → reader_counted ≡ record { inner = reader; faults = 0 } → writer_counted ≡ record { inner = writer; faults = 0 }
+    → Syncs first last (calls.unread reader_counted.inner) (calls.unread read.inner) (calls.written writer_counted.inner) (calls.written wrote.inner) ending
+    → (ending ≡ Err (sync.Connection Read) → read.faults ≡ counted reader_counted.faults) → (ending ≡ Err (sync.Connection Write) → wrote.faults ≡ counted writer_counted.faults)
+    → calls.parted between read wrote after → result ≡ sync_result ending → IsSynced calls first last reader writer between after result
+was-synced {N} {R} {W} calls first last reader writer reader_counted read writer_counted wrote between after ending result begins opens syncs read_failed write_failed given told = record {
+  read = read;
+  wrote = wrote;
+  synced = ending;
+  syncs =
+      subst (λ (r : Tally R). Syncs first last (calls.unread r.inner) (calls.unread read.inner) (calls.written writer) (calls.written wrote.inner) ending) begins
+      (subst (λ (w : Tally W). Syncs first last (calls.unread reader_counted.inner) (calls.unread read.inner) (calls.written w.inner) (calls.written wrote.inner) ending) opens syncs);
+  read_failed = λ e. read_failed e ∙ ap (λ (r : Tally R). counted r.faults) begins;
+  write_failed = λ e. write_failed e ∙ ap (λ (w : Tally W). counted w.faults) opens;
+  given_back = given;
+  told = told;
+}

@@ -15,9 +15,11 @@ use Rattle.ua_server.specs.declared.hexed.HexFault.TheVariants as hexed
 use Rattle.ua_server.specs.declared.program.ProgramFault.{ProgramFault}
 use Rattle.ua_server.specs.declared.program.ProgramFault.TheVariants.{Line, File, Settings, BadHex, Address, Connection}
 use Rattle.ua_server.specs.declared.program.ProgramFault.TheVariants as program
+use Rattle.ua_server.specs.declared.calling.SyncFault.{SyncFault}
+use Rattle.ua_server.specs.declared.calling.SyncFault.TheVariants as sync
 use Rattle.ua_server.specs.declared.dumps.DumpFault.{DumpFault}
 use Rattle.ua_server.specs.declared.dumps.DumpFault.TheVariants as dump
-use Rattle.ua_server.specs.declared.line.Line.TheVariants.{Answer, Serve, Dump}
+use Rattle.ua_server.specs.declared.line.Line.TheVariants.{Answer, Serve, Dump, Sync}
 use Rattle.ua_server.specs.declared.line.LineFault.{LineFault}
 use Rattle.ua_server.specs.declared.line.LineFault.TheVariants.{Words, OutOfMemory as NoMemory}
 use Rattle.ua_server.specs.Line.{IsLine, IsNoCommand}
@@ -31,7 +33,7 @@ use Rattle.ua_server.specs.Given.{Outside}
 use Rattle.ua_server.specs.Client.{Ending}
 use Rattle.ua_server.proofs.Outsides.{nothing}
 use Rattle.ua_server.specs.Hexed.{AnswersText, AnswersHex, IsUntouched, digits_of}
-use Rattle.ua_server.specs.Program.{empty_of, AnswersDigits, IsAnswered, IsUnmade, IsBadText, IsUnbegun, SettingsAt, Machine, OverStore, By, Scene, program_result, dump_result, IsRefused, DoesLine, Runs}
+use Rattle.ua_server.specs.Program.{empty_of, AnswersDigits, IsAnswered, IsUnmade, IsBadText, IsUnbegun, SettingsAt, Machine, OverStore, By, Calls, CallsPeer, IsSynced, Scene, program_result, dump_result, sync_result, IsRefused, DoesLine, Runs}
 use Rattle.ua_server.specs.Tally.{Tally}
 use Rattle.ua_server.specs.Network.{Means}
 use Rattle.std.specs.declared.net.socket_addr.SocketAddr.{SocketAddr}
@@ -169,28 +171,45 @@ dumped-line (Err (dump.Store fault)) line same = cc
 dumped-line (Err dump.Write) line same = cc
 dumped-line (Err dump.OutOfMemory) line same = cc
 
+synced-line : (synced : Result (Unit {0}) SyncFault) (line : LineFault) → Err (Line line) ≡ sync_result synced → ⊥
+synced-line (Ok done) line same = cc
+synced-line (Err (sync.Connection fault)) line same = cc
+synced-line (Err (sync.Exchange fault)) line same = cc
+synced-line (Err (sync.Peer number)) line same = cc
+
+called-line : {T N R W : Type 0} (calls : Calls N R W) (held : T → Store) (text : List ℕ) (first last : T) (network after : N) (line : LineFault) → CallsPeer calls held text first last network after (Err (Line line)) → ⊥
+called-line calls held text first last network after line (inl (none, is, stays, quiet)) = absurd cc
+called-line calls held text first last network after line (inr (address, spells, (None, between, called, (is, stays, quiet)))) = absurd cc
+called-line calls held text first last network after line (inr (address, spells, (Some (reader, writer), between, called, so))) = synced-line so.synced line so.told
+
 same-line : (line : LineFault) (fault : ProgramFault) (x : Result (Unit {0}) ProgramFault) → x ≡ Err (Line line) → x ≡ Err fault → fault ≡ Line line
 same-line line fault x is so = cc
 
 -- a command that a line names
-pub line-done : {K N L R W C E : Type 0} (faults : List ErrorKind) (taken : Bool) (matches : Option (Text × List Row)) (machine : Machine K) (means : Means L R W K C) (listened : N → SocketAddr → Option L → N → Type 0) (told : E → Option (List ℕ))
+pub line-done : {K N L R W C E P Q : Type 0} (faults : List ErrorKind) (taken : Bool) (matches : Option (Text × List Row)) (machine : Machine K) (calls : Calls N P Q) (means : Means L R W K C) (listened : N → SocketAddr → Option L → N → Type 0) (told : E → Option (List ℕ))
     (line : CommandLine) (old new : Scene N C E) (result : Result (Unit {0}) ProgramFault)
-    → faults ≡ [] → IsLine matches line → DoesLine machine means listened told line old new result → Runs faults taken matches machine means listened told old new result
-line-done faults taken matches machine means listened told line old new (Ok done) free is so = (free, (line, is, so))
-line-done faults taken matches machine means listened told (Answer path hex now) old new (Err (Line fault)) free is (network, errors, (used, gave, so)) =
+    → faults ≡ [] → IsLine matches line → DoesLine machine calls means listened told line old new result → Runs faults taken matches machine calls means listened told old new result
+line-done faults taken matches machine calls means listened told line old new (Ok done) free is so = (free, (line, is, so))
+line-done faults taken matches machine calls means listened told (Answer path hex now) old new (Err (Line fault)) free is (network, errors, (used, gave, so)) =
     let b = by-line machine (option_copied path) _ _ fault (new.written ≡ old.written) (λ settings T held first x. answered-line x.1 fault x.3) (λ f x. (same-line fault f (Err (Line fault)) refl x.0, x.2)) so in
     (unbegun-refused taken matches fault b.0, b.1, errors)
-line-done faults taken matches machine means listened told (Serve path count) old new (Err (Line fault)) free is (unread, written, so) =
+line-done faults taken matches machine calls means listened told (Serve path count) old new (Err (Line fault)) free is (unread, written, so) =
     let b = by-line machine (Some path.now) _ _ fault (new.errors ≡ old.errors) (λ settings T held first x. x.1) (λ f x. (same-line fault f (Err (Line fault)) refl x.0, x.3)) so in
     (unbegun-refused taken matches fault b.0, written, b.1)
-line-done faults taken matches machine means listened told (Dump path) old new (Err (Line fault)) free is (unread, network, clock, errors, so) =
+line-done faults taken matches machine calls means listened told (Dump path) old new (Err (Line fault)) free is (unread, network, clock, errors, so) =
     let b = by-line machine (Some path.now) _ _ fault (new.written ≡ old.written) (λ settings T held first x. dumped-line x.1 fault x.3) (λ f x. (same-line fault f (Err (Line fault)) refl x.0, x.1)) so in
     (unbegun-refused taken matches fault b.0, b.1, errors)
-line-done faults taken matches machine means listened told line old new (Err File) free is so = (free, (line, is, so))
-line-done faults taken matches machine means listened told line old new (Err (Settings fault place)) free is so = (free, (line, is, so))
-line-done faults taken matches machine means listened told line old new (Err (program.Store fault)) free is so = (free, (line, is, so))
-line-done faults taken matches machine means listened told line old new (Err BadHex) free is so = (free, (line, is, so))
-line-done faults taken matches machine means listened told line old new (Err Address) free is so = (free, (line, is, so))
-line-done faults taken matches machine means listened told line old new (Err (Connection fault)) free is so = (free, (line, is, so))
+line-done faults taken matches machine calls means listened told (Sync path peer) old new (Err (Line fault)) free is (unread, written, clock, errors, so) =
+    let b = by-line machine (Some path.now) _ _ fault (Unit {0}) (λ settings T held first x. called-line calls held peer.now first x.0 old.network new.network fault x.1) (λ f x. (same-line fault f (Err (Line fault)) refl x.0, tt)) so in
+    (unbegun-refused taken matches fault b.0, written, errors)
+line-done faults taken matches machine calls means listened told line old new (Err File) free is so = (free, (line, is, so))
+line-done faults taken matches machine calls means listened told line old new (Err (Settings fault place)) free is so = (free, (line, is, so))
+line-done faults taken matches machine calls means listened told line old new (Err (program.Store fault)) free is so = (free, (line, is, so))
+line-done faults taken matches machine calls means listened told line old new (Err BadHex) free is so = (free, (line, is, so))
+line-done faults taken matches machine calls means listened told line old new (Err Address) free is so = (free, (line, is, so))
+line-done faults taken matches machine calls means listened told line old new (Err (Connection fault)) free is so = (free, (line, is, so))
+line-done faults taken matches machine calls means listened told line old new (Err (program.Call fault)) free is so = (free, (line, is, so))
+line-done faults taken matches machine calls means listened told line old new (Err (program.Exchange fault)) free is so = (free, (line, is, so))
+line-done faults taken matches machine calls means listened told line old new (Err (program.Peer number)) free is so = (free, (line, is, so))
 
 pub ruleset lines = (line-done)

@@ -12,7 +12,7 @@ pub mod Line
 pub mod Telling
 pub mod Network
 pub mod Dumping
-pub mod Program
 pub mod Peers
 pub mod Talking
 pub mod Calling
+pub mod Program

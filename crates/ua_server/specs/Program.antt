@@ -10,7 +10,7 @@ use Rattle.ua_server.specs.declared.outcome.ServeFault.TheVariants.{Read, Write,
 use Rattle.ua_server.specs.declared.hexed.HexFault.{HexFault}
 use Rattle.ua_server.specs.declared.hexed.HexFault.TheVariants as hexed
 use Rattle.ua_server.specs.declared.program.ProgramFault.{ProgramFault}
-use Rattle.ua_server.specs.declared.program.ProgramFault.TheVariants.{Line, File, Settings, BadHex, Connection}
+use Rattle.ua_server.specs.declared.program.ProgramFault.TheVariants.{Line, File, Settings, BadHex, Address, Connection}
 use Rattle.ua_server.specs.declared.program.ProgramFault.TheVariants as program
 use Rattle.ua_server.specs.declared.dumps.DumpFault.{DumpFault}
 use Rattle.ua_server.specs.declared.dumps.DumpFault.TheVariants as dump
@@ -29,11 +29,15 @@ use Rattle.ua_server.specs.Client.{Ending}
 use Rattle.ua_server.specs.Hexed.{AnswersText, IsUntouched, digits_of}
 use Rattle.ua_server.specs.Serving.{Serves}
 use Rattle.ua_server.specs.Dumping.{Dumps}
+use Rattle.ua_server.specs.Calling.{Syncs}
+use Rattle.ua_server.specs.declared.calling.SyncFault.{SyncFault}
+use Rattle.ua_server.specs.declared.calling.SyncFault.TheVariants as sync
+use Rattle.std.specs.Net.Grammar.{IsSocketText}
 use Rattle.ua_server.specs.Network.{Means, Around, Listens}
 use Rattle.clap.specs.Words.{Row, Text}
 use Rattle.clap.specs.declared.error.ErrorKind.{ErrorKind}
 use Rattle.ua_server.specs.declared.line.Line.{Line as CommandLine}
-use Rattle.ua_server.specs.declared.line.Line.TheVariants.{Answer, Serve, Dump}
+use Rattle.ua_server.specs.declared.line.Line.TheVariants.{Answer, Serve, Dump, Sync}
 use Rattle.ua_server.specs.declared.line.LineFault.{LineFault}
 use Rattle.ua_server.specs.declared.line.LineFault.TheVariants.{Words, OutOfMemory as NoMemory}
 use Rattle.ua_server.specs.Line.{IsLine, IsNoCommand}
@@ -206,6 +210,49 @@ DumpsBy machine path old written result =
     (λ settings T held first. (last : T) × (dumped : Result (Unit {0}) DumpFault) × Dumps (held first) (held last) old written dumped × (result ≡ dump_result dumped))
     (λ fault. (result ≡ Err fault) × (written ≡ old))
 
+-- what the end of a dialog with a peer that was called is called by the program
+abbrev pub sync_result : Result (Unit {0}) SyncFault → Result (Unit {0}) ProgramFault
+sync_result (Ok done) = Ok done
+sync_result (Err (sync.Connection fault)) = Err (program.Call fault)
+sync_result (Err (sync.Exchange fault)) = Err (program.Exchange fault)
+sync_result (Err (sync.Peer number)) = Err (program.Peer number)
+
+-- how a network calls peers and takes back their connections, and what is known of what they write and read
+pub record Calls (N R W : Type 0) : Type 1 where
+  pub called : N → SocketAddr → Option (R × W) → N → Type 0
+  pub parted : N → Tally R → Tally W → N → Type 0
+  pub unread : R → Option (List ℕ)
+  pub written : W → Option (List ℕ)
+
+-- a connection was had, and the peer was called over it, as the initiator of a dialog; it was given back with its failed calls
+pub record IsSynced {N R W : Type 0} (calls : Calls N R W) (first last : Store) (reader : R) (writer : W) (between after : N) (result : Result (Unit {0}) ProgramFault) : Type 0 where
+  pub read : Tally R
+  pub wrote : Tally W
+  pub synced : Result (Unit {0}) SyncFault
+  pub syncs : Syncs first last (calls.unread reader) (calls.unread read.inner) (calls.written writer) (calls.written wrote.inner) synced
+  pub read_failed : synced ≡ Err (sync.Connection Read) → read.faults ≡ 1
+  pub write_failed : synced ≡ Err (sync.Connection Write) → wrote.faults ≡ 1
+  pub given_back : calls.parted between read wrote after
+  pub told : result ≡ sync_result synced
+
+-- what came of a call
+abbrev pub ComesOf : {T N R W : Type 0} → Calls N R W → (T → Store) → T → T → Option (R × W) → N → N → Result (Unit {0}) ProgramFault → Type 0
+ComesOf calls held first last None between after result = (result ≡ Err Address) × (last ≡ first) × (after ≡ between)
+ComesOf calls held first last (Some (reader, writer)) between after result = IsSynced calls (held first) (held last) reader writer between after result
+
+-- the peer at an address was called; or the text is no address, and nothing was done
+abbrev pub CallsPeer : {T N R W : Type 0} → Calls N R W → (T → Store) → List ℕ → T → T → N → N → Result (Unit {0}) ProgramFault → Type 0
+CallsPeer {T} {N} {R} {W} calls held text first last network after result =
+    (((address : SocketAddr) → IsSocketText text address → ⊥) × (result ≡ Err Address) × (last ≡ first) × (after ≡ network))
+    ⊎ ((address : SocketAddr) × IsSocketText text address × ((came : Option (R × W)) × (between : N) × calls.called network address came between × ComesOf calls held first last came between after result))
+
+-- a peer is called, or nothing is done
+abbrev pub SyncsBy : {K N R W : Type 0} → Machine K → Calls N R W → List ℕ → List ℕ → N → N → Result (Unit {0}) ProgramFault → Type 0
+SyncsBy machine calls path peer network after result =
+    By machine (Some path)
+    (λ settings T held first. (last : T) × CallsPeer calls held peer first last network after result)
+    (λ fault. (result ≡ Err fault) × (after ≡ network))
+
 -- what stands around a run: what is unread of the input and written to the output, as far as that is known, the network, the clock, and standard error
 pub record Scene (N C E : Type 0) : Type 0 where
   pub unread : Option (List ℕ)
@@ -215,14 +262,16 @@ pub record Scene (N C E : Type 0) : Type 0 where
   pub errors : Tally E
 
 -- what each command does
-abbrev pub DoesLine : {K N L R W C E : Type 0} → Machine K → Means L R W K C → (N → SocketAddr → Option L → N → Type 0) → (E → Option (List ℕ)) → CommandLine → Scene N C E → Scene N C E → Result (Unit {0}) ProgramFault → Type 0
-DoesLine machine means listened told (Answer path hex now) old new result =
+abbrev pub DoesLine : {K N L R W C E P Q : Type 0} → Machine K → Calls N P Q → Means L R W K C → (N → SocketAddr → Option L → N → Type 0) → (E → Option (List ℕ)) → CommandLine → Scene N C E → Scene N C E → Result (Unit {0}) ProgramFault → Type 0
+DoesLine machine calls means listened told (Answer path hex now) old new result =
     (new.network ≡ old.network) × (new.errors ≡ old.errors)
     × ((used : Outside) × means.gave old.clock used.readings new.clock × AnswersBy machine (option_copied path) hex now old.unread new.unread old.written new.written used result)
-DoesLine machine means listened told (Serve path count) old new result =
+DoesLine machine calls means listened told (Serve path count) old new result =
     (new.unread ≡ old.unread) × (new.written ≡ old.written) × ServesBy machine means listened told path.now count old.network new.network old.clock new.clock old.errors new.errors result
-DoesLine machine means listened told (Dump path) old new result =
+DoesLine machine calls means listened told (Dump path) old new result =
     (new.unread ≡ old.unread) × (new.network ≡ old.network) × (new.clock ≡ old.clock) × (new.errors ≡ old.errors) × DumpsBy machine path.now old.written new.written result
+DoesLine machine calls means listened told (Sync path peer) old new result =
+    (new.unread ≡ old.unread) × (new.written ≡ old.written) × (new.clock ≡ old.clock) × (new.errors ≡ old.errors) × SyncsBy machine calls path.now peer.now old.network new.network result
 
 -- a line is refused for want of memory, or where clap refuses it or its matches name no command
 abbrev pub IsRefused : Bool → Option (Text × List Row) → LineFault → Type 0
@@ -231,6 +280,6 @@ IsRefused taken matches NoMemory = Unit {0}
 
 -- A run by the faults that clap finds in a command line, by whether it takes it, and by its matches. What is done is done for a line without
 -- faults; where the line is refused nothing is printed or told.
-abbrev pub Runs : {K N L R W C E : Type 0} → List ErrorKind → Bool → Option (Text × List Row) → Machine K → Means L R W K C → (N → SocketAddr → Option L → N → Type 0) → (E → Option (List ℕ)) → Scene N C E → Scene N C E → Result (Unit {0}) ProgramFault → Type 0
-Runs faults taken matches machine means listened told old new (Err (Line fault)) = IsRefused taken matches fault × (new.written ≡ old.written) × (new.errors ≡ old.errors)
-Runs faults taken matches machine means listened told old new result = (faults ≡ []) × ((line : CommandLine) × IsLine matches line × DoesLine machine means listened told line old new result)
+abbrev pub Runs : {K N L R W C E P Q : Type 0} → List ErrorKind → Bool → Option (Text × List Row) → Machine K → Calls N P Q → Means L R W K C → (N → SocketAddr → Option L → N → Type 0) → (E → Option (List ℕ)) → Scene N C E → Scene N C E → Result (Unit {0}) ProgramFault → Type 0
+Runs faults taken matches machine calls means listened told old new (Err (Line fault)) = IsRefused taken matches fault × (new.written ≡ old.written) × (new.errors ≡ old.errors)
+Runs faults taken matches machine calls means listened told old new result = (faults ≡ []) × ((line : CommandLine) × IsLine matches line × DoesLine machine calls means listened told line old new result)

@@ -1,13 +1,15 @@
 -- What a run of the program tells on standard error, and its exit status.
-use Rattle.std.specs.Prelude.{◌≡◌, ℕ, List, [], ◌∷◌, ◌++◌, Option, None, Some, Result, Ok, Err, ◌⊎◌, codes}
+use Rattle.std.specs.Prelude.{◌≡◌, ℕ, List, [], ◌∷◌, ◌++◌, Option, None, Some, Result, Ok, Err, ◌⊎◌, codes, ◌==◌, if◌then◌else◌}
 use Rattle.std.specs.Io.KnownBytes.{Appends}
+use Rattle.ua_server.specs.declared.outcome.ServeFault.{ServeFault}
 use Rattle.ua_server.specs.declared.outcome.ServeFault.TheVariants.{Read, Write, TooLong, OutOfMemory}
 use Rattle.ua_server.specs.declared.program.ProgramFault.{ProgramFault}
-use Rattle.ua_server.specs.declared.program.ProgramFault.TheVariants.{Line, File, Settings, Store, BadHex, Address, Connection}
+use Rattle.ua_server.specs.declared.program.ProgramFault.TheVariants.{Line, File, Settings, Store, BadHex, Address, Connection, Call, Exchange, Peer}
 use Rattle.ua_server.specs.declared.line.LineFault.{LineFault}
 use Rattle.ua_server.specs.declared.line.LineFault.TheVariants.{Words, OutOfMemory as NoMemory}
 use Rattle.ua_server.specs.Bytes.{AppendsPart, counted}
 use Rattle.ua_server.specs.Tally.{Tally}
+use Rattle.exchange.specs.Fault.{exchange_number}
 use Rattle.archive.specs.declared.fault.StoreFault.{StoreFault}
 use Rattle.archive.specs.declared.fault.StoreFault.TheVariants as store
 use Rattle.ua_settings.specs.declared.fault.SettingsFault.{SettingsFault}
@@ -21,6 +23,9 @@ fault_status (Store fault) = 3
 fault_status BadHex = 2
 fault_status Address = 1
 fault_status (Connection fault) = 1
+fault_status (Call fault) = 1
+fault_status (Exchange fault) = 1
+fault_status (Peer number) = 1
 
 abbrev pub status_of : Result (Unit {0}) ProgramFault → ℕ
 status_of (Ok done) = 0
@@ -28,7 +33,7 @@ status_of (Err fault) = fault_status fault
 
 -- the text that tells a refused command line
 abbrev pub line_text_of : LineFault → List ℕ
-line_text_of Words = codes "usage: uahist answer [--settings FILE] [--hex] [--now N] | serve --settings FILE [--connections N] | dump --settings FILE"
+line_text_of Words = codes "usage: uahist answer [--settings FILE] [--hex] [--now N] | serve --settings FILE [--connections N] | dump --settings FILE | sync --settings FILE --peer ADDRESS"
 line_text_of NoMemory = codes "memory ran out before the command began"
 
 -- the text that tells refused settings
@@ -48,6 +53,25 @@ store_text store.WrongReplica = codes "store refused (3)"
 store_text store.WrongArchive = codes "store refused (4)"
 store_text store.Broken = codes "store refused (5)"
 
+-- the text that tells a fault of a connection
+abbrev pub connection_text : ServeFault → List ℕ
+connection_text Read = codes "connection ended (1)"
+connection_text Write = codes "connection ended (2)"
+connection_text TooLong = codes "connection ended (3)"
+connection_text OutOfMemory = codes "connection ended (4)"
+
+-- the text that tells why an exchange ended, by its number; a peer may give a number that is none
+abbrev pub exchange_text : ℕ → List ℕ
+exchange_text number =
+    if number == 1 then codes "exchange ended (1)" else
+    if number == 2 then codes "exchange ended (2)" else
+    if number == 3 then codes "exchange ended (3)" else
+    if number == 4 then codes "exchange ended (4)" else
+    if number == 5 then codes "exchange ended (5)" else
+    if number == 6 then codes "exchange ended (6)" else
+    if number == 7 then codes "exchange ended (7)" else
+    if number == 8 then codes "exchange ended (8)" else codes "exchange ended by the peer"
+
 -- the text that tells a fault
 abbrev pub text_of : ProgramFault → List ℕ
 text_of (Line fault) = line_text_of fault
@@ -56,10 +80,10 @@ text_of (Settings fault place) = refusal_text fault
 text_of (Store fault) = store_text fault
 text_of BadHex = codes "bad hex"
 text_of Address = codes "address refused"
-text_of (Connection Read) = codes "connection ended (1)"
-text_of (Connection Write) = codes "connection ended (2)"
-text_of (Connection TooLong) = codes "connection ended (3)"
-text_of (Connection OutOfMemory) = codes "connection ended (4)"
+text_of (Connection fault) = connection_text fault
+text_of (Call fault) = connection_text fault
+text_of (Exchange fault) = exchange_text (exchange_number fault)
+text_of (Peer number) = exchange_text number
 
 -- where settings are refused
 abbrev pub place_of : ProgramFault → Option (List ℕ)
@@ -70,6 +94,9 @@ place_of (Store fault) = None
 place_of BadHex = None
 place_of Address = None
 place_of (Connection fault) = None
+place_of (Call fault) = None
+place_of (Exchange fault) = None
+place_of (Peer number) = None
 
 -- a line of the program's
 abbrev pub told_line : List ℕ → List ℕ

@@ -5,7 +5,7 @@ ghost use Rattle.clap.specs.Words.{app_of, rule_of, rows_of, found_of, first_of,
 ghost use Rattle.clap.specs.declared.builder.command.Command.TheViews.{out-Command};
 ghost use Rattle.clap.specs.Takes.{takes};
 ghost use Rattle.clap.specs.Faults.{fault_of as fault_kinds};
-ghost use Rattle.ua_server.specs.Line.{IsAnswer, IsServe, IsDump, IsLine, GivesNoNumber, IsNoServe, IsNoCommand, answer, connections, dump, now, serve, settings, uahist};
+ghost use Rattle.ua_server.specs.Line.{IsAnswer, IsServe, IsDump, IsSync, IsLine, GivesNoNumber, IsNoServe, IsNoSync, IsNoCommand, answer, connections, dump, now, peer, serve, servers, settings, sync, uahist};
 
 use clap::builder::ValueParser;
 use clap::error::ErrorKind;
@@ -40,6 +40,11 @@ pub enum Line<'a> {
     Dump {
         settings: &'a str,
     },
+    /// Call the peer at the address `peer`, by the settings of the file at `settings`, and exchange records with it.
+    Sync {
+        settings: &'a str,
+        peer: &'a str,
+    },
 }
 
 /// Why a command line is no command.
@@ -60,7 +65,7 @@ impl LineFault {
     {
         match self {
             LineFault::Words =>
-                "usage: uahist answer [--settings FILE] [--hex] [--now N] | serve --settings FILE [--connections N] | dump --settings FILE",
+                "usage: uahist answer [--settings FILE] [--hex] [--now N] | serve --settings FILE [--connections N] | dump --settings FILE | sync --settings FILE --peer ADDRESS",
             LineFault::OutOfMemory => "memory ran out before the command began",
         }
     }
@@ -149,18 +154,45 @@ fn dump_command<'a>(alloc: Global) -> Result<Command<'a>, AllocError>
     Ok(command)
 }
 
+/// The option `--peer ADDRESS`.
+fn peer_option<'a>(alloc: Global) -> Arg<'a>
+    ensures rule { rule_of result ≡ peer }
+    ensures local { result.global ≡ false }
+{
+    Arg::new(alloc, "peer").long("peer").action(ArgAction::Set)
+}
+
+/// The command `sync` and its options.
+fn sync_command<'a>(alloc: Global) -> Result<Command<'a>, AllocError>
+    ensures app { IfOk result (λ command. app_of command ≡ sync) }
+    ensures local { IfOk result (λ command. (out-Command command).has_globals ≡ false) }
+{
+    let settings = settings_option(alloc);
+    let peer = peer_option(alloc);
+    let command = Command::new(alloc, "sync");
+    let command = command.arg(settings)?.arg(peer)?;
+    Ok(command)
+}
+
+/// The program with its commands that answer clients.
+fn servers<'a>(alloc: Global) -> Result<Command<'a>, AllocError>
+    ensures { IfOk result (λ command. app_of command ≡ servers) }
+{
+    let answer = answer_command(alloc)?;
+    let serve = serve_command(alloc)?;
+    let whole = Command::new(alloc, "uahist");
+    let whole = whole.subcommand(answer)?.subcommand(serve)?;
+    Ok(whole)
+}
+
 /// The program's commands and their options.
 fn command<'a>(alloc: Global) -> Result<Command<'a>, AllocError>
     ensures { IfOk result (λ command. app_of command ≡ uahist) }
 {
-    let answer = answer_command(alloc)?;
-    let serve = serve_command(alloc)?;
     let dump = dump_command(alloc)?;
-    let whole = Command::new(alloc, "uahist");
-    let whole = whole
-        .subcommand(answer)?
-        .subcommand(serve)?
-        .subcommand(dump)?;
+    let sync = sync_command(alloc)?;
+    let whole = servers(alloc)?;
+    let whole = whole.subcommand(dump)?.subcommand(sync)?;
     Ok(whole)
 }
 
@@ -215,6 +247,20 @@ fn read_dump<'a>(dump: &ArgMatches<'a>) -> Result<Line<'a>, LineFault>
     }
 }
 
+/// Reads the options of `sync`.
+fn read_sync<'a>(sync: &ArgMatches<'a>) -> Result<Line<'a>, LineFault>
+    ensures ok { IfOk result (IsSync (rows_of (found_of sync.now))) }
+    ensures words { OnErr result (IsNoSync (rows_of (found_of sync.now))) }
+{
+    let Some(settings) = sync.get_str("settings") else {
+        return Err(LineFault::Words);
+    };
+    match sync.get_str("peer") {
+        Some(peer) => Ok(Line::Sync { settings, peer }),
+        None => Err(LineFault::Words),
+    }
+}
+
 /// Reads the command that the matches name.
 fn read_matches<'a>(matches: &ArgMatches<'a>) -> Result<Line<'a>, LineFault>
     ensures ok { IfOk result (IsLine (subcommand_rows_of matches.now)) }
@@ -226,9 +272,12 @@ fn read_matches<'a>(matches: &ArgMatches<'a>) -> Result<Line<'a>, LineFault>
     if let Some(serve) = matches.subcommand_matches("serve") {
         return read_serve(serve);
     }
-    match matches.subcommand_matches("dump") {
+    if let Some(dump) = matches.subcommand_matches("dump") {
+        return read_dump(dump);
+    }
+    match matches.subcommand_matches("sync") {
         None => Err(LineFault::Words),
-        Some(dump) => read_dump(dump),
+        Some(sync) => read_sync(sync),
     }
 }
 

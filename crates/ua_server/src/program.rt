@@ -4,14 +4,15 @@ ghost use Rattle.std.specs.Prelude.{◌≡◌, ◌+◌, ℕ, ℤ, List, [], ◌�
 ghost use Rattle.std.specs.Io.KnownBytes.{Appends};
 ghost use Rattle.ua_server.specs.Bytes.{counted, AppendsPart};
 ghost use Rattle.ua_server.specs.Given.{Outside};
-ghost use Rattle.ua_server.specs.Telling.{status_of, IsTold, refusal_text, store_text, told_line, place_line, error_lines};
-ghost use Rattle.ua_server.specs.Program.{empty_of, AnswersAt, fault_of, program_result, unopened, AnswersBy, ServesBy, dump_result, DumpsBy, DoesLine, Runs};
+ghost use Rattle.ua_server.specs.Telling.{status_of, IsTold, refusal_text, store_text, connection_text, exchange_text, told_line, place_line, error_lines};
+ghost use Rattle.ua_server.specs.Program.{empty_of, AnswersAt, fault_of, program_result, unopened, AnswersBy, ServesBy, dump_result, DumpsBy, sync_result, CallsPeer, SyncsBy, DoesLine, Runs};
 ghost use Rattle.ua_server.specs.Dumping.{Dumps};
 ghost use Rattle.clap.specs.Words.{subcommand_of};
 ghost use Rattle.clap.specs.Takes.{takes};
 ghost use Rattle.clap.specs.Faults.{fault_of as fault_kinds};
 ghost use Rattle.ua_server.specs.Line.{uahist};
 
+use crate::calling::{SyncFault, sync};
 use crate::clock::Clock;
 use crate::connections::serve_at;
 use crate::counted::Counted;
@@ -24,11 +25,13 @@ use crate::outcome::ServeFault;
 use crate::single::answer_at;
 use crate::stores::Stores;
 use archive::{Archive, ListArchive, StoreFault};
+use exchange::{ExchangeFault, Replica};
 use std::alloc::Global;
 use std::convert::AsStr;
 use std::error::Error;
 use std::fmt;
 use std::io::{Read, Write};
+use std::net::SocketAddr;
 use ua_binary::Text;
 use ua_settings::{Settings, SettingsFault};
 
@@ -49,6 +52,12 @@ pub enum ProgramFault {
     Address,
     /// A connection met a fault.
     Connection(ServeFault),
+    /// The connection with a peer that was called met a fault.
+    Call(ServeFault),
+    /// The exchange with a peer met a fault here.
+    Exchange(ExchangeFault),
+    /// The peer ended the exchange by this number.
+    Peer(u32),
 }
 
 impl ProgramFault {
@@ -65,10 +74,9 @@ impl ProgramFault {
             ProgramFault::Store(fault) => store_text(*fault),
             ProgramFault::BadHex => "bad hex",
             ProgramFault::Address => "address refused",
-            ProgramFault::Connection(ServeFault::Read) => "connection ended (1)",
-            ProgramFault::Connection(ServeFault::Write) => "connection ended (2)",
-            ProgramFault::Connection(ServeFault::TooLong) => "connection ended (3)",
-            ProgramFault::Connection(ServeFault::OutOfMemory) => "connection ended (4)",
+            ProgramFault::Connection(fault) | ProgramFault::Call(fault) => connection_text(*fault),
+            ProgramFault::Exchange(fault) => exchange_text(u32::from(fault.number())),
+            ProgramFault::Peer(number) => exchange_text(*number),
         }
     }
 
@@ -84,7 +92,10 @@ impl ProgramFault {
             | ProgramFault::Store(_)
             | ProgramFault::BadHex
             | ProgramFault::Address
-            | ProgramFault::Connection(_) => None,
+            | ProgramFault::Connection(_)
+            | ProgramFault::Call(_)
+            | ProgramFault::Exchange(_)
+            | ProgramFault::Peer(_) => None,
         }
     }
 }
@@ -113,6 +124,35 @@ fn store_text(fault: StoreFault) -> &'static str
         StoreFault::WrongReplica => "store refused (3)",
         StoreFault::WrongArchive => "store refused (4)",
         StoreFault::Broken => "store refused (5)",
+    }
+}
+
+/// The text that tells a fault of a connection, with its number.
+fn connection_text(fault: ServeFault) -> &'static str
+    ensures { result.now ≡ connection_text fault }
+{
+    match fault {
+        ServeFault::Read => "connection ended (1)",
+        ServeFault::Write => "connection ended (2)",
+        ServeFault::TooLong => "connection ended (3)",
+        ServeFault::OutOfMemory => "connection ended (4)",
+    }
+}
+
+/// The text that tells why an exchange ended, by its number.
+fn exchange_text(number: u32) -> &'static str
+    ensures { result.now ≡ exchange_text number }
+{
+    match number {
+        1 => "exchange ended (1)",
+        2 => "exchange ended (2)",
+        3 => "exchange ended (3)",
+        4 => "exchange ended (4)",
+        5 => "exchange ended (5)",
+        6 => "exchange ended (6)",
+        7 => "exchange ended (7)",
+        8 => "exchange ended (8)",
+        _ => "exchange ended by the peer",
     }
 }
 
@@ -334,6 +374,65 @@ fn dump_by<F: SettingsFiles, D: Stores, W: Write>(
     }
 }
 
+/// What the end of a dialog is called by the program.
+fn synced(ending: Result<(), SyncFault>) -> Result<(), ProgramFault>
+    ensures { result ≡ sync_result ending }
+{
+    match ending {
+        Ok(()) => Ok(()),
+        Err(SyncFault::Connection(fault)) => Err(ProgramFault::Call(fault)),
+        Err(SyncFault::Exchange(fault)) => Err(ProgramFault::Exchange(fault)),
+        Err(SyncFault::Peer(number)) => Err(ProgramFault::Peer(number)),
+    }
+}
+
+/// Calls the peer at an address, and exchanges records with it.
+fn sync_over<A: Archive + Drop, N: Network>(
+    alloc: Global,
+    archive: A,
+    peer: &str,
+    network: &mut N,
+) -> Result<(), ProgramFault>
+    ensures { (last : _) × CallsPeer (record { called = N.called; parted = N.parted; unread = N.Reader.remaining; written = N.Writer.contents }) A.state peer.now archive last network.old network.new result }
+{
+    let Ok(address) = peer.parse::<SocketAddr>() else {
+        return Err(ProgramFault::Address);
+    };
+    let Some((reader, writer)) = network.call(address) else {
+        return Err(ProgramFault::Address);
+    };
+    let mut reader = Counted::new(reader);
+    let mut writer = Counted::new(writer);
+    let mut replica = Replica { archive };
+    let ending = sync(alloc, &mut replica, &mut reader, &mut writer);
+    network.part(reader, writer);
+    synced(ending)
+}
+
+/// Calls the peer at an address by the settings of the file at a path.
+fn sync_by<F: SettingsFiles, D: Stores, N: Network>(
+    alloc: Global,
+    path: &str,
+    peer: &str,
+    files: &mut F,
+    stores: &mut D,
+    network: &mut N,
+) -> Result<(), ProgramFault>
+    ensures { SyncsBy (record { reads = λ path text. F.gave files.old path text files.new; opened = λ path id number opening. D.opened stores.old path id number opening stores.new; held = D.Kept.state }) (record { called = N.called; parted = N.parted; unread = N.Reader.remaining; written = N.Writer.contents }) path.now peer.now network.old network.new result }
+{
+    let settings = match settings_at(alloc, Some(path), files) {
+        Ok(settings) => settings,
+        Err(fault) => return Err(fault),
+    };
+    match settings.store() {
+        None => sync_over(alloc, archive_of(alloc, &settings), peer, network),
+        Some(path) => match open_store(&settings, path, stores) {
+            Ok(archive) => sync_over(alloc, archive, peer, network),
+            Err(fault) => Err(fault),
+        },
+    }
+}
+
 /// Does what a line says.
 fn do_line<F: SettingsFiles, D: Stores, N: Network, R: Read, W: Write, E: Write, C: Clock>(
     alloc: Global,
@@ -349,6 +448,7 @@ fn do_line<F: SettingsFiles, D: Stores, N: Network, R: Read, W: Write, E: Write,
     ensures read { IsErrOf result (ProgramFault.Connection ServeFault.Read) → input.new.faults ≡ counted input.old.faults }
     ensures write { IsErrOf result (ProgramFault.Connection ServeFault.Write) → output.new.faults ≡ counted output.old.faults }
     ensures does { DoesLine (record { reads = λ path text. F.gave files.old path text files.new; opened = λ path id number opening. D.opened stores.old path id number opening stores.new; held = D.Kept.state })
+        (record { called = N.called; parted = N.parted; unread = N.Reader.remaining; written = N.Writer.contents })
         (record { accepted = N.Listener.accepted; closed = N.Listener.closed; gave = C.gave; unread = N.Listener.Reader.remaining; written = N.Listener.Writer.contents; held = D.Kept.state }) N.listened E.contents line.entry
         (record { unread = R.remaining input.old.inner; written = W.contents output.old.inner; network = network.old; clock = clock.old; errors = errors.old })
         (record { unread = R.remaining input.new.inner; written = W.contents output.new.inner; network = network.new; clock = clock.new; errors = errors.new }) result }
@@ -371,6 +471,7 @@ fn do_line<F: SettingsFiles, D: Stores, N: Network, R: Read, W: Write, E: Write,
             errors,
         ),
         Line::Dump { settings } => dump_by(alloc, settings, files, stores, output),
+        Line::Sync { settings, peer } => sync_by(alloc, settings, peer, files, stores, network),
     }
 }
 
@@ -407,6 +508,7 @@ pub fn run<
     ensures write { IsErrOf result (ProgramFault.Connection ServeFault.Write) → output.new.faults ≡ counted output.old.faults }
     ensures runs { Runs (fault_kinds uahist (map S.text words.now)) (takes uahist (map S.text words.now)) (subcommand_of uahist (map S.text words.now))
         (record { reads = λ path text. F.gave files.old path text files.new; opened = λ path id number opening. D.opened stores.old path id number opening stores.new; held = D.Kept.state })
+        (record { called = N.called; parted = N.parted; unread = N.Reader.remaining; written = N.Writer.contents })
         (record { accepted = N.Listener.accepted; closed = N.Listener.closed; gave = C.gave; unread = N.Listener.Reader.remaining; written = N.Listener.Writer.contents; held = D.Kept.state }) N.listened E.contents
         (record { unread = R.remaining input.old.inner; written = W.contents output.old.inner; network = network.old; clock = clock.old; errors = errors.old })
         (record { unread = R.remaining input.new.inner; written = W.contents output.new.inner; network = network.new; clock = clock.new; errors = errors.new }) result }
@@ -451,7 +553,11 @@ pub fn report<W: Write>(ending: Result<(), ProgramFault>, errors: &mut Counted<W
         | ProgramFault::Settings(..)
         | ProgramFault::BadHex => 2,
         ProgramFault::Store(_) => 3,
-        ProgramFault::Address | ProgramFault::Connection(_) => 1,
+        ProgramFault::Address
+        | ProgramFault::Connection(_)
+        | ProgramFault::Call(_)
+        | ProgramFault::Exchange(_)
+        | ProgramFault::Peer(_) => 1,
     }
 }
 

@@ -80,7 +80,15 @@ pub(super) struct Machine<'a> {
 impl<'a> Network for Machine<'a> {
     type Listener = Clients<'a>;
 
+    type Reader = Slow<'a>;
+
+    type Writer = Narrow;
+
     ghost listened = { λ old address listener new. Unit {0} };
+
+    ghost called = { λ old address came new. Unit {0} };
+
+    ghost parted = { λ old reader writer new. Unit {0} };
 
     fn listen(&mut self, address: SocketAddr) -> Option<Clients<'a>> {
         if address.port() == 4840 {
@@ -88,6 +96,22 @@ impl<'a> Network for Machine<'a> {
         } else {
             None
         }
+    }
+
+    /// The first of the clients is the peer at port 4840.
+    fn call(&mut self, address: SocketAddr) -> Option<(Slow<'a>, Narrow)> {
+        if address.port() == 4840 {
+            Clients::new(self.alloc, self.clients).accept()
+        } else {
+            None
+        }
+    }
+
+    fn part(&mut self, reader: Counted<Slow<'a>>, writer: Counted<Narrow>)
+        ensures { Unit {0} }
+    {
+        drop(reader);
+        drop(writer);
     }
 }
 

@@ -14,7 +14,30 @@ use std::test::Fail;
 use uuid::Uuid;
 
 /// Command lines, and what they are.
-static LINES: [(&[&str], Result<Line<'static>, LineFault>); 34] = [
+static LINES: [(&[&str], Result<Line<'static>, LineFault>); 38] = [
+    (
+        &[
+            "uahist",
+            "sync",
+            "--settings",
+            "plant.toml",
+            "--peer",
+            "10.0.0.2:4840",
+        ],
+        Ok(Line::Sync {
+            settings: "plant.toml",
+            peer: "10.0.0.2:4840",
+        }),
+    ),
+    (&["uahist", "sync"], Err(LineFault::Words)),
+    (
+        &["uahist", "sync", "--settings", "a"],
+        Err(LineFault::Words),
+    ),
+    (
+        &["uahist", "sync", "--peer", "10.0.0.2:4840"],
+        Err(LineFault::Words),
+    ),
     (
         &["uahist", "dump", "--settings", "plant.toml"],
         Ok(Line::Dump {
@@ -172,7 +195,45 @@ fn reads_lines(rt: HostRuntime) {
 }
 
 /// Command lines, the input, the room of the output, what it has then, what is said, and the exit status.
-static RUNS: [(&[&str], &[u8], usize, &str, &str, u8); 21] = [
+static RUNS: [(&[&str], &[u8], usize, &str, &str, u8); 24] = [
+    (
+        &["uahist", "sync", "--settings", "good", "--peer", "plant"],
+        b"",
+        1000,
+        "",
+        "uahist: address refused\n",
+        1,
+    ),
+    (
+        &[
+            "uahist",
+            "sync",
+            "--settings",
+            "good",
+            "--peer",
+            "127.0.0.1:4841",
+        ],
+        b"",
+        1000,
+        "",
+        "uahist: address refused\n",
+        1,
+    ),
+    (
+        &[
+            "uahist",
+            "sync",
+            "--settings",
+            "good",
+            "--peer",
+            "127.0.0.1:4840",
+        ],
+        b"",
+        1000,
+        "",
+        "uahist: exchange ended (1)\n",
+        1,
+    ),
     (
         &["uahist", "dump", "--settings", "good"],
         b"",
@@ -251,7 +312,7 @@ static RUNS: [(&[&str], &[u8], usize, &str, &str, u8); 21] = [
         b"",
         1000,
         "",
-        "uahist: usage: uahist answer [--settings FILE] [--hex] [--now N] | serve --settings FILE [--connections N] | dump --settings FILE\n",
+        "uahist: usage: uahist answer [--settings FILE] [--hex] [--now N] | serve --settings FILE [--connections N] | dump --settings FILE | sync --settings FILE --peer ADDRESS\n",
         2,
     ),
     (
