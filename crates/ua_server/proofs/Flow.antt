@@ -1,9 +1,10 @@
 -- How the answers to item after item make the answer to a connection.
-use Rattle.std.proofs.Common.{◌≡◌, ◌≤◌, ◌<◌, length, arith, Bool, false, inl, inr, ℕ, List, [], ◌++◌, Some, None, Ok, Err, refl, sym, ◌∙◌, ap, subst, append_assoc}
+use Rattle.std.proofs.Common.{◌≡◌, ◌≤◌, ◌<◌, length, arith, Bool, true, false, nat_lt, inl, inr, ℕ, List, [], ◌++◌, Some, None, Ok, Err, refl, sym, ◌∙◌, ap, subst, append_assoc}
 use Rattle.std.specs.Prelude.{Option, Result}
 use Rattle.std.specs.Io.KnownBytes.{Appends}
 use Rattle.std.proofs.KnownBytes.{Appends-trans, Appends-nil}
 use Rattle.std.proofs.lemmas.List.{append-nil}
+use Rattle.std.proofs.lemmas.Bool.{lt-ltb}
 use Rattle.uacp.specs.Chunks.{cut, greatest}
 use Rattle.uacp.specs.Stream.{IsPartial}
 use Rattle.uacp.specs.declared.types.Header.{Header}
@@ -26,7 +27,7 @@ use Rattle.ua_server.specs.declared.turn.Turn.TheVariants.{Waits, Greets, Goes, 
 use Rattle.ua_server.specs.Bytes.{AppendsPart}
 use Rattle.ua_server.specs.Given.{Outside, before}
 use Rattle.ua_server.specs.Run.{Answers}
-use Rattle.ua_server.specs.Client.{Client, Standing, Ending, chunks}
+use Rattle.ua_server.specs.Client.{Client, new_client, Standing, Ending, chunks}
 use Rattle.ua_server.specs.Turns.{Link, IsShort, IsSmall, Reaches, Turned, TurnedInto, Drained, DrainsTo, DrainedSoFar, IsOwnEnd, IsNoLess, IsOwn, Shortens, new_link, ending_of, end_of}
 use Rattle.ua_server.proofs.Outsides.{nothing}
 use Rattle.ua_server.proofs.Runs.{answers-then}
@@ -162,6 +163,20 @@ starts-short link is = let P : Link → Type 0 = IsShort in subst P (sym is) sho
 
 pub starts-small : (link : Link) → link ≡ new_link → IsSmall link
 starts-small link is = let P : Link → Type 0 = IsSmall in subst P (sym is) (omega arith, omega arith)
+
+pub fresh-small : (link : Link) → link.client ≡ new_client → IsSmall link
+fresh-small link is = let P : Client → Type 0 = λ c. (c.taken ≤ 1000000) × (c.limit ≤ 65536) in subst P (sym is) (omega arith, omega arith)
+
+-- fewer bytes than a header has
+few-none : (limit : ℕ) (bytes : List ℕ) → length bytes < 8 → cut false limit bytes ≡ Ok None
+unfolding cut
+few-none limit bytes few = let low : nat_lt (length bytes) 8 ≡ true = lt-ltb _ _ few in rw low refl
+
+pub fed-short : (link fed : Link) (first : List ℕ) → link ≡ new_link → fed ≡ record link { waiting = link.waiting ++ first } → length first < 8 → (fed.client ≡ new_client) × (fed.waiting ≡ first) × IsShort fed
+fed-short link fed first is more few =
+    let same : fed ≡ (let l : Link = record { client = new_client; waiting = first } in l) = more ∙ ap (λ (l : Link). let k : Link = record l { waiting = l.waiting ++ first } in k) is in
+    let P : Link → Type 0 = λ l. (l.client ≡ new_client) × (l.waiting ≡ first) × IsShort l in
+    subst P (sym same) (refl, refl, few-none 65536 first few)
 
 -- ---- the end of a stretch
 

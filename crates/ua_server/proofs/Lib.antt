@@ -11,6 +11,7 @@ pub mod Tried
 pub mod Networks
 pub mod DumpLemmas
 pub mod Opened
+pub mod Behind
 pub mod Talks
 pub mod Talking
 pub mod Syncing

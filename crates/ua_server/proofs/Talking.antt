@@ -5,7 +5,7 @@ use Rattle.ua_binary.specs.Binary as binary
 use Rattle.std.specs.Io.KnownBytes.{Appends, Consumes, Keeps, IsAtEnd}
 use Rattle.std.proofs.KnownBytes.{Appends-trans, Appends-nil, Consumes-trans, Consumes-nil, Consumes-kept}
 use Rattle.std.proofs.lemmas.List.{append-nil, length-append, length-drop}
-use Rattle.std.proofs.lemmas.Bool.{ltb-false, ltb-true, true≢false}
+use Rattle.std.proofs.lemmas.Bool.{ltb-false, ltb-true, lt-ltb, true≢false}
 use Rattle.archive.specs.Store.{Store}
 use Rattle.exchange.specs.declared.fault.ExchangeFault.{ExchangeFault}
 use Rattle.exchange.specs.declared.fault.ExchangeFault.TheVariants as exchange
@@ -23,7 +23,8 @@ use Rattle.ua_server.specs.declared.outcome.ServeFault.{ServeFault}
 use Rattle.ua_server.specs.declared.outcome.ServeFault.TheVariants.{Read, Write, TooLong, OutOfMemory}
 use Rattle.ua_server.specs.declared.peers.Parted.{Parted}
 use Rattle.ua_server.specs.declared.peers.Parted.TheVariants as parted
-use Rattle.ua_server.specs.Bytes.{AppendsPart}
+use Rattle.ua_server.specs.Bytes.{AppendsPart, behind}
+use Rattle.ua_server.proofs.Behind.{behind-consumes}
 use Rattle.ua_server.specs.Peers.{failed_as, ended_as, is_silent, Talks, Waits, Speaks, Meets}
 use Rattle.ua_server.specs.Talking.{ending_of, stop_by, stop_of, ending_in, IsReady, TakesOne, LeavesOne, IsNoLess, IsDrained, LeavesAll, AnswersAll, Drained, TellsWant, DrainedSoFar, MeetsSoFar}
 use Rattle.ua_server.proofs.Talks.{talks-start, talks-then, talks-more, talks-starved, talks-frame, talks-ill}
@@ -84,9 +85,9 @@ pub short-cut : (bytes : List ℕ) → cut bytes ≡ Ok None → length bytes < 
 unfolding cut
 short-cut bytes e = short-if (nat_lt (length bytes) 8) (titled (length bytes) (take 8 bytes) (kind_at (take 8 bytes))) (length bytes) refl (short-titled (length bytes) (take 8 bytes) (kind_at (take 8 bytes))) e
 
-pub cut-none : cut [] ≡ Ok None
+few-cut : (bytes : List ℕ) → length bytes < 8 → cut bytes ≡ Ok None
 unfolding cut
-cut-none = refl
+few-cut bytes few = let low : nat_lt (length bytes) 8 ≡ true = lt-ltb _ _ few in rw low refl
 
 -- ---- the first frame
 
@@ -281,10 +282,17 @@ leaves-end start mid last frames held left code silent first end e leaves ready 
 
 -- ---- the whole dialog
 
-pub meets-start : (start : Standing) (a : Store) (unread written : Option (List ℕ)) (frames : Held) → frames ≡ fresh → MeetsSoFar start a a unread unread written written frames.waiting start
-meets-start start a unread written frames is =
-    subst (λ (h : Held). MeetsSoFar start a a unread unread written written h.waiting start) (sym {b = fresh} is)
-    (record { came = []; out = []; read = Consumes-nil unread; written = Appends-nil written; talks = talks-start start a [] })
+pub meets-start : (start : Standing) (a : Store) (unread written : Option (List ℕ)) (first : List ℕ) (frames fed : Held) → frames ≡ fresh → fed ≡ record frames { waiting = frames.waiting ++ first }
+    → MeetsSoFar start a a (behind first unread) unread written written fed.waiting start
+meets-start start a unread written first frames fed is more =
+    let waits : fed.waiting ≡ first = ap (λ (h : Held). h.waiting) more ∙ ap (λ (h : Held). h.waiting ++ first) is in
+    subst (λ (w : List ℕ). MeetsSoFar start a a (behind first unread) unread written written w start) (sym waits)
+    (record { came = first; out = []; read = behind-consumes first unread; written = Appends-nil written; talks = talks-start start a first })
+
+pub starts-short : (frames fed : Held) (first : List ℕ) → frames ≡ fresh → fed ≡ record frames { waiting = frames.waiting ++ first } → length first < 8 → (fed.failed ≡ false) × (cut fed.waiting ≡ Ok None)
+starts-short frames fed first is more few =
+    let waits : fed.waiting ≡ first = ap (λ (h : Held). h.waiting) more ∙ ap (λ (h : Held). h.waiting ++ first) is in
+    (ap (λ (h : Held). h.failed) more ∙ ap (λ (h : Held). h.failed) is, subst (λ (w : List ℕ). cut w ≡ Ok None) (sym waits) (few-cut first few))
 
 pub meets-fed : (start last : Standing) (a b : Store) (unread left rest old written : Option (List ℕ)) (frames fed : Held) (piece : List ℕ) → MeetsSoFar start a b unread left old written frames.waiting last → Consumes left rest piece
     → fed ≡ record frames { waiting = frames.waiting ++ piece } → MeetsSoFar start a b unread rest old written fed.waiting last
@@ -357,6 +365,11 @@ meets-starved start last a b unread left rest old written sent frames piece resu
     }
     go (Err TooLong) t = absurd t
     go (Err OutOfMemory) t = absurd t
+
+pub meets-unfed : (start : Standing) (a : Store) (unread written sent : Option (List ℕ)) (first : List ℕ) (result : Result Parted ServeFault) → TellsWant written sent result → Meets start a a (behind first unread) unread written sent result
+meets-unfed start a unread written sent first result tells =
+    meets-starved start start a a (behind first unread) (behind first unread) unread written written sent [] first result
+    (record { came = []; out = []; read = Consumes-nil (behind first unread); written = Appends-nil written; talks = talks-start start a [] }) (behind-consumes first unread) tells
 
 -- the dialog ended
 pub meets-stop : (start mid last : Standing) (a b c : Store) (unread left old written sent : Option (List ℕ)) (held next : Held) (p : Parted) → MeetsSoFar start a b unread left old written held.waiting mid

@@ -18,6 +18,8 @@ use Rattle.ua_server.specs.declared.outcome.Served.TheVariants.{EndOfInput, Clos
 use Rattle.ua_server.specs.declared.outcome.ServeFault.{ServeFault}
 use Rattle.ua_server.specs.declared.outcome.ServeFault.TheVariants.{Read, Write, TooLong, OutOfMemory}
 use Rattle.ua_server.specs.declared.turn.Turn.TheVariants.{Ends}
+use Rattle.ua_server.specs.Bytes.{behind}
+use Rattle.ua_server.proofs.Behind.{behind-consumes}
 use Rattle.ua_server.specs.Given.{Outside, before}
 use Rattle.ua_server.specs.Run.{Reply, Answer, Answers, answered}
 use Rattle.ua_server.specs.Client.{Client, Standing, Ending, partial, chunks, new_client, found, next}
@@ -33,10 +35,10 @@ use Rattle.ua_server.proofs.Flow.{turned-then}
 abbrev pub start_of : List ℕ → Link
 start_of came = record { client = new_client; waiting = came }
 
-pub serves-start : (settings : Values) (a : Store) (unread written : Option (List ℕ)) (link : Link) → link ≡ new_link → ServesSoFar settings a a unread unread written written nothing link
+pub serves-start : (settings : Values) (a : Store) (unread written : Option (List ℕ)) (link : Link) → link.client ≡ new_client → ServesSoFar settings a a (behind link.waiting unread) unread written written nothing link
 serves-start settings a unread written link is =
-    let P : Link → Type 0 = λ l. Turned settings a a (start_of []) nothing [] None l in
-    record { came = []; out = []; read = Consumes-nil unread; written = Appends-nil written; turned = subst P (sym is) (turned-none settings a new_link) }
+    let P : Client → Type 0 = λ c. Turned settings a a (record { client = c; waiting = link.waiting }) nothing [] None link in
+    record { came = link.waiting; out = []; read = behind-consumes link.waiting unread; written = Appends-nil written; turned = subst P is (turned-none settings a link) }
 
 -- more bytes came
 turned-more : (settings : Values) (a b : Store) (link next : Link) (piece : List ℕ) (used : Outside) (out : List ℕ) → Turned settings a b link used out None next
@@ -256,3 +258,11 @@ serves-starved settings a b unread left rest old written sent used link bytes re
         let t = starved-turned settings b fed fed [] [] (Err OutOfMemory) more (refl, refl) in
         let T : List ℕ → Type 0 = λ o. Turned settings b b fed (marked t.0) o (Some (Err OutOfMemory)) fed in
         (marked t.0, refl, serves-final settings a b b unread rest old written sent used (marked t.0) fed fed [] (Err OutOfMemory) now s (subst T (sym t.1.1) t.1.2) tt)
+
+-- memory for bytes that were read before was wanting
+pub serves-unfed : (settings : Values) (a : Store) (unread written sent : Option (List ℕ)) (link : Link) (first : List ℕ) (result : Ending) → link ≡ new_link → 0 < length first → SendsRefusal written sent BAD_OUT_OF_MEMORY result
+    → (more : Outside) × (more.readings ≡ []) × Serves settings a a (behind first unread) unread written sent (before nothing more) result
+serves-unfed settings a unread written sent link first result is some sends =
+    let none : ServesSoFar settings a a (behind first unread) (behind first unread) written written nothing new_link =
+    record { came = []; out = []; read = Consumes-nil (behind first unread); written = Appends-nil written; turned = turned-none settings a new_link } in
+    serves-starved settings a a (behind first unread) (behind first unread) unread written written sent nothing new_link first result none (behind-consumes first unread) some sends

@@ -72,5 +72,5 @@ pub fn sync<R: Read, W: Write, A: Archive>(
         Ok(()) => {}
         Err(fault) => return Err(SyncFault::Connection(fault)),
     }
-    synced_by(talk(alloc, replica, &mut dialog, reader, writer))
+    synced_by(talk(alloc, replica, &mut dialog, &[], reader, writer))
 }

@@ -1,9 +1,9 @@
 //! A dialog with a peer over a connection.
 
-ghost use Rattle.std.specs.Prelude.{◌≡◌, false, [], IsErrOf, ◌≤◌, true};
+ghost use Rattle.std.specs.Prelude.{◌≡◌, false, [], IsErrOf, ◌≤◌, ◌<◌, true, length};
 ghost use Rattle.exchange.specs.declared.fault.ExchangeFault.TheVariants as exchange;
 ghost use Rattle.exchange.specs.Dialogs.{TellsFault};
-ghost use Rattle.ua_server.specs.Bytes.{counted};
+ghost use Rattle.ua_server.specs.Bytes.{behind, counted};
 ghost use Rattle.ua_server.specs.Peers.{is_silent, Talks, Meets, responding};
 ghost use Rattle.ua_server.specs.Talking.{ending_of, stop_of, IsReady, LeavesOne, LeavesAll, Drained, TellsWant};
 
@@ -125,16 +125,18 @@ fn send_starved<W: Write>(writer: &mut Counted<W>) -> Result<Parted, ServeFault>
     Ok(Parted::Failed(ExchangeFault::OutOfMemory))
 }
 
-/// Carries a dialog on over a connection until it ends or the input does.
+/// Carries a dialog on over a connection, of which these first bytes were read before, until it ends or the input does.
 pub(crate) fn talk<R: Read, W: Write, A: Archive>(
     alloc: Global,
     replica: &mut Replica<A>,
     dialog: &mut Dialog,
+    first: &[u8],
     reader: &mut Counted<R>,
     writer: &mut Counted<W>,
 ) -> Result<Parted, ServeFault>
     requires ready { IsReady dialog.old }
-    ensures meets { Meets dialog.old (A.state replica.old.archive) (A.state replica.new.archive) (R.remaining reader.old.inner) (R.remaining reader.new.inner) (W.contents writer.old.inner) (W.contents writer.new.inner) result }
+    requires few { length first.now < 8 }
+    ensures meets { Meets dialog.old (A.state replica.old.archive) (A.state replica.new.archive) (behind first.now (R.remaining reader.old.inner)) (R.remaining reader.new.inner) (W.contents writer.old.inner) (W.contents writer.new.inner) result }
     ensures read { IsErrOf result ServeFault.Read → reader.new.faults ≡ counted reader.old.faults }
     ensures write { IsErrOf result ServeFault.Write → writer.new.faults ≡ counted writer.old.faults }
     ensures read_kept { (IsErrOf result ServeFault.Read → ⊥) → reader.new.faults ≡ reader.old.faults }
@@ -143,6 +145,10 @@ pub(crate) fn talk<R: Read, W: Write, A: Archive>(
     let mut frames = Frames::new(alloc);
     let mut out = Vec::new(alloc);
     let mut piece = [0u8; PIECE];
+    match frames.feed(first) {
+        Ok(()) => {}
+        Err(_) => return send_starved(writer),
+    }
     'reads: loop {
         let n = reader.read_piece(&mut piece)?;
         if n == 0 {
@@ -183,5 +189,5 @@ pub fn serve_peer<R: Read, W: Write, A: Archive>(
     ensures write_kept { (IsErrOf result ServeFault.Write → ⊥) → writer.new.faults ≡ writer.old.faults }
 {
     let mut dialog = Dialog::responder();
-    talk(alloc, replica, &mut dialog, reader, writer)
+    talk(alloc, replica, &mut dialog, &[], reader, writer)
 }

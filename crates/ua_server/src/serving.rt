@@ -2,7 +2,8 @@
 
 ghost use Rattle.std.specs.Prelude.{◌≡◌, ◌≤◌, ◌<◌, ◌⊎◌, List, [], None, IfOk, OnOk, OnErr, IsErrOf, length};
 ghost use Rattle.std.specs.Io.KnownBytes.{Appends};
-ghost use Rattle.ua_server.specs.Bytes.{counted};
+ghost use Rattle.ua_server.specs.Bytes.{behind, counted};
+ghost use Rattle.ua_server.specs.Client.{new_client};
 ghost use Rattle.ua_binary.specs.declared.codes.TheConstants.Status.{BAD_OUT_OF_MEMORY};
 ghost use Rattle.ua_server.specs.Given.{Outside};
 ghost use Rattle.ua_server.specs.Turns.{IsShort, IsSmall, IsOwn, IsOwnEnd, IsNoLess, Shortens, TurnedInto, Drained, SendsRefusal, ending_of};
@@ -98,6 +99,46 @@ fn send_starved<W: Write>(writer: &mut Counted<W>, out: &mut Vec<u8>) -> Result<
     Ok(served)
 }
 
+/// Answers a connection on, of which nothing was answered yet.
+fn serve_on<R: Read, W: Write, C: Clock, A: Archive>(
+    alloc: Global,
+    settings: &Settings,
+    archive: &mut A,
+    connection: &mut Connection,
+    reader: &mut Counted<R>,
+    writer: &mut Counted<W>,
+    clock: &mut C,
+) -> Result<Served, ServeFault>
+    requires fresh { connection.old.client ≡ new_client }
+    requires short { IsShort connection.old }
+    ensures serves { (used : Outside) × C.gave clock.old used.readings clock.new
+        × Serves settings.now (A.state archive.old) (A.state archive.new) (behind connection.old.waiting (R.remaining reader.old.inner)) (R.remaining reader.new.inner) (W.contents writer.old.inner) (W.contents writer.new.inner) used result }
+    ensures read { IsErrOf result ServeFault.Read → reader.new.faults ≡ counted reader.old.faults }
+    ensures write { IsErrOf result ServeFault.Write → writer.new.faults ≡ counted writer.old.faults }
+    ensures read_kept { (IsErrOf result ServeFault.Read → ⊥) → reader.new.faults ≡ reader.old.faults }
+    ensures write_kept { (IsErrOf result ServeFault.Write → ⊥) → writer.new.faults ≡ writer.old.faults }
+{
+    let mut out = Vec::new(alloc);
+    let mut piece = [0u8; PIECE];
+    'reads: loop {
+        let n = reader.read_piece(&mut piece)?;
+        if n == 0 {
+            return Ok(Served::EndOfInput);
+        }
+        match connection.feed(&piece[..n]) {
+            Ok(()) => {}
+            Err(_) => return send_starved(writer, &mut out),
+        }
+        match answer_waiting(
+            alloc, settings, archive, connection, writer, clock, &mut out,
+        ) {
+            Ok(None) => {}
+            Ok(Some(served)) => return Ok(served),
+            Err(fault) => return Err(fault),
+        }
+    }
+}
+
 /// Answers the connection of one client over an archive.
 ///
 /// Where the reader's bytes and the writer's contents are known, what goes out is the answer to the bytes that were read, by
@@ -123,29 +164,48 @@ pub fn serve<R: Read, W: Write, C: Clock, A: Archive>(
     ensures write_kept { (IsErrOf result ServeFault.Write → ⊥) → writer.new.faults ≡ writer.old.faults }
 {
     let mut connection = Connection::new(alloc);
-    let mut out = Vec::new(alloc);
-    let mut piece = [0u8; PIECE];
-    'reads: loop {
-        let n = reader.read_piece(&mut piece)?;
-        if n == 0 {
-            return Ok(Served::EndOfInput);
-        }
-        match connection.feed(&piece[..n]) {
-            Ok(()) => {}
-            Err(_) => return send_starved(writer, &mut out),
-        }
-        match answer_waiting(
-            alloc,
-            settings,
-            archive,
-            &mut connection,
-            writer,
-            clock,
-            &mut out,
-        ) {
-            Ok(None) => {}
-            Ok(Some(served)) => return Ok(served),
-            Err(fault) => return Err(fault),
-        }
+    serve_on(
+        alloc,
+        settings,
+        archive,
+        &mut connection,
+        reader,
+        writer,
+        clock,
+    )
+}
+
+/// Answers the connection of one client of which these first bytes were read before, as `serve` does.
+pub(crate) fn serve_behind<R: Read, W: Write, C: Clock, A: Archive>(
+    alloc: Global,
+    settings: &Settings,
+    archive: &mut A,
+    first: &[u8],
+    reader: &mut Counted<R>,
+    writer: &mut Counted<W>,
+    clock: &mut C,
+) -> Result<Served, ServeFault>
+    requires some { 0 < length first.now }
+    requires few { length first.now < 8 }
+    ensures serves { (used : Outside) × C.gave clock.old used.readings clock.new
+        × Serves settings.now (A.state archive.old) (A.state archive.new) (behind first.now (R.remaining reader.old.inner)) (R.remaining reader.new.inner) (W.contents writer.old.inner) (W.contents writer.new.inner) used result }
+    ensures read { IsErrOf result ServeFault.Read → reader.new.faults ≡ counted reader.old.faults }
+    ensures write { IsErrOf result ServeFault.Write → writer.new.faults ≡ counted writer.old.faults }
+    ensures read_kept { (IsErrOf result ServeFault.Read → ⊥) → reader.new.faults ≡ reader.old.faults }
+    ensures write_kept { (IsErrOf result ServeFault.Write → ⊥) → writer.new.faults ≡ writer.old.faults }
+{
+    let mut connection = Connection::new(alloc);
+    match connection.feed(first) {
+        Ok(()) => {}
+        Err(_) => return send_starved(writer, &mut Vec::new(alloc)),
     }
+    serve_on(
+        alloc,
+        settings,
+        archive,
+        &mut connection,
+        reader,
+        writer,
+        clock,
+    )
 }
