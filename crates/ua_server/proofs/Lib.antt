@@ -12,6 +12,7 @@ pub mod Networks
 pub mod DumpLemmas
 pub mod Opened
 pub mod Behind
+pub mod Firsts
 pub mod Talks
 pub mod Talking
 pub mod Syncing

@@ -4,9 +4,8 @@ use Rattle.std.specs.Prelude.{Option, Some, Err}
 use Rattle.ua_settings.specs.Settings.{Values}
 use Rattle.ua_server.specs.Bytes.{counted}
 use Rattle.ua_server.specs.declared.outcome.ServeFault.TheVariants.{Read, Write}
-use Rattle.ua_server.specs.Client.{Ending}
+use Rattle.ua_server.specs.Either.{Ends, ServesEither}
 use Rattle.ua_server.specs.Given.{Outside}
-use Rattle.ua_server.specs.Serving.{Serves}
 use Rattle.ua_server.specs.Tally.{Tally}
 use Rattle.ua_server.specs.Network.{Means, Around, Connects, Tells, ServesEach}
 
@@ -19,18 +18,18 @@ none-failed {T} first last inner begins counts = counts ∙ ap (λ (t : Tally T)
 
 -- a connection that came was served
 pub connected : {L R W A C : Type 0} (means : Means L R W A C) (settings : Values) (came : Option (R × W)) (reader : R) (writer : W) (first-read last-read : Tally R) (first-wrote last-wrote : Tally W)
-    (source between after : L) (archive held : A) (clock later : C) (ending : Ending)
+    (source between after : L) (archive held : A) (clock later : C) (ending : Ends)
     → means.accepted source came between → came ≡ Some (reader, writer) → first-read ≡ record { inner = reader; faults = 0 } → first-wrote ≡ record { inner = writer; faults = 0 }
     → ((used : Outside) × means.gave clock used.readings later
-    × Serves settings (means.held archive) (means.held held) (means.unread first-read.inner) (means.unread last-read.inner) (means.written first-wrote.inner) (means.written last-wrote.inner) used ending)
+    × ServesEither settings (means.held archive) (means.held held) (means.unread first-read.inner) (means.unread last-read.inner) (means.written first-wrote.inner) (means.written last-wrote.inner) used ending)
     → (ending ≡ Err Read → last-read.faults ≡ counted first-read.faults) → (ending ≡ Err Write → last-wrote.faults ≡ counted first-wrote.faults)
     → ((ending ≡ Err Read → ⊥) → last-read.faults ≡ first-read.faults) → ((ending ≡ Err Write → ⊥) → last-wrote.faults ≡ first-wrote.faults)
     → means.closed between last-read last-wrote after
     → Connects means settings (record { source = source; archive = archive; clock = clock }) (record { source = after; archive = held; clock = later }) ending
 connected {L} {R} {W} means settings came reader writer first-read last-read first-wrote last-wrote source between after archive held clock later ending accepted is reads writes serves read-failed write-failed all-read all-written closed =
     let P : Option (R × W) → Type 0 = λ o. means.accepted source o between in
-    let Q : Tally R → Type 0 = λ t. Serves settings (means.held archive) (means.held held) (means.unread t.inner) (means.unread last-read.inner) (means.written first-wrote.inner) (means.written last-wrote.inner) serves.0 ending in
-    let S : Tally W → Type 0 = λ t. Serves settings (means.held archive) (means.held held) (means.unread reader) (means.unread last-read.inner) (means.written t.inner) (means.written last-wrote.inner) serves.0 ending in (
+    let Q : Tally R → Type 0 = λ t. ServesEither settings (means.held archive) (means.held held) (means.unread t.inner) (means.unread last-read.inner) (means.written first-wrote.inner) (means.written last-wrote.inner) serves.0 ending in
+    let S : Tally W → Type 0 = λ t. ServesEither settings (means.held archive) (means.held held) (means.unread reader) (means.unread last-read.inner) (means.written t.inner) (means.written last-wrote.inner) serves.0 ending in (
       Some (reader, writer),
       between,
       subst P is accepted,
@@ -49,7 +48,7 @@ connected {L} {R} {W} means settings came reader writer first-read last-read fir
     )
 
 -- one connection more
-pub each-more : {L R W A C E : Type 0} (means : Means L R W A C) (told : E → Option (List ℕ)) (settings : Values) (count : ℕ) (old middle new : Around L A C) (before meanwhile after : Tally E) (ending : Ending)
+pub each-more : {L R W A C E : Type 0} (means : Means L R W A C) (told : E → Option (List ℕ)) (settings : Values) (count : ℕ) (old middle new : Around L A C) (before meanwhile after : Tally E) (ending : Ends)
     → ServesEach means told settings count old before middle meanwhile → Connects means settings middle new ending → Tells told ending meanwhile after → ServesEach means told settings (suc count) old before new after
 each-more {L} {R} {W} {A} {C} {E} means told settings zero old middle new before meanwhile after ending so connects tells =
     let P : Around L A C → Type 0 = λ m. Connects means settings m new ending in

@@ -10,6 +10,7 @@ pub mod Serving
 pub mod Hexed
 pub mod Line
 pub mod Telling
+pub mod Either
 pub mod Network
 pub mod Dumping
 pub mod Peers

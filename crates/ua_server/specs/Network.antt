@@ -7,9 +7,8 @@ use Rattle.ua_settings.specs.Settings.{Values}
 use Rattle.ua_server.specs.declared.outcome.ServeFault.TheVariants.{Read, Write}
 use Rattle.ua_server.specs.declared.program.ProgramFault.{ProgramFault}
 use Rattle.ua_server.specs.declared.program.ProgramFault.TheVariants.{Address, Connection}
-use Rattle.ua_server.specs.Client.{Ending}
+use Rattle.ua_server.specs.Either.{Ends, ServesEither}
 use Rattle.ua_server.specs.Given.{Outside}
-use Rattle.ua_server.specs.Serving.{Serves}
 use Rattle.ua_server.specs.Tally.{Tally}
 use Rattle.ua_server.specs.Telling.{IsTold, error_lines}
 
@@ -29,12 +28,12 @@ pub record Around (S A C : Type 0) : Type 0 where
   pub archive : A
   pub clock : C
 
--- a connection that came was served over what the archive held, and was given back with its failed calls, of which there is one just where it ended by that
-pub record IsServedTo {L R W A C : Type 0} (means : Means L R W A C) (settings : Values) (reader : R) (writer : W) (between : L) (old new : Around L A C) (ending : Ending) : Type 0 where
+-- a connection that came, a client's or a peer's, was served over what the archive held, and was given back with its failed calls, of which there is one just where it ended by that
+pub record IsServedTo {L R W A C : Type 0} (means : Means L R W A C) (settings : Values) (reader : R) (writer : W) (between : L) (old new : Around L A C) (ending : Ends) : Type 0 where
   pub read : Tally R
   pub wrote : Tally W
   pub used : Outside
-  pub serves : Serves settings (means.held old.archive) (means.held new.archive) (means.unread reader) (means.unread read.inner) (means.written writer) (means.written wrote.inner) used ending
+  pub serves : ServesEither settings (means.held old.archive) (means.held new.archive) (means.unread reader) (means.unread read.inner) (means.written writer) (means.written wrote.inner) used ending
   pub timed : means.gave old.clock used.readings new.clock
   pub read_failed : ending ≡ Err Read → read.faults ≡ 1
   pub write_failed : ending ≡ Err Write → wrote.faults ≡ 1
@@ -43,24 +42,24 @@ pub record IsServedTo {L R W A C : Type 0} (means : Means L R W A C) (settings :
   pub given_back : means.closed between read wrote new.source
 
 -- what was done with what came; where nothing came that is a fault of reading
-abbrev pub Takes : {L R W A C : Type 0} → Means L R W A C → Values → Option (R × W) → L → Around L A C → Around L A C → Ending → Type 0
+abbrev pub Takes : {L R W A C : Type 0} → Means L R W A C → Values → Option (R × W) → L → Around L A C → Around L A C → Ends → Type 0
 Takes means settings None between old new ending = (ending ≡ Err Read) × (new ≡ record old { source = between })
 Takes means settings (Some (reader, writer)) between old new ending = IsServedTo means settings reader writer between old new ending
 
 -- the next connection was waited for, and it ended so
-abbrev pub Connects : {L R W A C : Type 0} → Means L R W A C → Values → Around L A C → Around L A C → Ending → Type 0
+abbrev pub Connects : {L R W A C : Type 0} → Means L R W A C → Values → Around L A C → Around L A C → Ends → Type 0
 Connects {L} {R} {W} means settings old new ending = (came : Option (R × W)) × (between : L) × means.accepted old.source came between × Takes means settings came between old new ending
 
 -- what is told of an end: nothing, or of a fault its line, or a first part of that where it can't be written
-abbrev pub Tells : {E : Type 0} → (E → Option (List ℕ)) → Ending → Tally E → Tally E → Type 0
-Tells told (Ok served) old new = new ≡ old
+abbrev pub Tells : {E : Type 0} → (E → Option (List ℕ)) → Ends → Tally E → Tally E → Type 0
+Tells told (Ok ended) old new = new ≡ old
 Tells told (Err fault) old new = IsTold told old new (error_lines (Connection fault))
 
 -- so many connections were served, each over what the one before it left, and of each end it was told
 abbrev pub ServesEach : {L R W A C E : Type 0} → Means L R W A C → (E → Option (List ℕ)) → Values → ℕ → Around L A C → Tally E → Around L A C → Tally E → Type 0
 ServesEach means told settings zero old before new after = (new ≡ old) × (after ≡ before)
 ServesEach {L} {R} {W} {A} {C} {E} means told settings (suc more) old before new after =
-    (middle : Around L A C) × (meanwhile : Tally E) × (ending : Ending)
+    (middle : Around L A C) × (meanwhile : Tally E) × (ending : Ends)
     × Connects means settings old middle ending × Tells told ending before meanwhile × ServesEach means told settings more middle meanwhile new after
 
 -- the text is no address, or nothing can listen there

@@ -1,4 +1,4 @@
-//! Connections over a network, one after the other.
+//! Connections over a network, one after the other, of clients and of peers.
 
 ghost use Rattle.std.specs.Prelude.{◌≡◌, Some, IfOk, IfErr};
 ghost use Rattle.std.specs.Net.Grammar.{IsSocketText};
@@ -7,11 +7,12 @@ ghost use Rattle.ua_server.specs.Network.{Connects, Tells, ServesEach, IsUnheard
 
 use crate::clock::Clock;
 use crate::counted::Counted;
+use crate::either::{Ended, serve_either};
 use crate::network::{Listener, Network};
-use crate::outcome::{ServeFault, Served};
+use crate::outcome::ServeFault;
 use crate::program::{ProgramFault, report};
-use crate::serving::serve;
 use archive::Archive;
+use exchange::Replica;
 use std::alloc::Global;
 use std::io::Write;
 use std::net::SocketAddr;
@@ -21,25 +22,25 @@ use ua_settings::Settings;
 fn serve_next<A: Archive, L: Listener, C: Clock>(
     alloc: Global,
     settings: &Settings,
-    archive: &mut A,
+    replica: &mut Replica<A>,
     listener: &mut L,
     clock: &mut C,
-) -> Result<Served, ServeFault>
+) -> Result<Ended, ServeFault>
     ensures { Connects (record { accepted = L.accepted; closed = L.closed; gave = C.gave; unread = L.Reader.remaining; written = L.Writer.contents; held = A.state }) settings.now
-        (record { source = listener.old; archive = archive.old; clock = clock.old }) (record { source = listener.new; archive = archive.new; clock = clock.new }) result }
+        (record { source = listener.old; archive = replica.old.archive; clock = clock.old }) (record { source = listener.new; archive = replica.new.archive; clock = clock.new }) result }
 {
     let Some((reader, writer)) = listener.accept() else {
         return Err(ServeFault::Read);
     };
     let mut reader = Counted::new(reader);
     let mut writer = Counted::new(writer);
-    let ending = serve(alloc, settings, archive, &mut reader, &mut writer, clock);
+    let ending = serve_either(alloc, settings, replica, &mut reader, &mut writer, clock);
     listener.close(reader, writer);
     ending
 }
 
 /// Tells on `errors` how a connection ended, where that is a fault.
-fn tell_ending<W: Write>(ending: Result<Served, ServeFault>, errors: &mut Counted<W>)
+fn tell_ending<W: Write>(ending: Result<Ended, ServeFault>, errors: &mut Counted<W>)
     ensures { Tells W.contents ending errors.old errors.new }
 {
     let ending = match ending {
@@ -49,24 +50,25 @@ fn tell_ending<W: Write>(ending: Result<Served, ServeFault>, errors: &mut Counte
     let _ = report(ending, errors);
 }
 
-/// Serves so many connections, one after the other, over one archive.
+/// Serves so many connections, one after the other, over one replica: clients and peers, as `serve_either` tells them apart.
 ///
-/// Each begins with what the one before it left in the archive, whatever that one's end was. Of each that ended by a fault a
-/// line tells on `errors`; where one can't be had, that is a fault of reading, and counts as one of them.
+/// Each begins with what the one before it left in the replica's archive, whatever that one's end was. Of each that ended by
+/// a fault a line tells on `errors`, and nothing of a peer's dialog that failed, since the peer was told; where one can't be
+/// had, that is a fault of reading, and counts as one of them.
 pub fn serve_connections<A: Archive, L: Listener, C: Clock, W: Write>(
     alloc: Global,
     settings: &Settings,
-    archive: &mut A,
+    replica: &mut Replica<A>,
     listener: &mut L,
     connections: u32,
     clock: &mut C,
     errors: &mut Counted<W>,
 )
     ensures { ServesEach (record { accepted = L.accepted; closed = L.closed; gave = C.gave; unread = L.Reader.remaining; written = L.Writer.contents; held = A.state }) W.contents settings.now connections
-        (record { source = listener.old; archive = archive.old; clock = clock.old }) errors.old (record { source = listener.new; archive = archive.new; clock = clock.new }) errors.new }
+        (record { source = listener.old; archive = replica.old.archive; clock = clock.old }) errors.old (record { source = listener.new; archive = replica.new.archive; clock = clock.new }) errors.new }
 {
     for _ in 0..connections {
-        let ending = serve_next(alloc, settings, archive, listener, clock);
+        let ending = serve_next(alloc, settings, replica, listener, clock);
         tell_ending(ending, errors);
     }
 }
@@ -85,18 +87,18 @@ fn listen_at<N: Network>(text: &str, network: &mut N) -> Result<N::Listener, Pro
     }
 }
 
-/// Serves so many connections at the address of the settings, over an archive.
+/// Serves so many connections at the address of the settings, over a replica.
 pub(crate) fn serve_at<A: Archive, N: Network, C: Clock, W: Write>(
     alloc: Global,
     settings: &Settings,
-    archive: &mut A,
+    replica: &mut Replica<A>,
     connections: u32,
     network: &mut N,
     clock: &mut C,
     errors: &mut Counted<W>,
 ) -> Result<(), ProgramFault>
     ensures listens { Listens (record { accepted = N.Listener.accepted; closed = N.Listener.closed; gave = C.gave; unread = N.Listener.Reader.remaining; written = N.Listener.Writer.contents; held = A.state }) N.listened W.contents settings.now connections
-        (record { source = network.old; archive = archive.old; clock = clock.old }) errors.old (record { source = network.new; archive = archive.new; clock = clock.new }) errors.new result }
+        (record { source = network.old; archive = replica.old.archive; clock = clock.old }) errors.old (record { source = network.new; archive = replica.new.archive; clock = clock.new }) errors.new result }
     ensures address { IfErr result (λ fault. fault ≡ ProgramFault.Address) }
 {
     let mut listener = match listen_at(settings.listen(), network) {
@@ -106,7 +108,7 @@ pub(crate) fn serve_at<A: Archive, N: Network, C: Clock, W: Write>(
     serve_connections(
         alloc,
         settings,
-        archive,
+        replica,
         &mut listener,
         connections,
         clock,

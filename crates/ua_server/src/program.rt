@@ -310,17 +310,19 @@ fn serve_by<F: SettingsFiles, D: Stores, N: Network, C: Clock, E: Write>(
         None => serve_at(
             alloc,
             &settings,
-            &mut archive_of(alloc, &settings),
+            &mut Replica {
+                archive: archive_of(alloc, &settings),
+            },
             connections,
             network,
             clock,
             errors,
         ),
         Some(path) => match open_store(&settings, path, stores) {
-            Ok(mut archive) => serve_at(
+            Ok(archive) => serve_at(
                 alloc,
                 &settings,
-                &mut archive,
+                &mut Replica { archive },
                 connections,
                 network,
                 clock,

@@ -1,10 +1,12 @@
 //! Connections over a network that is kept in memory.
 
 use super::clients::{BEGIN, BEGUN};
+use super::peers::{answered, called, filled_replica, replica};
 use super::rows::{ACK, ANSWER, HELLO, OPEN, OPENED, REQUEST};
 use super::{Narrow, Slow, bytes_of, plant};
 use crate::program::archive_of;
 use crate::{Counted, Listener, Network, serve_connections};
+use exchange::Replica;
 use std::alloc::Global;
 use std::net::SocketAddr;
 use std::test::Fail;
@@ -138,13 +140,13 @@ fn is_served(
     told: &str,
 ) -> Result<bool, Fail> {
     let settings = plant(alloc)?;
-    let mut archive = archive_of(alloc, &settings);
+    let mut replica = Replica::new(archive_of(alloc, &settings));
     let mut listener = Clients::new(alloc, clients);
     let mut errors = Counted::new(Vec::new(alloc));
     serve_connections(
         alloc,
         &settings,
-        &mut archive,
+        &mut replica,
         &mut listener,
         connections,
         &mut super::clock(),
@@ -202,5 +204,59 @@ fn goes_on_behind_a_fault(rt: HostRuntime) -> Result<(), Fail> {
     let told =
         "uahist: connection ended (1)\nuahist: connection ended (2)\nuahist: connection ended (1)\n";
     assert!(rt; is_served(alloc, &clients, 4, want.as_slice(), told)?);
+    Ok(())
+}
+
+/// What replica 2 writes that calls replica 1, which holds nothing, and what it is answered: each answers what the other one
+/// wrote before.
+fn brought(alloc: Global) -> Result<(Vec<u8>, Vec<u8>), Fail> {
+    let mut there = Vec::new(alloc);
+    let mut answer = Vec::new(alloc);
+    for _ in 0..4 {
+        let mut two = filled_replica(alloc, 2)?;
+        let (wrote, _) = called(alloc, &mut two, answer.as_slice());
+        there = wrote;
+        answer = answered(alloc, &mut replica(alloc, 1)?, there.as_slice());
+    }
+    Ok((there, answer))
+}
+
+/// A client reads what a peer brought between it and the client before.
+#[test]
+fn serves_clients_and_peers(rt: HostRuntime) -> Result<(), Fail> {
+    let alloc = rt.alloc();
+    let greets = bytes_of(alloc, &[HELLO, OPEN, REQUEST])?;
+    let (brings, answer) = brought(alloc)?;
+    let reads = bytes_of(alloc, &[HELLO, OPEN, BEGIN[0], BEGIN[1], READ])?;
+    assert!(rt; brings.as_slice().starts_with(b"RXVF") && answer.as_slice().starts_with(b"RXDF"));
+    let mut want = Vec::new(alloc);
+    want.push(bytes_of(alloc, &[ACK, OPENED, ANSWER])?)?;
+    want.push(answer)?;
+    want.push(bytes_of(alloc, &[ACK, OPENED, BEGUN[0], BEGUN[1], VALUE])?)?;
+    let clients = [
+        well(greets.as_slice()),
+        well(brings.as_slice()),
+        well(reads.as_slice()),
+    ];
+    assert!(rt; is_served(alloc, &clients, 3, want.as_slice(), "")?);
+    Ok(())
+}
+
+/// What is too short to be a peer's is a client's, and one that breaks off there is told.
+#[test]
+fn serves_short_inputs(rt: HostRuntime) -> Result<(), Fail> {
+    let alloc = rt.alloc();
+    let breaks = Some(Client {
+        bytes: b"RX",
+        breaks: true,
+        room: 10_000,
+    });
+    let mut want = Vec::new(alloc);
+    for _ in 0..3 {
+        want.push(Vec::new(alloc))?;
+    }
+    let clients = [well(b""), well(b"RX"), breaks];
+    let told = "uahist: connection ended (1)\n";
+    assert!(rt; is_served(alloc, &clients, 3, want.as_slice(), told)?);
     Ok(())
 }

@@ -61,7 +61,7 @@ static DIALOGS: [(&[&[u8]], &[&[u8]], Parted); 9] = [
     (&[ASKED, HEAD], &[NOTHING], Parted::EndOfInput),
 ];
 
-fn replica(alloc: Global, number: u8) -> Result<Replica<ListArchive>, StoreFault> {
+pub(super) fn replica(alloc: Global, number: u8) -> Result<Replica<ListArchive>, StoreFault> {
     match ReplicaNo::new(number) {
         Some(number) => Ok(Replica::new(ListArchive::new(alloc, Uuid::nil(), number))),
         None => Err(StoreFault::WrongReplica),
@@ -180,7 +180,7 @@ fn is_lawful(held: &Record) -> bool
 }
 
 /// A replica with a record of its own, an insert at node `ns=1;s=T`.
-fn filled_replica(alloc: Global, number: u8) -> Result<Replica<ListArchive>, Fail> {
+pub(super) fn filled_replica(alloc: Global, number: u8) -> Result<Replica<ListArchive>, Fail> {
     let mut held = replica(alloc, number)?;
     let origin = held.archive.number();
     let record = Record {
@@ -207,7 +207,7 @@ fn filled_replica(alloc: Global, number: u8) -> Result<Replica<ListArchive>, Fai
 }
 
 /// What replica 1 writes that calls a peer which sent these bytes, and how that ends.
-fn called(
+pub(super) fn called(
     alloc: Global,
     one: &mut Replica<ListArchive>,
     bytes: &[u8],
@@ -219,7 +219,7 @@ fn called(
 }
 
 /// What replica 2 writes to a peer which sent these bytes.
-fn answered(alloc: Global, two: &mut Replica<ListArchive>, bytes: &[u8]) -> Vec<u8> {
+pub(super) fn answered(alloc: Global, two: &mut Replica<ListArchive>, bytes: &[u8]) -> Vec<u8> {
     let mut reader = Counted::new(bytes);
     let mut writer = Counted::new(Vec::new(alloc));
     let _ = serve_peer(alloc, two, &mut reader, &mut writer);

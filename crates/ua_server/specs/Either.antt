@@ -1,0 +1,60 @@
+-- What a connection is answered, a client's or a peer's.
+use Rattle.std.specs.Prelude.{◌≡◌, ⊤, ℕ, ◌<◌, ◌||◌, Bool, true, false, List, [], length, take, Option, None, Some, Result, Ok, Err, ◌⊎◌, codes}
+use Rattle.std.specs.Io.KnownBytes.{Consumes}
+use Rattle.archive.specs.Store.{Store, Stays, Passes}
+use Rattle.exchange.specs.Frames.{begins}
+use Rattle.ua_settings.specs.Settings.{Values}
+use Rattle.ua_server.specs.declared.outcome.ServeFault.{ServeFault}
+use Rattle.ua_server.specs.declared.outcome.ServeFault.TheVariants.{Read}
+use Rattle.ua_server.specs.declared.peers.Parted.{Parted}
+use Rattle.ua_server.specs.declared.either.Ended.{Ended}
+use Rattle.ua_server.specs.declared.either.Ended.TheVariants.{Client, Peer}
+use Rattle.ua_server.specs.Client.{Ending}
+use Rattle.ua_server.specs.Given.{Outside}
+use Rattle.ua_server.specs.Peers.{Meets, responding}
+use Rattle.ua_server.specs.Serving.{Serves}
+
+-- how a connection ended, whosever it was
+abbrev pub Ends : Type 0
+Ends = Result Ended ServeFault
+
+abbrev pub peer_ended : Result Parted ServeFault → Ends
+peer_ended (Ok parted) = Ok (Peer parted)
+peer_ended (Err fault) = Err fault
+
+abbrev pub client_ended : Ending → Ends
+client_ended (Ok served) = Ok (Client served)
+client_ended (Err fault) = Err fault
+
+-- a peer's connection begins with the letters of a frame that asks or brings
+abbrev pub is_peers : List ℕ → Bool
+is_peers first = begins first (codes "RXV") || begins first (codes "RXD")
+
+-- the first three bytes of what is unread, or all where there are fewer, where that is known
+abbrev pub AreFirst : Option (List ℕ) → List ℕ → Type 0
+AreFirst None first = ⊤
+AreFirst (Some bytes) first = first ≡ take 3 bytes
+
+-- a dialog with a peer was had, as the end that answers; or a client was served
+abbrev pub GoesAs : (peers : Bool) → Values → (old new : Store) → (unread left before after : Option (List ℕ)) → Outside → Ends → Type 0
+GoesAs true settings old new unread left before after used ending =
+    (parted : Result Parted ServeFault) × (ending ≡ peer_ended parted) × (used ≡ record { marks = []; readings = [] }) × Meets responding old new unread left before after parted
+GoesAs false settings old new unread left before after used ending =
+    (served : Ending) × (ending ≡ client_ended served) × Serves settings old new unread left before after used served
+
+-- a read failed before three bytes were there: nothing was written, and nothing done
+pub record BreaksOff (old new : Store) (unread left before after : Option (List ℕ)) (used : Outside) (ending : Ends) : Type 0 where
+  pub came : List ℕ
+  pub few : length came < 3
+  pub read : Consumes unread left came
+  pub written : after ≡ before
+  pub stays : Stays old new
+  pub quiet : Passes old new []
+  pub unused : used ≡ record { marks = []; readings = [] }
+  pub ends : ending ≡ Err Read
+
+-- a connection went as its first three letters say, or broke off before they were there
+abbrev pub ServesEither : Values → (old new : Store) → (unread left before after : Option (List ℕ)) → Outside → Ends → Type 0
+ServesEither settings old new unread left before after used ending =
+    BreaksOff old new unread left before after used ending
+    ⊎ ((first : List ℕ) × AreFirst unread first × GoesAs (is_peers first) settings old new unread left before after used ending)

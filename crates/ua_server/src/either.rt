@@ -1,0 +1,175 @@
+//! A connection of which the first letters tell whose it is.
+
+ghost use Rattle.std.specs.Prelude.{◌≡◌, ◌≤◌, ◌<◌, length, take, IfOk, OnOk, OnErr, IsErrOf, Err, ℕ, List};
+ghost use Rattle.std.specs.Io.KnownBytes.{Consumes, IsAtEnd};
+ghost use Rattle.ua_server.specs.Bytes.{behind, counted};
+ghost use Rattle.ua_server.specs.Given.{Outside};
+ghost use Rattle.ua_server.specs.Serving.{Serves};
+ghost use Rattle.ua_server.specs.Peers.{Meets, responding};
+ghost use Rattle.ua_server.specs.Either.{peer_ended, client_ended, is_peers, ServesEither};
+
+use crate::clock::Clock;
+use crate::counted::Counted;
+use crate::outcome::{ServeFault, Served};
+use crate::peers::{Parted, talk};
+use crate::serving::{serve, serve_behind};
+use archive::Archive;
+use exchange::{Dialog, Replica};
+use std::alloc::Global;
+use std::io::{Read, Write};
+use ua_settings::Settings;
+
+/// How a connection ended that met no fault.
+#[derive(Clone, Copy, Debug, PartialEq, Eq)]
+pub enum Ended {
+    /// A client's.
+    Client(Served),
+    /// A peer's.
+    Peer(Parted),
+}
+
+/// Reads the first three bytes, or all where there are fewer, and answers how many.
+fn read_first<R: Read>(reader: &mut Counted<R>, first: &mut [u8]) -> Result<usize, ServeFault>
+    requires { length first.old ≡ 3 }
+    ensures length { length first.new ≡ 3 }
+    ensures within { IfOk result (λ n. n ≤ 3) }
+    ensures bytes { IfOk result (λ n. Consumes (R.remaining reader.old.inner) (R.remaining reader.new.inner) (take n first.new)) }
+    ensures end { IfOk result (λ n. n < 3 → IsAtEnd (R.remaining reader.new.inner)) }
+    ensures faults { OnOk result (reader.new.faults ≡ reader.old.faults) }
+    ensures fault { OnErr result ((result ≡ Err ServeFault.Read) × (reader.new.faults ≡ counted reader.old.faults)) }
+    ensures broken { OnErr result ((came : List ℕ) × (length came < 3) × Consumes (R.remaining reader.old.inner) (R.remaining reader.new.inner) came) }
+{
+    let mut read = 0;
+    while read < first.len() {
+        match reader.read_piece(&mut first[read..]) {
+            Ok(0) => return Ok(read),
+            Ok(n) => read += n,
+            Err(fault) => return Err(fault),
+        }
+    }
+    Ok(read)
+}
+
+/// Whether a connection that begins with these bytes is a peer's.
+fn is_peers(first: &[u8]) -> bool
+    ensures { result ≡ is_peers first.now }
+{
+    first.starts_with(b"RXV") || first.starts_with(b"RXD")
+}
+
+/// Answers the dialog of a peer of which these first bytes were read before.
+fn meet_peer<R: Read, W: Write, A: Archive>(
+    alloc: Global,
+    replica: &mut Replica<A>,
+    first: &[u8],
+    reader: &mut Counted<R>,
+    writer: &mut Counted<W>,
+) -> Result<Ended, ServeFault>
+    requires { length first.now < 8 }
+    ensures meets { (parted : _) × (result ≡ peer_ended parted)
+        × Meets responding (A.state replica.old.archive) (A.state replica.new.archive) (behind first.now (R.remaining reader.old.inner)) (R.remaining reader.new.inner) (W.contents writer.old.inner) (W.contents writer.new.inner) parted }
+    ensures read { IsErrOf result ServeFault.Read → reader.new.faults ≡ counted reader.old.faults }
+    ensures write { IsErrOf result ServeFault.Write → writer.new.faults ≡ counted writer.old.faults }
+    ensures read_kept { (IsErrOf result ServeFault.Read → ⊥) → reader.new.faults ≡ reader.old.faults }
+    ensures write_kept { (IsErrOf result ServeFault.Write → ⊥) → writer.new.faults ≡ writer.old.faults }
+{
+    let mut dialog = Dialog::responder();
+    match talk(alloc, replica, &mut dialog, first, reader, writer) {
+        Ok(parted) => Ok(Ended::Peer(parted)),
+        Err(fault) => Err(fault),
+    }
+}
+
+/// Serves a client of whom these first bytes, if any, were read before.
+fn serve_from<R: Read, W: Write, C: Clock, A: Archive>(
+    alloc: Global,
+    settings: &Settings,
+    archive: &mut A,
+    first: &[u8],
+    reader: &mut Counted<R>,
+    writer: &mut Counted<W>,
+    clock: &mut C,
+) -> Result<Served, ServeFault>
+    requires { length first.now < 8 }
+    ensures serves { (used : Outside) × C.gave clock.old used.readings clock.new
+        × Serves settings.now (A.state archive.old) (A.state archive.new) (behind first.now (R.remaining reader.old.inner)) (R.remaining reader.new.inner) (W.contents writer.old.inner) (W.contents writer.new.inner) used result }
+    ensures read { IsErrOf result ServeFault.Read → reader.new.faults ≡ counted reader.old.faults }
+    ensures write { IsErrOf result ServeFault.Write → writer.new.faults ≡ counted writer.old.faults }
+    ensures read_kept { (IsErrOf result ServeFault.Read → ⊥) → reader.new.faults ≡ reader.old.faults }
+    ensures write_kept { (IsErrOf result ServeFault.Write → ⊥) → writer.new.faults ≡ writer.old.faults }
+{
+    if first.is_empty() {
+        serve(alloc, settings, archive, reader, writer, clock)
+    } else {
+        serve_behind(alloc, settings, archive, first, reader, writer, clock)
+    }
+}
+
+/// Serves a client of whom these first bytes, if any, were read before, and says that it was a client's connection.
+fn serve_client<R: Read, W: Write, C: Clock, A: Archive>(
+    alloc: Global,
+    settings: &Settings,
+    archive: &mut A,
+    first: &[u8],
+    reader: &mut Counted<R>,
+    writer: &mut Counted<W>,
+    clock: &mut C,
+) -> Result<Ended, ServeFault>
+    requires { length first.now < 8 }
+    ensures serves { (used : Outside) × C.gave clock.old used.readings clock.new × (served : _) × (result ≡ client_ended served)
+        × Serves settings.now (A.state archive.old) (A.state archive.new) (behind first.now (R.remaining reader.old.inner)) (R.remaining reader.new.inner) (W.contents writer.old.inner) (W.contents writer.new.inner) used served }
+    ensures read { IsErrOf result ServeFault.Read → reader.new.faults ≡ counted reader.old.faults }
+    ensures write { IsErrOf result ServeFault.Write → writer.new.faults ≡ counted writer.old.faults }
+    ensures read_kept { (IsErrOf result ServeFault.Read → ⊥) → reader.new.faults ≡ reader.old.faults }
+    ensures write_kept { (IsErrOf result ServeFault.Write → ⊥) → writer.new.faults ≡ writer.old.faults }
+{
+    match serve_from(alloc, settings, archive, first, reader, writer, clock) {
+        Ok(served) => Ok(Ended::Client(served)),
+        Err(fault) => Err(fault),
+    }
+}
+
+/// Answers a connection: a peer's dialog over the replica, as `serve_peer` does, where its first three letters are `RXV` or
+/// `RXD`; any other as `serve` does, over the replica's archive.
+///
+/// It waits for three bytes, or the end of the input. Where a read fails before, nothing is written and the archive is as it
+/// was. The clock is read for a client alone.
+///
+/// Errors: those of `serve` and `serve_peer`: `Read` and `Write` where a call of the reader or the writer failed (its `faults`
+/// rose, and it rises nowhere else), `TooLong` of a client alone, `OutOfMemory` where memory was wanting and the message that
+/// tells it could not be made either.
+pub fn serve_either<R: Read, W: Write, C: Clock, A: Archive>(
+    alloc: Global,
+    settings: &Settings,
+    replica: &mut Replica<A>,
+    reader: &mut Counted<R>,
+    writer: &mut Counted<W>,
+    clock: &mut C,
+) -> Result<Ended, ServeFault>
+    ensures serves { (used : Outside) × C.gave clock.old used.readings clock.new
+        × ServesEither settings.now (A.state replica.old.archive) (A.state replica.new.archive) (R.remaining reader.old.inner) (R.remaining reader.new.inner) (W.contents writer.old.inner) (W.contents writer.new.inner) used result }
+    ensures read { IsErrOf result ServeFault.Read → reader.new.faults ≡ counted reader.old.faults }
+    ensures write { IsErrOf result ServeFault.Write → writer.new.faults ≡ counted writer.old.faults }
+    ensures read_kept { (IsErrOf result ServeFault.Read → ⊥) → reader.new.faults ≡ reader.old.faults }
+    ensures write_kept { (IsErrOf result ServeFault.Write → ⊥) → writer.new.faults ≡ writer.old.faults }
+{
+    let mut letters = [0u8; 3];
+    let n = match read_first(reader, &mut letters) {
+        Ok(n) => n,
+        Err(fault) => return Err(fault),
+    };
+    let first = &letters[..n];
+    if is_peers(first) {
+        meet_peer(alloc, replica, first, reader, writer)
+    } else {
+        serve_client(
+            alloc,
+            settings,
+            &mut replica.archive,
+            first,
+            reader,
+            writer,
+            clock,
+        )
+    }
+}
