@@ -17,7 +17,7 @@ chance = random.Random(int(sys.argv[3]) if len(sys.argv) > 3 else 1)
 folder = tempfile.mkdtemp()
 settings = os.path.join(folder, "settings.toml")
 store = os.path.join(folder, "store.db")
-INSERTED = struct.pack("<I", 0x00A20000)
+INSERTED, REPLACED = struct.pack("<I", 0x00A20000), struct.pack("<I", 0x00A30000)
 MOST = 1000
 
 
@@ -40,6 +40,14 @@ def connect(port):
         except ConnectionRefusedError:
             assert time.monotonic() < until, "nobody listens"
             time.sleep(0.01)
+
+
+def connect_probe(port):
+    """Waits until somebody listens at the port, and takes no connection of his."""
+    until = time.monotonic() + 10
+    while f":{port:04X} 00000000:0000 0A" not in open("/proc/net/tcp").read():
+        assert time.monotonic() < until, "nobody listens"
+        time.sleep(0.005)
 
 
 def take(line, count):
@@ -91,19 +99,24 @@ def whole():
     return said.stdout.split()
 
 
-before = 0
-for k in range(rounds):
-    port = free_port()
-    write_settings(port)
-    server = subprocess.Popen([program, "serve", "--settings", settings, "--connections", "1"], stderr=subprocess.DEVNULL)
-    line = connect(port)
-    threading.Timer(chance.uniform(0.02, 0.6), server.kill).start()
-    good = inserts(line, EPOCH + MOST * k)
-    server.wait()
-    found = dumped()
-    assert [r[:2] for r in found] == [["1", str(n + 1)] for n in range(len(found))], "numbers have gaps"
-    assert before + good <= len(found) <= before + good + 1, (before, good, len(found))
-    assert whole() == ["ok", str(len(found))]
-    print(f"round {k + 1}: {good} inserts answered Good, {len(found) - before} found again, {len(found)} in all", flush=True)
-    before = len(found)
-print("nothing that was answered Good is missing")
+def rounds_of_kills():
+    before = 0
+    for k in range(rounds):
+        port = free_port()
+        write_settings(port)
+        server = subprocess.Popen([program, "serve", "--settings", settings, "--connections", "1"], stderr=subprocess.DEVNULL)
+        line = connect(port)
+        threading.Timer(chance.uniform(0.02, 0.6), server.kill).start()
+        good = inserts(line, EPOCH + MOST * k)
+        server.wait()
+        found = dumped()
+        assert [r[:2] for r in found] == [["1", str(n + 1)] for n in range(len(found))], "numbers have gaps"
+        assert before + good <= len(found) <= before + good + 1, (before, good, len(found))
+        assert whole() == ["ok", str(len(found))]
+        print(f"round {k + 1}: {good} inserts answered Good, {len(found) - before} found again, {len(found)} in all", flush=True)
+        before = len(found)
+    print("nothing that was answered Good is missing")
+
+
+if __name__ == "__main__":
+    rounds_of_kills()
