@@ -42,12 +42,10 @@ class Replica:
             for sent in (client.hello(), client.open(), client.create_session(), client.activate("ann", b"pw")):
                 one.ask(line, sent)
             for _ in range(count):
-                sent = client.update(T, 3, [value_at(int32(chance.randrange(1000)), EPOCH + chance.randrange(20))])
                 if chance.random() < 0.2:
-                    sent = client.delete_raw(T, EPOCH + chance.randrange(20), EPOCH + 20)
-                    client_answer = one.ask(line, sent)
+                    one.ask(line, client.delete_raw(T, EPOCH + chance.randrange(20), EPOCH + 20))
                     continue
-                answer = one.ask(line, sent)
+                answer = one.ask(line, client.update(T, 3, [value_at(int32(chance.randrange(1000)), EPOCH + chance.randrange(20))]))
                 assert one.INSERTED in answer or one.REPLACED in answer, answer.hex()
                 self.good += 1
         except (ConnectionError, OSError):
