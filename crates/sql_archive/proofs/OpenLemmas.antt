@@ -1,10 +1,9 @@
 -- Records that come in turn are a closed content.
-use Rattle.std.proofs.Common.{◌≡◌, ℕ, ◌+◌, ◌≤◌, ◌<◌, nat_lt, ◌==◌, ℤ, pos, ◌≤ℤ◌, ◌<ℤ◌, int_lt, Bool, true, false, ◌&&◌, cond, List, [], ◌∷◌, ◌++◌, refl, sym, ap, subst, ◌∙◌, arith, inl, inr, eq-eqb, ◌⊎◌, Ordering, Less, is_gt, append_assoc, append-nil}
-use Rattle.std.proofs.lemmas.Bool.{and_parts, eqb-true, ltb-true, ltb-false, true≢false}
+use Rattle.std.proofs.Common.{◌≡◌, ℕ, ◌+◌, ◌≤◌, ◌<◌, nat_lt, ◌==◌, pos, ◌≤ℤ◌, ◌<ℤ◌, int_lt, Bool, true, false, ◌&&◌, cond, List, [], ◌∷◌, ◌++◌, refl, sym, ap, subst, ◌∙◌, arith, inl, inr, eq-eqb, ◌⊎◌, is_gt, append_assoc, append-nil}
+use Rattle.std.proofs.lemmas.Bool.{and_parts, eqb-true, ltb-true, true≢false}
 use Rattle.std.proofs.lemmas.Int.{ints}
 use Rattle.std.specs.List.{AllByRecursion}
-use Rattle.stamp.specs.Limits.{greatest}
-use Rattle.records.specs.Lists.{Has, Rises, insert_sorted, sort_by}
+use Rattle.records.specs.Lists.{Has, sort_by}
 use Rattle.std.specs.List.{flat_map}
 use Rattle.sql_archive.specs.Rows.{records_in}
 use Rattle.records.specs.Records.{name_cmp}
@@ -25,7 +24,7 @@ use Rattle.sql_archive.specs.Rows.{row_of, content_in, AreRecords, IsFilled}
 use Rattle.sql_archive.proofs.RowLemmas.{content_is}
 use Rattle.sql_archive.specs.State.{shown_of}
 use Rattle.sql_archive.proofs.QueryLemmas.{shown_all}
-use Rattle.std.proofs.Common.{Result, Ok, Err, IfOk, IfErr, OnOk, not, negsuc, length}
+use Rattle.std.proofs.Common.{Result, Ok, Err, IfOk, IfErr, not, negsuc, length}
 use Rattle.std.proofs.lemmas.Slice.Eq.{bytes_eq-Decides}
 use Rattle.std.proofs.lemmas.List.Sorted.{length_permutation, All-permutation}
 use Rattle.std.proofs.lemmas.List.Elements.{recursion_from_All, All-from_recursion}
@@ -42,7 +41,16 @@ use Rattle.archive.specs.Store.{IsOfOpening, fault_in}
 use Rattle.archive.specs.Listed.{is_broken}
 use Rattle.sql_archive.specs.Rows.{IsStored, meta_row, meta_columns, meta_cells}
 use Rattle.sql_archive.specs.State.{Asked, Stays, IsNewArchive}
-use Rattle.sql_archive.specs.Opening.{Mark, mark_of, nowhere, comes_next, are_in_turn, has_number, has_bytes, judged_row, judged, Opens}
+use Rattle.std.proofs.Common.{max, ap₂}
+use Rattle.std.specs.Int.{int_max}
+use Rattle.std.proofs.lemmas.List.{map-append}
+use Rattle.std.proofs.lemmas.Int.{clamps}
+use Rattle.sqlite_keyed.proofs.ListLemmas.{all-append}
+use Rattle.records.specs.Contents.{number_from, top}
+use Rattle.sql_archive.specs.Kept.{Remembers, Raises}
+use Rattle.sql_archive.specs.declared.checking.Mark.{Mark}
+use Rattle.sql_archive.specs.declared.checking.Walk.{Walk}
+use Rattle.sql_archive.specs.Opening.{mark_of, nowhere, comes_next, are_in_turn, mark_behind, HasWalked, HasChecked, has_number, has_bytes, judged_row, judged, Opens}
 
 -- the content ends with this mark: its origin's last number and tick, and no later origin
 record Ends (P : Content) (m : Mark) : Type 0 where
@@ -134,13 +142,45 @@ lawful_in_turn rs each h = record {
   records = λ r has. (each r has).0;
 }
 
--- what the walk of rows has shown
-pub walked : (db : Trees) (rows : List Row) (items : List Record) → IsPermutation (cells (db 1)) rows → map row_of items ≡ map shown_of rows → AllByRecursion IsRecord items → are_in_turn nowhere items ≡ true → IsFilled db × (content_in db ≡ items)
-walked db rows items same read each h =
-    let is : map row_of items ≡ rows = read ∙ shown_all (db 1) rows same in
-    let lawful = lawful_in_turn items (λ r has. all-has IsRecord items r each has) h in
-    let stands : AreRecords items db = subst (λ xs. IsPermutation xs (cells (db 1))) (sym is) (IsPermutation-sym (cells (db 1)) rows same) in
-    ((items, lawful, stands), content_is items db lawful stands)
+-- what a walk over all rows has shown
+pub checked_is : (db : Trees) (walk : Walk) → HasChecked db walk → IsFilled db × Remembers (content_in db) walk.latest.numbers walk.latest.tick
+checked_is db walk (rows, same, w) =
+    let is : map row_of w.items ≡ rows = w.spelled ∙ shown_all (db 1) rows same in
+    let lawful = lawful_in_turn w.items (λ r has. all-has IsRecord w.items r w.each has) w.turn in
+    let stands : AreRecords w.items db = subst (λ xs. IsPermutation xs (cells (db 1))) (sym is) (IsPermutation-sym (cells (db 1)) rows same) in
+    ((w.items, lawful, stands), subst (λ R. Remembers R walk.latest.numbers walk.latest.tick) (sym (content_is w.items db lawful stands)) w.remembered)
+
+-- ---- one row more
+
+turn_more : (m : Mark) (rs : List Record) (r : Record) → are_in_turn m rs ≡ true → comes_next (mark_behind m rs) r ≡ true → are_in_turn m (rs ++ r ∷ []) ≡ true
+turn_more m [] r h next = rw next refl
+turn_more m (x ∷ rs) r h next = let parts = and_parts (comes_next m x) (are_in_turn (mark_of x) rs) h in rw parts.0 (turn_more (mark_of x) rs r parts.1 next)
+
+mark_more : (m : Mark) (rs : List Record) (r : Record) → mark_behind m (rs ++ r ∷ []) ≡ mark_of r
+mark_more m [] r = refl
+mark_more m (x ∷ rs) r = mark_more (mark_of x) rs r
+
+vec_end : (R : Content) (r : Record) (o : ℕ) → vec (R ++ r ∷ []) o ≡ max (vec R o) (number_from o r)
+vec_end [] r o = omega arith
+vec_end (x ∷ R) r o = omega (arith, vec_end R r o)
+
+top_end : (R : Content) (r : Record) → top (R ++ r ∷ []) ≡ int_max (top R) r.tick
+top_end [] r = omega (arith, ints, clamps)
+top_end (x ∷ R) r = omega (arith, ints, clamps, top_end R r)
+
+pub walked_more : (rows : List Row) (row : Row) (before after : Walk) (r : Record) → HasWalked rows before → IsRecord r → shown_of row ≡ row_of r → comes_next before.last r ≡ true → after.last ≡ mark_of r
+    → Raises r true before.latest.numbers before.latest.tick after.latest.numbers after.latest.tick → HasWalked (rows ++ row ∷ []) after
+walked_more rows row before after r w ok is next last up = record {
+  items = w.items ++ r ∷ [];
+  spelled = map-append row_of w.items (r ∷ []) ∙ ap₂ ◌++◌ w.spelled (ap (λ c. c ∷ []) (sym is)) ∙ sym (map-append shown_of rows (row ∷ []));
+  each = all-append IsRecord w.items (r ∷ []) w.each (ok, tt);
+  turn = turn_more nowhere w.items r w.turn (subst (λ m. comes_next m r ≡ true) w.mark next);
+  mark = last ∙ sym (mark_more nowhere w.items r);
+  remembered = record {
+    lasts = λ o. up.lasts o ∙ (ap (λ n. max n (number_from o r)) (w.remembered.lasts o) ∙ sym (vec_end w.items r o));
+    newest = up.newest ∙ (ap (λ t. int_max t r.tick) w.remembered.newest ∙ sym (top_end w.items r));
+  };
+}
 
 -- ---- whose store it is
 

@@ -1,5 +1,5 @@
 -- What a walk over the records of a store judges.
-use Rattle.std.specs.Prelude.{◌≡◌, ◌⊎◌, Result, Ok, Err, IfOk, IfErr, OnOk, not, false, negsuc, ℕ, ◌+◌, ◌==◌, nat_lt, ℤ, pos, int_lt, Bool, true, ◌&&◌, if◌then◌else◌, List, [], ◌∷◌}
+use Rattle.std.specs.Prelude.{◌≡◌, ◌⊎◌, Result, Ok, Err, IfOk, IfErr, not, false, negsuc, ℕ, ◌+◌, ◌==◌, nat_lt, pos, int_lt, Bool, true, ◌&&◌, if◌then◌else◌, List, [], ◌∷◌}
 use Rattle.std.specs.Str.{bytes_eq}
 use Rattle.sqlite_value.specs.Order.{Row, column}
 use Rattle.sqlite_value.specs.declared.value.Value.{Value}
@@ -9,16 +9,18 @@ use Rattle.records.specs.declared.record.Record.{Record}
 use Rattle.archive.specs.declared.fault.StoreFault.{StoreFault}
 use Rattle.archive.specs.declared.fault.StoreFault.TheVariants.{WrongArchive, WrongReplica, Refused}
 use Rattle.archive.specs.Store.{IsOfOpening}
-use Rattle.sql_archive.specs.Rows.{IsStored, meta_cells}
+use Rattle.std.specs.Prelude.{map, IsPermutation}
+use Rattle.std.specs.List.{AllByRecursion}
+use Rattle.records.specs.Spelling.{IsRecord}
+use Rattle.sqlite_trees.specs.Tree.{Trees}
+use Rattle.sql_archive.specs.declared.checking.Mark.{Mark}
+use Rattle.sql_archive.specs.declared.checking.Walk.{Walk}
+use Rattle.sql_archive.specs.Words.{cells}
+use Rattle.sql_archive.specs.Kept.{Remembers}
+use Rattle.sql_archive.specs.Rows.{IsStored, meta_cells, row_of}
 use Rattle.sqlite.specs.Effect.{Database}
 use Rattle.sql_archive.specs.Tables.{no_schema, archive_schema}
-use Rattle.sql_archive.specs.State.{Stays, IsNewArchive}
-
--- an origin, a number and a tick
-pub record Mark : Type 0 where
-  pub origin : ℕ
-  pub number : ℕ
-  pub tick : ℤ
+use Rattle.sql_archive.specs.State.{Stays, IsNewArchive, shown_of}
 
 abbrev pub mark_of : Record → Mark
 mark_of r = record { origin = r.origin; number = r.number; tick = r.tick }
@@ -33,6 +35,24 @@ comes_next m r = if nat_lt m.origin r.origin then r.number == 1 else (m.origin =
 abbrev pub are_in_turn : Mark → List Record → Bool
 are_in_turn m [] = true
 are_in_turn m (r ∷ rs) = comes_next m r && are_in_turn (mark_of r) rs
+
+-- where a walk stands behind some records
+abbrev pub mark_behind : Mark → List Record → Mark
+mark_behind m [] = m
+mark_behind m (r ∷ rs) = mark_behind (mark_of r) rs
+
+-- these rows were gone over: they are those of records in turn, the last of which stands there, and of which this is remembered
+pub record HasWalked (rows : List Row) (walk : Walk) : Type 0 where
+  pub items : List Record
+  pub spelled : map row_of items ≡ map shown_of rows
+  pub each : AllByRecursion IsRecord items
+  pub turn : are_in_turn nowhere items ≡ true
+  pub mark : walk.last ≡ mark_behind nowhere items
+  pub remembered : Remembers items walk.latest.numbers walk.latest.tick
+
+-- all rows of the tables were gone over
+abbrev pub HasChecked : Trees → Walk → Type 0
+HasChecked db walk = (rows : List Row) × IsPermutation (cells (db 1)) rows × HasWalked rows walk
 
 -- ---- whose store it is
 

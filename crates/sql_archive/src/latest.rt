@@ -1,9 +1,8 @@
 //! The last numbers and the greatest tick of an archive's records, in memory.
 
 ghost use Rattle.std.specs.Prelude.{◌≡◌, true, false};
-ghost use Rattle.std.specs.List.{AllByRecursion};
-ghost use Rattle.records.specs.Spelling.{IsRecord, IsLawfulRecord};
-ghost use Rattle.sql_archive.specs.Kept.{Remembers, Raises};
+ghost use Rattle.records.specs.Spelling.{IsLawfulRecord};
+ghost use Rattle.sql_archive.specs.Kept.{Raises};
 ghost use Rattle.sql_archive.specs.Learning.{was_added};
 
 use archive::{LearnFault, StoreFault};
@@ -18,7 +17,7 @@ pub(crate) struct Latest {
 }
 
 /// The same, with a record's.
-fn raised(before: Latest, r: &Record) -> Latest
+pub(crate) fn raised(before: Latest, r: &Record) -> Latest
     requires { IsLawfulRecord r.now }
     ensures { Raises r.now true before.numbers before.tick result.numbers result.tick }
 {
@@ -28,21 +27,6 @@ fn raised(before: Latest, r: &Record) -> Latest
         numbers,
         tick: before.tick.max(r.tick),
     }
-}
-
-/// Those of some records.
-pub(crate) fn latest_of(records: &[Record]) -> Latest
-    requires { AllByRecursion IsRecord records.now }
-    ensures { Remembers records.now result.numbers result.tick }
-{
-    let mut latest = Latest {
-        numbers: Vector::new(),
-        tick: 0,
-    };
-    for r in records {
-        latest = raised(latest, r);
-    }
-    latest
 }
 
 /// Those behind a call that learned a record, by its answer.
