@@ -123,7 +123,7 @@ untied_back a b h = untied b a (ap is_eq (stamp_total.antisymm b a) ∙ go (stam
 
 -- ---- what passes
 
-truly : (b : Bool) → is_true (from_truth (Some b)) ≡ b
+pub truly : (b : Bool) → is_true (from_truth (Some b)) ≡ b
 truly true = refl
 truly false = refl
 
@@ -134,7 +134,7 @@ either_of true false = refl
 either_of false true = refl
 either_of false false = refl
 
-compared : (op : CompareOp) (m n : ℤ) → binary (Compare op Binary) (Int m) (Int n) ≡ from_truth (Some (test op (int_cmp m n)))
+pub compared : (op : CompareOp) (m n : ℤ) → binary (Compare op Binary) (Int m) (Int n) ≡ from_truth (Some (test op (int_cmp m n)))
 unfolding binary
 compared op m n = ap (λ o. from_truth (Some (test op o))) (value_cmp-Int m n)
 

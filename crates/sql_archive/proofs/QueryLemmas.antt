@@ -29,7 +29,7 @@ use Rattle.sqlite.specs.State.{State, Shown, ShowsRows, IsUnchanged}
 use Rattle.sqlite.specs.Clock.{timed}
 use Rattle.sqlite.proofs.Callers.{IsPlain, command_of, reads_as}
 use Rattle.sql_archive.specs.Tables.{archive_schema}
-use Rattle.sql_archive.specs.Words.{columns_of, cells, is_at, is_named, is_from, is_behind, is_after, is_before, IsPage, IsNextRow, ascending_number, descending_number, moment_order, stamp_cmp}
+use Rattle.sql_archive.specs.Words.{columns_of, cells, is_at, is_named, is_from, is_behind, is_after, is_before, IsPage, IsNextRow, name_order, descending_number, moment_order, stamp_cmp}
 use Rattle.sql_archive.specs.State.{AreAt, shown_of}
 use Rattle.sql_archive.specs.Rows.{meta_columns, meta_cells}
 use Rattle.sql_archive.proofs.Texts.{at_text, since_text, after_text, before_text, all_text, whose_text, named_text, last_text}
@@ -288,10 +288,7 @@ finds_last old new origin rows has h =
 abbrev since_tests : List Term
 since_tests = eq (col 1 1) (col 0 0) ∷ op2 (Compare Gt Binary) (col 1 2) (col 0 1) ∷ []
 
-abbrev up_number : List (Term × Key)
-up_number = (col 1 2, ascending Binary) ∷ []
-
-since_is : (command_of (understood archive_schema since_text) ≡ Select (record { lets = []; body = simple 1 since_tests each up_number (col 0 2) }) names) × (reads_listing archive_schema since_text ≡ false)
+since_is : (command_of (understood archive_schema since_text) ≡ Select (record { lets = []; body = simple 1 since_tests each by_name (col 0 2) }) names) × (reads_listing archive_schema since_text ≡ false)
 unfolding understood everything
 since_is = (refl, refl)
 
@@ -300,15 +297,15 @@ unfolding understood everything
 since_plain = (refl, refl)
 
 pub finds_since : (old new : State) (origin number limit : ℤ) (rows : List Row) → old.now.schema ≡ archive_schema → Shown since_text (Int origin ∷ Int number ∷ Int limit ∷ []) old new rows
-    → IsPage (is_behind origin number) ascending_number (as_count (Int limit)) (cells (old.now.trees 1)) rows
+    → IsPage (is_behind origin number) name_order (as_count (Int limit)) (cells (old.now.trees 1)) rows
 finds_since old new origin number limit rows has h =
     let params = Int origin ∷ Int number ∷ Int limit ∷ [] in
     let got = reads_as since_text params old new archive_schema has _ since_is.0 since_plain since_is.1 rows h in
-    let all = answered 1 since_tests each up_number (col 0 2) params columns_of (is_behind origin number) (λ c. column c 1 ∷ []) (λ r. refl) (λ r. rw (equals (column r 1) (Int origin) refl) (both_true _ _)) old.now.trees rows (got.answer Null) in
+    let all = answered 1 since_tests each by_name (col 0 2) params columns_of (is_behind origin number) (λ c. column c 0 ∷ column c 1 ∷ []) (λ r. refl) (λ r. rw (equals (column r 1) (Int origin) refl) (both_true _ _)) old.now.trees rows (got.answer Null) in
     record {
       ordered = all.0;
       same = all.1;
-      sorted = sorted_alike (λ a b. key_cmp 0 (map (λ (k : Term × Key). k.1) up_number) (column a 1 ∷ []) (column b 1 ∷ [])) ascending_number (λ a b. then-Equal (value_cmp (column a 1) (column b 1))) all.0 all.2;
+      sorted = sorted_alike (λ a b. key_cmp 0 (map (λ (k : Term × Key). k.1) by_name) (column a 0 ∷ column a 1 ∷ []) (column b 0 ∷ column b 1 ∷ [])) name_order (λ a b. ap (ordering_then (value_cmp (column a 0) (column b 0))) (then-Equal (value_cmp (column a 1) (column b 1)))) all.0 all.2;
       front = all.3;
     }
 

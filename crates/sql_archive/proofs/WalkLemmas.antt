@@ -104,7 +104,7 @@ first_ahead d place t ts up next =
     (λ u h. let p = from_ahead d place ts u h in elim (past_or_same d u t (next.2 u p.0 p.1)) [ inl e ↦ inl (sym e) | inr q ↦ inr (in_ahead d t ts u p.0 q) ])
     (λ u h. elim h [ inl e ↦ subst (λ w. Has (filter (is_past d place) (in_direction d ts)) w) e (in_ahead d place ts t next.0 next.1) | inr k ↦ let p = from_ahead d t ts u k in in_ahead d place ts u p.0 (past_then d place t u next.1 p.1) ])
 
-filter_none : {X : Type 0} (p : X → Bool) (xs : List X) → ((x : X) → Has xs x → p x ≡ false) → filter p xs ≡ []
+pub filter_none : {X : Type 0} (p : X → Bool) (xs : List X) → ((x : X) → Has xs x → p x ≡ false) → filter p xs ≡ []
 filter_none p [] none = refl
 filter_none p (x ∷ xs) none = rw (none x (inl refl)) (filter_none p xs (λ z h. none z (inr h)))
 

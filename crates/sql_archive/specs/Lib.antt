@@ -7,3 +7,4 @@ pub mod Learning
 pub mod Opening
 pub mod Walking
 pub mod Files
+pub mod Lacked

@@ -57,8 +57,9 @@ pub record IsPage (pass : Row → Bool) (cmp : Row → Row → Ordering) (limit 
 abbrev pub is_behind : ℤ → ℤ → Row → Bool
 is_behind origin number c = is_eq (value_cmp (column c 0) (Int origin)) && is_true (binary (Compare Gt Binary) (column c 1) (Int number))
 
-abbrev pub ascending_number : Row → Row → Ordering
-ascending_number a b = value_cmp (column a 1) (column b 1)
+-- by name: origin, then number
+abbrev pub name_order : Row → Row → Ordering
+name_order a b = ordering_then (value_cmp (column a 0) (column b 0)) (value_cmp (column a 1) (column b 1))
 
 -- ---- beyond a time
 

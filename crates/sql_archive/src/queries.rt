@@ -4,7 +4,9 @@ ghost use Rattle.std.specs.Prelude.{◌≡◌, pos, Some, filter, IsPermutation}
 ghost use Rattle.sqlite.specs.State.{HasCleanDisk};
 ghost use Rattle.sqlite.specs.Held.{state};
 ghost use Rattle.records.specs.Moments.{ticks_of, pico_of};
-ghost use Rattle.sql_archive.specs.Words.{cells, is_named, is_from, descending_number, is_after, is_before, moment_order, IsPage, IsNextRow};
+ghost use Rattle.sqlite_value.specs.declared.value.Value.TheVariants.{Int};
+ghost use Rattle.sqlite_sql.specs.Query.{as_count};
+ghost use Rattle.sql_archive.specs.Words.{cells, is_named, is_from, is_behind, name_order, descending_number, is_after, is_before, moment_order, IsPage, IsNextRow};
 ghost use Rattle.sql_archive.specs.Rows.{meta_cells};
 ghost use Rattle.sql_archive.specs.State.{AreAt, Asked, Idles};
 
@@ -36,6 +38,14 @@ pub(crate) fn place_of(time: Moment) -> Place
 pub(crate) struct Name {
     pub(crate) origin: i64,
     pub(crate) number: i64,
+}
+
+/// Rows of an origin: those behind a number, so many of them, or all where the count is below 0.
+#[derive(Clone, Copy, Debug)]
+pub(crate) struct Behind {
+    pub(crate) origin: i64,
+    pub(crate) number: i64,
+    pub(crate) count: i64,
 }
 
 /// The rows of a node and a place in time, by stamp.
@@ -129,6 +139,21 @@ pub(crate) fn rows_last<S: Alter>(
         conn,
         "SELECT origin, number, tick, node, time, pico, asked, who, value FROM records2 WHERE origin = ?1 ORDER BY number DESC LIMIT 1",
         params![&name.origin],
+    )
+}
+
+/// Rows of an origin behind a number, the first ones by number.
+pub(crate) fn rows_behind<S: Alter>(
+    conn: &mut Connection<S>,
+    behind: &Behind,
+) -> Result<Vec<Row>, StoreFault>
+    requires { HasCleanDisk (state S.Store conn.old) → Idles (state S.Store conn.old) }
+    ensures { Asked (state S.Store conn.old) (state S.Store conn.new) result (λ rows. IsPage (is_behind behind.now.origin behind.now.number) name_order (as_count (Int behind.now.count)) (cells ((state S.Store conn.old).now.trees 1)) rows.items) }
+{
+    select(
+        conn,
+        "SELECT origin, number, tick, node, time, pico, asked, who, value FROM records2 WHERE origin = ?1 AND number > ?2 ORDER BY origin, number LIMIT ?3",
+        params![&behind.origin, &behind.number, &behind.count],
     )
 }
 

@@ -189,7 +189,7 @@ impl<S: Alter> Archive for SqlArchive<S> {
         if self.broken {
             return Err(self.refuse());
         }
-        let answer = records_since(alloc, &mut self.conn, vector, limit);
+        let answer = records_since(alloc, &mut self.conn, &self.latest.numbers, vector, limit);
         tell(&mut self.faults, &mut self.broken, answer)
     }
 
