@@ -157,18 +157,6 @@ pub(crate) fn rows_behind<S: Alter>(
     )
 }
 
-/// All rows of records.
-pub(crate) fn rows_all<S: Alter>(conn: &mut Connection<S>) -> Result<Vec<Row>, StoreFault>
-    requires { HasCleanDisk (state S.Store conn.old) → Idles (state S.Store conn.old) }
-    ensures { Asked (state S.Store conn.old) (state S.Store conn.new) result (λ rows. IsPermutation (cells ((state S.Store conn.old).now.trees 1)) rows.items) }
-{
-    select(
-        conn,
-        "SELECT origin, number, tick, node, time, pico, asked, who, value FROM records2 ORDER BY origin, number",
-        &[],
-    )
-}
-
 /// The rows of meta.
 pub(crate) fn rows_of_meta<S: Alter>(conn: &mut Connection<S>) -> Result<Vec<Row>, StoreFault>
     requires { HasCleanDisk (state S.Store conn.old) → Idles (state S.Store conn.old) }
