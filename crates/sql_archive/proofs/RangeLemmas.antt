@@ -29,14 +29,14 @@ use Rattle.archive.specs.declared.reading.Direction.TheVariants.{Forward, Backwa
 use Rattle.archive.specs.declared.reading.LogPlace.{LogPlace}
 use Rattle.archive.proofs.Turning.{has-reverse, has_from_reverse, has-in_direction}
 use Rattle.archive.proofs.Timing.{times_rise, current_time, entry_time}
-use Rattle.sql_archive.specs.Walking.{moment_at, stretch, IsSpan, values_at, entries_at}
+use Rattle.sql_archive.specs.Walking.{ShowSame, moment_at, stretch, IsSpan, values_at, entries_at}
 use Rattle.ua_binary.specs.Binary.{node_id}
 use Rattle.sqlite_trees.specs.Tree.{Trees}
 use Rattle.records.specs.Spelling.{longest}
 use Rattle.sql_archive.specs.Rows.{content_in, IsFilled}
 use Rattle.sql_archive.specs.Walking.{end_of_time}
 use Rattle.sql_archive.proofs.RowLemmas.{content_is}
-use Rattle.sql_archive.proofs.StoryLemmas.{node_within}
+use Rattle.sql_archive.proofs.StoryLemmas.{node_within, filter_as}
 use Rattle.sql_archive.proofs.PageLemmas.{time_there, at_time}
 
 -- ---- lists
@@ -126,6 +126,18 @@ span_as Backward from to near far t span = rw (span.0, span.1) (backward from to
   where
     backward : (x y z : ℤ) → is_between x y z ≡ (is_past Backward (y +ℤ pos 1) z && not (is_past Backward x z))
     backward x y z = grind (arith, nat_tests, ints)
+
+-- ---- a log behind a place
+
+-- what is shown behind a place between these times and those
+pub log_as : (C : Content) (node : NodeId) (d : Direction) (after : Option LogPlace) (from to new_from new_to : ℤ) → ShowSame d after from to new_from new_to → log_of C node from to after d ≡ log_of C node new_from new_to after d
+log_as C node d after from to new_from new_to same = both from to ∙ (filter_as (shows from to) (shows new_from new_to) (in_direction d (log C node)) (λ e h. same e) ∙ sym (both new_from new_to))
+  where
+    shows : ℤ → ℤ → Entry → Bool
+    shows x y e = is_between x y e.time && follows d after e
+
+    both : (x y : ℤ) → log_of C node x y after d ≡ filter (shows x y) (in_direction d (log C node))
+    both x y = ap (filter (follows d after)) (turned-filter d (λ e. is_between x y e.time) (log C node)) ∙ filter-filter (λ e. is_between x y e.time) (follows d after) (shows x y) (in_direction d (log C node)) (λ e h. refl)
 
 -- ---- the times of a part
 

@@ -1,5 +1,5 @@
 -- Going over the times of a node in a direction.
-use Rattle.std.specs.Prelude.{◌≡◌, ◌-◌, ◌^◌, true, false, not, ℕ, ℤ, pos, negsuc, ◌≤ℤ◌, ◌+ℤ◌, ◌*ℤ◌, List, [], ◌∷◌, filter, reverse, Option, Some, None}
+use Rattle.std.specs.Prelude.{◌≡◌, ◌-◌, ◌^◌, true, false, not, ◌&&◌, ℕ, ℤ, pos, negsuc, ◌≤ℤ◌, ◌+ℤ◌, ◌*ℤ◌, List, [], ◌∷◌, filter, reverse, Option, Some, None}
 use Rattle.std.specs.List.{flat_map, cons_option}
 use Rattle.ua_binary.specs.declared.values.NodeId.{NodeId}
 use Rattle.records.specs.Lists.{Has}
@@ -10,7 +10,7 @@ use Rattle.records.specs.declared.record.Record.{Record}
 use Rattle.records.specs.Moments.{moment}
 use Rattle.records.specs.declared.shown.Held.{Held}
 use Rattle.records.specs.declared.shown.Entry.{Entry}
-use Rattle.archive.specs.Reading.{times, in_direction, is_past, follows}
+use Rattle.archive.specs.Reading.{times, in_direction, is_past, is_between, follows}
 use Rattle.archive.specs.declared.reading.Direction.{Direction}
 use Rattle.archive.specs.declared.reading.Direction.TheVariants.{Forward, Backward}
 use Rattle.archive.specs.declared.reading.LogPlace.{LogPlace}
@@ -37,6 +37,10 @@ stretch d place far ts = filter (λ t. not (is_past d far t)) (filter (is_past d
 abbrev pub IsSpan : Direction → ℤ → ℤ → ℤ → ℤ → Type 0
 IsSpan Forward from to near far = (near ≡ from +ℤ negsuc 0) × (far ≡ to)
 IsSpan Backward from to near far = (near ≡ to +ℤ pos 1) × (far ≡ from)
+
+-- behind a place a log between the one two times shows what it shows between the others
+abbrev pub ShowSame : Direction → Option LogPlace → ℤ → ℤ → ℤ → ℤ → Type 0
+ShowSame d after from to new_from new_to = (e : Entry) → (is_between from to e.time && follows d after e) ≡ (is_between new_from new_to e.time && follows d after e)
 
 -- the last moment that a record may have, in the direction
 abbrev pub end_of_time : Direction → ℤ

@@ -8,7 +8,7 @@ ghost use Rattle.records.specs.Contents.{cut};
 ghost use Rattle.archive.specs.Reading.{first, range_of, log_of, outside_of};
 ghost use Rattle.sql_archive.specs.Rows.{content_in, IsFilled};
 ghost use Rattle.sql_archive.specs.State.{Idles, Asked};
-ghost use Rattle.sql_archive.specs.Walking.{moment_at, IsPlace, IsSpan, end_of_time};
+ghost use Rattle.sql_archive.specs.Walking.{moment_at, IsPlace, IsSpan, ShowSame, end_of_time};
 ghost use Rattle.ua_binary.specs.Binary.{node_id, IsNodeId};
 
 use crate::queries::{Place, place_of};
@@ -54,6 +54,25 @@ fn span_of(from: Moment, to: Moment, direction: Direction) -> Span
                 far: from,
             }
         }
+    }
+}
+
+/// The ends of a log that goes on behind a place: no modification behind it has an earlier time.
+fn ends_behind(
+    from: Moment,
+    to: Moment,
+    after: &Option<LogPlace>,
+    direction: Direction,
+) -> (Moment, Moment)
+    ensures { ShowSame direction after.now from to result.0 result.1 }
+{
+    let Some(place) = *after else {
+        return (from, to);
+    };
+    match direction {
+        Direction::Forward if from < place.time => (place.time, to),
+        Direction::Backward if place.time < to => (from, place.time),
+        _ => (from, to),
     }
 }
 
@@ -123,7 +142,8 @@ pub(crate) fn log_in<S: Alter>(
 {
     match spelled_node(alloc, node)? {
         Some(bytes) => {
-            let span = span_of(from, to, direction);
+            let (near, far) = ends_behind(from, to, after, direction);
+            let span = span_of(near, far, direction);
             entries(
                 alloc, conn, node, &bytes, span.start, span.far, after, direction, limit, within,
             )
