@@ -8,6 +8,7 @@ NOW = EPOCH + 10 ** 12
 # The ways in which the program may end (README): the exit status, and what it says on standard error.
 STATED = [
     (0, r""),
+    (0, r"connection ended \([1-4]\)\n"),  # of serve
     (2, r"usage: uahist answer .*\n"),
     (2, r"memory ran out before the command began\n"),
     (2, r"settings file can't be read\n"),
