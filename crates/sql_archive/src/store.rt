@@ -8,12 +8,12 @@ ghost use Rattle.archive.specs.Listed.{failures, is_broken};
 ghost use Rattle.sql_archive.specs.State.{Asked, Idles};
 
 use crate::latest::{Latest, latest_after};
-use crate::layout::first_open;
 use crate::learning::{flat, learn_in};
 use crate::opening::open_tables;
 use crate::ranges::{log_in, outside_in, range_in};
 use crate::reads::records_at;
 use crate::since::records_since;
+use crate::starting::make;
 use crate::statements::still_open;
 use archive::{Archive, Direction, LearnFault, LogPlace, StoreFault};
 use records::{Entry, Held, Moment, Record};
@@ -288,26 +288,23 @@ impl<S: Alter> SqlArchive<S> {
 }
 
 impl SqlArchive<MemStore> {
-    ghost use Rattle.std.specs.Prelude.{◌≡◌, false, [], IfOk};
+    ghost use Rattle.std.specs.Prelude.{◌≡◌, false, [], IfOk, IfErr};
     ghost use Rattle.sqlite.specs.Held.{state};
     ghost use Rattle.sqlite.specs.Steps.{over_memory};
+    ghost use Rattle.archive.specs.Store.{IsOfOpening};
     ghost use Rattle.sql_archive.specs.Rows.{content_in};
 
     /// An archive of this id and replica in memory, which holds nothing.
     pub fn open_in_memory(alloc: Global, id: Uuid, number: ReplicaNo) -> Result<Self, StoreFault>
         ensures own { IfOk result (λ a. (a.id ≡ id) × (a.number ≡ number) × (a.faults ≡ 0) × (a.broken ≡ false)) }
         ensures empty { IfOk result (λ a. content_in (state over_memory a.conn).now.trees ≡ []) }
+        ensures refused { IfErr result (λ e. IsOfOpening e → ⊥) }
     {
-        let mut conn = match Connection::open_in_memory(alloc) {
+        let conn = match Connection::open_in_memory(alloc) {
             Ok(conn) => conn,
             Err(_) => return Err(StoreFault::OutOfMemory),
         };
-        let own = i64::from(number.get());
-        match first_open(&mut conn, id.as_bytes(), &own) {
-            Ok(()) => {}
-            Err(_) => return Err(StoreFault::Refused),
-        }
-        match SqlArchive::over(alloc, conn, id, number) {
+        match make(alloc, conn, id, number) {
             Ok(archive) => Ok(archive),
             Err((fault, _)) => Err(fault),
         }
