@@ -11,7 +11,6 @@ pub mod Tried
 pub mod Networks
 pub mod DumpLemmas
 pub mod Opened
-pub mod Behind
 pub mod Firsts
 pub mod Talks
 pub mod Talking

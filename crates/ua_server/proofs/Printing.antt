@@ -33,7 +33,7 @@ use Rattle.ua_server.specs.Given.{Outside}
 use Rattle.ua_server.specs.Client.{Ending}
 use Rattle.ua_server.proofs.Outsides.{nothing}
 use Rattle.ua_server.specs.Hexed.{AnswersText, AnswersHex, IsUntouched, digits_of}
-use Rattle.ua_server.specs.Program.{empty_of, AnswersDigits, IsAnswered, IsUnmade, IsBadText, IsUnbegun, SettingsAt, Machine, OverStore, By, Calls, CallsPeer, IsSynced, Scene, program_result, dump_result, sync_result, IsRefused, DoesLine, Runs}
+use Rattle.ua_server.specs.Program.{empty_of, WasText, AnswersDigits, IsAnswered, IsUnmade, IsBadText, IsUnbegun, SettingsAt, Machine, OverStore, By, Calls, CallsPeer, IsSynced, Scene, program_result, dump_result, sync_result, IsRefused, DoesLine, Runs}
 use Rattle.ua_server.specs.Tally.{Tally}
 use Rattle.ua_server.specs.Network.{Means}
 use Rattle.std.specs.declared.net.socket_addr.SocketAddr.{SocketAddr}
@@ -74,28 +74,22 @@ made-read settings s known OutOfMemory write long = inl (idle s nothing refl ref
 whole-text : (text rest bytes : List ℕ) → text ≡ bytes ++ rest → rest ≡ [] → bytes ≡ text
 whole-text text rest bytes read over = sym (read ∙ ap (λ r. bytes ++ r) over ∙ append-nil bytes)
 
+was-text : (known left : Option (List ℕ)) (bytes : List ℕ) → Consumes known left bytes → IsAtEnd left → WasText known bytes
+was-text None left bytes read over = tt
+was-text (Some text) None bytes read over = absurd read
+was-text (Some text) (Some rest) bytes read over = whole-text text rest bytes read over
+
 pub made-bad : (known left : Option (List ℕ)) (bytes : List ℕ) → Consumes known left bytes → IsAtEnd left → (IsUtf8 bytes → ⊥) → IsBadText known
-made-bad None left bytes read over bad = tt
-made-bad (Some text) None bytes read over bad = absurd read
-made-bad (Some text) (Some rest) bytes read over bad =
-    let P : List ℕ → Type 0 = λ t. IsUtf8 t → ⊥ in
-    inl (subst P (whole-text text rest bytes read over) bad)
+made-bad known left bytes read over bad = (bytes, was-text known left bytes read over, inl bad)
 
 unspelled : (known left : Option (List ℕ)) (bytes : List ℕ) → Consumes known left bytes → IsAtEnd left → IsErr (decode_of (digits_of bytes)) → IsBadText known
-unspelled None left bytes read over bad = tt
-unspelled (Some text) None bytes read over bad = absurd read
-unspelled (Some text) (Some rest) bytes read over bad =
-    let P : List ℕ → Type 0 = λ t. IsErr (decode_of (digits_of t)) in
-    inr (subst P (whole-text text rest bytes read over) bad)
+unspelled known left bytes read over bad = (bytes, was-text known left bytes read over, inr bad)
 
 module _ (settings : Values) (first last : Store) where
-  -- what was answered to the bytes that were read was answered to the known input
+  -- what was answered to the bytes that were read was answered to the input
   answered-known : (known left : Option (List ℕ)) (bytes : List ℕ) (used : Outside) (out : List ℕ) (ending : Ending) (P : Ending → Type 0) → Consumes known left bytes → IsAtEnd left → AnswersText settings first last bytes used out ending → P ending
       → IsAnswered settings first last known used P
-  answered-known None left bytes used out ending P read over answers so = tt
-  answered-known (Some text) None bytes used out ending P read over answers so = absurd read
-  answered-known (Some text) (Some rest) bytes used out ending P read over answers so =
-      (out, ending, subst (λ t. AnswersText settings first last t used out ending) (whole-text text rest bytes read over) answers, so)
+  answered-known known left bytes used out ending P read over answers so = (bytes, was-text known left bytes read over, (out, ending, answers, so))
 
   unmade : (known left : Option (List ℕ)) (bytes : List ℕ) (used : Outside) (old new : List ℕ) (fault : HexFault) → Consumes known left bytes → IsAtEnd left
       → AnswersHex settings first last bytes used old new (Err fault) → IsUnmade settings first last known used fault
@@ -118,11 +112,8 @@ module _ (settings : Values) (first last : Store) where
   -- the digits that were made
   made : (known left : Option (List ℕ)) (bytes : List ℕ) (used : Outside) (old new : List ℕ) (served : Served) → Consumes known left bytes → IsAtEnd left → old ≡ [] → AnswersHex settings first last bytes used old new (Ok served)
       → AnswersDigits settings first last known used new
-  made None left bytes used old new served read over none so = tt
-  made (Some text) None bytes used old new served read over none so = absurd read
-  made (Some text) (Some rest) bytes used old new served read over none so =
-      let P : List ℕ → Type 0 = λ t. AnswersText settings first last t used so.0 (Ok served) in
-      (so.0, served, subst P (whole-text text rest bytes read over) so.1, so.2 ∙ ap (λ (front : List ℕ). front ++ encode_upper so.0) none)
+  made known left bytes used old new served read over none so =
+      (bytes, was-text known left bytes read over, (so.0, served, so.1, so.2 ∙ ap (λ (front : List ℕ). front ++ encode_upper so.0) none))
 
   pub made-digits : (known left : Option (List ℕ)) (text bytes : List ℕ) (used : Outside) (old new : List ℕ) (result : Result Served HexFault) (served : Served) → Consumes known left bytes → IsAtEnd left → text ≡ bytes → old ≡ [] → result ≡ Ok served
       → AnswersHex settings first last text used old new result → AnswersDigits settings first last known used new
@@ -142,23 +133,24 @@ unbegun-refused taken matches Words so = absurd so
 unbegun-refused taken matches NoMemory so = tt
 
 -- settings are refused as a line where memory for those without a file was wanting
-unset : (reads : List ℕ → Option (List ℕ) → Type 0) (path : Option (List ℕ)) (fault : LineFault) → SettingsAt reads path (Err (Line fault)) → IsUnbegun fault
-unset reads None fault so = so
-unset reads (Some path) fault (None, read, so) = cc
-unset reads (Some path) fault (Some text, read, so) = absurd so
+unset : (reads : List ℕ → Option (List ℕ) → Type 0) (unasked : Type 0) (path : Option (List ℕ)) (fault : LineFault) → SettingsAt reads unasked path (Err (Line fault)) → IsUnbegun fault × unasked
+unset reads unasked None fault so = so
+unset reads unasked (Some path) fault (None, read, so) = absurd (cc)
+unset reads unasked (Some path) fault (Some text, read, so) = absurd so
 
 -- a command that ends as a refused line: its settings were refused so, and nothing was done
 by-line : {K : Type 0} (machine : Machine K) (path : Option (List ℕ)) (does : Values → (T : Type 0) → (T → Store) → T → Type 0) (refused : ProgramFault → Type 0) (line : LineFault) (Q : Type 0)
-    → ((settings : Values) (T : Type 0) (held : T → Store) (first : T) → does settings T held first → ⊥) → ((fault : ProgramFault) → refused fault → (fault ≡ Line line) × Q) → By machine path does refused → IsUnbegun line × Q
+    → ((settings : Values) (T : Type 0) (held : T → Store) (first : T) → does settings T held first → ⊥) → ((fault : ProgramFault) → refused fault → (fault ≡ Line line) × Q) → By machine path does refused → IsUnbegun line × Q × machine.unasked × machine.untouched
 by-line {K} machine path does refused line Q never told (Ok settings, set, so) = go settings.store so
   where
-    go : (store : Option (List ℕ)) → OverStore machine.held (λ path opening. machine.opened path settings.archive settings.replica opening) settings store (does settings) (λ fault. refused (program.Store fault)) → IsUnbegun line × Q
-    go None so = absurd (never settings Listed store_of (empty_of settings) so)
+    go : (store : Option (List ℕ)) → OverStore machine.held (λ path opening. machine.opened path settings.archive settings.replica opening) machine.untouched settings store (does settings) (λ fault. refused (program.Store fault)) → IsUnbegun line × Q × machine.unasked × machine.untouched
+    go None so = absurd (never settings Listed store_of (empty_of settings) so.1)
     go (Some path) (Ok first, opened, so) = absurd (never settings K machine.held first so)
     go (Some path) (Err fault, opened, so) = let t = told (program.Store fault) so in absurd cc
 by-line machine path does refused line Q never told (Err fault, set, so) =
-    let t = told fault so in
-    (unset machine.reads path line (subst (λ f. SettingsAt machine.reads path (Err f)) t.0 set), t.1)
+    let t = told fault so.1 in
+    let u = unset machine.reads machine.unasked path line (subst (λ f. SettingsAt machine.reads machine.unasked path (Err f)) t.0 set) in
+    (u.0, t.1, u.1, so.0)
 
 answered-line : (answered : Result (Unit {0}) HexFault) (line : LineFault) → Err (Line line) ≡ program_result answered → ⊥
 answered-line (Ok done) line same = cc
@@ -192,16 +184,16 @@ pub line-done : {K N L R W C E P Q : Type 0} (faults : List ErrorKind) (taken : 
 line-done faults taken matches machine calls means listened told line old new (Ok done) free is so = (free, (line, is, so))
 line-done faults taken matches machine calls means listened told (Answer path hex now) old new (Err (Line fault)) free is (network, errors, (used, gave, so)) =
     let b = by-line machine (option_copied path) _ _ fault (new.written ≡ old.written) (λ settings T held first x. answered-line x.1 fault x.3) (λ f x. (same-line fault f (Err (Line fault)) refl x.0, x.2)) so in
-    (unbegun-refused taken matches fault b.0, b.1, errors)
+    (unbegun-refused taken matches fault b.0, b.1, errors, b.2, b.3)
 line-done faults taken matches machine calls means listened told (Serve path count) old new (Err (Line fault)) free is (unread, written, so) =
     let b = by-line machine (Some path.now) _ _ fault (new.errors ≡ old.errors) (λ settings T held first x. x.1) (λ f x. (same-line fault f (Err (Line fault)) refl x.0, x.3)) so in
-    (unbegun-refused taken matches fault b.0, written, b.1)
+    (unbegun-refused taken matches fault b.0, written, b.1, b.2, b.3)
 line-done faults taken matches machine calls means listened told (Dump path) old new (Err (Line fault)) free is (unread, network, clock, errors, so) =
     let b = by-line machine (Some path.now) _ _ fault (new.written ≡ old.written) (λ settings T held first x. dumped-line x.1 fault x.3) (λ f x. (same-line fault f (Err (Line fault)) refl x.0, x.1)) so in
-    (unbegun-refused taken matches fault b.0, b.1, errors)
+    (unbegun-refused taken matches fault b.0, b.1, errors, b.2, b.3)
 line-done faults taken matches machine calls means listened told (Sync path peer) old new (Err (Line fault)) free is (unread, written, clock, errors, so) =
     let b = by-line machine (Some path.now) _ _ fault (Unit {0}) (λ settings T held first x. called-line calls held peer.now first x.0 old.network new.network fault x.1) (λ f x. (same-line fault f (Err (Line fault)) refl x.0, tt)) so in
-    (unbegun-refused taken matches fault b.0, written, errors)
+    (unbegun-refused taken matches fault b.0, written, errors, b.2, b.3)
 line-done faults taken matches machine calls means listened told line old new (Err File) free is so = (free, (line, is, so))
 line-done faults taken matches machine calls means listened told line old new (Err (Settings fault place)) free is so = (free, (line, is, so))
 line-done faults taken matches machine calls means listened told line old new (Err (program.Store fault)) free is so = (free, (line, is, so))

@@ -13,10 +13,9 @@ use Rattle.ua_server.specs.declared.peers.Parted.{Parted}
 use Rattle.ua_server.specs.declared.peers.Parted.TheVariants as parted
 use Rattle.ua_server.specs.declared.calling.SyncFault.{SyncFault}
 use Rattle.ua_server.specs.declared.calling.SyncFault.TheVariants.{Connection, Exchange, Peer}
-use Rattle.ua_server.specs.Bytes.{AppendsPart, behind}
+use Rattle.ua_server.specs.Bytes.{AppendsPart}
 use Rattle.ua_server.specs.Peers.{Talks, Waits, Speaks, Meets}
 use Rattle.ua_server.specs.Calling.{calling, synced_by, Unasked, Unsent, Asked, Syncs}
-use Rattle.ua_server.proofs.Behind.{behind-none}
 use Rattle.ua_server.proofs.Talks.{talks-then}
 
 -- calls that show nothing
@@ -75,12 +74,12 @@ syncs-unsent a b unread before after empty out started fault none greets is part
     inr (inl (record { frame = out; told = ap (λ (f : ServeFault). let r : Result (Unit {0}) SyncFault = Err (Connection f) in r) write; greets = made; read = Consumes-nil unread; written = part }))
 
 pub syncs-asked : (a b c : Store) (unread left before between after : Option (List ℕ)) (empty out : List ℕ) (started : Result (Unit {0}) ExchangeFault) (ending : Result Parted ServeFault) (result : Result (Unit {0}) SyncFault) (start : Standing)
-    → empty ≡ [] → Greets a b empty out started → started ≡ Ok tt → Appends before between out → start ≡ calling → Meets start b c (behind [] unread) left between after ending → result ≡ synced_by ending
+    → empty ≡ [] → Greets a b empty out started → started ≡ Ok tt → Appends before between out → start ≡ calling → Meets start b c unread left between after ending → result ≡ synced_by ending
     → Syncs a c unread left before after result
 syncs-asked a b c unread left before between after empty out started ending result start none greets is appends at meets told =
     let made : Greets a b [] out (Ok tt) = subst (λ (r : Result (Unit {0}) ExchangeFault). Greets a b [] out r) is (subst (λ (e : List ℕ). Greets a b e out started) none greets) in
     let so : Meets calling b c unread left between after ending =
-    subst (λ (s : Standing). Meets s b c unread left between after ending) at (subst (λ (u : Option (List ℕ)). Meets start b c u left between after ending) (behind-none unread) meets) in
+    subst (λ (s : Standing). Meets s b c unread left between after ending) at meets in
     inr (inr (record {
       frame = out;
       is = λ h. made.frame (honest-so b c calling so.came so.out ending so.speaks h);

@@ -23,9 +23,8 @@ use Rattle.ua_server.specs.declared.outcome.ServeFault.{ServeFault}
 use Rattle.ua_server.specs.declared.outcome.ServeFault.TheVariants.{Read, Write, TooLong, OutOfMemory}
 use Rattle.ua_server.specs.declared.peers.Parted.{Parted}
 use Rattle.ua_server.specs.declared.peers.Parted.TheVariants as parted
-use Rattle.ua_server.specs.Bytes.{AppendsPart, behind}
-use Rattle.ua_server.proofs.Behind.{behind-consumes}
-use Rattle.ua_server.specs.Peers.{failed_as, ended_as, is_silent, Talks, Waits, Speaks, Meets}
+use Rattle.ua_server.specs.Bytes.{AppendsPart}
+use Rattle.ua_server.specs.Peers.{failed_as, ended_as, is_silent, Talks, Waits, Speaks, MeetsBehind}
 use Rattle.ua_server.specs.Talking.{ending_of, stop_by, stop_of, ending_in, IsReady, TakesOne, LeavesOne, IsNoLess, IsDrained, LeavesAll, AnswersAll, Drained, TellsWant, DrainedSoFar, MeetsSoFar}
 use Rattle.ua_server.proofs.Talks.{talks-start, talks-then, talks-more, talks-starved, talks-frame, talks-ill}
 
@@ -282,37 +281,55 @@ leaves-end start mid last frames held left code silent first end e leaves ready 
 
 -- ---- the whole dialog
 
+meets-first : (start : Standing) (a : Store) (unread written : Option (List ℕ)) (first : List ℕ) → MeetsSoFar start a a first unread unread written written first start
+meets-first start a unread written first = record {
+  came = [];
+  out = [];
+  read = Consumes-nil unread;
+  written = Appends-nil written;
+  talks = subst (λ (c : List ℕ). Talks start a a c [] first None start) (sym (append-nil first)) (talks-start start a first);
+}
+
 pub meets-start : (start : Standing) (a : Store) (unread written : Option (List ℕ)) (first : List ℕ) (frames fed : Held) → frames ≡ fresh → fed ≡ record frames { waiting = frames.waiting ++ first }
-    → MeetsSoFar start a a (behind first unread) unread written written fed.waiting start
+    → MeetsSoFar start a a first unread unread written written fed.waiting start
 meets-start start a unread written first frames fed is more =
     let waits : fed.waiting ≡ first = ap (λ (h : Held). h.waiting) more ∙ ap (λ (h : Held). h.waiting ++ first) is in
-    subst (λ (w : List ℕ). MeetsSoFar start a a (behind first unread) unread written written w start) (sym waits)
-    (record { came = first; out = []; read = behind-consumes first unread; written = Appends-nil written; talks = talks-start start a first })
+    subst (λ (w : List ℕ). MeetsSoFar start a a first unread unread written written w start) (sym waits) (meets-first start a unread written first)
 
 pub starts-short : (frames fed : Held) (first : List ℕ) → frames ≡ fresh → fed ≡ record frames { waiting = frames.waiting ++ first } → length first < 8 → (fed.failed ≡ false) × (cut fed.waiting ≡ Ok None)
 starts-short frames fed first is more few =
     let waits : fed.waiting ≡ first = ap (λ (h : Held). h.waiting) more ∙ ap (λ (h : Held). h.waiting ++ first) is in
     (ap (λ (h : Held). h.failed) more ∙ ap (λ (h : Held). h.failed) is, subst (λ (w : List ℕ). cut w ≡ Ok None) (sym waits) (few-cut first few))
 
-pub meets-fed : (start last : Standing) (a b : Store) (unread left rest old written : Option (List ℕ)) (frames fed : Held) (piece : List ℕ) → MeetsSoFar start a b unread left old written frames.waiting last → Consumes left rest piece
-    → fed ≡ record frames { waiting = frames.waiting ++ piece } → MeetsSoFar start a b unread rest old written fed.waiting last
-meets-fed start last a b unread left rest old written frames fed piece so read is =
-    subst (λ (w : List ℕ). MeetsSoFar start a b unread rest old written w last) (sym (ap (λ (h : Held). h.waiting) is))
-    (record { came = so.came ++ piece; out = so.out; read = Consumes-trans unread left rest so.came piece so.read read; written = so.written; talks = talks-more start last a b so.came so.out frames.waiting piece so.talks })
+-- more bytes came
+meets-more : (start last : Standing) (a b : Store) (first : List ℕ) (unread left rest old written : Option (List ℕ)) (frames piece : List ℕ) → MeetsSoFar start a b first unread left old written frames last → Consumes left rest piece
+    → MeetsSoFar start a b first unread rest old written (frames ++ piece) last
+meets-more start last a b first unread left rest old written frames piece so read = record {
+  came = so.came ++ piece;
+  out = so.out;
+  read = Consumes-trans unread left rest so.came piece so.read read;
+  written = so.written;
+  talks = subst (λ (c : List ℕ). Talks start a b c so.out (frames ++ piece) None last) (append_assoc first so.came piece) (talks-more start last a b (first ++ so.came) so.out frames piece so.talks);
+}
 
-pub meets-drained : (start mid last : Standing) (a b c : Store) (unread left old written sent : Option (List ℕ)) (frames next : List ℕ) → MeetsSoFar start a b unread left old written frames mid → Drained mid b c written sent frames next (Ok None) last
-    → MeetsSoFar start a c unread left old sent next last
-meets-drained start mid last a b c unread left old written sent frames next so drained = record {
+pub meets-fed : (start last : Standing) (a b : Store) (first : List ℕ) (unread left rest old written : Option (List ℕ)) (frames fed : Held) (piece : List ℕ) → MeetsSoFar start a b first unread left old written frames.waiting last → Consumes left rest piece
+    → fed ≡ record frames { waiting = frames.waiting ++ piece } → MeetsSoFar start a b first unread rest old written fed.waiting last
+meets-fed start last a b first unread left rest old written frames fed piece so read is =
+    subst (λ (w : List ℕ). MeetsSoFar start a b first unread rest old written w last) (sym (ap (λ (h : Held). h.waiting) is)) (meets-more start last a b first unread left rest old written frames.waiting piece so read)
+
+pub meets-drained : (start mid last : Standing) (a b c : Store) (first : List ℕ) (unread left old written sent : Option (List ℕ)) (frames next : List ℕ) → MeetsSoFar start a b first unread left old written frames mid → Drained mid b c written sent frames next (Ok None) last
+    → MeetsSoFar start a c first unread left old sent next last
+meets-drained start mid last a b c first unread left old written sent frames next so drained = record {
   came = so.came;
   out = so.out ++ drained.0;
   read = so.read;
   written = Appends-trans old written sent so.out drained.0 so.written drained.1;
-  talks = talks-then start mid last a b c so.came so.out frames drained.0 next None so.talks drained.2;
+  talks = talks-then start mid last a b c (first ++ so.came) so.out frames drained.0 next None so.talks drained.2;
 }
 
-pub meets-end : (start last : Standing) (a b : Store) (unread left rest old written : Option (List ℕ)) (frames bytes : List ℕ) → MeetsSoFar start a b unread left old written frames last → Consumes left rest bytes → bytes ≡ [] → IsAtEnd rest
-    → cut frames ≡ Ok None → Meets start a b unread rest old written (Ok parted.EndOfInput)
-meets-end start last a b unread left rest old written frames bytes so read none end short = record {
+pub meets-end : (start last : Standing) (a b : Store) (first : List ℕ) (unread left rest old written : Option (List ℕ)) (frames bytes : List ℕ) → MeetsSoFar start a b first unread left old written frames last → Consumes left rest bytes → bytes ≡ [] → IsAtEnd rest
+    → cut frames ≡ Ok None → MeetsBehind start a b first unread rest old written (Ok parted.EndOfInput)
+meets-end start last a b first unread left rest old written frames bytes so read none end short = record {
   came = so.came;
   out = so.out;
   read = subst (λ (l : List ℕ). Consumes unread rest l) (append-nil so.came) (Consumes-trans unread left rest so.came [] so.read (subst (λ (l : List ℕ). Consumes left rest l) none read));
@@ -321,66 +338,67 @@ meets-end start last a b unread left rest old written frames bytes so read none 
   speaks = (frames, last, short, so.talks);
 }
 
-pub meets-failed : (start last : Standing) (a b : Store) (unread left rest old written : Option (List ℕ)) (frames : List ℕ) (result : Result Parted ServeFault) → MeetsSoFar start a b unread left old written frames last → Keeps left rest
-    → cut frames ≡ Ok None → result ≡ Err Read → Meets start a b unread rest old written result
-meets-failed start last a b unread left rest old written frames result so kept short is =
-    subst (λ (x : Result Parted ServeFault). Meets start a b unread rest old written x) (sym is)
+pub meets-failed : (start last : Standing) (a b : Store) (first : List ℕ) (unread left rest old written : Option (List ℕ)) (frames : List ℕ) (result : Result Parted ServeFault) → MeetsSoFar start a b first unread left old written frames last → Keeps left rest
+    → cut frames ≡ Ok None → result ≡ Err Read → MeetsBehind start a b first unread rest old written result
+meets-failed start last a b first unread left rest old written frames result so kept short is =
+    subst (λ (x : Result Parted ServeFault). MeetsBehind start a b first unread rest old written x) (sym is)
     (record { came = so.came; out = so.out; read = Consumes-kept unread left rest so.came so.read kept; over = λ q. absurd (cc); written = so.written; speaks = (frames, last, short, so.talks) })
 
-pub meets-starved : (start last : Standing) (a b : Store) (unread left rest old written sent : Option (List ℕ)) (frames piece : List ℕ) (result : Result Parted ServeFault) → MeetsSoFar start a b unread left old written frames last → Consumes left rest piece
-    → TellsWant written sent result → Meets start a b unread rest old sent result
-meets-starved start last a b unread left rest old written sent frames piece result so read tells = go result tells
+-- memory for what came was wanting
+meets-want : (start last : Standing) (a b : Store) (first : List ℕ) (unread left old written sent : Option (List ℕ)) (frames : List ℕ) (result : Result Parted ServeFault) → MeetsSoFar start a b first unread left old written frames last
+    → TellsWant written sent result → MeetsBehind start a b first unread left old sent result
+meets-want start last a b first unread left old written sent frames result so tells = go result tells
   where
-    more : Talks start a b (so.came ++ piece) so.out (frames ++ piece) None last
-    more = talks-more start last a b so.came so.out frames piece so.talks
+    all : Talks start a b (first ++ so.came) (so.out ++ end_frame 4) frames (Some (Ok (parted.Failed exchange.OutOfMemory))) last
+    all = talks-starved start last a b (first ++ so.came) so.out frames so.talks
 
-    all : Talks start a b (so.came ++ piece) (so.out ++ end_frame 4) (frames ++ piece) (Some (Ok (parted.Failed exchange.OutOfMemory))) last
-    all = talks-starved start last a b (so.came ++ piece) so.out (frames ++ piece) more
-
-    go : (r : Result Parted ServeFault) → TellsWant written sent r → Meets start a b unread rest old sent r
+    go : (r : Result Parted ServeFault) → TellsWant written sent r → MeetsBehind start a b first unread left old sent r
     go (Ok p) t =
-        subst (λ (x : Parted). Meets start a b unread rest old sent (Ok x)) (sym {b = parted.Failed exchange.OutOfMemory} t.0)
+        subst (λ (x : Parted). MeetsBehind start a b first unread left old sent (Ok x)) (sym {b = parted.Failed exchange.OutOfMemory} t.0)
         (record {
-          came = so.came ++ piece;
+          came = so.came;
           out = so.out ++ end_frame 4;
-          read = Consumes-trans unread left rest so.came piece so.read read;
+          read = so.read;
           over = λ q. absurd (cc);
           written = Appends-trans old written sent so.out (end_frame 4) so.written t.1;
-          speaks = (frames ++ piece, last, all);
+          speaks = (frames, last, all);
         })
     go (Err Read) t = absurd t
     go (Err Write) t = record {
-      came = so.came ++ piece;
+      came = so.came;
       out = so.out ++ t.0;
-      read = Consumes-trans unread left rest so.came piece so.read read;
+      read = so.read;
       over = λ q. absurd (cc);
       written = Appends-trans old written sent so.out t.0 so.written t.3;
       speaks = (
         t.1,
-        frames ++ piece,
+        frames,
         Some (Ok (parted.Failed exchange.OutOfMemory)),
         last,
-        subst (λ (o : List ℕ). Talks start a b (so.came ++ piece) o (frames ++ piece) (Some (Ok (parted.Failed exchange.OutOfMemory))) last) (ap (λ (o : List ℕ). so.out ++ o) t.2 ∙ sym (append_assoc so.out t.0 t.1)) all,
+        subst (λ (o : List ℕ). Talks start a b (first ++ so.came) o frames (Some (Ok (parted.Failed exchange.OutOfMemory))) last) (ap (λ (o : List ℕ). so.out ++ o) t.2 ∙ sym (append_assoc so.out t.0 t.1)) all,
       );
     }
     go (Err TooLong) t = absurd t
     go (Err OutOfMemory) t = absurd t
 
-pub meets-unfed : (start : Standing) (a : Store) (unread written sent : Option (List ℕ)) (first : List ℕ) (result : Result Parted ServeFault) → TellsWant written sent result → Meets start a a (behind first unread) unread written sent result
-meets-unfed start a unread written sent first result tells =
-    meets-starved start start a a (behind first unread) (behind first unread) unread written written sent [] first result
-    (record { came = []; out = []; read = Consumes-nil (behind first unread); written = Appends-nil written; talks = talks-start start a [] }) (behind-consumes first unread) tells
+pub meets-starved : (start last : Standing) (a b : Store) (first : List ℕ) (unread left rest old written sent : Option (List ℕ)) (frames piece : List ℕ) (result : Result Parted ServeFault) → MeetsSoFar start a b first unread left old written frames last
+    → Consumes left rest piece → TellsWant written sent result → MeetsBehind start a b first unread rest old sent result
+meets-starved start last a b first unread left rest old written sent frames piece result so read tells =
+    meets-want start last a b first unread rest old written sent (frames ++ piece) result (meets-more start last a b first unread left rest old written frames piece so read) tells
+
+pub meets-unfed : (start : Standing) (a : Store) (unread written sent : Option (List ℕ)) (first : List ℕ) (result : Result Parted ServeFault) → TellsWant written sent result → MeetsBehind start a a first unread unread written sent result
+meets-unfed start a unread written sent first result tells = meets-want start start a a first unread unread written written sent first result (meets-first start a unread written first) tells
 
 -- the dialog ended
-pub meets-stop : (start mid last : Standing) (a b c : Store) (unread left old written sent : Option (List ℕ)) (held next : Held) (p : Parted) → MeetsSoFar start a b unread left old written held.waiting mid
-    → Drained mid b c written sent held.waiting next.waiting (Ok (Some p)) last → LeavesAll held next mid last (Ok (Some p)) → Meets start a c unread left old sent (Ok p)
-meets-stop start mid last a b c unread left old written sent held next p so drained leaves = record {
+pub meets-stop : (start mid last : Standing) (a b c : Store) (first : List ℕ) (unread left old written sent : Option (List ℕ)) (held next : Held) (p : Parted) → MeetsSoFar start a b first unread left old written held.waiting mid
+    → Drained mid b c written sent held.waiting next.waiting (Ok (Some p)) last → LeavesAll held next mid last (Ok (Some p)) → MeetsBehind start a c first unread left old sent (Ok p)
+meets-stop start mid last a b c first unread left old written sent held next p so drained leaves = record {
   came = so.came;
   out = so.out ++ drained.0;
   read = so.read;
   over = λ q. absurd (own p leaves q);
   written = Appends-trans old written sent so.out drained.0 so.written drained.1;
-  speaks = speaks p leaves (talks-then start mid last a b c so.came so.out held.waiting drained.0 next.waiting (Some (Ok p)) so.talks drained.2);
+  speaks = speaks p leaves (talks-then start mid last a b c (first ++ so.came) so.out held.waiting drained.0 next.waiting (Some (Ok p)) so.talks drained.2);
 }
   where
     own : (p : Parted) → LeavesAll held next mid last (Ok (Some p)) → ◌≡◌ {A = Result Parted ServeFault} (Ok p) (Ok parted.EndOfInput) → ⊥
@@ -389,16 +407,16 @@ meets-stop start mid last a b c unread left old written sent held next p so drai
     own (parted.Refused n) leaves q = cc
     own (parted.Failed fault) leaves q = cc
 
-    speaks : (p : Parted) → LeavesAll held next mid last (Ok (Some p)) → Talks start a c so.came (so.out ++ drained.0) next.waiting (Some (Ok p)) last → Speaks start a c so.came (so.out ++ drained.0) (Ok p)
+    speaks : (p : Parted) → LeavesAll held next mid last (Ok (Some p)) → Talks start a c (first ++ so.came) (so.out ++ drained.0) next.waiting (Some (Ok p)) last → Speaks start a c (first ++ so.came) (so.out ++ drained.0) (Ok p)
     speaks parted.EndOfInput leaves talks = absurd leaves
     speaks parted.Done leaves talks = (next.waiting, last, talks)
     speaks (parted.Refused n) leaves talks = (next.waiting, last, talks)
     speaks (parted.Failed fault) leaves talks = (next.waiting, last, talks)
 
 -- a fault ended it
-pub meets-fault : (start mid last : Standing) (a b c : Store) (unread left old written sent : Option (List ℕ)) (held next : Held) (fault : ServeFault) → MeetsSoFar start a b unread left old written held.waiting mid
-    → Drained mid b c written sent held.waiting next.waiting (Err fault) last → LeavesAll held next mid last (Err fault) → Meets start a c unread left old sent (Err fault)
-meets-fault start mid last a b c unread left old written sent held next fault so drained leaves = record {
+pub meets-fault : (start mid last : Standing) (a b c : Store) (first : List ℕ) (unread left old written sent : Option (List ℕ)) (held next : Held) (fault : ServeFault) → MeetsSoFar start a b first unread left old written held.waiting mid
+    → Drained mid b c written sent held.waiting next.waiting (Err fault) last → LeavesAll held next mid last (Err fault) → MeetsBehind start a c first unread left old sent (Err fault)
+meets-fault start mid last a b c first unread left old written sent held next fault so drained leaves = record {
   came = so.came;
   out = so.out ++ drained.0;
   read = so.read;
@@ -407,15 +425,15 @@ meets-fault start mid last a b c unread left old written sent held next fault so
   speaks = speaks fault leaves drained.2;
 }
   where
-    speaks : (f : ServeFault) → LeavesAll held next mid last (Err f) → AnswersAll mid b c held.waiting drained.0 next.waiting (Err f) last → Speaks start a c so.came (so.out ++ drained.0) (Err f)
+    speaks : (f : ServeFault) → LeavesAll held next mid last (Err f) → AnswersAll mid b c held.waiting drained.0 next.waiting (Err f) last → Speaks start a c (first ++ so.came) (so.out ++ drained.0) (Err f)
     speaks Read leaves answers = absurd leaves
     speaks Write leaves answers = (
       answers.0,
       next.waiting,
       answers.1,
       last,
-      subst (λ (o : List ℕ). Talks start a c so.came o next.waiting answers.1 last) (sym (append_assoc so.out drained.0 answers.0))
-          (talks-then start mid last a b c so.came so.out held.waiting (drained.0 ++ answers.0) next.waiting answers.1 so.talks answers.2),
+      subst (λ (o : List ℕ). Talks start a c (first ++ so.came) o next.waiting answers.1 last) (sym (append_assoc so.out drained.0 answers.0))
+          (talks-then start mid last a b c (first ++ so.came) so.out held.waiting (drained.0 ++ answers.0) next.waiting answers.1 so.talks answers.2),
     )
-    speaks TooLong leaves answers = (next.waiting, last, talks-then start mid last a b c so.came so.out held.waiting drained.0 next.waiting (Some (Err TooLong)) so.talks answers)
-    speaks OutOfMemory leaves answers = (next.waiting, last, talks-then start mid last a b c so.came so.out held.waiting drained.0 next.waiting (Some (Err OutOfMemory)) so.talks answers)
+    speaks TooLong leaves answers = (next.waiting, last, talks-then start mid last a b c (first ++ so.came) so.out held.waiting drained.0 next.waiting (Some (Err TooLong)) so.talks answers)
+    speaks OutOfMemory leaves answers = (next.waiting, last, talks-then start mid last a b c (first ++ so.came) so.out held.waiting drained.0 next.waiting (Some (Err OutOfMemory)) so.talks answers)

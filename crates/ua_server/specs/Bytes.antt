@@ -1,6 +1,5 @@
 -- What goes out, and how failed calls are counted.
 use Rattle.std.specs.Prelude.{◌≡◌, ◌+◌, ◌^◌, ◌-◌, ℕ, List, ◌++◌, Option, min}
-use Rattle.std.specs.Option.{option_map}
 use Rattle.std.specs.Io.KnownBytes.{Appends}
 
 -- known contents grew by a first part of these bytes
@@ -10,7 +9,3 @@ AppendsPart old new bytes = (sent : List ℕ) × (unsent : List ℕ) × (bytes �
 -- one failed call more; the count stops at 2^64 - 1
 abbrev pub counted : ℕ → ℕ
 counted faults = min (faults + 1) (2 ^ 64 - 1)
-
--- known bytes, behind these
-abbrev pub behind : List ℕ → Option (List ℕ) → Option (List ℕ)
-behind first bytes = option_map (λ (l : List ℕ). first ++ l) bytes

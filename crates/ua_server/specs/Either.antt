@@ -1,6 +1,6 @@
 -- What a connection is answered, a client's or a peer's.
-use Rattle.std.specs.Prelude.{◌≡◌, ⊤, ℕ, ◌<◌, ◌||◌, Bool, true, false, List, [], length, take, Option, None, Some, Result, Ok, Err, ◌⊎◌, codes}
-use Rattle.std.specs.Io.KnownBytes.{Consumes}
+use Rattle.std.specs.Prelude.{◌≡◌, ℕ, ◌<◌, ◌≤◌, ◌||◌, Bool, true, false, List, [], length, Option, Result, Ok, Err, ◌⊎◌, codes}
+use Rattle.std.specs.Io.KnownBytes.{Consumes, IsAtEnd}
 use Rattle.archive.specs.Store.{Store, Stays, Passes}
 use Rattle.exchange.specs.Frames.{begins}
 use Rattle.ua_settings.specs.Settings.{Values}
@@ -11,8 +11,8 @@ use Rattle.ua_server.specs.declared.either.Ended.{Ended}
 use Rattle.ua_server.specs.declared.either.Ended.TheVariants.{Client, Peer}
 use Rattle.ua_server.specs.Client.{Ending}
 use Rattle.ua_server.specs.Given.{Outside}
-use Rattle.ua_server.specs.Peers.{Meets, responding}
-use Rattle.ua_server.specs.Serving.{Serves}
+use Rattle.ua_server.specs.Peers.{MeetsBehind, responding}
+use Rattle.ua_server.specs.Serving.{ServesBehind}
 
 -- how a connection ended, whosever it was
 abbrev pub Ends : Type 0
@@ -30,17 +30,16 @@ client_ended (Err fault) = Err fault
 abbrev pub is_peers : List ℕ → Bool
 is_peers first = begins first (codes "RXV") || begins first (codes "RXD")
 
--- the first three bytes of what is unread, or all where there are fewer, where that is known
-abbrev pub AreFirst : Option (List ℕ) → List ℕ → Type 0
-AreFirst None first = ⊤
-AreFirst (Some bytes) first = first ≡ take 3 bytes
+-- three bytes were read, or all where there are fewer
+abbrev pub AreFirst : (unread left : Option (List ℕ)) → List ℕ → Type 0
+AreFirst unread left first = Consumes unread left first × (length first ≤ 3) × (length first < 3 → IsAtEnd left)
 
--- a dialog with a peer was had, as the end that answers; or a client was served
-abbrev pub GoesAs : (peers : Bool) → Values → (old new : Store) → (unread left before after : Option (List ℕ)) → Outside → Ends → Type 0
-GoesAs true settings old new unread left before after used ending =
-    (parted : Result Parted ServeFault) × (ending ≡ peer_ended parted) × (used ≡ record { marks = []; readings = [] }) × Meets responding old new unread left before after parted
-GoesAs false settings old new unread left before after used ending =
-    (served : Ending) × (ending ≡ client_ended served) × Serves settings old new unread left before after used served
+-- behind these bytes a dialog with a peer was had, as the end that answers; or a client was served
+abbrev pub GoesAs : (peers : Bool) → Values → (old new : Store) → (first : List ℕ) → (unread left before after : Option (List ℕ)) → Outside → Ends → Type 0
+GoesAs true settings old new first unread left before after used ending =
+    (parted : Result Parted ServeFault) × (ending ≡ peer_ended parted) × (used ≡ record { marks = []; readings = [] }) × MeetsBehind responding old new first unread left before after parted
+GoesAs false settings old new first unread left before after used ending =
+    (served : Ending) × (ending ≡ client_ended served) × ServesBehind settings old new first unread left before after used served
 
 -- a read failed before three bytes were there: nothing was written, and nothing done
 pub record BreaksOff (old new : Store) (unread left before after : Option (List ℕ)) (used : Outside) (ending : Ends) : Type 0 where
@@ -57,4 +56,4 @@ pub record BreaksOff (old new : Store) (unread left before after : Option (List 
 abbrev pub ServesEither : Values → (old new : Store) → (unread left before after : Option (List ℕ)) → Outside → Ends → Type 0
 ServesEither settings old new unread left before after used ending =
     BreaksOff old new unread left before after used ending
-    ⊎ ((first : List ℕ) × AreFirst unread first × GoesAs (is_peers first) settings old new unread left before after used ending)
+    ⊎ ((first : List ℕ) × (between : Option (List ℕ)) × AreFirst unread between first × GoesAs (is_peers first) settings old new first between left before after used ending)

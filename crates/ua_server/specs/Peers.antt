@@ -144,14 +144,17 @@ Speaks start old new came out (Err Write) =
     (unsent rest : List ℕ) × (ending : Option (Result Parted ServeFault)) × (last : Standing) × Talks start old new came (out ++ unsent) rest ending last
 Speaks start old new came out ending = (rest : List ℕ) × (last : Standing) × Talks start old new came out rest (Some ending) last
 
--- an end stood so at the start, and a dialog over a connection ended so
-pub record Meets (start : Standing) (old new : Store) (unread left : Option (List ℕ)) (before after : Option (List ℕ)) (ending : Result Parted ServeFault) : Type 0 where
+-- an end stood so at the start, and a dialog over a connection, of which these first bytes were read before, ended so
+pub record MeetsBehind (start : Standing) (old new : Store) (first : List ℕ) (unread left : Option (List ℕ)) (before after : Option (List ℕ)) (ending : Result Parted ServeFault) : Type 0 where
   pub came : List ℕ
   pub out : List ℕ
   pub read : Consumes unread left came
   pub over : ending ≡ Ok parted.EndOfInput → IsAtEnd left
   pub written : Appends before after out
-  pub speaks : Speaks start old new came out ending
+  pub speaks : Speaks start old new (first ++ came) out ending
+
+abbrev pub Meets : Standing → (old new : Store) → (unread left before after : Option (List ℕ)) → Result Parted ServeFault → Type 0
+Meets start old new unread left before after ending = MeetsBehind start old new [] unread left before after ending
 
 -- before the first frame of the end that answers
 abbrev pub responding : Standing

@@ -58,13 +58,13 @@ abbrev pub OverOpened : {K : Type 0} → (K → Store) → Result K StoreFault �
 OverOpened {K} held (Ok first) does refused = does K held first
 OverOpened held (Err fault) does refused = refused fault
 
-abbrev pub OverStore : {K : Type 0} → (K → Store) → (List ℕ → Result K StoreFault → Type 0) → Values → Option (List ℕ) → ((T : Type 0) → (T → Store) → T → Type 0) → (StoreFault → Type 0) → Type 0
-OverStore held opened settings None does refused = does Listed store_of (empty_of settings)
-OverStore {K} held opened settings (Some path) does refused = (opening : Result K StoreFault) × opened path opening × OverOpened held opening does refused
+abbrev pub OverStore : {K : Type 0} → (K → Store) → (List ℕ → Result K StoreFault → Type 0) → (untouched : Type 0) → Values → Option (List ℕ) → ((T : Type 0) → (T → Store) → T → Type 0) → (StoreFault → Type 0) → Type 0
+OverStore held opened untouched settings None does refused = untouched × does Listed store_of (empty_of settings)
+OverStore {K} held opened untouched settings (Some path) does refused = (opening : Result K StoreFault) × opened path opening × OverOpened held opening does refused
 
--- what is done over the archive of the settings: that of their file, as it was opened, or one in memory that holds nothing
-abbrev pub Over : {K : Type 0} → (K → Store) → (List ℕ → Result K StoreFault → Type 0) → Values → ((T : Type 0) → (T → Store) → T → Type 0) → (StoreFault → Type 0) → Type 0
-Over held opened settings does refused = OverStore held opened settings settings.store does refused
+-- what is done over the archive of the settings: that of their file, as it was opened, or one in memory that holds nothing, and then no file was opened
+abbrev pub Over : {K : Type 0} → (K → Store) → (List ℕ → Result K StoreFault → Type 0) → (untouched : Type 0) → Values → ((T : Type 0) → (T → Store) → T → Type 0) → (StoreFault → Type 0) → Type 0
+Over held opened untouched settings does refused = OverStore held opened untouched settings settings.store does refused
 
 -- ---- one connection
 
@@ -74,20 +74,23 @@ EndsAs P (Ok done) = (served : Served) × P (Ok served)
 EndsAs P (Err hexed.BadHex) = ⊥
 EndsAs P (Err (hexed.Serve fault)) = P (Err fault)
 
--- where the input is known, these are the digits of the whole answer to the connection that it spells
+-- the input was this text, as far as its bytes are known
+abbrev pub WasText : Option (List ℕ) → List ℕ → Type 0
+WasText input text = IfSome input (λ known. text ≡ known)
+
+-- these are the digits of the whole answer to the connection that the input spells
 abbrev pub AnswersDigits : Values → Store → Store → Option (List ℕ) → Outside → List ℕ → Type 0
-AnswersDigits settings first last None used digits = Unit {0}
-AnswersDigits settings first last (Some text) used digits = (out : List ℕ) × (served : Served) × AnswersText settings first last text used out (Ok served) × (digits ≡ encode_upper out)
+AnswersDigits settings first last input used digits =
+    (text : List ℕ) × WasText input text × ((out : List ℕ) × (served : Served) × AnswersText settings first last text used out (Ok served) × (digits ≡ encode_upper out))
 
--- a known input spells no connection in hex
+-- the input spells no connection in hex
 abbrev pub IsBadText : Option (List ℕ) → Type 0
-IsBadText None = Unit {0}
-IsBadText (Some text) = ¬ (IsUtf8 text) ⊎ IsErr (decode_of (digits_of text))
+IsBadText input = (text : List ℕ) × WasText input text × (¬ (IsUtf8 text) ⊎ IsErr (decode_of (digits_of text)))
 
--- a known input spells a connection, which was answered and ended so
+-- the input spells a connection, which was answered and ended so
 abbrev pub IsAnswered : Values → Store → Store → Option (List ℕ) → Outside → (Ending → Type 0) → Type 0
-IsAnswered settings first last None used P = Unit {0}
-IsAnswered settings first last (Some text) used P = (out : List ℕ) × (ending : Ending) × AnswersText settings first last text used out ending × P ending
+IsAnswered settings first last input used P =
+    (text : List ℕ) × WasText input text × ((out : List ℕ) × (ending : Ending) × AnswersText settings first last text used out ending × P ending)
 
 -- why no digits were made: nothing was done, or the connection was answered, and was too long, or memory for the digits was wanting
 abbrev pub IsUnmade : Values → Store → Store → Option (List ℕ) → Outside → HexFault → Type 0
@@ -148,10 +151,10 @@ abbrev pub IsSetBy : Option (List ℕ) → Result Values ProgramFault → Type 0
 IsSetBy None result = result ≡ Err File
 IsSetBy (Some text) result = IsSetIn text result
 
--- the settings of a server that is given this path, by what was read at it
-abbrev pub SettingsAt : (List ℕ → Option (List ℕ) → Type 0) → Option (List ℕ) → Result Values ProgramFault → Type 0
-SettingsAt reads None result = IsBare result
-SettingsAt reads (Some path) result = (text : Option (List ℕ)) × reads path text × IsSetBy text result
+-- the settings of a server that is given this path, by what was read at it; without a path no file was asked for
+abbrev pub SettingsAt : (List ℕ → Option (List ℕ) → Type 0) → (unasked : Type 0) → Option (List ℕ) → Result Values ProgramFault → Type 0
+SettingsAt reads unasked None result = IsBare result × unasked
+SettingsAt reads unasked (Some path) result = (text : Option (List ℕ)) × reads path text × IsSetBy text result
 
 -- ---- a command
 
@@ -164,19 +167,22 @@ abbrev pub program_result : Result (Unit {0}) HexFault → Result (Unit {0}) Pro
 program_result (Ok done) = Ok done
 program_result (Err fault) = Err (fault_of fault)
 
--- the machine that a program runs on: how its files give their texts and their archives, and what these hold
+-- the machine that a program runs on: how its files give their texts and their archives, and what these hold; and what it is to it that none was asked
+-- for its text, or opened
 pub record Machine (K : Type 0) : Type 1 where
   pub reads : List ℕ → Option (List ℕ) → Type 0
+  pub unasked : Type 0
   pub opened : List ℕ → List ℕ → ℕ → Result K StoreFault → Type 0
+  pub untouched : Type 0
   pub held : K → Store
 
 -- what is done by the settings of the file at a path, over their archive; or nothing is
 abbrev pub BySettings : {K : Type 0} → Machine K → Result Values ProgramFault → (Values → (T : Type 0) → (T → Store) → T → Type 0) → (ProgramFault → Type 0) → Type 0
-BySettings machine (Ok settings) does refused = Over machine.held (λ path opening. machine.opened path settings.archive settings.replica opening) settings (does settings) (λ fault. refused (program.Store fault))
-BySettings machine (Err fault) does refused = refused fault
+BySettings machine (Ok settings) does refused = Over machine.held (λ path opening. machine.opened path settings.archive settings.replica opening) machine.untouched settings (does settings) (λ fault. refused (program.Store fault))
+BySettings machine (Err fault) does refused = machine.untouched × refused fault
 
 abbrev pub By : {K : Type 0} → Machine K → Option (List ℕ) → (Values → (T : Type 0) → (T → Store) → T → Type 0) → (ProgramFault → Type 0) → Type 0
-By machine path does refused = (settings : Result Values ProgramFault) × SettingsAt machine.reads path settings × BySettings machine settings does refused
+By machine path does refused = (settings : Result Values ProgramFault) × SettingsAt machine.reads machine.unasked path settings × BySettings machine settings does refused
 
 -- a connection is answered, or nothing is read or written
 abbrev pub AnswersBy : {K : Type 0} → Machine K → Option (List ℕ) → Bool → Option ℤ → Option (List ℕ) → Option (List ℕ) → Option (List ℕ) → Option (List ℕ) → Outside → Result (Unit {0}) ProgramFault → Type 0
@@ -279,7 +285,8 @@ IsRefused taken matches Words = taken ≡ true → IsNoCommand matches
 IsRefused taken matches NoMemory = Unit {0}
 
 -- A run by the faults that clap finds in a command line, by whether it takes it, and by its matches. What is done is done for a line without
--- faults; where the line is refused nothing is printed or told.
+-- faults; where the line is refused nothing is printed or told, and no file is asked for or opened.
 abbrev pub Runs : {K N L R W C E P Q : Type 0} → List ErrorKind → Bool → Option (Text × List Row) → Machine K → Calls N P Q → Means L R W K C → (N → SocketAddr → Option L → N → Type 0) → (E → Option (List ℕ)) → Scene N C E → Scene N C E → Result (Unit {0}) ProgramFault → Type 0
-Runs faults taken matches machine calls means listened told old new (Err (Line fault)) = IsRefused taken matches fault × (new.written ≡ old.written) × (new.errors ≡ old.errors)
+Runs faults taken matches machine calls means listened told old new (Err (Line fault)) =
+    IsRefused taken matches fault × (new.written ≡ old.written) × (new.errors ≡ old.errors) × machine.unasked × machine.untouched
 Runs faults taken matches machine calls means listened told old new result = (faults ≡ []) × ((line : CommandLine) × IsLine matches line × DoesLine machine calls means listened told line old new result)

@@ -1,5 +1,5 @@
 -- What goes out on a connection, by what came in, and what the archive holds then.
-use Rattle.std.specs.Prelude.{◌≡◌, ℕ, List, ◌++◌, Option, Some, Ok, Err}
+use Rattle.std.specs.Prelude.{◌≡◌, ℕ, List, [], ◌++◌, Option, Some, Ok, Err}
 use Rattle.std.specs.Io.KnownBytes.{Appends, Consumes, IsAtEnd}
 use Rattle.archive.specs.Store.{Store}
 use Rattle.archive.specs.Steps.{Moves}
@@ -26,12 +26,16 @@ IsServed p start came used out (Err Write) last =
     (unsent rest : List ℕ) × (ending : Option Ending) × Answers p start came used (record { out = out ++ unsent; ending = ending; state = last }) rest
 IsServed p start came used out ending last = (rest : List ℕ) × Answers p start came used (record { out = out; ending = Some ending; state = last }) rest
 
--- a client was served: by what was read and what the outside gave, this was written, and what the archive holds is what the answer left
-pub record Serves (settings : Values) (old new : Store) (unread left : Option (List ℕ)) (before after : Option (List ℕ)) (used : Outside) (ending : Ending) : Type 0 where
+-- a client was served, of whom these first bytes were read before: by what was read and what the outside gave, this was written, and what the archive
+-- holds is what the answer left
+pub record ServesBehind (settings : Values) (old new : Store) (first : List ℕ) (unread left : Option (List ℕ)) (before after : Option (List ℕ)) (used : Outside) (ending : Ending) : Type 0 where
   pub came : List ℕ
   pub out : List ℕ
   pub read : Consumes unread left came
   pub over : ending ≡ Ok EndOfInput → IsAtEnd left
   pub written : Appends before after out
   pub served : Moves old new used.marks (λ R S. (last : Standing) × (last.content ≡ S)
-      × IsServed (chunks (site_of settings old)) (record { client = new_client; content = R }) came used out ending last)
+      × IsServed (chunks (site_of settings old)) (record { client = new_client; content = R }) (first ++ came) used out ending last)
+
+abbrev pub Serves : Values → (old new : Store) → (unread left before after : Option (List ℕ)) → Outside → Ending → Type 0
+Serves settings old new unread left before after used ending = ServesBehind settings old new [] unread left before after used ending

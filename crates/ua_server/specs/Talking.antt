@@ -97,9 +97,9 @@ TellsWant before after (Err Write) = AppendsPart before after (end_frame 4)
 TellsWant before after (Err fault) = ⊥
 
 -- this was read so far and this written, and the end stands so
-pub record MeetsSoFar (start : Standing) (old new : Store) (unread left before after : Option (List ℕ)) (rest : List ℕ) (last : Standing) : Type 0 where
+pub record MeetsSoFar (start : Standing) (old new : Store) (first : List ℕ) (unread left before after : Option (List ℕ)) (rest : List ℕ) (last : Standing) : Type 0 where
   pub came : List ℕ
   pub out : List ℕ
   pub read : Consumes unread left came
   pub written : Appends before after out
-  pub talks : Talks start old new came out rest None last
+  pub talks : Talks start old new (first ++ came) out rest None last

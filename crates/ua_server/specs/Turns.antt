@@ -231,12 +231,12 @@ abbrev pub new_link : Link
 new_link = record { client = new_client; waiting = [] }
 
 -- by what was read so far, this was written, and the connection stands like this
-pub record ServesSoFar (settings : Values) (old new : Store) (unread left : Option (List ℕ)) (before after : Option (List ℕ)) (used : Outside) (link : Link) : Type 0 where
+pub record ServesSoFar (settings : Values) (old new : Store) (first : List ℕ) (unread left : Option (List ℕ)) (before after : Option (List ℕ)) (used : Outside) (link : Link) : Type 0 where
   pub came : List ℕ
   pub out : List ℕ
   pub read : Consumes unread left came
   pub written : Appends before after out
-  pub turned : Turned settings old new (record { client = new_client; waiting = came }) used out None link
+  pub turned : Turned settings old new (record { client = new_client; waiting = first ++ came }) used out None link
 
 -- an ERR with this code was written, or a first part of it where the writer failed, or nothing where memory for it was wanting
 abbrev pub SendsRefusal : Option (List ℕ) → Option (List ℕ) → Status → Ending → Type 0

@@ -2,10 +2,10 @@
 
 ghost use Rattle.std.specs.Prelude.{◌≡◌, ◌≤◌, ◌<◌, length, take, IfOk, OnOk, OnErr, IsErrOf, Err, ℕ, List};
 ghost use Rattle.std.specs.Io.KnownBytes.{Consumes, IsAtEnd};
-ghost use Rattle.ua_server.specs.Bytes.{behind, counted};
+ghost use Rattle.ua_server.specs.Bytes.{counted};
 ghost use Rattle.ua_server.specs.Given.{Outside};
-ghost use Rattle.ua_server.specs.Serving.{Serves};
-ghost use Rattle.ua_server.specs.Peers.{Meets, responding};
+ghost use Rattle.ua_server.specs.Serving.{ServesBehind};
+ghost use Rattle.ua_server.specs.Peers.{MeetsBehind, responding};
 ghost use Rattle.ua_server.specs.Either.{peer_ended, client_ended, is_peers, ServesEither};
 
 use crate::clock::Clock;
@@ -67,7 +67,7 @@ fn meet_peer<R: Read, W: Write, A: Archive>(
 ) -> Result<Ended, ServeFault>
     requires { length first.now < 8 }
     ensures meets { (parted : _) × (result ≡ peer_ended parted)
-        × Meets responding (A.state replica.old.archive) (A.state replica.new.archive) (behind first.now (R.remaining reader.old.inner)) (R.remaining reader.new.inner) (W.contents writer.old.inner) (W.contents writer.new.inner) parted }
+        × MeetsBehind responding (A.state replica.old.archive) (A.state replica.new.archive) first.now (R.remaining reader.old.inner) (R.remaining reader.new.inner) (W.contents writer.old.inner) (W.contents writer.new.inner) parted }
     ensures read { IsErrOf result ServeFault.Read → reader.new.faults ≡ counted reader.old.faults }
     ensures write { IsErrOf result ServeFault.Write → writer.new.faults ≡ counted writer.old.faults }
     ensures read_kept { (IsErrOf result ServeFault.Read → ⊥) → reader.new.faults ≡ reader.old.faults }
@@ -92,7 +92,7 @@ fn serve_from<R: Read, W: Write, C: Clock, A: Archive>(
 ) -> Result<Served, ServeFault>
     requires { length first.now < 8 }
     ensures serves { (used : Outside) × C.gave clock.old used.readings clock.new
-        × Serves settings.now (A.state archive.old) (A.state archive.new) (behind first.now (R.remaining reader.old.inner)) (R.remaining reader.new.inner) (W.contents writer.old.inner) (W.contents writer.new.inner) used result }
+        × ServesBehind settings.now (A.state archive.old) (A.state archive.new) first.now (R.remaining reader.old.inner) (R.remaining reader.new.inner) (W.contents writer.old.inner) (W.contents writer.new.inner) used result }
     ensures read { IsErrOf result ServeFault.Read → reader.new.faults ≡ counted reader.old.faults }
     ensures write { IsErrOf result ServeFault.Write → writer.new.faults ≡ counted writer.old.faults }
     ensures read_kept { (IsErrOf result ServeFault.Read → ⊥) → reader.new.faults ≡ reader.old.faults }
@@ -117,7 +117,7 @@ fn serve_client<R: Read, W: Write, C: Clock, A: Archive>(
 ) -> Result<Ended, ServeFault>
     requires { length first.now < 8 }
     ensures serves { (used : Outside) × C.gave clock.old used.readings clock.new × (served : _) × (result ≡ client_ended served)
-        × Serves settings.now (A.state archive.old) (A.state archive.new) (behind first.now (R.remaining reader.old.inner)) (R.remaining reader.new.inner) (W.contents writer.old.inner) (W.contents writer.new.inner) used served }
+        × ServesBehind settings.now (A.state archive.old) (A.state archive.new) first.now (R.remaining reader.old.inner) (R.remaining reader.new.inner) (W.contents writer.old.inner) (W.contents writer.new.inner) used served }
     ensures read { IsErrOf result ServeFault.Read → reader.new.faults ≡ counted reader.old.faults }
     ensures write { IsErrOf result ServeFault.Write → writer.new.faults ≡ counted writer.old.faults }
     ensures read_kept { (IsErrOf result ServeFault.Read → ⊥) → reader.new.faults ≡ reader.old.faults }

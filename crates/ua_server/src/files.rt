@@ -77,7 +77,7 @@ pub(crate) fn settings_at<F: SettingsFiles>(
     path: Option<&str>,
     files: &mut F,
 ) -> Result<Settings, ProgramFault>
-    ensures { SettingsAt (λ path text. F.gave files.old path text files.new) (option_copied path.entry) result }
+    ensures { SettingsAt (λ path text. F.gave files.old path text files.new) (files.new ≡ files.old) (option_copied path.entry) result }
 {
     let Some(path) = path else {
         return bare_settings(alloc);

@@ -254,7 +254,7 @@ fn answer_by<F: SettingsFiles, D: Stores, R: Read, W: Write, C: Clock>(
     ensures read { IsErrOf result (ProgramFault.Connection ServeFault.Read) → input.new.faults ≡ counted input.old.faults }
     ensures write { IsErrOf result (ProgramFault.Connection ServeFault.Write) → output.new.faults ≡ counted output.old.faults }
     ensures does { (used : Outside) × C.gave clock.old used.readings clock.new
-        × AnswersBy (record { reads = λ path text. F.gave files.old path text files.new; opened = λ path id number opening. D.opened stores.old path id number opening stores.new; held = D.Kept.state }) (option_copied path.entry) hex now (R.remaining input.old.inner) (R.remaining input.new.inner) (W.contents output.old.inner) (W.contents output.new.inner) used result }
+        × AnswersBy (record { reads = λ path text. F.gave files.old path text files.new; unasked = files.new ≡ files.old; opened = λ path id number opening. D.opened stores.old path id number opening stores.new; untouched = stores.new ≡ stores.old; held = D.Kept.state }) (option_copied path.entry) hex now (R.remaining input.old.inner) (R.remaining input.new.inner) (W.contents output.old.inner) (W.contents output.new.inner) used result }
 {
     let settings = match settings_at(alloc, path, files) {
         Ok(settings) => settings,
@@ -298,7 +298,7 @@ fn serve_by<F: SettingsFiles, D: Stores, N: Network, C: Clock, E: Write>(
     clock: &mut C,
     errors: &mut Counted<E>,
 ) -> Result<(), ProgramFault>
-    ensures serves { ServesBy (record { reads = λ path text. F.gave files.old path text files.new; opened = λ path id number opening. D.opened stores.old path id number opening stores.new; held = D.Kept.state })
+    ensures serves { ServesBy (record { reads = λ path text. F.gave files.old path text files.new; unasked = files.new ≡ files.old; opened = λ path id number opening. D.opened stores.old path id number opening stores.new; untouched = stores.new ≡ stores.old; held = D.Kept.state })
         (record { accepted = N.Listener.accepted; closed = N.Listener.closed; gave = C.gave; unread = N.Listener.Reader.remaining; written = N.Listener.Writer.contents; held = D.Kept.state }) N.listened E.contents path.now connections network.old network.new clock.old clock.new errors.old errors.new result }
     ensures connection { (fault : ServeFault) → IsErrOf result (ProgramFault.Connection fault) → ⊥ }
 {
@@ -361,7 +361,7 @@ fn dump_by<F: SettingsFiles, D: Stores, W: Write>(
 ) -> Result<(), ProgramFault>
     ensures read { IsErrOf result (ProgramFault.Connection ServeFault.Read) → ⊥ }
     ensures write { IsErrOf result (ProgramFault.Connection ServeFault.Write) → output.new.faults ≡ counted output.old.faults }
-    ensures dumps { DumpsBy (record { reads = λ path text. F.gave files.old path text files.new; opened = λ path id number opening. D.opened stores.old path id number opening stores.new; held = D.Kept.state }) path.now (W.contents output.old.inner) (W.contents output.new.inner) result }
+    ensures dumps { DumpsBy (record { reads = λ path text. F.gave files.old path text files.new; unasked = files.new ≡ files.old; opened = λ path id number opening. D.opened stores.old path id number opening stores.new; untouched = stores.new ≡ stores.old; held = D.Kept.state }) path.now (W.contents output.old.inner) (W.contents output.new.inner) result }
 {
     let settings = match settings_at(alloc, Some(path), files) {
         Ok(settings) => settings,
@@ -420,7 +420,7 @@ fn sync_by<F: SettingsFiles, D: Stores, N: Network>(
     stores: &mut D,
     network: &mut N,
 ) -> Result<(), ProgramFault>
-    ensures { SyncsBy (record { reads = λ path text. F.gave files.old path text files.new; opened = λ path id number opening. D.opened stores.old path id number opening stores.new; held = D.Kept.state }) (record { called = N.called; parted = N.parted; unread = N.Reader.remaining; written = N.Writer.contents }) path.now peer.now network.old network.new result }
+    ensures { SyncsBy (record { reads = λ path text. F.gave files.old path text files.new; unasked = files.new ≡ files.old; opened = λ path id number opening. D.opened stores.old path id number opening stores.new; untouched = stores.new ≡ stores.old; held = D.Kept.state }) (record { called = N.called; parted = N.parted; unread = N.Reader.remaining; written = N.Writer.contents }) path.now peer.now network.old network.new result }
 {
     let settings = match settings_at(alloc, Some(path), files) {
         Ok(settings) => settings,
@@ -449,7 +449,7 @@ fn do_line<F: SettingsFiles, D: Stores, N: Network, R: Read, W: Write, E: Write,
 ) -> Result<(), ProgramFault>
     ensures read { IsErrOf result (ProgramFault.Connection ServeFault.Read) → input.new.faults ≡ counted input.old.faults }
     ensures write { IsErrOf result (ProgramFault.Connection ServeFault.Write) → output.new.faults ≡ counted output.old.faults }
-    ensures does { DoesLine (record { reads = λ path text. F.gave files.old path text files.new; opened = λ path id number opening. D.opened stores.old path id number opening stores.new; held = D.Kept.state })
+    ensures does { DoesLine (record { reads = λ path text. F.gave files.old path text files.new; unasked = files.new ≡ files.old; opened = λ path id number opening. D.opened stores.old path id number opening stores.new; untouched = stores.new ≡ stores.old; held = D.Kept.state })
         (record { called = N.called; parted = N.parted; unread = N.Reader.remaining; written = N.Writer.contents })
         (record { accepted = N.Listener.accepted; closed = N.Listener.closed; gave = C.gave; unread = N.Listener.Reader.remaining; written = N.Listener.Writer.contents; held = D.Kept.state }) N.listened E.contents line.entry
         (record { unread = R.remaining input.old.inner; written = W.contents output.old.inner; network = network.old; clock = clock.old; errors = errors.old })
@@ -509,7 +509,7 @@ pub fn run<
     ensures read { IsErrOf result (ProgramFault.Connection ServeFault.Read) → input.new.faults ≡ counted input.old.faults }
     ensures write { IsErrOf result (ProgramFault.Connection ServeFault.Write) → output.new.faults ≡ counted output.old.faults }
     ensures runs { Runs (fault_kinds uahist (map S.text words.now)) (takes uahist (map S.text words.now)) (subcommand_of uahist (map S.text words.now))
-        (record { reads = λ path text. F.gave files.old path text files.new; opened = λ path id number opening. D.opened stores.old path id number opening stores.new; held = D.Kept.state })
+        (record { reads = λ path text. F.gave files.old path text files.new; unasked = files.new ≡ files.old; opened = λ path id number opening. D.opened stores.old path id number opening stores.new; untouched = stores.new ≡ stores.old; held = D.Kept.state })
         (record { called = N.called; parted = N.parted; unread = N.Reader.remaining; written = N.Writer.contents })
         (record { accepted = N.Listener.accepted; closed = N.Listener.closed; gave = C.gave; unread = N.Listener.Reader.remaining; written = N.Listener.Writer.contents; held = D.Kept.state }) N.listened E.contents
         (record { unread = R.remaining input.old.inner; written = W.contents output.old.inner; network = network.old; clock = clock.old; errors = errors.old })

@@ -2,12 +2,12 @@
 
 ghost use Rattle.std.specs.Prelude.{◌≡◌, ◌≤◌, ◌<◌, ◌⊎◌, List, [], None, IfOk, OnOk, OnErr, IsErrOf, length};
 ghost use Rattle.std.specs.Io.KnownBytes.{Appends};
-ghost use Rattle.ua_server.specs.Bytes.{behind, counted};
+ghost use Rattle.ua_server.specs.Bytes.{counted};
 ghost use Rattle.ua_server.specs.Client.{new_client};
 ghost use Rattle.ua_binary.specs.declared.codes.TheConstants.Status.{BAD_OUT_OF_MEMORY};
 ghost use Rattle.ua_server.specs.Given.{Outside};
 ghost use Rattle.ua_server.specs.Turns.{IsShort, IsSmall, IsOwn, IsOwnEnd, IsNoLess, Shortens, TurnedInto, Drained, SendsRefusal, ending_of};
-ghost use Rattle.ua_server.specs.Serving.{Serves};
+ghost use Rattle.ua_server.specs.Serving.{ServesBehind, Serves};
 
 use crate::clock::Clock;
 use crate::connection::Connection;
@@ -112,7 +112,7 @@ fn serve_on<R: Read, W: Write, C: Clock, A: Archive>(
     requires fresh { connection.old.client ≡ new_client }
     requires short { IsShort connection.old }
     ensures serves { (used : Outside) × C.gave clock.old used.readings clock.new
-        × Serves settings.now (A.state archive.old) (A.state archive.new) (behind connection.old.waiting (R.remaining reader.old.inner)) (R.remaining reader.new.inner) (W.contents writer.old.inner) (W.contents writer.new.inner) used result }
+        × ServesBehind settings.now (A.state archive.old) (A.state archive.new) connection.old.waiting (R.remaining reader.old.inner) (R.remaining reader.new.inner) (W.contents writer.old.inner) (W.contents writer.new.inner) used result }
     ensures read { IsErrOf result ServeFault.Read → reader.new.faults ≡ counted reader.old.faults }
     ensures write { IsErrOf result ServeFault.Write → writer.new.faults ≡ counted writer.old.faults }
     ensures read_kept { (IsErrOf result ServeFault.Read → ⊥) → reader.new.faults ≡ reader.old.faults }
@@ -188,7 +188,7 @@ pub(crate) fn serve_behind<R: Read, W: Write, C: Clock, A: Archive>(
     requires some { 0 < length first.now }
     requires few { length first.now < 8 }
     ensures serves { (used : Outside) × C.gave clock.old used.readings clock.new
-        × Serves settings.now (A.state archive.old) (A.state archive.new) (behind first.now (R.remaining reader.old.inner)) (R.remaining reader.new.inner) (W.contents writer.old.inner) (W.contents writer.new.inner) used result }
+        × ServesBehind settings.now (A.state archive.old) (A.state archive.new) first.now (R.remaining reader.old.inner) (R.remaining reader.new.inner) (W.contents writer.old.inner) (W.contents writer.new.inner) used result }
     ensures read { IsErrOf result ServeFault.Read → reader.new.faults ≡ counted reader.old.faults }
     ensures write { IsErrOf result ServeFault.Write → writer.new.faults ≡ counted writer.old.faults }
     ensures read_kept { (IsErrOf result ServeFault.Read → ⊥) → reader.new.faults ≡ reader.old.faults }

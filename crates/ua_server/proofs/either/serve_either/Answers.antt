@@ -2,7 +2,7 @@ use Rattle.std.proofs.Common.{◌≡◌, ◌∙◌, Err, take, sym, inl, inr}
 use Rattle.ua_server.specs.declared.outcome.ServeFault.TheVariants.{Read}
 use Rattle.ua_server.specs.Either.{Ends, is_peers}
 use Rattle.ua_server.proofs.Outsides.{nothing}
-use Rattle.ua_server.proofs.Firsts.{are-first-of, breaks-off, goes-as-peer, goes-as-client}
+use Rattle.ua_server.proofs.Firsts.{are-first, breaks-off, goes-as-peer, goes-as-client}
 use Rattle.ua_server.proofs.either.serve_either.Goals as goal
 
 pub returns-in-Err-clause-serves : goal.returns-in-Err-clause-serves
@@ -26,9 +26,10 @@ returns-then-is_peers-clause-serves g c =
       g.met.C.Clock.gave_none c.args.clock.now,
       inr (
         first,
-        are-first-of (left c.args.reader.now.inner) (left c.read_first.new.reader.inner) c.read_first.new.first c.in-Ok.n came.length came.within came.bytes came.end,
-        goes-as-peer c.args.settings.now (state c.args.replica.now.archive) (state c.meet_peer.new.replica.archive) (left c.args.reader.now.inner) (left c.read_first.new.reader.inner) (left c.meet_peer.new.reader.inner)
-            (contents c.args.writer.now.inner) (contents c.meet_peer.new.writer.inner) first (is_peers first) c.meet_peer.result (sym c.is_peers.ensures ∙ c.if-is_peers.true) came.bytes c.meet_peer.ensures.meets,
+        left c.read_first.new.reader.inner,
+        are-first (left c.args.reader.now.inner) (left c.read_first.new.reader.inner) c.read_first.new.first c.in-Ok.n came.length came.within came.bytes came.end,
+        goes-as-peer c.args.settings.now (state c.args.replica.now.archive) (state c.meet_peer.new.replica.archive) first (left c.read_first.new.reader.inner) (left c.meet_peer.new.reader.inner)
+            (contents c.args.writer.now.inner) (contents c.meet_peer.new.writer.inner) (is_peers first) c.meet_peer.result (sym c.is_peers.ensures ∙ c.if-is_peers.true) c.meet_peer.ensures.meets,
       ),
     )
 
@@ -44,8 +45,9 @@ returns-else-is_peers-clause-serves g c =
       served.1,
       inr (
         first,
-        are-first-of (left c.args.reader.now.inner) (left c.read_first.new.reader.inner) c.read_first.new.first c.in-Ok.n came.length came.within came.bytes came.end,
-        goes-as-client c.args.settings.now (state c.args.replica.now.archive) (state c.serve_client.new.archive) (left c.args.reader.now.inner) (left c.read_first.new.reader.inner) (left c.serve_client.new.reader.inner)
-            (contents c.args.writer.now.inner) (contents c.serve_client.new.writer.inner) first served.0 (is_peers first) c.serve_client.result (sym c.is_peers.ensures ∙ c.if-is_peers.false) came.bytes (served.2, served.3, served.4),
+        left c.read_first.new.reader.inner,
+        are-first (left c.args.reader.now.inner) (left c.read_first.new.reader.inner) c.read_first.new.first c.in-Ok.n came.length came.within came.bytes came.end,
+        goes-as-client c.args.settings.now (state c.args.replica.now.archive) (state c.serve_client.new.archive) first (left c.read_first.new.reader.inner) (left c.serve_client.new.reader.inner)
+            (contents c.args.writer.now.inner) (contents c.serve_client.new.writer.inner) served.0 (is_peers first) c.serve_client.result (sym c.is_peers.ensures ∙ c.if-is_peers.false) (served.2, served.3, served.4),
       ),
     )

@@ -1,8 +1,6 @@
-use Rattle.std.proofs.Common.{List, ℕ, subst}
-use Rattle.std.specs.Prelude.{Option}
+use Rattle.std.proofs.Common.{subst}
 use Rattle.exchange.specs.Dialogs.{Standing}
 use Rattle.ua_server.specs.Peers.{Meets}
-use Rattle.ua_server.proofs.Behind.{behind-none}
 use Rattle.ua_server.proofs.peers.serve_peer.Goals as goal
 
 pub returns-clause-meets : goal.returns-clause-meets
@@ -10,5 +8,4 @@ returns-clause-meets g c =
     let state = g.A.Archive.state in
     let left = g.R.Read.remaining in
     let contents = g.W.Write.contents in
-    subst (λ (s : Standing). Meets s (state c.args.replica.now.archive) (state c.talk.new.replica.archive) (left c.args.reader.now.inner) (left c.talk.new.reader.inner) (contents c.args.writer.now.inner) (contents c.talk.new.writer.inner) c.talk.result) c.responder-dialog.ensures
-    (subst (λ (u : Option (List ℕ)). Meets c.responder-dialog.result (state c.args.replica.now.archive) (state c.talk.new.replica.archive) u (left c.talk.new.reader.inner) (contents c.args.writer.now.inner) (contents c.talk.new.writer.inner) c.talk.result) (behind-none (left c.args.reader.now.inner)) c.talk.ensures.meets)
+    subst (λ (s : Standing). Meets s (state c.args.replica.now.archive) (state c.talk.new.replica.archive) (left c.args.reader.now.inner) (left c.talk.new.reader.inner) (contents c.args.writer.now.inner) (contents c.talk.new.writer.inner) c.talk.result) c.responder-dialog.ensures c.talk.ensures.meets

@@ -1,7 +1,6 @@
 use Rattle.std.proofs.Common.{◌∙◌, arith, take, refl, ap, length}
 use Rattle.std.proofs.lemmas.List.{length-append, length-take}
 use Rattle.exchange.specs.Frames.{Held}
-use Rattle.ua_server.specs.Bytes.{behind}
 use Rattle.ua_server.proofs.Talking.{starts-short, short-cut, meets-start, meets-unfed, meets-fed, meets-drained, meets-starved, meets-stop, meets-fault}
 use Rattle.ua_server.proofs.peers.talk.Goals as goal
 
@@ -27,7 +26,7 @@ returns-in-Err-feed-clause-meets g c =
     let state = g.A.Archive.state in
     let left = g.R.Read.remaining in
     let contents = g.W.Write.contents in
-    meets-starved c.args.dialog.now c.reads.dialog (state c.args.replica.now.archive) (state c.reads.replica.archive) (behind c.args.first.now (left c.args.reader.now.inner)) (left c.reads.reader.inner) (left c.read_piece.new.self.inner)
+    meets-starved c.args.dialog.now c.reads.dialog (state c.args.replica.now.archive) (state c.reads.replica.archive) c.args.first.now (left c.args.reader.now.inner) (left c.reads.reader.inner) (left c.read_piece.new.self.inner)
     (contents c.args.writer.now.inner) (contents c.reads.writer.inner) (contents c.send_starved-in-Err-feed.new.writer.inner) c.reads.frames.waiting (take c.in_ok-n.n c.read_piece.new.piece) c.send_starved-in-Err-feed.result
     c.reads.invariant.so_far c.in_ok-n.ensures.bytes c.send_starved-in-Err-feed.ensures.tells
 
@@ -36,11 +35,11 @@ returns-in-Ok-Some-clause-meets g c =
     let state = g.A.Archive.state in
     let left = g.R.Read.remaining in
     let contents = g.W.Write.contents in
-    let fed = meets-fed c.args.dialog.now c.reads.dialog (state c.args.replica.now.archive) (state c.reads.replica.archive) (behind c.args.first.now (left c.args.reader.now.inner)) (left c.reads.reader.inner) (left c.read_piece.new.self.inner)
+    let fed = meets-fed c.args.dialog.now c.reads.dialog (state c.args.replica.now.archive) (state c.reads.replica.archive) c.args.first.now (left c.args.reader.now.inner) (left c.reads.reader.inner) (left c.read_piece.new.self.inner)
     (contents c.args.writer.now.inner) (contents c.reads.writer.inner) c.reads.frames c.feed-in-reads.new.self (take c.in_ok-n.n c.read_piece.new.piece) c.reads.invariant.so_far c.in_ok-n.ensures.bytes c.in-Ok-feed.ensures.ok in
     let drained = rw c.in-Ok-Some.field-0-is at c.in-Ok-Some.ensures.drained in
     let leaves = rw c.in-Ok-Some.field-0-is at c.in-Ok-Some.ensures.leaves in
-    meets-stop c.args.dialog.now c.reads.dialog c.take_waiting.new.dialog (state c.args.replica.now.archive) (state c.reads.replica.archive) (state c.take_waiting.new.replica.archive) (behind c.args.first.now (left c.args.reader.now.inner)) (left c.read_piece.new.self.inner)
+    meets-stop c.args.dialog.now c.reads.dialog c.take_waiting.new.dialog (state c.args.replica.now.archive) (state c.reads.replica.archive) (state c.take_waiting.new.replica.archive) c.args.first.now (left c.args.reader.now.inner) (left c.read_piece.new.self.inner)
     (contents c.args.writer.now.inner) (contents c.reads.writer.inner) (contents c.take_waiting.new.writer.inner) c.feed-in-reads.new.self c.take_waiting.new.frames c.in-Ok-Some.parted fed drained leaves
 
 pub returns-in-Err-take_waiting-clause-meets : goal.returns-in-Err-take_waiting-clause-meets
@@ -48,9 +47,9 @@ returns-in-Err-take_waiting-clause-meets g c =
     let state = g.A.Archive.state in
     let left = g.R.Read.remaining in
     let contents = g.W.Write.contents in
-    let fed = meets-fed c.args.dialog.now c.reads.dialog (state c.args.replica.now.archive) (state c.reads.replica.archive) (behind c.args.first.now (left c.args.reader.now.inner)) (left c.reads.reader.inner) (left c.read_piece.new.self.inner)
+    let fed = meets-fed c.args.dialog.now c.reads.dialog (state c.args.replica.now.archive) (state c.reads.replica.archive) c.args.first.now (left c.args.reader.now.inner) (left c.reads.reader.inner) (left c.read_piece.new.self.inner)
     (contents c.args.writer.now.inner) (contents c.reads.writer.inner) c.reads.frames c.feed-in-reads.new.self (take c.in_ok-n.n c.read_piece.new.piece) c.reads.invariant.so_far c.in_ok-n.ensures.bytes c.in-Ok-feed.ensures.ok in
-    meets-fault c.args.dialog.now c.reads.dialog c.take_waiting.new.dialog (state c.args.replica.now.archive) (state c.reads.replica.archive) (state c.take_waiting.new.replica.archive) (behind c.args.first.now (left c.args.reader.now.inner)) (left c.read_piece.new.self.inner)
+    meets-fault c.args.dialog.now c.reads.dialog c.take_waiting.new.dialog (state c.args.replica.now.archive) (state c.reads.replica.archive) (state c.take_waiting.new.replica.archive) c.args.first.now (left c.args.reader.now.inner) (left c.read_piece.new.self.inner)
     (contents c.args.writer.now.inner) (contents c.reads.writer.inner) (contents c.take_waiting.new.writer.inner) c.feed-in-reads.new.self c.take_waiting.new.frames c.in-Err-take_waiting.fault fed c.in-Err-take_waiting.ensures.drained c.in-Err-take_waiting.ensures.leaves
 
 pub reads-smaller : goal.reads-smaller
@@ -68,7 +67,7 @@ reads-preserved g c =
     let state = g.A.Archive.state in
     let left = g.R.Read.remaining in
     let contents = g.W.Write.contents in
-    let fed = meets-fed c.args.dialog.now c.reads.dialog (state c.args.replica.now.archive) (state c.reads.replica.archive) (behind c.args.first.now (left c.args.reader.now.inner)) (left c.reads.reader.inner) (left c.read_piece.new.self.inner)
+    let fed = meets-fed c.args.dialog.now c.reads.dialog (state c.args.replica.now.archive) (state c.reads.replica.archive) c.args.first.now (left c.args.reader.now.inner) (left c.reads.reader.inner) (left c.read_piece.new.self.inner)
     (contents c.args.writer.now.inner) (contents c.reads.writer.inner) c.reads.frames c.feed-in-reads.new.self (take c.in_ok-n.n c.read_piece.new.piece) c.reads.invariant.so_far c.in_ok-n.ensures.bytes c.in-Ok-feed.ensures.ok in
     let drained = rw c.in-Ok-None.field-0-is at c.in-Ok-None.ensures.drained in
     let leaves = rw c.in-Ok-None.field-0-is at c.in-Ok-None.ensures.leaves in
@@ -78,6 +77,6 @@ reads-preserved g c =
       short = leaves.short;
       read_faults = c.in_ok-n.ensures.faults ∙ c.reads.invariant.read_faults;
       write_faults = (rw c.in-Ok-None.field-0-is at c.in-Ok-None.ensures.kept) (λ e. cc) ∙ c.reads.invariant.write_faults;
-      so_far = meets-drained c.args.dialog.now c.reads.dialog c.take_waiting.new.dialog (state c.args.replica.now.archive) (state c.reads.replica.archive) (state c.take_waiting.new.replica.archive) (behind c.args.first.now (left c.args.reader.now.inner)) (left c.read_piece.new.self.inner)
+      so_far = meets-drained c.args.dialog.now c.reads.dialog c.take_waiting.new.dialog (state c.args.replica.now.archive) (state c.reads.replica.archive) (state c.take_waiting.new.replica.archive) c.args.first.now (left c.args.reader.now.inner) (left c.read_piece.new.self.inner)
           (contents c.args.writer.now.inner) (contents c.reads.writer.inner) (contents c.take_waiting.new.writer.inner) c.feed-in-reads.new.self.waiting c.take_waiting.new.frames.waiting fed drained;
     }

@@ -1,6 +1,5 @@
 use Rattle.std.proofs.Common.{◌≡◌, false, length, ◌-◌, ◌*◌, ◌+◌, Ok, None}
 use Rattle.exchange.specs.Frames.{cut}
-use Rattle.ua_server.specs.Bytes.{behind}
 use Rattle.ua_server.specs.Talking.{IsReady, MeetsSoFar}
 use Rattle.ua_server.proofs.peers.talk.Given as goal
 
@@ -11,7 +10,7 @@ invariant-reads g l = record {
   short : cut l.frames.waiting ≡ Ok None;
   read_faults : l.reader.faults ≡ l.initial.reader.faults;
   write_faults : l.writer.faults ≡ l.initial.writer.faults;
-  so_far : MeetsSoFar l.initial.dialog (g.A.Archive.state l.initial.replica.archive) (g.A.Archive.state l.replica.archive) (behind l.first (g.R.Read.remaining l.initial.reader.inner)) (g.R.Read.remaining l.reader.inner)
+  so_far : MeetsSoFar l.initial.dialog (g.A.Archive.state l.initial.replica.archive) (g.A.Archive.state l.replica.archive) l.first (g.R.Read.remaining l.initial.reader.inner) (g.R.Read.remaining l.reader.inner)
       (g.W.Write.contents l.initial.writer.inner) (g.W.Write.contents l.writer.inner) l.frames.waiting l.dialog;
 }
 

@@ -15,7 +15,7 @@ use Rattle.ua_server.proofs.Opened.{over-none, over-opened, over-refused}
 use Rattle.ua_server.proofs.program.answer_by.Goals as goal
 
 pub returns-in-Err-clause-does : goal.returns-in-Err-clause-does
-returns-in-Err-clause-does g c = (nothing, g.met.C.Clock.gave_none c.args.clock.now, (Err c.in-Err.fault, c.in-Err.ensures, (refl, refl, refl)))
+returns-in-Err-clause-does g c = (nothing, g.met.C.Clock.gave_none c.args.clock.now, (Err c.in-Err.fault, c.in-Err.ensures, (refl, (refl, refl, refl))))
 
 pub returns-in-None-clause-does : goal.returns-in-None-clause-does
 returns-in-None-clause-does g c =
@@ -30,10 +30,10 @@ returns-in-None-clause-does g c =
       (
         Ok settings,
         c.in-Ok.ensures,
-        over-none g.D.Kept.Archive.state (λ path opening. g.D.Stores.opened c.args.stores.now path settings.archive settings.replica opening c.args.stores.now) settings
+        over-none g.D.Kept.Archive.state (λ path opening. g.D.Stores.opened c.args.stores.now path settings.archive settings.replica opening c.args.stores.now) (c.args.stores.now ≡ c.args.stores.now) settings
             (λ T held first. (last : T) × (answered : Result (Unit {0}) HexFault) × AnswersAt settings (held first) (held last) c.args.hex c.args.now input left old written done.0 answered × (c.answer_over.result ≡ program_result answered))
             (λ fault. (c.answer_over.result ≡ Err (program.Store fault)) × (left ≡ input) × (written ≡ old))
-            c.archive_of.result (sym c.store.ensures ∙ ap option_copied c.in-None.is) c.archive_of.ensures (c.answer_over.new.archive, done.2, done.3, done.4),
+            c.archive_of.result (sym c.store.ensures ∙ ap option_copied c.in-None.is) refl c.archive_of.ensures (c.answer_over.new.archive, done.2, done.3, done.4),
       ),
     )
 
@@ -51,7 +51,7 @@ returns-in-Ok-open_store-clause-does g c =
       (
         Ok settings,
         c.in-Ok.ensures,
-        over-opened g.D.Kept.Archive.state (λ path opening. g.D.Stores.opened c.args.stores.now path settings.archive settings.replica opening c.open_store.new.stores) settings
+        over-opened g.D.Kept.Archive.state (λ path opening. g.D.Stores.opened c.args.stores.now path settings.archive settings.replica opening c.open_store.new.stores) (c.open_store.new.stores ≡ c.args.stores.now) settings
             (λ T held first. (last : T) × (answered : Result (Unit {0}) HexFault) × AnswersAt settings (held first) (held last) c.args.hex c.args.now input left old written done.0 answered × (c.answer_over-in-Ok-open_store.result ≡ program_result answered))
             (λ fault. (c.answer_over-in-Ok-open_store.result ≡ Err (program.Store fault)) × (left ≡ input) × (written ≡ old))
             c.in-Some.path.now opening.0 c.in-Ok-open_store.archive (sym c.store.ensures ∙ ap option_copied c.in-Some.is) opening.1 opening.2 (c.answer_over-in-Ok-open_store.new.archive, done.2, done.3, done.4),
@@ -70,7 +70,7 @@ returns-clause-does g c =
       (
         Ok settings,
         c.in-Ok.ensures,
-        over-refused g.D.Kept.Archive.state (λ path opening. g.D.Stores.opened c.args.stores.now path settings.archive settings.replica opening c.open_store.new.stores) settings
+        over-refused g.D.Kept.Archive.state (λ path opening. g.D.Stores.opened c.args.stores.now path settings.archive settings.replica opening c.open_store.new.stores) (c.open_store.new.stores ≡ c.args.stores.now) settings
             (λ T held first. (last : T) × (answered : Result (Unit {0}) HexFault) × AnswersAt settings (held first) (held last) c.args.hex c.args.now input input old old nothing answered × (result ≡ program_result answered))
             (λ fault. (result ≡ Err fault) × (input ≡ input) × (old ≡ old))
             c.in-Some.path.now opening.0 c.in-Err-open_store.fault (sym c.store.ensures ∙ ap option_copied c.in-Some.is) opening.1 opening.2 (refl, refl, refl),

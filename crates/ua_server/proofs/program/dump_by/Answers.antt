@@ -23,7 +23,7 @@ returns-in-Ok-open_store-clause-dumps g c =
     let written = g.W.Write.contents c.dump_over-in-Ok-open_store.new.output.inner in (
       Ok settings,
       c.in-Ok.ensures,
-      over-opened g.D.Kept.Archive.state (λ path opening. g.D.Stores.opened c.args.stores.now path settings.archive settings.replica opening c.open_store.new.stores) settings
+      over-opened g.D.Kept.Archive.state (λ path opening. g.D.Stores.opened c.args.stores.now path settings.archive settings.replica opening c.open_store.new.stores) (c.open_store.new.stores ≡ c.args.stores.now) settings
           (λ T held first. (last : T) × (dumped : Result (Unit {0}) DumpFault) × Dumps (held first) (held last) old written dumped × (c.dump_over-in-Ok-open_store.result ≡ dump_result dumped))
           (λ fault. (c.dump_over-in-Ok-open_store.result ≡ Err (program.Store fault)) × (written ≡ old))
           c.in-Some.path.now opening.0 c.in-Ok-open_store.archive (sym c.store.ensures ∙ ap option_copied c.in-Some.is) opening.1 opening.2 (c.dump_over-in-Ok-open_store.new.archive, done.0, done.1, done.2),

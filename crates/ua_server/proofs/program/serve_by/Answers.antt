@@ -19,11 +19,11 @@ returns-in-None-clause-serves g c =
     let settings = c.in-Ok.settings in (
       Ok settings,
       c.in-Ok.ensures,
-      over-none g.D.Kept.Archive.state (λ path opening. g.D.Stores.opened c.args.stores.now path settings.archive settings.replica opening c.args.stores.now) settings
+      over-none g.D.Kept.Archive.state (λ path opening. g.D.Stores.opened c.args.stores.now path settings.archive settings.replica opening c.args.stores.now) (c.args.stores.now ≡ c.args.stores.now) settings
           (λ T held first. (last : T) × Listens (record { accepted = g.N.Listener.Listener.accepted; closed = g.N.Listener.Listener.closed; gave = g.C.Clock.gave; unread = g.N.Listener.Reader.Read.remaining; written = g.N.Listener.Writer.Write.contents; held = held }) g.N.Network.listened g.E.Write.contents settings c.args.connections (record { source = c.args.network.now; archive = first; clock = c.args.clock.now }) c.args.errors.now
           (record { source = c.serve_at.new.network; archive = last; clock = c.serve_at.new.clock }) c.serve_at.new.errors c.serve_at.result)
           (λ fault. (c.serve_at.result ≡ Err (program.Store fault)) × (c.serve_at.new.network ≡ c.args.network.now) × (c.serve_at.new.clock ≡ c.args.clock.now) × (c.serve_at.new.errors ≡ c.args.errors.now))
-          c.archive_of.result (sym c.store.ensures ∙ ap option_copied c.in-None.is) c.archive_of.ensures (c.serve_at.new.replica.archive, c.serve_at.ensures.listens),
+          c.archive_of.result (sym c.store.ensures ∙ ap option_copied c.in-None.is) refl c.archive_of.ensures (c.serve_at.new.replica.archive, c.serve_at.ensures.listens),
     )
 
 pub returns-in-Ok-open_store-clause-serves : goal.returns-in-Ok-open_store-clause-serves
@@ -32,7 +32,7 @@ returns-in-Ok-open_store-clause-serves g c =
     let opening = c.in-Ok-open_store.ensures in (
       Ok settings,
       c.in-Ok.ensures,
-      over-opened g.D.Kept.Archive.state (λ path opening. g.D.Stores.opened c.args.stores.now path settings.archive settings.replica opening c.open_store.new.stores) settings
+      over-opened g.D.Kept.Archive.state (λ path opening. g.D.Stores.opened c.args.stores.now path settings.archive settings.replica opening c.open_store.new.stores) (c.open_store.new.stores ≡ c.args.stores.now) settings
           (λ T held first. (last : T) × Listens (record { accepted = g.N.Listener.Listener.accepted; closed = g.N.Listener.Listener.closed; gave = g.C.Clock.gave; unread = g.N.Listener.Reader.Read.remaining; written = g.N.Listener.Writer.Write.contents; held = held }) g.N.Network.listened g.E.Write.contents settings c.args.connections (record { source = c.args.network.now; archive = first; clock = c.args.clock.now }) c.args.errors.now
           (record { source = c.serve_at-in-Ok-open_store.new.network; archive = last; clock = c.serve_at-in-Ok-open_store.new.clock }) c.serve_at-in-Ok-open_store.new.errors c.serve_at-in-Ok-open_store.result)
           (λ fault. (c.serve_at-in-Ok-open_store.result ≡ Err (program.Store fault)) × (c.serve_at-in-Ok-open_store.new.network ≡ c.args.network.now) × (c.serve_at-in-Ok-open_store.new.clock ≡ c.args.clock.now) × (c.serve_at-in-Ok-open_store.new.errors ≡ c.args.errors.now))

@@ -10,7 +10,7 @@ returns-in-Ok-open_store g c =
     let opening = c.in-Ok-open_store.ensures in (
       Ok settings,
       c.in-Ok.ensures,
-      over-opened g.D.Kept.Archive.state (λ path opening. g.D.Stores.opened c.args.stores.now path settings.archive settings.replica opening c.open_store.new.stores) settings
+      over-opened g.D.Kept.Archive.state (λ path opening. g.D.Stores.opened c.args.stores.now path settings.archive settings.replica opening c.open_store.new.stores) (c.open_store.new.stores ≡ c.args.stores.now) settings
           (λ T held first. (last : T) × CallsPeer (record { called = g.N.Network.called; parted = g.N.Network.parted; unread = g.N.Reader.Read.remaining; written = g.N.Writer.Write.contents }) held c.args.peer.now first last c.args.network.now c.sync_over-in-Ok-open_store.new.network c.sync_over-in-Ok-open_store.result)
           (λ fault. (c.sync_over-in-Ok-open_store.result ≡ Err (program.Store fault)) × (c.sync_over-in-Ok-open_store.new.network ≡ c.args.network.now))
           c.in-Some.path.now opening.0 c.in-Ok-open_store.archive (sym c.store.ensures ∙ ap option_copied c.in-Some.is) opening.1 opening.2 c.sync_over-in-Ok-open_store.ensures,

@@ -1,9 +1,6 @@
-use Rattle.std.proofs.Common.{◌≡◌, ◌∙◌, List, ℕ, ap, subst}
-use Rattle.std.specs.Prelude.{Option}
-use Rattle.ua_server.specs.Bytes.{behind}
+use Rattle.std.proofs.Common.{subst}
 use Rattle.ua_server.specs.Turns.{Link}
-use Rattle.ua_server.specs.Serving.{Serves}
-use Rattle.ua_server.proofs.Behind.{behind-none}
+use Rattle.ua_server.specs.Serving.{ServesBehind}
 use Rattle.ua_server.proofs.Flow.{starts-short}
 use Rattle.ua_server.proofs.serving.serve.Goals as goal
 
@@ -12,8 +9,7 @@ returns-clause-serves g c =
     let s = c.serve_on.ensures.serves in
     let state = g.A.Archive.state in
     let unread = g.R.Read.remaining c.args.reader.now.inner in
-    let same : behind c.new-connection.result.waiting unread ≡ unread = ap (λ (l : Link). behind l.waiting unread) c.new-connection.ensures ∙ behind-none unread in
-    (s.0, s.1, subst (λ (u : Option (List ℕ)). Serves c.args.settings.now (state c.args.archive.now) (state c.serve_on.new.archive) u (g.R.Read.remaining c.serve_on.new.reader.inner) (g.W.Write.contents c.args.writer.now.inner) (g.W.Write.contents c.serve_on.new.writer.inner) s.0 c.serve_on.result) same s.2)
+    (s.0, s.1, subst (λ (l : Link). ServesBehind c.args.settings.now (state c.args.archive.now) (state c.serve_on.new.archive) l.waiting unread (g.R.Read.remaining c.serve_on.new.reader.inner) (g.W.Write.contents c.args.writer.now.inner) (g.W.Write.contents c.serve_on.new.writer.inner) s.0 c.serve_on.result) c.new-connection.ensures s.2)
 
 pub serve_on-requires-clause-short : goal.serve_on-requires-clause-short
 serve_on-requires-clause-short g c = starts-short c.new-connection.result c.new-connection.ensures

@@ -2,7 +2,6 @@ use Rattle.std.proofs.Common.{◌≡◌, ◌<◌, ◌++◌, List, ℤ, Err, ◌�
 use Rattle.std.proofs.lemmas.Result.{err_from_is_err_and}
 use Rattle.std.proofs.lemmas.List.{length-append, length-take, append-nil}
 use Rattle.ua_server.specs.declared.outcome.ServeFault.TheVariants.{Read}
-use Rattle.ua_server.specs.Bytes.{behind}
 use Rattle.ua_server.specs.Given.{before}
 use Rattle.ua_server.specs.Turns.{Link, IsShort, IsNoLess}
 use Rattle.ua_server.proofs.Outsides.{nothing}
@@ -28,7 +27,7 @@ returns-in_err-n-clause-serves g c =
     let state = g.A.Archive.state in
     let left = g.R.Read.remaining in
     let contents = g.W.Write.contents in
-    let end = serves-read c.args.settings.now (state c.args.archive.now) (state c.reads.archive) (behind c.args.connection.now.waiting (left c.args.reader.now.inner)) (left c.reads.reader.inner) (left c.read_piece.new.self.inner) (contents c.args.writer.now.inner) (contents c.reads.writer.inner) so.0
+    let end = serves-read c.args.settings.now (state c.args.archive.now) (state c.reads.archive) c.args.connection.now.waiting (left c.args.reader.now.inner) (left c.reads.reader.inner) (left c.read_piece.new.self.inner) (contents c.args.writer.now.inner) (contents c.reads.writer.inner) so.0
     c.reads.connection so.2 c.in_err-n.ensures.kept c.reads.invariant.short in
     let P : List ℤ → Type 0 = λ r. g.C.Clock.gave c.args.clock.now r c.reads.clock in
     (before so.0 end.0, subst P (sym (append-nil so.0.readings) ∙ ap (λ (r : List ℤ). so.0.readings ++ r) (sym end.1)) so.1, rw is end.2)
@@ -41,7 +40,7 @@ returns-then-n-eq0-clause-serves g c =
     let state = g.A.Archive.state in
     let left = g.R.Read.remaining in
     let contents = g.W.Write.contents in
-    let end = serves-end c.args.settings.now (state c.args.archive.now) (state c.reads.archive) (behind c.args.connection.now.waiting (left c.args.reader.now.inner)) (left c.reads.reader.inner) (left c.read_piece.new.self.inner) (contents c.args.writer.now.inner) (contents c.reads.writer.inner) so.0 c.reads.connection
+    let end = serves-end c.args.settings.now (state c.args.archive.now) (state c.reads.archive) c.args.connection.now.waiting (left c.args.reader.now.inner) (left c.reads.reader.inner) (left c.read_piece.new.self.inner) (contents c.args.writer.now.inner) (contents c.reads.writer.inner) so.0 c.reads.connection
     (take n c.read_piece.new.piece) so.2 c.in_ok-n.ensures.bytes (ap (λ k. take k c.read_piece.new.piece) none) (c.in_ok-n.ensures.end none) c.reads.invariant.short in
     let P : List ℤ → Type 0 = λ r. g.C.Clock.gave c.args.clock.now r c.reads.clock in
     (before so.0 end.0, subst P (sym (append-nil so.0.readings) ∙ ap (λ (r : List ℤ). so.0.readings ++ r) (sym end.1)) so.1, end.2)
@@ -54,7 +53,7 @@ returns-in-Err-clause-serves g c =
     let state = g.A.Archive.state in
     let left = g.R.Read.remaining in
     let contents = g.W.Write.contents in
-    let end = serves-starved c.args.settings.now (state c.args.archive.now) (state c.reads.archive) (behind c.args.connection.now.waiting (left c.args.reader.now.inner)) (left c.reads.reader.inner) (left c.read_piece.new.self.inner) (contents c.args.writer.now.inner) (contents c.reads.writer.inner) (contents c.send_starved.new.writer.inner) so.0
+    let end = serves-starved c.args.settings.now (state c.args.archive.now) (state c.reads.archive) c.args.connection.now.waiting (left c.args.reader.now.inner) (left c.reads.reader.inner) (left c.read_piece.new.self.inner) (contents c.args.writer.now.inner) (contents c.reads.writer.inner) (contents c.send_starved.new.writer.inner) so.0
     c.reads.connection (take n c.read_piece.new.piece) c.send_starved.result so.2 c.in_ok-n.ensures.bytes (omega (arith, length-take n c.read_piece.new.piece)) c.send_starved.ensures.sends in
     let P : List ℤ → Type 0 = λ r. g.C.Clock.gave c.args.clock.now r c.reads.clock in
     (before so.0 end.0, subst P (sym (append-nil so.0.readings) ∙ ap (λ (r : List ℤ). so.0.readings ++ r) (sym end.1)) so.1, end.2)
@@ -65,13 +64,13 @@ returns-in-Ok-Some-clause-serves g c =
     let state = g.A.Archive.state in
     let left = g.R.Read.remaining in
     let contents = g.W.Write.contents in
-    let fed = serves-fed c.args.settings.now (state c.args.archive.now) (state c.reads.archive) (behind c.args.connection.now.waiting (left c.args.reader.now.inner)) (left c.reads.reader.inner) (left c.read_piece.new.self.inner) (contents c.args.writer.now.inner) (contents c.reads.writer.inner) so.0
+    let fed = serves-fed c.args.settings.now (state c.args.archive.now) (state c.reads.archive) c.args.connection.now.waiting (left c.args.reader.now.inner) (left c.reads.reader.inner) (left c.read_piece.new.self.inner) (contents c.args.writer.now.inner) (contents c.reads.writer.inner) so.0
     c.reads.connection c.feed.new.self (take c.in_ok-n.n c.read_piece.new.piece) so.2 c.in_ok-n.ensures.bytes c.in-Ok.ensures.ok in
     let drained = rw c.in-Ok-Some.field-0-is at c.in-Ok-Some.ensures.drained in
     let own = rw c.in-Ok-Some.field-0-is at c.in-Ok-Some.ensures.own in (
       before so.0 drained.0,
       g.met.C.Clock.gave_more _ _ _ _ _ so.1 drained.1,
-      serves-ended c.args.settings.now (state c.args.archive.now) (state c.reads.archive) (state c.answer_waiting.new.archive) (behind c.args.connection.now.waiting (left c.args.reader.now.inner)) (left c.read_piece.new.self.inner) (contents c.args.writer.now.inner) (contents c.reads.writer.inner) (contents c.answer_waiting.new.writer.inner)
+      serves-ended c.args.settings.now (state c.args.archive.now) (state c.reads.archive) (state c.answer_waiting.new.archive) c.args.connection.now.waiting (left c.args.reader.now.inner) (left c.read_piece.new.self.inner) (contents c.args.writer.now.inner) (contents c.reads.writer.inner) (contents c.answer_waiting.new.writer.inner)
           so.0 drained.0 c.feed.new.self c.answer_waiting.new.connection (IsShort c.answer_waiting.new.connection × IsNoLess c.feed.new.self c.answer_waiting.new.connection) c.in-Ok-Some.served fed drained.2 own,
     )
 
@@ -81,12 +80,12 @@ returns-in-Err-answer_waiting-clause-serves g c =
     let state = g.A.Archive.state in
     let left = g.R.Read.remaining in
     let contents = g.W.Write.contents in
-    let fed = serves-fed c.args.settings.now (state c.args.archive.now) (state c.reads.archive) (behind c.args.connection.now.waiting (left c.args.reader.now.inner)) (left c.reads.reader.inner) (left c.read_piece.new.self.inner) (contents c.args.writer.now.inner) (contents c.reads.writer.inner) so.0
+    let fed = serves-fed c.args.settings.now (state c.args.archive.now) (state c.reads.archive) c.args.connection.now.waiting (left c.args.reader.now.inner) (left c.reads.reader.inner) (left c.read_piece.new.self.inner) (contents c.args.writer.now.inner) (contents c.reads.writer.inner) so.0
     c.reads.connection c.feed.new.self (take c.in_ok-n.n c.read_piece.new.piece) so.2 c.in_ok-n.ensures.bytes c.in-Ok.ensures.ok in
     let drained = c.in-Err-answer_waiting.ensures.drained in (
       before so.0 drained.0,
       g.met.C.Clock.gave_more _ _ _ _ _ so.1 drained.1,
-      serves-failed c.args.settings.now (state c.args.archive.now) (state c.reads.archive) (state c.answer_waiting.new.archive) (behind c.args.connection.now.waiting (left c.args.reader.now.inner)) (left c.read_piece.new.self.inner) (contents c.args.writer.now.inner) (contents c.reads.writer.inner) (contents c.answer_waiting.new.writer.inner)
+      serves-failed c.args.settings.now (state c.args.archive.now) (state c.reads.archive) (state c.answer_waiting.new.archive) c.args.connection.now.waiting (left c.args.reader.now.inner) (left c.read_piece.new.self.inner) (contents c.args.writer.now.inner) (contents c.reads.writer.inner) (contents c.answer_waiting.new.writer.inner)
           so.0 drained.0 c.feed.new.self c.answer_waiting.new.connection (IsShort c.answer_waiting.new.connection × IsNoLess c.feed.new.self c.answer_waiting.new.connection) c.in-Err-answer_waiting.fault fed drained.2 c.in-Err-answer_waiting.ensures.own,
     )
 
@@ -108,7 +107,7 @@ reads-preserved g c =
     let state = g.A.Archive.state in
     let left = g.R.Read.remaining in
     let contents = g.W.Write.contents in
-    let fed = serves-fed c.args.settings.now (state c.args.archive.now) (state c.reads.archive) (behind c.args.connection.now.waiting (left c.args.reader.now.inner)) (left c.reads.reader.inner) (left c.read_piece.new.self.inner) (contents c.args.writer.now.inner) (contents c.reads.writer.inner) so.0
+    let fed = serves-fed c.args.settings.now (state c.args.archive.now) (state c.reads.archive) c.args.connection.now.waiting (left c.args.reader.now.inner) (left c.reads.reader.inner) (left c.read_piece.new.self.inner) (contents c.args.writer.now.inner) (contents c.reads.writer.inner) so.0
     c.reads.connection c.feed.new.self (take c.in_ok-n.n c.read_piece.new.piece) so.2 c.in_ok-n.ensures.bytes c.in-Ok.ensures.ok in
     let drained = rw c.in-Ok-None.field-0-is at c.in-Ok-None.ensures.drained in
     let own = rw c.in-Ok-None.field-0-is at c.in-Ok-None.ensures.own in
@@ -120,7 +119,7 @@ reads-preserved g c =
       so_far = (
         before so.0 drained.0,
         g.met.C.Clock.gave_more _ _ _ _ _ so.1 drained.1,
-        serves-drained c.args.settings.now (state c.args.archive.now) (state c.reads.archive) (state c.answer_waiting.new.archive) (behind c.args.connection.now.waiting (left c.args.reader.now.inner)) (left c.read_piece.new.self.inner) (contents c.args.writer.now.inner) (contents c.reads.writer.inner) (contents c.answer_waiting.new.writer.inner)
+        serves-drained c.args.settings.now (state c.args.archive.now) (state c.reads.archive) (state c.answer_waiting.new.archive) c.args.connection.now.waiting (left c.args.reader.now.inner) (left c.read_piece.new.self.inner) (contents c.args.writer.now.inner) (contents c.reads.writer.inner) (contents c.answer_waiting.new.writer.inner)
             so.0 drained.0 c.feed.new.self c.answer_waiting.new.connection fed drained.2,
       );
     }

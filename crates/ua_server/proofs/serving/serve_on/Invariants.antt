@@ -1,5 +1,4 @@
 use Rattle.std.proofs.Common.{◌≡◌, ◌-◌, ◌*◌, ◌+◌, length}
-use Rattle.ua_server.specs.Bytes.{behind}
 use Rattle.ua_server.specs.Given.{Outside}
 use Rattle.ua_server.specs.Turns.{IsShort, IsSmall, ServesSoFar}
 use Rattle.ua_server.proofs.serving.serve_on.Given as goal
@@ -11,7 +10,7 @@ invariant-reads g l = record {
   read_faults : l.reader.faults ≡ l.initial.reader.faults;
   write_faults : l.writer.faults ≡ l.initial.writer.faults;
   so_far : (used : Outside) × g.C.Clock.gave l.initial.clock used.readings l.clock
-      × ServesSoFar l.settings (g.A.Archive.state l.initial.archive) (g.A.Archive.state l.archive) (behind l.initial.connection.waiting (g.R.Read.remaining l.initial.reader.inner)) (g.R.Read.remaining l.reader.inner)
+      × ServesSoFar l.settings (g.A.Archive.state l.initial.archive) (g.A.Archive.state l.archive) l.initial.connection.waiting (g.R.Read.remaining l.initial.reader.inner) (g.R.Read.remaining l.reader.inner)
       (g.W.Write.contents l.initial.writer.inner) (g.W.Write.contents l.writer.inner) used l.connection;
 }
 
