@@ -17,7 +17,7 @@ STATED = [
     (2, r"bad hex\n"),
     (1, r"address refused\n"),
     (1, r"exchange ended \([1-8]\)\n"),
-    (1, r"exchange ended by the peer( \([0-9]+\))?\n"),
+    (1, r"exchange ended by the peer\n"),
     (1, r"connection ended \([1-4]\)\n"),
 ]
 

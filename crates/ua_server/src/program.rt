@@ -48,7 +48,7 @@ pub enum ProgramFault {
     Store(StoreFault),
     /// The input isn't hex.
     BadHex,
-    /// The settings' address is none, or can't be listened at.
+    /// The settings' address, or the peer's, is none, or can't be listened at or called.
     Address,
     /// A connection met a fault.
     Connection(ServeFault),
@@ -482,9 +482,11 @@ fn do_line<F: SettingsFiles, D: Stores, N: Network, R: Read, W: Write, E: Write,
 /// `errors` when it ends.
 ///
 /// Errors: `Line` where the words are no command, `File` and `Settings` where the settings file can't be read or is refused,
-/// `Store` where the settings' store can't be opened, or can't be read for a dump, `Address` where the settings' address is
-/// none or can't be listened at, `BadHex` where the input is to be hex and isn't, `Connection` where the connection of
-/// standard input met a fault, or a dump's writer did; what went out before it stands.
+/// `Store` where the settings' store can't be opened, or can't be read for a dump, `Address` where the settings' address, or
+/// that of the peer to be called, is none, or can't be listened at or called, `BadHex` where the input is to be hex and
+/// isn't, `Connection` where the connection of standard input met a fault, or a dump's writer did, and of a call of a peer
+/// `Call` where its connection met a fault, `Exchange` where the exchange met one here, and `Peer` where the peer ended it
+/// by a number; what went out before it stands, and what was learned.
 #[tactic(auto, using(crate::proofs::Printing::lines))]
 pub fn run<
     S: AsStr,
