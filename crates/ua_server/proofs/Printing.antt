@@ -183,17 +183,17 @@ pub line-done : {K N L R W C E P Q : Type 0} (faults : List ErrorKind) (taken : 
     → faults ≡ [] → IsLine matches line → DoesLine machine calls means listened told line old new result → Runs faults taken matches machine calls means listened told old new result
 line-done faults taken matches machine calls means listened told line old new (Ok done) free is so = (free, (line, is, so))
 line-done faults taken matches machine calls means listened told (Answer path hex now) old new (Err (Line fault)) free is (network, errors, (used, gave, so)) =
-    let b = by-line machine (option_copied path) _ _ fault (new.written ≡ old.written) (λ settings T held first x. answered-line x.1 fault x.3) (λ f x. (same-line fault f (Err (Line fault)) refl x.0, x.2)) so in
-    (unbegun-refused taken matches fault b.0, b.1, errors, b.2, b.3)
+    let b = by-line machine (option_copied path) _ _ fault ((new.unread ≡ old.unread) × (new.written ≡ old.written)) (λ settings T held first x. answered-line x.1 fault x.3) (λ f x. (same-line fault f (Err (Line fault)) refl x.0, (x.1, x.2))) so in
+    (unbegun-refused taken matches fault b.0, b.1.0, b.1.1, network, errors, b.2, b.3)
 line-done faults taken matches machine calls means listened told (Serve path count) old new (Err (Line fault)) free is (unread, written, so) =
-    let b = by-line machine (Some path.now) _ _ fault (new.errors ≡ old.errors) (λ settings T held first x. x.1) (λ f x. (same-line fault f (Err (Line fault)) refl x.0, x.3)) so in
-    (unbegun-refused taken matches fault b.0, written, b.1, b.2, b.3)
+    let b = by-line machine (Some path.now) _ _ fault ((new.network ≡ old.network) × (new.errors ≡ old.errors)) (λ settings T held first x. x.1) (λ f x. (same-line fault f (Err (Line fault)) refl x.0, (x.1, x.3))) so in
+    (unbegun-refused taken matches fault b.0, unread, written, b.1.0, b.1.1, b.2, b.3)
 line-done faults taken matches machine calls means listened told (Dump path) old new (Err (Line fault)) free is (unread, network, clock, errors, so) =
     let b = by-line machine (Some path.now) _ _ fault (new.written ≡ old.written) (λ settings T held first x. dumped-line x.1 fault x.3) (λ f x. (same-line fault f (Err (Line fault)) refl x.0, x.1)) so in
-    (unbegun-refused taken matches fault b.0, b.1, errors, b.2, b.3)
+    (unbegun-refused taken matches fault b.0, unread, b.1, network, errors, b.2, b.3)
 line-done faults taken matches machine calls means listened told (Sync path peer) old new (Err (Line fault)) free is (unread, written, clock, errors, so) =
-    let b = by-line machine (Some path.now) _ _ fault (Unit {0}) (λ settings T held first x. called-line calls held peer.now first x.0 old.network new.network fault x.1) (λ f x. (same-line fault f (Err (Line fault)) refl x.0, tt)) so in
-    (unbegun-refused taken matches fault b.0, written, errors, b.2, b.3)
+    let b = by-line machine (Some path.now) _ _ fault (new.network ≡ old.network) (λ settings T held first x. called-line calls held peer.now first x.0 old.network new.network fault x.1) (λ f x. (same-line fault f (Err (Line fault)) refl x.0, x.1)) so in
+    (unbegun-refused taken matches fault b.0, unread, written, b.1, errors, b.2, b.3)
 line-done faults taken matches machine calls means listened told line old new (Err File) free is so = (free, (line, is, so))
 line-done faults taken matches machine calls means listened told line old new (Err (Settings fault place)) free is so = (free, (line, is, so))
 line-done faults taken matches machine calls means listened told line old new (Err (program.Store fault)) free is so = (free, (line, is, so))

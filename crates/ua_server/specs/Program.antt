@@ -285,8 +285,8 @@ IsRefused taken matches Words = taken ≡ true → IsNoCommand matches
 IsRefused taken matches NoMemory = Unit {0}
 
 -- A run by the faults that clap finds in a command line, by whether it takes it, and by its matches. What is done is done for a line without
--- faults; where the line is refused nothing is printed or told, and no file is asked for or opened.
+-- faults; where the line is refused nothing is read, printed or told, the network isn't used, and no file is asked for or opened.
 abbrev pub Runs : {K N L R W C E P Q : Type 0} → List ErrorKind → Bool → Option (Text × List Row) → Machine K → Calls N P Q → Means L R W K C → (N → SocketAddr → Option L → N → Type 0) → (E → Option (List ℕ)) → Scene N C E → Scene N C E → Result (Unit {0}) ProgramFault → Type 0
 Runs faults taken matches machine calls means listened told old new (Err (Line fault)) =
-    IsRefused taken matches fault × (new.written ≡ old.written) × (new.errors ≡ old.errors) × machine.unasked × machine.untouched
+    IsRefused taken matches fault × (new.unread ≡ old.unread) × (new.written ≡ old.written) × (new.network ≡ old.network) × (new.errors ≡ old.errors) × machine.unasked × machine.untouched
 Runs faults taken matches machine calls means listened told old new result = (faults ≡ []) × ((line : CommandLine) × IsLine matches line × DoesLine machine calls means listened told line old new result)

@@ -15,4 +15,4 @@ returns-in-Ok-clause-runs g c =
     (record { unread = g.R.Read.remaining c.do_line.new.input.inner; written = g.W.Write.contents c.do_line.new.output.inner; network = c.do_line.new.network; clock = c.do_line.new.clock; errors = c.do_line.new.errors }) c.do_line.result c.in-Ok.ensures.taken c.in-Ok.ensures.ok c.do_line.ensures.does
 
 pub returns-in-Err-clause-runs : goal.returns-in-Err-clause-runs
-returns-in-Err-clause-runs g c = (line-refused _ _ c.in-Err.fault (λ e. c.in-Err.ensures.words (ap Err e)), refl, refl, refl, refl)
+returns-in-Err-clause-runs g c = (line-refused _ _ c.in-Err.fault (λ e. c.in-Err.ensures.words (ap Err e)), refl, refl, refl, refl, refl, refl)
