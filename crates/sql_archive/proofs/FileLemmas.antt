@@ -82,6 +82,15 @@ closed_is {D} {g} c files whose number numbers tick stands live copied id own S 
     go (inl none) = absurd (two_schemas (lists_once (resumed.db catalog_tree) no_schema archive_schema none.0 lists))
     go (inr all) = all.2 ∙ ap content_in same
 
+-- and they hold its tables
+pub closed_holds : {D : Type 0} {g : Ghosts D} (c : Held (FileStore D g)) (files : Files D) (id : List ℕ) (own : ℕ) (numbers : List ℕ) (tick : ℤ) → (HasCleanDisk (file_state c) → Stands id own numbers tick (file_state c)) → IsLive (file_state c) → IsCopied c files
+    → ∥ ((db : Trees) × HoldsDatabase (image_of g files) db × Tells id own db (content_in (file_state c).now.trees)) ∥₁
+closed_holds c files id own numbers tick stands live copied =
+    let s = stands copied.was_clean in
+    let same : (file_state c).now.trees ≡ (file_state c).committed.trees = sym (ap (λ (d : Database). d.trees) s.idles.settled) in
+    let lists = subst (λ (t : Trees). Lists (t catalog_tree) archive_schema) same (subst (Lists ((file_state c).now.trees catalog_tree)) s.idles.tables (live s.idles.is_open).0.lists) in
+    ∥∥₁_map copied.seen.both (λ held. ((file_state c).committed.trees, held, inr (lists, subst (IsStored id own) same s.stored, ap content_in same)))
+
 -- what is opened of the files that a store gave back is what a crash could leave
 pub left_among : {D : Type 0} {g : Ghosts D} (was : Held (FileStore D g)) (it : FileStore D g) (files : Files D) → SeenMayStay g → IsQuiet view faults recovers is_shielded was.store it
     → (IsClean (view it) → IsTrue (view it).is_numbered) → (IsClean (view it) → AreDatabases (recovers it)) → (files.log, files.db) ≡ store.files it → IsTrue (view it).is_clean

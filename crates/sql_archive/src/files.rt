@@ -2,12 +2,13 @@
 
 ghost use Rattle.std.specs.Prelude.{◌≡◌, false, IfOk, IfErr, IsTrue};
 ghost use Rattle.sqlite.specs.State.{HasCleanDisk};
-ghost use Rattle.sqlite.specs.Files.{file_state, image_of};
+ghost use Rattle.sqlite_trees.specs.Tree.{Trees};
+ghost use Rattle.sqlite.specs.Files.{file_state, image_of, HoldsDatabase};
 ghost use Rattle.sqlite_wal.specs.Files.{image_at};
 ghost use Rattle.sqlite_wal.specs.Reads.{AreClean};
 ghost use Rattle.archive.specs.Store.{IsOfOpening};
 ghost use Rattle.sql_archive.specs.Rows.{content_in};
-ghost use Rattle.sql_archive.specs.Files.{Resumes, ResumesOnly, ResumesAmong, IsAnothers};
+ghost use Rattle.sql_archive.specs.Files.{Tells, Resumes, ResumesOnly, ResumesAmong, IsAnothers};
 
 use crate::starting::start;
 use crate::statements::refusal_of;
@@ -61,10 +62,11 @@ impl<D: Disk + Drop> SqlArchive<FileStore<D>> {
         }
     }
 
-    /// Copies the log into the database file and gives the files back, which may then be opened again. Where
-    /// that fails they come back as an error, as they are.
+    /// Copies the log into the database file and gives the files back, which then hold the tables of what the
+    /// archive held, and may be opened again. Where that fails they come back as an error, as they are.
     pub fn close_files(self) -> Result<Files<D>, Files<D>>
         ensures usable { IfOk result (λ files. IsTrue (D.Disk.is_usable files.log) × IsTrue (D.Disk.is_usable files.db)) }
+        ensures held { self.broken ≡ false → IfOk result (λ files. AreClean D.Disk files.log files.db → ∥ ((db : Trees) × HoldsDatabase (image_of D.Disk files) db × Tells self.id self.number db (content_in (file_state self.conn).now.trees)) ∥₁) }
         ensures kept { self.broken ≡ false → IfOk result (λ files. AreClean D.Disk files.log files.db → ResumesOnly (image_of D.Disk files) (content_in (file_state self.conn).now.trees)) }
     {
         self.tables_stand();
