@@ -1,5 +1,5 @@
 -- A dump: what is behind the first records of a content, and the batches one after the other.
-use Rattle.std.proofs.Common.{◌≡◌, ◌⊎◌, ℕ, zero, suc, ◌+◌, ◌≤◌, ◌<◌, max, cond, List, [], ◌∷◌, ◌++◌, take, drop, get_or, length, filter, flat_map, append-nil, append_assoc, Option, Result, Ok, Err, refl, sym, ap, ◌∙◌, subst, arith, inl, inr, Less}
+use Rattle.std.proofs.Common.{◌≡◌, ◌⊎◌, ℕ, zero, suc, ◌+◌, ◌≤◌, ◌<◌, max, cond, List, [], ◌∷◌, ◌++◌, take, drop, get_or, length, filter, flat_map, append-nil, append_assoc, Option, Ok, Err, refl, sym, ap, ◌∙◌, subst, arith, inl, inr, Less}
 use Rattle.std.specs.Prelude.{◌==◌, true}
 use Rattle.std.specs.List.{AllByRecursion}
 use Rattle.std.specs.Io.KnownBytes.{Appends}
@@ -11,7 +11,7 @@ use Rattle.std.proofs.lemmas.List.{take-append-drop, take_more, nil_from_length}
 use Rattle.std.proofs.lemmas.Grind.{flat_map-append}
 use Rattle.stamp.specs.Numbers.{number_of}
 use Rattle.records.specs.declared.record.Record.{Record}
-use Rattle.records.specs.Lists.{Has, Rises, IsPairwise}
+use Rattle.records.specs.Lists.{Has, Rises}
 use Rattle.records.specs.Records.{name_cmp, is_beyond, missing}
 use Rattle.records.specs.Contents.{Content, vec, number_from}
 use Rattle.records.specs.Spelling.{IsRecord}
@@ -22,7 +22,7 @@ use Rattle.records.proofs.MissingLemmas.{missing_is}
 use Rattle.records.proofs.LackLemmas.{missing_within}
 use Rattle.archive.specs.declared.fault.StoreFault.{StoreFault}
 use Rattle.archive.specs.declared.fault.StoreFault.TheVariants.{Refused}
-use Rattle.archive.specs.Store.{Store, Mark, Met, Asks, IsLawfulContent}
+use Rattle.archive.specs.Store.{Store, Met, Asks, IsLawfulContent}
 use Rattle.archive.specs.Steps.{Moves}
 use Rattle.archive.proofs.ListLemmas.{vec_more}
 use Rattle.archive.proofs.Calls.{in_use}

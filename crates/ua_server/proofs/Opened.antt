@@ -1,6 +1,6 @@
 -- What is done over the archive of some settings.
 use Rattle.std.proofs.Common.{◌≡◌, ◌∙◌, ℕ, List, Some, None, Ok, Err, refl, sym, ap, subst}
-use Rattle.std.specs.Prelude.{Option, Result}
+use Rattle.std.specs.Prelude.{Result}
 use Rattle.archive.specs.declared.fault.StoreFault.{StoreFault}
 use Rattle.archive.specs.Store.{Store}
 use Rattle.archive.specs.Listed.{Listed, store_of}

@@ -1,5 +1,5 @@
 -- A line is printed in two writes.
-use Rattle.std.proofs.Common.{◌≡◌, ℕ, ℤ, Bool, true, List, [], ◌++◌, Some, None, Ok, Err, IfErr, OnErr, IsErr, refl, sym, ◌∙◌, ap, subst, inl, inr, append_assoc, option_copied, IsUtf8}
+use Rattle.std.proofs.Common.{◌≡◌, ℕ, Bool, true, List, [], ◌++◌, Some, None, Ok, Err, IfErr, OnErr, IsErr, refl, sym, ◌∙◌, ap, subst, inl, inr, append_assoc, option_copied, IsUtf8}
 use Rattle.std.proofs.lemmas.List.{append-nil}
 use Rattle.hex.specs.Hex.{decode_of, encode_upper}
 use Rattle.clap.specs.Words.{Row, Text}
@@ -26,15 +26,13 @@ use Rattle.ua_server.specs.Line.{IsLine, IsNoCommand}
 use Rattle.clap.specs.declared.error.ErrorKind.{ErrorKind}
 use Rattle.ua_settings.specs.Settings.{Values}
 use Rattle.archive.specs.Store.{Store}
-use Rattle.archive.specs.Steps.{Moves}
 use Rattle.archive.proofs.Acting.{moves-none}
 use Rattle.archive.specs.Listed.{Listed, store_of}
 use Rattle.ua_server.specs.Given.{Outside}
 use Rattle.ua_server.specs.Client.{Ending}
 use Rattle.ua_server.proofs.Outsides.{nothing}
 use Rattle.ua_server.specs.Hexed.{AnswersText, AnswersHex, IsUntouched, digits_of}
-use Rattle.ua_server.specs.Program.{empty_of, WasText, AnswersDigits, IsAnswered, IsUnmade, IsBadText, IsUnbegun, SettingsAt, Machine, OverStore, By, Calls, CallsPeer, IsSynced, Scene, program_result, dump_result, sync_result, IsRefused, DoesLine, Runs}
-use Rattle.ua_server.specs.Tally.{Tally}
+use Rattle.ua_server.specs.Program.{empty_of, WasText, AnswersDigits, IsAnswered, IsUnmade, IsBadText, IsUnbegun, SettingsAt, Machine, OverStore, By, Calls, CallsPeer, Scene, program_result, dump_result, sync_result, IsRefused, DoesLine, Runs}
 use Rattle.ua_server.specs.Network.{Means}
 use Rattle.std.specs.declared.net.socket_addr.SocketAddr.{SocketAddr}
 use Rattle.ua_server.specs.declared.line.Line.{Line as CommandLine}

@@ -1,21 +1,20 @@
 -- A dialog behind its first frame.
-use Rattle.std.proofs.Common.{◌≡◌, ◌||◌, List, ℕ, [], ◌++◌, Option, Some, None, Result, Ok, Err, false, IfOk, refl, sym, ap, ◌∙◌, subst, inl, inr}
+use Rattle.std.proofs.Common.{◌≡◌, List, ℕ, [], ◌++◌, Option, Some, None, Result, Ok, Err, refl, ap, ◌∙◌, subst, inl, inr}
 use Rattle.std.proofs.Math.Bool.{or-false}
-use Rattle.std.specs.Io.KnownBytes.{Appends, Consumes}
+use Rattle.std.specs.Io.KnownBytes.{Appends}
 use Rattle.std.proofs.KnownBytes.{Consumes-nil, Appends-nil}
 use Rattle.archive.specs.Store.{Store, Passes, Stays}
 use Rattle.exchange.specs.declared.fault.ExchangeFault.{ExchangeFault}
-use Rattle.exchange.specs.Named.{asking_frame}
-use Rattle.exchange.specs.Dialogs.{Standing, party_of, Greets}
+use Rattle.exchange.specs.Dialogs.{Standing, Greets}
 use Rattle.ua_server.specs.declared.outcome.ServeFault.{ServeFault}
 use Rattle.ua_server.specs.declared.outcome.ServeFault.TheVariants.{Read, Write, TooLong, OutOfMemory}
 use Rattle.ua_server.specs.declared.peers.Parted.{Parted}
 use Rattle.ua_server.specs.declared.peers.Parted.TheVariants as parted
 use Rattle.ua_server.specs.declared.calling.SyncFault.{SyncFault}
-use Rattle.ua_server.specs.declared.calling.SyncFault.TheVariants.{Connection, Exchange, Peer}
+use Rattle.ua_server.specs.declared.calling.SyncFault.TheVariants.{Connection, Exchange}
 use Rattle.ua_server.specs.Bytes.{AppendsPart}
-use Rattle.ua_server.specs.Peers.{Talks, Waits, Speaks, Meets}
-use Rattle.ua_server.specs.Calling.{calling, synced_by, Unasked, Unsent, Asked, Syncs}
+use Rattle.ua_server.specs.Peers.{Talks, Speaks, Meets}
+use Rattle.ua_server.specs.Calling.{calling, synced_by, Syncs}
 use Rattle.ua_server.proofs.Talks.{talks-then}
 
 -- calls that show nothing

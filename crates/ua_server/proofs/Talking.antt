@@ -1,10 +1,10 @@
 -- The steps of a dialog over a connection.
-use Rattle.std.proofs.Common.{◌≡◌, ◌≢◌, ℕ, ◌+◌, ◌*◌, ◌<◌, ◌≤◌, ◌||◌, Bool, true, false, cond, List, [], ◌∷◌, ◌++◌, take, drop, length, Option, Some, None, Result, Ok, Err, IfOk, refl, sym, ◌∙◌, ap, subst, arith, append_assoc, inl, inr, nat_lt, nat_le}
+use Rattle.std.proofs.Common.{◌≡◌, ℕ, ◌+◌, ◌<◌, ◌||◌, Bool, true, false, cond, List, [], ◌∷◌, ◌++◌, take, drop, length, Option, Some, None, Result, Ok, Err, refl, sym, ◌∙◌, ap, subst, arith, append_assoc, nat_lt, nat_le}
 use Rattle.std.specs.Prelude.{⊤, unwrap_or}
 use Rattle.ua_binary.specs.Binary as binary
 use Rattle.std.specs.Io.KnownBytes.{Appends, Consumes, Keeps, IsAtEnd}
 use Rattle.std.proofs.KnownBytes.{Appends-trans, Appends-nil, Consumes-trans, Consumes-nil, Consumes-kept}
-use Rattle.std.proofs.lemmas.List.{append-nil, length-append, length-drop}
+use Rattle.std.proofs.lemmas.List.{append-nil, length-drop}
 use Rattle.std.proofs.lemmas.Bool.{ltb-false, ltb-true, lt-ltb, true≢false}
 use Rattle.archive.specs.Store.{Store}
 use Rattle.exchange.specs.declared.fault.ExchangeFault.{ExchangeFault}
@@ -15,17 +15,16 @@ use Rattle.exchange.specs.declared.message.State.{State}
 use Rattle.exchange.specs.declared.message.State.TheVariants.{Pulling, Pushing, Serving, Done, Failed}
 use Rattle.exchange.specs.Batches.{longest_frame}
 use Rattle.exchange.specs.Named.{Header, end_frame}
-use Rattle.exchange.specs.Frames.{cut, titled, kind_at, size_at, frame_of, fresh, Held, Gives, next_of, after_next, IsWithin}
+use Rattle.exchange.specs.Frames.{cut, titled, kind_at, size_at, fresh, Held, Gives, next_of, after_next}
 use Rattle.exchange.specs.Streams.{Piece, header_of}
 use Rattle.exchange.specs.Dialogs.{Standing, most_frames, is_over, is_due, unfit, taken_after, Takes, TellsFault}
-use Rattle.exchange.proofs.StreamLemmas.{next_sound}
 use Rattle.ua_server.specs.declared.outcome.ServeFault.{ServeFault}
 use Rattle.ua_server.specs.declared.outcome.ServeFault.TheVariants.{Read, Write, TooLong, OutOfMemory}
 use Rattle.ua_server.specs.declared.peers.Parted.{Parted}
 use Rattle.ua_server.specs.declared.peers.Parted.TheVariants as parted
 use Rattle.ua_server.specs.Bytes.{AppendsPart}
-use Rattle.ua_server.specs.Peers.{failed_as, ended_as, is_silent, Talks, Waits, Speaks, MeetsBehind}
-use Rattle.ua_server.specs.Talking.{ending_of, stop_by, stop_of, ending_in, IsReady, TakesOne, LeavesOne, IsNoLess, IsDrained, LeavesAll, AnswersAll, Drained, TellsWant, DrainedSoFar, MeetsSoFar}
+use Rattle.ua_server.specs.Peers.{failed_as, ended_as, is_silent, Talks, Speaks, MeetsBehind}
+use Rattle.ua_server.specs.Talking.{ending_of, stop_of, ending_in, IsReady, TakesOne, LeavesOne, IsNoLess, IsDrained, LeavesAll, AnswersAll, Drained, TellsWant, DrainedSoFar, MeetsSoFar}
 use Rattle.ua_server.proofs.Talks.{talks-start, talks-then, talks-more, talks-starved, talks-frame, talks-ill}
 
 -- ---- the ends of a dialog that the server spells itself

@@ -1,28 +1,26 @@
 -- How the frames of a dialog make the dialog.
-use Rattle.std.proofs.Common.{◌≡◌, ◌≢◌, ℕ, zero, suc, ◌+◌, ◌<◌, ◌≤◌, ◌||◌, Bool, true, false, List, [], ◌∷◌, ◌++◌, map, take, drop, length, Option, Some, None, Result, Ok, Err, refl, sym, ◌∙◌, ap, subst, arith, append_assoc, inl, inr}
-use Rattle.std.specs.List.{AllByRecursion, flat_map, list_any}
+use Rattle.std.proofs.Common.{◌≡◌, ℕ, ◌+◌, Bool, false, List, [], ◌∷◌, ◌++◌, map, take, drop, length, Option, Some, None, Result, Ok, Err, refl, sym, ◌∙◌, ap, subst, append_assoc, inl, inr}
+use Rattle.std.specs.List.{flat_map}
 use Rattle.std.proofs.Math.Bool.{or-false}
-use Rattle.std.proofs.lemmas.List.{map-append, append-nil, take-append-drop, length-drop, length-append}
+use Rattle.std.proofs.lemmas.List.{map-append, append-nil, take-append-drop}
 use Rattle.std.proofs.lemmas.Grind.{flat_map-append}
-use Rattle.records.specs.Contents.{Content, merged}
+use Rattle.records.specs.Contents.{Content}
 use Rattle.archive.specs.declared.fault.StoreFault.{StoreFault}
-use Rattle.archive.specs.Store.{Store, Passes, faults_by, is_break}
+use Rattle.archive.specs.Store.{Store, Passes, faults_by}
 use Rattle.archive.proofs.Calls.{passes-none, passes-then}
 use Rattle.exchange.specs.declared.fault.ExchangeFault.{ExchangeFault}
 use Rattle.exchange.specs.declared.fault.ExchangeFault.TheVariants as exchange
-use Rattle.exchange.specs.declared.message.FrameKind.{FrameKind}
 use Rattle.exchange.specs.declared.message.State.{State}
 use Rattle.exchange.specs.declared.message.State.TheVariants.{Pulling, Pushing, Serving, Done, Failed}
 use Rattle.exchange.specs.Named.{Party, Message, end_frame}
 use Rattle.exchange.specs.Frames.{cut, Held, Gives, next_of, after_next}
 use Rattle.exchange.specs.Streams.{Piece, AreFrames, header_of}
-use Rattle.exchange.specs.Dialogs.{Turn, Way, Clear, Unread, Stopped, Starved, Met, Standing, fault_on, unfit, received, records_in, turned, answered_to, gone, answered, standing_after, party_of, Writes, Takes, TellsFault}
-use Rattle.exchange.proofs.StreamLemmas.{given_frame, next_sound}
+use Rattle.exchange.specs.Dialogs.{Turn, Way, Clear, Unread, Stopped, Starved, Met, Standing, fault_on, received, answered_to, answered, party_of, Writes, Takes, TellsFault}
+use Rattle.exchange.proofs.StreamLemmas.{given_frame}
 use Rattle.ua_server.specs.declared.outcome.ServeFault.{ServeFault}
-use Rattle.ua_server.specs.declared.outcome.ServeFault.TheVariants.{Read, Write, TooLong, OutOfMemory}
 use Rattle.ua_server.specs.declared.peers.Parted.{Parted}
 use Rattle.ua_server.specs.declared.peers.Parted.TheVariants as parted
-use Rattle.ua_server.specs.Peers.{Taken, Side, side_of, turn_of, after, after_all, AreAnswered, MayLeave, faults_met, is_open, AreOpen, failed_as, ended_as, is_silent, EndsByFrame, EndsByBytes, EndsByWant, IsEnd, Talks}
+use Rattle.ua_server.specs.Peers.{Taken, Side, side_of, after, after_all, AreAnswered, MayLeave, faults_met, AreOpen, failed_as, ended_as, is_silent, IsEnd, Talks}
 
 -- ---- lists of frames
 

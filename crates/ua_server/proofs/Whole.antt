@@ -21,7 +21,7 @@ use Rattle.ua_server.specs.declared.turn.Turn.TheVariants.{Ends}
 use Rattle.ua_server.specs.Given.{Outside, before}
 use Rattle.ua_server.specs.Run.{Reply, Answer, Answers, answered}
 use Rattle.ua_server.specs.Client.{Client, Standing, Ending, partial, chunks, new_client, found, next}
-use Rattle.ua_server.specs.Turns.{Link, IsShort, Reaches, Turned, Drained, IsOwnEnd, ServesSoFar, SendsRefusal, new_link}
+use Rattle.ua_server.specs.Turns.{Link, IsShort, Reaches, Turned, Drained, IsOwnEnd, ServesSoFar, SendsRefusal}
 use Rattle.ua_server.specs.Serving.{IsWhole, IsServed, ServesBehind}
 use Rattle.ua_server.proofs.Outsides.{nothing, marked, before-before}
 use Rattle.ua_server.proofs.Runs.{answered-step, answered-item, answers-more, joined-same}

@@ -33,7 +33,7 @@ use Rattle.ua_server.specs.Calling.{Syncs}
 use Rattle.ua_server.specs.declared.calling.SyncFault.{SyncFault}
 use Rattle.ua_server.specs.declared.calling.SyncFault.TheVariants as sync
 use Rattle.std.specs.Net.Grammar.{IsSocketText}
-use Rattle.ua_server.specs.Network.{Means, Around, Listens}
+use Rattle.ua_server.specs.Network.{Means, Listens}
 use Rattle.clap.specs.Words.{Row, Text}
 use Rattle.clap.specs.declared.error.ErrorKind.{ErrorKind}
 use Rattle.ua_server.specs.declared.line.Line.{Line as CommandLine}

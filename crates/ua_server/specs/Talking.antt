@@ -9,7 +9,7 @@ use Rattle.exchange.specs.Named.{end_frame}
 use Rattle.exchange.specs.Frames.{cut, Held}
 use Rattle.exchange.specs.Dialogs.{Standing}
 use Rattle.ua_server.specs.declared.outcome.ServeFault.{ServeFault}
-use Rattle.ua_server.specs.declared.outcome.ServeFault.TheVariants.{Read, Write, TooLong}
+use Rattle.ua_server.specs.declared.outcome.ServeFault.TheVariants.{Read, Write}
 use Rattle.ua_server.specs.declared.peers.Parted.{Parted}
 use Rattle.ua_server.specs.declared.peers.Parted.TheVariants as parted
 use Rattle.ua_server.specs.Bytes.{AppendsPart}

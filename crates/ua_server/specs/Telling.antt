@@ -21,11 +21,7 @@ fault_status File = 2
 fault_status (Settings fault place) = 2
 fault_status (Store fault) = 3
 fault_status BadHex = 2
-fault_status Address = 1
-fault_status (Connection fault) = 1
-fault_status (Call fault) = 1
-fault_status (Exchange fault) = 1
-fault_status (Peer number) = 1
+fault_status fault = 1
 
 abbrev pub status_of : Result (Unit {0}) ProgramFault → ℕ
 status_of (Ok done) = 0
@@ -87,16 +83,8 @@ text_of (Peer number) = exchange_text number
 
 -- where settings are refused
 abbrev pub place_of : ProgramFault → Option (List ℕ)
-place_of (Line fault) = None
-place_of File = None
 place_of (Settings fault place) = place
-place_of (Store fault) = None
-place_of BadHex = None
-place_of Address = None
-place_of (Connection fault) = None
-place_of (Call fault) = None
-place_of (Exchange fault) = None
-place_of (Peer number) = None
+place_of fault = None
 
 -- a line of the program's
 abbrev pub told_line : List ℕ → List ℕ

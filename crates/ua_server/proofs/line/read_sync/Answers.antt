@@ -1,4 +1,4 @@
-use Rattle.std.proofs.Common.{◌≡◌, List, ℕ, Some, None, ◌∙◌, ap, sym, codes, inl, inr}
+use Rattle.std.proofs.Common.{◌≡◌, Some, None, ◌∙◌, ap, sym, codes, inl, inr}
 use Rattle.std.specs.Prelude.{Option, option_map}
 use Rattle.clap.specs.Matches.{first_value}
 use Rattle.clap.specs.Words.{found_of}

@@ -1,4 +1,4 @@
-use Rattle.std.proofs.Common.{refl, inl, ◌∙◌, ap, ◌++◌, List, ℕ, [], ◌∷◌, ◌≡◌}
+use Rattle.std.proofs.Common.{refl, inl, ◌∙◌, ap, ◌++◌, List, ℕ, [], ◌∷◌}
 use Rattle.ua_server.proofs.Talking.{end-one}
 use Rattle.ua_server.proofs.peers.refuse_bytes.Goals as goal
 

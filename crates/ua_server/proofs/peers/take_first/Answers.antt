@@ -1,5 +1,3 @@
-use Rattle.std.proofs.Common.{Ok, None, Some, subst}
-use Rattle.exchange.specs.Frames.{Gives}
 use Rattle.ua_server.proofs.Talking.{first-none, leaves-none, first-some, leaves-some, first-ill}
 use Rattle.ua_server.proofs.peers.take_first.Goals as goal
 

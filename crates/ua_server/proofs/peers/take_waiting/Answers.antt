@@ -1,10 +1,10 @@
-use Rattle.std.proofs.Common.{◌≡◌, ◌∙◌, Err, Ok, Some, None, arith, refl, ap, List, ℕ, Bool}
-use Rattle.std.specs.Prelude.{Option, Result}
+use Rattle.std.proofs.Common.{◌≡◌, ◌∙◌, Err, arith, refl, ap, List, ℕ, Bool}
+use Rattle.std.specs.Prelude.{Option}
 use Rattle.std.proofs.lemmas.Result.{err_from_is_err_and}
 use Rattle.ua_server.specs.declared.outcome.ServeFault.TheVariants.{Write}
 use Rattle.ua_server.specs.Peers.{is_silent}
 use Rattle.ua_server.specs.Talking.{ending_of, stop_of}
-use Rattle.ua_server.proofs.Talking.{drains-start, drains-more, drains-end, drains-part, ready-more, no-less-more, leaves-end}
+use Rattle.ua_server.proofs.Talking.{drains-start, drains-more, drains-end, drains-part, ready-more, no-less-more}
 use Rattle.ua_server.proofs.peers.take_waiting.Goals as goal
 
 pub turns-init : goal.turns-init

@@ -1,17 +1,9 @@
-use Rattle.std.proofs.Common.{◌≡◌, ◌∙◌, ℕ, ℤ, List, Bool, Some, None, Ok, Err, Option, Result, refl, sym, ap, subst, option_copied}
-use Rattle.archive.specs.declared.fault.StoreFault.{StoreFault}
-use Rattle.archive.specs.Store.{Store}
-use Rattle.archive.specs.Listed.{Listed, store_of}
-use Rattle.ua_server.specs.Given.{Outside}
-use Rattle.ua_server.specs.Network.{Means, Listens}
+use Rattle.std.proofs.Common.{◌≡◌, ◌∙◌, Ok, Err, Result, sym, ap, option_copied}
 use Rattle.ua_server.specs.Dumping.{Dumps}
-use Rattle.ua_server.specs.declared.hexed.HexFault.{HexFault}
 use Rattle.ua_server.specs.declared.dumps.DumpFault.{DumpFault}
-use Rattle.ua_server.specs.declared.program.ProgramFault.{ProgramFault}
 use Rattle.ua_server.specs.declared.program.ProgramFault.TheVariants as program
-use Rattle.ua_server.specs.Program.{AnswersAt, program_result, means_over, dump_result}
-use Rattle.ua_server.proofs.Outsides.{nothing}
-use Rattle.ua_server.proofs.Opened.{over-none, over-opened, over-refused}
+use Rattle.ua_server.specs.Program.{dump_result}
+use Rattle.ua_server.proofs.Opened.{over-opened}
 use Rattle.ua_server.proofs.program.dump_by.Goals as goal
 
 pub returns-in-Ok-open_store-clause-dumps : goal.returns-in-Ok-open_store-clause-dumps
