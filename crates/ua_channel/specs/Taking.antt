@@ -1,5 +1,5 @@
 -- What taking a chunk answers, and what a channel knows after it.
-use Rattle.std.specs.Prelude.{◌≡◌, ◌<◌, ◌≤◌, ◌+◌, ℕ, List, [], ◌++◌, length, max, Some, true, false, Result, Ok, Err}
+use Rattle.std.specs.Prelude.{◌≡◌, ◌<◌, ◌≤◌, ◌+◌, ℕ, List, [], ◌++◌, length, max, Some, None, true, false, Result, Ok, Err}
 use Rattle.uacp.specs.declared.types.Letter.{Letter}
 use Rattle.uacp.specs.declared.types.Letter.TheVariants.{Final, More, Abort}
 use Rattle.uacp.specs.declared.types.Chunk.{Chunk}
@@ -12,7 +12,7 @@ use Rattle.ua_channel.specs.declared.taken.Taken.{Taken}
 use Rattle.ua_channel.specs.declared.taken.Taken.TheVariants as taken
 use Rattle.ua_channel.specs.declared.placed.PlacedChunk.{PlacedChunk}
 use Rattle.ua_channel.specs.declared.placed.PlacedChunk.TheVariants as lent
-use Rattle.ua_channel.specs.Placed.{Placed, Opens, Says, Closes, Heard, heard_of, judged}
+use Rattle.ua_channel.specs.Placed.{Placed, Opens, Says, Closes, Heard, judged}
 
 -- a chunk that is lent
 abbrev pub piece_of : Chunk → Piece
@@ -67,9 +67,13 @@ pub record State : Type 0 where
   pub max_message : ℕ
   pub max_chunks : ℕ
 
+-- nothing was heard yet
+abbrev pub unheard : Heard
+unheard = record { ended = false; openings = 0; last = None; token = 1; chunks = 0; request = 0; bytes = [] }
+
 -- a new channel; a chunk that is written has a byte of its message at least
 abbrev pub fresh : Hello → Ack → State
-fresh hello ack = record { heard = heard_of []; next = 1; limit = max 25 ack.send_size; max_message = hello.max_message; max_chunks = hello.max_chunks }
+fresh hello ack = record { heard = unheard; next = 1; limit = max 25 ack.send_size; max_message = hello.max_message; max_chunks = hello.max_chunks }
 
 -- the chunk isn't taken: its fault ends the channel; or memory for a well placed one was wanting, and all is as it was
 abbrev pub Refuses : State → Piece → ChannelFault → State → Type 0
