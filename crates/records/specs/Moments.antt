@@ -18,11 +18,11 @@ abbrev pub pico_of : ℤ → ℕ
 pico_of (pos n) = n % 10000
 pico_of (negsuc n) = 9999 - n % 10000
 
-ticks_only : (z t : ℤ) (p : ℕ) → p ≤ 9999 → z ≡ moment t p → ticks_of z ≡ t
+pub ticks_only : (z t : ℤ) (p : ℕ) → p ≤ 9999 → z ≡ moment t p → ticks_of z ≡ t
 ticks_only (pos n) t p h e = omega (arith, ints)
 ticks_only (negsuc n) t p h e = omega (arith, ints)
 
-pico_only : (z t : ℤ) (p : ℕ) → p ≤ 9999 → z ≡ moment t p → pico_of z ≡ p
+pub pico_only : (z t : ℤ) (p : ℕ) → p ≤ 9999 → z ≡ moment t p → pico_of z ≡ p
 pico_only (pos n) t p h e = omega (arith, ints)
 pico_only (negsuc n) t p h e = omega (arith, ints)
 

@@ -1,5 +1,6 @@
 -- Each format of values is lawful.
-use Rattle.std.proofs.Common.{◌≡◌, ℕ, ◌+◌, ◌-◌, ◌<◌, ◌^◌, false, ltb, ◌==◌, List, refl, subst, arith}
+use Rattle.std.proofs.Common.{◌≡◌, ℕ, ◌+◌, ◌-◌, ◌<◌, ◌^◌, false, ltb, ◌==◌, List, length, refl, subst, arith}
+use Rattle.std.specs.List.{AllByRecursion}
 use Rattle.std.specs.Int.{w16, w32, w64}
 use Rattle.std.proofs.lemmas.Bool.{ne_eqb, ltb-true, le-ltb}
 use Rattle.ua_binary.specs.Format.{Format, IsLawful, block, byte}
@@ -18,7 +19,7 @@ use Rattle.ua_variant.proofs.Types.{IsNumber, type_of, type_of_values}
 use Rattle.ua_variant.specs.Raise.{variant_fault}
 use Rattle.ua_variant.specs.Scalar.{scalar, scalar_form, scalar_number, IsScalar, is_type}
 use Rattle.ua_variant.specs.Variant.{variant_form, variant_number, IsVariant, variant}
-use Rattle.ua_variant.specs.Values.{many as many_of, values, values_form, array_number, IsMany, IsValues}
+use Rattle.ua_variant.specs.Values.{many as many_of, values, values_form, array_number, IsValues}
 use Rattle.ua_variant.specs.declared.value.Array.{Array as Many}
 use Rattle.ua_variant.specs.declared.value.Array.TheVariants as many
 
@@ -50,7 +51,7 @@ scalar_item number =
 many_lawful : {A : Type 0} {f : Format BinaryFault A} → IsItemLawful f → IsLawful (many_of f)
 many_lawful p = array_lawful (λ e. e) p.some p.lawful
 
-many_fits : {A : Type 0} (f : Format BinaryFault A) (l : List A) → IsMany f l → (many_of f).Fits l
+many_fits : {A : Type 0} (f : Format BinaryFault A) (l : List A) → (length l < 2 ^ 31) × AllByRecursion f.Fits l → (many_of f).Fits l
 unfolding array signed
 many_fits f l h = (omega (arith, h.0), (h.1, refl))
 

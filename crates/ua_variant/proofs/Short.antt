@@ -58,31 +58,28 @@ scalar_only : (number : ℕ) → SpellsOnly (scalar number) IsShortScalar
 unfolding scalar
 scalar_only number = fitting_only _ (scalar_form_only number)
 
-plain_array : {A : Type 0} (to : List A → Many) (from : Many → List A) (f : Format BinaryFault A) → ((l : List A) → length l < 2 ^ 31 → IsShortValues (to l)) → SpellsOnly (standing_for to from (many_of f)) IsShortValues
-plain_array to from f h = standing_only to from (array_only (λ e. e) (any_only f)) (λ l few. h l few.0)
-
 counted_array : {A : Type 0} {P : A → Type 0} (to : List A → Many) (from : Many → List A) {f : Format BinaryFault A} → SpellsOnly f P → ((l : List A) → IsFew P l → IsShortValues (to l)) → SpellsOnly (standing_for to from (many_of f)) IsShortValues
 counted_array to from p h = standing_only to from (array_only (λ e. e) p) h
 
 values_form_only : (number : ℕ) → SpellsOnly (values_form number) IsShortValues
 values_form_only number =
-    chosen_only (number == 1) (plain_array many.Boolean _ boolean (λ _ h. h)) (
-    chosen_only (number == 2) (plain_array many.SByte _ sbyte (λ _ h. h)) (
-    chosen_only (number == 3) (plain_array many.Byte _ byte (λ _ h. h)) (
-    chosen_only (number == 4) (plain_array many.Int16 _ (signed w16) (λ _ h. h)) (
-    chosen_only (number == 5) (plain_array many.UInt16 _ (unsigned w16) (λ _ h. h)) (
-    chosen_only (number == 6) (plain_array many.Int32 _ (signed w32) (λ _ h. h)) (
-    chosen_only (number == 7) (plain_array many.UInt32 _ (unsigned w32) (λ _ h. h)) (
-    chosen_only (number == 8) (plain_array many.Int64 _ (signed w64) (λ _ h. h)) (
-    chosen_only (number == 9) (plain_array many.UInt64 _ (unsigned w64) (λ _ h. h)) (
-    chosen_only (number == 10) (plain_array many.Float _ (block 4) (λ _ h. h)) (
-    chosen_only (number == 11) (plain_array many.Double _ (block 8) (λ _ h. h)) (
+    chosen_only (number == 1) (counted_array many.Boolean _ (any_only boolean) (λ _ h. h)) (
+    chosen_only (number == 2) (counted_array many.SByte _ (any_only sbyte) (λ _ h. h)) (
+    chosen_only (number == 3) (counted_array many.Byte _ (any_only byte) (λ _ h. h)) (
+    chosen_only (number == 4) (counted_array many.Int16 _ (any_only (signed w16)) (λ _ h. h)) (
+    chosen_only (number == 5) (counted_array many.UInt16 _ (any_only (unsigned w16)) (λ _ h. h)) (
+    chosen_only (number == 6) (counted_array many.Int32 _ (any_only (signed w32)) (λ _ h. h)) (
+    chosen_only (number == 7) (counted_array many.UInt32 _ (any_only (unsigned w32)) (λ _ h. h)) (
+    chosen_only (number == 8) (counted_array many.Int64 _ (any_only (signed w64)) (λ _ h. h)) (
+    chosen_only (number == 9) (counted_array many.UInt64 _ (any_only (unsigned w64)) (λ _ h. h)) (
+    chosen_only (number == 10) (counted_array many.Float _ (any_only (block 4)) (λ _ h. h)) (
+    chosen_only (number == 11) (counted_array many.Double _ (any_only (block 8)) (λ _ h. h)) (
     chosen_only (number == 12) (counted_array many.String _ text_only (λ _ h. h)) (
-    chosen_only (number == 13) (plain_array many.DateTime _ ticks (λ _ h. h)) (
-    chosen_only (number == 14) (plain_array many.Guid _ guid (λ _ h. h)) (
+    chosen_only (number == 13) (counted_array many.DateTime _ (any_only ticks) (λ _ h. h)) (
+    chosen_only (number == 14) (counted_array many.Guid _ (any_only guid) (λ _ h. h)) (
     chosen_only (number == 15) (counted_array many.ByteString _ byte_string_only (λ _ h. h)) (
     chosen_only (number == 17) (counted_array many.NodeId _ node_id_only (λ _ h. h)) (
-    chosen_only (number == 19) (plain_array many.StatusCode _ status (λ _ h. h)) (
+    chosen_only (number == 19) (counted_array many.StatusCode _ (any_only status) (λ _ h. h)) (
     chosen_only (number == 20) (counted_array many.QualifiedName _ qualified_only (λ _ h. h)) (
     chosen_only (number == 21) (counted_array many.LocalizedText _ localized_only (λ _ h. h)) (
     refused_only BadEncodingByte)))))))))))))))))))

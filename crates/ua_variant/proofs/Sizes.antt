@@ -42,16 +42,8 @@ each_fits : {A : Type 0} (P Q : A → Type 0) (l : List A) → AllByRecursion (�
 each_fits P Q [] f h = tt
 each_fits P Q (v ∷ l) f h = (f.0 h.0, each_fits P Q l f.1 h.1)
 
-any_fits : {A : Type 0} (Q : A → Type 0) (l : List A) → AllByRecursion (λ v. Unit {0} → Q v) l → AllByRecursion Q l
-any_fits Q [] f = tt
-any_fits Q (v ∷ l) f = (f.0 tt, any_fits Q l f.1)
-
 -- few enough items, each of which may be counted
 pub counted_fit : {A : Type 0} (P Q : A → Type 0) (l : List A) → All (λ v. P v → Q v) l → (length l < 2 ^ 31) × All (λ v. P v) l → (length l < 2 ^ 31) × AllByRecursion Q l
 counted_fit P Q l f h = (h.0, each_fits P Q l (recursion_from_All (λ v. P v → Q v) l f) (recursion_from_All P l h.1))
 
--- few enough items, of which nothing else is asked
-pub plain_fit : {A : Type 0} (Q : A → Type 0) (l : List A) → All (λ v. Unit {0} → Q v) l → length l < 2 ^ 31 → (length l < 2 ^ 31) × AllByRecursion Q l
-plain_fit Q l f lt = (lt, any_fits Q l (recursion_from_All (λ v. Unit {0} → Q v) l f))
-
-pub ruleset values_fit = (counted_fit, plain_fit)
+pub ruleset values_fit = counted_fit

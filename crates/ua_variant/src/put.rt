@@ -14,7 +14,7 @@ use ua_binary::{
     put_status, put_ticks, put_u8, put_u16, put_u32, put_u64,
 };
 
-#[tactic(auto, unfolding(crate::specs::Scalar::scalar))]
+#[tactic(auto, unfolding(crate::specs::Scalar::scalar, ua_binary::specs::Binary::boolean, ua_binary::specs::Binary::sbyte, ua_binary::specs::Binary::signed, ua_binary::specs::Binary::unsigned, ua_binary::specs::Binary::ticks, ua_binary::specs::Binary::status, ua_binary::specs::Binary::text, ua_binary::specs::Binary::byte_string, ua_binary::specs::Binary::guid, ua_binary::specs::Binary::node_id, ua_binary::specs::Binary::qualified, ua_binary::specs::Binary::localized))]
 fn put_scalar(out: &mut Vec<u8>, v: &Scalar) -> Result<(), BinaryFault>
     requires { IsShortScalar v.now }
     ensures puts { Puts BinaryFault.OutOfMemory result out.old.items out.new.items ((scalar (scalar_number v.now)).canon v.now) }
