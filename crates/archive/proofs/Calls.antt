@@ -1,11 +1,11 @@
 -- Calls of an archive, one after the other.
-use Rattle.std.proofs.Common.{◌≡◌, ℕ, Bool, true, false, ◌||◌, List, [], ◌∷◌, ◌++◌, Option, Some, None, Result, Ok, Err, IfOk, refl, sym, ap, ◌∙◌}
+use Rattle.std.proofs.Common.{◌≡◌, ℕ, Bool, true, false, ◌||◌, List, [], ◌∷◌, ◌++◌, Option, Some, None, Result, Ok, Err, IfOk, refl, sym, ap, ◌∙◌, option_to_list}
 use Rattle.std.proofs.lemmas.Option.{none-some}
 use Rattle.std.proofs.Math.Bool.{or-false}
 use Rattle.std.specs.List.{list_any, AllByRecursion}
 use Rattle.archive.specs.declared.fault.StoreFault.{StoreFault}
 use Rattle.archive.specs.declared.fault.StoreFault.TheVariants.{OutOfMemory, Refused, WrongReplica, WrongArchive, Broken}
-use Rattle.archive.specs.Store.{Store, Leaves, Asks, fault_in, raised, IsOfOpening, is_break, failed_by, faults_by, Passes}
+use Rattle.archive.specs.Store.{Store, Leaves, Asks, fault_in, raised, IsOfOpening, is_break, failed_by, Passes}
 use Rattle.archive.specs.Listed.{is_broken}
 
 -- ---- any calls in a row
@@ -42,7 +42,7 @@ passes-then a b c faults more p q = record {
   meets = λ f m. p.meets f (q.meets f m);
 }
 
-pub passes-leaves : (a b : Store) (fault : Option StoreFault) → Leaves a b fault → Passes a b (faults_by fault)
+pub passes-leaves : (a b : Store) (fault : Option StoreFault) → Leaves a b fault → Passes a b (option_to_list fault)
 passes-leaves a b fault p = p.passes
 
 -- ---- a call without a fault, and the next one
@@ -52,12 +52,12 @@ pub leaves-then : (a b c : Store) (fault : Option StoreFault) → Leaves a b Non
 leaves-then a b c fault p q = record {
   before = p.before;
   after = q.after;
-  passes = passes-then a b c [] (faults_by fault) p.passes q.passes;
+  passes = passes-then a b c [] (option_to_list fault) p.passes q.passes;
   ended = λ e. absurd (none-some _ (p.ended e));
   some = q.some;
 }
 
-break_of : (o : Option StoreFault) → list_any is_break (faults_by o) ≡ is_broken o
+break_of : (o : Option StoreFault) → list_any is_break (option_to_list o) ≡ is_broken o
 break_of None = refl
 break_of (Some OutOfMemory) = refl
 break_of (Some Refused) = refl
@@ -70,8 +70,8 @@ pub broken-by : (a b : Store) (fault : Option StoreFault) → Leaves a b fault �
 broken-by a b fault p = go a.broken refl
   where
     go : (x : Bool) → a.broken ≡ x → b.broken ≡ is_broken fault
-    go true e = p.passes.broken ∙ (ap (λ y. y || list_any is_break (faults_by fault)) e ∙ sym (ap is_broken (p.ended e)))
-    go false e = p.passes.broken ∙ (ap (λ y. y || list_any is_break (faults_by fault)) e ∙ break_of fault)
+    go true e = p.passes.broken ∙ (ap (λ y. y || list_any is_break (option_to_list fault)) e ∙ sym (ap is_broken (p.ended e)))
+    go false e = p.passes.broken ∙ (ap (λ y. y || list_any is_break (option_to_list fault)) e ∙ break_of fault)
 
 -- an answered call was one of a store in use, and leaves it so
 pub in_use : (a b : Store) → Leaves a b None → a.broken ≡ false

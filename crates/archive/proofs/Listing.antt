@@ -1,5 +1,5 @@
 -- An archive in memory meets the contract.
-use Rattle.std.proofs.Common.{◌≡◌, ◌≢◌, Bool, true, false, [], ◌∷◌, Option, Some, None, IfSome, unwrap_or, Result, Ok, Err, IfOk, IfErr, refl, sym, ap, ◌∙◌, subst, inl, inr}
+use Rattle.std.proofs.Common.{◌≡◌, ◌≢◌, Bool, true, false, [], ◌∷◌, Option, Some, None, IfSome, unwrap_or, Result, Ok, Err, IfOk, IfErr, refl, sym, ap, ◌∙◌, subst, inl, inr, option_to_list}
 use Rattle.std.specs.List.{list_any, AllByRecursion}
 use Rattle.std.proofs.lemmas.Bool.{true≢false}
 use Rattle.std.proofs.lemmas.Option.{none-some}
@@ -12,7 +12,7 @@ use Rattle.archive.specs.declared.fault.StoreFault.{StoreFault}
 use Rattle.archive.specs.declared.fault.StoreFault.TheVariants.{OutOfMemory}
 use Rattle.archive.specs.declared.fault.LearnFault.{LearnFault}
 use Rattle.archive.specs.declared.fault.LearnFault.TheVariants as refused
-use Rattle.archive.specs.Store.{Rests, IsLawfulContent, raised, IsOfOpening, is_break, failed_by, faults_by, Leaves, fault_in, Asks, store_fault_in, answer_to, Learns}
+use Rattle.archive.specs.Store.{Rests, IsLawfulContent, raised, IsOfOpening, is_break, failed_by, Leaves, fault_in, Asks, store_fault_in, answer_to, Learns}
 use Rattle.archive.specs.Listed.{Listed, store_of, failures}
 
 not_opening : IsOfOpening OutOfMemory → ⊥
@@ -32,15 +32,15 @@ leaves a b fault was is own id memory count = record {
   some = λ h none. none b.records refl;
 }
   where
-    counted : (o : Option StoreFault) → b.faults ≡ failures a.faults o → b.faults ≡ failed_by (faults_by o) a.faults
+    counted : (o : Option StoreFault) → b.faults ≡ failures a.faults o → b.faults ≡ failed_by (option_to_list o) a.faults
     counted None e = e
     counted (Some f) e = e
 
-    unbroken : (o : Option StoreFault) → IfSome o (λ f. f ≡ OutOfMemory) → false ≡ list_any is_break (faults_by o)
+    unbroken : (o : Option StoreFault) → IfSome o (λ f. f ≡ OutOfMemory) → false ≡ list_any is_break (option_to_list o)
     unbroken None m = refl
     unbroken (Some f) m = ap (λ g. list_any is_break (g ∷ [])) (sym m)
 
-    met : (o : Option StoreFault) → IfSome o (λ f. f ≡ OutOfMemory) → AllByRecursion (λ f. (f ≡ OutOfMemory) × (IsOfOpening f → ⊥)) (faults_by o)
+    met : (o : Option StoreFault) → IfSome o (λ f. f ≡ OutOfMemory) → AllByRecursion (λ f. (f ≡ OutOfMemory) × (IsOfOpening f → ⊥)) (option_to_list o)
     met None m = tt
     met (Some f) m = ((m, subst (λ g. IsOfOpening g → ⊥) (sym m) not_opening), tt)
 

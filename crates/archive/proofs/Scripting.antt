@@ -1,5 +1,5 @@
 -- An archive that fails where it is told to meets the contract.
-use Rattle.std.proofs.Common.{◌≡◌, ℕ, Bool, true, false, ◌||◌, [], ◌∷◌, Option, Some, None, IfSome, unwrap_or, Result, Ok, Err, IfErr, refl, sym, ap, ◌∙◌, subst, inl, inr}
+use Rattle.std.proofs.Common.{◌≡◌, ℕ, Bool, true, false, ◌||◌, [], ◌∷◌, Option, Some, None, IfSome, unwrap_or, Result, Ok, Err, IfErr, refl, sym, ap, ◌∙◌, subst, inl, inr, option_to_list}
 use Rattle.std.proofs.Math.Bool.{or-false}
 use Rattle.std.specs.List.{list_any, AllByRecursion}
 use Rattle.std.proofs.lemmas.Option.{none-some}
@@ -9,7 +9,7 @@ use Rattle.records.specs.Contents.{Finding, Adds, Holds, Clash, Gap, TickTooFar,
 use Rattle.archive.specs.declared.fault.StoreFault.{StoreFault}
 use Rattle.archive.specs.declared.fault.StoreFault.TheVariants.{OutOfMemory, Broken}
 use Rattle.archive.specs.declared.fault.LearnFault.{LearnFault}
-use Rattle.archive.specs.Store.{Rests, IsLawfulContent, IsOfOpening, is_break, failed_by, faults_by, Leaves, fault_in, Asks, store_fault_in, Learns}
+use Rattle.archive.specs.Store.{Rests, IsLawfulContent, IsOfOpening, is_break, failed_by, Leaves, fault_in, Asks, store_fault_in, Learns}
 use Rattle.archive.specs.Listed.{Listed, store_of, failures, is_broken}
 use Rattle.archive.specs.Scripted.{Scripted, scripted_store, IsScripted, IsOldOrWith, Follows}
 use Rattle.archive.proofs.Results.{err-ok}
@@ -49,7 +49,7 @@ leaves_inner a b fault used still count l = record {
     id = l.passes.id;
     honest = λ h. h;
     failed = counted fault count;
-    broken = still ∙ (l.passes.broken ∙ sym (ap (λ x. x || list_any is_break (faults_by fault)) used));
+    broken = still ∙ (l.passes.broken ∙ sym (ap (λ x. x || list_any is_break (option_to_list fault)) used));
     met = met fault l.passes.met;
     meets = λ g e. e;
   };
@@ -57,11 +57,11 @@ leaves_inner a b fault used still count l = record {
   some = λ h none. none b.inner.records refl;
 }
   where
-    counted : (o : Option StoreFault) → b.faults ≡ failures a.faults o → b.faults ≡ failed_by (faults_by o) a.faults
+    counted : (o : Option StoreFault) → b.faults ≡ failures a.faults o → b.faults ≡ failed_by (option_to_list o) a.faults
     counted None e = e
     counted (Some f) e = e
 
-    met : (o : Option StoreFault) → AllByRecursion (λ f. (f ≡ OutOfMemory) × (IsOfOpening f → ⊥)) (faults_by o) → AllByRecursion (λ f. IsScripted f × (IsOfOpening f → ⊥)) (faults_by o)
+    met : (o : Option StoreFault) → AllByRecursion (λ f. (f ≡ OutOfMemory) × (IsOfOpening f → ⊥)) (option_to_list o) → AllByRecursion (λ f. IsScripted f × (IsOfOpening f → ⊥)) (option_to_list o)
     met None m = tt
     met (Some f) m = ((inl m.0.0, m.0.1), tt)
 
@@ -143,7 +143,7 @@ old_or_with a b r result learns = go (store_fault_in result) refl (learns.kept t
 only_memory : (a b : Listed) (fault : Option StoreFault) → Leaves (store_of a) (store_of b) fault → IfSome fault (λ f. f ≡ OutOfMemory)
 only_memory a b fault l = go fault l.passes.met
   where
-    go : (o : Option StoreFault) → AllByRecursion (λ f. (f ≡ OutOfMemory) × (IsOfOpening f → ⊥)) (faults_by o) → IfSome o (λ f. f ≡ OutOfMemory)
+    go : (o : Option StoreFault) → AllByRecursion (λ f. (f ≡ OutOfMemory) × (IsOfOpening f → ⊥)) (option_to_list o) → IfSome o (λ f. f ≡ OutOfMemory)
     go None m = tt
     go (Some f) m = m.0.0
 

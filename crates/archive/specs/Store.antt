@@ -1,5 +1,5 @@
 -- What an archive keeps, and what its calls leave.
-use Rattle.std.specs.Prelude.{◌≡◌, ◌⊎◌, ◌||◌, ℕ, ◌+◌, ◌-◌, ◌^◌, min, Bool, true, false, List, [], ◌∷◌, ◌++◌, Option, Some, None, IfSome, unwrap_or, Result, Ok, Err, IfOk}
+use Rattle.std.specs.Prelude.{◌≡◌, ◌⊎◌, ◌||◌, ℕ, ◌+◌, ◌-◌, ◌^◌, min, Bool, true, false, List, [], ◌∷◌, ◌++◌, Option, Some, None, IfSome, unwrap_or, option_to_list, Result, Ok, Err, IfOk}
 use Rattle.std.specs.List.{list_any, AllByRecursion}
 use Rattle.records.specs.Lists.{Has}
 use Rattle.records.specs.Contents.{Content, IsClosed, Finding, Adds, Holds, Clash, Gap, TickTooFar, TickNotRising, finding, learned, put}
@@ -60,10 +60,6 @@ abbrev pub faults_of : List Mark → List StoreFault
 faults_of [] = []
 faults_of (mark ∷ marks) = faults_in mark ++ faults_of marks
 
-abbrev pub faults_by : Option StoreFault → List StoreFault
-faults_by None = []
-faults_by (Some fault) = fault ∷ []
-
 -- ---- what calls leave
 
 -- so many faults more; the count stops at 2^64 - 1
@@ -98,7 +94,7 @@ pub record Passes (old new : Store) (faults : List StoreFault) : Type 0 where
 pub record Leaves (old new : Store) (fault : Option StoreFault) : Type 0 where
   pub before : Rests old
   pub after : Rests new
-  pub passes : Passes old new (faults_by fault)
+  pub passes : Passes old new (option_to_list fault)
   pub ended : old.broken ≡ true → fault ≡ Some Broken
   -- behind Broken too an opening finds something
   pub some : new.honest → ((left : Content) → new.may_hold left → ⊥) → ⊥

@@ -1,5 +1,5 @@
 -- What an end makes of a message, call by call.
-use Rattle.std.proofs.Common.{◌≡◌, ℕ, zero, suc, ◌+◌, true, false, Bool, List, [], ◌∷◌, take, length, Option, Some, None, Result, Ok, Err, IfOk, IfErr, refl, sym, ap, ◌∙◌, subst, arith, inl, inr}
+use Rattle.std.proofs.Common.{◌≡◌, ℕ, zero, suc, ◌+◌, true, false, Bool, List, [], ◌∷◌, take, length, Option, Some, None, Result, Ok, Err, IfOk, IfErr, refl, sym, ap, ◌∙◌, subst, arith, inl, inr, option_to_list}
 use Rattle.std.proofs.lemmas.List.{take_all}
 use Rattle.std.proofs.lemmas.Bool.{true≢false}
 use Rattle.std.proofs.lemmas.Option.{none-some, same_Some}
@@ -14,7 +14,7 @@ use Rattle.archive.specs.declared.fault.StoreFault.{StoreFault}
 use Rattle.archive.specs.declared.fault.StoreFault.TheVariants.{Broken}
 use Rattle.archive.specs.declared.fault.LearnFault.{LearnFault}
 use Rattle.archive.specs.declared.fault.LearnFault.TheVariants as refused
-use Rattle.archive.specs.Store.{Store, Asks, Passes, IsLawfulContent, faults_by, is_break, answer_to}
+use Rattle.archive.specs.Store.{Store, Asks, Passes, IsLawfulContent, is_break, answer_to}
 use Rattle.archive.proofs.Calls.{passes-none, passes-leaves, passes-then, in_use, left_in_use}
 use Rattle.exchange.specs.declared.fault.ExchangeFault.{ExchangeFault}
 use Rattle.exchange.specs.declared.fault.ExchangeFault.TheVariants as exchange
@@ -192,7 +192,7 @@ push_ends a c rs reply ends handles none e = record {
   spelled = subst IsSpelledReply (sym e) (omega arith);
   content = λ h u. left_clear a c (carrying (party_of a) state.Pushing a.content rs) reply handles h u ∙ sym (pushed_content (party_of a) a.content rs);
   crash = handles.crash;
-  passes = subst (λ w. Passes a c (faults_by (fault_on w))) handles.clear handles.passes;
+  passes = subst (λ w. Passes a c (option_to_list (fault_on w))) handles.clear handles.passes;
 }
   where
     tells : (xs : List Record) → Tells (carrying (party_of a) state.Pushing a.content xs) (Ok reply) → Tells (pushing (party_of a) a.content xs) (Ok ends)
@@ -210,7 +210,7 @@ push_goes a c rs reply handles some = record {
   spelled = handles.spelled;
   content = λ h u. left_clear a c (carrying (party_of a) state.Pushing a.content rs) reply handles h u ∙ sym (pushed_content (party_of a) a.content rs);
   crash = handles.crash;
-  passes = subst (λ w. Passes a c (faults_by (fault_on w))) handles.clear handles.passes;
+  passes = subst (λ w. Passes a c (option_to_list (fault_on w))) handles.clear handles.passes;
 }
   where
     tells : (xs : List Record) → Tells (carrying (party_of a) state.Pushing a.content xs) (Ok reply) → Tells (pushing (party_of a) a.content xs) (Ok reply)
@@ -398,7 +398,7 @@ module _ (a b c : Store) (rs : List Record) (n : ℕ) (state : State) (result : 
       | inl before ↦ elim (merges.crash (handles.passes.honest h) left before) [ inl old ↦ inl old | inr q ↦ inr (q.0, q.1, q.3) ]
       | inr q ↦ inr (unbroken_before a b [] merges.passes q.0, length rs, q.2 ∙ (left_by_take q.1 ∙ (left_is h q.0 ∙ ap (λ xs. merged xs a.content) (sym (take_all (length rs) rs (omega arith))))))
     ];
-    passes = subst (λ o. Passes a c (faults_by o)) (sym (lifted_faults handles.way)) (passes-then a b c [] (faults_by (fault_on handles.way)) merges.passes handles.passes);
+    passes = subst (λ o. Passes a c (option_to_list o)) (sym (lifted_faults handles.way)) (passes-then a b c [] (option_to_list (fault_on handles.way)) merges.passes handles.passes);
   }
     where
       left_by_take : (k : ℕ) → merged (take k []) b.content ≡ b.content
@@ -412,7 +412,7 @@ meets_refusal S r refused.TickNotRising is met = met
 meets_refusal S r refused.TickTooFar is met = met
 meets_refusal S r (refused.Store fault) is met = absurd is
 
-no_fault : (k : ℕ) (cause : LearnFault) → IsRefusal cause → faults_by (store_fault_of (exchange.Learn k cause)) ≡ []
+no_fault : (k : ℕ) (cause : LearnFault) → IsRefusal cause → option_to_list (store_fault_of (exchange.Learn k cause)) ≡ []
 no_fault k (refused.Gap held got) is = refl
 no_fault k refused.Clash is = refl
 no_fault k refused.TickNotRising is = refl

@@ -1,5 +1,5 @@
 -- One event in a world of archives, and one after the other.
-use Rattle.std.proofs.Common.{◌≡◌, ℕ, zero, suc, ◌+◌, ◌<◌, ◌≤◌, List, [], ◌∷◌, ◌++◌, map, take, length, get_or, Option, Some, None, option_map, Result, Ok, Err, refl, sym, ap, ◌∙◌, subst, arith, inl, inr}
+use Rattle.std.proofs.Common.{◌≡◌, ℕ, zero, suc, ◌+◌, ◌<◌, ◌≤◌, List, [], ◌∷◌, ◌++◌, map, take, length, get_or, Option, Some, None, option_map, Result, Ok, Err, refl, sym, ap, ◌∙◌, subst, arith, inl, inr, option_to_list}
 use Rattle.std.specs.Prelude.{slice_get, slice_set, IfOk, IfErr}
 use Rattle.std.specs.List.{AllByRecursion}
 use Rattle.std.specs.Option.{option_map_or}
@@ -8,7 +8,7 @@ use Rattle.records.specs.Contents.{Content, merged}
 use Rattle.records.specs.Records.{missing}
 use Rattle.records.specs.declared.record.Record.{Record}
 use Rattle.archive.specs.declared.fault.StoreFault.{StoreFault}
-use Rattle.archive.specs.Store.{Store, Passes, Asks, HasContent, faults_by}
+use Rattle.archive.specs.Store.{Store, Passes, Asks, HasContent}
 use Rattle.archive.proofs.Calls.{passes-none}
 use Rattle.archive.proofs.Acting.{holds-stays}
 use Rattle.hist_update.specs.declared.request.Request.{Request}
@@ -23,9 +23,9 @@ use Rattle.exchange.proofs.WorldLemmas.{next_world}
 
 pub sent_none : {X : Type 0} (a b : Store) (pool : List (List Record)) (v : ℕ → ℕ) (limit : ℕ) (fault : StoreFault) (end : Halted) (P : X → Type 0) → Asks {A = X} a b (Err fault) P → Gives a b pool pool v limit (Err end)
 sent_none a b pool v limit fault end P asks = record {
-  faults = faults_by (Some fault);
+  faults = option_to_list (Some fault);
   passes = asks.leaves.passes;
-  stays = λ honest R h. holds-stays a b (faults_by (Some fault)) R asks.stays asks.leaves.passes honest h;
+  stays = λ honest R h. holds-stays a b (option_to_list (Some fault)) R asks.stays asks.leaves.passes honest h;
   batch = λ honest R h. tt;
 }
 

@@ -1,9 +1,9 @@
 -- Two ends over memory.
-use Rattle.std.proofs.Common.{◌≡◌, ℕ, ◌+◌, false, List, [], ◌∷◌, ◌++◌, drop, take, length, Option, Some, None, Result, Ok, Err, refl, sym, ap, ◌∙◌, subst, inl, inr, ◌⊎◌}
+use Rattle.std.proofs.Common.{◌≡◌, ℕ, ◌+◌, false, List, [], ◌∷◌, ◌++◌, drop, take, length, Option, Some, None, Result, Ok, Err, refl, sym, ap, ◌∙◌, subst, inl, inr, ◌⊎◌, option_to_list}
 use Rattle.records.specs.Contents.{Content}
 use Rattle.archive.specs.declared.fault.StoreFault.{StoreFault}
 use Rattle.archive.specs.declared.fault.LearnFault.TheVariants as refused
-use Rattle.archive.specs.Store.{Store, Passes, Stays, faults_by}
+use Rattle.archive.specs.Store.{Store, Passes, Stays}
 use Rattle.archive.proofs.Calls.{passes-none}
 use Rattle.exchange.specs.declared.fault.ExchangeFault.{ExchangeFault}
 use Rattle.exchange.specs.declared.fault.ExchangeFault.TheVariants as exchange
@@ -95,7 +95,7 @@ module _ (old new : Store) (before after : Standing) (m : Message) (out written 
         written = bytes wrote;
         stands = takes.stands honest ∙ ap (standing_after before (kind_of m)) turn;
         content = λ u. takes.content honest u ∙ ap (λ (t : Turn). t.content) turn;
-        passes = subst (λ w. Passes old new (faults_by (fault_on w))) is takes.passes;
+        passes = subst (λ w. Passes old new (option_to_list (fault_on w))) is takes.passes;
       }
     where
       result : Writes (turned (party_of old) before.state old.content m) (Ok s) out written → (turned (party_of old) before.state old.content m).result ≡ Ok s
@@ -108,14 +108,14 @@ module _ (old new : Store) (before after : Standing) (m : Message) (out written 
 
   -- where the turn has an answer, an Err is of the outside
   pub of_outside : (s : State) (fault : ExchangeFault) → (turned (party_of old) before.state old.content m).result ≡ Ok s → (takes : Takes old new before after (kind_of m) (body_of m) out written (Err fault))
-      → IsOfOutside fault × IsTold fault (faults_by (fault_on takes.way))
+      → IsOfOutside fault × IsTold fault (option_to_list (fault_on takes.way))
   of_outside s fault fine takes = go takes.way (wrote (Err fault) takes)
     where
       is_either : (g : ExchangeFault) (faults : List StoreFault) → IsOfOutside g × IsTold g faults → (fault ≡ g) ⊎ (fault ≡ exchange.OutOfMemory) → IsOfOutside fault × IsTold fault faults
       is_either g faults is (inl e) = subst (λ x. IsOfOutside x × IsTold x faults) (sym e) is
       is_either g faults is (inr e) = subst (λ x. IsOfOutside x × IsTold x faults) (sym e) (tt, tt)
 
-      go : (w : Way) → Writes (by_way w) (Err fault) out written → IsOfOutside fault × IsTold fault (faults_by (fault_on w))
+      go : (w : Way) → Writes (by_way w) (Err fault) out written → IsOfOutside fault × IsTold fault (option_to_list (fault_on w))
       go Clear (inl e) = let x = e.0 in cc
       go Clear (inr e) = let x = e.1 in cc
       go Unread told = is_either exchange.OutOfMemory [] (tt, tt) (told_or (by_way Unread).content exchange.OutOfMemory fault out written told)
@@ -162,9 +162,9 @@ hand_takes a c before after bytes out written held frame result e gives takes = 
       let own = given_own m bytes frame is same (subst (λ h. Gives h (Ok (Some frame))) e gives) in
       inr (subst (λ b. IsTaken (kind_of m) b) own.1 (subst (λ k. IsTaken k frame.body.now) own.0 (takes, refl)));
   started = takes.started;
-  faults = faults_by (fault_on takes.way);
+  faults = option_to_list (fault_on takes.way);
   passes = takes.passes;
 }
   where
     IsTaken : FrameKind → List ℕ → Type 0
-    IsTaken kind body = (taken : Takes a c before after kind body out written result) × (faults_by (fault_on takes.way) ≡ faults_by (fault_on taken.way))
+    IsTaken kind body = (taken : Takes a c before after kind body out written result) × (option_to_list (fault_on takes.way) ≡ option_to_list (fault_on taken.way))

@@ -1,5 +1,5 @@
 -- One event at one archive.
-use Rattle.std.proofs.Common.{◌≡◌, ℕ, zero, suc, ◌+◌, ◌-◌, ◌^◌, ◌<◌, ◌≤◌, min, ℤ, pos, Bool, true, false, List, [], ◌∷◌, ◌++◌, take, length, get_or, Option, Some, None, Result, Ok, Err, refl, sym, ap, ◌∙◌, subst, arith, inl, inr, ◌⊎◌}
+use Rattle.std.proofs.Common.{◌≡◌, ℕ, zero, suc, ◌+◌, ◌-◌, ◌^◌, ◌<◌, ◌≤◌, min, ℤ, pos, Bool, true, false, List, [], ◌∷◌, ◌++◌, take, length, get_or, Option, Some, None, Result, Ok, Err, refl, sym, ap, ◌∙◌, subst, arith, inl, inr, ◌⊎◌, option_to_list}
 use Rattle.std.specs.Prelude.{slice_get, unwrap_or, IfOk}
 use Rattle.std.proofs.lemmas.Bool.{true≢false}
 use Rattle.std.proofs.lemmas.List.{take_more}
@@ -22,7 +22,7 @@ use Rattle.archive.specs.declared.fault.StoreFault.{StoreFault}
 use Rattle.archive.specs.declared.fault.StoreFault.TheVariants as store
 use Rattle.archive.specs.declared.fault.LearnFault.{LearnFault}
 use Rattle.archive.specs.declared.fault.LearnFault.TheVariants as refused
-use Rattle.archive.specs.Store.{Store, Mark, Fine, Starved, Met, faults_in, faults_of, faults_by, failed_by, fault_in, raised, Passes, Asks, Learns, HasContent, answer_to, store_fault_in}
+use Rattle.archive.specs.Store.{Store, Mark, Fine, Starved, Met, faults_in, faults_of, failed_by, fault_in, raised, Passes, Asks, Learns, HasContent, answer_to, store_fault_in}
 use Rattle.archive.specs.Steps.{Does, Acts, step}
 use Rattle.archive.proofs.Calls.{passes-none, passes-then}
 use Rattle.archive.proofs.Acting.{acts-as, acts-learned, acts-unlearned, holds-stays}
@@ -149,9 +149,9 @@ module _ (a b : Store) (request : Request) (op : Operation) (used : List Mark) (
 
 pub restarted : (a b : Store) (result : Result (Unit {0}) StoreFault) (P : Unit {0} → Type 0) → Asks a b result P → Turns a b (λ R. R) IsSame (Ok tt)
 restarted a b result P asks = record {
-  faults = faults_by (fault_in result);
+  faults = option_to_list (fault_in result);
   passes = asks.leaves.passes;
-  done = λ honest R h. holds-stays a b (faults_by (fault_in result)) R asks.stays asks.leaves.passes honest h;
+  done = λ honest R h. holds-stays a b (option_to_list (fault_in result)) R asks.stays asks.leaves.passes honest h;
   halted = λ honest R h. tt;
 }
 
@@ -190,8 +190,8 @@ module _ (a b c : Store) (xs : List Record) (i : ℕ) (d r : Record) (so_far : L
   -- the store met a fault
   pub learned_halted : (fault : StoreFault) (end : Halted) → Learns b c r (Err (refused.Store fault)) → Turns a c (merged xs) (HasFirst xs) (Err end)
   learned_halted fault end learns = record {
-    faults = so_far.faults ++ faults_by (Some fault);
-    passes = passes-then a b c so_far.faults (faults_by (Some fault)) so_far.passes learns.leaves.passes;
+    faults = so_far.faults ++ option_to_list (Some fault);
+    passes = passes-then a b c so_far.faults (option_to_list (Some fault)) so_far.passes learns.leaves.passes;
     done = λ honest R h. tt;
     halted = λ honest R h.
         let here = so_far.all (learns.leaves.passes.honest honest) R h in
@@ -204,8 +204,8 @@ module _ (a b c : Store) (xs : List Record) (i : ℕ) (d r : Record) (so_far : L
   learned_refused cause is_refusal learns =
       let quiet = no_fault cause is_refusal in
       record {
-        faults = so_far.faults ++ faults_by (store_fault_in (Err cause));
-        passes = passes-then a b c so_far.faults (faults_by (store_fault_in (Err cause))) so_far.passes learns.leaves.passes;
+        faults = so_far.faults ++ option_to_list (store_fault_in (Err cause));
+        passes = passes-then a b c so_far.faults (option_to_list (store_fault_in (Err cause))) so_far.passes learns.leaves.passes;
         done = λ honest R h.
             let here = so_far.all (learns.leaves.passes.honest honest) R h in
             let M = merged (take i xs) R in

@@ -1,10 +1,10 @@
 -- What an end makes of a frame.
-use Rattle.std.proofs.Common.{◌≡◌, ℕ, zero, suc, List, [], ◌++◌, take, Option, Some, None, Result, Ok, Err, IfOk, refl, sym, ap, ◌∙◌, subst, inl, inr}
+use Rattle.std.proofs.Common.{◌≡◌, ℕ, zero, suc, List, [], ◌++◌, take, Option, Some, None, Result, Ok, Err, IfOk, refl, sym, ap, ◌∙◌, subst, inl, inr, option_to_list}
 use Rattle.stamp.specs.Numbers.{number_of, IsVector}
 use Rattle.ua_binary.specs.Format.{Puts}
 use Rattle.records.specs.Contents.{vec, merged}
 use Rattle.records.specs.Spelling.{GivesUnless}
-use Rattle.archive.specs.Store.{Store, Asks, Passes, faults_by}
+use Rattle.archive.specs.Store.{Store, Asks, Passes}
 use Rattle.std.proofs.lemmas.Option.{none-some}
 use Rattle.exchange.specs.declared.fault.ExchangeFault.{ExchangeFault}
 use Rattle.exchange.specs.declared.fault.ExchangeFault.TheVariants as exchange
@@ -46,7 +46,7 @@ answers_sent a c state m (Ok reply) (Err fault) out written handles sends = reco
   sends = λ h. (ap (failing _) (sym sends.0), sends.1);
   content = λ h u. subst (λ w. c.content ≡ (gone w a.content (records_in m) (turned (party_of a) state a.content m)).content) handles.clear (handles.content h u);
   crash = handles.crash;
-  passes = subst (λ w. Passes a c (faults_by (fault_on w))) handles.clear handles.passes;
+  passes = subst (λ w. Passes a c (option_to_list (fault_on w))) handles.clear handles.passes;
 }
 answers_sent a c state m (Err fault) (Ok done) out written handles sends = absurd sends
 answers_sent a c state m (Err fault) (Err told) out written handles sends = record {
@@ -143,7 +143,7 @@ module _ (a c : Store) (before counted after : Standing) (kind : FrameKind) (out
       | inl old ↦ inl old
       | inr q ↦ inr (q.0, 0, q.2 ∙ none q.1)
     ];
-    passes = subst (λ w. Passes a c (faults_by (fault_on w))) answers.unmoved answers.passes;
+    passes = subst (λ w. Passes a c (option_to_list (fault_on w))) answers.unmoved answers.passes;
     counted = taken_is answered concludes;
     fit = failed exchange.OutOfMemory answered answers.untaken concludes;
     started = started_is answered concludes;
@@ -195,5 +195,5 @@ greets a b v out written t (Err fault) asks is e puts = record {
   kept = (subst Rattle.exchange.specs.Batches.IsOfAnswer (sym puts.0) tt, puts.1);
   ended = λ x. absurd (none-some _ (asks.leaves.ended x));
   stays = asks.stays;
-  passes = subst (λ f. Passes a b (faults_by (Rattle.exchange.specs.Fault.store_fault_of f))) (sym puts.0) asks.leaves.passes;
+  passes = subst (λ f. Passes a b (option_to_list (Rattle.exchange.specs.Fault.store_fault_of f))) (sym puts.0) asks.leaves.passes;
 }

@@ -1,5 +1,5 @@
 -- A whole dialog over memory.
-use Rattle.std.proofs.Common.{◌≡◌, ℕ, zero, suc, ◌+◌, ◌*◌, ◌<◌, ◌≤◌, true, false, Bool, List, [], ◌∷◌, ◌++◌, take, length, Some, None, Result, Ok, Err, refl, sym, ap, ◌∙◌, subst, arith, inl, inr, ◌⊎◌}
+use Rattle.std.proofs.Common.{◌≡◌, ℕ, zero, suc, ◌+◌, ◌*◌, ◌<◌, ◌≤◌, true, false, Bool, List, [], ◌∷◌, ◌++◌, take, length, Some, None, Result, Ok, Err, refl, sym, ap, ◌∙◌, subst, arith, inl, inr, ◌⊎◌, option_to_list}
 use Rattle.std.specs.Prelude.{nat_lt, Option, IfSome}
 use Rattle.records.specs.Lists.{Has}
 use Rattle.archive.specs.declared.fault.StoreFault.{StoreFault}
@@ -8,7 +8,7 @@ use Rattle.std.proofs.Math.Bool.{or-false}
 use Rattle.std.proofs.lemmas.Bool.{cases_Bool, ltb-true, ltb-false}
 use Rattle.records.specs.Contents.{Content, merged}
 use Rattle.archive.specs.declared.fault.LearnFault.TheVariants as refused
-use Rattle.archive.specs.Store.{Store, faults_by}
+use Rattle.archive.specs.Store.{Store}
 use Rattle.archive.proofs.Calls.{passes-none, passes-then}
 use Rattle.exchange.specs.declared.fault.ExchangeFault.{ExchangeFault}
 use Rattle.exchange.specs.declared.fault.ExchangeFault.TheVariants as exchange
@@ -96,7 +96,7 @@ less_told fault xs ys told = go (store_fault_of fault) told
     go None h = tt
     go (Some f) h = has_less xs ys f h
 
-all_told : (o : Option StoreFault) → IfSome o (Has (faults_by o ++ []))
+all_told : (o : Option StoreFault) → IfSome o (Has (option_to_list o ++ []))
 all_told None = tt
 all_told (Some f) = inl refl
 
@@ -115,7 +115,7 @@ module _ (a0 b0 a : Store) (there : List ℕ) where
     );
     long = λ h k meet e. absurd (not_long fault (of_answer fault greets.kept.0) (err_is fault exchange.TooLong e));
     told = λ h k meet. all_told (store_fault_of fault);
-    faults = faults_by (store_fault_told {A = Unit {0}} (Err fault));
+    faults = option_to_list (store_fault_told {A = Unit {0}} (Err fault));
     passes = greets.passes;
     others = [];
     passes_other = passes-none b0;
@@ -174,14 +174,14 @@ module _ (b c : Store) (before after : Standing) (kind : FrameKind) (body out wr
       go Starved t = no_ok b.content exchange.OutOfMemory s out written t
       go (Met f) t = no_ok b.content (exchange.Store f) s out written t
 
-  full_falls : (fault : ExchangeFault) (takes : Takes b c before after kind body out written (Err fault)) → IsOfMeeting fault × IsTold fault (faults_by (fault_on takes.way))
+  full_falls : (fault : ExchangeFault) (takes : Takes b c before after kind body out written (Err fault)) → IsOfMeeting fault × IsTold fault (option_to_list (fault_on takes.way))
   full_falls fault takes = go takes.way (told (Err fault) takes)
     where
       either : (g : ExchangeFault) (faults : List StoreFault) → IsOfMeeting g × IsTold g faults → (fault ≡ g) ⊎ (fault ≡ exchange.OutOfMemory) → IsOfMeeting fault × IsTold fault faults
       either g faults is (inl e) = subst (λ x. IsOfMeeting x × IsTold x faults) (sym e) is
       either g faults is (inr e) = subst (λ x. IsOfMeeting x × IsTold x faults) (sym e) (tt, tt)
 
-      go : (w : Way) → Writes (by_way w) (Err fault) out written → IsOfMeeting fault × IsTold fault (faults_by (fault_on w))
+      go : (w : Way) → Writes (by_way w) (Err fault) out written → IsOfMeeting fault × IsTold fault (option_to_list (fault_on w))
       go Clear t = either exchange.TooLong [] (tt, tt) (told_or b.content exchange.TooLong fault out written t)
       go Unread t = either exchange.OutOfMemory [] (tt, tt) (told_or b.content exchange.OutOfMemory fault out written t)
       go (Stopped k f) t = either (exchange.Learn k (refused.Store f)) (f ∷ []) (tt, inl refl) (told_or (by_way (Stopped k f)).content (exchange.Learn k (refused.Store f)) fault out written t)

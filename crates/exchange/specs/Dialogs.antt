@@ -1,6 +1,6 @@
 -- A dialog between two replicas: what an end makes of each frame that it takes, and what it answers. Both ends of a dialog, over memory or over
 -- a connection, are these.
-use Rattle.std.specs.Prelude.{◌≡◌, ◌⊎◌, ⊤, ℕ, zero, suc, ◌+◌, ◌-◌, ◌<◌, nat_le, Bool, true, false, List, [], ◌∷◌, ◌++◌, take, length, Option, None, Some, unwrap_or, Result, Ok, Err, IfOk, IfErr, IfSome, if◌then◌else◌}
+use Rattle.std.specs.Prelude.{◌≡◌, ◌⊎◌, ⊤, ℕ, zero, suc, ◌+◌, ◌-◌, ◌<◌, nat_le, Bool, true, false, List, [], ◌∷◌, ◌++◌, take, length, Option, None, Some, unwrap_or, Result, Ok, Err, IfOk, IfErr, IfSome, if◌then◌else◌, option_to_list}
 use Rattle.std.specs.Option.{option_map_or}
 use Rattle.stamp.specs.Numbers.{number_of}
 use Rattle.stamp.specs.Vector.{vector}
@@ -12,7 +12,7 @@ use Rattle.archive.specs.declared.fault.StoreFault.{StoreFault}
 use Rattle.archive.specs.declared.fault.StoreFault.TheVariants.{Broken}
 use Rattle.archive.specs.declared.fault.LearnFault.{LearnFault}
 use Rattle.archive.specs.declared.fault.LearnFault.TheVariants as refused
-use Rattle.archive.specs.Store.{Store, Passes, Stays, faults_by, answer_to}
+use Rattle.archive.specs.Store.{Store, Passes, Stays, answer_to}
 use Rattle.exchange.specs.declared.fault.ExchangeFault.{ExchangeFault}
 use Rattle.exchange.specs.declared.fault.ExchangeFault.TheVariants.{Frame, Learn, OutOfMemory, TooLong}
 use Rattle.exchange.specs.declared.fault.ExchangeFault.TheVariants as exchange
@@ -249,7 +249,7 @@ pub record Handles (old new : Store) (rs : List Record) (turn : Turn) (result : 
   -- a crash leaves what it could leave before, or the content with some first records of the batch
   pub crash : new.honest → (left : Content) → new.may_hold left
       → old.may_hold left ⊎ ((old.broken ≡ false) × (k : ℕ) × (left ≡ merged (take k rs) old.content))
-  pub passes : Passes old new (faults_by (fault_on way))
+  pub passes : Passes old new (option_to_list (fault_on way))
 
 -- the reply is written; where memory for what tells a fault is wanting too, that is told instead, and nothing is written
 abbrev pub Writes : Turn → Result State ExchangeFault → List ℕ → List ℕ → Type 0
@@ -270,7 +270,7 @@ pub record Takes (old new : Store) (before after : Standing) (kind : FrameKind) 
   pub content : new.honest → new.broken ≡ false → new.content ≡ (answered (party_of old) before old.content way kind body).content
   pub crash : new.honest → (left : Content) → new.may_hold left
       → old.may_hold left ⊎ ((old.broken ≡ false) × (k : ℕ) × (left ≡ merged (take k (records_read (received (party_of old) before kind body))) old.content))
-  pub passes : Passes old new (faults_by (fault_on way))
+  pub passes : Passes old new (option_to_list (fault_on way))
   -- whatever the store, frames are counted
   pub counted : after.taken ≡ taken_after (unfit before kind) before.taken
   -- and the dialog goes on only behind one that may be taken
@@ -287,7 +287,7 @@ pub record Greets (old new : Store) (out written : List ℕ) (result : Result (U
   pub kept : IfErr result (λ fault. IsOfAnswer fault × (written ≡ out))
   pub ended : old.broken ≡ true → result ≡ Err (exchange.Store Broken)
   pub stays : Stays old new
-  pub passes : Passes old new (faults_by (store_fault_told result))
+  pub passes : Passes old new (option_to_list (store_fault_told result))
 
 -- a fault is told to the peer, or memory for that is wanting
 abbrev pub TellsFault : ExchangeFault → Result State ExchangeFault → List ℕ → List ℕ → Type 0
@@ -319,7 +319,7 @@ pub record AnswersTo (old new : Store) (state : State) (received : Result Messag
   pub content : new.honest → new.broken ≡ false → new.content ≡ (answered_to (party_of old) state old.content way received).content
   pub crash : new.honest → (left : Content) → new.may_hold left
       → old.may_hold left ⊎ ((old.broken ≡ false) × (k : ℕ) × (left ≡ merged (take k (records_read received)) old.content))
-  pub passes : Passes old new (faults_by (fault_on way))
+  pub passes : Passes old new (option_to_list (fault_on way))
 
 -- an end stands as what was answered says, and a fault is told
 abbrev pub Concludes : Standing → Standing → Result (State × Option ℕ) ExchangeFault → Result State ExchangeFault → List ℕ → List ℕ → Type 0

@@ -1,12 +1,12 @@
 -- Dialogs of two replicas over memory.
-use Rattle.std.specs.Prelude.{◌≡◌, ◌⊎◌, ⊤, ℕ, ◌+◌, ◌*◌, ◌≤◌, false, List, [], length, Result, Ok, Err, IfOk, IfErr, IfSome, ◌++◌, ◌∷◌, Some}
+use Rattle.std.specs.Prelude.{◌≡◌, ◌⊎◌, ⊤, ℕ, ◌+◌, ◌*◌, ◌≤◌, false, List, [], length, Result, Ok, Err, IfOk, IfErr, IfSome, ◌++◌, ◌∷◌, Some, option_to_list}
 use Rattle.records.specs.Lists.{Has}
 use Rattle.stamp.specs.Numbers.{number_of}
 use Rattle.records.specs.Contents.{Content, AreCompatible, IsWithin, join, vec}
 use Rattle.records.specs.declared.record.Record.{Record}
 use Rattle.archive.specs.declared.fault.StoreFault.{StoreFault}
 use Rattle.archive.specs.declared.fault.LearnFault.TheVariants as refused
-use Rattle.archive.specs.Store.{Store, Rests, IsLawfulContent, Passes, Stays, faults_by}
+use Rattle.archive.specs.Store.{Store, Rests, IsLawfulContent, Passes, Stays}
 use Rattle.exchange.specs.declared.message.Title.{Title}
 use Rattle.exchange.specs.declared.message.Message.{Message}
 use Rattle.exchange.specs.declared.message.Message.TheVariants.{Asks, Carries, Ends}
@@ -82,7 +82,7 @@ pub record Hands (old new : Store) (before after : Standing) (bytes out written 
   pub passes : Passes old new faults
   pub takes : (m : Message) → IsSpelled m → bytes ≡ frame_of m
       → (Stays old new × Passes old new [] × (result ≡ Err exchange.OutOfMemory))
-      ⊎ ((taken : Takes old new before after (kind_of m) (body_of m) out written result) × (faults ≡ faults_by (fault_on taken.way)))
+      ⊎ ((taken : Takes old new before after (kind_of m) (body_of m) out written result) × (faults ≡ option_to_list (fault_on taken.way)))
   pub started : after.started ≡ before.started
 
 -- the peer may be met

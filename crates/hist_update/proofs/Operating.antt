@@ -1,5 +1,5 @@
 -- One operation over an archive: a survey, a record, and what the archive makes of it.
-use Rattle.std.proofs.Common.{◌≡◌, ℕ, ◌+◌, ◌≤◌, ℤ, pos, ◌≤ℤ◌, ◌<ℤ◌, min, Bool, true, false, Option, Some, None, IfSome, IfNone, unwrap_or, List, [], ◌∷◌, Result, Ok, Err, IsErr, refl, sym, ap, ◌∙◌, subst, arith, nat_lt, int_lt, ◌+ℤ◌}
+use Rattle.std.proofs.Common.{◌≡◌, ℕ, ◌+◌, ◌≤◌, ℤ, pos, ◌≤ℤ◌, ◌<ℤ◌, min, Bool, true, false, Option, Some, None, IfSome, IfNone, unwrap_or, List, [], ◌∷◌, Result, Ok, Err, IsErr, refl, sym, ap, ◌∙◌, subst, arith, nat_lt, int_lt, ◌+ℤ◌, option_to_list}
 use Rattle.std.specs.Prelude.{if◌then◌else◌}
 use Rattle.std.specs.Int.{int_max, int_min}
 use Rattle.std.proofs.lemmas.Bool.{true≢false}
@@ -30,7 +30,7 @@ use Rattle.archive.specs.declared.fault.LearnFault.TheVariants as refused
 use Rattle.archive.specs.declared.setback.Setback.TheVariants as setback
 use Rattle.archive.specs.Fault.{status_of}
 use Rattle.archive.specs.Steps.{step, Does, Acts}
-use Rattle.archive.specs.Store.{Store, Mark, Fine, Starved, Met, faults_by, Passes, Asks, Learns, store_fault_in, answer_to, HasContent}
+use Rattle.archive.specs.Store.{Store, Mark, Fine, Starved, Met, Passes, Asks, Learns, store_fault_in, answer_to, HasContent}
 use Rattle.archive.proofs.Results.{err-ok}
 use Rattle.archive.proofs.Calls.{in_use, passes-none}
 use Rattle.archive.proofs.Acting.{does-step, holds-stays, acts-learned, acts-unlearned}
@@ -235,7 +235,7 @@ settled-submitted a b c request op change place result asked p e (answer, learns
         (q.0, does-one a.own request op a.content Fine (done change.asked place.live) q.0 (ap code_in k.is) (ap (after a.content) k.is ∙ left), q.2)
 
     quiet : (x : Result Bool LearnFault) → store_fault_in x ≡ None → Learns b c (candidate_of request place change) x → Passes b c []
-    quiet x none l = subst (λ f. Passes b c (faults_by f)) none l.leaves.passes
+    quiet x none l = subst (λ f. Passes b c (option_to_list f)) none l.leaves.passes
 
     impossible : {X : Type 0} (f : LearnFault) → Learns b c (candidate_of request place change) (Err f) → store_fault_in (Err f) ≡ None → c.honest → HasContent b a.content → IsPlace a request change.time place → X
     impossible f l none honest h at = absurd (err-ok (Err f) f true refl (sym (answered (Err f) l none honest h at)))

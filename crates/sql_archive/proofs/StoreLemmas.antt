@@ -1,5 +1,5 @@
 -- An archive in a database meets the contract of archives.
-use Rattle.std.proofs.Common.{◌≡◌, ◌⊎◌, inl, inr, ℕ, is_gt, ◌||◌, List, Bool, true, false, Option, Some, None, IfSome, Result, Ok, Err, IfOk, IfErr, IsTrue, refl, sym, ap, ap₂, ◌∙◌, subst, arith, [], ◌∷◌, map}
+use Rattle.std.proofs.Common.{◌≡◌, ◌⊎◌, inl, inr, ℕ, is_gt, ◌||◌, List, Bool, true, false, Option, Some, None, IfSome, Result, Ok, Err, IfOk, IfErr, IsTrue, refl, sym, ap, ap₂, ◌∙◌, subst, arith, [], ◌∷◌, map, option_to_list}
 use Rattle.std.proofs.lemmas.Bool.{true≢false}
 use Rattle.std.proofs.lemmas.Option.{none-some}
 use Rattle.std.proofs.Math.Logic.{∥∥₁_elim}
@@ -16,7 +16,7 @@ use Rattle.archive.specs.declared.fault.LearnFault.TheVariants as refused
 use Rattle.sql_archive.specs.Learning.{Learned, flat, IsOwn, was_added}
 use Rattle.archive.specs.declared.fault.StoreFault.{StoreFault}
 use Rattle.archive.specs.declared.fault.StoreFault.TheVariants.{OutOfMemory, Refused, WrongReplica, WrongArchive, Broken}
-use Rattle.archive.specs.Store.{Store, IsLawfulContent, IsSettled, Rests, IsOfOpening, faults_by, failed_by, is_break, Passes, Leaves, Stays as Rest, fault_in, Asks, Learns, store_fault_in}
+use Rattle.archive.specs.Store.{Store, IsLawfulContent, IsSettled, Rests, IsOfOpening, failed_by, is_break, Passes, Leaves, Stays as Rest, fault_in, Asks, Learns, store_fault_in}
 use Rattle.archive.specs.Listed.{is_broken, failures}
 use Rattle.std.specs.List.{list_any, AllByRecursion}
 use Rattle.std.proofs.Math.Bool.{or-false}
@@ -105,7 +105,7 @@ module _ {S : Type 0} (g : Ghosts S) (laws : Laws g) where
   pub finds_some : (a : Kept S) → HasCleanDisk (state g a.conn) → ((left : Content) → (store_of g a).may_hold left → ⊥) → ⊥
   finds_some a clean none = ∥∥₁_elim (laws.survives a.conn.store clean) (λ x y. absurd x) (λ found. none (content_in found.0) (found.0, found.1, refl))
 
-  breaks : (x y : Bool) (fault : Option StoreFault) → y ≡ is_broken fault → (x ≡ true → fault ≡ Some Broken) → y ≡ (x || list_any is_break (faults_by fault))
+  breaks : (x y : Bool) (fault : Option StoreFault) → y ≡ is_broken fault → (x ≡ true → fault ≡ Some Broken) → y ≡ (x || list_any is_break (option_to_list fault))
   breaks true y fault e ended = e ∙ ap is_broken (ended refl)
   breaks false y None e ended = e
   breaks false y (Some f) e ended = e ∙ sym (or-false (is_break f))
@@ -129,11 +129,11 @@ module _ {S : Type 0} (g : Ghosts S) (laws : Laws g) where
     some = finds_some b;
   }
     where
-      counted : (o : Option StoreFault) → b.faults ≡ failures a.faults o → b.faults ≡ failed_by (faults_by o) a.faults
+      counted : (o : Option StoreFault) → b.faults ≡ failures a.faults o → b.faults ≡ failed_by (option_to_list o) a.faults
       counted None e = e
       counted (Some f) e = e
 
-      meets : (o : Option StoreFault) → IfSome o (λ f. IsOfOpening f → ⊥) → AllByRecursion (λ f. (IsOfOpening f → ⊥) × (IsOfOpening f → ⊥)) (faults_by o)
+      meets : (o : Option StoreFault) → IfSome o (λ f. IsOfOpening f → ⊥) → AllByRecursion (λ f. (IsOfOpening f → ⊥) × (IsOfOpening f → ⊥)) (option_to_list o)
       meets None m = tt
       meets (Some f) m = ((m, m), tt)
 

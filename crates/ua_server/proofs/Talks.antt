@@ -1,12 +1,12 @@
 -- How the frames of a dialog make the dialog.
-use Rattle.std.proofs.Common.{◌≡◌, ℕ, ◌+◌, Bool, false, List, [], ◌∷◌, ◌++◌, map, take, drop, length, Option, Some, None, Result, Ok, Err, refl, sym, ◌∙◌, ap, subst, append_assoc, inl, inr}
+use Rattle.std.proofs.Common.{◌≡◌, ℕ, ◌+◌, Bool, false, List, [], ◌∷◌, ◌++◌, map, take, drop, length, Option, Some, None, Result, Ok, Err, refl, sym, ◌∙◌, ap, subst, append_assoc, inl, inr, option_to_list}
 use Rattle.std.specs.List.{flat_map}
 use Rattle.std.proofs.Math.Bool.{or-false}
 use Rattle.std.proofs.lemmas.List.{map-append, append-nil, take-append-drop}
 use Rattle.std.proofs.lemmas.Grind.{flat_map-append}
 use Rattle.records.specs.Contents.{Content}
 use Rattle.archive.specs.declared.fault.StoreFault.{StoreFault}
-use Rattle.archive.specs.Store.{Store, Passes, faults_by}
+use Rattle.archive.specs.Store.{Store, Passes}
 use Rattle.archive.proofs.Calls.{passes-none, passes-then}
 use Rattle.exchange.specs.declared.fault.ExchangeFault.{ExchangeFault}
 use Rattle.exchange.specs.declared.fault.ExchangeFault.TheVariants as exchange
@@ -127,7 +127,7 @@ talks-then start mid last a b c came out rest more left ending t s =
           ∙ (sym (append_assoc (flat_map (λ t. t.said) t.taken) (flat_map (λ t. t.said) s.taken) s.beside)
           ∙ ap (λ (o : List ℕ). o ++ s.beside) (sym (flat_map-append (λ (t : Taken). t.said) t.taken s.taken))));
       ends = end-behind t.taken s.taken last.code left s.beside ending t.ends.0 s.ends;
-      passes = subst (λ (fs : List StoreFault). Passes a c fs) (sym (flat_map-append (λ (t : Taken). faults_by (fault_on t.way)) t.taken s.taken)) (passes-then a b c (faults_met t.taken) (faults_met s.taken) t.passes s.passes);
+      passes = subst (λ (fs : List StoreFault). Passes a c fs) (sym (flat_map-append (λ (t : Taken). option_to_list (fault_on t.way)) t.taken s.taken)) (passes-then a b c (faults_met t.taken) (faults_met s.taken) t.passes s.passes);
       answered = λ h u.
           answered-append (party_of a) (side_of start a) t.taken s.taken (t.answered (before h) u)
           (subst (λ (x : Side). AreAnswered (party_of a) x s.taken) (at h u)
@@ -209,9 +209,9 @@ goes-on : (code : Option ℕ) (silent : Bool) (result : Result State ExchangeFau
 goes-on code silent (Ok state) e = (state, refl)
 goes-on code silent (Err fault) e = absurd (cc)
 
-still-used : (a b : Store) (fault : Option StoreFault) → Passes a b (faults_by fault) → fault ≡ None → a.broken ≡ false → b.broken ≡ false
+still-used : (a b : Store) (fault : Option StoreFault) → Passes a b (option_to_list fault) → fault ≡ None → a.broken ≡ false → b.broken ≡ false
 still-used a b fault p none u =
-    let q : Passes a b [] = subst (λ (f : Option StoreFault). Passes a b (faults_by f)) none p in
+    let q : Passes a b [] = subst (λ (f : Option StoreFault). Passes a b (option_to_list f)) none p in
     q.broken ∙ (or-false a.broken ∙ u)
 
 pub talks-frame : (a b : Store) (before next : Standing) (frame : Piece) (waiting said : List ℕ) (result : Result State ExchangeFault)
@@ -232,7 +232,7 @@ talks-frame a b before next frame waiting said result stands within body takes =
       );
       wrote = sym (append-nil (said ++ []) ∙ append-nil said);
       ends = end-one frame takes.way said result next.code (drop (8 + length frame.body) waiting);
-      passes = subst (λ (fs : List StoreFault). Passes a b fs) (sym (append-nil (faults_by (fault_on takes.way)))) takes.passes;
+      passes = subst (λ (fs : List StoreFault). Passes a b fs) (sym (append-nil (option_to_list (fault_on takes.way)))) takes.passes;
       answered = λ h u. (takes.writes h, tt);
       stands = λ h u. takes.stands h;
       content = λ h u v. takes.content h v;

@@ -1,10 +1,10 @@
 -- A dialog with a peer over a connection: which frames came, what an end made of them, and what went out.
-use Rattle.std.specs.Prelude.{◌≡◌, ◌⊎◌, ⊤, ℕ, ◌==◌, Bool, true, false, not, List, [], ◌∷◌, ◌++◌, take, map, length, Option, None, Some, unwrap_or, Result, Ok, Err}
+use Rattle.std.specs.Prelude.{◌≡◌, ◌⊎◌, ⊤, ℕ, ◌==◌, Bool, true, false, not, List, [], ◌∷◌, ◌++◌, take, map, length, Option, None, Some, unwrap_or, Result, Ok, Err, option_to_list}
 use Rattle.std.specs.List.{AllByRecursion, flat_map}
 use Rattle.std.specs.Io.KnownBytes.{Appends, Consumes, IsAtEnd}
 use Rattle.records.specs.Contents.{Content, merged}
 use Rattle.archive.specs.declared.fault.StoreFault.{StoreFault}
-use Rattle.archive.specs.Store.{Store, Passes, faults_by}
+use Rattle.archive.specs.Store.{Store, Passes}
 use Rattle.exchange.specs.declared.fault.ExchangeFault.{ExchangeFault}
 use Rattle.exchange.specs.declared.fault.ExchangeFault.TheVariants as exchange
 use Rattle.exchange.specs.declared.message.State.{State}
@@ -60,7 +60,7 @@ MayLeave p side (t ∷ later) left =
     ⊎ MayLeave p (after p side t) later left
 
 abbrev pub faults_met : List Taken → List StoreFault
-faults_met taken = flat_map (λ t. faults_by (fault_on t.way)) taken
+faults_met taken = flat_map (λ t. option_to_list (fault_on t.way)) taken
 
 -- ---- ends
 
