@@ -1,5 +1,5 @@
 -- Live values in ranges, and the nearest one outside.
-use Rattle.std.proofs.Common.{◌≡◌, ℤ, ◌≤ℤ◌, Bool, true, false, List, [], ◌∷◌, filter, Option, Some, None, refl, sym, ap, ◌∙◌, subst, arith, inl, inr, Less}
+use Rattle.std.proofs.Common.{◌≡◌, ℤ, ◌≤ℤ◌, Bool, true, false, List, [], ◌∷◌, filter, slice_get, Option, Some, None, refl, sym, ap, ◌∙◌, subst, arith, inl, inr, Less}
 use Rattle.std.specs.Prelude.{◌↔◌}
 use Rattle.std.specs.Ordering.{int_cmp}
 use Rattle.std.proofs.lemmas.Bool.{true≢false, and_from, and_parts}
@@ -11,7 +11,7 @@ use Rattle.records.specs.Contents.{Content}
 use Rattle.records.specs.Records.{current}
 use Rattle.records.specs.declared.shown.Held.{Held}
 use Rattle.records.proofs.Sorting.{all-has, has-filter, has_from_filter, pairwise-filter}
-use Rattle.archive.specs.Reading.{times, lives, in_direction, time_le, is_past, is_between, first, range_of, outside_of}
+use Rattle.archive.specs.Reading.{times, lives, in_direction, time_le, is_past, is_between, range_of, outside_of}
 use Rattle.archive.specs.Queries.{IsInRange, IsNearest, HasNonePast}
 use Rattle.archive.specs.declared.reading.Direction.{Direction}
 use Rattle.archive.specs.declared.reading.Direction.TheVariants.{Forward, Backward}
@@ -84,7 +84,7 @@ neither_past : (d : Direction) (s t : ℤ) → is_past d s t ≡ false → is_pa
 neither_past Forward s t e k = grind (arith, nat_tests, ints)
 neither_past Backward s t e k = grind (arith, nat_tests, ints)
 
-first_there : (d : Direction) (xs : List Held) (h : Held) → IsPairwise (IsAhead d) xs → first xs ≡ Some h → Has xs h × ((other : Held) → Has xs other → is_past d other.time h.time ≡ false)
+first_there : (d : Direction) (xs : List Held) (h : Held) → IsPairwise (IsAhead d) xs → slice_get xs 0 ≡ Some h → Has xs h × ((other : Held) → Has xs other → is_past d other.time h.time ≡ false)
 first_there d [] h up e = cc
 first_there d (x ∷ xs) h up e =
     let here : x ≡ h = cc in (
@@ -95,7 +95,7 @@ first_there d (x ∷ xs) h up e =
       ]),
     )
 
-first_none : (xs : List Held) (h : Held) → first xs ≡ None → Has xs h → ⊥
+first_none : (xs : List Held) (h : Held) → slice_get xs 0 ≡ None → Has xs h → ⊥
 first_none [] h e k = k
 first_none (x ∷ xs) h e k = absurd (cc)
 

@@ -92,9 +92,6 @@ follows d None e = true
 follows Forward (Some place) e = is_lt (log_cmp place (place_of e))
 follows Backward (Some place) e = is_lt (log_cmp (place_of e) place)
 
-abbrev pub first : {X : Type 0} → List X → Option X
-first xs = slice_get xs 0
-
 -- ---- what the calls answer
 
 -- the live values between two times
@@ -107,4 +104,4 @@ log_of R node from to after d = filter (follows d after) (in_direction d (filter
 
 -- the nearest live value strictly beyond a time
 abbrev pub outside_of : Content → NodeId → ℤ → Direction → Option Held
-outside_of R node time d = first (in_direction d (filter (λ h. is_past d time h.time) (lives R node)))
+outside_of R node time d = slice_get (in_direction d (filter (λ h. is_past d time h.time) (lives R node))) 0

@@ -1,6 +1,6 @@
 -- What an archive keeps, and what its calls leave.
-use Rattle.std.specs.Prelude.{◌≡◌, ◌⊎◌, ◌||◌, ℕ, ◌+◌, ◌-◌, ◌^◌, min, Bool, true, false, List, [], ◌∷◌, ◌++◌, Option, Some, None, IfSome, unwrap_or, option_to_list, Result, Ok, Err, IfOk}
-use Rattle.std.specs.List.{list_any, AllByRecursion}
+use Rattle.std.specs.Prelude.{◌≡◌, ◌⊎◌, ◌||◌, ℕ, ◌+◌, ◌-◌, ◌^◌, min, Bool, true, false, List, [], ◌∷◌, Option, Some, None, IfSome, unwrap_or, option_to_list, Result, Ok, Err, IfOk}
+use Rattle.std.specs.List.{list_any, flat_map, AllByRecursion}
 use Rattle.records.specs.Lists.{Has}
 use Rattle.records.specs.Contents.{Content, IsClosed, Finding, Adds, Holds, Clash, Gap, TickTooFar, TickNotRising, finding, learned, put}
 use Rattle.records.specs.Spelling.{IsLawfulRecord}
@@ -57,8 +57,7 @@ faults_in mark = []
 
 -- the faults of the store among what came in the way of some steps, in order
 abbrev pub faults_of : List Mark → List StoreFault
-faults_of [] = []
-faults_of (mark ∷ marks) = faults_in mark ++ faults_of marks
+faults_of = flat_map faults_in
 
 -- ---- what calls leave
 

@@ -1,5 +1,5 @@
 -- Live values and modifications have lawful times, and what the archive answers of them is what a read asks for.
-use Rattle.std.proofs.Common.{◌≡◌, ℕ, zero, suc, ◌+◌, ℤ, ◌≤ℤ◌, Bool, true, false, cond, ◌&&◌, List, [], ◌∷◌, filter, take, reverse, Option, Some, None, refl, sym, ap, ◌∙◌, subst, arith, inl}
+use Rattle.std.proofs.Common.{◌≡◌, ℕ, zero, suc, ◌+◌, ℤ, ◌≤ℤ◌, Bool, true, false, cond, ◌&&◌, List, [], ◌∷◌, filter, take, reverse, slice_get, Option, Some, None, refl, sym, ap, ◌∙◌, subst, arith, inl}
 use Rattle.std.proofs.lemmas.Int.{ints}
 use Rattle.ua_binary.specs.declared.values.NodeId.{NodeId}
 use Rattle.records.specs.Lists.{Has}
@@ -9,7 +9,7 @@ use Rattle.records.specs.declared.record.Record.{Record}
 use Rattle.records.specs.declared.shown.Held.{Held}
 use Rattle.records.specs.declared.shown.Entry.{Entry}
 use Rattle.records.proofs.LatestLemmas.{story_has}
-use Rattle.archive.specs.Reading.{times, lives, log, in_direction, is_between, first, range_of, log_of, follows}
+use Rattle.archive.specs.Reading.{times, lives, log, in_direction, is_between, range_of, log_of, follows}
 use Rattle.archive.specs.Store.{IsLawfulContent}
 use Rattle.archive.specs.declared.reading.Direction.{Direction}
 use Rattle.archive.specs.declared.reading.LogPlace.{LogPlace}
@@ -75,15 +75,15 @@ body_found R node q p from to lawful span = go (is_near_alone q)
 
 -- ---- the bounds
 
-first_take : {X : Type 0} (xs : List X) → first (take 1 xs) ≡ first xs
+first_take : {X : Type 0} (xs : List X) → slice_get (take 1 xs) 0 ≡ slice_get xs 0
 first_take [] = refl
 first_take (x ∷ xs) = refl
 
 -- a range of one time has the live value there, if there is one
-pub value_at_is : (R : Content) (node : NodeId) (d : Direction) (t : ℤ) → first (take 1 (range_of R node t t d)) ≡ current R node t
+pub value_at_is : (R : Content) (node : NodeId) (d : Direction) (t : ℤ) → slice_get (take 1 (range_of R node t t d)) 0 ≡ current R node t
 value_at_is R node d t = first_take _ ∙ go (range_of R node t t d) refl (current R node t) refl
   where
-    go : (xs : List Held) → range_of R node t t d ≡ xs → (o : Option Held) → current R node t ≡ o → first xs ≡ o
+    go : (xs : List Held) → range_of R node t t d ≡ xs → (o : Option Held) → current R node t ≡ o → slice_get xs 0 ≡ o
     go [] e None f = refl
     go [] e (Some h) f =
         let own : h.time ≡ t = (current_time R node t h f).1 in

@@ -1,11 +1,10 @@
 //! The values at the bounds of a read.
 
-ghost use Rattle.std.specs.Prelude.{◌≡◌};
+ghost use Rattle.std.specs.Prelude.{◌≡◌, slice_get};
 ghost use Rattle.stamp.specs.Numbers.{number_of};
 ghost use Rattle.records.specs.Contents.{cut};
 ghost use Rattle.records.specs.Records.{current};
 ghost use Rattle.archive.specs.Store.{Asks};
-ghost use Rattle.archive.specs.Reading.{first};
 ghost use Rattle.hist_read.specs.Asking.{end_time};
 ghost use Rattle.hist_read.specs.Reads.{near, nearest_from, far_value};
 
@@ -20,7 +19,7 @@ use ua_services::ReadRawModifiedDetails;
 
 /// The first of some values.
 fn first_of(mut found: Vec<Held>) -> Option<Held>
-    ensures { result ≡ first found.items }
+    ensures { result ≡ slice_get found.items 0 }
 {
     found.truncate(1);
     found.pop()

@@ -23,7 +23,7 @@ use Rattle.records.specs.declared.shown.Entry.{Entry}
 use Rattle.records.proofs.Same.{Decides-is_same}
 use Rattle.records.proofs.LatestLemmas.{story_has}
 use Rattle.records.proofs.Sorting.{same_members, has-filter, has_from_filter, pairwise-filter}
-use Rattle.archive.specs.Reading.{times, lives, log, in_direction, is_of, is_past, is_between, follows, first, range_of, log_of, outside_of}
+use Rattle.archive.specs.Reading.{times, lives, log, in_direction, is_of, is_past, is_between, follows, range_of, log_of, outside_of}
 use Rattle.archive.specs.declared.reading.Direction.{Direction}
 use Rattle.archive.specs.declared.reading.Direction.TheVariants.{Forward, Backward}
 use Rattle.archive.specs.declared.reading.LogPlace.{LogPlace}
@@ -220,9 +220,9 @@ module _ (R : Content) (node : NodeId) (v : ℕ → ℕ) where
   pub range_found : (d : Direction) (from to near far : ℤ) → IsSpan d from to near far → range_of (cut R v) node from to d ≡ flat_map (values_at (cut R v) node) (stretch d near far (times R node))
   range_found d from to near far span = values_over d (is_between from to) ∙ ap (flat_map (values_at (cut R v) node)) (stretch_as d near far (is_between from to) (λ t h. span_as d from to near far t span))
 
-  pub outside_found : (d : Direction) (time far : ℤ) → ((t : ℤ) → Has (times R node) t → is_past d far t ≡ false) → outside_of (cut R v) node time d ≡ first (flat_map (values_at (cut R v) node) (stretch d time far (times R node)))
+  pub outside_found : (d : Direction) (time far : ℤ) → ((t : ℤ) → Has (times R node) t → is_past d far t ≡ false) → outside_of (cut R v) node time d ≡ slice_get (flat_map (values_at (cut R v) node) (stretch d time far (times R node))) 0
   outside_found d time far none =
-      ap first (values_over d (is_past d time) ∙ ap (flat_map (values_at (cut R v) node)) (stretch_as d time far (is_past d time) (λ t h. sym (ap (λ c. is_past d time t && not c) (none t h) ∙ yes (is_past d time t)))))
+      ap (λ hs. slice_get hs 0) (values_over d (is_past d time) ∙ ap (flat_map (values_at (cut R v) node)) (stretch_as d time far (is_past d time) (λ t h. sym (ap (λ c. is_past d time t && not c) (none t h) ∙ yes (is_past d time t)))))
     where
       yes : (c : Bool) → (c && true) ≡ c
       yes true = refl
@@ -248,7 +248,7 @@ module _ (R : Content) (node : NodeId) (v : ℕ → ℕ) where
   no_range d from to none = values_over d (is_between from to) ∙ (ap (λ ts. flat_map (values_at (cut R v) node) (filter (is_between from to) (in_direction d ts))) none ∙ ap (flat_map (values_at (cut R v) node)) (nothing_turned d (is_between from to)))
 
   pub no_outside : (d : Direction) (time : ℤ) → times R node ≡ [] → outside_of (cut R v) node time d ≡ None
-  no_outside d time none = ap first (values_over d (is_past d time) ∙ (ap (λ ts. flat_map (values_at (cut R v) node) (filter (is_past d time) (in_direction d ts))) none ∙ ap (flat_map (values_at (cut R v) node)) (nothing_turned d (is_past d time))))
+  no_outside d time none = ap (λ hs. slice_get hs 0) (values_over d (is_past d time) ∙ (ap (λ ts. flat_map (values_at (cut R v) node) (filter (is_past d time) (in_direction d ts))) none ∙ ap (flat_map (values_at (cut R v) node)) (nothing_turned d (is_past d time))))
 
   pub no_log : (d : Direction) (from to : ℤ) (after : Option LogPlace) → times R node ≡ [] → log_of (cut R v) node from to after d ≡ []
   no_log d from to after none =
@@ -289,9 +289,9 @@ none_beyond db node d t (R, l, stand) h =
         backward : (u : ℤ) → end_of_time Backward ≤ℤ u → is_past Backward (end_of_time Backward) u ≡ false
         backward u above = grind (arith, nat_tests, ints)
 
-pub first_taken : {X : Type 0} (items all : List X) → items ≡ take 1 all → first (take 1 items) ≡ first all
-first_taken items all is = ap (λ l. first (take 1 l)) is ∙ go all
+pub first_taken : {X : Type 0} (items all : List X) → items ≡ take 1 all → slice_get (take 1 items) 0 ≡ slice_get all 0
+first_taken items all is = ap (λ l. slice_get (take 1 l) 0) is ∙ go all
   where
-    go : {Y : Type 0} (xs : List Y) → first (take 1 (take 1 xs)) ≡ first xs
+    go : {Y : Type 0} (xs : List Y) → slice_get (take 1 (take 1 xs)) 0 ≡ slice_get xs 0
     go [] = refl
     go (x ∷ xs) = refl

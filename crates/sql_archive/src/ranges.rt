@@ -1,11 +1,11 @@
 //! What an archive shows of a node: values in a range and nearest outside it, and modifications.
 
-ghost use Rattle.std.specs.Prelude.{◌≡◌, take};
+ghost use Rattle.std.specs.Prelude.{◌≡◌, take, slice_get};
 ghost use Rattle.sqlite.specs.State.{HasCleanDisk};
 ghost use Rattle.sqlite.specs.Held.{state};
 ghost use Rattle.stamp.specs.Numbers.{number_of};
 ghost use Rattle.records.specs.Contents.{cut};
-ghost use Rattle.archive.specs.Reading.{first, range_of, log_of, outside_of};
+ghost use Rattle.archive.specs.Reading.{range_of, log_of, outside_of};
 ghost use Rattle.sql_archive.specs.Rows.{content_in, IsFilled};
 ghost use Rattle.sql_archive.specs.State.{Idles, Asked};
 ghost use Rattle.sql_archive.specs.Walking.{moment_at, IsPlace, IsSpan, ShowSame, end_of_time};
@@ -91,7 +91,7 @@ fn end_of_time(direction: Direction) -> Moment
 
 /// The first of some values.
 fn first_of(mut found: Vec<Held>) -> Option<Held>
-    ensures { result ≡ first (take 1 found.items) }
+    ensures { result ≡ slice_get (take 1 found.items) 0 }
 {
     found.truncate(1);
     found.pop()

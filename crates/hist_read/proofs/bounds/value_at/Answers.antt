@@ -1,7 +1,6 @@
-use Rattle.std.proofs.Common.{◌∙◌, ap}
+use Rattle.std.proofs.Common.{◌∙◌, ap, slice_get}
 use Rattle.stamp.specs.Numbers.{number_of}
 use Rattle.records.specs.Contents.{cut}
-use Rattle.archive.specs.Reading.{first}
 use Rattle.archive.specs.declared.reading.Direction.TheVariants.{Forward}
 use Rattle.hist_read.proofs.Lives.{value_at_is}
 use Rattle.hist_read.proofs.Askings.{asked_as}
@@ -11,4 +10,4 @@ pub returns : goal.returns
 returns g c =
     asked_as _ _ _ c.first_of.result _ _ c.in_ok-found.ensures (λ lawful is.
     c.first_of.ensures
-    ∙ (ap first (is) ∙ value_at_is (cut (g.A.Archive.state c.args.archive.now).content (number_of c.args.within.now)) c.args.node.now Forward c.args.time))
+    ∙ (ap (λ items. slice_get items 0) is ∙ value_at_is (cut (g.A.Archive.state c.args.archive.now).content (number_of c.args.within.now)) c.args.node.now Forward c.args.time))

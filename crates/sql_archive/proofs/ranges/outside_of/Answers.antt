@@ -1,10 +1,10 @@
-use Rattle.std.proofs.Common.{◌≡◌, ◌∙◌, ap, sym, take, arith, refl, None}
+use Rattle.std.proofs.Common.{◌≡◌, ◌∙◌, ap, sym, take, arith, refl, None, slice_get}
 use Rattle.sqlite.specs.Held.{state}
 use Rattle.stamp.specs.Numbers.{number_of}
 use Rattle.sql_archive.specs.Rows.{content_in}
 use Rattle.std.proofs.Common.{ℤ, List}
 use Rattle.records.specs.declared.shown.Held.{Held}
-use Rattle.archive.specs.Reading.{first, times}
+use Rattle.archive.specs.Reading.{times}
 use Rattle.std.specs.List.{flat_map}
 use Rattle.records.specs.Contents.{cut}
 use Rattle.sql_archive.specs.Walking.{moment_at, stretch, values_at, end_of_time}
@@ -28,8 +28,8 @@ returns g c =
       answer = λ clean.
           c.first_of.ensures
           ∙ (first_taken c.in_ok-found.found.items (all (moment_at p.result.ticks p.result.pico) c.end_of_time-far.result) (e.answer clean)
-          ∙ (ap (λ far. first (all (moment_at p.result.ticks p.result.pico) far)) c.end_of_time-far.ensures
-          ∙ (ap (λ place. first (all place (end_of_time c.args.direction))) (moment_of_place c.args.time p.result.ticks p.result.pico p.ensures.0 p.ensures.1)
+          ∙ (ap (λ far. slice_get (all (moment_at p.result.ticks p.result.pico) far) 0) c.end_of_time-far.ensures
+          ∙ (ap (λ place. slice_get (all place (end_of_time c.args.direction)) 0) (moment_of_place c.args.time p.result.ticks p.result.pico p.ensures.0 p.ensures.1)
           ∙ sym (outside_found R c.args.node.now v c.args.direction c.args.time (end_of_time c.args.direction) (λ t h. none_beyond a.now.trees c.args.node.now c.args.direction t (c.requires.filled (omega (arith, e.crash.clean, clean))) h)))));
       kept = λ clean ok. e.kept clean refl;
       met = tt;
