@@ -11,7 +11,7 @@ use Rattle.records.specs.Contents.{Content}
 use Rattle.records.specs.Records.{current}
 use Rattle.records.specs.declared.shown.Held.{Held}
 use Rattle.records.proofs.Sorting.{all-has, has-filter, has_from_filter, pairwise-filter}
-use Rattle.archive.specs.Reading.{times, lives, in_direction, time_le, is_past, is_between, range_of, outside_of}
+use Rattle.archive.specs.Reading.{times, lives, in_direction, is_past, is_between, range_of, outside_of}
 use Rattle.archive.specs.Queries.{IsInRange, IsNearest, HasNonePast}
 use Rattle.archive.specs.declared.reading.Direction.{Direction}
 use Rattle.archive.specs.declared.reading.Direction.TheVariants.{Forward, Backward}
@@ -51,10 +51,10 @@ chosen_go R node p Backward = pairwise-reverse (IsAhead Forward) _ (pairwise-fil
 -- ---- ranges
 
 pub between_parts : (from to t : ℤ) → is_between from to t ≡ true → (from ≤ℤ t) × (t ≤ℤ to)
-between_parts from to t e = let parts = and_parts (time_le from t) (time_le t to) e in (grind (arith, nat_tests, ints), grind (arith, nat_tests, ints))
+between_parts from to t e = let parts = and_parts (int_le from t) (int_le t to) e in (grind (arith, nat_tests, ints), grind (arith, nat_tests, ints))
 
 pub between_from : (from to t : ℤ) → from ≤ℤ t → t ≤ℤ to → is_between from to t ≡ true
-between_from from to t low high = and_from (time_le from t) (time_le t to) (grind (arith, nat_tests, ints)) (grind (arith, nat_tests, ints))
+between_from from to t low high = and_from (int_le from t) (int_le t to) (grind (arith, nat_tests, ints)) (grind (arith, nat_tests, ints))
 
 pub range_has : (R : Content) (node : NodeId) (from to : ℤ) (d : Direction) (h : Held) → Has (range_of R node from to d) h ↔ IsInRange R node from to h
 range_has R node from to d h = (

@@ -31,17 +31,6 @@ abbrev pub set_of : {X : Type 0} → (X → X → Ordering) → List X → List 
 set_of cmp [] = []
 set_of cmp (x ∷ xs) = insert_once cmp x (set_of cmp xs)
 
--- ---- times
-
-abbrev pub time_cmp : ℤ → ℤ → Ordering
-time_cmp = int_cmp
-
-abbrev pub time_lt : ℤ → ℤ → Bool
-time_lt = int_lt
-
-abbrev pub time_le : ℤ → ℤ → Bool
-time_le = int_le
-
 -- ---- a node's history, forward
 
 abbrev pub is_of : NodeId → Record → Bool
@@ -49,7 +38,7 @@ is_of node r = same_node r.node node
 
 -- the source times at which the node has records, in order
 abbrev pub times : Content → NodeId → List ℤ
-times R node = set_of time_cmp (map (λ r. r.time) (filter (is_of node) R))
+times R node = set_of int_cmp (map (λ r. r.time) (filter (is_of node) R))
 
 -- the node's live values, in the order of their times
 abbrev pub lives : Content → NodeId → List Held
@@ -72,16 +61,16 @@ opposite Backward = Forward
 
 -- in the direction, the time is strictly beyond the limit
 abbrev pub is_past : Direction → ℤ → ℤ → Bool
-is_past Forward limit time = time_lt limit time
-is_past Backward limit time = time_lt time limit
+is_past Forward limit time = int_lt limit time
+is_past Backward limit time = int_lt time limit
 
 -- both ends are in it
 abbrev pub is_between : ℤ → ℤ → ℤ → Bool
-is_between from to time = time_le from time && time_le time to
+is_between from to time = int_le from time && int_le time to
 
 -- the order of modifications, forward: by time, and within a time the newest first
 abbrev pub log_cmp : LogPlace → LogPlace → Ordering
-log_cmp = then_cmp (on (λ p. p.time) time_cmp) (λ a b. stamp_cmp b.stamp a.stamp)
+log_cmp = then_cmp (on (λ p. p.time) int_cmp) (λ a b. stamp_cmp b.stamp a.stamp)
 
 abbrev pub place_of : Entry → LogPlace
 place_of e = record { time = e.time; stamp = record { tick = e.tick; origin = e.origin } }
