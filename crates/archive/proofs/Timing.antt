@@ -1,8 +1,6 @@
 -- The times of live values and entries are times at which the node has records.
 use Rattle.std.proofs.Common.{◌≡◌, ℕ, zero, suc, ℤ, Bool, true, false, cond, List, [], ◌∷◌, filter, map, slice_get, Option, Some, None, refl, sym, ap, ◌∙◌, subst, inl, inr}
 use Rattle.std.specs.Ordering.{int_cmp}
-use Rattle.std.proofs.lemmas.Cmp.{int_cmp_total}
-use Rattle.std.proofs.lemmas.Map.Lookups.{exact_signed}
 use Rattle.ua_binary.specs.declared.values.NodeId.{NodeId}
 use Rattle.records.specs.Lists.{Has, Rises}
 use Rattle.records.specs.Same.{node_code}
@@ -15,17 +13,17 @@ use Rattle.records.proofs.LatestLemmas.{story_has}
 use Rattle.records.proofs.Same.{Decides-is_same}
 use Rattle.records.proofs.Sorting.{has-filter}
 use Rattle.archive.specs.Reading.{is_of, times}
-use Rattle.archive.proofs.SetLemmas.{has-set_of, rises-set_of}
+use Rattle.archive.proofs.SetLemmas.{has-once, rises-once}
 use Rattle.archive.proofs.Turning.{has-map}
 
 pub times_rise : (R : Content) (node : NodeId) → Rises int_cmp (times R node)
-times_rise R node = rises-set_of int_cmp int_cmp_total exact_signed (map (λ (r : Record). r.time) (filter (is_of node) R))
+times_rise R node = rises-once (map (λ (r : Record). r.time) (filter (is_of node) R))
 
 has_time : (R : Content) (node : NodeId) (t : ℤ) (r : Record) → Has (story R node t) r → Has (times R node) t
 has_time R node t r h =
     let there = (story_has R node t r).0 h in
     let own = has-filter (is_of node) R r there.0 ((Decides-is_same node_code r.node node).1 there.1) in
-    subst (Has (times R node)) there.2 (has-set_of int_cmp int_cmp_total exact_signed _ r.time (has-map (λ (s : Record). s.time) _ r own))
+    subst (Has (times R node)) there.2 (has-once _ r.time (has-map (λ (s : Record). s.time) _ r own))
 
 pub has_from_get : {X : Type 0} (xs : List X) (k : ℕ) (x : X) → slice_get xs k ≡ Some x → Has xs x
 has_from_get [] k x e = cc

@@ -1,11 +1,11 @@
 -- What a content shows of a node over time (Part 11: raw and modified history).
-use Rattle.std.specs.Prelude.{ℤ, int_lt, int_le, Bool, true, ◌&&◌, List, [], ◌∷◌, filter, map, reverse, slice_get, Option, Some, None}
-use Rattle.std.specs.List.{filter_map, flat_map}
+use Rattle.std.specs.Prelude.{ℤ, int_lt, int_le, Bool, true, ◌&&◌, List, filter, map, reverse, slice_get, Option, Some, None}
+use Rattle.std.specs.List.{filter_map, flat_map, dedup}
 use Rattle.std.specs.declared.cmp.Ordering.{Ordering}
-use Rattle.std.specs.declared.cmp.Ordering.TheVariants.{Less, Equal, Greater}
-use Rattle.std.specs.Ordering.{int_cmp, on, then_cmp, is_lt}
+use Rattle.std.specs.Ordering.{int_cmp, int_eq, on, then_cmp, is_lt}
 use Rattle.stamp.specs.Stamp.{stamp_cmp}
 use Rattle.ua_binary.specs.declared.values.NodeId.{NodeId}
+use Rattle.records.specs.Lists.{sort_by}
 use Rattle.records.specs.Contents.{Content}
 use Rattle.records.specs.Records.{current, entries}
 use Rattle.records.specs.Same.{same_node}
@@ -16,29 +16,14 @@ use Rattle.archive.specs.declared.reading.Direction.{Direction}
 use Rattle.archive.specs.declared.reading.Direction.TheVariants.{Forward, Backward}
 use Rattle.archive.specs.declared.reading.LogPlace.{LogPlace}
 
--- ---- lists in order, each element once
-
-abbrev pub placed_once : {X : Type 0} → Ordering → X → X → List X → List X → List X
-placed_once Less new x xs more = new ∷ x ∷ xs
-placed_once Equal new x xs more = x ∷ xs
-placed_once Greater new x xs more = x ∷ more
-
-abbrev pub insert_once : {X : Type 0} → (X → X → Ordering) → X → List X → List X
-insert_once cmp new [] = new ∷ []
-insert_once cmp new (x ∷ xs) = placed_once (cmp new x) new x xs (insert_once cmp new xs)
-
-abbrev pub set_of : {X : Type 0} → (X → X → Ordering) → List X → List X
-set_of cmp [] = []
-set_of cmp (x ∷ xs) = insert_once cmp x (set_of cmp xs)
-
 -- ---- a node's history, forward
 
 abbrev pub is_of : NodeId → Record → Bool
 is_of node r = same_node r.node node
 
--- the source times at which the node has records, in order
+-- the source times at which the node has records, in order, each once
 abbrev pub times : Content → NodeId → List ℤ
-times R node = set_of int_cmp (map (λ r. r.time) (filter (is_of node) R))
+times R node = dedup int_eq (sort_by int_cmp (map (λ r. r.time) (filter (is_of node) R)))
 
 -- the node's live values, in the order of their times
 abbrev pub lives : Content → NodeId → List Held

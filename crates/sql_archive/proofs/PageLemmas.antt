@@ -38,9 +38,8 @@ use Rattle.archive.specs.Reading.{times, is_of, is_past}
 use Rattle.archive.specs.Store.{IsLawfulContent}
 use Rattle.archive.specs.declared.reading.Direction.{Direction}
 use Rattle.archive.specs.declared.reading.Direction.TheVariants.{Forward, Backward}
-use Rattle.archive.proofs.SetLemmas.{has-set_of, has_from_set_of}
+use Rattle.archive.proofs.SetLemmas.{has-once, has_from_once}
 use Rattle.archive.proofs.Turning.{has-map, has_from_map}
-use Rattle.std.proofs.lemmas.Map.Lookups.{exact_signed}
 use Rattle.sql_archive.specs.Words.{cells, is_after, is_before, moment_order, IsPage, IsNextRow}
 use Rattle.sql_archive.specs.Rows.{row_of, records_in, content_in, AreRecords, IsFilled}
 use Rattle.sql_archive.specs.Walking.{moment_at, IsPlace, IsNextTime, first_time}
@@ -172,11 +171,11 @@ before_as node t q r ok own place =
 -- ---- the next time
 
 pub time_there : (R : Content) (node : NodeId) (r : Record) → Has R r → same_node r.node node ≡ true → Has (times R node) r.time
-time_there R node r h e = has-set_of int_cmp int_cmp_total exact_signed _ r.time (has-map (λ (s : Record). s.time) _ r (has-filter (is_of node) R r h e))
+time_there R node r h e = has-once _ r.time (has-map (λ (s : Record). s.time) _ r (has-filter (is_of node) R r h e))
 
 pub at_time : (R : Content) (node : NodeId) (t : ℤ) → Has (times R node) t → (r : Record) × Has R r × (same_node r.node node ≡ true) × (r.time ≡ t)
 at_time R node t h =
-    let p = has_from_map (λ (s : Record). s.time) (filter (is_of node) R) t (has_from_set_of int_cmp int_cmp_total exact_signed _ t h) in
+    let p = has_from_map (λ (s : Record). s.time) (filter (is_of node) R) t (has_from_once _ t h) in
     let q = has_from_filter (is_of node) R p.0 p.1 in (p.0, q.0, q.1, p.2)
 
 -- of the records beyond a place, in their order by moment, the first has the next time
