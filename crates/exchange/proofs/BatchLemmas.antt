@@ -1,10 +1,9 @@
 -- How many records a frame takes.
-use Rattle.std.proofs.Common.{◌≡◌, ℕ, zero, suc, ◌+◌, ◌-◌, ◌*◌, ◌<◌, ◌≤◌, ◌^◌, min, ◌∷◌, [], List, get_or, take, length, Ok, Err, refl, sym, ap, ◌∙◌, subst, arith, inl, inr}
+use Rattle.std.proofs.Common.{◌≡◌, ℕ, zero, suc, ◌+◌, ◌-◌, ◌*◌, ◌<◌, ◌≤◌, ◌^◌, min, ◌∷◌, [], List, get_or, take, length, refl, sym, ap, ◌∙◌, subst, arith, inl, inr}
 use Rattle.std.specs.Prelude.{nat_lt}
 use Rattle.std.proofs.lemmas.Bool.{cases_Bool}
 use Rattle.std.proofs.lemmas.Bool.Decides.{nat_tests}
 use Rattle.std.proofs.lemmas.List.{take_all, length-append}
-use Rattle.std.proofs.lemmas.Option.{none-some, same_Some}
 use Rattle.ua_binary.specs.Format.{saturated}
 use Rattle.stamp.specs.Numbers.{number_of, IsVector, entries_from, entries}
 use Rattle.stamp.specs.Vector.{vector, entry_above}
@@ -21,12 +20,7 @@ use Rattle.records.proofs.LackLemmas.{missing_count, missing_first, missing_with
 use Rattle.archive.specs.Store.{IsLawfulContent}
 use Rattle.exchange.specs.Merging.{AreLearned}
 use Rattle.exchange.proofs.MergeLemmas.{turn_learned}
-use Rattle.archive.specs.declared.fault.StoreFault.{StoreFault}
-use Rattle.archive.specs.Store.{Store, Asks}
-use Rattle.archive.proofs.Calls.{in_use}
-use Rattle.exchange.specs.declared.fault.ExchangeFault.TheVariants as exchange
-use Rattle.exchange.specs.declared.replica.Batch.{Batch}
-use Rattle.exchange.specs.Batches.{most, longest_frame, records_length, frame_length, IsBatchFor, Answers}
+use Rattle.exchange.specs.Batches.{most, longest_frame, records_length, frame_length, IsBatchFor}
 
 -- ---- lengths
 
@@ -162,38 +156,3 @@ batch_learned R S batch closed closed' same is = turn_learned batch R (turn R S 
 
 pub batch_added : (R S : Content) (batch : List Record) → IsClosed R → IsClosed S → AreCompatible R S → IsBatchFor S (vec R) batch → length (merged batch R) ≡ length R + length batch
 batch_added R S batch closed closed' same is = turn_length batch R (turn R S batch closed closed' same is)
-
--- ---- the call
-
--- the store failed
-pub answer-fails : {A : Type 0} (a b : Store) (v : ℕ → ℕ) (fault : StoreFault) (P : A → Type 0) → Asks a b (Err fault) P → Answers a b v (Err (exchange.Store fault))
-answer-fails a b v fault P asks = record {
-  batch = λ h. tt;
-  some = λ h. tt;
-  only = tt;
-  ended = λ e. ap (λ f. Err (exchange.Store f)) (same_Some _ _ (asks.leaves.ended e));
-  stays = asks.stays;
-  passes = asks.leaves.passes;
-}
-
--- memory was wanting
-pub answer-starves : {A : Type 0} (a b : Store) (v : ℕ → ℕ) (x : A) (P : A → Type 0) → Asks a b (Ok x) P → Answers a b v (Err exchange.OutOfMemory)
-answer-starves a b v x P asks = record {
-  batch = λ h. tt;
-  some = λ h. tt;
-  only = tt;
-  ended = λ e. absurd (none-some _ (asks.leaves.ended e));
-  stays = asks.stays;
-  passes = asks.leaves.passes;
-}
-
--- a batch was made
-pub answer-made : {A : Type 0} (a b : Store) (v : ℕ → ℕ) (x : A) (P : A → Type 0) (batch : Batch) → Asks a b (Ok x) P → (P x → IsBatchFor a.content v batch.records) → Answers a b v (Ok batch)
-answer-made a b v x P batch asks made = record {
-  batch = λ h. made (asks.answer h);
-  some = λ h r has beyond. some_fits a.content v batch.records r (asks.leaves.before (asks.leaves.passes.honest h) (in_use a b asks.leaves)).lawful (made (asks.answer h)) has beyond;
-  only = tt;
-  ended = λ e. absurd (none-some _ (asks.leaves.ended e));
-  stays = asks.stays;
-  passes = asks.leaves.passes;
-}

@@ -25,16 +25,15 @@ use Rattle.exchange.specs.declared.message.State.{State}
 use Rattle.exchange.specs.declared.message.State.TheVariants as state
 use Rattle.exchange.specs.declared.dialog.Reply.{Reply}
 use Rattle.exchange.specs.declared.replica.Batch.{Batch}
-use Rattle.exchange.specs.Batches.{Answers}
+use Rattle.exchange.specs.Batches.{batch_of, Answers}
 use Rattle.exchange.specs.Frames.{IsTitle}
 use Rattle.exchange.specs.Fault.{store_fault_of}
 use Rattle.exchange.specs.Merging.{learned_all, IsRefusal, Meets, Merges}
 use Rattle.exchange.proofs.MergeLemmas.{merged_stops}
 use Rattle.exchange.specs.declared.message.Party.{Party}
 use Rattle.records.specs.Contents.{numbers_of}
-use Rattle.exchange.specs.Dialogs.{ended_by, broken_off, is_bare, refusal, refusal_by, learnt, batch_of, title_by, Turn, failing, asking, carrying, pushing, learning, Way, Clear, Unread, Stopped, Starved, Met, IsWay, gone, fault_on, party_of, Tells, IsSpelledReply, Handles, carries_none}
+use Rattle.exchange.specs.Dialogs.{ended_by, broken_off, is_bare, refusal, refusal_by, learnt, title_by, Turn, failing, asking, carrying, pushing, learning, Way, Clear, Unread, Stopped, Starved, Met, IsWay, gone, fault_on, party_of, Tells, IsSpelledReply, Handles, carries_none}
 use Rattle.archive.proofs.Vectors.{told_is}
-use Rattle.exchange.proofs.TitleLemmas.{batch_one}
 
 abbrev pub reply_by : State → Message → Reply
 reply_by state m = record { state = state; message = Some m; code = None }
@@ -157,9 +156,8 @@ module _ (a b c : Store) (v : List ℕ) (w : ℕ → ℕ) (asks : Asks a b (Ok v
 
       records : c.honest → batch.records ≡ batch_of a.content w
       records h =
-          let lawful = lawful_in a b v _ asks (answers.passes.honest h) in
           let same : b.content ≡ a.content = kept h answers.passes.honest in
-          batch_one a.content w batch.records lawful (subst (λ R. Rattle.exchange.specs.Batches.IsBatchFor R w batch.records) same (answers.batch h))
+          answers.batch h ∙ ap (λ R. batch_of R w) same
 
 -- what was to be sent is, or memory was wanting
 pub carry_sends : (a b c : Store) (v : List ℕ) (w : ℕ → ℕ) (batch : Batch) (state : State) (t : Title) (result : Result Reply ExchangeFault) → Asks a b (Ok v) (λ v. (replica : ℕ) → number_of v replica ≡ vec a.content replica)

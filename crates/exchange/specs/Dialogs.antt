@@ -1,12 +1,9 @@
 -- A dialog between two replicas: what an end makes of each frame that it takes, and what it answers. Both ends of a dialog, over memory or over
 -- a connection, are these.
-use Rattle.std.specs.Prelude.{◌≡◌, ◌⊎◌, ⊤, ℕ, zero, suc, ◌+◌, ◌-◌, ◌<◌, nat_le, Bool, true, false, List, [], ◌∷◌, ◌++◌, take, length, Option, None, Some, unwrap_or, Result, Ok, Err, IfOk, IfErr, IfSome, if◌then◌else◌, option_to_list}
+use Rattle.std.specs.Prelude.{◌≡◌, ◌⊎◌, ⊤, ℕ, zero, suc, ◌+◌, ◌<◌, nat_le, Bool, true, false, List, [], ◌∷◌, ◌++◌, take, length, Option, None, Some, unwrap_or, Result, Ok, Err, IfOk, IfErr, IfSome, if◌then◌else◌, option_to_list}
 use Rattle.std.specs.Option.{option_map_or}
 use Rattle.stamp.specs.Numbers.{number_of}
-use Rattle.stamp.specs.Vector.{vector}
-use Rattle.records.specs.Records.{missing}
 use Rattle.records.specs.Contents.{Content, numbers_of, finding, learned, merged}
-use Rattle.records.specs.Spelling.{record_form}
 use Rattle.records.specs.declared.record.Record.{Record}
 use Rattle.archive.specs.declared.fault.StoreFault.{StoreFault}
 use Rattle.archive.specs.declared.fault.StoreFault.TheVariants.{Broken}
@@ -24,23 +21,12 @@ use Rattle.exchange.specs.declared.message.Message.TheVariants.{Asks, Carries, E
 use Rattle.exchange.specs.declared.message.State.{State}
 use Rattle.exchange.specs.declared.message.State.TheVariants.{Pulling, Pushing, Serving, Done, Failed}
 use Rattle.exchange.specs.Fault.{exchange_number, store_fault_told}
-use Rattle.exchange.specs.Batches.{most, longest_frame, IsOfAnswer}
+use Rattle.exchange.specs.Batches.{batch_of, IsOfAnswer}
 use Rattle.exchange.specs.declared.message.Party.{Party}
 use Rattle.exchange.specs.declared.dialog.Reply.{Reply}
 use Rattle.exchange.specs.Frames.{message_at, frame_of, IsSpelled}
 
 -- ---- what an end says
-
--- the first of these that so many bytes take, each behind its length
-abbrev pub fitted : ℕ → List Record → List Record
-fitted room [] = []
-fitted room (r ∷ rs) =
-    if nat_le (4 + length (record_form.canon r)) room then r ∷ fitted (room - (4 + length (record_form.canon r))) rs
-    else []
-
--- the first records that a vector lacks, as many as a frame takes
-abbrev pub batch_of : Content → (ℕ → ℕ) → List Record
-batch_of R v = fitted (longest_frame - (30 + length (vector.canon (numbers_of R)))) (missing R v most)
 
 abbrev pub title_by : Party → Content → Title
 title_by p R = record { id = p.id; sender = p.own; vector = numbers_of R }
