@@ -393,7 +393,7 @@ module _ (a b c : Store) (rs : List Record) (n : ℕ) (state : State) (result : 
         let used : b.broken ≡ false = unbroken_before b c _ handles.passes u in
         handles.content h u ∙ (left_by handles.way handles.outside ∙ (left_is h used ∙ sym (lifted_left handles.way handles.outside)));
     crash = λ h left m. elim (handles.crash h left m) [
-      | inl before ↦ elim (merges.crash (handles.passes.honest h) left before) [ inl old ↦ inl old | inr q ↦ inr (q.0, q.1, q.3) ]
+      | inl before ↦ elim (merges.crash (handles.passes.honest h) left before) [ inl old ↦ inl old.0 | inr q ↦ inr (q.0, q.1, q.4) ]
       | inr q ↦ inr (unbroken_before a b [] merges.passes q.0, length rs, q.2 ∙ (left_by_take q.1 ∙ (left_is h q.0 ∙ ap (λ xs. merged xs a.content) (sym (take_all (length rs) rs (omega arith))))))
     ];
     passes = subst (λ o. Passes a c (option_to_list o)) (sym (lifted_faults handles.way)) (passes-then a b c [] (option_to_list (fault_on handles.way)) merges.passes handles.passes);
@@ -430,7 +430,7 @@ refuses a b rs state k cause merges is = record {
       turn ∙ ap (λ R. failing R (exchange.Learn k cause)) (sym (learnt_content (party_of a) state (merged rs a.content) (refusal 0 a.content rs)));
   spelled = tt;
   content = λ h u. merges.content h u ∙ (sym (merged_stops a.content rs k cause (merges.tells.1 h) is) ∙ sym (learnt_content (party_of a) state (merged rs a.content) (refusal 0 a.content rs)));
-  crash = λ h left m. elim (merges.crash h left m) [ inl old ↦ inl old | inr q ↦ inr (q.0, q.1, q.3) ];
+  crash = λ h left m. elim (merges.crash h left m) [ inl old ↦ inl old.0 | inr q ↦ inr (q.0, q.1, q.4) ];
   passes = subst (Passes a b) (no_fault k cause is) merges.passes;
 }
 
@@ -443,7 +443,7 @@ learn_stops a b rs state (exchange.Learn k (refused.Store fault)) merges = recor
   tells = λ h. refl;
   spelled = tt;
   content = λ h u. merges.content h u;
-  crash = λ h left m. elim (merges.crash h left m) [ inl old ↦ inl old | inr q ↦ inr (q.0, q.1, q.3) ];
+  crash = λ h left m. elim (merges.crash h left m) [ inl old ↦ inl old.0 | inr q ↦ inr (q.0, q.1, q.4) ];
   passes = merges.passes;
 }
 learn_stops a b rs state (exchange.Learn k refused.Clash) merges = refuses a b rs state k refused.Clash merges tt
