@@ -12,7 +12,7 @@ use Rattle.archive.specs.Listed.{is_broken}
 
 -- no call
 pub passes-none : (a : Store) → Passes a a []
-passes-none a = record { rests = λ r. r; own = refl; id = refl; honest = λ h. h; failed = refl; broken = sym (or-false a.broken); met = tt; meets = λ f m. m }
+passes-none a = record { own = refl; id = refl; honest = λ h. h; failed = refl; broken = sym (or-false a.broken); met = tt; meets = λ f m. m }
 
 failed-append : (faults more : List StoreFault) (n : ℕ) → failed_by (faults ++ more) n ≡ failed_by more (failed_by faults n)
 failed-append [] more n = refl
@@ -32,7 +32,6 @@ met-append a b meets (f ∷ faults) more m n = (m.0, met-append a b meets faults
 -- some calls, and others behind them
 pub passes-then : (a b c : Store) (faults more : List StoreFault) → Passes a b faults → Passes b c more → Passes a c (faults ++ more)
 passes-then a b c faults more p q = record {
-  rests = λ r. q.rests (p.rests r);
   own = q.own ∙ p.own;
   id = q.id ∙ p.id;
   honest = λ h. p.honest (q.honest h);

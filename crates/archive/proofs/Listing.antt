@@ -27,7 +27,7 @@ leaves : (a b : Listed) (fault : Option StoreFault) → IsLawfulContent a.record
 leaves a b fault was is own id memory count = record {
   before = rests a was;
   after = rests b is;
-  passes = record { rests = λ _. rests b is; own = own; id = id; honest = λ h. h; failed = counted fault count; broken = unbroken fault memory; met = met fault memory; meets = λ f e. e };
+  passes = record { own = own; id = id; honest = λ h. h; failed = counted fault count; broken = unbroken fault memory; met = met fault memory; meets = λ f e. e };
   ended = λ e. absurd (true≢false (sym e));
   some = λ h none. none b.records refl;
 }

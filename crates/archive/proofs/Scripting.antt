@@ -32,7 +32,7 @@ leaves_fault : (a b : Scripted) (f : StoreFault) → IsLawfulContent a.inner.rec
 leaves_fault a b f was is own id broken count ended scripted = record {
   before = rests a was;
   after = rests b is;
-  passes = record { rests = λ _. rests b is; own = own; id = id; honest = λ h. h; failed = count; broken = broken ∙ sym (breaks f a.broken ended); met = ((scripted, not_opening f scripted), tt); meets = λ g e. e };
+  passes = record { own = own; id = id; honest = λ h. h; failed = count; broken = broken ∙ sym (breaks f a.broken ended); met = ((scripted, not_opening f scripted), tt); meets = λ g e. e };
   ended = λ e. ap (λ g. Some g) (ended e);
   some = λ h none. none b.inner.records refl;
 }
@@ -44,7 +44,6 @@ leaves_inner a b fault used still count l = record {
   before = rests a (l.before tt refl).lawful;
   after = rests b (l.after tt refl).lawful;
   passes = record {
-    rests = λ _. rests b (l.after tt refl).lawful;
     own = l.passes.own;
     id = l.passes.id;
     honest = λ h. h;

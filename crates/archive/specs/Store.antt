@@ -80,7 +80,6 @@ IsOfOpening fault = (fault ≡ WrongReplica) ⊎ (fault ≡ WrongArchive)
 
 -- some calls, or none, were made, whose faults of the store were these, in order
 pub record Passes (old new : Store) (faults : List StoreFault) : Type 0 where
-  pub rests : Rests old → Rests new
   pub own : new.own ≡ old.own
   pub id : new.id ≡ old.id
   pub honest : new.honest → old.honest

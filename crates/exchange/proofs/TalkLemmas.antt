@@ -8,7 +8,7 @@ use Rattle.std.proofs.Math.Bool.{or-false}
 use Rattle.std.proofs.lemmas.Bool.{cases_Bool, ltb-true, ltb-false}
 use Rattle.records.specs.Contents.{Content, merged}
 use Rattle.archive.specs.declared.fault.LearnFault.TheVariants as refused
-use Rattle.archive.specs.Store.{Store}
+use Rattle.archive.specs.Store.{Store, Rests}
 use Rattle.archive.proofs.Calls.{passes-none, passes-then}
 use Rattle.exchange.specs.declared.fault.ExchangeFault.{ExchangeFault}
 use Rattle.exchange.specs.declared.fault.ExchangeFault.TheVariants as exchange
@@ -122,8 +122,8 @@ module _ (a0 b0 a : Store) (there : List ℕ) where
   }
 
   pub talk_starts : (first second : Standing) (u : Unit {0}) → Greets a0 a [] there (Ok u) → first ≡ record { state = state.Pulling; taken = 0; code = None; started = true }
-      → second ≡ record { state = state.Serving; taken = 0; code = None; started = true } → Talk a0 b0 a b0 first second there 1 0
-  talk_starts first second u greets e f = record {
+      → second ≡ record { state = state.Serving; taken = 0; code = None; started = true } → Rests a → Talk a0 b0 a b0 first second there 1 0
+  talk_starts first second u greets e f rests = record {
     of = record { faults = []; passes = greets.passes; others = []; passes_other = passes-none b0 };
     started = ap (λ (s : Standing). s.started) e;
     started_other = ap (λ (s : Standing). s.started) f;
@@ -142,7 +142,7 @@ module _ (a0 b0 a : Store) (there : List ℕ) where
             serving = ap (λ (s : Standing). s.state) f;
             taken = ap (λ (s : Standing). s.taken) e;
             taken_other = ap (λ (s : Standing). s.taken) f;
-            used = ((greets.passes.rests meet.one.0, unbroken), meet.other);
+            used = ((rests, unbroken), meet.other);
           },
           omega arith,
         );
@@ -236,11 +236,11 @@ module _ (a0 b0 : Store) (party : IsParty (party_of a0)) (party_other : IsParty 
         ]
       ]
 
-      ongoing : (s : State) → (s ≡ state.Done → ⊥) → Hands b c second after there [] back (Ok s) → WayBack a0 b0 a c first after back (n + 1) round × (round < most_frames)
-      ongoing s goes hands = elim (hands.takes way.m spelled way.bytes) [
+      ongoing : (s : State) → (s ≡ state.Done → ⊥) → Rests c → Hands b c second after there [] back (Ok s) → WayBack a0 b0 a c first after back (n + 1) round × (round < most_frames)
+      ongoing s goes rests hands = elim (hands.takes way.m spelled way.bytes) [
         | inl none ↦ absurd (ok_memory s none.2)
         | inr pair ↦ elim (cases_Bool (nat_lt round most_frames)) [
-          | inl t ↦ (goes_back a0 b0 meet (talk.of.passes.honest ha) (talk.of.passes_other.honest hb) party party_other a b c first second after there [] back n round talk.of way (ltb-true _ _ t) hc ha s goes pair.0, ltb-true _ _ t)
+          | inl t ↦ (goes_back a0 b0 meet (talk.of.passes.honest ha) (talk.of.passes_other.honest hb) party party_other a b c first second after there [] back n round talk.of way (ltb-true _ _ t) hc ha s goes rests pair.0, ltb-true _ _ t)
           | inr f ↦ absurd (full_fails b c second after (kind_of way.m) (body_of way.m) [] back hc (full_got (at_most _ f refl)) s pair.0)
         ]
       ]
@@ -316,13 +316,13 @@ module _ (a0 b0 : Store) (party : IsParty (party_of a0)) (party_other : IsParty 
       passes_other = passes-then b0 b c talk.of.others hands.faults talk.of.passes_other hands.passes;
     }
 
-    pub talk_back : (s : State) → (s ≡ state.Done → ⊥) → Hands b c second after there [] back (Ok s) → TalkBack a0 b0 a c first after back (n + 1) round
-    talk_back s goes hands = record {
+    pub talk_back : (s : State) → (s ≡ state.Done → ⊥) → Rests c → Hands b c second after there [] back (Ok s) → TalkBack a0 b0 a c first after back (n + 1) round
+    talk_back s goes rests hands = record {
       of = record { faults = talk.of.faults; passes = talk.of.passes; others = talk.of.others ++ hands.faults; passes_other = passes-then b0 b c talk.of.others hands.faults talk.of.passes_other hands.passes };
       started = talk.started;
       started_other = hands.started ∙ talk.started_other;
       count = let e = talk.count in omega (arith, e);
-      way = λ h k meet. ongoing h (hands.passes.honest k) k meet s goes hands;
+      way = λ h k meet. ongoing h (hands.passes.honest k) k meet s goes rests hands;
     }
 
   module _ (a b c : Store) (first second after : Standing) (back there : List ℕ) (n round : ℕ) (talk : TalkBack a0 b0 a b first second back n round) where
@@ -347,12 +347,12 @@ module _ (a0 b0 : Store) (party : IsParty (party_of a0)) (party_other : IsParty 
         )
       ]
 
-      ongoing_back : (s : State) → Hands a c first after back [] there (Ok s) → UnderWay a0 b0 c b after second there (n + 1) (round + 1) × (round + 1 ≤ most_frames)
-      ongoing_back s hands = elim (hands.takes way_back.m spelled_of way_back.bytes) [
+      ongoing_back : (s : State) → Rests c → Hands a c first after back [] there (Ok s) → UnderWay a0 b0 c b after second there (n + 1) (round + 1) × (round + 1 ≤ most_frames)
+      ongoing_back s rests hands = elim (hands.takes way_back.m spelled_of way_back.bytes) [
         | inl none ↦ absurd (ok_memory s none.2)
         | inr pair ↦
             let few = (talk.way ha hb meet).1 in (
-              goes_on a0 b0 meet (talk.of.passes.honest ha) (talk.of.passes_other.honest hb) party party_other a b c first second after back there n round talk.of way_back few hc s pair.0,
+              goes_on a0 b0 meet (talk.of.passes.honest ha) (talk.of.passes_other.honest hb) party party_other a b c first second after back there n round talk.of way_back few hc s rests pair.0,
               omega (arith, few),
             )
       ]
@@ -372,13 +372,13 @@ module _ (a0 b0 : Store) (party : IsParty (party_of a0)) (party_other : IsParty 
       passes_other = talk.of.passes_other;
     }
 
-    pub back_goes : (s : State) → Hands a c first after back [] there (Ok s) → Talk a0 b0 c b after second there (n + 1) (round + 1)
-    back_goes s hands = record {
+    pub back_goes : (s : State) → Rests c → Hands a c first after back [] there (Ok s) → Talk a0 b0 c b after second there (n + 1) (round + 1)
+    back_goes s rests hands = record {
       of = record { faults = talk.of.faults ++ hands.faults; passes = passes-then a0 a c talk.of.faults hands.faults talk.of.passes hands.passes; others = talk.of.others; passes_other = talk.of.passes_other };
       started = hands.started ∙ talk.started;
       started_other = talk.started_other;
       count = let e = talk.count in omega (arith, e);
-      way = λ h k meet. ongoing_back (hands.passes.honest h) k h meet s hands;
+      way = λ h k meet. ongoing_back (hands.passes.honest h) k h meet s rests hands;
     }
 
 -- so many frames don't come

@@ -116,7 +116,6 @@ module _ {S : Type 0} (g : Ghosts S) (laws : Laws g) where
     before = rests a was;
     after = rests b is;
     passes = record {
-      rests = λ _. rests b is;
       own = own;
       id = id;
       honest = λ h. omega (arith, survives.clean, h);
