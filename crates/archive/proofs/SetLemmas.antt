@@ -1,5 +1,5 @@
 -- A list in order with each element once is told by its members.
-use Rattle.std.proofs.Common.{◌≡◌, zero, suc, true, false, cond, List, [], ◌∷◌, refl, sym, ap, ◌∙◌, subst, inl, inr, Ordering, Less, Equal, Greater, is_lt, is_gt, add-one}
+use Rattle.std.proofs.Common.{◌≡◌, zero, suc, true, false, cond, List, [], ◌∷◌, refl, ap, ◌∙◌, subst, inl, inr, Ordering, Less, Equal, Greater, is_lt, is_gt, add-one}
 use Rattle.std.specs.Cmp.{IsTotalOrder}
 use Rattle.std.specs.Ordering.{ordering_reverse}
 use Rattle.std.proofs.Common.{ℤ, arith, IsPermutation, IsSorted}
