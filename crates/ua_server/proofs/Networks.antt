@@ -6,15 +6,12 @@ use Rattle.ua_server.specs.Bytes.{counted}
 use Rattle.ua_server.specs.declared.outcome.ServeFault.TheVariants.{Read, Write}
 use Rattle.ua_server.specs.Either.{Ends, ServesEither}
 use Rattle.ua_server.specs.Given.{Outside}
-use Rattle.ua_server.specs.Tally.{Tally}
+use Rattle.ua_server.specs.Tally.{Tally, HasCounted}
 use Rattle.ua_server.specs.Network.{Means, Around, Connects, Tells, ServesEach}
 
 -- a call that failed is the one that is counted
-one-failed : {T : Type 0} (first last : Tally T) (inner : T) → first ≡ record { inner = inner; faults = 0 } → last.faults ≡ counted first.faults → last.faults ≡ 1
-one-failed {T} first last inner begins counts = counts ∙ ap (λ (t : Tally T). counted t.faults) begins
-
-none-failed : {T : Type 0} (first last : Tally T) (inner : T) → first ≡ record { inner = inner; faults = 0 } → last.faults ≡ first.faults → last.faults ≡ 0
-none-failed {T} first last inner begins counts = counts ∙ ap (λ (t : Tally T). t.faults) begins
+pub has-counted : {T failed : Type 0} (first last : Tally T) (inner : T) → first ≡ record { inner = inner; faults = 0 } → (failed → last.faults ≡ counted first.faults) → ((failed → ⊥) → last.faults ≡ first.faults) → HasCounted failed last
+has-counted {T} first last inner begins one none = (λ f. one f ∙ ap (λ (t : Tally T). counted t.faults) begins, λ f. none f ∙ ap (λ (t : Tally T). t.faults) begins)
 
 -- a connection that came was served
 pub connected : {L R W A C : Type 0} (means : Means L R W A C) (settings : Values) (came : Option (R × W)) (reader : R) (writer : W) (first-read last-read : Tally R) (first-wrote last-wrote : Tally W)
@@ -39,10 +36,8 @@ connected {L} {R} {W} means settings came reader writer first-read last-read fir
         used = serves.0;
         serves = subst S writes (subst Q reads serves.2);
         timed = serves.1;
-        read_failed = λ e. one-failed first-read last-read reader reads (read-failed e);
-        write_failed = λ e. one-failed first-wrote last-wrote writer writes (write-failed e);
-        all_read = λ e. none-failed first-read last-read reader reads (all-read e);
-        all_written = λ e. none-failed first-wrote last-wrote writer writes (all-written e);
+        reads = has-counted first-read last-read reader reads read-failed all-read;
+        writes = has-counted first-wrote last-wrote writer writes write-failed all-written;
         given_back = closed;
       },
     )

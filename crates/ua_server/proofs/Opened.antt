@@ -13,6 +13,7 @@ use Rattle.ua_server.specs.declared.calling.SyncFault.TheVariants as sync
 use Rattle.ua_server.specs.Bytes.{counted}
 use Rattle.ua_server.specs.Tally.{Tally}
 use Rattle.ua_server.specs.Calling.{Syncs}
+use Rattle.ua_server.proofs.Networks.{has-counted}
 use Rattle.ua_server.specs.Program.{empty_of, unopened, OverOpened, OverStore, Over, Calls, IsSynced, sync_result}
 
 kept-opened : {K : Type 0} (opening : Result K StoreFault) (kept : K) → Ok kept ≡ unopened opening → opening ≡ Ok kept
@@ -45,16 +46,17 @@ pub was-synced : {N R W : Type 0} (calls : Calls N R W) (first last : Store) (re
     → reader_counted ≡ record { inner = reader; faults = 0 } → writer_counted ≡ record { inner = writer; faults = 0 }
     → Syncs first last (calls.unread reader_counted.inner) (calls.unread read.inner) (calls.written writer_counted.inner) (calls.written wrote.inner) ending
     → (ending ≡ Err (sync.Connection Read) → read.faults ≡ counted reader_counted.faults) → (ending ≡ Err (sync.Connection Write) → wrote.faults ≡ counted writer_counted.faults)
+    → ((ending ≡ Err (sync.Connection Read) → ⊥) → read.faults ≡ reader_counted.faults) → ((ending ≡ Err (sync.Connection Write) → ⊥) → wrote.faults ≡ writer_counted.faults)
     → calls.parted between read wrote after → result ≡ sync_result ending → IsSynced calls first last reader writer between after result
-was-synced {N} {R} {W} calls first last reader writer reader_counted read writer_counted wrote between after ending result begins opens syncs read_failed write_failed given told = record {
+was-synced {N} {R} {W} calls first last reader writer reader_counted read writer_counted wrote between after ending result begins opens syncs read_failed write_failed all_read all_written given told = record {
   read = read;
   wrote = wrote;
   synced = ending;
   syncs =
       subst (λ (r : Tally R). Syncs first last (calls.unread r.inner) (calls.unread read.inner) (calls.written writer) (calls.written wrote.inner) ending) begins
       (subst (λ (w : Tally W). Syncs first last (calls.unread reader_counted.inner) (calls.unread read.inner) (calls.written w.inner) (calls.written wrote.inner) ending) opens syncs);
-  read_failed = λ e. read_failed e ∙ ap (λ (r : Tally R). counted r.faults) begins;
-  write_failed = λ e. write_failed e ∙ ap (λ (w : Tally W). counted w.faults) opens;
+  reads = has-counted reader_counted read reader begins read_failed all_read;
+  writes = has-counted writer_counted wrote writer opens write_failed all_written;
   given_back = given;
   told = told;
 }

@@ -9,7 +9,7 @@ use Rattle.ua_server.specs.declared.program.ProgramFault.{ProgramFault}
 use Rattle.ua_server.specs.declared.program.ProgramFault.TheVariants.{Address, Connection}
 use Rattle.ua_server.specs.Either.{Ends, ServesEither}
 use Rattle.ua_server.specs.Given.{Outside}
-use Rattle.ua_server.specs.Tally.{Tally}
+use Rattle.ua_server.specs.Tally.{Tally, HasCounted}
 use Rattle.ua_server.specs.Telling.{IsTold, error_lines}
 
 -- how a listener gives connections and takes them back, and a clock its readings; and what is known of what a client writes, of what it reads, and of
@@ -35,10 +35,8 @@ pub record IsServedTo {L R W A C : Type 0} (means : Means L R W A C) (settings :
   pub used : Outside
   pub serves : ServesEither settings (means.held old.archive) (means.held new.archive) (means.unread reader) (means.unread read.inner) (means.written writer) (means.written wrote.inner) used ending
   pub timed : means.gave old.clock used.readings new.clock
-  pub read_failed : ending ≡ Err Read → read.faults ≡ 1
-  pub write_failed : ending ≡ Err Write → wrote.faults ≡ 1
-  pub all_read : (ending ≡ Err Read → ⊥) → read.faults ≡ 0
-  pub all_written : (ending ≡ Err Write → ⊥) → wrote.faults ≡ 0
+  pub reads : HasCounted (ending ≡ Err Read) read
+  pub writes : HasCounted (ending ≡ Err Write) wrote
   pub given_back : means.closed between read wrote new.source
 
 -- what was done with what came; where nothing came that is a fault of reading

@@ -12,7 +12,7 @@ use Rattle.exchange.specs.declared.message.State.TheVariants.{Done, Failed}
 use Rattle.exchange.specs.Named.{Party, end_frame}
 use Rattle.exchange.specs.Frames.{cut}
 use Rattle.exchange.specs.Streams.{Piece, AreFrames}
-use Rattle.exchange.specs.Dialogs.{Turn, Way, Standing, fault_on, is_over, received, records_read, answered, standing_after, party_of, Writes, TellsFault}
+use Rattle.exchange.specs.Dialogs.{Turn, Way, IsWay, Standing, fault_on, is_over, received, records_read, answered, standing_after, party_of, Writes, TellsFault}
 use Rattle.ua_server.specs.declared.outcome.ServeFault.{ServeFault}
 use Rattle.ua_server.specs.declared.outcome.ServeFault.TheVariants.{Read, Write, OutOfMemory}
 use Rattle.ua_server.specs.declared.peers.Parted.{Parted}
@@ -47,10 +47,11 @@ abbrev pub after_all : Party → Side → List Taken → Side
 after_all p side [] = side
 after_all p side (t ∷ later) = after_all p (after p side t) later
 
--- what was told and written for each of them is what the side makes of it, as the ones before it left it
+-- what came in the way of each of them is what can come there, and what was told and written for it is what the side makes of it, as the ones before it left it
 abbrev pub AreAnswered : Party → Side → List Taken → Type 0
 AreAnswered p side [] = ⊤
-AreAnswered p side (t ∷ later) = Writes (turn_of p side t) t.result [] t.said × AreAnswered p (after p side t) later
+AreAnswered p side (t ∷ later) =
+    (IsWay (records_read (received p side.standing t.frame.kind t.frame.body)) t.way × Writes (turn_of p side t) t.result [] t.said) × AreAnswered p (after p side t) later
 
 -- what was held before one of the frames, and some first records of it
 abbrev pub MayLeave : Party → Side → List Taken → Content → Type 0

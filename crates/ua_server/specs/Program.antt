@@ -15,7 +15,7 @@ use Rattle.ua_server.specs.declared.program.ProgramFault.TheVariants as program
 use Rattle.ua_server.specs.declared.dumps.DumpFault.{DumpFault}
 use Rattle.ua_server.specs.declared.dumps.DumpFault.TheVariants as dump
 use Rattle.ua_server.specs.Bytes.{AppendsPart}
-use Rattle.ua_server.specs.Tally.{Tally}
+use Rattle.ua_server.specs.Tally.{Tally, HasCounted}
 use Rattle.ua_server.specs.Readings.{AllAre}
 use Rattle.ua_settings.specs.declared.fault.SettingsFault.{SettingsFault}
 use Rattle.ua_settings.specs.declared.fault.SettingsFault.TheVariants as refused
@@ -230,14 +230,14 @@ pub record Calls (N R W : Type 0) : Type 1 where
   pub unread : R → Option (List ℕ)
   pub written : W → Option (List ℕ)
 
--- a connection was had, and the peer was called over it, as the initiator of a dialog; it was given back with its failed calls
+-- a connection was had, and the peer was called over it, as the initiator of a dialog; it was given back with its failed calls, of which there is one just where it ended by that
 pub record IsSynced {N R W : Type 0} (calls : Calls N R W) (first last : Store) (reader : R) (writer : W) (between after : N) (result : Result (Unit {0}) ProgramFault) : Type 0 where
   pub read : Tally R
   pub wrote : Tally W
   pub synced : Result (Unit {0}) SyncFault
   pub syncs : Syncs first last (calls.unread reader) (calls.unread read.inner) (calls.written writer) (calls.written wrote.inner) synced
-  pub read_failed : synced ≡ Err (sync.Connection Read) → read.faults ≡ 1
-  pub write_failed : synced ≡ Err (sync.Connection Write) → wrote.faults ≡ 1
+  pub reads : HasCounted (synced ≡ Err (sync.Connection Read)) read
+  pub writes : HasCounted (synced ≡ Err (sync.Connection Write)) wrote
   pub given_back : calls.parted between read wrote after
   pub told : result ≡ sync_result synced
 

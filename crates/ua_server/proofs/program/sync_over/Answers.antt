@@ -22,7 +22,7 @@ returns g c =
           c.call.new.self,
           rw (← c.in-Some.is) c.call.ensures,
           was-synced calls (g.A.Archive.state c.args.archive) (g.A.Archive.state c.sync-ending.new.replica.archive) c.in-Some.reader c.in-Some.writer c.new-reader.result c.sync-ending.new.reader c.new-writer.result c.sync-ending.new.writer c.call.new.self c.part.new.self c.sync-ending.result c.synced.result
-              c.new-reader.ensures c.new-writer.ensures ends.syncs ends.read ends.write c.part.ensures c.synced.ensures,
+              c.new-reader.ensures c.new-writer.ensures ends.syncs ends.read ends.write ends.read_kept ends.write_kept c.part.ensures c.synced.ensures,
         ),
       ),
     )
