@@ -27,7 +27,7 @@ use Rattle.archive.specs.Steps.{Does, Acts, step}
 use Rattle.archive.proofs.Calls.{passes-none, passes-then}
 use Rattle.archive.proofs.Acting.{acts-as, acts-learned, acts-unlearned, holds-stays}
 use Rattle.hist_update.specs.declared.request.Request.{Request}
-use Rattle.hist_update.specs.Codes.{asked_by, count_refusal}
+use Rattle.hist_update.specs.Codes.{asked_by, list_refusal}
 use Rattle.hist_update.specs.Outcome.{Operation, Write, DeleteAt, outcome, after}
 use Rattle.hist_update.specs.Laws.{IsBad}
 use Rattle.hist_update.specs.Updates.{code_by, left_by, unless, begin, all_good, data_refusal, writes, deletes_at, update_data, delete_at}
@@ -58,7 +58,7 @@ pub one_deleted : (a b : Store) (used : List Mark) (request : Request) (time : T
     → times ≡ time ∷ [] → Acts a b used (delete_at a.own request times) told → Acts a b used (begin a.own request all_good (DeleteAt (moment time.0 0) ∷ [])) told
 one_deleted a b used request time times told one acts =
     acts-as a b used (delete_at a.own request times) (begin a.own request all_good (DeleteAt (moment time.0 0) ∷ [])) told (λ R marks.
-    ap (λ (ts : List Ticks). unless (count_refusal (length ts)) R (begin a.own request all_good (deletes_at ts) R) marks) one) acts
+    ap (λ (ts : List Ticks). unless (list_refusal 1000 (length ts)) R (begin a.own request all_good (deletes_at ts) R) marks) one) acts
 
 not_below : (faults : List StoreFault) (n : ℕ) → n ≤ 2 ^ 64 - 1 → n ≤ failed_by faults n
 not_below [] n le = omega arith

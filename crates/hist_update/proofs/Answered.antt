@@ -12,6 +12,8 @@ use Rattle.records.proofs.PutLemmas.{has-put}
 use Rattle.records.proofs.LearnLemmas.{closed-next}
 use Rattle.archive.specs.declared.fault.StoreFault.{StoreFault}
 use Rattle.archive.specs.declared.fault.StoreFault.TheVariants as fault
+use Rattle.std.specs.Option.{ok_or}
+use Rattle.ua_binary.specs.Format.{◌>>=◌}
 use Rattle.ua_binary.specs.declared.codes.Status.{Status}
 use Rattle.ua_binary.specs.declared.codes.TheConstants.Status.{BAD_OUT_OF_MEMORY, BAD_RESOURCE_UNAVAILABLE, BAD_ENCODING_LIMITS_EXCEEDED, BAD_INVALID_TIMESTAMP, BAD_TYPE_MISMATCH, BAD_ENTRY_EXISTS, BAD_NO_ENTRY_EXISTS}
 use Rattle.hist_update.specs.declared.request.Request.{Request}
@@ -19,7 +21,7 @@ use Rattle.archive.specs.Fault.{status_of}
 use Rattle.archive.specs.Steps.{Marked, Does}
 use Rattle.archive.specs.Store.{Mark, Fine, Starved, Met, MayBeFound}
 use Rattle.records.specs.Moments.{ticks_of}
-use Rattle.hist_update.specs.Outcome.{Operation, Write, DeleteAt, Change, Outcome, Refused, Added, change_by, written, timed, typed, fits, source_time, is_too_long, writing, deletion, outcome, outcome_of, judged, stamped, conflict, done, is_live}
+use Rattle.hist_update.specs.Outcome.{Operation, Write, DeleteAt, Change, Outcome, Refused, Added, change_by, sized, fits, source_time, is_too_long, writing, deletion, outcome, outcome_of, judged, stamped, conflict, done, is_live}
 use Rattle.hist_update.specs.Updates.{code_by, left_by, update_all}
 use Rattle.hist_update.specs.Laws.{IsBad, IsGood, IsRecordOf, IsAnsweredGood, HasRecordOf}
 use Rattle.hist_update.proofs.NewRecords.{made, new_next}
@@ -64,11 +66,11 @@ change_bad request own (Write asked type v) code e = by_time (source_time v) e
     by_size t true h = bad_as BAD_ENCODING_LIMITS_EXCEEDED code (omega arith) (same_fault _ _ h)
     by_size t false h = not_fault _ _ h
 
-    by_type : (t : ℤ) (x : Bool) → written request own asked v (typed x t) ≡ Err code → IsBad code
+    by_type : (t : ℤ) (x : Bool) → ((if x then Ok t else Err BAD_TYPE_MISMATCH) >>= λ time. sized request own (writing asked v time)) ≡ Err code → IsBad code
     by_type t true h = by_size t (is_too_long request own (writing asked v t)) h
     by_type t false h = bad_as BAD_TYPE_MISMATCH code (omega arith) (same_fault _ _ h)
 
-    by_time : (o : Option ℤ) → written request own asked v (timed type v o) ≡ Err code → IsBad code
+    by_time : (o : Option ℤ) → ((ok_or o BAD_INVALID_TIMESTAMP >>= λ time. if fits type v.value then Ok time else Err BAD_TYPE_MISMATCH) >>= λ time. sized request own (writing asked v time)) ≡ Err code → IsBad code
     by_time None h = bad_as BAD_INVALID_TIMESTAMP code (omega arith) (same_fault _ _ h)
     by_time (Some t) h = by_type t (fits type v.value) h
 

@@ -14,7 +14,7 @@ use Rattle.archive.specs.Store.{Store, Mark, Fine, Starved, faults_of, Passes, S
 use Rattle.archive.proofs.Calls.{passes-none}
 use Rattle.archive.proofs.Acting.{holds-stays, moves-none, moves-as, does-give}
 use Rattle.hist_update.specs.declared.request.Request.{Request}
-use Rattle.hist_update.specs.Codes.{count_refusal}
+use Rattle.hist_update.specs.Codes.{list_refusal}
 use Rattle.hist_update.specs.Outcome.{Operation, Write}
 use Rattle.hist_update.specs.Updates.{Updated, told, refused, unless, past, run, begin, all_good, data_refusal, writes, deletes_at, delete_at, update_all, breaks, AreEnded, needs_store, needs_of}
 use Rattle.hist_update.specs.Operating.{Operations, Begins}
@@ -102,10 +102,10 @@ data-refused a request type asked values code result e is =
 
 -- they aren't
 pub data-begun : (a b : Store) (request : Request) (type : ValueType) (o : Option HistoryUpdateType) (asked : HistoryUpdateType) (values : List DataValue) (result : HistoryUpdateResult)
-    → Some asked ≡ o → count_refusal (length values) ≡ None → Begins a b request all_good (map (Write asked type) values) result → AnswersData a b request type o values result
+    → Some asked ≡ o → list_refusal 1000 (length values) ≡ None → Begins a b request all_good (map (Write asked type) values) result → AnswersData a b request type o values result
 data-begun a b request type o asked values result e free u =
     subst (λ x. AnswersData a b request type x values result) e
-    (u.used, acts-free a b u.used (count_refusal (length values)) (begin a.own request all_good (map (Write asked type) values)) result free u.acts, u.ended)
+    (u.used, acts-free a b u.used (list_refusal 1000 (length values)) (begin a.own request all_good (map (Write asked type) values)) result free u.acts, u.ended)
 
 -- ---- deletes at source times
 
@@ -113,13 +113,13 @@ abbrev pub AnswersTimes : Store → Store → Request → List Ticks → History
 AnswersTimes a b request times result =
     (used : List Mark) × Acts a b used (delete_at a.own request times) result × AreEnded a.broken (needs_of a.own request (deletes_at times)) used
 
-pub times-refused : (a : Store) (request : Request) (times : List Ticks) (code : Status) (result : HistoryUpdateResult) → count_refusal (length times) ≡ Some code → result ≡ refused code → AnswersTimes a a request times result
+pub times-refused : (a : Store) (request : Request) (times : List Ticks) (code : Status) (result : HistoryUpdateResult) → list_refusal 1000 (length times) ≡ Some code → result ≡ refused code → AnswersTimes a a request times result
 times-refused a request times code result e is = (
   [],
-  subst (λ r. Acts a a [] (delete_at a.own request times) r) (sym is) (acts-refused a (count_refusal (length times)) code (begin a.own request all_good (deletes_at times)) e),
+  subst (λ r. Acts a a [] (delete_at a.own request times) r) (sym is) (acts-refused a (list_refusal 1000 (length times)) code (begin a.own request all_good (deletes_at times)) e),
   none-ended a.broken (needs_of a.own request (deletes_at times)),
 )
 
-pub times-begun : (a b : Store) (request : Request) (times : List Ticks) (result : HistoryUpdateResult) → count_refusal (length times) ≡ None → Begins a b request all_good (deletes_at times) result → AnswersTimes a b request times result
+pub times-begun : (a b : Store) (request : Request) (times : List Ticks) (result : HistoryUpdateResult) → list_refusal 1000 (length times) ≡ None → Begins a b request all_good (deletes_at times) result → AnswersTimes a b request times result
 times-begun a b request times result free u =
-    (u.used, acts-free a b u.used (count_refusal (length times)) (begin a.own request all_good (deletes_at times)) result free u.acts, u.ended)
+    (u.used, acts-free a b u.used (list_refusal 1000 (length times)) (begin a.own request all_good (deletes_at times)) result free u.acts, u.ended)

@@ -18,10 +18,12 @@ use Rattle.records.proofs.Sizes.{fields_length}
 use Rattle.records.proofs.LearnLemmas.{le_from_not, finding_next}
 use Rattle.archive.specs.Store.{IsLawfulContent}
 use Rattle.archive.proofs.Listing.{lawful_put}
+use Rattle.std.specs.Option.{ok_or}
+use Rattle.ua_binary.specs.Format.{◌>>=◌}
 use Rattle.ua_binary.specs.declared.codes.Status.{Status}
-use Rattle.ua_binary.specs.declared.codes.TheConstants.Status.{BAD_ENCODING_LIMITS_EXCEEDED, BAD_INVALID_TIMESTAMP}
+use Rattle.ua_binary.specs.declared.codes.TheConstants.Status.{BAD_ENCODING_LIMITS_EXCEEDED, BAD_INVALID_TIMESTAMP, BAD_TYPE_MISMATCH}
 use Rattle.hist_update.specs.declared.request.Request.{Request}
-use Rattle.hist_update.specs.Outcome.{Operation, Write, DeleteAt, Change, Outcome, Refused, Added, IsRequest, change_by, written, timed, typed, fits, source_time, source_pico, is_too_long, writing, deletion, outcome, record_by}
+use Rattle.hist_update.specs.Outcome.{Operation, Write, DeleteAt, Change, Outcome, Refused, Added, IsRequest, change_by, sized, fits, source_time, source_pico, is_too_long, writing, deletion, outcome, record_by}
 use Rattle.archive.specs.Steps.{Does}
 use Rattle.archive.specs.Store.{Mark, Fine, Starved, Met}
 use Rattle.hist_update.specs.Updates.{left_by, update_all}
@@ -86,11 +88,11 @@ is_change request own (Write asked type v) change lawful spelled is e = by_time 
       short = p;
     })
 
-    by_type : (t : ℤ) → IsTime t → (x : Bool) → written request own asked v (typed x t) ≡ Ok change → IsChange request own change
+    by_type : (t : ℤ) → IsTime t → (x : Bool) → ((if x then Ok t else Err BAD_TYPE_MISMATCH) >>= λ time. sized request own (writing asked v time)) ≡ Ok change → IsChange request own change
     by_type t at true h = by_size t at (is_too_long request own (writing asked v t)) refl h
     by_type t at false h = no_change _ _ h
 
-    by_time : (o : Option ℤ) → source_time v ≡ o → written request own asked v (timed type v o) ≡ Ok change → IsChange request own change
+    by_time : (o : Option ℤ) → source_time v ≡ o → ((ok_or o BAD_INVALID_TIMESTAMP >>= λ time. if fits type v.value then Ok time else Err BAD_TYPE_MISMATCH) >>= λ time. sized request own (writing asked v time)) ≡ Ok change → IsChange request own change
     by_time None p h = no_change _ _ h
     by_time (Some t) p h = by_type t (sourced v.source_time (source_pico v) t (few_by v.source_pico is.1.3) is.1.2 p) (fits type v.value) h
 

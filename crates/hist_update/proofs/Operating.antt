@@ -15,14 +15,15 @@ use Rattle.ua_binary.specs.declared.values.Ticks.{Ticks}
 use Rattle.ua_variant.specs.declared.data.DataValue.{DataValue}
 use Rattle.ua_variant.specs.declared.value.ValueType.{ValueType}
 use Rattle.ua_variant.specs.DataValue.{IsShortData}
-use Rattle.std.specs.Option.{option_and_then}
+use Rattle.std.specs.Option.{option_and_then, ok_or}
+use Rattle.ua_binary.specs.Format.{◌>>=◌}
 use Rattle.records.specs.Contents.{Content, vec, top, last_tick, finding, Adds, after_finding, learned, put, IsClosed}
 use Rattle.records.proofs.Sizes.{fields_length}
 use Rattle.records.proofs.LearnLemmas.{finding_next, lt_from_test, le_from_not}
 use Rattle.records.proofs.PutLemmas.{last_tick_within}
 use Rattle.records.proofs.GreatestLemmas.{numbers_below}
 use Rattle.ua_binary.specs.declared.codes.Status.{Status}
-use Rattle.ua_binary.specs.declared.codes.TheConstants.Status.{BAD_OUT_OF_MEMORY, BAD_RESOURCE_UNAVAILABLE, BAD_ENCODING_LIMITS_EXCEEDED, BAD_INVALID_TIMESTAMP}
+use Rattle.ua_binary.specs.declared.codes.TheConstants.Status.{BAD_OUT_OF_MEMORY, BAD_RESOURCE_UNAVAILABLE, BAD_ENCODING_LIMITS_EXCEEDED, BAD_INVALID_TIMESTAMP, BAD_TYPE_MISMATCH}
 use Rattle.records.specs.Moments.{moment, ticks_of, whole_again, pico_within}
 use Rattle.archive.specs.declared.fault.StoreFault.{StoreFault}
 use Rattle.archive.specs.declared.fault.LearnFault.{LearnFault}
@@ -38,7 +39,7 @@ use Rattle.hist_update.specs.declared.request.Request.{Request}
 use Rattle.hist_update.specs.declared.operate.Place.{Place}
 use Rattle.hist_update.specs.declared.operate.Undone.{Undone}
 use Rattle.hist_update.specs.declared.operate.Undone.TheVariants as undone
-use Rattle.hist_update.specs.Outcome.{Operation, Write, DeleteAt, IsRequest, deletion, writing, written, source_time, source_pico, fits, typed, timed, time_judged, Change, Outcome, Refused, Added, change_by, sized, outcome, outcome_of, judged, stamped, is_live, is_too_long, conflict, done, record_by, code_in, after}
+use Rattle.hist_update.specs.Outcome.{Operation, Write, DeleteAt, IsRequest, deletion, writing, source_time, source_pico, fits, time_judged, Change, Outcome, Refused, Added, change_by, sized, outcome, outcome_of, judged, stamped, is_live, is_too_long, conflict, done, record_by, code_in, after}
 use Rattle.hist_update.specs.Updates.{code_by, left_by, update_one}
 use Rattle.hist_update.specs.Operating.{Operates, IsPlace, candidate_of, is_long, refusal_by, refusal, told_of, Submits, IsDraft, IsNumber}
 use Rattle.hist_update.proofs.Asking.{moves-behind}
@@ -286,11 +287,11 @@ sourced (Some s) p t e = go (int_lt s.0 (pos 1)) refl e
 judged_time : (type : ValueType) (v : DataValue) (time : ℤ) → time_judged type v ≡ Ok time → pos 1 ≤ℤ ticks_of time
 judged_time type v time e = go (source_time v) refl e
   where
-    typed_so : (x : Bool) (t : ℤ) → typed x t ≡ Ok time → t ≡ time
+    typed_so : (x : Bool) (t : ℤ) → (if x then Ok t else Err BAD_TYPE_MISMATCH) ≡ Ok time → t ≡ time
     typed_so true t h = ok_same t time (Ok t) refl h
     typed_so false t h = absurd (err-ok _ _ _ refl h)
 
-    go : (o : Option ℤ) → source_time v ≡ o → timed type v o ≡ Ok time → pos 1 ≤ℤ ticks_of time
+    go : (o : Option ℤ) → source_time v ≡ o → (ok_or o BAD_INVALID_TIMESTAMP >>= λ time. if fits type v.value then Ok time else Err BAD_TYPE_MISMATCH) ≡ Ok time → pos 1 ≤ℤ ticks_of time
     go None p h = absurd (err-ok _ _ _ refl h)
     go (Some t) p h = subst (λ u. pos 1 ≤ℤ ticks_of u) (typed_so (fits type v.value) t h) (sourced v.source_time (source_pico v) t p)
 
@@ -307,11 +308,11 @@ write_draft request place asked type v time lawful number write value judged = r
 
 pub written_by : (request : Request) (own : ℕ) (asked : HistoryUpdateType) (type : ValueType) (v : DataValue) (time : ℤ) → time_judged type v ≡ Ok time
     → change_by request own (Write asked type v) ≡ sized request own (writing asked v time)
-written_by request own asked type v time e = ap (written request own asked v) e
+written_by request own asked type v time e = ap (λ judged. judged >>= λ time. sized request own (writing asked v time)) e
 
 pub unwritten : (request : Request) (own : ℕ) (asked : HistoryUpdateType) (type : ValueType) (v : DataValue) (code : Status) → time_judged type v ≡ Err code
     → change_by request own (Write asked type v) ≡ Err code
-unwritten request own asked type v code e = ap (written request own asked v) e
+unwritten request own asked type v code e = ap (λ judged. judged >>= λ time. sized request own (writing asked v time)) e
 
 -- either way in which a record was settled
 pub settled : {A : Type 0} (state : A → Store) (x y z : A) (request : Request) (op : Operation) (change : Change) (place : Place) (r : Record) (result : Result Status Undone)

@@ -11,7 +11,7 @@ use Rattle.archive.specs.Fault.{status_told}
 use Rattle.archive.specs.Steps.{Marked, step, memory, Does}
 use Rattle.archive.specs.Store.{Mark, MayBeFound}
 use Rattle.hist_update.specs.declared.request.Request.{Request}
-use Rattle.hist_update.specs.Codes.{asked_by, count_refusal, first_other}
+use Rattle.hist_update.specs.Codes.{asked_by, list_refusal, first_other}
 use Rattle.hist_update.specs.Outcome.{Operation, DeleteAt}
 use Rattle.hist_update.specs.Updates.{Updated, refused, unless, past, run, begin, all_good, data_refusal, writes, update_data, deletes_at, delete_at, doomed, stretch_refusal, listing_refusal, delete_listed, delete_raw}
 use Rattle.hist_update.specs.Laws.{IsAnsweredGood, HasRecordOf}
@@ -69,7 +69,7 @@ pub deletes_stand : (R S left : Content) (own : ℕ) (request : Request) (times 
 deletes_stand R S left own request times used result k op broken d =
     let ops = deletes_at times in
     stood own request ops (delete_at own request times R) used result S left k op broken
-    (always_unless (Stand own request ops) (count_refusal (length times)) R (begin own request all_good ops R) (none_stand own request ops R) (begun_stand own request all_good ops R)) d
+    (always_unless (Stand own request ops) (list_refusal 1000 (length times)) R (begin own request all_good ops R) (none_stand own request ops R) (begun_stand own request all_good ops R)) d
 
 pub stretches_stand : (R S left : Content) (own : ℕ) (request : Request) (modified : Bool) (start end_ : Ticks) (used : List Mark) (result : HistoryUpdateResult) (k : ℕ) (op : Operation) (broken : Bool)
     → Does (delete_raw own request modified start end_ R) used (result, S) → IsAnsweredGood (map DeleteAt (doomed R request.node start.0 end_.0)) result.operation_results k op → MayBeFound broken S left
@@ -93,7 +93,7 @@ pub deletes_keep : (R S : Content) (own : ℕ) (request : Request) (times : List
 deletes_keep R S own request times used result =
     let ops = deletes_at times in
     kept R S (delete_at own request times R) used result
-    (always_unless (λ u. IsWithin R u.1) (count_refusal (length times)) R (begin own request all_good ops R) (λ code r h. h) (begun_within own request all_good ops R))
+    (always_unless (λ u. IsWithin R u.1) (list_refusal 1000 (length times)) R (begin own request all_good ops R) (λ code r h. h) (begun_within own request all_good ops R))
 
 pub stretches_keep : (R S : Content) (own : ℕ) (request : Request) (modified : Bool) (start end_ : Ticks) (used : List Mark) (result : HistoryUpdateResult)
     → Does (delete_raw own request modified start end_ R) used (result, S) → IsWithin R S

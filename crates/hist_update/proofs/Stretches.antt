@@ -26,7 +26,7 @@ use Rattle.archive.specs.Steps.{Marked, step, Acts, Does}
 use Rattle.archive.specs.Store.{Store, Mark, Fine, Met, Asks, HasContent}
 use Rattle.archive.proofs.Calls.{asks-then, in_use, left_in_use}
 use Rattle.hist_update.specs.declared.request.Request.{Request}
-use Rattle.hist_update.specs.Codes.{most, first_other}
+use Rattle.hist_update.specs.Codes.{first_other}
 use Rattle.hist_update.specs.Outcome.{DeleteAt}
 use Rattle.hist_update.specs.Operating.{Begins, BeginsListed}
 use Rattle.hist_update.specs.Updates.{Updated, refused, unless, past, begin, last_of, doomed, stretch_refusal, listing_refusal, delete_listed, delete_raw, breaks, AreEnded, needs_of, needs_of_stretch}
@@ -45,9 +45,9 @@ judged_by_first (x ∷ xs) =
     ap (λ (many : Bool). if many then Some BAD_TOO_MANY_OPERATIONS else None) (ap (λ n. nat_lt 1000 (suc n)) (length-take 1000 xs) ∙ same_test (length xs))
 
 few : (x : ℤ) (xs : List ℤ) → listing_refusal (x ∷ xs) ≡ None → length (x ∷ xs) ≤ 1000
-few x xs e = go (nat_lt most (length (x ∷ xs))) refl e
+few x xs e = go (nat_lt 1000 (length (x ∷ xs))) refl e
   where
-    go : (many : Bool) → nat_lt most (length (x ∷ xs)) ≡ many → (if many then Some BAD_TOO_MANY_OPERATIONS else None) ≡ None → length (x ∷ xs) ≤ 1000
+    go : (many : Bool) → nat_lt 1000 (length (x ∷ xs)) ≡ many → (if many then Some BAD_TOO_MANY_OPERATIONS else None) ≡ None → length (x ∷ xs) ≤ 1000
     go true p h = absurd (none-some _ (sym h))
     go false p h = ltb-false _ _ p
 

@@ -10,13 +10,9 @@ use Rattle.ua_variant.specs.declared.update_type.HistoryUpdateType.TheVariants.{
 abbrev pub asked_by : ℤ → Option HistoryUpdateType
 asked_by perform = if int_eq perform (pos 1) then Some Insert else if int_eq perform (pos 2) then Some Replace else if int_eq perform (pos 3) then Some Update else None
 
--- the most operations of one list
-abbrev pub most : ℕ
-most = 1000
-
--- why a list of so many operations is refused as a whole
-abbrev pub count_refusal : ℕ → Option Status
-count_refusal count = if count == 0 then Some BAD_NOTHING_TO_DO else if nat_lt most count then Some BAD_TOO_MANY_OPERATIONS else None
+-- why a list of so many items is refused as a whole, of which a service takes 1 to this many
+abbrev pub list_refusal : (most count : ℕ) → Option Status
+list_refusal most count = if count == 0 then Some BAD_NOTHING_TO_DO else if nat_lt most count then Some BAD_TOO_MANY_OPERATIONS else None
 
 -- the first that isn't Good, or Good
 abbrev pub first_other : List Status → Status

@@ -1,7 +1,8 @@
 -- What one operation of an update comes to over a content (Part 11, HistoryUpdate): a code, and the record that it adds, if any.
 use Rattle.std.specs.Prelude.{ℕ, ◌≤◌, ◌+◌, nat_lt, ℤ, pos, int_lt, Bool, true, false, if◌then◌else◌, length, Option, Some, None, is_some, unwrap_or, Result, Ok, Err}
-use Rattle.std.specs.Option.{option_and_then}
+use Rattle.std.specs.Option.{option_and_then, ok_or}
 use Rattle.stamp.specs.Limits.{lift}
+use Rattle.ua_binary.specs.Format.{◌>>=◌}
 use Rattle.ua_binary.specs.declared.values.NodeId.{NodeId}
 use Rattle.ua_binary.specs.declared.values.NodeId.TheVariants.{Named, Opaque}
 use Rattle.ua_variant.specs.Variant.{has_type}
@@ -70,28 +71,16 @@ writing asked v time = record { time = time; asked = asked; value = record v { s
 abbrev pub deletion : ℤ → Change
 deletion time = record { time = time; asked = Delete; value = empty }
 
-abbrev pub typed : Bool → ℤ → Result ℤ Status
-typed true time = Ok time
-typed false time = Err BAD_TYPE_MISMATCH
-
-abbrev pub timed : ValueType → DataValue → Option ℤ → Result ℤ Status
-timed type v None = Err BAD_INVALID_TIMESTAMP
-timed type v (Some time) = typed (fits type v.value) time
-
 -- the source time of a value that may be written to a node of this type
 abbrev pub time_judged : ValueType → DataValue → Result ℤ Status
-time_judged type v = timed type v (source_time v)
+time_judged type v = ok_or (source_time v) BAD_INVALID_TIMESTAMP >>= λ time. if fits type v.value then Ok time else Err BAD_TYPE_MISMATCH
 
 abbrev pub sized : Request → ℕ → Change → Result Change Status
 sized request own change = if is_too_long request own change then Err BAD_ENCODING_LIMITS_EXCEEDED else Ok change
 
-abbrev pub written : Request → ℕ → HistoryUpdateType → DataValue → Result ℤ Status → Result Change Status
-written request own asked v (Err code) = Err code
-written request own asked v (Ok time) = sized request own (writing asked v time)
-
 -- the change that an operation asks for
 abbrev pub change_by : Request → ℕ → Operation → Result Change Status
-change_by request own (Write asked type v) = written request own asked v (time_judged type v)
+change_by request own (Write asked type v) = time_judged type v >>= λ time. sized request own (writing asked v time)
 change_by request own (DeleteAt time) = if int_lt (ticks_of time) (pos 1) then Err BAD_INVALID_TIMESTAMP else Ok (deletion time)
 
 -- ---- what a content makes of it

@@ -1,9 +1,10 @@
 -- Updates over a content, by what comes in the way of their steps (Part 11, HistoryUpdate).
-use Rattle.std.specs.Prelude.{◌≡◌, ◌||◌, ℕ, ℤ, ◌-ℤ◌, pos, int_lt, Bool, true, false, if◌then◌else◌, List, [], ◌∷◌, map, length, nat_lt, Option, Some, None, is_ok, ⊤}
+use Rattle.std.specs.Prelude.{◌≡◌, ◌||◌, ℕ, ℤ, ◌-ℤ◌, pos, int_lt, Bool, true, false, if◌then◌else◌, List, [], ◌∷◌, map, length, nat_lt, Option, Some, None, unwrap_or, is_ok, ⊤}
 use Rattle.std.specs.Ordering.{int_eq}
 use Rattle.std.specs.List.{list_any}
+use Rattle.std.specs.Option.{option_map_or}
 use Rattle.ua_binary.specs.declared.codes.Status.{Status}
-use Rattle.ua_binary.specs.declared.codes.TheConstants.Status.{GOOD, BAD_OUT_OF_MEMORY, BAD_HISTORY_OPERATION_INVALID, BAD_NO_DATA, BAD_TOO_MANY_OPERATIONS, BAD_HISTORY_OPERATION_UNSUPPORTED, BAD_INVALID_TIMESTAMP_ARGUMENT}
+use Rattle.ua_binary.specs.declared.codes.TheConstants.Status.{GOOD, BAD_HISTORY_OPERATION_INVALID, BAD_NO_DATA, BAD_TOO_MANY_OPERATIONS, BAD_HISTORY_OPERATION_UNSUPPORTED, BAD_INVALID_TIMESTAMP_ARGUMENT}
 use Rattle.ua_binary.specs.declared.values.NodeId.{NodeId}
 use Rattle.ua_binary.specs.declared.values.Ticks.{Ticks}
 use Rattle.ua_variant.specs.declared.data.DataValue.{DataValue}
@@ -13,20 +14,18 @@ use Rattle.ua_services.specs.declared.updates.HistoryUpdateResult.{HistoryUpdate
 use Rattle.records.specs.Moments.{moment}
 use Rattle.records.specs.Contents.{Content}
 use Rattle.archive.specs.declared.reading.Direction.TheVariants.{Forward}
-use Rattle.archive.specs.Fault.{status_of, status_told}
+use Rattle.archive.specs.Fault.{status_told}
 use Rattle.archive.specs.Reading.{range_of}
 use Rattle.archive.specs.Steps.{Marked, give, step, memory, and_then, each}
 use Rattle.archive.specs.Store.{Mark, Fine, Starved, Met, is_break, faults_in}
 use Rattle.hist_update.specs.declared.request.Request.{Request}
-use Rattle.hist_update.specs.Codes.{asked_by, count_refusal, first_other, most}
+use Rattle.hist_update.specs.Codes.{asked_by, list_refusal, first_other}
 use Rattle.hist_update.specs.Outcome.{Operation, Write, DeleteAt, Outcome, change_by, outcome, code_in, after}
 
 -- ---- operations
 
 abbrev pub code_by : Outcome → Mark → Status
-code_by o Fine = code_in o
-code_by o Starved = BAD_OUT_OF_MEMORY
-code_by o (Met fault) = status_of fault
+code_by o mark = unwrap_or (status_told mark) (code_in o)
 
 -- an operation that something came in the way of changes nothing
 abbrev pub left_by : Content → Outcome → Mark → Content
@@ -78,12 +77,10 @@ all_good codes = GOOD
 
 -- why they are refused as a whole
 abbrev pub data_refusal : Option HistoryUpdateType → ℕ → Option Status
-data_refusal None count = Some BAD_HISTORY_OPERATION_INVALID
-data_refusal (Some asked) count = count_refusal count
+data_refusal asked count = option_map_or (λ _. list_refusal 1000 count) asked (Some BAD_HISTORY_OPERATION_INVALID)
 
 abbrev pub writes : Option HistoryUpdateType → ValueType → List DataValue → List Operation
-writes None type values = []
-writes (Some asked) type values = map (Write asked type) values
+writes asked type values = option_map_or (λ kind. map (Write kind type) values) asked []
 
 abbrev pub update_data : ℕ → Request → ValueType → ℤ → List DataValue → Content → Marked Updated
 update_data own request type perform values R =
@@ -95,7 +92,7 @@ abbrev pub deletes_at : List Ticks → List Operation
 deletes_at times = map (λ t. DeleteAt (moment t.0 0)) times
 
 abbrev pub delete_at : ℕ → Request → List Ticks → Content → Marked Updated
-delete_at own request times R = unless (count_refusal (length times)) R (begin own request all_good (deletes_at times) R)
+delete_at own request times R = unless (list_refusal 1000 (length times)) R (begin own request all_good (deletes_at times) R)
 
 -- ---- deletes of all values of a stretch of time (Part 11, DeleteRawModifiedDetails)
 
@@ -117,7 +114,7 @@ stretch_refusal modified start end_ =
 -- why it is refused for what was listed
 abbrev pub listing_refusal : List ℤ → Option Status
 listing_refusal [] = Some BAD_NO_DATA
-listing_refusal (t ∷ times) = if nat_lt most (length (t ∷ times)) then Some BAD_TOO_MANY_OPERATIONS else None
+listing_refusal (t ∷ times) = if nat_lt 1000 (length (t ∷ times)) then Some BAD_TOO_MANY_OPERATIONS else None
 
 -- the moments that were listed are deleted at, and the first code that isn't Good is the status
 abbrev pub delete_listed : ℕ → Request → List ℤ → Content → Marked Updated

@@ -11,7 +11,7 @@ ghost use Rattle.archive.specs.Reading.{range_of};
 ghost use Rattle.archive.specs.declared.reading.Direction.TheVariants as direction;
 ghost use Rattle.archive.specs.Steps.{Acts};
 ghost use Rattle.archive.specs.Store.{Mark, Asks, HasContent};
-ghost use Rattle.hist_update.specs.Codes.{asked_by, count_refusal, first_other};
+ghost use Rattle.hist_update.specs.Codes.{asked_by, list_refusal, first_other};
 ghost use Rattle.hist_update.specs.Outcome.{IsRequest, Write, DeleteAt};
 ghost use Rattle.hist_update.specs.Operating.{Operations, Begins, BeginsListed};
 ghost use Rattle.hist_update.specs.Updates.{update_data, delete_at, delete_raw, refused, all_good, data_refusal, writes, deletes_at, last_of, stretch_refusal, listing_refusal, AreEnded, needs_of, needs_of_stretch};
@@ -52,7 +52,7 @@ fn asked_by(perform: i32) -> Option<HistoryUpdateType>
 
 /// Why a list of so many operations is refused as a whole.
 fn count_refusal(count: usize) -> Option<Status>
-    ensures tested { result ≡ count_refusal count }
+    ensures tested { result ≡ list_refusal 1000 count }
     ensures few { result ≡ None → count ≤ 1000 }
 {
     if count == 0 {
@@ -216,7 +216,7 @@ pub fn delete_at<A: Archive>(
     requires { IsRequest request.now }
     ensures acts { (used : List Mark) × Acts (A.state archive.old) (A.state archive.new) used (delete_at (A.state archive.old).own request.now times.now) result
         × AreEnded (A.state archive.old).broken (needs_of (A.state archive.old).own request.now (deletes_at times.now)) used }
-    ensures refused { IfSome (count_refusal (length times.now)) (λ code. (result ≡ refused code) × (archive.new ≡ archive.old)) }
+    ensures refused { IfSome (list_refusal 1000 (length times.now)) (λ code. (result ≡ refused code) × (archive.new ≡ archive.old)) }
     ensures short { IsShortUpdate result }
 {
     if let Some(status) = count_refusal(times.len()) {

@@ -13,7 +13,7 @@ use Rattle.archive.proofs.Acting.{moves-as, moves-none, acts-give, acts-as, acts
 use Rattle.archive.proofs.Calls.{passes-none}
 use Rattle.historian.specs.declared.answer.Answer.{Answer as Made}
 use Rattle.historian.specs.Answers.{Answer, Response}
-use Rattle.historian.specs.Browsing.{list_refusal}
+use Rattle.hist_update.specs.Codes.{list_refusal}
 use Rattle.historian.specs.Reading.{Served, unless, items}
 use Rattle.historian.specs.Telling.{answer_of, Tells, Comes}
 

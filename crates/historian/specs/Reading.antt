@@ -26,6 +26,7 @@ use Rattle.ua_space.specs.Attributes.{attribute_at}
 use Rattle.ua_space.specs.Space.{node_at, value_type_at}
 use Rattle.records.specs.Contents.{Content}
 use Rattle.records.specs.declared.shown.Held.{Held}
+use Rattle.records.specs.Spelling.{empty}
 use Rattle.archive.specs.declared.reading.Direction.TheVariants.{Backward}
 use Rattle.archive.specs.Fault.{status_told}
 use Rattle.archive.specs.Reading.{range_of}
@@ -33,11 +34,11 @@ use Rattle.archive.specs.Store.{Mark}
 use Rattle.archive.specs.Steps.{Marked, give, step, memory, and_then, each}
 use Rattle.hist_read.specs.Asking.{first_time}
 use Rattle.hist_read.specs.Reads.{greatest_time}
-use Rattle.hist_read.specs.Showing.{at_time, no_value, with_status, with_stamps}
+use Rattle.hist_read.specs.Showing.{at_time, with_status, with_stamps}
 use Rattle.hist_read.specs.Node.{read_node, refused}
 use Rattle.hist_read.specs.declared.query.Query.{Query}
 use Rattle.historian.specs.Answers.{Answer, Response, Values, Histories}
-use Rattle.historian.specs.Browsing.{list_refusal}
+use Rattle.hist_update.specs.Codes.{list_refusal}
 
 -- ---- lists of items
 
@@ -76,7 +77,7 @@ most_read = 1000
 
 -- a value that no archive keeps: as the attribute Value, which is 13, it is of the moment of the read, and else it has no moment of its own
 abbrev pub valued : Ticks → ℕ → Variant → DataValue
-valued now attribute value = record no_value { value = Some value; source_time = if attribute == 13 then Some now else None }
+valued now attribute value = record empty { value = Some value; source_time = if attribute == 13 then Some now else None }
 
 -- a live value as it is stored, with its source time
 abbrev pub stored : List Held → Result DataValue Status
@@ -113,7 +114,7 @@ unless_met None value = value
 
 -- a refused item is its status alone; others have the moments that are wanted, where that of the server is the moment of the read
 abbrev pub item_told : TimestampsToReturn → Ticks → Result DataValue Status → DataValue
-item_told stamps now (Err status) = with_status (Some status) no_value
+item_told stamps now (Err status) = with_status (Some status) empty
 item_told stamps now (Ok value) = with_stamps stamps (record value { server_time = Some now; server_pico = None })
 
 -- what a value comes to, by what is told of what comes in its way, in one step

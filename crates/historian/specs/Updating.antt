@@ -14,7 +14,7 @@ use Rattle.archive.specs.Steps.{Marked, give, memory, and_then}
 use Rattle.hist_update.specs.declared.request.Request.{Request}
 use Rattle.hist_update.specs.Updates.{Updated, refused, update_data, delete_raw, delete_at}
 use Rattle.historian.specs.Answers.{Updated as AllUpdated}
-use Rattle.historian.specs.Browsing.{list_refusal}
+use Rattle.hist_update.specs.Codes.{list_refusal}
 use Rattle.historian.specs.Reading.{Served, unless, items}
 
 -- the most details of a HistoryUpdate

@@ -3,9 +3,10 @@
 ghost use Rattle.std.specs.Prelude.{◌≡◌, All, map, IfOk, IfErr, Ok};
 ghost use Rattle.ua_binary.specs.Binary.{node_of};
 ghost use Rattle.ua_binary.specs.Format.{IsOrStarved};
+ghost use Rattle.hist_update.specs.Codes.{list_refusal};
 ghost use Rattle.ua_services.specs.Browsing.{browse_fields, IsShortBrowsed};
 ghost use Rattle.historian.specs.declared.service.Service.TheVariants as service;
-ghost use Rattle.historian.specs.Browsing.{list_refusal, browse_node, browse};
+ghost use Rattle.historian.specs.Browsing.{browse_node, browse};
 ghost use Rattle.historian.specs.Requests.{call_in};
 ghost use Rattle.historian.specs.Services.{Site, answered_call};
 ghost use Rattle.historian.specs.Telling.{IsShort, Tells, PerformsHere};

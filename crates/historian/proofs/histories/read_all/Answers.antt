@@ -9,7 +9,7 @@ use Rattle.archive.specs.Steps.{Acts, each}
 use Rattle.hist_read.specs.declared.query.Query.{Query}
 use Rattle.historian.specs.declared.answer.Answer.TheVariants as made
 use Rattle.historian.specs.Answers.{Histories}
-use Rattle.historian.specs.Browsing.{list_refusal}
+use Rattle.hist_update.specs.Codes.{list_refusal}
 use Rattle.historian.specs.Reading.{unless, read_history_of, query_of, histories_by, read_history}
 use Rattle.historian.proofs.Items.{comes-refused, comes-starved, comes-items, few_taken}
 use Rattle.historian.proofs.histories.read_all.Goals as goal

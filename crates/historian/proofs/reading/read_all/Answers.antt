@@ -11,7 +11,7 @@ use Rattle.archive.specs.Steps.{Acts, each}
 use Rattle.records.specs.Contents.{Content}
 use Rattle.historian.specs.declared.answer.Answer.TheVariants as made
 use Rattle.historian.specs.Answers.{Values}
-use Rattle.historian.specs.Browsing.{list_refusal}
+use Rattle.hist_update.specs.Codes.{list_refusal}
 use Rattle.historian.specs.Reading.{unless, items, read_item, read_by, read}
 use Rattle.historian.proofs.Items.{comes-refused, comes-starved, comes-items, few_taken}
 use Rattle.historian.proofs.reading.read_all.Goals as goal

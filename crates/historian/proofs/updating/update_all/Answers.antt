@@ -5,7 +5,7 @@ use Rattle.ua_binary.specs.declared.codes.Status.{Status}
 use Rattle.ua_services.specs.Updates.{details_of}
 use Rattle.historian.specs.declared.answer.Answer.TheVariants as made
 use Rattle.historian.specs.Answers.{Updated as AllUpdated}
-use Rattle.historian.specs.Browsing.{list_refusal}
+use Rattle.hist_update.specs.Codes.{list_refusal}
 use Rattle.historian.specs.Reading.{unless, items}
 use Rattle.historian.specs.Updating.{update_item, update_history}
 use Rattle.historian.proofs.Items.{comes-refused, comes-starved, comes-items}
