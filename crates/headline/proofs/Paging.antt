@@ -20,7 +20,9 @@ use Rattle.hist_read.specs.declared.point.Position.{Position}
 use Rattle.hist_read.specs.Asking.{is_given}
 use Rattle.hist_read.specs.Point.{Point, IsDetails, point_in}
 use Rattle.hist_read.specs.Reads.{raw, raw_position, modified, modified_position, next_place}
-use Rattle.hist_read.specs.Node.{Behind, is_enough, agrees, place_told, judged, point_at, raw_result, modified_result, page_result, page_from, place_in, covers, refused, read_from}
+use Rattle.hist_read.proofs.Agreeing.{place_told}
+use Rattle.hist_read.proofs.Results.{raw_result, modified_result}
+use Rattle.hist_read.specs.Node.{Behind, is_enough, agrees, judged, point_at, page_result, page_from, place_in, covers, refused, read_from}
 use Rattle.hist_read.specs.Chains.{Page, IsRead, Chain, whole, values_in, infos_in, joined_values, joined_infos, IsLater, IsAsked, contents_from}
 use Rattle.hist_read.proofs.Cutting.{vectors_below}
 use Rattle.exchange.specs.Worlds.{Site}

@@ -1,5 +1,9 @@
 -- The place that a continuation point tells.
-use Rattle.std.proofs.Common.{rules, ◌≡◌, ℕ, true, cond, ◌&&◌, List, Some, Ok, Err, refl, ap, nat_eq, inl, inr}
+use Rattle.std.proofs.Common.{rules, ◌≡◌, ℕ, true, cond, ◌&&◌, List, Option, Some, Result, Ok, Err, refl, ap, nat_eq, inl, inr}
+use Rattle.std.specs.Prelude.{if◌then◌else◌}
+use Rattle.std.specs.Option.{ok_or}
+use Rattle.ua_binary.specs.Format.{◌>>=◌}
+use Rattle.ua_binary.specs.declared.codes.Status.{Status}
 use Rattle.std.proofs.lemmas.Bool.{cases_Bool, and_from, and_parts}
 use Rattle.std.specs.Cmp.{booleans_Decides, unsigned_Decides}
 use Rattle.std.specs.Cmp.Lexicographic.{pointwise}
@@ -13,7 +17,11 @@ use Rattle.ua_services.specs.declared.history.ReadRawModifiedDetails.{ReadRawMod
 use Rattle.ua_binary.specs.declared.codes.TheConstants.Status.{BAD_CONTINUATION_POINT_INVALID}
 use Rattle.ua_services.specs.History.{raw_of, raw_fields}
 use Rattle.hist_read.specs.Point.{Point}
-use Rattle.hist_read.specs.Node.{IsOfRead, agrees, details_code, place_told}
+use Rattle.hist_read.specs.Node.{IsOfRead, Behind, agrees, details_code}
+
+-- what a point tells of where reading goes on, as `place_in` has it
+abbrev pub place_told : List ℕ → NodeId → Details → Option Point → Result (Option Behind) Status
+place_told id node q point = ok_or point BAD_CONTINUATION_POINT_INVALID >>= λ p. if agrees id node q p then Ok (Some (p.position, p.vector)) else Err BAD_CONTINUATION_POINT_INVALID
 
 moments : IsExact (ticks.TheImpl.eq-value).it
 moments a b = search rules

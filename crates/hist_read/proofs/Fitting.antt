@@ -1,6 +1,7 @@
 -- The bytes of a page of what is held can be counted.
 use Rattle.std.proofs.Common.{◌≡◌, ℕ, ◌+◌, ◌*◌, ◌≤◌, ◌==◌, ◌&&◌, not, min, ℤ, pos, Bool, true, false, cond, filter, reverse, List, [], ◌∷◌, map, length, Option, Some, None, IfSome, is_some, refl, sym, ap, ◌∙◌, subst, arith, inl, inr}
 use Rattle.std.specs.List.{flat_map, All}
+use Rattle.std.specs.Option.{option_or, unwrap_or}
 use Rattle.std.specs.Ordering.{int_eq}
 use Rattle.std.proofs.lemmas.List.{length-append, length-take, length-map}
 use Rattle.std.proofs.lemmas.List.Concat.{flat_map-cons}
@@ -28,7 +29,7 @@ use Rattle.ua_services.specs.declared.history.ReadRawModifiedDetails.{ReadRawMod
 use Rattle.records.specs.Lists.{Has}
 use Rattle.records.specs.Contents.{Content, numbers_of, cut}
 use Rattle.records.specs.Records.{write, value_shown, held_of, current, story, entries, entries_after, is_delete}
-use Rattle.records.specs.Spelling.{longest}
+use Rattle.records.specs.Spelling.{empty, longest}
 use Rattle.records.specs.declared.record.Record.{Record}
 use Rattle.records.specs.declared.shown.Held.{Held}
 use Rattle.records.specs.declared.shown.Entry.{Entry}
@@ -43,15 +44,16 @@ use Rattle.archive.proofs.Timing.{has_from_get}
 use Rattle.archive.proofs.Turning.{has_from_filter_map, has_from_flat_map, has_from_reverse, has-in_direction}
 use Rattle.hist_read.specs.declared.query.Query.{Query}
 use Rattle.hist_read.specs.Short.{IsWritable, AreWritable, IsWritableHistory}
-use Rattle.hist_read.specs.Node.{Behind, covers, refused, raw_result, modified_result, page_result, page_from}
+use Rattle.hist_read.specs.Node.{Behind, covers, refused, page_result, page_from}
+use Rattle.hist_read.proofs.Results.{raw_result, modified_result}
 use Rattle.hist_read.proofs.Cutting.{lawful_cut}
 use Rattle.hist_read.proofs.Lists.{all_start}
 use Rattle.hist_read.specs.declared.point.Position.{Position}
 use Rattle.hist_read.specs.declared.item.Item.{Item}
 use Rattle.hist_read.specs.declared.item.Item.TheVariants.{Value, Missing}
 use Rattle.hist_read.specs.Asking.{far_limit, origin_time, direction}
-use Rattle.hist_read.specs.Reads.{or_else, nearest_from, value_or_missing, near, open_bound, far_value, far_at, far, last_within, is_near_alone, near_part, limit_at, is_past_any, in_body, lives_in, body, body_part, values, far_part, last_time, time_before, before_far, raw, modified, place_at, page_size, page}
-use Rattle.hist_read.specs.Showing.{item_value, entry_value, with_stamps, shown, shown_entry, info}
+use Rattle.hist_read.specs.Reads.{nearest_from, value_or_missing, near, open_bound, far_value, far_at, far, last_within, is_near_alone, near_part, limit_at, is_past_any, in_body, lives_in, body, body_part, values, far_part, last_time, time_before, before_far, raw, modified, place_at, page_size, page}
+use Rattle.hist_read.specs.Showing.{item_value, at_time, with_stamps, shown, shown_entry, info}
 use Rattle.hist_read.proofs.Nexts.{has_take, has_from_append, has_from_map}
 
 -- ---- what is stored
@@ -89,7 +91,7 @@ module _ (R : Content) (node : NodeId) (lawful : IsLawfulContent R) where
   nearest_stored : (t : ℤ) (d : Direction) (h : Held) → nearest_from R node d t ≡ Some h → IsStored h.value
   nearest_stored t d h e = go (current R node t) refl e
     where
-      go : (o : Option Held) → current R node t ≡ o → or_else o (outside_of R node t d) ≡ Some h → IsStored h.value
+      go : (o : Option Held) → current R node t ≡ o → option_or o (outside_of R node t d) ≡ Some h → IsStored h.value
       go None f e = outside_stored t d h e
       go (Some x) f e = current_stored t h (f ∙ e)
 
@@ -273,9 +275,9 @@ shown_small R node lawful stamps (Missing time) good = empty_small stamps (item_
 pub entry_small : (R : Content) (node : NodeId) (lawful : IsLawfulContent R) (stamps : TimestampsToReturn) (e : Entry) → IsGoodEntry R node lawful e → IsSmall (shown_entry stamps e)
 entry_small R node lawful stamps e good = go e.value good.value
   where
-    go : (o : Option DataValue) → IfSome o IsStored → IsSmall (with_stamps stamps (entry_value e.time o))
-    go None k = empty_small stamps (entry_value e.time None) refl refl refl
-    go (Some v) k = stored_small stamps v (entry_value e.time (Some v)) k refl refl refl
+    go : (o : Option DataValue) → IfSome o IsStored → IsSmall (with_stamps stamps (at_time e.time (unwrap_or o empty)))
+    go None k = empty_small stamps (at_time e.time empty) refl refl refl
+    go (Some v) k = stored_small stamps v (at_time e.time v) k refl refl refl
 
 -- ---- of a page
 

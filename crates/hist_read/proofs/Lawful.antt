@@ -1,5 +1,5 @@
 -- The format of continuation points is lawful.
-use Rattle.std.proofs.Common.{◌≡◌, ℕ, ◌<◌, ◌^◌, nat_lt, nat_le, ℤ, pos, ◌≤ℤ◌, int_le, Bool, true, false, cond, Option, Some, None, ltb, inl, inr, ◌++◌, refl, sym, ap, arith, ◌&&◌, ◌==◌}
+use Rattle.std.proofs.Common.{◌≡◌, ℕ, ◌<◌, ◌^◌, nat_lt, nat_le, ℤ, pos, ◌≤ℤ◌, int_le, Bool, true, false, cond, Option, Some, None, ltb, inl, inr, ◌++◌, refl, sym, ap, arith, ◌&&◌, ◌==◌, List}
 use Rattle.std.proofs.lemmas.Bool.Decides.{nat_tests}
 use Rattle.std.proofs.lemmas.Bool.{le-leb, cases_Bool, eqb-true, ltb-true}
 use Rattle.std.proofs.lemmas.Int.{ints}
@@ -18,10 +18,12 @@ use Rattle.records.specs.Moments.{moment, ticks_of, pico_of, whole_again, pico_w
 use Rattle.hist_read.specs.Asking.{first_time}
 use Rattle.hist_read.specs.declared.point.Phase.{Phase}
 use Rattle.hist_read.specs.declared.point.Phase.TheVariants.{Near, Body}
+use Rattle.hist_read.specs.declared.point.Position.{Position}
+use Rattle.ua_services.specs.declared.history.ReadRawModifiedDetails.{ReadRawModifiedDetails as Details}
 use Rattle.stamp.specs.Vector.{vector}
 use Rattle.stamp.proofs.Lawful.{vector_lawful}
 use Rattle.ua_services.specs.History.{raw_of, raw_fields}
-use Rattle.hist_read.specs.Point.{flag, short_form, short_node, IsDetails, details, phase, time, stamp, IsStamp, stamp_of, stamp_fields, are_stamp, IsPosition, position, position_of, position_fields, number_of_phase, IsPoint, point, of_fields, fields_of}
+use Rattle.hist_read.specs.Point.{flag, short_form, short_node, IsDetails, details, phase, time, stamp, IsStamp, stamp_of, stamp_fields, are_stamp, IsPosition, position, number_of_phase, IsPoint, Point, point}
 
 -- ---- spellings of which there is one
 
@@ -121,10 +123,22 @@ pub stamp_lawful : IsLawful stamp
 unfolding stamp signed
 stamp_lawful = fitting_lawful IsStamp stamp_fits (standing_lawful stamp_of stamp_fields (passing_lawful are_stamp BadEncodingByte (then_lawful i64_lawful byte_lawful)))
 
+abbrev position_of : Phase × (ℤ × (Option Stamp × ℕ)) → Position
+position_of fields = record { phase = fields.0; time = fields.1.0; stamp = fields.1.1.0; given = fields.1.1.1 }
+
+abbrev position_fields : Position → Phase × (ℤ × (Option Stamp × ℕ))
+position_fields p = (p.phase, (p.time, (p.stamp, p.given)))
+
 pub position_lawful : IsLawful position
 unfolding position phase time stamp unsigned
 position_lawful = fitting_lawful IsPosition (λ v h. ((tt, ((h.0, h.1), (h.2, h.3))), refl))
     (standing_lawful position_of position_fields (then_lawful phase_lawful (then_lawful time_lawful (then_lawful stamp_lawful u32_lawful))))
+
+abbrev of_fields : ℕ × (List ℕ × (NodeId × (Details × (Position × List ℕ)))) → Point
+of_fields fields = record { archive = fields.1.0; node = fields.1.1.0; details = fields.1.1.1.0; position = fields.1.1.1.1.0; vector = fields.1.1.1.1.1 }
+
+abbrev fields_of : Point → ℕ × (List ℕ × (NodeId × (Details × (Position × List ℕ))))
+fields_of p = (3, (p.archive, (p.node, (p.details, (p.position, p.vector)))))
 
 pub point_lawful : IsLawful point
 unfolding point short_node details position vector

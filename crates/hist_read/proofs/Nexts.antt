@@ -4,6 +4,7 @@ use Rattle.std.proofs.lemmas.Bool.Decides.{nat_tests}
 use Rattle.std.proofs.lemmas.Bool.{and_parts, and_from}
 use Rattle.std.proofs.lemmas.Int.{ints}
 use Rattle.std.proofs.lemmas.List.{length-append, take-append-le}
+use Rattle.std.specs.Option.{option_or}
 use Rattle.stamp.specs.Limits.{greatest, IsReplica}
 use Rattle.ua_binary.specs.declared.values.NodeId.{NodeId}
 use Rattle.records.specs.Lists.{Has, last}
@@ -22,7 +23,7 @@ use Rattle.archive.proofs.Turning.{has_from_flat_map, has_from_reverse, has-in_d
 use Rattle.hist_read.specs.Asking.{is_given, has_both, first_time, origin_time, direction}
 use Rattle.records.specs.Moments.{moment}
 use Rattle.hist_read.specs.Point.{IsNext, is_given_for}
-use Rattle.hist_read.specs.Reads.{greatest_time, or_else, nearest_from, value_or_missing, near, item_time, is_near_alone, near_part, limit_at, is_past_any, in_body, lives_in, body, body_part, values, far, far_part, last_time, time_before, before_far, raw, modified, place_at, given_before, page_size, is_spent, page, goes_on, given_after, raw_position, modified_position, next_place}
+use Rattle.hist_read.specs.Reads.{greatest_time, nearest_from, value_or_missing, near, item_time, is_near_alone, near_part, limit_at, is_past_any, in_body, lives_in, body, body_part, values, far, far_part, last_time, time_before, before_far, raw, modified, place_at, given_before, page_size, is_spent, page, goes_on, given_after, raw_position, modified_position, next_place}
 use Rattle.ua_services.specs.declared.history.ReadRawModifiedDetails.{ReadRawModifiedDetails as Details}
 use Rattle.hist_read.specs.declared.point.Position.{Position}
 use Rattle.hist_read.specs.declared.item.Item.{Item}
@@ -86,7 +87,7 @@ module _ (R : Content) (node : NodeId) (q : Details) (p : Option Position) (lawf
     nearest_within : (t : ℤ) (d : Direction) (h : Held) → nearest_from R node d t ≡ Some h → P h.time
     nearest_within t d h e = go (current R node t) refl e
       where
-        go : (o : Option Held) → current R node t ≡ o → or_else o (outside_of R node t d) ≡ Some h → P h.time
+        go : (o : Option Held) → current R node t ≡ o → option_or o (outside_of R node t d) ≡ Some h → P h.time
         go None f e = outside_within t d h e
         go (Some x) f e = current_within t h (f ∙ e)
 

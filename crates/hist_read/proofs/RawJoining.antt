@@ -5,6 +5,7 @@ use Rattle.std.proofs.lemmas.Bool.{and_parts, cases_Bool}
 use Rattle.std.proofs.lemmas.Int.{ints}
 use Rattle.std.proofs.lemmas.List.{length-append, take-append-le, take-append-drop, append_assoc}
 use Rattle.std.proofs.lemmas.Option.{none-some}
+use Rattle.std.specs.Option.{option_map_or}
 use Rattle.ua_binary.specs.declared.values.NodeId.{NodeId}
 use Rattle.records.specs.Lists.{last, IsPairwise}
 use Rattle.records.specs.Contents.{Content}
@@ -17,7 +18,7 @@ use Rattle.archive.specs.declared.reading.Direction.TheVariants.{Forward, Backwa
 use Rattle.archive.proofs.Ranges.{range_goes}
 use Rattle.archive.proofs.Timing.{has_from_get}
 use Rattle.hist_read.specs.Asking.{has_both, first_time, direction}
-use Rattle.hist_read.specs.Reads.{greatest_time, in_body, body, is_near_alone, near_part, near, limit_at, is_past_any, body_part, values, far_part, far, item_time, last_time, time_of_last, time_before, before_far, raw, raw_position, page_size, page, is_spent, goes_on, next_place}
+use Rattle.hist_read.specs.Reads.{greatest_time, in_body, body, is_near_alone, near_part, near, limit_at, is_past_any, body_part, values, far_part, far, item_time, last_time, time_before, before_far, raw, raw_position, page_size, page, is_spent, goes_on, next_place}
 use Rattle.ua_services.specs.declared.history.ReadRawModifiedDetails.{ReadRawModifiedDetails as Details}
 use Rattle.hist_read.specs.declared.point.Position.{Position}
 use Rattle.hist_read.specs.declared.item.Item.{Item}
@@ -42,12 +43,12 @@ last_some x (y ∷ ys) = let w = last_some y ys in (w.0, last_more x y ys ∙ w.
 -- the time of the last item is that of the last one behind the k-th, else that of the k-th
 pub last_behind : (xs : List Item) (k : ℕ) (x : Item) (t : ℤ) → slice_get xs k ≡ Some x → last_time t xs ≡ last_time (item_time x) (drop (suc k) xs)
 last_behind [] k x t e = absurd (none-some _ e)
-last_behind (y ∷ []) zero x t e = ap (time_of_last t) e
+last_behind (y ∷ []) zero x t e = ap (λ o. option_map_or item_time o t) e
 last_behind (y ∷ z ∷ zs) zero x t e =
     let w = last_some z zs in
-    ap (time_of_last t) (last_more y z zs ∙ w.1) ∙ sym (ap (time_of_last (item_time x)) w.1)
+    ap (λ o. option_map_or item_time o t) (last_more y z zs ∙ w.1) ∙ sym (ap (λ o. option_map_or item_time o (item_time x)) w.1)
 last_behind (y ∷ []) (suc k) x t e = absurd (none-some _ e)
-last_behind (y ∷ z ∷ zs) (suc k) x t e = ap (time_of_last t) (last_more y z zs) ∙ last_behind (z ∷ zs) k x t e
+last_behind (y ∷ z ∷ zs) (suc k) x t e = ap (λ o. option_map_or item_time o t) (last_more y z zs) ∙ last_behind (z ∷ zs) k x t e
 
 get_mapped : (hs : List Held) (k : ℕ) (x : Item) → slice_get (values hs) k ≡ Some x → (h : Held) × (slice_get hs k ≡ Some h) × (x ≡ Value h)
 get_mapped [] k x e = absurd (none-some _ e)

@@ -1,6 +1,7 @@
 -- Chains of pages show whole reads.
 use Rattle.std.proofs.Common.{◌≡◌, ℕ, ◌<◌, ◌^◌, ◌==◌, nat_lt, ℤ, ◌≤ℤ◌, int_lt, Bool, true, false, cond, ◌&&◌, ◌||◌, not, List, [], ◌∷◌, ◌++◌, filter, Option, Some, None, Result, Ok, Err, refl, sym, ap, ◌∙◌, subst, arith, append-nil}
 use Rattle.std.specs.Ordering.{int_eq}
+use Rattle.std.specs.Result.{result_ok}
 use Rattle.std.specs.Int.{w64}
 use Rattle.std.specs.Int.RustNames.{FitsSigned}
 use Rattle.std.proofs.lemmas.Bool.Decides.{nat_tests}
@@ -28,12 +29,12 @@ use Rattle.hist_read.specs.declared.query.Query.{Query}
 use Rattle.hist_read.specs.declared.item.Item.{Item}
 use Rattle.hist_read.specs.declared.point.Position.{Position}
 use Rattle.hist_read.specs.Asking.{is_given, has_both, origin_time, direction}
-use Rattle.hist_read.specs.Point.{Point, point, told, IsDetails, IsPosition, IsPoint, IsNext, is_given_for, suits, is_phase_for, is_stamp_for}
+use Rattle.hist_read.specs.Point.{Point, point, IsDetails, IsPosition, IsPoint, IsNext, is_given_for, suits, is_phase_for, is_stamp_for}
 use Rattle.hist_read.specs.Reads.{greatest_time, in_body, in_body_of, is_from, last_within, lives_in, body, near, far, values, last_time, is_past_any, raw, modified}
-use Rattle.hist_read.specs.Node.{Behind, is_enough, judged, place_in, place_told, point_at, page_result, page_from, covers, refused, read_from}
+use Rattle.hist_read.specs.Node.{Behind, is_enough, judged, place_in, point_at, page_result, page_from, covers, refused, read_from}
 use Rattle.hist_read.specs.Chains.{behind_origin, with_far, whole_raw, whole_modified, Page, IsRead, IsLater, IsAsked}
 use Rattle.hist_read.proofs.Lawful.{point_lawful}
-use Rattle.hist_read.proofs.Agreeing.{told_agreed}
+use Rattle.hist_read.proofs.Agreeing.{place_told, told_agreed}
 use Rattle.hist_read.proofs.Filters.{filter_all, filter_same}
 use Rattle.hist_read.proofs.Cutting.{vectors_above, cut_own}
 
@@ -159,7 +160,7 @@ module _ (id : List ℕ) (node : NodeId) (q : Details) (v : List ℕ) (asked : I
   unfolding point
   point_told p good =
       let is : IsPoint (at p) = record { archive = asked.sixteen; node = asked.spelled; details = asked.details; position = good.0; suits = good.1; vector = vector } in
-      ap (λ o. place_told id node q (told o)) (whole_only BadEncodingByte point_lawful (point.canon (at p)) (at p) (point_lawful.written (at p) is)) ∙ told_agreed id node q (at p) (refl, refl, refl)
+      ap (λ o. place_told id node q (result_ok o)) (whole_only BadEncodingByte point_lawful (point.canon (at p)) (at p) (point_lawful.written (at p) is)) ∙ told_agreed id node q (at p) (refl, refl, refl)
 
 -- ---- reads
 

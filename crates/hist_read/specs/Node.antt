@@ -1,19 +1,22 @@
 -- What a read of a node's history is answered (Part 11, HistoryRead).
 use Rattle.std.specs.Prelude.{◌≡◌, ◌==◌, nat_eq, nat_le, Bool, not, ◌&&◌, ◌||◌, ℕ, if◌then◌else◌, List, [], ◌∷◌, map, Option, Some, None, option_map, Result, Ok, Err}
+use Rattle.std.specs.Option.{option_map_or, ok_or}
 use Rattle.std.specs.Cmp.Lexicographic.{pointwise}
 use base.Stored.{Coded}
 use Rattle.stamp.specs.Numbers.{number_of}
+use Rattle.ua_binary.specs.Format.{◌>>=◌}
 use Rattle.ua_binary.specs.declared.values.NodeId.{NodeId}
 use Rattle.ua_binary.specs.declared.codes.Status.{Status}
-use Rattle.ua_binary.specs.declared.codes.TheConstants.Status.{GOOD, GOOD_NO_DATA, BAD_OUT_OF_MEMORY, BAD_CONTINUATION_POINT_INVALID, BAD_HISTORY_OPERATION_INVALID, BAD_INVALID_ARGUMENT}
+use Rattle.ua_binary.specs.declared.codes.TheConstants.Status.{GOOD, GOOD_NO_DATA, BAD_CONTINUATION_POINT_INVALID, BAD_HISTORY_OPERATION_INVALID, BAD_INVALID_ARGUMENT}
 use Rattle.ua_services.specs.declared.history.ReadRawModifiedDetails.{ReadRawModifiedDetails as Details}
 use Rattle.ua_services.specs.contracts.history.ReadRawModifiedDetails as details
 use Rattle.ua_services.specs.declared.history.HistoryReadResult.{HistoryReadResult}
+use Rattle.ua_services.specs.declared.history.HistoryData.{HistoryData}
 use Rattle.ua_services.specs.declared.history.HistoryData.TheVariants.{Raw, Modified, Nothing}
 use Rattle.records.specs.Contents.{Content, numbers_of, cut}
 use Rattle.records.specs.Same.{is_same, same_node}
-use Rattle.archive.specs.Fault.{status_of}
-use Rattle.archive.specs.Store.{Mark, Fine, Starved, Met}
+use Rattle.archive.specs.Fault.{status_told}
+use Rattle.archive.specs.Store.{Mark}
 use Rattle.archive.specs.Steps.{Marked, give, step}
 use Rattle.hist_read.specs.declared.query.Query.{Query}
 use Rattle.hist_read.specs.declared.point.Position.{Position}
@@ -42,14 +45,11 @@ agrees id node q p = pointwise nat_eq p.archive id && (same_node p.node node && 
 abbrev pub Behind : Type 0
 Behind = Position × List ℕ
 
-abbrev pub place_told : List ℕ → NodeId → Details → Option Point → Result (Option Behind) Status
-place_told id node q None = Err BAD_CONTINUATION_POINT_INVALID
-place_told id node q (Some p) = if agrees id node q p then Ok (Some (p.position, p.vector)) else Err BAD_CONTINUATION_POINT_INVALID
-
 -- the place that a continuation point tells, if there is one
 abbrev pub place_in : List ℕ → NodeId → Details → Option (List ℕ) → Result (Option Behind) Status
 place_in id node q None = Ok None
-place_in id node q (Some bytes) = place_told id node q (point_in bytes)
+place_in id node q (Some bytes) =
+    ok_or (point_in bytes) BAD_CONTINUATION_POINT_INVALID >>= λ p. if agrees id node q p then Ok (Some (p.position, p.vector)) else Err BAD_CONTINUATION_POINT_INVALID
 
 -- where reading goes on, or why the read is refused, whatever is held
 abbrev pub judged : List ℕ → NodeId → Details → Option (List ℕ) → Result (Option Behind) Status
@@ -71,27 +71,17 @@ status_for (x ∷ xs) = GOOD
 abbrev pub point_at : List ℕ → NodeId → Details → List ℕ → Position → List ℕ
 point_at id node q v p = point.canon (record { archive = id; node = node; details = q; position = p; vector = v })
 
--- a page of raw values, from the front or behind a place
-abbrev pub raw_result : Content → List ℕ → List ℕ → NodeId → Query → Option Position → HistoryReadResult
-raw_result R v id node query p =
-    let q = query.details in
-    let all = raw R node q p in
-    record { status = status_for (page q p all); continuation_point = option_map (point_at id node q v) (next_place (raw_position q p) q p all); history_data = Raw (map (shown query.stamps) (page q p all)) }
+-- a page of some items, which are all that follow a place, and the point where it ends; v is the vector that the point carries
+abbrev pub page_of : {X : Type 0} → (List X → HistoryData) → (X → Position) → List ℕ → List ℕ → NodeId → Details → Option Position → List X → HistoryReadResult
+page_of show position v id node q p all =
+    record { status = status_for (page q p all); continuation_point = option_map (point_at id node q v) (next_place position q p all); history_data = show (page q p all) }
 
--- the same of modifications: their values, and beside each what is told of it
-abbrev pub modified_result : Content → List ℕ → List ℕ → NodeId → Query → Option Position → HistoryReadResult
-modified_result R v id node query p =
-    let q = query.details in
-    let all = modified R node q p in
-    record {
-      status = status_for (page q p all);
-      continuation_point = option_map (point_at id node q v) (next_place (modified_position q p) q p all);
-      history_data = Modified (map (shown_entry query.stamps) (page q p all)) (map info (page q p all));
-    }
-
--- a page of a content; v is the vector that its continuation point carries
+-- a page of a content, from the front or behind a place: the values of modifications, and beside each what is told of it; or raw values
 abbrev pub page_result : Content → List ℕ → List ℕ → NodeId → Query → Option Position → HistoryReadResult
-page_result R v id node query p = if query.details.is_read_modified then modified_result R v id node query p else raw_result R v id node query p
+page_result R v id node query p =
+    let q = query.details in
+    if q.is_read_modified then page_of (λ es. Modified (map (shown_entry query.stamps) es) (map info es)) (modified_position q p) v id node q p (modified R node q p)
+    else page_of (λ xs. Raw (map (shown query.stamps) xs)) (raw_position q p) v id node q p (raw R node q p)
 
 -- each of its numbers is among those that the content has
 abbrev pub covers : Content → List ℕ → Bool
@@ -107,9 +97,7 @@ page_from R id node query (Some behind) =
 
 -- the answer, or what came in the way of the read
 abbrev pub told : HistoryReadResult → Mark → HistoryReadResult
-told answer Fine = answer
-told answer Starved = refused BAD_OUT_OF_MEMORY
-told answer (Met fault) = refused (status_of fault)
+told answer mark = option_map_or refused (status_told mark) answer
 
 abbrev pub read_from : List ℕ → NodeId → Query → Content → Result (Option Behind) Status → Marked (HistoryReadResult × Content)
 read_from id node query R (Err status) = give (refused status, R)

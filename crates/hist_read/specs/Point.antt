@@ -1,5 +1,7 @@
 -- A continuation point as bytes, format 3: the byte 3, archive, node, what was asked, the place where the page ended, and the vector of the first page (Part 4, 7.9).
-use Rattle.std.specs.Prelude.{◌≡◌, ℕ, ◌^◌, ◌<◌, nat_lt, nat_le, ◌==◌, ℤ, pos, ◌≤ℤ◌, int_le, Bool, true, not, ◌&&◌, List, [], length, Option, Some, None, unwrap_or, is_some, Result, Ok, Err, if◌then◌else◌}
+use Rattle.std.specs.Prelude.{◌≡◌, ℕ, ◌^◌, ◌<◌, nat_lt, nat_le, ◌==◌, ℤ, pos, ◌≤ℤ◌, int_le, Bool, true, not, ◌&&◌, List, [], length, Option, Some, None, unwrap_or, is_some, IfSome, if◌then◌else◌}
+use Rattle.std.specs.Option.{option_map_or}
+use Rattle.std.specs.Result.{result_ok}
 use Rattle.std.specs.Ordering.{int_eq}
 use Rattle.std.specs.Int.{w16, w32, w64}
 use Rattle.std.specs.Int.RustNames.{FitsSigned}
@@ -71,31 +73,22 @@ abbrev pub stamp_of : ℤ × ℕ → Option Stamp
 stamp_of fields = if fields.1 == 0 then None else Some (record { tick = fields.0; origin = fields.1 })
 
 abbrev pub stamp_fields : Option Stamp → ℤ × ℕ
-stamp_fields None = (pos 0, 0)
-stamp_fields (Some s) = (s.tick, s.origin)
+stamp_fields stamp = option_map_or (λ s. (s.tick, s.origin)) stamp (pos 0, 0)
 
 abbrev pub IsStamp : Option Stamp → Type 0
-IsStamp None = Unit {0}
-IsStamp (Some s) = (pos 1 ≤ℤ s.tick) × (s.tick ≤ℤ pos greatest) × IsReplica s.origin
+IsStamp stamp = IfSome stamp (λ s. (pos 1 ≤ℤ s.tick) × (s.tick ≤ℤ pos greatest) × IsReplica s.origin)
 
 unfoldable pub stamp : Format BinaryFault (Option Stamp)
 stamp = fitting IsStamp (standing_for stamp_of stamp_fields (passing are_stamp BadEncodingByte (signed w64 ▸ byte)))
-
-abbrev pub PositionFields : Type 0
-PositionFields = Phase × (ℤ × (Option Stamp × ℕ))
-
-abbrev pub position_of : PositionFields → Position
-position_of fields = record { phase = fields.0; time = fields.1.0; stamp = fields.1.1.0; given = fields.1.1.1 }
-
-abbrev pub position_fields : Position → PositionFields
-position_fields p = (p.phase, (p.time, (p.stamp, p.given)))
 
 abbrev pub IsPosition : Position → Type 0
 IsPosition p = (first_time ≤ℤ p.time) × FitsSigned w64 (ticks_of p.time) × IsStamp p.stamp × (p.given < 2 ^ 32)
 
 -- phase, time, stamp, and how many items were given
 unfoldable pub position : Format BinaryFault Position
-position = fitting IsPosition (standing_for position_of position_fields (phase ▸ time ▸ stamp ▸ unsigned w32))
+position = fitting IsPosition (standing_for
+    (λ fields. record { phase = fields.0; time = fields.1.0; stamp = fields.1.1.0; given = fields.1.1.1 }) (λ p. (p.phase, (p.time, (p.stamp, p.given))))
+    (phase ▸ time ▸ stamp ▸ unsigned w32))
 
 -- ---- what suits what was asked
 
@@ -106,8 +99,7 @@ is_phase_for d Body = true
 
 -- a modification has its record's stamp, a raw value none
 abbrev pub is_stamp_for : Details → Option Stamp → Bool
-is_stamp_for d None = not d.is_read_modified
-is_stamp_for d (Some s) = d.is_read_modified
+is_stamp_for d stamp = if is_some stamp then d.is_read_modified else not d.is_read_modified
 
 -- none are counted where both times are given; else one at least was given, and fewer than are asked for
 abbrev pub is_given_for : Details → ℕ → Bool
@@ -134,15 +126,6 @@ pub record Point : Type 0 where
 abbrev pub point_of : Place → Point
 point_of p = record { archive = p.archive; node = node_of p.node; details = p.details; position = p.position; vector = p.vector }
 
-abbrev pub PointFields : Type 0
-PointFields = ℕ × (List ℕ × (NodeId × (Details × (Position × List ℕ))))
-
-abbrev pub fields_of : Point → PointFields
-fields_of p = (3, (p.archive, (p.node, (p.details, (p.position, p.vector)))))
-
-abbrev pub of_fields : PointFields → Point
-of_fields fields = record { archive = fields.1.0; node = fields.1.1.0; details = fields.1.1.1.0; position = fields.1.1.1.1.0; vector = fields.1.1.1.1.1 }
-
 -- what has a spelling
 pub record IsPoint (p : Point) : Type 0 where
   pub archive : length p.archive ≡ 16
@@ -154,15 +137,14 @@ pub record IsPoint (p : Point) : Type 0 where
 
 unfoldable pub point : Format BinaryFault Point
 point = fitting IsPoint (passing (λ p. suits p.details p.position) BadEncodingByte
-    (standing_for of_fields fields_of (passing (λ n. n == 3) BadEncodingByte byte ▸ block 16 ▸ short_node ▸ details ▸ position ▸ first_vector)))
-
-abbrev pub told : {A E : Type 0} → Result A E → Option A
-told (Ok a) = Some a
-told (Err e) = None
+    (standing_for
+    (λ fields. record { archive = fields.1.0; node = fields.1.1.0; details = fields.1.1.1.0; position = fields.1.1.1.1.0; vector = fields.1.1.1.1.1 })
+    (λ p. (3, (p.archive, (p.node, (p.details, (p.position, p.vector))))))
+    (passing (λ n. n == 3) BadEncodingByte byte ▸ block 16 ▸ short_node ▸ details ▸ position ▸ first_vector)))
 
 -- the continuation point that all of these bytes spell, if any
 abbrev pub point_in : List ℕ → Option Point
-point_in bytes = told (whole BadEncodingByte point bytes)
+point_in bytes = result_ok (whole BadEncodingByte point bytes)
 
 -- a position that a page of what was asked may end at: with these, and a node that can be counted, a point has a spelling
 abbrev pub IsNext : Details → Position → Type 0

@@ -1,6 +1,7 @@
 -- What a read of a node's history shows (Part 11, ReadRawModifiedDetails): the values or modifications of a stretch of time, its bounds, and
 -- pages of them. Every list is in the direction of the read.
 use Rattle.std.specs.Prelude.{ℕ, ◌+◌, ◌-◌, ◌==◌, min, nat_lt, nat_le, ℤ, pos, negsuc, ◌+ℤ◌, ◌-ℤ◌, Bool, true, not, ◌&&◌, ◌||◌, if◌then◌else◌, List, [], ◌∷◌, ◌++◌, filter, map, take, length, Option, Some, None, option_map}
+use Rattle.std.specs.Option.{option_or, option_map_or, option_and_then}
 use Rattle.std.specs.Ordering.{int_eq}
 use Rattle.std.specs.Int.{int_min, int_max}
 use Rattle.ua_binary.specs.declared.values.NodeId.{NodeId}
@@ -22,12 +23,9 @@ use Rattle.hist_read.specs.declared.point.Position.{Position}
 use Rattle.hist_read.specs.declared.item.Item.{Item}
 use Rattle.hist_read.specs.declared.item.Item.TheVariants.{Value, Missing}
 
--- the greatest Int64 and the least one
+-- the greatest Int64
 abbrev pub greatest_ticks : ℤ
 greatest_ticks = pos 9223372036854775807
-
-abbrev pub least_ticks : ℤ
-least_ticks = negsuc 9223372036854775807
 
 abbrev pub greatest_time : ℤ
 greatest_time = moment greatest_ticks 9999
@@ -58,17 +56,12 @@ body R node q = filter (λ h. in_body q h.time) (lives_in R node q)
 
 -- ---- the bounds
 
-abbrev pub or_else : {X : Type 0} → Option X → Option X → Option X
-or_else None y = y
-or_else (Some x) y = Some x
-
 -- the value at a time, else the nearest one beyond it in the direction
 abbrev pub nearest_from : Content → NodeId → Direction → ℤ → Option Held
-nearest_from R node d time = or_else (current R node time) (outside_of R node time d)
+nearest_from R node d time = option_or (current R node time) (outside_of R node time d)
 
 abbrev pub value_or_missing : ℤ → Option Held → Item
-value_or_missing time None = Missing time
-value_or_missing time (Some h) = Value h
+value_or_missing time found = option_map_or (λ h. Value h) found (Missing time)
 
 -- the value at the origin, else the nearest one against the direction, else none there
 abbrev pub near : Content → NodeId → Details → Item
@@ -78,18 +71,14 @@ abbrev pub item_time : Item → ℤ
 item_time (Value h) = h.time
 item_time (Missing time) = time
 
-abbrev pub time_of_last : ℤ → Option Item → ℤ
-time_of_last time None = time
-time_of_last time (Some x) = item_time x
-
 -- the time of the last item, else this one
 abbrev pub last_time : ℤ → List Item → ℤ
-last_time time items = time_of_last time (last items)
+last_time time items = option_map_or item_time (last items) time
 
 -- the far bound of an open limit, one second beyond the item before it, within an Int64
 abbrev pub open_bound : Direction → ℤ → Item
 open_bound Forward time = Missing (moment (int_min greatest_ticks (ticks_of time +ℤ pos 10000000)) 0)
-open_bound Backward time = Missing (moment (int_max least_ticks (ticks_of time -ℤ pos 10000000)) 0)
+open_bound Backward time = Missing (moment (int_max (negsuc 9223372036854775807) (ticks_of time -ℤ pos 10000000)) 0)
 
 -- the value at the far limit, else the nearest one beyond it; beyond it where the origin is the limit
 abbrev pub far_value : Content → NodeId → Details → ℤ → Option Held
@@ -125,8 +114,7 @@ limit_at q (Some p) = Some (limit_behind q p.phase p.time)
 
 -- beyond a limit, where there is one
 abbrev pub is_past_any : Direction → Option ℤ → ℤ → Bool
-is_past_any d None time = true
-is_past_any d (Some limit) time = is_past d limit time
+is_past_any d limit time = option_map_or (λ l. is_past d l time) limit true
 
 -- the values of the body that are still to come
 abbrev pub body_part : Content → NodeId → Details → Option Position → List Held
@@ -141,8 +129,7 @@ far_part R node q before = if q.return_bounds && not (is_near_alone q) then far 
 
 -- the time of the item that was given last
 abbrev pub time_before : Details → Option Position → ℤ
-time_before q None = origin_time q
-time_before q (Some p) = p.time
+time_before q place = option_map_or (λ p. p.time) place (origin_time q)
 
 abbrev pub before_far : Content → NodeId → Details → Option Position → List Item
 before_far R node q p = near_part R node q p ++ values (body_part R node q p)
@@ -153,12 +140,8 @@ raw R node q p = before_far R node q p ++ far_part R node q (last_time (time_bef
 
 -- ---- modifications: what is still to come
 
-abbrev pub log_place : Position → Option LogPlace
-log_place p = option_map (λ s. record { time = p.time; stamp = s }) p.stamp
-
 abbrev pub place_at : Option Position → Option LogPlace
-place_at None = None
-place_at (Some p) = log_place p
+place_at place = option_and_then (λ p. option_map (λ s. record { time = p.time; stamp = s }) p.stamp) place
 
 -- the modifications of the body's times that follow a place, or all of them
 abbrev pub modified : Content → NodeId → Details → Option Position → List Entry
@@ -167,8 +150,7 @@ modified R node q p = filter (follows (direction q) (place_at p)) (filter (λ e.
 -- ---- pages
 
 abbrev pub given_before : Option Position → ℕ
-given_before None = 0
-given_before (Some p) = p.given
+given_before place = option_map_or (λ p. p.given) place 0
 
 -- the most items of a page: 1,000; the count limits each page where both times are given, and else the whole
 abbrev pub page_size : Details → Option Position → ℕ

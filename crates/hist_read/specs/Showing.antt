@@ -1,9 +1,11 @@
 -- How values and modifications are shown (Part 4, 7.11; Part 11, HistoryData and HistoryModifiedData).
-use Rattle.std.specs.Prelude.{ℕ, ℤ, if◌then◌else◌, Option, Some, None, bit_or}
+use Rattle.std.specs.Prelude.{ℕ, ℤ, if◌then◌else◌, Option, Some, None, unwrap_or, bit_or}
+use Rattle.std.specs.Option.{option_map_or}
 use Rattle.ua_binary.specs.declared.codes.Status.{Status}
 use Rattle.ua_binary.specs.declared.codes.TheConstants.Status.{BAD_BOUND_NOT_FOUND}
 use Rattle.ua_variant.specs.declared.data.DataValue.{DataValue}
 use Rattle.records.specs.Moments.{ticks_of}
+use Rattle.records.specs.Spelling.{empty}
 use Rattle.records.specs.declared.shown.Entry.{Entry}
 use Rattle.hist_read.specs.declared.item.Item.{Item}
 use Rattle.hist_read.specs.declared.item.Item.TheVariants.{Value, Missing}
@@ -11,19 +13,12 @@ use Rattle.ua_services.specs.declared.attributes.TimestampsToReturn.{TimestampsT
 use Rattle.ua_services.specs.declared.attributes.TimestampsToReturn.TheVariants.{Source, Server, Both, Neither}
 use Rattle.ua_services.specs.declared.history.ModificationInfo.{ModificationInfo}
 
-abbrev pub bits_of : Option Status → ℕ
-bits_of None = 0
-bits_of (Some s) = s.0
-
 -- the bits ExtraData and the info type DataValue beside those of the status (Part 11, StatusCodes)
 abbrev pub with_extra : Option Status → Option Status
-with_extra s = Some (record { 0 = bit_or (bits_of s) 1032 })
+with_extra s = Some (record { 0 = bit_or (option_map_or (λ c. c.0) s 0) 1032 })
 
 abbrev pub at_time : ℤ → DataValue → DataValue
 at_time time v = record { value = v.value; status = v.status; source_time = Some (record { 0 = ticks_of time }); source_pico = v.source_pico; server_time = v.server_time; server_pico = v.server_pico }
-
-abbrev pub no_value : DataValue
-no_value = record { value = None; status = None; source_time = None; source_pico = None; server_time = None; server_pico = None }
 
 abbrev pub with_status : Option Status → DataValue → DataValue
 with_status status v = record { value = v.value; status = status; source_time = v.source_time; source_pico = v.source_pico; server_time = v.server_time; server_pico = v.server_pico }
@@ -31,12 +26,7 @@ with_status status v = record { value = v.value; status = status; source_time = 
 -- a live value as it is stored, with its source time; a missing bound has its time alone
 abbrev pub item_value : Item → DataValue
 item_value (Value h) = at_time h.time (with_status (if h.extra then with_extra h.value.status else h.value.status) h.value)
-item_value (Missing time) = at_time time (with_status (Some BAD_BOUND_NOT_FOUND) no_value)
-
--- a modification's value, else its source time alone
-abbrev pub entry_value : ℤ → Option DataValue → DataValue
-entry_value time None = at_time time no_value
-entry_value time (Some v) = at_time time v
+item_value (Missing time) = at_time time (with_status (Some BAD_BOUND_NOT_FOUND) empty)
 
 -- the times that were asked for; where neither is, none
 abbrev pub with_stamps : TimestampsToReturn → DataValue → DataValue
@@ -48,9 +38,9 @@ with_stamps Neither v = record { value = v.value; status = v.status; source_time
 abbrev pub shown : TimestampsToReturn → Item → DataValue
 shown stamps x = with_stamps stamps (item_value x)
 
--- the value of a modification
+-- the value of a modification, else its source time alone
 abbrev pub shown_entry : TimestampsToReturn → Entry → DataValue
-shown_entry stamps e = with_stamps stamps (entry_value e.time e.value)
+shown_entry stamps e = with_stamps stamps (at_time e.time (unwrap_or e.value empty))
 
 -- when it was made, what it did, and who asked for it
 abbrev pub info : Entry → ModificationInfo

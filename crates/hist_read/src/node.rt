@@ -16,7 +16,7 @@ ghost use Rattle.archive.specs.Store.{Mark, Asks};
 ghost use Rattle.archive.specs.Steps.{Acts};
 ghost use Rattle.hist_read.specs.Asking.{is_given, first_time};
 ghost use Rattle.hist_read.specs.Point.{point_in, point_of, point, IsPoint, IsNext};
-ghost use Rattle.hist_read.specs.Node.{is_enough, IsOfRead, place_in, judged, refused, status_for, point_at, raw_result, modified_result, page_result, page_from, read_node};
+ghost use Rattle.hist_read.specs.Node.{is_enough, IsOfRead, place_in, judged, refused, status_for, point_at, page_result, page_from, read_node};
 ghost use Rattle.hist_read.specs.Finding.{Finds};
 
 use crate::modified::read_modified;
@@ -216,7 +216,7 @@ fn raw_result<A: Archive>(
     requires raw { query.now.details.is_read_modified ≡ false }
     ensures counted { IfOk result (λ r. IsCounted r.continuation_point) }
     ensures finds { Finds (A.state archive.old) (A.state archive.new) result
-        (λ r. r ≡ raw_result (cut (A.state archive.old).content (number_of within.now)) within.now (A.state archive.old).id node.now query.now position.now) }
+        (λ r. r ≡ page_result (cut (A.state archive.old).content (number_of within.now)) within.now (A.state archive.old).id node.now query.now position.now) }
 {
     let id = archive.id();
     let page = read_raw(alloc, archive, node, &query.details, position, within)?;
@@ -243,7 +243,7 @@ fn modified_result<A: Archive>(
     requires modified { query.now.details.is_read_modified ≡ true }
     ensures counted { IfOk result (λ r. IsCounted r.continuation_point) }
     ensures finds { Finds (A.state archive.old) (A.state archive.new) result
-        (λ r. r ≡ modified_result (cut (A.state archive.old).content (number_of within.now)) within.now (A.state archive.old).id node.now query.now position.now) }
+        (λ r. r ≡ page_result (cut (A.state archive.old).content (number_of within.now)) within.now (A.state archive.old).id node.now query.now position.now) }
 {
     let id = archive.id();
     let page = read_modified(alloc, archive, node, &query.details, position, within)?;

@@ -1,8 +1,9 @@
 //! How values and modifications are shown.
 
-ghost use Rattle.std.specs.Prelude.{◌≡◌, ◌++◌, map, IfOk};
+ghost use Rattle.std.specs.Prelude.{◌≡◌, ◌++◌, map, unwrap_or, IfOk};
+ghost use Rattle.records.specs.Spelling.{empty};
 ghost use Rattle.hist_read.specs.declared.item.Item.TheVariants.{Value};
-ghost use Rattle.hist_read.specs.Showing.{bits_of, with_extra, at_time, with_status, no_value, item_value, entry_value, with_stamps, shown, shown_entry, info};
+ghost use Rattle.hist_read.specs.Showing.{with_extra, at_time, with_status, item_value, with_stamps, shown, shown_entry, info};
 
 use crate::item::Item;
 use records::{Entry, Held, Moment};
@@ -50,7 +51,7 @@ fn held_value(held: Held) -> DataValue
 
 /// Nothing but a status and a source time.
 fn without_value(status: Option<Status>, time: Moment) -> DataValue
-    ensures { result ≡ at_time time (with_status status no_value) }
+    ensures { result ≡ at_time time (with_status status empty) }
 {
     DataValue {
         value: None,
@@ -74,7 +75,7 @@ fn item_value(item: Item) -> DataValue
 
 /// A modification's value with its source time, else that alone.
 fn entry_value(time: Moment, value: Option<DataValue>) -> DataValue
-    ensures { result ≡ entry_value time value }
+    ensures { result ≡ at_time time (unwrap_or value empty) }
 {
     let Some(value) = value else {
         return without_value(None, time);

@@ -1,8 +1,8 @@
 use Rattle.std.proofs.Common.{rules, ◌∙◌, ap, sym}
 use Rattle.std.specs.Option.{option_copied}
 use Rattle.hist_read.specs.Point.{point_of}
-use Rattle.hist_read.specs.Node.{place_told, place_in}
-use Rattle.hist_read.proofs.Agreeing.{told_agreed, told_other}
+use Rattle.hist_read.specs.Node.{place_in}
+use Rattle.hist_read.proofs.Agreeing.{place_told, told_agreed, told_other}
 use Rattle.hist_read.proofs.node.place_in.Goals as goal
 
 pub returns-then-not-agrees-clause-told : goal.returns-then-not-agrees-clause-told

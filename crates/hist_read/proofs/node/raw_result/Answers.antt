@@ -1,4 +1,4 @@
-use Rattle.std.proofs.Common.{◌∙◌, ap, sym, subst, map, option_map, IfSome}
+use Rattle.std.proofs.Common.{◌∙◌, cond, ap, sym, subst, map, option_map, IfSome}
 use Rattle.stamp.specs.Numbers.{number_of}
 use Rattle.ua_services.specs.declared.history.HistoryData.TheVariants.{Raw}
 use Rattle.records.specs.Contents.{cut}
@@ -7,6 +7,7 @@ use Rattle.hist_read.specs.Reads.{page, raw}
 use Rattle.hist_read.specs.Node.{point_at, status_for}
 use Rattle.hist_read.specs.Showing.{shown}
 use Rattle.hist_read.proofs.Cutting.{lawful_cut}
+use Rattle.hist_read.proofs.Results.{raw_result, modified_result}
 use Rattle.hist_read.proofs.Nodes.{found_then, result_is}
 use Rattle.hist_read.proofs.Nexts.{raw_next}
 use Rattle.hist_read.proofs.node.raw_result.Goals as goal
@@ -16,7 +17,9 @@ returns-clause-finds g c =
     let R = cut (g.A.Archive.state c.args.archive.now).content (number_of c.args.within.now) in
     let v = c.args.within.now in
     let node = c.args.node.now in
-    let q = c.args.query.now.details in
+    let id = (g.A.Archive.state c.args.archive.now).id in
+    let query = c.args.query.now in
+    let q = query.details in
     let p = c.args.position.now in
     found_then _ _ c.in_ok-page.page _ _ _ c.in_ok-page.ensures (λ lawful is.
     let next = c.in_ok-continuation_point.ensures.point (subst (λ o. IfSome o (IsNext q)) (sym is.next) (raw_next R node q p (lawful_cut _ (number_of v) lawful) c.requires.given c.requires.raw)) in
@@ -25,4 +28,5 @@ returns-clause-finds g c =
     is.items values
     (c.status_for.ensures ∙ ap status_for (c.deref.ensures.value ∙ sym c.of.ensures))
     (next ∙ (ap (λ i. option_map (point_at i node q v) c.in_ok-page.page.next) c.id-id.ensures ∙ ap (option_map (point_at (g.A.Archive.state c.args.archive.now).id node q v)) is.next))
-    (ap (λ l. Raw l) (values ∙ ap (λ l. map (shown c.args.query.now.stamps) l) is.items)))
+    (ap (λ l. Raw l) (values ∙ ap (λ l. map (shown c.args.query.now.stamps) l) is.items))
+    ∙ sym (ap (λ b. cond b (modified_result R v id node query p) (raw_result R v id node query p)) c.requires.raw))
