@@ -7,7 +7,7 @@ use Rattle.ua_binary.specs.declared.values.Body.TheVariants.{Absent}
 use Rattle.ua_binary.proofs.Combined.{byte_lawful, block_lawful, then_lawful, chosen_lawful, headed_lawful, standing_lawful, fitting_lawful}
 use Rattle.ua_binary.proofs.Elements.{IsItemLawful, item, then_item}
 use Rattle.ua_binary.proofs.Lawful.{u32_lawful, i32_lawful, boolean_lawful, text_lawful, text_item, byte_string_lawful, byte_string_item, localized_lawful, status_item, node_id_lawful, body_lawful}
-use Rattle.ua_services.specs.Endpoints.{application_description, IsApplication, user_token_policy, IsToken, access, IsAccess, endpoint_description, IsEndpoint, get_endpoints_request, get_endpoints_response}
+use Rattle.ua_services.specs.Endpoints.{application_description, IsApplication, user_token_policy, access, IsAccess, endpoint_description, get_endpoints_request, get_endpoints_response}
 use Rattle.ua_services.specs.Unkept.{unkept}
 use Rattle.ua_services.specs.Structure.{is_type}
 use Rattle.ua_services.specs.Sessions.{user_identity, identity_type, identity_form, unknown_identity, anonymous_identity_token, user_name_identity_token, signature_data, signed_software_certificate, no_signature, create_session_request, create_session_response, IsSessionMade, activate_session_request, activate_session_response, close_session_request}
@@ -27,8 +27,7 @@ application_lawful = fitting_lawful IsApplication (λ v h. (h.0, (h.1, (h.2, (h.
 
 pub token_lawful : IsLawful user_token_policy
 unfolding user_token_policy signed text byte_string
-token_lawful = fitting_lawful IsToken (λ v h. (h.0, (h.1, (tt, (tt, tt)))))
-    (then_lawful text_lawful (closed_lawful i32_lawful (closed_lawful no_text_lawful (closed_lawful no_text_lawful no_text_lawful))))
+token_lawful = then_lawful text_lawful (closed_lawful i32_lawful (closed_lawful no_text_lawful (closed_lawful no_text_lawful no_text_lawful)))
 
 pub token_item : IsItemLawful user_token_policy
 unfolding user_token_policy unsigned signed text byte_string
@@ -41,8 +40,7 @@ access_lawful = fitting_lawful IsAccess (λ v h. (h.0, (h.1, (many_fits user_tok
 
 pub endpoint_lawful : IsLawful endpoint_description
 unfolding endpoint_description application_description access text byte_string
-endpoint_lawful = fitting_lawful IsEndpoint (λ v h. (h.0, (h.1, (tt, h.2))))
-    (then_lawful text_lawful (then_lawful application_lawful (past_lawful no_bytes_lawful access_lawful)))
+endpoint_lawful = then_lawful text_lawful (then_lawful application_lawful (past_lawful no_bytes_lawful access_lawful))
 
 pub endpoint_item : IsItemLawful endpoint_description
 unfolding endpoint_description unsigned signed text byte_string

@@ -7,7 +7,7 @@ use Rattle.ua_binary.proofs.Elements.{IsItemLawful, then_item, fitting_item}
 use Rattle.ua_binary.proofs.Lawful.{u32_lawful, i32_lawful, boolean_lawful, ticks_lawful, text_lawful, byte_string_lawful, status_item, node_id_lawful, node_id_item, qualified_lawful, localized_lawful, array_of_items}
 use Rattle.ua_variant.specs.Raise.{variant_fault}
 use Rattle.ua_variant.specs.DataValue.{data_value}
-use Rattle.ua_services.specs.Browsing.{browse_direction, direction_of, direction_number, browse_description, no_view, browse_request, IsReference, reference_description, IsBrowsed, browse_result, browse_response}
+use Rattle.ua_services.specs.Browsing.{browse_direction, direction_of, direction_number, browse_description, no_view, browse_request, reference_description, browse_result, browse_response}
 use Rattle.ua_services.specs.Attributes.{timestamps, timestamps_of, timestamps_number, read_value_id, no_age, read_request, data_values, read_response}
 use Rattle.ua_services.proofs.Unkept.{unkept_lawful, past_lawful, closed_lawful, many_lawful, array_fits, many_fits, null_lawful}
 use Rattle.ua_services.proofs.UpdatesLawful.{data_value_item}
@@ -29,15 +29,14 @@ browse_asked_lawful = past_lawful (unkept_lawful no_view (then_lawful node_id_la
 
 pub reference_item : IsItemLawful reference_description
 unfolding reference_description node_id boolean qualified localized signed
-reference_item = fitting_item IsReference (λ v h. (h.0, (tt, (h.1, (h.2, (h.3, (h.4, h.5)))))))
-    (then_item node_id_item (then_lawful boolean_lawful (then_lawful node_id_lawful (then_lawful qualified_lawful (then_lawful localized_lawful (then_lawful i32_lawful node_id_lawful))))))
+reference_item = then_item node_id_item (then_lawful boolean_lawful (then_lawful node_id_lawful (then_lawful qualified_lawful (then_lawful localized_lawful (then_lawful i32_lawful node_id_lawful)))))
 
 pub reference_lawful : IsLawful reference_description
 reference_lawful = reference_item.lawful
 
 pub browsed_item : IsItemLawful browse_result
 unfolding browse_result status unsigned byte_string
-browsed_item = fitting_item IsBrowsed (λ v h. (h.0, (tt, many_fits reference_description _ h.1))) (then_item status_item (past_lawful (unkept_lawful None byte_string_lawful) (many_lawful reference_item)))
+browsed_item = fitting_item _ (λ v h. (h.0, (tt, many_fits reference_description _ h.1))) (then_item status_item (past_lawful (unkept_lawful None byte_string_lawful) (many_lawful reference_item)))
 
 pub browsed_lawful : IsLawful browse_result
 browsed_lawful = browsed_item.lawful

@@ -11,7 +11,7 @@ use Rattle.ua_variant.specs.Raise.{variant_fault}
 use Rattle.ua_variant.specs.DataValue.{data_value}
 use Rattle.ua_variant.proofs.Masks.{data_value_lawful}
 use Rattle.ua_services.specs.Structure.{is_type}
-use Rattle.ua_services.specs.Updates.{Other, update_data_details, delete_raw_modified_details, delete_at_time_details, details_type, details_form, history_update_details, history_update_request, IsUpdated, history_update_result, history_update_response}
+use Rattle.ua_services.specs.Updates.{Other, update_data_details, delete_raw_modified_details, delete_at_time_details, details_type, details_form, history_update_details, history_update_request, history_update_result, history_update_response}
 use Rattle.ua_services.proofs.Unkept.{closed_lawful, many_lawful, many_fits, null_lawful, structure_lawful, structure_with_values_lawful}
 
 pub data_value_item : IsItemLawful data_value
@@ -50,7 +50,7 @@ updates_asked_lawful = array_of_items variant_fault details_item
 
 pub update_item : IsItemLawful history_update_result
 unfolding history_update_result status unsigned
-update_item = fitting_item IsUpdated (λ v h. (h.0, (many_fits status _ h.1, tt))) (then_item status_item (closed_lawful (many_lawful status_item) null_lawful))
+update_item = fitting_item _ (λ v h. (h.0, (many_fits status _ h.1, tt))) (then_item status_item (closed_lawful (many_lawful status_item) null_lawful))
 
 pub update_lawful : IsLawful history_update_result
 update_lawful = update_item.lawful

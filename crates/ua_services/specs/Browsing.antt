@@ -77,12 +77,9 @@ ReferenceFields = NodeId × (Bool × (NodeId × (QualifiedName × (LocalizedText
 abbrev pub reference_fields : ReferenceDescription → ReferenceFields
 reference_fields r = (r.reference_type_id, (r.is_forward, (r.node_id, (r.browse_name, (r.display_name, (pos (class_number r.node_class), r.type_definition))))))
 
-abbrev pub IsReference : ReferenceFields → Type 0
-IsReference v = IsNodeId v.0 × IsNodeId v.1.1.0 × IsQualified v.1.1.1.0 × IsLocalized v.1.1.1.1.0 × FitsSigned w32 v.1.1.1.1.1.0 × IsNodeId v.1.1.1.1.1.1
-
 -- the expanded ids of the node and of its type definition are spelled as those of this server
 unfoldable pub reference_description : Format BinaryFault ReferenceFields
-reference_description = fitting IsReference (node_id ▸ boolean ▸ node_id ▸ qualified ▸ localized ▸ signed w32 ▸ node_id)
+reference_description = node_id ▸ boolean ▸ node_id ▸ qualified ▸ localized ▸ signed w32 ▸ node_id
 
 abbrev pub IsShortReference : ReferenceDescription → Type 0
 IsShortReference r = IsShortNode r.reference_type_id × IsShortNode r.node_id × IsCounted r.browse_name.name × IsShortLocalized r.display_name × IsShortNode r.type_definition
@@ -94,12 +91,9 @@ BrowsedFields = Status × List ReferenceFields
 abbrev pub browsed_fields : BrowseResult → BrowsedFields
 browsed_fields r = (r.status, map reference_fields r.references)
 
-abbrev pub IsBrowsed : BrowsedFields → Type 0
-IsBrowsed v = (v.0.0 < 2 ^ 32) × AreFew reference_description v.1
-
 -- status, continuation point, references
 unfoldable pub browse_result : Format BinaryFault BrowsedFields
-browse_result = fitting IsBrowsed (status ▸ unkept None byte_string ▹ many reference_description)
+browse_result = fitting (λ v. (v.0.0 < 2 ^ 32) × AreFew reference_description v.1) (status ▸ unkept None byte_string ▹ many reference_description)
 
 abbrev pub IsShortBrowsed : BrowseResult → Type 0
 IsShortBrowsed r = (length r.references < 2 ^ 31) × All IsShortReference r.references

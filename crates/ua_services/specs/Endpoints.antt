@@ -73,12 +73,9 @@ TokenFields = Option (List ℕ) × ℤ
 abbrev pub token_fields : UserTokenPolicy → TokenFields
 token_fields v = (v.policy_id, token_number v.token_type)
 
-abbrev pub IsToken : TokenFields → Type 0
-IsToken v = IsText v.0 × FitsSigned w32 v.1
-
 -- policy id, type of the token, type of an issued one, URL of its issuer, security policy
 unfoldable pub user_token_policy : Format BinaryFault TokenFields
-user_token_policy = fitting IsToken (text ▸ signed w32 ◃ unkept None text ◃ unkept None text ◃ unkept None text)
+user_token_policy = text ▸ signed w32 ◃ unkept None text ◃ unkept None text ◃ unkept None text
 
 abbrev pub IsShortToken : UserTokenPolicy → Type 0
 IsShortToken v = IsCounted v.policy_id
@@ -106,12 +103,9 @@ IsAccess v = FitsSigned w32 v.0 × IsText v.1.0 × AreFew user_token_policy v.1.
 unfoldable pub access : Format BinaryFault AccessFields
 access = fitting IsAccess (signed w32 ▸ text ▸ many user_token_policy ▸ text ▸ byte)
 
-abbrev pub IsEndpoint : EndpointFields → Type 0
-IsEndpoint v = IsText v.0 × IsApplication v.1.0 × IsAccess v.1.1
-
 -- URL, the server, its certificate, and how it is reached
 unfoldable pub endpoint_description : Format BinaryFault EndpointFields
-endpoint_description = fitting IsEndpoint (text ▸ application_description ▸ unkept None byte_string ▹ access)
+endpoint_description = text ▸ application_description ▸ unkept None byte_string ▹ access
 
 abbrev pub IsShortAccess : EndpointDescription → Type 0
 IsShortAccess v = IsCounted v.security_policy_uri × (length v.user_identity_tokens < 2 ^ 31) × All IsShortToken v.user_identity_tokens × IsCounted v.transport_profile_uri

@@ -103,11 +103,8 @@ InfoFields = Ticks × (ℤ × Option (List ℕ))
 abbrev pub info_fields : ModificationInfo → InfoFields
 info_fields v = (v.modification_time, (pos (update_number v.update_type), v.user_name))
 
-abbrev pub IsInfo : InfoFields → Type 0
-IsInfo v = FitsSigned w64 v.0.0 × FitsSigned w32 v.1.0 × IsText v.1.1
-
 unfoldable pub modification_info : Format BinaryFault InfoFields
-modification_info = fitting IsInfo (ticks ▸ signed w32 ▸ text)
+modification_info = ticks ▸ signed w32 ▸ text
 
 abbrev pub IsShortInfo : ModificationInfo → Type 0
 IsShortInfo v = IsCounted v.user_name

@@ -129,12 +129,9 @@ UpdateFields = Status × List Status
 abbrev pub update_fields : HistoryUpdateResult → UpdateFields
 update_fields r = (r.status, r.operation_results)
 
-abbrev pub IsUpdated : UpdateFields → Type 0
-IsUpdated v = (v.0.0 < 2 ^ 32) × AreFew status v.1
-
 -- status, codes, diagnostics
 unfoldable pub history_update_result : Format BinaryFault UpdateFields
-history_update_result = fitting IsUpdated (status ▸ many status ◃ null)
+history_update_result = fitting (λ v. (v.0.0 < 2 ^ 32) × AreFew status v.1) (status ▸ many status ◃ null)
 
 abbrev pub IsShortUpdate : HistoryUpdateResult → Type 0
 IsShortUpdate r = length r.operation_results < 2 ^ 31
