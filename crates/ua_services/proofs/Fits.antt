@@ -7,7 +7,7 @@ use Rattle.std.specs.List.{All, AllByRecursion}
 use Rattle.std.specs.Int.{w32, w64}
 use Rattle.std.specs.Int.RustNames.{FitsSigned}
 use Rattle.ua_binary.specs.Format.{Format}
-use Rattle.ua_binary.specs.Binary.{unsigned, signed, boolean, ticks, status, text, byte_string, IsText, localized, IsLocalized, qualified, IsQualified, node_id, IsNodeId}
+use Rattle.ua_binary.specs.Binary.{unsigned, signed, boolean, ticks, status, text, IsText, localized, IsLocalized, qualified, IsQualified, node_id, IsNodeId}
 use Rattle.ua_binary.specs.declared.values.LocalizedText.{LocalizedText}
 use Rattle.ua_binary.specs.declared.values.NodeId.{NodeId}
 use Rattle.ua_binary.specs.declared.values.QualifiedName.{QualifiedName}
@@ -96,22 +96,6 @@ pub qualified_is : (v : QualifiedName) → qualified.Fits v → IsQualified v
 unfolding qualified
 qualified_is v h = h
 
-pub i32_fits : (n : ℤ) → FitsSigned w32 n → (signed w32).Fits n
-unfolding signed
-i32_fits n h = h
-
-pub boolean_fits : (b : Bool) → boolean.Fits b
-unfolding boolean
-boolean_fits b = tt
-
-pub no_text_fits : text.Fits None
-unfolding text
-no_text_fits = tt
-
-pub no_bytes_fits : byte_string.Fits None
-unfolding byte_string
-no_bytes_fits = tt
-
 pub class_fits : (c : NodeClass) → FitsSigned w32 (pos (class_number c))
 class_fits Unspecified = omega (arith, ints)
 class_fits Object = omega (arith, ints)
@@ -141,7 +125,7 @@ pub history_fits : (v : HistoryFields) → IsHistoryRead v → history_read_resu
 unfolding history_read_result
 history_fits v h = h
 
-pub ruleset fits = (i32_fits, boolean_fits, no_text_fits, no_bytes_fits, update_fits, ticks_is, qualified_is, class_fits, status_is, application_fits, mode_fits, token_fits, text_is, localized_is, node_is, u32_is)
+pub ruleset fits = (update_fits, ticks_is, qualified_is, class_fits, status_is, application_fits, mode_fits, token_fits, text_is, localized_is, node_is, u32_is)
 
 -- what stands for itself
 pub all_same : {A : Type 0} (l : List A) → map (λ x. x) l ≡ l

@@ -43,7 +43,7 @@ history_asked_lawful = then_lawful read_details_lawful (then_lawful timestamps_l
 
 pub info_item : IsItemLawful modification_info
 unfolding modification_info ticks signed text
-info_item = then_item ticks_item (then_lawful i32_lawful text_lawful)
+info_item = fitting_item _ (λ v h. (h.0, (h.1, h.2))) (then_item ticks_item (then_lawful i32_lawful text_lawful))
 
 pub info_lawful : IsLawful modification_info
 info_lawful = info_item.lawful

@@ -27,7 +27,8 @@ application_lawful = fitting_lawful IsApplication (λ v h. (h.0, (h.1, (h.2, (h.
 
 pub token_lawful : IsLawful user_token_policy
 unfolding user_token_policy signed text byte_string
-token_lawful = then_lawful text_lawful (closed_lawful i32_lawful (closed_lawful no_text_lawful (closed_lawful no_text_lawful no_text_lawful)))
+token_lawful = fitting_lawful _ (λ v h. (h.0, (h.1, (tt, (tt, tt)))))
+    (then_lawful text_lawful (closed_lawful i32_lawful (closed_lawful no_text_lawful (closed_lawful no_text_lawful no_text_lawful))))
 
 pub token_item : IsItemLawful user_token_policy
 unfolding user_token_policy unsigned signed text byte_string
@@ -40,7 +41,8 @@ access_lawful = fitting_lawful IsAccess (λ v h. (h.0, (h.1, (many_fits user_tok
 
 pub endpoint_lawful : IsLawful endpoint_description
 unfolding endpoint_description application_description access text byte_string
-endpoint_lawful = then_lawful text_lawful (then_lawful application_lawful (past_lawful no_bytes_lawful access_lawful))
+endpoint_lawful = fitting_lawful _ (λ v h. (h.0, (h.1, (tt, h.2))))
+    (then_lawful text_lawful (then_lawful application_lawful (past_lawful no_bytes_lawful access_lawful)))
 
 pub endpoint_item : IsItemLawful endpoint_description
 unfolding endpoint_description unsigned signed text byte_string

@@ -29,7 +29,8 @@ browse_asked_lawful = past_lawful (unkept_lawful no_view (then_lawful node_id_la
 
 pub reference_item : IsItemLawful reference_description
 unfolding reference_description node_id boolean qualified localized signed
-reference_item = then_item node_id_item (then_lawful boolean_lawful (then_lawful node_id_lawful (then_lawful qualified_lawful (then_lawful localized_lawful (then_lawful i32_lawful node_id_lawful)))))
+reference_item = fitting_item _ (λ v h. (h.0, (tt, (h.1, (h.2, (h.3, (h.4, h.5)))))))
+    (then_item node_id_item (then_lawful boolean_lawful (then_lawful node_id_lawful (then_lawful qualified_lawful (then_lawful localized_lawful (then_lawful i32_lawful node_id_lawful))))))
 
 pub reference_lawful : IsLawful reference_description
 reference_lawful = reference_item.lawful

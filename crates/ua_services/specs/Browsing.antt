@@ -79,7 +79,9 @@ reference_fields r = (r.reference_type_id, (r.is_forward, (r.node_id, (r.browse_
 
 -- the expanded ids of the node and of its type definition are spelled as those of this server
 unfoldable pub reference_description : Format BinaryFault ReferenceFields
-reference_description = node_id ▸ boolean ▸ node_id ▸ qualified ▸ localized ▸ signed w32 ▸ node_id
+reference_description =
+    fitting (λ v. IsNodeId v.0 × IsNodeId v.1.1.0 × IsQualified v.1.1.1.0 × IsLocalized v.1.1.1.1.0 × FitsSigned w32 v.1.1.1.1.1.0 × IsNodeId v.1.1.1.1.1.1)
+    (node_id ▸ boolean ▸ node_id ▸ qualified ▸ localized ▸ signed w32 ▸ node_id)
 
 abbrev pub IsShortReference : ReferenceDescription → Type 0
 IsShortReference r = IsShortNode r.reference_type_id × IsShortNode r.node_id × IsCounted r.browse_name.name × IsShortLocalized r.display_name × IsShortNode r.type_definition

@@ -75,7 +75,7 @@ token_fields v = (v.policy_id, token_number v.token_type)
 
 -- policy id, type of the token, type of an issued one, URL of its issuer, security policy
 unfoldable pub user_token_policy : Format BinaryFault TokenFields
-user_token_policy = text ▸ signed w32 ◃ unkept None text ◃ unkept None text ◃ unkept None text
+user_token_policy = fitting (λ v. IsText v.0 × FitsSigned w32 v.1) (text ▸ signed w32 ◃ unkept None text ◃ unkept None text ◃ unkept None text)
 
 abbrev pub IsShortToken : UserTokenPolicy → Type 0
 IsShortToken v = IsCounted v.policy_id
@@ -105,7 +105,7 @@ access = fitting IsAccess (signed w32 ▸ text ▸ many user_token_policy ▸ te
 
 -- URL, the server, its certificate, and how it is reached
 unfoldable pub endpoint_description : Format BinaryFault EndpointFields
-endpoint_description = text ▸ application_description ▸ unkept None byte_string ▹ access
+endpoint_description = fitting (λ v. IsText v.0 × IsApplication v.1.0 × IsAccess v.1.1) (text ▸ application_description ▸ unkept None byte_string ▹ access)
 
 abbrev pub IsShortAccess : EndpointDescription → Type 0
 IsShortAccess v = IsCounted v.security_policy_uri × (length v.user_identity_tokens < 2 ^ 31) × All IsShortToken v.user_identity_tokens × IsCounted v.transport_profile_uri

@@ -104,7 +104,7 @@ abbrev pub info_fields : ModificationInfo → InfoFields
 info_fields v = (v.modification_time, (pos (update_number v.update_type), v.user_name))
 
 unfoldable pub modification_info : Format BinaryFault InfoFields
-modification_info = ticks ▸ signed w32 ▸ text
+modification_info = fitting (λ v. FitsSigned w64 v.0.0 × FitsSigned w32 v.1.0 × IsText v.1.1) (ticks ▸ signed w32 ▸ text)
 
 abbrev pub IsShortInfo : ModificationInfo → Type 0
 IsShortInfo v = IsCounted v.user_name

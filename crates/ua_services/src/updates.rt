@@ -3,7 +3,7 @@
 ghost use Rattle.std.specs.Prelude.{◌≡◌, map, IfOk};
 ghost use Rattle.ua_binary.specs.Format.{Puts, PutsPart, Reads, ReadsUnless};
 ghost use Rattle.std.specs.List.{AllByRecursion};
-ghost use Rattle.ua_services.specs.Updates.{Details, HasShortValues, details_of, update_data_form, delete_raw_modified_form, delete_at_time_form, other_form, history_update_details, history_update_request, UpdateFields, update_fields, IsUpdated, history_update_result, IsShortUpdate, AreShortUpdates, AreUpdated, history_update_response};
+ghost use Rattle.ua_services.specs.Updates.{Details, HasShortValues, details_of, update_data_form, delete_raw_modified_form, delete_at_time_form, other_form, history_update_details, history_update_request, UpdateFields, update_fields, history_update_result, IsShortUpdate, AreShortUpdates, AreUpdated, history_update_response};
 
 use crate::many::{many_size, put_many, put_null_array};
 use crate::structure::{is_type, read_binary_body};
