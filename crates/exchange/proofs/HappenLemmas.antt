@@ -31,13 +31,13 @@ sent_none a b pool v limit fault end P asks = record {
 
 -- ---- what is delivered
 
-twice : {X : Type 0} (k n : ℕ) (xs : List X) → (j : ℕ) × (take k (take n xs) ≡ take j xs)
-twice zero n xs = (0, refl)
-twice (suc k) zero xs = (0, refl)
-twice (suc k) (suc n) [] = (0, refl)
-twice (suc k) (suc n) (x ∷ xs) = let m = twice k n xs in (suc m.0, ap (λ l. x ∷ l) m.1)
+twice : {X : Type 0} (k n : ℕ) (xs : List X) → (j : ℕ) × (j ≤ n) × (take k (take n xs) ≡ take j xs)
+twice zero n xs = (0, omega arith, refl)
+twice (suc k) zero xs = (0, omega arith, refl)
+twice (suc k) (suc n) [] = (0, omega arith, refl)
+twice (suc k) (suc n) (x ∷ xs) = let m = twice k n xs in (suc m.0, omega (arith, m.1), ap (λ l. x ∷ l) m.2)
 
-pub came_none : (a : Store) (pool : List (List Record)) (place count : ℕ) → slice_get pool place ≡ None → Turns a a (came_in pool place count) (HasSome pool place) (Ok tt)
+pub came_none : (a : Store) (pool : List (List Record)) (place count : ℕ) → slice_get pool place ≡ None → Turns a a (came_in pool place count) (HasSome pool place count) (Ok tt)
 came_none a pool place count none = record {
   faults = [];
   passes = passes-none a;
@@ -46,13 +46,13 @@ came_none a pool place count none = record {
 }
 
 pub came_some : (a b : Store) (pool : List (List Record)) (place count : ℕ) (rs first : List Record) (result : Result (Unit {0}) Halted) → slice_get pool place ≡ Some rs → first ≡ take count rs
-    → Turns a b (merged first) (HasFirst first) result → Turns a b (came_in pool place count) (HasSome pool place) result
+    → Turns a b (merged first) (HasFirst first) result → Turns a b (came_in pool place count) (HasSome pool place count) result
 came_some a b pool place count rs first result some is turns = by_result result turns
   where
     came : (k : ℕ) (R : Content) → came_in pool place k R ≡ merged (take k rs) R
     came k R = ap (λ (o : Option (List Record)). option_map_or (λ batch. merged (take k batch) R) o R) some
 
-    by_result : (res : Result (Unit {0}) Halted) → Turns a b (merged first) (HasFirst first) res → Turns a b (came_in pool place count) (HasSome pool place) res
+    by_result : (res : Result (Unit {0}) Halted) → Turns a b (merged first) (HasFirst first) res → Turns a b (came_in pool place count) (HasSome pool place count) res
     by_result (Ok u) t = record {
       faults = t.faults;
       passes = t.passes;
@@ -66,7 +66,7 @@ came_some a b pool place count rs first result some is turns = by_result result 
       halted = λ honest R h.
           let q = t.halted honest R h in
           let m = twice q.1.0 count rs in
-          (q.0, (m.0, q.1.1 ∙ (ap (λ l. merged (take q.1.0 l) R) is ∙ (ap (λ l. merged l R) m.1 ∙ sym (came m.0 R)))), q.2);
+          (q.0, (m.0, m.1, q.1.1 ∙ (ap (λ l. merged (take q.1.0 l) R) is ∙ (ap (λ l. merged l R) m.2 ∙ sym (came m.0 R)))), q.2);
     }
 
 -- ---- an event at its replica
@@ -93,8 +93,8 @@ pub operates_by : (a b : Store) (pool : List (List Record)) (i : ℕ) (request :
     → TurnsBy a b pool pool (Operates i request op) result
 operates_by a b pool i request op result = turns_by a b pool (Operates i request op) (λ R. after R (outcome R a.own request op)) IsSame (λ s is. ap (λ (n : ℕ). after s.content (outcome s.content n request op)) is.number) (λ s S e. e) (λ s. refl) result
 
-pub delivers_by : (a b : Store) (pool : List (List Record)) (i place count : ℕ) (result : Result (Unit {0}) Halted) → Turns a b (came_in pool place count) (HasSome pool place) result → TurnsBy a b pool pool (Delivers i place count) result
-delivers_by a b pool i place count result = turns_by a b pool (Delivers i place count) (came_in pool place count) (HasSome pool place) (λ s is. refl) (λ s S e. e) (λ s. refl) result
+pub delivers_by : (a b : Store) (pool : List (List Record)) (i place count : ℕ) (result : Result (Unit {0}) Halted) → Turns a b (came_in pool place count) (HasSome pool place count) result → TurnsBy a b pool pool (Delivers i place count) result
+delivers_by a b pool i place count result = turns_by a b pool (Delivers i place count) (came_in pool place count) (HasSome pool place count) (λ s is. refl) (λ s S e. e) (λ s. refl) result
 
 pub restarts_by : (a b : Store) (pool : List (List Record)) (i : ℕ) (result : Result (Unit {0}) Halted) → Turns a b (λ R. R) IsSame result → TurnsBy a b pool pool (Restarts i) result
 restarts_by a b pool i result = turns_by a b pool (Restarts i) (λ R. R) IsSame (λ s is. refl) (λ s S e. e) (λ s. refl) result
@@ -155,7 +155,7 @@ module _ (sites : List Site) (pool : List (List Record)) where
   step_half : (e : Event) (s : Site) (S : Content) → slice_get sites (place_of e) ≡ Some s → IsHalf s pool e S → Halts (world_of sites pool) e (now_there sites (place_of e) s S)
   step_half (Operates i request op) s S some is = ap (now_there sites i s) is ∙ set_same sites i s some
   step_half (Sends i v limit) s S some is = ap (now_there sites i s) is ∙ set_same sites i s some
-  step_half (Delivers i b count) s S some is = (is.0, ap (now_there sites i s) is.1 ∙ sym (step_sites (Delivers i b is.0) s some))
+  step_half (Delivers i b count) s S some is = (is.0, is.1, ap (now_there sites i s) is.2 ∙ sym (step_sites (Delivers i b is.0) s some))
   step_half (Restarts i) s S some is = ap (now_there sites i s) is ∙ set_same sites i s some
 
 module _ {A : Type 0} (state : A → Store) where

@@ -1,5 +1,5 @@
 -- Worlds whose replicas are archives.
-use Rattle.std.specs.Prelude.{◌≡◌, ⊤, ℕ, ◌-◌, ◌^◌, ◌<◌, false, List, [], ◌∷◌, ◌++◌, take, slice_get, Some, Result, Ok, Err, IfOk, IfErr, unwrap_or}
+use Rattle.std.specs.Prelude.{◌≡◌, ⊤, ℕ, ◌-◌, ◌^◌, ◌<◌, ◌≤◌, false, List, [], ◌∷◌, ◌++◌, take, slice_get, Some, Result, Ok, Err, IfOk, IfErr, unwrap_or}
 use Rattle.std.specs.List.{AllByRecursion}
 use Rattle.std.specs.Option.{option_map_or}
 use Rattle.stamp.specs.Numbers.{number_of}
@@ -57,10 +57,10 @@ pub record IsSiteOf (a : Store) (s : Site) : Type 0 where
 abbrev pub world_of : List Site → List (List Record) → World
 world_of sites pool = record { sites = sites; pool = pool }
 
--- what a fault leaves of a world in which an event was to happen: what it was, or, of what was delivered, some first records more; behind a
--- break of the store an opening finds that, or that with one record more
+-- what a fault leaves of a world in which an event was to happen: what it was, or, of what was delivered, some first records more, at most as
+-- many as were to come; behind a break of the store an opening finds that, or that with one record more
 abbrev pub Halts : World → Event → List Site → Type 0
-Halts w (Delivers i batch count) sites = (k : ℕ) × (sites ≡ (step w (Delivers i batch k)).sites)
+Halts w (Delivers i batch count) sites = (k : ℕ) × (k ≤ count) × (sites ≡ (step w (Delivers i batch k)).sites)
 Halts w event sites = sites ≡ w.sites
 
 module _ {A : Type 0} (state : A → Store) where
@@ -131,8 +131,9 @@ pub record Gives (old new : Store) (pool later : List (List Record)) (v : ℕ �
 abbrev pub came_in : List (List Record) → (place count : ℕ) → Content → Content
 came_in pool place count R = option_map_or (λ batch. merged (take count batch) R) (slice_get pool place) R
 
-abbrev pub HasSome : List (List Record) → ℕ → Content → Content → Type 0
-HasSome pool place R S = (k : ℕ) × (S ≡ came_in pool place k R)
+-- or some first ones, so many at most
+abbrev pub HasSome : List (List Record) → (place count : ℕ) → Content → Content → Type 0
+HasSome pool place count R S = (k : ℕ) × (k ≤ count) × (S ≡ came_in pool place k R)
 
 -- ---- one event, at the replica that it comes to
 
@@ -156,7 +157,7 @@ pooled s pool event = pool
 
 -- what it may hold where a fault came
 abbrev pub IsHalf : Site → List (List Record) → Event → Content → Type 0
-IsHalf s pool (Delivers i batch count) S = HasSome pool batch s.content S
+IsHalf s pool (Delivers i batch count) S = HasSome pool batch count s.content S
 IsHalf s pool event S = S ≡ s.content
 
 pub record TurnsBy (old new : Store) (pool later : List (List Record)) (event : Event) (result : Result (Unit {0}) Halted) : Type 0 where

@@ -244,7 +244,7 @@ fn deliver_from<A: Archive>(
     batch: usize,
     count: usize,
 ) -> Result<(), Halted>
-    ensures { Turns (A.state archive.old) (A.state archive.new) (came_in (map (λ b. b.records) pool.now) batch count) (HasSome (map (λ b. b.records) pool.now) batch) result }
+    ensures { Turns (A.state archive.old) (A.state archive.new) (came_in (map (λ b. b.records) pool.now) batch count) (HasSome (map (λ b. b.records) pool.now) batch count) result }
 {
     if batch < pool.len() {
         let records = pool[batch].records.as_slice();
