@@ -1,6 +1,7 @@
 -- What a frame says is what it was made of.
 use Rattle.std.proofs.Common.{◌≡◌, ℕ, suc, ◌+◌, ◌-◌, ◌<◌, ◌≤◌, ◌^◌, true, false, nat_le, nat_lt, List, [], ◌∷◌, ◌++◌, length, take, drop, Some, Result, Ok, Err, refl, ap, subst, arith}
 use Rattle.std.specs.Prelude.{◌&&◌, ◌==◌, not}
+use Rattle.std.specs.Result.{result_map_both}
 use Rattle.std.specs.List.{flat_map, AllByRecursion}
 use Rattle.std.specs.Int.{w32}
 use Rattle.std.proofs.lemmas.Bool.{le-ltb}
@@ -27,7 +28,7 @@ use Rattle.exchange.specs.declared.message.Title.{Title}
 use Rattle.exchange.specs.declared.message.Message.{Message}
 use Rattle.exchange.specs.declared.message.Message.TheVariants.{Asks, Carries, Ends}
 use Rattle.exchange.specs.Batches.{most, longest_frame, records_length, frame_length}
-use Rattle.exchange.specs.Frames.{record_or, record_in, title, title_of, title_fields, count, sized, framed, code, message_at, letters, kind_of, body_of, frame_of, cut, IsTitle, IsSpelled}
+use Rattle.exchange.specs.Frames.{record_in, title, title_of, title_fields, count, sized, framed, code, message_at, letters, kind_of, body_of, frame_of, cut, IsTitle, IsSpelled}
 use Rattle.exchange.specs.Meetings.{checked_title}
 use Rattle.exchange.proofs.BatchLemmas.{vector_short}
 
@@ -63,7 +64,7 @@ count_lawful = passing_lawful _ _ (raised_lawful _ u32_lawful)
 sized_lawful : IsLawful sized
 sized_lawful = headed_lawful length _ (raised_lawful _ u32_lawful) (λ n. raised_lawful _ (block_lawful n))
 
-fault_ok : (r : Result Record RecordFault) (x : Record) → record_or r ≡ Ok x → r ≡ Ok x
+fault_ok : (r : Result Record RecordFault) (x : Record) → result_map_both (λ y. y) (λ fault. Frame) r ≡ Ok x → r ≡ Ok x
 fault_ok (Ok a) x e = ap Ok (ok_is a x e)
 fault_ok (Err f) x e = cc
 

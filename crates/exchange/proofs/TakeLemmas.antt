@@ -1,5 +1,7 @@
 -- What an end makes of a frame.
 use Rattle.std.proofs.Common.{◌≡◌, ℕ, zero, suc, List, [], ◌++◌, take, Option, Some, None, Result, Ok, Err, IfOk, refl, sym, ap, ◌∙◌, subst, inl, inr, option_to_list}
+use Rattle.std.specs.Option.{option_map_or, option_or}
+use Rattle.std.specs.Result.{result_unwrap_or}
 use Rattle.stamp.specs.Numbers.{number_of, IsVector}
 use Rattle.ua_binary.specs.Format.{Puts}
 use Rattle.records.specs.Contents.{vec, merged}
@@ -16,7 +18,7 @@ use Rattle.exchange.specs.declared.message.State.{State}
 use Rattle.exchange.specs.declared.message.State.TheVariants as state
 use Rattle.exchange.specs.declared.dialog.Reply.{Reply}
 use Rattle.exchange.specs.Frames.{frame_of, message_at}
-use Rattle.exchange.specs.Dialogs.{Turn, failing, turned, title_by, Way, Clear, Unread, Stopped, Starved, Met, IsWay, gone, fault_on, records_in, records_read, Standing, unfit, received, received_by, answered, answered_to, standing_after, state_after, code_after, taken_after, party_of, bytes_of, Tells, TellsFault, Handles, Writes, Takes, Greets, Sends, SendsHandled, AnswersTo, Concludes}
+use Rattle.exchange.specs.Dialogs.{Turn, failing, turned, title_by, Way, Clear, Unread, Stopped, Starved, Met, IsWay, gone, fault_on, records_in, records_read, Standing, unfit, received, answered, answered_to, standing_after, taken_after, party_of, bytes_of, Tells, TellsFault, Handles, Writes, Takes, Greets, Sends, SendsHandled, AnswersTo, Concludes}
 use Rattle.exchange.proofs.HandleLemmas.{title_in, title_is}
 
 -- ---- what was handled is written
@@ -77,13 +79,13 @@ module _ (a c : Store) (before counted after : Standing) (kind : FrameKind) (out
   stands : (turn : Turn) (answered : Result (State × Option ℕ) ExchangeFault) → Sends turn answered out mid → Concludes counted after answered result mid written → after ≡ standing_after before kind turn
   stands turn (Ok done) sends concludes =
       concludes.0
-      ∙ (ap (λ (s : Standing). let t : Standing = record s { state = done.0; code = code_after s.code done.1 } in t) counts
-      ∙ (ap (λ (r : Result State ExchangeFault). let t : Standing = record { state = state_after r; taken = taken_after (unfit before kind) before.taken; code = code_after before.code done.1; started = before.started } in t) (sym sends.0)
-      ∙ ap (λ (o : Option ℕ). let t : Standing = record { state = state_after turn.result; taken = taken_after (unfit before kind) before.taken; code = code_after before.code o; started = before.started } in t) (sym sends.1)))
+      ∙ (ap (λ (s : Standing). let t : Standing = record s { state = done.0; code = option_or done.1 s.code } in t) counts
+      ∙ (ap (λ (r : Result State ExchangeFault). let t : Standing = record { state = result_unwrap_or r state.Failed; taken = taken_after (unfit before kind) before.taken; code = option_or done.1 before.code; started = before.started } in t) (sym sends.0)
+      ∙ ap (λ (o : Option ℕ). let t : Standing = record { state = result_unwrap_or turn.result state.Failed; taken = taken_after (unfit before kind) before.taken; code = option_or o before.code; started = before.started } in t) (sym sends.1)))
   stands turn (Err fault) sends concludes =
       concludes.0
       ∙ (ap (λ (s : Standing). let t : Standing = record s { state = state.Failed } in t) counts
-      ∙ ap (λ (x : Turn). let t : Standing = record { state = state_after x.result; taken = taken_after (unfit before kind) before.taken; code = code_after before.code x.code; started = before.started } in t) (sym sends.0))
+      ∙ ap (λ (x : Turn). let t : Standing = record { state = result_unwrap_or x.result state.Failed; taken = taken_after (unfit before kind) before.taken; code = option_or x.code before.code; started = before.started } in t) (sym sends.0))
 
   taken_is : (answered : Result (State × Option ℕ) ExchangeFault) → Concludes counted after answered result mid written → after.taken ≡ taken_after (unfit before kind) before.taken
   taken_is (Ok done) concludes = ap (λ (s : Standing). s.taken) concludes.0 ∙ ap (λ (s : Standing). s.taken) counts
@@ -93,7 +95,7 @@ module _ (a c : Store) (before counted after : Standing) (kind : FrameKind) (out
   started_is (Ok done) concludes = ap (λ (s : Standing). s.started) concludes.0 ∙ ap (λ (s : Standing). s.started) counts
   started_is (Err fault) concludes = ap (λ (s : Standing). s.started) concludes.0 ∙ ap (λ (s : Standing). s.started) counts
 
-  could : (o : Option ExchangeFault) (message : Result Message ExchangeFault) (m : Message) → received_by o message ≡ Ok m → o ≡ None
+  could : (o : Option ExchangeFault) (message : Result Message ExchangeFault) (m : Message) → option_map_or (λ f. Err f) o message ≡ Ok m → o ≡ None
   could None message m e = refl
   could (Some fault) message m e = absurd (cc)
 
@@ -109,7 +111,7 @@ module _ (a c : Store) (before counted after : Standing) (kind : FrameKind) (out
   ]
 
   -- where the dialog goes on, the frame could be taken
-  fits : (message r : Result Message ExchangeFault) (answered : Result (State × Option ℕ) ExchangeFault) → received_by (unfit before kind) message ≡ r → AnswersTo a c before.state r out mid answered
+  fits : (message r : Result Message ExchangeFault) (answered : Result (State × Option ℕ) ExchangeFault) → option_map_or (λ f. Err f) (unfit before kind) message ≡ r → AnswersTo a c before.state r out mid answered
       → Concludes counted after answered result mid written → IfOk result (λ _. unfit before kind ≡ None)
   fits message (Ok m) answered e answers concludes = always result (could (unfit before kind) message m e)
   fits message (Err fault) answered e answers concludes = failed fault answered answers.untaken concludes

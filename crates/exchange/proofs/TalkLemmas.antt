@@ -1,6 +1,7 @@
 -- A whole dialog over memory.
 use Rattle.std.proofs.Common.{◌≡◌, ℕ, zero, suc, ◌+◌, ◌*◌, ◌<◌, ◌≤◌, true, false, Bool, List, [], ◌∷◌, ◌++◌, take, length, Some, None, Result, Ok, Err, refl, sym, ap, ◌∙◌, subst, arith, inl, inr, ◌⊎◌, option_to_list}
 use Rattle.std.specs.Prelude.{nat_lt, Option, IfSome}
+use Rattle.std.specs.Option.{option_map_or}
 use Rattle.records.specs.Lists.{Has}
 use Rattle.archive.specs.declared.fault.StoreFault.{StoreFault}
 use Rattle.exchange.specs.Dialogs.{fault_on}
@@ -21,11 +22,11 @@ use Rattle.exchange.specs.declared.message.Party.{Party}
 use Rattle.exchange.specs.Fault.{store_fault_of, store_fault_told}
 use Rattle.exchange.specs.Batches.{IsOfAnswer}
 use Rattle.exchange.specs.Frames.{kind_of, body_of, frame_of, IsSpelled}
-use Rattle.exchange.specs.Dialogs.{title_by, Turn, failing, Way, Clear, Unread, Stopped, Starved, Met, IsWay, gone, Standing, unfit, received, answered, records_read, party_of, most_frames, Writes, Takes, Greets}
+use Rattle.exchange.specs.Dialogs.{title_by, Turn, failing, Way, Clear, Unread, Stopped, Starved, Met, IsWay, gone, Standing, unfit, received, answered, records_read, party_of, Writes, Takes, Greets}
 use Rattle.exchange.specs.Meetings.{IsBetween, AreJoined, CanMeet, IsOfOutside, IsOfMeeting, IsTold, Converses, Hands}
 use Rattle.exchange.proofs.DialogLemmas.{between_first}
 use Rattle.exchange.proofs.MeetLemmas.{no_ok, told_or}
-use Rattle.exchange.proofs.ConverseLemmas.{IsParty, UnderWay, WayBack, AreOf, rests_hold, sent_few, sent_spelled, replied_spelled, finishes, falls, falls_between, goes_back, falls_back, falls_back_between, goes_on}
+use Rattle.exchange.proofs.ConverseLemmas.{most_frames, IsParty, UnderWay, WayBack, AreOf, rests_hold, sent_few, sent_spelled, replied_spelled, finishes, falls, falls_between, goes_back, falls_back, falls_back_between, goes_on}
 
 -- ---- so far
 
@@ -222,7 +223,7 @@ module _ (a0 b0 : Store) (party : IsParty (party_of a0)) (party_other : IsParty 
       spelled = sent_spelled (party_of a0) a0.content b0.content a.content b.content n first.state way.m party way.one.lawful way.sent
 
       full_got : round ≡ most_frames → received (party_of b) second (kind_of way.m) (body_of way.m) ≡ Err exchange.TooLong
-      full_got e = ap (λ o. Rattle.exchange.specs.Dialogs.received_by o (Rattle.exchange.specs.Frames.message_at (party_of b) (kind_of way.m) (body_of way.m))) (full_unfit second (kind_of way.m) way.serving (way.taken_other ∙ e))
+      full_got e = ap (λ (o : Option ExchangeFault). option_map_or (λ f. Err f) o (Rattle.exchange.specs.Frames.message_at (party_of b) (kind_of way.m) (body_of way.m))) (full_unfit second (kind_of way.m) way.serving (way.taken_other ∙ e))
 
       at_most : (x : Bool) → nat_lt round most_frames ≡ x → x ≡ false → round ≡ most_frames
       at_most x e f = let le = (talk.way ha hb meet).1 in let ge = ltb-false round most_frames (e ∙ f) in omega (arith, le, ge)

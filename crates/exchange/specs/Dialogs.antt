@@ -1,7 +1,8 @@
 -- A dialog between two replicas: what an end makes of each frame that it takes, and what it answers. Both ends of a dialog, over memory or over
 -- a connection, are these.
 use Rattle.std.specs.Prelude.{◌≡◌, ◌⊎◌, ⊤, ℕ, zero, suc, ◌+◌, ◌<◌, nat_le, Bool, true, false, List, [], ◌∷◌, ◌++◌, take, length, Option, None, Some, unwrap_or, Result, Ok, Err, IfOk, IfErr, IfSome, if◌then◌else◌, option_to_list}
-use Rattle.std.specs.Option.{option_map_or}
+use Rattle.std.specs.Option.{option_map_or, option_or}
+use Rattle.std.specs.Result.{result_unwrap_or}
 use Rattle.stamp.specs.Numbers.{number_of}
 use Rattle.records.specs.Contents.{Content, numbers_of, finding, learned, merged}
 use Rattle.records.specs.declared.record.Record.{Record}
@@ -155,9 +156,6 @@ pub record Standing : Type 0 where
   -- an initiator takes frames once it sent its first one
   pub started : Bool
 
-abbrev pub most_frames : ℕ
-most_frames = 1000000
-
 abbrev pub is_over : State → Bool
 is_over Done = true
 is_over Failed = true
@@ -169,20 +167,16 @@ is_due Pulling Vector = false
 is_due Pushing Records = false
 is_due state kind = true
 
--- why a frame of this kind isn't taken
+-- why a frame of this kind isn't taken; an end takes 1,000,000 frames at most
 abbrev pub unfit : Standing → FrameKind → Option ExchangeFault
 unfit s kind =
     if is_over s.state then Some Frame
-    else if nat_le most_frames s.taken then Some TooLong
+    else if nat_le 1000000 s.taken then Some TooLong
     else if is_due s.state kind then None
     else Some Frame
 
-abbrev pub received_by : Option ExchangeFault → Result Message ExchangeFault → Result Message ExchangeFault
-received_by None message = message
-received_by (Some fault) message = Err fault
-
 abbrev pub received : Party → Standing → FrameKind → List ℕ → Result Message ExchangeFault
-received p s kind body = received_by (unfit s kind) (message_at p kind body)
+received p s kind body = option_map_or (λ fault. Err fault) (unfit s kind) (message_at p kind body)
 
 abbrev pub answered_to : Party → State → Content → Way → Result Message ExchangeFault → Turn
 answered_to p state R way (Ok m) = gone way R (records_in m) (turned p state R m)
@@ -192,24 +186,15 @@ answered_to p state R way (Err fault) = gone way R [] (failing R fault)
 abbrev pub answered : Party → Standing → Content → Way → FrameKind → List ℕ → Turn
 answered p s R way kind body = answered_to p s.state R way (received p s kind body)
 
-abbrev pub state_after : Result State ExchangeFault → State
-state_after (Ok state) = state
-state_after (Err fault) = Failed
-
-abbrev pub code_after : Option ℕ → Option ℕ → Option ℕ
-code_after old None = old
-code_after old (Some n) = Some n
-
 abbrev pub taken_after : Option ExchangeFault → ℕ → ℕ
 taken_after None n = n + 1
 taken_after (Some fault) n = n
 
 abbrev pub standing_after : Standing → FrameKind → Turn → Standing
-standing_after s kind turn = record { state = state_after turn.result; taken = taken_after (unfit s kind) s.taken; code = code_after s.code turn.code; started = s.started }
+standing_after s kind turn = record { state = result_unwrap_or turn.result Failed; taken = taken_after (unfit s kind) s.taken; code = option_or turn.code s.code; started = s.started }
 
 abbrev pub bytes_of : Option Message → List ℕ
-bytes_of None = []
-bytes_of (Some m) = frame_of m
+bytes_of message = option_map_or frame_of message []
 
 -- ---- the calls
 
@@ -309,5 +294,5 @@ pub record AnswersTo (old new : Store) (state : State) (received : Result Messag
 
 -- an end stands as what was answered says, and a fault is told
 abbrev pub Concludes : Standing → Standing → Result (State × Option ℕ) ExchangeFault → Result State ExchangeFault → List ℕ → List ℕ → Type 0
-Concludes before after (Ok done) result out written = (after ≡ record before { state = done.0; code = code_after before.code done.1 }) × (result ≡ Ok done.0) × (written ≡ out)
+Concludes before after (Ok done) result out written = (after ≡ record before { state = done.0; code = option_or done.1 before.code }) × (result ≡ Ok done.0) × (written ≡ out)
 Concludes before after (Err fault) result out written = (after ≡ record before { state = Failed }) × TellsFault fault result out written

@@ -1,5 +1,6 @@
 -- Frames between replicas: three letters and an F, the size with these eight bytes, and the body.
 use Rattle.std.specs.Prelude.{◌≡◌, ⊤, ℕ, ◌+◌, ◌^◌, ◌≤◌, ◌<◌, nat_lt, nat_le, ◌==◌, not, ◌||◌, ◌&&◌, Bool, true, false, List, [], ◌++◌, length, take, drop, codes, nat_eq, Option, None, Some, Result, Ok, Err, if◌then◌else◌}
+use Rattle.std.specs.Result.{result_map_both}
 use Rattle.std.specs.List.{starts_with, flat_map, AllByRecursion}
 use Rattle.std.specs.Int.{w32, from_le_bytes}
 use Rattle.std.specs.Str.{bytes_eq}
@@ -9,7 +10,6 @@ use Rattle.stamp.specs.Vector.{vector}
 use Rattle.ua_binary.specs.Format.{Format, byte, block, ◌▸◌, headed, standing_for, passing, fitting, raised, items, whole, ◌>>=◌}
 use Rattle.ua_binary.specs.Binary.{unsigned}
 use Rattle.records.specs.declared.record.Record.{Record}
-use Rattle.records.specs.declared.fault.RecordFault.{RecordFault}
 use Rattle.records.specs.Spelling.{record_form, record_at, IsRecord, IsLawfulRecord}
 use Rattle.exchange.specs.declared.fault.ExchangeFault.{ExchangeFault}
 use Rattle.exchange.specs.declared.fault.ExchangeFault.TheVariants.{Frame, WrongArchive, SelfPeer, PeerFormat}
@@ -59,13 +59,9 @@ count = passing (λ n. nat_le n most) Frame (ill (unsigned w32))
 abbrev pub sized : Format ExchangeFault (List ℕ)
 sized = headed length (ill (unsigned w32)) (λ n. ill (block n))
 
-abbrev pub record_or : Result Record RecordFault → Result Record ExchangeFault
-record_or (Ok r) = Ok r
-record_or (Err fault) = Err Frame
-
 -- all of the bytes are a record
 abbrev pub record_in : List ℕ → Result Record ExchangeFault
-record_in bytes = record_or (record_at bytes)
+record_in bytes = result_map_both (λ r. r) (λ fault. Frame) (record_at bytes)
 
 -- a record behind its length
 unfoldable pub framed : Format ExchangeFault Record

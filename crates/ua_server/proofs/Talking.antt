@@ -17,7 +17,7 @@ use Rattle.exchange.specs.Batches.{longest_frame}
 use Rattle.exchange.specs.Named.{Header, end_frame}
 use Rattle.exchange.specs.Frames.{cut, titled, kind_at, size_at, fresh, Held, Gives, next_of, after_next}
 use Rattle.exchange.specs.Streams.{Piece, header_of}
-use Rattle.exchange.specs.Dialogs.{Standing, most_frames, is_over, is_due, unfit, taken_after, Takes, TellsFault}
+use Rattle.exchange.specs.Dialogs.{Standing, is_over, is_due, unfit, taken_after, Takes, TellsFault}
 use Rattle.ua_server.specs.declared.outcome.ServeFault.{ServeFault}
 use Rattle.ua_server.specs.declared.outcome.ServeFault.TheVariants.{Read, Write, TooLong, OutOfMemory}
 use Rattle.ua_server.specs.declared.peers.Parted.{Parted}
@@ -126,9 +126,9 @@ few-if false due true e = absurd (cc)
 few-if false due false e = refl
 
 few-so : (s : Standing) (kind : FrameKind) → unfit s kind ≡ None → s.taken < 1000000
-few-so s kind e = ltb-so (few-if (is_over s.state) (is_due s.state kind) (nat_le most_frames s.taken) e)
+few-so s kind e = ltb-so (few-if (is_over s.state) (is_due s.state kind) (nat_le 1000000 s.taken) e)
   where
-    ltb-so : nat_le most_frames s.taken ≡ false → s.taken < 1000000
+    ltb-so : nat_le 1000000 s.taken ≡ false → s.taken < 1000000
     ltb-so e = grind (arith, e)
 
 pub leaves-some : (a b : Store) (before next : Standing) (held left : Held) (frame : Lent) (empty out : List ℕ) (result : Result State ExchangeFault) → held.failed ≡ false → Gives held (Ok (Some frame))
