@@ -139,7 +139,7 @@ module _ (a0 b0 a : Store) (there : List ℕ) where
             one = subst (IsBetween a0.content b0.content) (sym content) (between_first a0.content b0.content (meet.one.0 ha meet.one.1).lawful);
             other = between_first b0.content a0.content (meet.other.0 k meet.other.1).lawful;
             sent = subst (λ s. Rattle.exchange.proofs.DialogLemmas.Sent (party_of a0) a0.content b0.content a.content b0.content 1 s (message.Asks (title_by (party_of a0) a0.content))) (sym (ap (λ (s : Standing). s.state) e))
-                (ap (title_by (party_of a0)) (sym content), (omega (arith, ap length content), omega (arith, ap length content)));
+                (ap (title_by (party_of a0)) (sym content), (omega (arith, ap length content), omega (arith, ap length content), omega arith));
             serving = ap (λ (s : Standing). s.state) f;
             taken = ap (λ (s : Standing). s.taken) e;
             taken_other = ap (λ (s : Standing). s.taken) f;

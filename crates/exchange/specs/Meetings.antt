@@ -33,13 +33,13 @@ pub record IsBetween (own other left : Content) : Type 0 where
   pub above : IsWithin own left
   pub only : (r : Record) → Has left r → Has own r ⊎ Has other r
 
--- both hold the join of what they held, after two frames for each record that was added, and three more at most
+-- both hold the join of what they held, after three frames at least, and at most two for each record that was added and three more
 pub record AreJoined (R S R' S' : Content) (frames : ℕ) : Type 0 where
   pub one : R' ≡ join R S
   pub other : S' ≡ join R S
   pub added : ℕ
   pub more : length R' + length S' ≡ length R + length S + added
-  pub few : frames ≤ 2 * added + 3
+  pub few : (3 ≤ frames) × (frames ≤ 2 * added + 3)
 
 -- what may come in a frame's way: memory, or a store
 abbrev pub IsOfOutside : ExchangeFault → Type 0
