@@ -1,10 +1,12 @@
 -- What a frame says is what it was made of.
-use Rattle.std.proofs.Common.{◌≡◌, ℕ, suc, ◌+◌, ◌-◌, ◌<◌, ◌≤◌, ◌^◌, true, false, nat_le, nat_lt, List, [], ◌∷◌, ◌++◌, length, take, drop, Some, Result, Ok, Err, refl, ap, subst, arith}
+use Rattle.std.proofs.Common.{◌≡◌, ℕ, suc, ◌+◌, ◌-◌, ◌<◌, ◌≤◌, ◌^◌, true, false, nat_le, nat_lt, List, [], ◌∷◌, ◌++◌, length, take, drop, Some, Result, Ok, Err, refl, sym, ap, ◌∙◌, subst, arith, inl, inr}
 use Rattle.std.specs.Prelude.{◌&&◌, ◌==◌, not}
 use Rattle.std.specs.Result.{result_map_both}
 use Rattle.std.specs.List.{flat_map, AllByRecursion}
 use Rattle.std.specs.Int.{w32}
-use Rattle.std.proofs.lemmas.Bool.{le-ltb}
+use Rattle.std.specs.Str.{bytes_eq}
+use Rattle.std.proofs.lemmas.Bool.{le-ltb, true≢false, cases_Bool, eq-eqb}
+use Rattle.std.proofs.lemmas.Slice.Eq.{bytes_eq-Decides}
 use Rattle.std.proofs.lemmas.Bool.Decides.{nat_tests}
 use Rattle.ua_binary.proofs.Spelled.{whole_only}
 use Rattle.stamp.specs.Limits.{IsReplica}
@@ -20,7 +22,8 @@ use Rattle.records.specs.declared.record.Record.{Record}
 use Rattle.records.specs.declared.fault.RecordFault.{RecordFault}
 use Rattle.records.specs.Spelling.{record_form, IsRecord, IsLawfulRecord}
 use Rattle.records.proofs.Spelled.{record_lawful, record_found, record_only}
-use Rattle.exchange.specs.declared.fault.ExchangeFault.TheVariants.{Frame, PeerFormat}
+use Rattle.exchange.specs.declared.fault.ExchangeFault.{ExchangeFault}
+use Rattle.exchange.specs.declared.fault.ExchangeFault.TheVariants.{Frame, PeerFormat, WrongArchive, SelfPeer}
 use Rattle.exchange.specs.declared.message.FrameKind.{FrameKind}
 use Rattle.exchange.specs.declared.message.FrameKind.TheVariants.{Vector, Records, End}
 use Rattle.exchange.specs.declared.message.Party.{Party}
@@ -28,7 +31,7 @@ use Rattle.exchange.specs.declared.message.Title.{Title}
 use Rattle.exchange.specs.declared.message.Message.{Message}
 use Rattle.exchange.specs.declared.message.Message.TheVariants.{Asks, Carries, Ends}
 use Rattle.exchange.specs.Batches.{most, longest_frame, records_length, frame_length}
-use Rattle.exchange.specs.Frames.{record_in, title, title_of, title_fields, count, sized, framed, code, message_at, letters, kind_of, body_of, frame_of, cut, IsTitle, IsSpelled}
+use Rattle.exchange.specs.Frames.{record_in, title, title_of, title_fields, count, sized, framed, code, message_at, letters, kind_of, body_of, frame_of, cut, checked, IsTitle, IsSpelled}
 use Rattle.exchange.specs.Meetings.{checked_title}
 use Rattle.exchange.proofs.BatchLemmas.{vector_short}
 
@@ -112,6 +115,19 @@ read_own p (Carries t rs) is check =
     let rest : whole Frame (items (length rs) framed) (flat_map framed.canon rs) ≡ Ok rs = whole_only Frame (items_lawful (length rs) framed_lawful) _ rs ((items_lawful (length rs) framed_lawful).written rs (all_fit rs is.1, refl)) in
     rw (head, check, rest) refl
 read_own p (Ends n) is check = rw (whole_only Frame (raised_lawful (λ _. Frame) u32_lawful) (code.canon n) n (code_spelled n is)) refl
+
+-- who may not be met
+not_met : (q : Party) (t : Title) → ((t.id ≡ q.id) × (t.sender ≡ q.own → ⊥) → ⊥) → (f : ExchangeFault) × (checked q t ≡ Err f)
+not_met q t none = elim (cases_Bool (bytes_eq t.id q.id)) [
+  | inl same ↦ elim (cases_Bool (t.sender == q.own)) [
+    | inl own ↦ (SelfPeer, rw (same, own) refl)
+    | inr other ↦ absurd (none ((bytes_eq-Decides t.id q.id).0 same, λ e. true≢false (sym (eq-eqb _ _ e) ∙ other)))
+  ]
+  | inr other ↦ (WrongArchive, rw other refl)
+]
+
+pub read_other : (q : Party) (t : Title) → IsTitle t → ((t.id ≡ q.id) × (t.sender ≡ q.own → ⊥) → ⊥) → (f : ExchangeFault) × (message_at q (kind_of (Asks t)) (body_of (Asks t)) ≡ Err f)
+read_other q t is none = let judged = not_met q t none in (judged.0, rw (whole_only Frame title_lawful (title.canon t) t (title_fits t is), judged.1) refl)
 
 -- ---- how many bytes it takes
 

@@ -307,7 +307,7 @@ learnt_content : (p : Party) (state : State) (R : Content) (o : Option ExchangeF
 learnt_content p state R None = refl
 learnt_content p state R (Some fault) = refl
 
-unbroken_before : (a b : Store) (faults : List StoreFault) → Passes a b faults → b.broken ≡ false → a.broken ≡ false
+pub unbroken_before : (a b : Store) (faults : List StoreFault) → Passes a b faults → b.broken ≡ false → a.broken ≡ false
 unbroken_before a b faults passes u = go a.broken refl
   where
     go : (x : Bool) → a.broken ≡ x → a.broken ≡ false

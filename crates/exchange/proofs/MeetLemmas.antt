@@ -125,7 +125,7 @@ module _ (old new : Store) (before after : Standing) (m : Message) (out written 
 
 -- ---- handing over
 
-stays_none : (a : Store) → Stays a a
+pub stays_none : (a : Store) → Stays a a
 stays_none a = record { content = λ h u. refl; crash = λ h left m. m }
 
 abbrev pub IsNone : Result (Option Lent) ExchangeFault → Type 0

@@ -9,7 +9,7 @@ use Rattle.std.proofs.Math.Bool.{or-false}
 use Rattle.std.proofs.lemmas.Bool.{cases_Bool, ltb-true, ltb-false}
 use Rattle.records.specs.Contents.{Content, merged}
 use Rattle.archive.specs.declared.fault.LearnFault.TheVariants as refused
-use Rattle.archive.specs.Store.{Store, Rests}
+use Rattle.archive.specs.Store.{Store, Rests, IsLawfulContent, Stays}
 use Rattle.archive.proofs.Calls.{passes-none, passes-then}
 use Rattle.exchange.specs.declared.fault.ExchangeFault.{ExchangeFault}
 use Rattle.exchange.specs.declared.fault.ExchangeFault.TheVariants as exchange
@@ -21,14 +21,35 @@ use Rattle.exchange.specs.declared.message.State.TheVariants as state
 use Rattle.exchange.specs.declared.message.Party.{Party}
 use Rattle.exchange.specs.Fault.{store_fault_of, store_fault_told}
 use Rattle.exchange.specs.Batches.{IsOfAnswer}
-use Rattle.exchange.specs.Frames.{kind_of, body_of, frame_of, IsSpelled}
+use Rattle.exchange.specs.declared.message.Message.{Message}
+use Rattle.exchange.specs.declared.message.Title.{Title}
+use Rattle.exchange.specs.Frames.{kind_of, body_of, frame_of, IsTitle, IsSpelled}
+use Rattle.exchange.proofs.FrameLemmas.{read_other}
+use Rattle.exchange.proofs.HandleLemmas.{unbroken_before}
 use Rattle.exchange.specs.Dialogs.{title_by, Turn, failing, Way, Clear, Unread, Stopped, Starved, Met, IsWay, gone, Standing, unfit, received, answered, records_read, party_of, Writes, Takes, Greets}
 use Rattle.exchange.specs.Meetings.{IsBetween, AreJoined, CanMeet, IsOfOutside, IsOfMeeting, IsTold, Converses, Hands}
 use Rattle.exchange.proofs.DialogLemmas.{between_first}
-use Rattle.exchange.proofs.MeetLemmas.{no_ok, told_or}
-use Rattle.exchange.proofs.ConverseLemmas.{most_frames, IsParty, UnderWay, WayBack, AreOf, rests_hold, sent_few, sent_spelled, replied_spelled, finishes, falls, falls_between, goes_back, falls_back, falls_back_between, goes_on}
+use Rattle.exchange.proofs.MeetLemmas.{no_ok, told_or, stays_none}
+use Rattle.exchange.proofs.ConverseLemmas.{most_frames, title_spelled, due_serving, IsParty, UnderWay, WayBack, AreOf, rests_hold, sent_few, sent_spelled, replied_spelled, finishes, falls, falls_between, goes_back, falls_back, falls_back_between, goes_on}
 
 -- ---- so far
+
+-- they may meet
+abbrev pub MayMeet : Store → Store → Type 0
+MayMeet a b = (a.id ≡ b.id) × (a.own ≡ b.own → ⊥)
+
+-- the initiator's first frame waits for the responder, and both are as they were
+pub record IsFirst (a0 b0 a b : Store) (second : Standing) (there : List ℕ) : Type 0 where
+  pub one : Stays a0 a
+  pub other : Stays b0 b
+  pub rests : Rests b
+  pub title : Title
+  pub spelled : IsTitle title
+  pub id : title.id ≡ a0.id
+  pub own : title.sender ≡ a0.own
+  pub bytes : there ≡ frame_of (message.Asks title)
+  pub serving : second.state ≡ state.Serving
+  pub taken : second.taken < most_frames
 
 pub record Talk (a0 b0 a b : Store) (first second : Standing) (there : List ℕ) (n round : ℕ) : Type 0 where
   pub of : AreOf a0 b0 a b
@@ -36,6 +57,7 @@ pub record Talk (a0 b0 a b : Store) (first second : Standing) (there : List ℕ)
   pub started_other : second.started ≡ true
   pub count : n ≡ 2 * round + 1
   pub way : a.honest → b.honest → CanMeet a0 b0 → UnderWay a0 b0 a b first second there n round × (round ≤ most_frames)
+  pub alone : a.honest → b.honest → (MayMeet a0 b0 → ⊥) → IsFirst a0 b0 a b second there
 
 pub record TalkBack (a0 b0 a b : Store) (first second : Standing) (back : List ℕ) (n round : ℕ) : Type 0 where
   pub of : AreOf a0 b0 a b
@@ -43,6 +65,7 @@ pub record TalkBack (a0 b0 a b : Store) (first second : Standing) (back : List �
   pub started_other : second.started ≡ true
   pub count : n ≡ 2 * round + 2
   pub way : a.honest → b.honest → CanMeet a0 b0 → WayBack a0 b0 a b first second back n round × (round < most_frames)
+  pub apart : a.honest → b.honest → (MayMeet a0 b0 → ⊥) → ⊥
 
 of_meeting : (f : ExchangeFault) → IsOfOutside f → IsOfMeeting f
 of_meeting exchange.OutOfMemory is = tt
@@ -114,6 +137,7 @@ module _ (a0 b0 a : Store) (there : List ℕ) where
         other = λ left m. rests_hold b0.content a0.content b0 k meet.other.0 meet.other.1 (between_first b0.content a0.content (meet.other.0 k meet.other.1).lawful) left m;
       },
     );
+    refused = λ h k none. (greets.stays, stays_none b0);
     long = λ h k meet e. absurd (not_long fault (of_answer fault greets.kept.0) (err_is fault exchange.TooLong e));
     told = λ h k meet. all_told (store_fault_of fault);
     faults = option_to_list (store_fault_told {A = Unit {0}} (Err fault));
@@ -123,8 +147,8 @@ module _ (a0 b0 a : Store) (there : List ℕ) where
   }
 
   pub talk_starts : (first second : Standing) (u : Unit {0}) → Greets a0 a [] there (Ok u) → first ≡ record { state = state.Pulling; taken = 0; code = None; started = true }
-      → second ≡ record { state = state.Serving; taken = 0; code = None; started = true } → Rests a → Talk a0 b0 a b0 first second there 1 0
-  talk_starts first second u greets e f rests = record {
+      → second ≡ record { state = state.Serving; taken = 0; code = None; started = true } → Rests a → IsParty (party_of a0) → Rests b0 → Talk a0 b0 a b0 first second there 1 0
+  talk_starts first second u greets e f rests party rests_other = record {
     of = record { faults = []; passes = greets.passes; others = []; passes_other = passes-none b0 };
     started = ap (λ (s : Standing). s.started) e;
     started_other = ap (λ (s : Standing). s.started) f;
@@ -147,7 +171,28 @@ module _ (a0 b0 a : Store) (there : List ℕ) where
           },
           omega arith,
         );
+    alone = λ h k none. record {
+      one = greets.stays;
+      other = stays_none b0;
+      rests = rests_other;
+      title = title_by (party_of a0) a0.content;
+      spelled = title_spelled (party_of a0) a0.content party (lawful h);
+      id = refl;
+      own = refl;
+      bytes = greets.frame h;
+      serving = ap (λ (s : Standing). s.state) f;
+      taken = let none_taken : second.taken ≡ 0 = ap (λ (s : Standing). s.taken) f in omega (arith, none_taken);
+    };
   }
+    where
+      used : (x : Bool) → a0.broken ≡ x → a0.broken ≡ false
+      used true e = let failed = greets.ended e in absurd (cc)
+      used false e = e
+
+      lawful : a.honest → IsLawfulContent a0.content
+      lawful h =
+          let unbroken : a.broken ≡ false = greets.passes.broken ∙ (or-false a0.broken ∙ used a0.broken refl) in
+          subst IsLawfulContent (greets.stays.content h unbroken) (rests h unbroken).lawful
 
 -- ---- the responder's turn
 
@@ -157,10 +202,10 @@ ok_memory s e = cc
 fault_memory : (f : ExchangeFault) → ◌≡◌ {A = Result State ExchangeFault} (Err f) (Err exchange.OutOfMemory) → f ≡ exchange.OutOfMemory
 fault_memory f e = cc
 
--- the frame is one too many
-module _ (b c : Store) (before after : Standing) (kind : FrameKind) (body out written : List ℕ) (hc : c.honest) (full : received (party_of b) before kind body ≡ Err exchange.TooLong) where
+-- the frame isn't taken
+module _ (refusal : ExchangeFault) (b c : Store) (before after : Standing) (kind : FrameKind) (body out written : List ℕ) (hc : c.honest) (full : received (party_of b) before kind body ≡ Err refusal) where
   abbrev by_way : Way → Turn
-  by_way w = gone w b.content [] (failing b.content exchange.TooLong)
+  by_way w = gone w b.content [] (failing b.content refusal)
 
   told : (result : Result State ExchangeFault) (takes : Takes b c before after kind body out written result) → Writes (by_way takes.way) result out written
   told result takes = subst (λ t. Writes t result out written) (ap (Rattle.exchange.specs.Dialogs.answered_to (party_of b) before.state b.content takes.way) full) (takes.writes hc)
@@ -169,21 +214,21 @@ module _ (b c : Store) (before after : Standing) (kind : FrameKind) (body out wr
   full_fails s takes = go takes.way (told (Ok s) takes)
     where
       go : (w : Way) → Writes (by_way w) (Ok s) out written → ⊥
-      go Clear t = no_ok b.content exchange.TooLong s out written t
+      go Clear t = no_ok b.content refusal s out written t
       go Unread t = no_ok b.content exchange.OutOfMemory s out written t
       go (Stopped k f) t = no_ok (by_way (Stopped k f)).content (exchange.Learn k (refused.Store f)) s out written t
       go Starved t = no_ok b.content exchange.OutOfMemory s out written t
       go (Met f) t = no_ok b.content (exchange.Store f) s out written t
 
-  full_falls : (fault : ExchangeFault) (takes : Takes b c before after kind body out written (Err fault)) → IsOfMeeting fault × IsTold fault (option_to_list (fault_on takes.way))
-  full_falls fault takes = go takes.way (told (Err fault) takes)
+  full_falls : IsOfMeeting refusal × IsTold refusal [] → (fault : ExchangeFault) (takes : Takes b c before after kind body out written (Err fault)) → IsOfMeeting fault × IsTold fault (option_to_list (fault_on takes.way))
+  full_falls of fault takes = go takes.way (told (Err fault) takes)
     where
       either : (g : ExchangeFault) (faults : List StoreFault) → IsOfMeeting g × IsTold g faults → (fault ≡ g) ⊎ (fault ≡ exchange.OutOfMemory) → IsOfMeeting fault × IsTold fault faults
       either g faults is (inl e) = subst (λ x. IsOfMeeting x × IsTold x faults) (sym e) is
       either g faults is (inr e) = subst (λ x. IsOfMeeting x × IsTold x faults) (sym e) (tt, tt)
 
       go : (w : Way) → Writes (by_way w) (Err fault) out written → IsOfMeeting fault × IsTold fault (option_to_list (fault_on w))
-      go Clear t = either exchange.TooLong [] (tt, tt) (told_or b.content exchange.TooLong fault out written t)
+      go Clear t = either refusal [] of (told_or b.content refusal fault out written t)
       go Unread t = either exchange.OutOfMemory [] (tt, tt) (told_or b.content exchange.OutOfMemory fault out written t)
       go (Stopped k f) t = either (exchange.Learn k (refused.Store f)) (f ∷ []) (tt, inl refl) (told_or (by_way (Stopped k f)).content (exchange.Learn k (refused.Store f)) fault out written t)
       go Starved t = either exchange.OutOfMemory [] (tt, tt) (told_or b.content exchange.OutOfMemory fault out written t)
@@ -233,7 +278,7 @@ module _ (a0 b0 : Store) (party : IsParty (party_of a0)) (party_other : IsParty 
         | inl none ↦ absurd (ok_memory state.Done none.2)
         | inr pair ↦ elim (cases_Bool (nat_lt round most_frames)) [
           | inl t ↦ finishes a0 b0 meet (talk.of.passes.honest ha) (talk.of.passes_other.honest hb) party party_other a b c first second after there [] back n round talk.of way (ltb-true _ _ t) hc ha pair.0
-          | inr f ↦ absurd (full_fails b c second after (kind_of way.m) (body_of way.m) [] back hc (full_got (at_most _ f refl)) state.Done pair.0)
+          | inr f ↦ absurd (full_fails exchange.TooLong b c second after (kind_of way.m) (body_of way.m) [] back hc (full_got (at_most _ f refl)) state.Done pair.0)
         ]
       ]
 
@@ -242,7 +287,7 @@ module _ (a0 b0 : Store) (party : IsParty (party_of a0)) (party_other : IsParty 
         | inl none ↦ absurd (ok_memory s none.2)
         | inr pair ↦ elim (cases_Bool (nat_lt round most_frames)) [
           | inl t ↦ (goes_back a0 b0 meet (talk.of.passes.honest ha) (talk.of.passes_other.honest hb) party party_other a b c first second after there [] back n round talk.of way (ltb-true _ _ t) hc ha s goes rests pair.0, ltb-true _ _ t)
-          | inr f ↦ absurd (full_fails b c second after (kind_of way.m) (body_of way.m) [] back hc (full_got (at_most _ f refl)) s pair.0)
+          | inr f ↦ absurd (full_fails exchange.TooLong b c second after (kind_of way.m) (body_of way.m) [] back hc (full_got (at_most _ f refl)) s pair.0)
         ]
       ]
 
@@ -260,12 +305,12 @@ module _ (a0 b0 : Store) (party : IsParty (party_of a0)) (party_other : IsParty 
             subst (IsTold fault) (sym pair.1) (falls a0 b0 meet (talk.of.passes.honest ha) (talk.of.passes_other.honest hb) party party_other a b c first second after there [] back n round talk.of way (ltb-true _ _ t) hc ha fault pair.0).1,
           )
           | inr f ↦ (
-            (full_falls b c second after (kind_of way.m) (body_of way.m) [] back hc (full_got (at_most _ f refl)) fault pair.0).0,
-            λ left m. elim (full_holds b c second after (kind_of way.m) (body_of way.m) [] back hc (full_got (at_most _ f refl)) (Err fault) pair.0 left m) [
+            (full_falls exchange.TooLong b c second after (kind_of way.m) (body_of way.m) [] back hc (full_got (at_most _ f refl)) (tt, tt) fault pair.0).0,
+            λ left m. elim (full_holds exchange.TooLong b c second after (kind_of way.m) (body_of way.m) [] back hc (full_got (at_most _ f refl)) (Err fault) pair.0 left m) [
               | inl old ↦ rests_hold b0.content a0.content b hb way.used.1.0 way.used.1.1 way.other left old
               | inr q ↦ subst (IsBetween b0.content a0.content) (sym q.1) way.other
             ],
-            subst (IsTold fault) (sym pair.1) (full_falls b c second after (kind_of way.m) (body_of way.m) [] back hc (full_got (at_most _ f refl)) fault pair.0).1,
+            subst (IsTold fault) (sym pair.1) (full_falls exchange.TooLong b c second after (kind_of way.m) (body_of way.m) [] back hc (full_got (at_most _ f refl)) (tt, tt) fault pair.0).1,
           )
         ]
       ]
@@ -276,7 +321,7 @@ module _ (a0 b0 : Store) (party : IsParty (party_of a0)) (party_other : IsParty 
         | inr pair ↦ elim (cases_Bool (nat_lt round most_frames)) [
           | inl t ↦ absurd (not_long fault (falls a0 b0 meet (talk.of.passes.honest ha) (talk.of.passes_other.honest hb) party party_other a b c first second after there [] back n round talk.of way (ltb-true _ _ t) hc ha fault pair.0).0 e)
           | inr f ↦
-              let left = ap length (full_left b c second after (kind_of way.m) (body_of way.m) [] back hc (full_got (at_most _ f refl)) (Err fault) pair.0 u) in
+              let left = ap length (full_left exchange.TooLong b c second after (kind_of way.m) (body_of way.m) [] back hc (full_got (at_most _ f refl)) (Err fault) pair.0 u) in
               let few = sent_few (party_of a0) a0.content b0.content a.content b.content n first.state way.m way.sent in
               let full = at_most _ f refl in
               let count = talk.count in
@@ -287,11 +332,51 @@ module _ (a0 b0 : Store) (party : IsParty (party_of a0)) (party_other : IsParty 
           long_memory : exchange.TooLong ≡ exchange.OutOfMemory → ⊥
           long_memory e = cc
 
+    -- replicas that may not meet
+    module _ (ha : a.honest) (hb : b.honest) (hc : c.honest) (none : MayMeet a0 b0 → ⊥) where
+      first_frame : IsFirst a0 b0 a b second there
+      first_frame = talk.alone ha hb none
+
+      abbrev asked : Message
+      asked = message.Asks first_frame.title
+
+      turned_away : (f : ExchangeFault) × (received (party_of b) second (kind_of asked) (body_of asked) ≡ Err f)
+      turned_away =
+          let read = read_other (party_of b) first_frame.title first_frame.spelled (λ met. none (
+            sym first_frame.id ∙ (met.0 ∙ talk.of.passes_other.id),
+            λ e. met.1 (first_frame.own ∙ (e ∙ sym talk.of.passes_other.own)),
+          )) in (
+            read.0,
+            ap (λ (o : Option ExchangeFault). option_map_or (λ f. Err f) o (Rattle.exchange.specs.Frames.message_at (party_of b) (kind_of asked) (body_of asked))) (due_serving second (kind_of asked) first_frame.serving first_frame.taken) ∙ read.1,
+          )
+
+      no_answer : (s : State) → Hands b c second after there [] back (Ok s) → ⊥
+      no_answer s hands = elim (hands.takes asked first_frame.spelled first_frame.bytes) [
+        | inl none ↦ ok_memory s none.2
+        | inr pair ↦ full_fails turned_away.0 b c second after (kind_of asked) (body_of asked) [] back hc turned_away.1 s pair.0
+      ]
+
+      stays : (fault : ExchangeFault) → Hands b c second after there [] back (Err fault) → Stays b0 c
+      stays fault hands = elim (hands.takes asked first_frame.spelled first_frame.bytes) [
+        | inl none ↦ record {
+          content = λ h u. none.0.content h u ∙ first_frame.other.content hb (unbroken_before b c hands.faults hands.passes u);
+          crash = λ h left m. first_frame.other.crash hb left (none.0.crash h left m);
+        }
+        | inr pair ↦ record {
+          content = λ h u. full_left turned_away.0 b c second after (kind_of asked) (body_of asked) [] back hc turned_away.1 (Err fault) pair.0 u ∙ first_frame.other.content hb (unbroken_before b c hands.faults hands.passes u);
+          crash = λ h left m. elim (full_holds turned_away.0 b c second after (kind_of asked) (body_of asked) [] back hc turned_away.1 (Err fault) pair.0 left m) [
+            | inl old ↦ first_frame.other.crash hb left old
+            | inr q ↦ first_frame.other.crash hb left (subst b.may_hold (sym q.1) (first_frame.rests hb q.0).stays)
+          ];
+        }
+      ]
+
     pub talk_done : Hands b c second after there [] back (Ok state.Done) → Converses a0 b0 a c (Ok n)
     talk_done hands = record {
       joined = λ h k meet. done h (hands.passes.honest k) k meet hands;
       between = λ h k meet. tt;
       told = λ h k meet. tt;
+      refused = λ h k none. absurd (no_answer h (hands.passes.honest k) k none state.Done hands);
       long = λ h k meet e. absurd (not_err e);
       faults = talk.of.faults;
       passes = talk.of.passes;
@@ -310,6 +395,7 @@ module _ (a0 b0 : Store) (party : IsParty (party_of a0)) (party_other : IsParty 
           let w = way h (hands.passes.honest k) k meet in
           (is.0, record { one = λ left m. rests_hold a0.content b0.content a h w.used.0.0 w.used.0.1 w.one left m; other = is.1 });
       told = λ h k meet. more_told fault talk.of.faults (talk.of.others ++ hands.faults) (more_told fault talk.of.others hands.faults (failed h (hands.passes.honest k) k meet fault hands).2);
+      refused = λ h k none. ((first_frame h (hands.passes.honest k) k none).one, stays h (hands.passes.honest k) k none fault hands);
       long = λ h k meet e u v. long h (hands.passes.honest k) k meet fault hands (err_is fault exchange.TooLong e) v;
       faults = talk.of.faults;
       passes = talk.of.passes;
@@ -324,6 +410,7 @@ module _ (a0 b0 : Store) (party : IsParty (party_of a0)) (party_other : IsParty 
       started_other = hands.started ∙ talk.started_other;
       count = let e = talk.count in omega (arith, e);
       way = λ h k meet. ongoing h (hands.passes.honest k) k meet s goes rests hands;
+      apart = λ h k none. no_answer h (hands.passes.honest k) k none s hands;
     }
 
   module _ (a b c : Store) (first second after : Standing) (back there : List ℕ) (n round : ℕ) (talk : TalkBack a0 b0 a b first second back n round) where
@@ -366,6 +453,7 @@ module _ (a0 b0 : Store) (party : IsParty (party_of a0)) (party_other : IsParty 
           let w = way_back (hands.passes.honest h) k h meet in
           (of_meeting fault is.0, record { one = is.1; other = λ left m. rests_hold b0.content a0.content b k w.used.1.0 w.used.1.1 w.other left m });
       told = λ h k meet. less_told fault (talk.of.faults ++ hands.faults) talk.of.others (more_told fault talk.of.faults hands.faults (failed_back (hands.passes.honest h) k h meet fault hands).2);
+      refused = λ h k none. absurd (talk.apart (hands.passes.honest h) k none);
       long = λ h k meet e u v. absurd (not_long fault (failed_back (hands.passes.honest h) k h meet fault hands).0 (err_is fault exchange.TooLong e));
       faults = talk.of.faults ++ hands.faults;
       passes = passes-then a0 a c talk.of.faults hands.faults talk.of.passes hands.passes;
@@ -380,6 +468,7 @@ module _ (a0 b0 : Store) (party : IsParty (party_of a0)) (party_other : IsParty 
       started_other = talk.started_other;
       count = let e = talk.count in omega (arith, e);
       way = λ h k meet. ongoing_back (hands.passes.honest h) k h meet s rests hands;
+      alone = λ h k none. absurd (talk.apart (hands.passes.honest h) k none);
     }
 
 -- so many frames don't come
@@ -388,6 +477,7 @@ talk_ends a0 b0 a b first second there n round talk past = record {
   joined = λ h k meet. tt;
   between = λ h k meet. absurd (over h k meet);
   told = λ h k meet. tt;
+  refused = λ h k none. let first = talk.alone h k none in (first.one, first.other);
   long = λ h k meet e u v. absurd (over h k meet);
   faults = talk.of.faults;
   passes = talk.of.passes;
