@@ -1,7 +1,7 @@
 -- The bytes of a page of what is held can be counted.
 use Rattle.std.proofs.Common.{◌≡◌, ℕ, ◌+◌, ◌*◌, ◌≤◌, ◌==◌, ◌&&◌, not, min, ℤ, pos, Bool, true, false, cond, filter, reverse, List, [], ◌∷◌, map, length, Option, Some, None, IfSome, is_some, refl, sym, ap, ◌∙◌, subst, arith, inl, inr}
 use Rattle.std.specs.List.{flat_map, All}
-use Rattle.std.specs.Option.{option_or, unwrap_or}
+use Rattle.std.specs.Option.{option_or, option_map_or, unwrap_or}
 use Rattle.std.specs.Ordering.{int_eq}
 use Rattle.std.proofs.lemmas.List.{length-append, length-take, length-map}
 use Rattle.std.proofs.lemmas.List.Concat.{flat_map-cons}
@@ -52,7 +52,7 @@ use Rattle.hist_read.specs.declared.point.Position.{Position}
 use Rattle.hist_read.specs.declared.item.Item.{Item}
 use Rattle.hist_read.specs.declared.item.Item.TheVariants.{Value, Missing}
 use Rattle.hist_read.specs.Asking.{far_limit, origin_time, direction}
-use Rattle.hist_read.specs.Reads.{nearest_from, value_or_missing, near, open_bound, far_value, far_at, far, last_within, is_near_alone, near_part, limit_at, is_past_any, in_body, lives_in, body, body_part, values, far_part, last_time, time_before, before_far, raw, modified, place_at, page_size, page}
+use Rattle.hist_read.specs.Reads.{nearest_from, value_or_missing, near, open_bound, far_value, far, last_within, is_near_alone, near_part, limit_at, is_past_any, in_body, lives_in, body, body_part, values, far_part, last_time, time_before, before_far, raw, modified, place_at, page_size, page}
 use Rattle.hist_read.specs.Showing.{item_value, at_time, with_stamps, shown, shown_entry, info}
 use Rattle.hist_read.proofs.Nexts.{has_take, has_from_append, has_from_map}
 
@@ -120,7 +120,7 @@ module _ (R : Content) (node : NodeId) (lawful : IsLawfulContent R) where
         valued f true h e = outside_stored (last_within f) (direction q) h e
         valued f false h e = nearest_stored f (direction q) h e
 
-        go : (o : Option ℤ) → IsGood (far_at R node q before o)
+        go : (o : Option ℤ) → IsGood (option_map_or (λ f. value_or_missing f (far_value R node q f)) o (open_bound (direction q) before))
         go None = away (direction q)
         go (Some f) = bound_good f (far_value R node q f) (valued f (int_eq (origin_time q) f))
 

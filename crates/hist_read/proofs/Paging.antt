@@ -1,6 +1,6 @@
 -- What was found makes the page.
 use Rattle.std.proofs.Common.{◌≡◌, ℕ, ◌+◌, ◌≤◌, ◌<◌, nat_lt, nat_le, ℤ, Bool, true, false, cond, not, ◌&&◌, List, [], ◌∷◌, ◌++◌, take, drop, length, Option, Some, None, option_map, refl, sym, ap, ◌∙◌, arith, inl, inr}
-use Rattle.std.specs.Option.{option_to_list}
+use Rattle.std.specs.Option.{option_to_list, option_map_or}
 use Rattle.std.proofs.lemmas.Bool.{cases_Bool}
 use Rattle.std.proofs.lemmas.Bool.Decides.{nat_tests}
 use Rattle.std.proofs.lemmas.List.{take_all, take-map, take-take, take-append-le, take-append-drop, append_assoc, append-nil, length-append, length-take, length-map}
@@ -10,7 +10,7 @@ use Rattle.records.specs.Lists.{last}
 use Rattle.records.specs.declared.shown.Held.{Held}
 use Rattle.records.specs.declared.shown.Entry.{Entry}
 use Rattle.hist_read.specs.Asking.{has_both, direction, end_time}
-use Rattle.hist_read.specs.Reads.{near_part, body_part, far_part, far, far_at, value_or_missing, open_bound, values, last_time, time_before, before_far, raw, page_size, page, is_spent, goes_on, next_place, raw_position, modified, modified_position}
+use Rattle.hist_read.specs.Reads.{near_part, body_part, far_part, far, far_value, value_or_missing, open_bound, values, last_time, time_before, before_far, raw, page_size, page, is_spent, goes_on, next_place, raw_position, modified, modified_position}
 use Rattle.hist_read.specs.Pages.{IsFound, has_far, far_item, far_of, row_of}
 use Rattle.ua_services.specs.declared.history.ReadRawModifiedDetails.{ReadRawModifiedDetails as Details}
 use Rattle.hist_read.specs.declared.point.Position.{Position}
@@ -40,7 +40,7 @@ module _ (R : Content) (node : NodeId) (q : Details) (p : Option Position) (foun
   far_is : (before : ℤ) → has_far q ≡ true → far_item q found.far before ≡ far R node q before
   far_is before due = go (has_both q) refl
     where
-      go : (b : Bool) → has_both q ≡ b → cond b (value_or_missing (end_time q) found.far) (open_bound (direction q) before) ≡ far_at R node q before (cond b (Some (end_time q)) None)
+      go : (b : Bool) → has_both q ≡ b → cond b (value_or_missing (end_time q) found.far) (open_bound (direction q) before) ≡ option_map_or (λ f. value_or_missing f (far_value R node q f)) (cond b (Some (end_time q)) None) (open_bound (direction q) before)
       go true e = ap (value_or_missing (end_time q)) (is.far e due)
       go false e = refl
 

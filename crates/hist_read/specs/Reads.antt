@@ -84,13 +84,9 @@ open_bound Backward time = Missing (moment (int_max (negsuc 9223372036854775807)
 abbrev pub far_value : Content → NodeId → Details → ℤ → Option Held
 far_value R node q f = if int_eq (origin_time q) f then outside_of R node (last_within f) (direction q) else nearest_from R node (direction q) f
 
-abbrev pub far_at : Content → NodeId → Details → ℤ → Option ℤ → Item
-far_at R node q before None = open_bound (direction q) before
-far_at R node q before (Some f) = value_or_missing f (far_value R node q f)
-
 -- the far bound, behind an item of this time
 abbrev pub far : Content → NodeId → Details → ℤ → Item
-far R node q before = far_at R node q before (far_limit q)
+far R node q before = option_map_or (λ f. value_or_missing f (far_value R node q f)) (far_limit q) (open_bound (direction q) before)
 
 -- ---- raw values: what is still to come
 

@@ -1,5 +1,5 @@
 -- How values and modifications are shown (Part 4, 7.11; Part 11, HistoryData and HistoryModifiedData).
-use Rattle.std.specs.Prelude.{ℕ, ℤ, if◌then◌else◌, Option, Some, None, unwrap_or, bit_or}
+use Rattle.std.specs.Prelude.{ℤ, if◌then◌else◌, Option, Some, None, unwrap_or, bit_or}
 use Rattle.std.specs.Option.{option_map_or}
 use Rattle.ua_binary.specs.declared.codes.Status.{Status}
 use Rattle.ua_binary.specs.declared.codes.TheConstants.Status.{BAD_BOUND_NOT_FOUND}
