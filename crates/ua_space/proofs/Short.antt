@@ -1,6 +1,6 @@
 -- What is told of a space's nodes can be written.
 use Rattle.std.proofs.Common.{◌≡◌, ◌≤◌, ◌<◌, ◌+◌, ◌^◌, ℕ, Bool, true, false, ◌&&◌, List, [], ◌∷◌, ◌++◌, map, filter, length, None, Some, find, nat_lt, Ok, Err, refl, sym, ap, ◌∙◌, cond, subst, arith}
-use Rattle.std.specs.Prelude.{Option, Result, All, IfSome, IfOk, MatchResult, ◌==◌, if◌then◌else◌}
+use Rattle.std.specs.Prelude.{Option, Result, All, IfSome, IfOk, MatchResult, ◌==◌, codes, if◌then◌else◌}
 use Rattle.std.specs.Option.{option_map, option_to_list, unwrap_or, ok_or}
 use Rattle.std.specs.List.{AllByRecursion}
 use Rattle.std.proofs.lemmas.Bool.{ltb-false}
@@ -25,7 +25,7 @@ use Rattle.ua_space.specs.declared.fault.BuildFault.{BuildFault}
 use Rattle.ua_space.specs.declared.plan.VariablePlan.{VariablePlan}
 use Rattle.ua_space.specs.Plan.{HasShortPlan, HasPlannedId, folder_of, variable_of, layout_of, planned, is_too_large}
 use Rattle.ua_space.specs.Space.{Node, Root, Objects, NamespaceArray, State, OfFolder, OfVariable, FolderType, BaseDataVariableType, id_of, name_of, node_in, node_at, nodes, planned_nodes, standard_nodes, is_same_id, HasShortId, HasShortTexts, HasShortName, IsShortLayout, browse_name_of, display_name_of, has_folder_id}
-use Rattle.ua_space.specs.Attributes.{Table, common_attributes, own_attributes, attributes, entry_at, attribute_of, attribute_at, IsShortAnswered, standard_namespace}
+use Rattle.ua_space.specs.Attributes.{Table, common_attributes, own_attributes, attributes, entry_at, attribute_at, IsShortAnswered}
 use Rattle.ua_space.specs.References.{Link, objects_below, holds, children, type_definition, folder_node, parent, organizes, is_defined_by, references, is_followed, told, browsed, browse_at, is_reference_type, type_id, no_node, no_name, no_text, definition_id}
 
 -- its texts can be counted
@@ -125,8 +125,8 @@ owns_short space short Objects = (tt, tt)
 owns_short space short (OfFolder folder) = (tt, tt)
 owns_short space short NamespaceArray = ((omega arith, array_short), (tt, (tt, (tt, (tt, (tt, tt))))))
   where
-    array_short : All IsCounted (Some standard_namespace ∷ Some space.namespace ∷ [])
-    array_short = All-cons IsCounted (Some standard_namespace) (Some space.namespace ∷ []) (omega arith) (All-cons IsCounted (Some space.namespace) [] short.namespace (All-nil IsCounted))
+    array_short : All IsCounted (Some (codes "http://opcfoundation.org/UA/") ∷ Some space.namespace ∷ [])
+    array_short = All-cons IsCounted (Some (codes "http://opcfoundation.org/UA/")) (Some space.namespace ∷ []) (omega arith) (All-cons IsCounted (Some space.namespace) [] short.namespace (All-nil IsCounted))
 owns_short space short State = (tt, (tt, (tt, (tt, (tt, (tt, tt))))))
 owns_short space short (OfVariable variable) = (tt, (tt, (tt, (tt, (tt, (tt, tt))))))
 owns_short space short FolderType = tt

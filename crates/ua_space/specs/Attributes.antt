@@ -1,5 +1,6 @@
 -- The attributes of the nodes, as tables from an attribute's number (Part 6, A.1) to its value (Part 3, 5).
-use Rattle.std.specs.Prelude.{ℕ, pos, negsuc, Bool, true, false, ◌==◌, List, [], ◌∷◌, ◌++◌, codes, Option, None, Some, option_map, find, Result, Err, ok_or, if◌then◌else◌}
+use Rattle.std.specs.Prelude.{ℕ, pos, negsuc, Bool, true, false, ◌==◌, List, [], ◌∷◌, ◌++◌, codes, Option, Some, option_map, find, Result, ok_or, if◌then◌else◌}
+use Rattle.ua_binary.specs.Format.{◌>>=◌}
 use Rattle.ua_binary.specs.declared.values.NodeId.{NodeId}
 use Rattle.ua_binary.specs.declared.values.NodeId.TheVariants.{Numeric}
 use Rattle.ua_variant.specs.declared.value.Scalar.{Scalar}
@@ -29,41 +30,25 @@ common_attributes node = (1, one (scalar.NodeId (id_of node))) ∷ (2, one (scal
 abbrev pub object_attributes : Table
 object_attributes = (12, one (scalar.Byte 0)) ∷ []
 
--- The level of access (8.57): bit 0 is CurrentRead, bit 2 HistoryRead, bit 3 HistoryWrite.
-abbrev pub read_only : ℕ
-read_only = 1
-
-abbrev pub read_and_history : ℕ
-read_and_history = 13
-
 -- of a variable (5.6) beside its Value: DataType, ValueRank, AccessLevel, UserAccessLevel, Historizing
+-- The level of access (8.57): bit 0 is CurrentRead, bit 2 HistoryRead, bit 3 HistoryWrite.
 abbrev pub variable_attributes : ℕ → Bool → ℕ → Bool → Table
 variable_attributes data_type is_array access historizing =
     (14, one (scalar.NodeId (Numeric 0 data_type))) ∷ (15, one (scalar.Int32 (if is_array then pos 1 else negsuc 0)))
     ∷ (17, one (scalar.Byte access)) ∷ (18, one (scalar.Byte access)) ∷ (20, one (scalar.Boolean historizing)) ∷ []
 
 -- the URIs of namespaces 0 and 1
-abbrev pub standard_namespace : List ℕ
-standard_namespace = codes "http://opcfoundation.org/UA/"
-
 abbrev pub namespace_array : Layout → Answered
-namespace_array space = Value (variant.Array (array.String (Some standard_namespace ∷ Some space.namespace ∷ [])))
+namespace_array space = Value (variant.Array (array.String (Some (codes "http://opcfoundation.org/UA/") ∷ Some space.namespace ∷ [])))
 
--- The numbers of the data types String and ServerState; the state is 0, Running.
-abbrev pub string_type : ℕ
-string_type = 12
-
-abbrev pub server_state_type : ℕ
-server_state_type = 852
-
--- what a node of its class has besides
+-- What a node of its class has besides. The data types 12 and 852 are String and ServerState; the state is 0, Running. The level 1 is read alone, 13 read, history and its changes.
 abbrev pub own_attributes : Layout → Node → Table
 own_attributes space Root = object_attributes
 own_attributes space Objects = object_attributes
 own_attributes space (OfFolder folder) = object_attributes
-own_attributes space NamespaceArray = (13, namespace_array space) ∷ variable_attributes string_type true read_only false
-own_attributes space State = (13, one (scalar.Int32 (pos 0))) ∷ variable_attributes server_state_type false read_only false
-own_attributes space (OfVariable variable) = (13, Archived) ∷ variable_attributes variable.value_type.number variable.value_type.array read_and_history true
+own_attributes space NamespaceArray = (13, namespace_array space) ∷ variable_attributes 12 true 1 false
+own_attributes space State = (13, one (scalar.Int32 (pos 0))) ∷ variable_attributes 852 false 1 false
+own_attributes space (OfVariable variable) = (13, Archived) ∷ variable_attributes variable.value_type.number variable.value_type.array 13 true
 own_attributes space FolderType = []
 own_attributes space BaseDataVariableType = []
 
@@ -74,13 +59,9 @@ attributes space node = common_attributes node ++ own_attributes space node
 abbrev pub entry_at : ℕ → Table → Option Answered
 entry_at number table = option_map (λ entry. entry.1) (find (λ entry. entry.0 == number) table)
 
--- an attribute of a node that was looked for
-abbrev pub attribute_of : Layout → ℕ → Option Node → Result Answered Status
-attribute_of space number None = Err BAD_NODE_ID_UNKNOWN
-attribute_of space number (Some node) = ok_or (entry_at number (attributes space node)) BAD_ATTRIBUTE_ID_INVALID
-
+-- an attribute of the node of an id
 abbrev pub attribute_at : Layout → NodeId → ℕ → Result Answered Status
-attribute_at space id number = attribute_of space number (node_at space id)
+attribute_at space id number = ok_or (node_at space id) BAD_NODE_ID_UNKNOWN >>= λ node. ok_or (entry_at number (attributes space node)) BAD_ATTRIBUTE_ID_INVALID
 
 -- it can be written
 abbrev pub IsShortAnswered : Answered → Type 0

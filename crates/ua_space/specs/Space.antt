@@ -51,35 +51,25 @@ nodes space = standard_nodes ++ planned_nodes space
 
 -- ---- attributes that each node has (Part 3, 5.2)
 
+-- the id of each, its class and its name
+abbrev pub facts : Node → NodeId × (NodeClass × List ℕ)
+facts Root = (Numeric 0 84, (class.Object, codes "Root"))
+facts Objects = (Numeric 0 85, (class.Object, codes "Objects"))
+facts NamespaceArray = (Numeric 0 2255, (class.Variable, codes "NamespaceArray"))
+facts State = (Numeric 0 2259, (class.Variable, codes "State"))
+facts (OfFolder folder) = (Named 1 folder.id, (class.Object, folder.name))
+facts (OfVariable variable) = (Named 1 variable.id, (class.Variable, variable.name))
+facts FolderType = (Numeric 0 61, (class.ObjectType, codes "FolderType"))
+facts BaseDataVariableType = (Numeric 0 63, (class.VariableType, codes "BaseDataVariableType"))
+
 abbrev pub id_of : Node → NodeId
-id_of Root = Numeric 0 84
-id_of Objects = Numeric 0 85
-id_of NamespaceArray = Numeric 0 2255
-id_of State = Numeric 0 2259
-id_of (OfFolder folder) = Named 1 folder.id
-id_of (OfVariable variable) = Named 1 variable.id
-id_of FolderType = Numeric 0 61
-id_of BaseDataVariableType = Numeric 0 63
+id_of node = (facts node).0
 
 abbrev pub class_of : Node → NodeClass
-class_of Root = class.Object
-class_of Objects = class.Object
-class_of NamespaceArray = class.Variable
-class_of State = class.Variable
-class_of (OfFolder folder) = class.Object
-class_of (OfVariable variable) = class.Variable
-class_of FolderType = class.ObjectType
-class_of BaseDataVariableType = class.VariableType
+class_of node = (facts node).1.0
 
 abbrev pub name_of : Node → List ℕ
-name_of Root = codes "Root"
-name_of Objects = codes "Objects"
-name_of NamespaceArray = codes "NamespaceArray"
-name_of State = codes "State"
-name_of (OfFolder folder) = folder.name
-name_of (OfVariable variable) = variable.name
-name_of FolderType = codes "FolderType"
-name_of BaseDataVariableType = codes "BaseDataVariableType"
+name_of node = (facts node).1.1
 
 -- folders and variables are in the plan's namespace, the others in that of the standard
 abbrev pub namespace_of : Node → ℕ

@@ -86,11 +86,11 @@ const STATE: VariableClass = VariableClass {
 
 impl VariableClass {
     ghost use Rattle.std.specs.Prelude.{true, ok_or};
-    ghost use Rattle.ua_space.specs.Attributes.{entry_at, variable_attributes, read_and_history};
+    ghost use Rattle.ua_space.specs.Attributes.{entry_at, variable_attributes};
 
     /// A variable of the plan.
     fn archived(value_type: ValueType) -> VariableClass
-        ensures { result ≡ record { data_type = value_type.number; is_array = value_type.array; access = read_and_history; historizing = true } }
+        ensures { result ≡ record { data_type = value_type.number; is_array = value_type.array; access = 13; historizing = true } }
     {
         VariableClass {
             data_type: u32::from(value_type.number),
