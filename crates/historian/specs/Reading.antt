@@ -71,10 +71,6 @@ value_rules range encoding = (is_whole range, BAD_INDEX_RANGE_INVALID) ∷ (is_d
 
 -- ---- Read
 
--- the most items of a Read
-abbrev pub most_read : ℕ
-most_read = 1000
-
 -- a value that no archive keeps: as the attribute Value, which is 13, it is of the moment of the read, and else it has no moment of its own
 abbrev pub valued : Ticks → ℕ → Variant → DataValue
 valued now attribute value = record empty { value = Some value; source_time = if attribute == 13 then Some now else None }
@@ -130,14 +126,11 @@ abbrev pub read_by : Layout → Ticks → Option TimestampsToReturn → List Rea
 read_by space now None nodes R = give (Err BAD_TIMESTAMPS_TO_RETURN_INVALID, R)
 read_by space now (Some stamps) nodes R = items Values (read_item space now stamps) nodes R
 
+-- 1,000 items at most
 abbrev pub read : Layout → Ticks → ReadAsked → Content → Served
-read space now asked R = unless (list_refusal most_read (length asked.1)) R (read_by space now asked.0 asked.1 R)
+read space now asked R = unless (list_refusal 1000 (length asked.1)) R (read_by space now asked.0 asked.1 R)
 
 -- ---- HistoryRead
-
--- the most nodes of a HistoryRead
-abbrev pub most_histories : ℕ
-most_histories = 100
 
 -- of a node that is archived; then as of other values
 abbrev pub history_rules : Layout → HistoryReadFields → List (Bool × Status)
@@ -176,6 +169,7 @@ abbrev pub histories_by : List ℕ → Layout → Bool → List HistoryReadField
 histories_by id space release nodes R (Err status) = give (Err status, R)
 histories_by id space release nodes R (Ok query) = items Histories (read_history_of id space query release) nodes R
 
+-- 100 nodes at most
 abbrev pub read_history : List ℕ → Layout → HistoryAsked → Content → Served
 read_history id space asked R =
-    unless (list_refusal most_histories (length asked.1.1.1)) R (histories_by id space asked.1.1.0 asked.1.1.1 R (query_of asked.0 asked.1.0))
+    unless (list_refusal 100 (length asked.1.1.1)) R (histories_by id space asked.1.1.0 asked.1.1.1 R (query_of asked.0 asked.1.0))

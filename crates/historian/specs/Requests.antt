@@ -1,13 +1,15 @@
 -- What a message asks (Part 4, 7.33): the type id of a request, its header, and what the service of that type is asked.
 use Rattle.std.specs.Prelude.{ℕ, ◌==◌, List, [], ◌∷◌, Option, Some, None, Result, Ok, Err, if◌then◌else◌}
+use Rattle.std.specs.Option.{ok_or}
+use Rattle.std.specs.Result.{result_unwrap_or}
 use Rattle.ua_binary.specs.declared.fault.BinaryFault.{BinaryFault}
 use Rattle.ua_binary.specs.declared.codes.Status.{Status}
 use Rattle.ua_binary.specs.declared.codes.TheConstants.Status.{BAD_DECODING_ERROR, BAD_SERVICE_UNSUPPORTED}
 use Rattle.ua_binary.specs.declared.values.NodeId.{NodeId}
 use Rattle.ua_binary.specs.declared.values.NodeId.TheVariants.{Numeric}
-use Rattle.ua_binary.specs.Format.{Format, Reading}
+use Rattle.ua_binary.specs.Format.{Reading, with_fault, ◌>>=◌}
 use Rattle.ua_binary.specs.Binary.{node_id}
-use Rattle.ua_channel.specs.Headers.{RequestFields, request_header}
+use Rattle.ua_channel.specs.Headers.{request_header}
 use Rattle.ua_session.specs.Users.{Claim}
 use Rattle.ua_services.specs.Endpoints.{get_endpoints_request}
 use Rattle.ua_services.specs.Sessions.{create_session_request, activate_session_request, close_session_request}
@@ -73,32 +75,18 @@ nothing_left (byte ∷ rest) = Err BAD_DECODING_ERROR
 abbrev pub Request : Type 0
 Request = NodeId × Option Call
 
--- behind the type id
-abbrev pub request_of : Service → Reading BinaryFault RequestFields → Result Request Status
-request_of service (Ok (header, bytes)) = Ok (header.0, call_in service bytes)
-request_of service (Err fault) = Err BAD_DECODING_ERROR
+-- what was read, each fault told as this code
+abbrev pub decoded : {A : Type 0} → Reading BinaryFault A → Reading Status A
+decoded = with_fault (λ _. BAD_DECODING_ERROR)
 
-abbrev pub request_for : Option Service → List ℕ → Result Request Status
-request_for None bytes = Err BAD_SERVICE_UNSUPPORTED
-request_for (Some service) bytes = request_of service (request_header.read bytes)
-
-abbrev pub request_behind : Reading BinaryFault NodeId → Result Request Status
-request_behind (Ok (id, bytes)) = request_for (service_of id) bytes
-request_behind (Err fault) = Err BAD_DECODING_ERROR
-
--- the request that a message is, or why it is none
+-- the request that a message is, or why it is none: its type id, the service of that, its header, and what it asks
 abbrev pub request_in : List ℕ → Result Request Status
-request_in message = request_behind (node_id.read message)
+request_in message =
+    decoded (node_id.read message) >>= λ id.
+    ok_or (service_of id.0) BAD_SERVICE_UNSUPPORTED >>= λ service.
+    decoded (request_header.read id.1) >>= λ header.
+    Ok (header.0.0, call_in service header.1)
 
--- the handle of a request's header, 0 where that can't be read
-abbrev pub handle_in : Reading BinaryFault RequestFields → ℕ
-handle_in (Ok header) = header.0.1.1.0
-handle_in (Err fault) = 0
-
-abbrev pub handle_behind : Reading BinaryFault NodeId → ℕ
-handle_behind (Ok (id, bytes)) = handle_in (request_header.read bytes)
-handle_behind (Err fault) = 0
-
--- the handle that the answer to a message repeats
+-- the handle that the answer to a message repeats: that of its header, 0 where that can't be read
 abbrev pub handle_of : List ℕ → ℕ
-handle_of message = handle_behind (node_id.read message)
+handle_of message = result_unwrap_or (node_id.read message >>= λ id. request_header.read id.1 >>= λ header. Ok header.0.1.1.0) 0

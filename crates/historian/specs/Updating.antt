@@ -1,5 +1,7 @@
 -- HistoryUpdate (Part 4, 5.11.5; Part 11, 6.8).
 use Rattle.std.specs.Prelude.{ℕ, List, length, Option, Some, None, is_some, Result, Ok, Err}
+use Rattle.std.specs.Option.{ok_or}
+use Rattle.ua_binary.specs.Format.{◌>>=◌}
 use Rattle.ua_binary.specs.declared.codes.Status.{Status}
 use Rattle.ua_binary.specs.declared.codes.TheConstants.Status.{BAD_NODE_ID_UNKNOWN, BAD_HISTORY_OPERATION_UNSUPPORTED}
 use Rattle.ua_binary.specs.declared.values.NodeId.{NodeId}
@@ -8,7 +10,7 @@ use Rattle.ua_variant.specs.declared.value.ValueType.{ValueType}
 use Rattle.ua_services.specs.Updates.{Details, UpdateData, DeleteRawModified, DeleteAtTime, Other}
 use Rattle.ua_services.specs.declared.updates.HistoryUpdateResult.{HistoryUpdateResult}
 use Rattle.ua_space.specs.declared.layout.Layout.{Layout}
-use Rattle.ua_space.specs.Space.{Node, node_at, type_of_node}
+use Rattle.ua_space.specs.Space.{node_at, type_of_node}
 use Rattle.records.specs.Contents.{Content}
 use Rattle.archive.specs.Steps.{Marked, give, memory, and_then}
 use Rattle.hist_update.specs.declared.request.Request.{Request}
@@ -17,10 +19,6 @@ use Rattle.historian.specs.Answers.{Updated as AllUpdated}
 use Rattle.hist_update.specs.Codes.{list_refusal}
 use Rattle.historian.specs.Reading.{Served, unless, items}
 
--- the most details of a HistoryUpdate
-abbrev pub most_updates : ℕ
-most_updates = 100
-
 -- the node of which details ask an update; none for details of another type
 abbrev pub node_asked : Details → Option NodeId
 node_asked (UpdateData d) = Some d.0
@@ -28,18 +26,12 @@ node_asked (DeleteRawModified d) = Some d.0
 node_asked (DeleteAtTime d) = Some d.0
 node_asked Other = None
 
-abbrev pub archived : Option ValueType → Result ValueType Status
-archived None = Err BAD_HISTORY_OPERATION_UNSUPPORTED
-archived (Some type) = Ok type
-
-abbrev pub found : Option Node → Result ValueType Status
-found None = Err BAD_NODE_ID_UNKNOWN
-found (Some node) = archived (type_of_node (Some node))
-
 -- the type of the archived variable of which they ask it, or why it is refused
 abbrev pub type_asked : Layout → Option NodeId → Result ValueType Status
-type_asked space None = Err BAD_HISTORY_OPERATION_UNSUPPORTED
-type_asked space (Some id) = found (node_at space id)
+type_asked space asked =
+    ok_or asked BAD_HISTORY_OPERATION_UNSUPPORTED >>= λ id.
+    ok_or (node_at space id) BAD_NODE_ID_UNKNOWN >>= λ node.
+    ok_or (type_of_node (Some node)) BAD_HISTORY_OPERATION_UNSUPPORTED
 
 -- the update of a variable of this type
 abbrev pub update_of : ℕ → (NodeId → Request) → ValueType → Details → Content → Marked Updated
@@ -64,5 +56,6 @@ asked_for user now node = record { node = node; user = user; reading = now.0 }
 abbrev pub update_item : ℕ → Layout → List ℕ → Ticks → Details → Content → Marked Updated
 update_item own space user now details R = update_by own (asked_for user now) details R (type_asked space (node_asked details))
 
+-- 100 details at most
 abbrev pub update_history : ℕ → Layout → List ℕ → Ticks → List Details → Content → Served
-update_history own space user now details R = unless (list_refusal most_updates (length details)) R (items AllUpdated (update_item own space user now) details R)
+update_history own space user now details R = unless (list_refusal 100 (length details)) R (items AllUpdated (update_item own space user now) details R)

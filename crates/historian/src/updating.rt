@@ -1,17 +1,16 @@
 //! HistoryUpdate (Part 4, 5.11.5).
 
-ghost use Rattle.std.specs.Prelude.{◌≡◌, ◌≤◌, ◌∷◌, [], List, map, length, All, IfOk, option_map, vec_capacity};
+ghost use Rattle.std.specs.Prelude.{◌≡◌, ◌≤◌, ◌∷◌, [], List, map, length, All, IfOk, Some, option_map, vec_capacity};
 ghost use Rattle.std.specs.List.{AllByRecursion};
 ghost use Rattle.ua_binary.specs.Binary.{node_of};
 ghost use Rattle.ua_session.specs.Users.{IsUserName};
 ghost use Rattle.ua_services.specs.Updates.{details_of, HasShortValues, IsShortUpdate};
-ghost use Rattle.ua_space.specs.Space.{node_at};
 ghost use Rattle.archive.specs.Store.{Mark};
 ghost use Rattle.archive.specs.Steps.{Acts, each};
 ghost use Rattle.hist_update.specs.Outcome.{IsRequest, id_length};
 ghost use Rattle.hist_update.specs.Updates.{refused};
 ghost use Rattle.historian.specs.declared.service.Service.TheVariants as service;
-ghost use Rattle.historian.specs.Updating.{node_asked, found, update_of, asked_for, update_item, update_history};
+ghost use Rattle.historian.specs.Updating.{node_asked, type_asked, update_of, asked_for, update_item, update_history};
 ghost use Rattle.historian.specs.Requests.{call_in};
 ghost use Rattle.historian.specs.Services.{site_of, answered_call};
 ghost use Rattle.historian.specs.Telling.{IsShort, Comes, Performs};
@@ -57,7 +56,7 @@ fn node_asked<'a>(details: &HistoryUpdateDetails<'a>) -> Option<NodeIdRef<'a>>
 
 /// The type of an archived variable. Its id has at most 256 bytes.
 fn type_of(space: &Space, node: NodeIdRef<'_>) -> Result<ValueType, Status>
-    ensures told { result ≡ found (node_at space.now (node_of node.entry)) }
+    ensures told { result ≡ type_asked space.now (Some (node_of node.entry)) }
     ensures short { IfOk result (λ _. id_length (node_of node.entry) ≤ 256) }
 {
     match space.variable(node) {
