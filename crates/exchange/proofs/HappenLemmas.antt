@@ -1,11 +1,9 @@
 -- One event in a world of archives, and one after the other.
-use Rattle.std.proofs.Common.{◌≡◌, ℕ, zero, suc, ◌+◌, ◌<◌, ◌≤◌, List, [], ◌∷◌, ◌++◌, map, take, length, get_or, Option, Some, None, option_map, Result, Ok, Err, refl, sym, ap, ◌∙◌, subst, arith, inl, inr, option_to_list}
-use Rattle.std.specs.Prelude.{slice_get, slice_set, IfOk, IfErr}
-use Rattle.std.specs.List.{AllByRecursion}
+use Rattle.std.proofs.Common.{◌≡◌, ℕ, zero, suc, ◌+◌, ◌<◌, ◌≤◌, List, [], ◌∷◌, map, take, length, get_or, Option, Some, None, option_map, Result, Ok, Err, refl, sym, ap, ◌∙◌, subst, arith, option_to_list}
+use Rattle.std.specs.Prelude.{slice_get, slice_set}
 use Rattle.std.specs.Option.{option_map_or}
 use Rattle.std.proofs.lemmas.Option.{none-some, same_Some, slice_get-get_or, slice_get-map, slice_get_past}
 use Rattle.records.specs.Contents.{Content, merged}
-use Rattle.records.specs.Records.{missing}
 use Rattle.records.specs.declared.record.Record.{Record}
 use Rattle.archive.specs.declared.fault.StoreFault.{StoreFault}
 use Rattle.archive.specs.Store.{Store, Passes, Asks, HasContent}
@@ -14,9 +12,8 @@ use Rattle.archive.proofs.Acting.{holds-stays}
 use Rattle.hist_update.specs.declared.request.Request.{Request}
 use Rattle.hist_update.specs.Outcome.{Operation, outcome, after}
 use Rattle.exchange.specs.declared.world.Halted.{Halted}
-use Rattle.exchange.specs.declared.replica.Batch.{Batch}
-use Rattle.exchange.specs.Worlds.{Site, World, Event, Operates, Sends, Delivers, Restarts, step, run, updated, operated, sent, delivered}
-use Rattle.exchange.specs.Running.{IsSiteOf, world_of, Halts, AreSites, AreHonest, StopsIn, Happens, Turns, IsSame, HasFirst, Puts, Gives, came_in, HasSome, place_of, turned, pooled, IsHalf, TurnsBy}
+use Rattle.exchange.specs.Worlds.{Site, World, Event, Operates, Sends, Delivers, Restarts, step, run, operated, sent, delivered}
+use Rattle.exchange.specs.Running.{IsSiteOf, world_of, Halts, AreSites, AreHonest, StopsIn, Happens, Turns, IsSame, HasFirst, Gives, came_in, HasSome, place_of, turned, pooled, IsHalf, TurnsBy}
 use Rattle.exchange.proofs.WorldLemmas.{next_world}
 
 -- ---- what was sent

@@ -1,4 +1,4 @@
-use Rattle.std.proofs.Common.{map, get_or, take, Some, arith, refl, ap, sym, ◌∙◌}
+use Rattle.std.proofs.Common.{map, get_or, Some, arith, refl, ap, sym, ◌∙◌}
 use Rattle.exchange.proofs.HappenLemmas.{came_some, came_none, next_mapped, past_mapped}
 use Rattle.exchange.proofs.world.deliver_from.Goals as goal
 
