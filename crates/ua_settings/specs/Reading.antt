@@ -1,6 +1,5 @@
 -- What settings a file gives.
-use Rattle.std.specs.Prelude.{◌≡◌, ◌⊎◌, ℕ, ℤ, pos, Bool, false, List, [], map, codes, Option, None, Some, option_and_then, option_copied, unwrap_or, Result, Err}
-use Rattle.std.specs.Result.{result_map_both}
+use Rattle.std.specs.Prelude.{◌≡◌, ◌⊎◌, ℕ, ℤ, pos, negsuc, Bool, false, List, [], map, codes, Option, None, Some, option_and_then, option_copied, unwrap_or, Result, Ok, Err}
 use Rattle.toml.specs.Data.{Members, no_members, get_member, as_str, as_integer, as_bool, as_table}
 use Rattle.uuid.specs.Text.{parsed}
 use Rattle.ua_session.specs.Users.{Allowed}
@@ -30,7 +29,8 @@ truth_at key members = unwrap_or (option_and_then as_bool (get_member key member
 
 abbrev pub natural : Option ℤ → ℕ
 natural (Some (pos n)) = n
-natural _ = 0
+natural (Some (negsuc n)) = 0
+natural None = 0
 
 abbrev pub number_at : List ℕ → Members → ℕ
 number_at key members = natural (option_and_then as_integer (get_member key members))
@@ -86,7 +86,8 @@ space_fault build.OutOfMemory = OutOfMemory
 space_fault fault = Space fault
 
 abbrev pub space_of : Result Layout BuildFault → Result Layout SettingsFault
-space_of = result_map_both (λ space. space) space_fault
+space_of (Ok space) = Ok space
+space_of (Err fault) = Err (space_fault fault)
 
 -- the space of a plan of a document, or why there is none
 abbrev pub IsSpaceOf : Members → Result Layout SettingsFault → Type 0
@@ -103,7 +104,8 @@ fault_of Missing = MissingKey
 fault_of Bad = BadValue
 
 abbrev pub with_space : Members → Result Layout SettingsFault → Result Values SettingsFault
-with_space document = result_map_both (values_in document) (λ fault. fault)
+with_space document (Ok space) = Ok (values_in document space)
+with_space document (Err fault) = Err fault
 
 -- where nothing is wrong, the settings with the space of the document's plan
 abbrev pub IsAccepted : Members → Option (Wrong × Spot) → Result Values SettingsFault → Type 0
