@@ -21,6 +21,3 @@ pub use list_archive::ListArchive;
 pub use reading::{Direction, LogPlace};
 pub use scripted::{Failure, ScriptedArchive};
 pub use setback::Setback;
-
-#[cfg(test)]
-mod tests;

@@ -21,6 +21,3 @@ pub use node::{is_short_value, read_node};
 pub use point::{Phase, Place, Position, put_continuation, read_continuation};
 pub use query::Query;
 pub use showing::with_stamps;
-
-#[cfg(test)]
-mod tests;

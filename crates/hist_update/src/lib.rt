@@ -13,6 +13,3 @@ pub use laws::{
 };
 pub use request::Request;
 pub use update::{delete_at, delete_raw, update_data};
-
-#[cfg(test)]
-mod tests;

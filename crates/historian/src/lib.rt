@@ -17,6 +17,3 @@ mod updating;
 pub use message::answer_message;
 pub use responses::put_service_fault;
 pub use service::Message;
-
-#[cfg(test)]
-mod tests;

@@ -24,8 +24,3 @@ mod writes;
 pub use files::FileArchive;
 pub use laws::memory_is_honest;
 pub use store::SqlArchive;
-
-#[cfg(test)]
-mod file_tests;
-#[cfg(test)]
-mod tests;

@@ -14,6 +14,3 @@ pub use laws::{
 };
 pub use stamps::{GREATEST_TICK, ReplicaNo, Stamp, lift};
 pub use vectors::{GREATEST_NUMBER, Vector};
-
-#[cfg(test)]
-mod tests;

@@ -22,6 +22,3 @@ pub use laws::{
 };
 pub use message::Message;
 pub use taken::{OpenRequest, Taken};
-
-#[cfg(test)]
-mod tests;

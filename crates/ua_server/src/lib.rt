@@ -41,6 +41,3 @@ pub use peers::{Parted, serve_peer};
 pub use program::{ProgramFault, report, run};
 pub use serving::serve;
 pub use stores::Stores;
-
-#[cfg(test)]
-mod tests;

@@ -46,6 +46,3 @@ pub use updates::{
     HistoryUpdateResult, UpdateDataDetails, put_history_update_response,
     read_history_update_request,
 };
-
-#[cfg(test)]
-mod tests;

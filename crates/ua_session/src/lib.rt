@@ -17,6 +17,3 @@ pub use laws::{
 };
 pub use sessions::Sessions;
 pub use users::Users;
-
-#[cfg(test)]
-mod tests;

@@ -13,6 +13,3 @@ pub use fault::SettingsFault;
 pub use keys::Section;
 pub use place::Place;
 pub use settings::{Parts, Settings};
-
-#[cfg(test)]
-mod tests;

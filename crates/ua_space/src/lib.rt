@@ -19,6 +19,3 @@ pub use fault::BuildFault;
 pub use laws::variables_hang_below_their_parents;
 pub use plan::{FolderPlan, Plan, VariablePlan};
 pub use space::{Space, VariableInfo};
-
-#[cfg(test)]
-mod tests;

@@ -18,6 +18,3 @@ pub use put::put_variant;
 pub use read::read_variant;
 pub use update_type::HistoryUpdateType;
 pub use value::{Array, Scalar, ValueType, Variant, same_type};
-
-#[cfg(test)]
-mod tests;

@@ -18,6 +18,3 @@ pub use laws::{
 };
 pub use splitting::{Pieces, split};
 pub use types::{Chunk, Header, Kind, Letter, UacpFault};
-
-#[cfg(test)]
-mod tests;

@@ -1,0 +1,612 @@
+ghost use Rattle.std.specs.Prelude.{IsTrue};
+ghost use Rattle.std.specs.List.{AllByRecursion};
+ghost use Rattle.ua_variant.specs.DataValue.{IsShortData};
+ghost use Rattle.records.specs.Spelling.{IsLawfulRecord};
+ghost use Rattle.hist_update.specs.Outcome.{IsRequest};
+ghost use Rattle.exchange.specs.Running.{IsAsked, IsEvent};
+
+use HistoryUpdateType::{Insert, Replace};
+use archive::{Archive, Direction, Failure, LearnFault, ListArchive, ScriptedArchive, StoreFault};
+use exchange::{
+    Batch, Dialog, Event, ExchangeFault, Frames, Operation, Replica, State, converse, run_world,
+};
+use hist_update::Request;
+use records::{Entry, Held, HistoryUpdateType, Moment, Record};
+use stamp::{ReplicaNo, Vector};
+use std::alloc::{AllocError, Global};
+use std::test::Fail;
+use ua_binary::{Bytes, Listing, NodeId, Text, Ticks};
+use ua_variant::{DataValue, Scalar, ValueType, Variant};
+use uuid::Uuid;
+
+/// An insert at node ns=1;s=T and source time 10: origin, number, tick, and the value.
+type Row = (u8, u64, i64, i32);
+
+fn node(alloc: Global) -> Result<NodeId, AllocError> {
+    Ok(NodeId::Named(1, Text::from_str(alloc, "T")?))
+}
+
+fn value(written: Variant) -> DataValue {
+    DataValue {
+        value: Some(written),
+        status: None,
+        source_time: None,
+        source_pico: None,
+        server_time: None,
+        server_pico: None,
+    }
+}
+
+fn record(
+    alloc: Global,
+    origin: ReplicaNo,
+    number: u64,
+    tick: i64,
+    written: Variant,
+) -> Result<Record, AllocError> {
+    let node = node(alloc)?;
+    let user = Text::from_str(alloc, "ann")?;
+    Ok(Record {
+        origin,
+        number,
+        tick,
+        node,
+        time: Moment::at(10),
+        asked: Insert,
+        user,
+        value: value(written),
+    })
+}
+
+fn replica_number(number: u8) -> Result<ReplicaNo, StoreFault> {
+    match ReplicaNo::new(number) {
+        Some(number) => Ok(number),
+        None => Err(StoreFault::WrongReplica),
+    }
+}
+
+fn push(records: &mut Vec<Record>, record: Record) -> Result<(), AllocError> {
+    records.push(record)?;
+    Ok(())
+}
+
+fn batch(alloc: Global, rows: &[Row]) -> Result<Batch, StoreFault> {
+    let mut records = Vec::new(alloc);
+    for (origin, number, tick, written) in rows {
+        let written = Variant::Scalar(Scalar::Int32(*written));
+        let origin = replica_number(*origin)?;
+        push(
+            &mut records,
+            record(alloc, origin, *number, *tick, written)?,
+        )?;
+    }
+    Ok(Batch {
+        records: Listing::of(records),
+    })
+}
+
+fn is_lawful(held: &Record) -> bool
+    ensures { IsTrue result → IsLawfulRecord held.now }
+{
+    held.is_lawful()
+}
+
+/// Whether each of the records is lawful.
+fn are_lawful(records: &[Record]) -> bool
+    ensures { IsTrue result → AllByRecursion IsLawfulRecord records.now }
+{
+    for held in records {
+        if !is_lawful(held) {
+            return false;
+        }
+    }
+    true
+}
+
+/// What a replica answers to a batch.
+fn merge<A: Archive>(replica: &mut Replica<A>, batch: &Batch) -> Result<u32, ExchangeFault> {
+    if are_lawful(batch.records.as_slice()) {
+        replica.merge(batch)
+    } else {
+        Err(ExchangeFault::Frame)
+    }
+}
+
+/// What a replica answers to a batch of these rows.
+fn merge_rows<A: Archive>(
+    alloc: Global,
+    replica: &mut Replica<A>,
+    rows: &[Row],
+) -> Result<u32, ExchangeFault> {
+    let batch = batch(alloc, rows)?;
+    merge(replica, &batch)
+}
+
+fn list_replica(alloc: Global, number: u8) -> Result<Replica<ListArchive>, StoreFault> {
+    let number = replica_number(number)?;
+    Ok(Replica::new(ListArchive::new(alloc, Uuid::nil(), number)))
+}
+
+/// Sends to a replica what it lacks of another one.
+fn send(
+    alloc: Global,
+    from: &mut Replica<ListArchive>,
+    to: &mut Replica<ListArchive>,
+) -> Result<u32, ExchangeFault> {
+    let theirs = to.archive.vector()?;
+    let batch = from.answer(alloc, &theirs)?;
+    merge(to, &batch)
+}
+
+fn is_int(shown: &DataValue, written: i32) -> bool {
+    match &shown.value {
+        Some(Variant::Scalar(Scalar::Int32(found))) => *found == written,
+        _ => false,
+    }
+}
+
+fn is_entry(entry: &Entry, kind: HistoryUpdateType, written: i32) -> bool {
+    match &entry.value {
+        Some(shown) => entry.kind == kind && entry.tick == 100 && is_int(shown, written),
+        None => false,
+    }
+}
+
+fn are_entries(entries: &[Entry], wanted: &[(HistoryUpdateType, i32)]) -> bool {
+    let mut same = entries.len() == wanted.len();
+    for (entry, (kind, written)) in entries.iter().zip(wanted) {
+        same = same && is_entry(entry, *kind, *written);
+    }
+    same
+}
+
+/// Whether one value is live, this one, and another record stands beside it.
+fn is_live_alone(lives: &[Held], written: i32) -> bool {
+    match lives {
+        [held] => held.extra && is_int(&held.value, written),
+        _ => false,
+    }
+}
+
+/// Whether 8 is live, and the modifications are a replacement of 7 and the insert of it.
+fn shows_both(alloc: Global, archive: &mut ListArchive) -> Result<bool, StoreFault> {
+    let node = node(alloc)?;
+    let all = archive.vector()?;
+    let log = archive.log(
+        alloc,
+        &node,
+        Moment::at(1),
+        Moment::at(100),
+        None,
+        Direction::Forward,
+        9,
+        &all,
+    )?;
+    let lives = archive.range(
+        alloc,
+        &node,
+        Moment::at(1),
+        Moment::at(100),
+        Direction::Forward,
+        9,
+        &all,
+    )?;
+    Ok(are_entries(&log, &[(Replace, 7), (Insert, 7)]) && is_live_alone(&lives, 8))
+}
+
+/// Whether two replicas hold the same records.
+fn are_equal(
+    alloc: Global,
+    one: &mut Replica<ListArchive>,
+    two: &mut Replica<ListArchive>,
+) -> Result<bool, StoreFault> {
+    let ones = one.archive.since(alloc, &Vector::new(), 99)?;
+    let twos = two.archive.since(alloc, &Vector::new(), 99)?;
+    Ok(ones.len() == 2 && ones.as_slice() == twos.as_slice())
+}
+
+#[test]
+fn two_inserts_meet(rt: HostRuntime) -> Result<(), Fail> {
+    let alloc = rt.alloc();
+    let mut one = list_replica(alloc, 1)?;
+    let mut two = list_replica(alloc, 2)?;
+    assert!(rt; merge_rows(alloc, &mut one, &[(1, 1, 100, 7)]) == Ok(1));
+    assert!(rt; merge_rows(alloc, &mut two, &[(2, 1, 100, 8)]) == Ok(1));
+    assert!(rt; send(alloc, &mut one, &mut two) == Ok(1));
+    assert!(rt; send(alloc, &mut two, &mut one) == Ok(1));
+    assert!(rt; send(alloc, &mut one, &mut two) == Ok(0));
+    assert!(rt; shows_both(alloc, &mut one.archive)? && shows_both(alloc, &mut two.archive)?);
+    assert!(rt; are_equal(alloc, &mut one, &mut two)?);
+    Ok(())
+}
+
+/// An insert of this value at a replica, at this reading of the clock.
+fn insert(alloc: Global, replica: usize, reading: i64, written: i32) -> Result<Event, AllocError> {
+    let node = node(alloc)?;
+    let user = Text::from_str(alloc, "ann")?;
+    Ok(Event::Operation {
+        replica,
+        request: Request {
+            node,
+            user,
+            reading,
+        },
+        operation: Operation::Write {
+            asked: Insert,
+            value_type: ValueType {
+                number: 6,
+                array: false,
+            },
+            value: DataValue {
+                value: Some(Variant::Scalar(Scalar::Int32(written))),
+                status: None,
+                source_time: Some(Ticks(10)),
+                source_pico: None,
+                server_time: None,
+                server_pico: None,
+            },
+        },
+    })
+}
+
+fn add(events: &mut Vec<Event>, event: Event) -> Result<(), AllocError> {
+    events.push(event)?;
+    Ok(())
+}
+
+fn send_all(replica: usize) -> Event {
+    Event::Send {
+        replica,
+        vector: Vector::new(),
+        limit: 1000,
+    }
+}
+
+fn deliver_all(replica: usize, batch: usize) -> Event {
+    Event::Deliver {
+        replica,
+        batch,
+        count: 1000,
+    }
+}
+
+/// Both replicas insert, and each is sent what the other one holds; a delivery comes twice, one to a replica
+/// that isn't there, one of a batch that isn't there.
+fn events(alloc: Global) -> Result<Vec<Event>, AllocError> {
+    let mut events = Vec::new(alloc);
+    for (replica, written) in [(0, 7), (1, 8)] {
+        add(&mut events, insert(alloc, replica, 100, written)?)?;
+    }
+    for replica in [0, 1] {
+        add(&mut events, send_all(replica))?;
+    }
+    for (replica, batch) in [(1, 0), (0, 1), (0, 1), (2, 0), (0, 2)] {
+        add(&mut events, deliver_all(replica, batch))?;
+    }
+    add(&mut events, Event::Restart { replica: 1 })?;
+    Ok(events)
+}
+
+/// Whether the node's id and the user's name are within their limits.
+fn is_request(request: &Request) -> bool
+    ensures { IsTrue result → IsRequest request.now }
+{
+    let short = match &request.node {
+        NodeId::Named(_, name) => name.len() <= 256,
+        NodeId::Opaque(_, id) => id.as_slice().len() <= 256,
+        _ => true,
+    };
+    short && request.user.len() <= 256
+}
+
+/// Whether a value may be written.
+fn is_short(value: &DataValue) -> bool
+    ensures { IsTrue result → IsShortData value.now }
+{
+    let close = match value.source_pico {
+        Some(pico) => pico <= 9999,
+        None => true,
+    };
+    close && value.server_pico.is_none() && value.size() < 0x8000_0000
+}
+
+fn is_asked(operation: &Operation) -> bool
+    ensures { IsTrue result → IsAsked operation.now }
+{
+    match operation {
+        Operation::Write { asked, value, .. } => match asked {
+            HistoryUpdateType::Delete => false,
+            _ => is_short(value),
+        },
+        Operation::Delete { .. } => true,
+    }
+}
+
+/// Whether an update's conditions hold.
+fn is_event(event: &Event) -> bool
+    ensures { IsTrue result → IsEvent event.now }
+{
+    match event {
+        Event::Operation {
+            request,
+            operation,
+            ..
+        } => is_request(request) && is_asked(operation),
+        _ => true,
+    }
+}
+
+fn are_events(events: &[Event]) -> bool
+    ensures { IsTrue result → AllByRecursion IsEvent events.now }
+{
+    events.iter().all(is_event)
+}
+
+/// Lets events happen whose conditions hold.
+fn run<A: Archive>(alloc: Global, replicas: &mut [A], events: &[Event]) -> Result<(), usize> {
+    if are_events(events) {
+        run_world(alloc, replicas, events)
+    } else {
+        Err(events.len())
+    }
+}
+
+/// Two replicas that hold nothing.
+fn archives(alloc: Global) -> Result<Vec<ListArchive>, StoreFault> {
+    let mut archives = Vec::new(alloc);
+    for number in [1, 2] {
+        let number = replica_number(number)?;
+        match archives.push(ListArchive::new(alloc, Uuid::nil(), number)) {
+            Ok(()) => {}
+            Err(_) => return Err(StoreFault::OutOfMemory),
+        }
+    }
+    Ok(archives)
+}
+
+#[test]
+fn two_inserts_meet_in_a_world(rt: HostRuntime) -> Result<(), Fail> {
+    let alloc = rt.alloc();
+    let mut replicas = archives(alloc)?;
+    let events = events(alloc)?;
+    assert!(rt; run(alloc, &mut replicas, &events) == Ok(()));
+    for archive in replicas.iter_mut() {
+        assert!(rt; shows_both(alloc, archive)?);
+    }
+    Ok(())
+}
+
+/// Batches one after the other, each with its answer and how many records of replica 2 are then held.
+static MERGES: [(&[Row], Result<u32, ExchangeFault>, u64); 7] = [
+    (&[], Ok(0), 0),
+    (&[(2, 1, 100, 7)], Ok(1), 1),
+    (
+        &[(2, 3, 102, 9), (2, 4, 103, 10)],
+        Err(ExchangeFault::Learn {
+            learned: 0,
+            cause: LearnFault::Gap { held: 1, got: 3 },
+        }),
+        1,
+    ),
+    (&[(2, 1, 100, 7), (2, 2, 101, 8)], Ok(1), 2),
+    (
+        &[(2, 1, 100, 7), (2, 2, 101, 0), (2, 3, 102, 9)],
+        Err(ExchangeFault::Learn {
+            learned: 1,
+            cause: LearnFault::Clash,
+        }),
+        2,
+    ),
+    (&[(2, 3, 102, 9), (2, 4, 103, 10)], Ok(2), 4),
+    (&[(2, 3, 102, 9), (2, 4, 103, 10)], Ok(0), 4),
+];
+
+/// How many records of replica 2 are held.
+fn held_of_two<A: Archive>(replica: &mut Replica<A>) -> Result<u64, StoreFault> {
+    let two = replica_number(2)?;
+    let vector = replica.archive.vector()?;
+    Ok(vector.get(two))
+}
+
+#[test]
+fn batches_are_merged(rt: HostRuntime) -> Result<(), Fail> {
+    let alloc = rt.alloc();
+    let mut replica = list_replica(alloc, 1)?;
+    for (rows, told, held) in &MERGES {
+        assert!(rt; merge_rows(alloc, &mut replica, rows) == *told);
+        assert!(rt; held_of_two(&mut replica)? == *held);
+    }
+    Ok(())
+}
+
+fn scripted_replica(
+    alloc: Global,
+    call: u64,
+    failure: Failure,
+) -> Result<Replica<ScriptedArchive>, StoreFault> {
+    let number = replica_number(1)?;
+    Ok(Replica::new(ScriptedArchive::new(alloc, Uuid::nil(), number, call, failure)))
+}
+
+/// How a call fails, the fault that is told, and what is answered to how many records are held then.
+static SCRIPTS: [(Failure, StoreFault, Result<u64, StoreFault>); 4] = [
+    (Failure::OutOfMemory, StoreFault::OutOfMemory, Ok(1)),
+    (Failure::Refused, StoreFault::Refused, Ok(1)),
+    (
+        Failure::BrokenBefore,
+        StoreFault::Broken,
+        Err(StoreFault::Broken),
+    ),
+    (
+        Failure::BrokenAfter,
+        StoreFault::Broken,
+        Err(StoreFault::Broken),
+    ),
+];
+
+/// What is told where the store fails behind the first record.
+fn stopped(fault: StoreFault) -> Result<u32, ExchangeFault> {
+    Err(ExchangeFault::Learn {
+        learned: 1,
+        cause: LearnFault::Store(fault),
+    })
+}
+
+#[test]
+fn faults_of_the_store_end_a_merge(rt: HostRuntime) -> Result<(), Fail> {
+    let alloc = rt.alloc();
+    let rows = [(2, 1, 100, 7), (2, 2, 101, 8), (2, 3, 102, 9)];
+    for (failure, fault, held) in &SCRIPTS {
+        let mut replica = scripted_replica(alloc, 2, *failure)?;
+        assert!(rt; merge_rows(alloc, &mut replica, &rows) == stopped(*fault));
+        assert!(rt; replica.archive.faults() == 1);
+        assert!(rt; held_of_two(&mut replica) == *held);
+    }
+    Ok(())
+}
+
+/// The fault that answering an empty vector meets.
+fn answer_fault<A: Archive>(alloc: Global, replica: &mut Replica<A>) -> Option<ExchangeFault> {
+    match replica.answer(alloc, &Vector::new()) {
+        Ok(_) => None,
+        Err(fault) => Some(fault),
+    }
+}
+
+#[test]
+fn faults_of_the_store_end_an_answer(rt: HostRuntime) -> Result<(), Fail> {
+    let alloc = rt.alloc();
+    for (failure, fault, _) in &SCRIPTS {
+        for call in [1, 2] {
+            let mut replica = scripted_replica(alloc, call, *failure)?;
+            assert!(rt; answer_fault(alloc, &mut replica) == Some(ExchangeFault::Store(*fault)));
+        }
+        let mut replica = scripted_replica(alloc, 3, *failure)?;
+        assert!(rt; answer_fault(alloc, &mut replica) == None);
+    }
+    Ok(())
+}
+
+/// Some first records of replica 2, each of a value of so many bytes.
+fn large_batch(alloc: Global, count: u32, size: usize) -> Result<Batch, StoreFault> {
+    let two = replica_number(2)?;
+    let mut records = Vec::new(alloc);
+    for number in 1..=count {
+        let bytes = Bytes::new(vec![in alloc; 0; size]?);
+        let written = Variant::Scalar(Scalar::ByteString(Some(bytes)));
+        push(
+            &mut records,
+            record(alloc, two, u64::from(number), i64::from(number), written)?,
+        )?;
+    }
+    Ok(Batch {
+        records: Listing::of(records),
+    })
+}
+
+/// How many records are held, of values of how many bytes, and how many of them a batch has. Beside its
+/// value a record has 50 bytes, and its length 4; the frame has 40 beside its records.
+static SIZES: [(u32, usize, usize); 6] = [
+    (1, 1_048_528, 1),
+    (3, 1_048_503, 1),
+    (3, 1_048_502, 2),
+    (3, 698_984, 2),
+    (3, 698_983, 3),
+    (1001, 5, 1000),
+];
+
+/// How many records the batch for an empty vector has.
+fn answered(alloc: Global, count: u32, size: usize) -> Result<usize, ExchangeFault> {
+    let mut replica = list_replica(alloc, 1)?;
+    let held = large_batch(alloc, count, size)?;
+    merge(&mut replica, &held)?;
+    let batch = replica.answer(alloc, &Vector::new())?;
+    Ok(batch.records.len())
+}
+
+#[test]
+fn batches_fit_a_frame(rt: HostRuntime) -> Result<(), Fail> {
+    for (count, size, wanted) in &SIZES {
+        assert!(rt;
+            answered(rt.alloc(), *count, *size) == Ok(*wanted),
+            "{size}"
+        );
+    }
+    Ok(())
+}
+
+static FAULTS: [ExchangeFault; 8] = [
+    ExchangeFault::Frame,
+    ExchangeFault::WrongArchive,
+    ExchangeFault::Learn {
+        learned: 0,
+        cause: LearnFault::Clash,
+    },
+    ExchangeFault::OutOfMemory,
+    ExchangeFault::SelfPeer,
+    ExchangeFault::Store(StoreFault::Broken),
+    ExchangeFault::TooLong,
+    ExchangeFault::PeerFormat,
+];
+
+#[test]
+fn numbers_of_faults(rt: HostRuntime) {
+    for (i, fault) in FAULTS.iter().enumerate() {
+        assert!(rt; fault.number() as usize == i + 1);
+    }
+}
+
+/// How many frames a dialog of replicas 1 and 2 has, each with one record of its own.
+fn frames_of_one_each(alloc: Global) -> Result<u32, ExchangeFault> {
+    let mut one = list_replica(alloc, 1)?;
+    let mut two = list_replica(alloc, 2)?;
+    merge_rows(alloc, &mut one, &[(1, 1, 100, 7)])?;
+    merge_rows(alloc, &mut two, &[(2, 1, 100, 8)])?;
+    let frames = converse(alloc, &mut one, &mut two)?;
+    if !are_equal(alloc, &mut one, &mut two)? {
+        return Err(ExchangeFault::Frame);
+    }
+    Ok(frames)
+}
+
+#[test]
+fn a_dialog_of_two(rt: HostRuntime) -> Result<(), Fail> {
+    assert!(rt; frames_of_one_each(rt.alloc()) == Ok(7));
+    Ok(())
+}
+
+/// What replica 1 of an empty archive answers to the first frame in some bytes.
+fn answered_bytes(alloc: Global, bytes: &[u8], out: &mut Vec<u8>) -> Result<State, ExchangeFault> {
+    let mut one = list_replica(alloc, 1)?;
+    let mut dialog = Dialog::responder();
+    let mut frames = Frames::new(alloc);
+    frames.feed(bytes)?;
+    match frames.next_frame() {
+        Ok(Some(frame)) => dialog.take(alloc, &mut one, frame, out),
+        Ok(None) => Err(ExchangeFault::Frame),
+        Err(fault) => Err(fault),
+    }
+}
+
+static ASKED: &[u8] = b"RXVF\x1b\0\0\0\x02\0\0\0\0\0\0\0\0\0\0\0\0\0\0\0\0\x02\0";
+
+static ASKED_ITSELF: &[u8] = b"RXVF\x1b\0\0\0\x02\0\0\0\0\0\0\0\0\0\0\0\0\0\0\0\0\x01\0";
+
+static ASKED_BY_AN_OLDER: &[u8] = b"RXVF\x1b\0\0\0\x01\0\0\0\0\0\0\0\0\0\0\0\0\0\0\0\0\x02\0";
+
+static NOTHING: &[u8] = b"RXDF\x1f\0\0\0\x02\0\0\0\0\0\0\0\0\0\0\0\0\0\0\0\0\x01\0\0\0\0\0";
+
+#[test]
+fn vectors_are_answered(rt: HostRuntime) -> Result<(), Fail> {
+    let mut out = Vec::new(rt.alloc());
+    assert!(rt; answered_bytes(rt.alloc(), ASKED, &mut out) == Ok(State::Serving));
+    assert!(rt; out.as_slice() == NOTHING);
+    out.clear();
+    assert!(rt; answered_bytes(rt.alloc(), ASKED_ITSELF, &mut out) == Err(ExchangeFault::SelfPeer));
+    assert!(rt; out.as_slice() == b"RXEF\x0c\0\0\0\x05\0\0\0".as_slice());
+    out.clear();
+    let older = answered_bytes(rt.alloc(), ASKED_BY_AN_OLDER, &mut out);
+    assert!(rt; older == Err(ExchangeFault::PeerFormat));
+    assert!(rt; out.as_slice() == b"RXEF\x0c\0\0\0\x08\0\0\0".as_slice());
+    Ok(())
+}

@@ -1,0 +1,1194 @@
+ghost use Rattle.std.specs.Prelude.{IsTrue};
+ghost use Rattle.ua_binary.specs.Binary.{IsShortNode};
+
+use HistoryUpdateType::{Delete, Insert, Update};
+use archive::{Archive, Failure, LearnFault, ListArchive, ScriptedArchive, StoreFault};
+use hist_read::{Query, put_continuation, read_continuation, read_node};
+use records::{Moment, Record};
+use stamp::ReplicaNo;
+use std::alloc::{AllocError, Global};
+use std::test::Fail;
+use ua_binary::{Bytes, NodeId, Status, Text, Ticks};
+use ua_services::{
+    HistoryData, HistoryReadResult, ModificationInfo, ReadRawModifiedDetails, TimestampsToReturn,
+};
+use ua_variant::{DataValue, HistoryUpdateType, Scalar, Variant};
+use uuid::Uuid;
+
+// ---- continuation points
+
+/// Of ns=1;s=T, from 5:00 to 5:07, two a page: the place behind 5:02, of five records of replica 1.
+static POINT: [u8; 81] = [
+    3, 0, 0, 0, 0, 0, 0, 0, 0, 0, 0, 0, 0, 0, 0, 0, 0, 3, 1, 0, 1, 0, 0, 0, 0x54, 0, 0, 8, 0xD6,
+    0xE8, 0x29, 0, 0, 0, 0, 0xF2, 0x2C, 0xE3, 0x2A, 0, 0, 0, 2, 0, 0, 0, 0, 2, 0, 0x94, 0x5C, 0x30,
+    0x2A, 0, 0, 0, 0, 0, 0, 0, 0, 0, 0, 0, 0, 0, 0, 0, 0, 0, 0, 1, 1, 5, 0, 0, 0, 0, 0, 0, 0,
+];
+/// The bytes from one index to another are this one.
+type Patch = (usize, usize, u8);
+
+const NONE: Patch = (0, 0, 0);
+
+/// Changes of the bytes, and whether they are a point still.
+static PATCHED: [(Patch, Patch, bool); 33] = [
+    (NONE, NONE, true),
+    ((0, 1, 0), NONE, false),
+    ((0, 1, 1), NONE, false),
+    ((0, 1, 2), NONE, false),
+    ((0, 1, 4), NONE, false),
+    ((71, 72, 0), NONE, false),
+    ((71, 72, 2), NONE, false),
+    ((72, 73, 0), NONE, false),
+    ((72, 73, 64), NONE, true),
+    ((72, 73, 65), NONE, false),
+    ((73, 74, 0), NONE, false),
+    ((80, 81, 0x40), NONE, false),
+    ((1, 17, 9), NONE, true),
+    ((17, 18, 6), NONE, false),
+    ((17, 18, 5), NONE, true),
+    ((20, 21, 2), NONE, false),
+    ((24, 25, 0xFF), NONE, false),
+    ((25, 26, 1), NONE, false),
+    ((25, 26, 2), NONE, false),
+    ((25, 26, 1), (62, 67, 1), true),
+    ((46, 47, 1), NONE, true),
+    ((46, 47, 2), NONE, false),
+    ((47, 48, 0), NONE, false),
+    ((47, 48, 1), NONE, false),
+    ((47, 48, 1), (46, 47, 1), true),
+    ((47, 48, 3), NONE, false),
+    ((48, 56, 0), NONE, false),
+    ((55, 56, 0x80), NONE, false),
+    ((58, 59, 1), (66, 67, 1), false),
+    ((58, 59, 1), (25, 26, 1), false),
+    ((66, 67, 65), (25, 59, 1), false),
+    ((67, 68, 1), NONE, false),
+    ((67, 68, 1), (26, 34, 0), true),
+];
+
+fn patched(alloc: Global, first: Patch, second: Patch) -> Result<Vec<u8>, AllocError> {
+    let mut bytes = Vec::new(alloc);
+    for (i, byte) in POINT.iter().enumerate() {
+        if first.0 <= i && i < first.1 {
+            bytes.push(first.2)?;
+        } else if second.0 <= i && i < second.1 {
+            bytes.push(second.2)?;
+        } else {
+            bytes.push(*byte)?;
+        }
+    }
+    Ok(bytes)
+}
+
+/// Whether a point in these bytes is written as they are.
+fn is_rewritten(alloc: Global, bytes: &[u8]) -> bool {
+    let Some(place) = read_continuation(bytes) else {
+        return false;
+    };
+    let mut out = Vec::new(alloc);
+    place.is_well_formed() && put_continuation(&mut out, &place).is_ok() && out.as_slice() == bytes
+}
+
+#[test]
+fn points_are_read_and_written(rt: HostRuntime) -> Result<(), Fail> {
+    for (first, second, there) in &PATCHED {
+        let bytes = patched(rt.alloc(), *first, *second)?;
+        assert_eq!(rt;
+            read_continuation(&bytes).is_some(),
+            *there,
+            "{first:?} {second:?}"
+        );
+        assert_eq!(rt;
+            is_rewritten(rt.alloc(), &bytes),
+            *there,
+            "{first:?} {second:?}"
+        );
+    }
+    Ok(())
+}
+
+/// Other spellings of the node, and whether each is the one that is written.
+static NODES: [(&[u8], bool); 12] = [
+    (&[0, 0x55], true),
+    (&[1, 0, 0x55, 0], false),
+    (&[1, 1, 0x55, 0], true),
+    (&[2, 1, 0, 0x55, 0, 0, 0], false),
+    (&[2, 0, 1, 0x55, 0, 0, 0], true),
+    (&[3, 1, 0, 0xFF, 0xFF, 0xFF, 0xFF], false),
+    (&[3, 1, 0, 0, 0, 0, 0], true),
+    (
+        &[
+            4, 1, 0, 1, 2, 3, 4, 5, 6, 7, 8, 9, 10, 11, 12, 13, 14, 15, 16,
+        ],
+        true,
+    ),
+    (&[5, 1, 0, 0xFF, 0xFF, 0xFF, 0xFF], false),
+    (&[5, 1, 0, 0, 0, 0, 0], true),
+    (&[5, 1, 0, 2, 0, 0, 0, 0x80, 0xFF], true),
+    (&[6, 0x55], false),
+];
+
+/// The point with these bytes as its node.
+fn with_node(alloc: Global, node: &[u8]) -> Result<Vec<u8>, AllocError> {
+    let mut bytes = Vec::new(alloc);
+    bytes.extend_from_slice(&POINT[..17])?;
+    bytes.extend_from_slice(node)?;
+    bytes.extend_from_slice(&POINT[25..])?;
+    Ok(bytes)
+}
+
+#[test]
+fn nodes_have_one_spelling(rt: HostRuntime) -> Result<(), Fail> {
+    for (node, there) in &NODES {
+        let bytes = with_node(rt.alloc(), node)?;
+        assert_eq!(rt; read_continuation(&bytes).is_some(), *there, "{node:?}");
+        assert_eq!(rt; is_rewritten(rt.alloc(), &bytes), *there, "{node:?}");
+    }
+    Ok(())
+}
+
+#[test]
+fn points_are_whole(rt: HostRuntime) -> Result<(), Fail> {
+    for end in 0..POINT.len() {
+        assert!(rt; read_continuation(&POINT[..end]).is_none(), "{end}");
+    }
+    let mut longer = with_node(rt.alloc(), &POINT[17..25])?;
+    assert!(rt; read_continuation(&longer).is_some());
+    longer.push(0)?;
+    assert!(rt; read_continuation(&longer).is_none());
+    Ok(())
+}
+
+// ---- pages
+
+/// An update of node ns=1;s=T: number, tick, source time, what was asked, and the value.
+type Row = (u64, i64, i64, HistoryUpdateType, Option<i32>);
+
+fn node(alloc: Global) -> Result<NodeId, AllocError> {
+    Ok(NodeId::Named(1, Text::from_str(alloc, "T")?))
+}
+
+fn value(written: Option<i32>) -> DataValue {
+    DataValue {
+        value: written.map(|n| Variant::Scalar(Scalar::Int32(n))),
+        status: None,
+        source_time: None,
+        source_pico: None,
+        server_time: None,
+        server_pico: None,
+    }
+}
+
+fn record(alloc: Global, row: &Row) -> Result<Record, StoreFault> {
+    let (number, tick, time, asked, written) = *row;
+    let Some(origin) = ReplicaNo::new(1) else {
+        return Err(StoreFault::WrongReplica);
+    };
+    let node = node(alloc)?;
+    let user = Text::from_str(alloc, "ann")?;
+    Ok(Record {
+        origin,
+        number,
+        tick,
+        node,
+        time: Moment::at(time),
+        asked,
+        user,
+        value: value(written),
+    })
+}
+
+fn learn(alloc: Global, archive: &mut ListArchive, row: &Row) -> Result<bool, LearnFault> {
+    let record = record(alloc, row)?;
+    if record.is_lawful() {
+        archive.learn(&record)
+    } else {
+        Err(LearnFault::Store(StoreFault::Refused))
+    }
+}
+
+/// An archive that learned these.
+fn archive_of(alloc: Global, rows: &[Row]) -> Result<ListArchive, LearnFault> {
+    let Some(one) = ReplicaNo::new(1) else {
+        return Err(LearnFault::Store(StoreFault::WrongReplica));
+    };
+    let mut archive = ListArchive::new(alloc, Uuid::nil(), one);
+    for row in rows {
+        learn(alloc, &mut archive, row)?;
+    }
+    Ok(archive)
+}
+
+/// Source times at 5:00 and so on, in minutes of 600,000,000 steps.
+const AT_4_48: i64 = 172_800_000_000;
+
+const AT_4_59: i64 = 179_400_000_000;
+
+const AT_5_00: i64 = 180_000_000_000;
+
+const AT_5_01: i64 = 180_600_000_000;
+
+const AT_5_02: i64 = 181_200_000_000;
+
+const AT_5_03: i64 = 181_800_000_000;
+
+const AT_5_04: i64 = 182_400_000_000;
+
+const AT_5_05: i64 = 183_000_000_000;
+
+const AT_5_06: i64 = 183_600_000_000;
+
+const AT_5_07: i64 = 184_200_000_000;
+
+static VALUES: [Row; 5] = [
+    (1, 100, AT_5_00, Insert, Some(0)),
+    (2, 101, AT_5_02, Insert, Some(2)),
+    (3, 102, AT_5_03, Insert, Some(3)),
+    (4, 103, AT_5_05, Insert, Some(5)),
+    (5, 104, AT_5_06, Insert, Some(6)),
+];
+
+static ONE_VALUE: [Row; 1] = [(1, 100, 10, Insert, Some(7))];
+
+static UPDATES: [Row; 5] = [
+    (1, 100, 10, Insert, Some(7)),
+    (2, 101, 10, Update, Some(8)),
+    (3, 102, 10, Delete, None),
+    (4, 103, 10, Insert, Some(9)),
+    (5, 104, 20, Insert, Some(1)),
+];
+
+// ---- reads
+
+fn is_short(node: &NodeId) -> bool
+    ensures { IsTrue result → IsShortNode node.now }
+{
+    match node {
+        NodeId::Named(_, name) => name.len() < 0x8000_0000,
+        _ => false,
+    }
+}
+
+fn read<A: Archive>(
+    alloc: Global,
+    archive: &mut A,
+    details: ReadRawModifiedDetails,
+    stamps: TimestampsToReturn,
+    continuation: Option<&[u8]>,
+) -> Result<HistoryReadResult, AllocError> {
+    let query = Query { details, stamps };
+    let node = node(alloc)?;
+    if is_short(&node) {
+        Ok(read_node(alloc, archive, &node, &query, continuation))
+    } else {
+        Err(AllocError)
+    }
+}
+
+const fn asked(
+    is_read_modified: bool,
+    start: i64,
+    end: i64,
+    num_values_per_node: u32,
+    return_bounds: bool,
+) -> ReadRawModifiedDetails {
+    ReadRawModifiedDetails {
+        is_read_modified,
+        start_time: Ticks(start),
+        end_time: Ticks(end),
+        num_values_per_node,
+        return_bounds,
+    }
+}
+
+/// An item's time, and whether it is a missing bound.
+type Shown = (i64, bool);
+
+fn is_shown(value: &DataValue, shown: Shown) -> bool {
+    let status = if shown.1 {
+        Some(Status::BAD_BOUND_NOT_FOUND)
+    } else {
+        None
+    };
+    value.source_time == Some(Ticks(shown.0))
+        && value.status == status
+        && value.value.is_none() == shown.1
+}
+
+fn are_shown(values: &[DataValue], shown: &[Shown]) -> bool {
+    let mut same = values.len() == shown.len();
+    for (value, wanted) in values.iter().zip(shown) {
+        same = same && is_shown(value, *wanted);
+    }
+    same
+}
+
+fn has_shown(told: &HistoryReadResult, wanted: &[Shown]) -> bool {
+    match &told.history_data {
+        HistoryData::Raw(values) => are_shown(values.as_slice(), wanted),
+        _ => false,
+    }
+}
+
+/// A read of raw values: start, end, count, bounds, and its pages.
+type RawRead = (i64, i64, u32, bool, &'static [&'static [Shown]]);
+
+static RAW_READS: [RawRead; 16] = [
+    (
+        AT_5_01,
+        AT_5_04,
+        0,
+        true,
+        &[&[
+            (AT_5_00, false),
+            (AT_5_02, false),
+            (AT_5_03, false),
+            (AT_5_05, false),
+        ]],
+    ),
+    (
+        AT_5_01,
+        AT_5_04,
+        0,
+        false,
+        &[&[(AT_5_02, false), (AT_5_03, false)]],
+    ),
+    (
+        AT_4_59,
+        AT_5_05,
+        0,
+        true,
+        &[&[
+            (AT_4_59, true),
+            (AT_5_00, false),
+            (AT_5_02, false),
+            (AT_5_03, false),
+            (AT_5_05, false),
+        ]],
+    ),
+    (
+        AT_5_05,
+        AT_5_00,
+        0,
+        false,
+        &[&[(AT_5_05, false), (AT_5_03, false), (AT_5_02, false)]],
+    ),
+    (
+        AT_5_00,
+        AT_5_00,
+        0,
+        true,
+        &[&[(AT_5_00, false), (AT_5_02, false)]],
+    ),
+    (AT_4_48, AT_4_48, 0, false, &[&[]]),
+    (
+        AT_5_00,
+        AT_5_07,
+        2,
+        false,
+        &[
+            &[(AT_5_00, false), (AT_5_02, false)],
+            &[(AT_5_03, false), (AT_5_05, false)],
+            &[(AT_5_06, false)],
+        ],
+    ),
+    (
+        AT_5_00,
+        AT_5_07,
+        5,
+        false,
+        &[&[
+            (AT_5_00, false),
+            (AT_5_02, false),
+            (AT_5_03, false),
+            (AT_5_05, false),
+            (AT_5_06, false),
+        ]],
+    ),
+    (
+        0,
+        AT_5_06,
+        6,
+        true,
+        &[&[
+            (AT_5_06, false),
+            (AT_5_05, false),
+            (AT_5_03, false),
+            (AT_5_02, false),
+            (AT_5_00, false),
+            (179_990_000_000, true),
+        ]],
+    ),
+    (
+        0,
+        AT_5_06,
+        5,
+        true,
+        &[&[
+            (AT_5_06, false),
+            (AT_5_05, false),
+            (AT_5_03, false),
+            (AT_5_02, false),
+            (AT_5_00, false),
+        ]],
+    ),
+    (AT_5_01, AT_5_06, 1, true, &[&[(AT_5_00, false)]]),
+    (
+        AT_5_01,
+        AT_5_05,
+        2,
+        true,
+        &[
+            &[(AT_5_00, false), (AT_5_02, false)],
+            &[(AT_5_03, false), (AT_5_05, false)],
+        ],
+    ),
+    (
+        AT_5_05,
+        AT_5_01,
+        2,
+        true,
+        &[
+            &[(AT_5_05, false), (AT_5_03, false)],
+            &[(AT_5_02, false), (AT_5_00, false)],
+        ],
+    ),
+    (
+        AT_5_07,
+        AT_5_07,
+        0,
+        true,
+        &[&[(AT_5_06, false), (AT_5_07, true)]],
+    ),
+    (
+        AT_5_05,
+        -7,
+        9,
+        true,
+        &[&[(AT_5_05, false), (AT_5_06, false), (183_610_000_000, true)]],
+    ),
+    (
+        AT_5_03,
+        0,
+        2,
+        false,
+        &[&[(AT_5_03, false), (AT_5_05, false)]],
+    ),
+];
+
+/// Backward from the only value.
+static BEFORE_ONE: RawRead = (0, 10, 2, true, &[&[(10, false), (-9_999_990, true)]]);
+
+/// The point that a page ends with, in case it has these items.
+fn point_behind<A: Archive>(
+    alloc: Global,
+    archive: &mut A,
+    details: ReadRawModifiedDetails,
+    point: &Option<Bytes>,
+    wanted: &[Shown],
+) -> Option<Option<Bytes>> {
+    let bytes = point.as_ref().map(|point| point.as_slice());
+    match read(alloc, archive, details, TimestampsToReturn::Source, bytes) {
+        Ok(told) if has_shown(&told, wanted) => Some(told.continuation_point),
+        _ => None,
+    }
+}
+
+/// Whether the read has these pages, each from the point that the one before it ended with.
+fn has_pages<A: Archive>(alloc: Global, archive: &mut A, row: &RawRead) -> bool {
+    let (start, end, count, bounds, pages) = *row;
+    let details = asked(false, start, end, count, bounds);
+    let mut point = None;
+    for (i, wanted) in pages.iter().enumerate() {
+        let Some(next) = point_behind(alloc, archive, details, &point, wanted) else {
+            return false;
+        };
+        if next.is_some() != (i + 1 < pages.len()) {
+            return false;
+        }
+        point = next;
+    }
+    true
+}
+
+#[test]
+fn raw_reads_have_their_pages(rt: HostRuntime) -> Result<(), Fail> {
+    let mut archive = archive_of(rt.alloc(), &VALUES)?;
+    for row in &RAW_READS {
+        assert!(rt; has_pages(rt.alloc(), &mut archive, row), "{row:?}");
+    }
+    let mut one = archive_of(rt.alloc(), &ONE_VALUE)?;
+    assert!(rt; has_pages(rt.alloc(), &mut one, &BEFORE_ONE));
+    Ok(())
+}
+
+/// What a modification did, the value that it shows, and its tick.
+type Change = (HistoryUpdateType, i32, i64);
+
+fn is_number(value: &DataValue, number: i32) -> bool {
+    match &value.value {
+        Some(Variant::Scalar(Scalar::Int32(n))) => *n == number,
+        _ => false,
+    }
+}
+
+fn is_ann(user: &Option<Text>) -> bool {
+    match user {
+        Some(name) => name.as_str() == "ann",
+        None => false,
+    }
+}
+
+fn is_change(value: &DataValue, info: &ModificationInfo, change: &Change) -> bool {
+    is_number(value, change.1)
+        && info.update_type == change.0
+        && info.modification_time == Ticks(change.2)
+        && is_ann(&info.user_name)
+}
+
+fn are_changes(values: &[DataValue], infos: &[ModificationInfo], changes: &[Change]) -> bool {
+    let mut same = values.len() == changes.len() && infos.len() == changes.len();
+    for (i, change) in changes.iter().enumerate() {
+        same = same
+            && i < values.len()
+            && i < infos.len()
+            && is_change(&values[i], &infos[i], change);
+    }
+    same
+}
+
+fn has_changes(told: &HistoryReadResult, wanted: &[Change]) -> bool {
+    match &told.history_data {
+        HistoryData::Modified(values, infos) => {
+            are_changes(values.as_slice(), infos.as_slice(), wanted)
+        }
+        _ => false,
+    }
+}
+
+/// A read of modifications: start, end, count, and its pages.
+type ModifiedRead = (i64, i64, u32, &'static [&'static [Change]]);
+
+static MODIFIED_READS: [ModifiedRead; 6] = [
+    (
+        1,
+        20,
+        0,
+        &[&[
+            (Insert, 9, 103),
+            (Delete, 8, 102),
+            (Update, 7, 101),
+            (Insert, 7, 100),
+        ]],
+    ),
+    (
+        1,
+        20,
+        3,
+        &[
+            &[(Insert, 9, 103), (Delete, 8, 102), (Update, 7, 101)],
+            &[(Insert, 7, 100)],
+        ],
+    ),
+    (
+        10,
+        1,
+        3,
+        &[
+            &[(Insert, 7, 100), (Update, 7, 101), (Delete, 8, 102)],
+            &[(Insert, 9, 103)],
+        ],
+    ),
+    (
+        1,
+        0,
+        5,
+        &[&[
+            (Insert, 9, 103),
+            (Delete, 8, 102),
+            (Update, 7, 101),
+            (Insert, 7, 100),
+            (Insert, 1, 104),
+        ]],
+    ),
+    (0, 20, 2, &[&[(Insert, 1, 104), (Insert, 7, 100)]]),
+    (11, 20, 0, &[&[]]),
+];
+
+/// The point that a page ends with, in case it has these modifications.
+fn point_behind_changes(
+    alloc: Global,
+    archive: &mut ListArchive,
+    details: ReadRawModifiedDetails,
+    point: &Option<Bytes>,
+    wanted: &[Change],
+) -> Option<Option<Bytes>> {
+    let bytes = point.as_ref().map(|point| point.as_slice());
+    match read(alloc, archive, details, TimestampsToReturn::Source, bytes) {
+        Ok(told) if has_changes(&told, wanted) => Some(told.continuation_point),
+        _ => None,
+    }
+}
+
+/// Whether the read has these pages, each from the point that the one before it ended with.
+fn has_changed_pages(alloc: Global, archive: &mut ListArchive, row: &ModifiedRead) -> bool {
+    let (start, end, count, pages) = *row;
+    let details = asked(true, start, end, count, false);
+    let mut point = None;
+    for (i, wanted) in pages.iter().enumerate() {
+        let Some(next) = point_behind_changes(alloc, archive, details, &point, wanted) else {
+            return false;
+        };
+        if next.is_some() != (i + 1 < pages.len()) {
+            return false;
+        }
+        point = next;
+    }
+    true
+}
+
+#[test]
+fn modified_reads_have_their_pages(rt: HostRuntime) -> Result<(), Fail> {
+    let mut archive = archive_of(rt.alloc(), &UPDATES)?;
+    for row in &MODIFIED_READS {
+        assert!(rt; has_changed_pages(rt.alloc(), &mut archive, row), "{row:?}");
+    }
+    Ok(())
+}
+
+/// A read: modified, start, end, count, bounds, how many bytes of the point it comes with; and its
+/// status, how many items it shows, and whether another page follows.
+type NodeRead = (
+    bool,
+    i64,
+    i64,
+    u32,
+    bool,
+    Option<usize>,
+    Status,
+    usize,
+    bool,
+);
+
+static NODE_READS: [NodeRead; 12] = [
+    (
+        false,
+        AT_5_00,
+        AT_5_07,
+        2,
+        false,
+        None,
+        Status::GOOD,
+        2,
+        true,
+    ),
+    (
+        false,
+        AT_5_00,
+        AT_5_07,
+        2,
+        false,
+        Some(81),
+        Status::GOOD,
+        2,
+        true,
+    ),
+    (
+        false,
+        AT_5_00,
+        AT_5_07,
+        2,
+        false,
+        Some(80),
+        Status::BAD_CONTINUATION_POINT_INVALID,
+        0,
+        false,
+    ),
+    (
+        false,
+        AT_5_00,
+        AT_5_07,
+        3,
+        false,
+        Some(81),
+        Status::BAD_CONTINUATION_POINT_INVALID,
+        0,
+        false,
+    ),
+    (
+        false,
+        AT_5_00,
+        AT_5_06,
+        2,
+        false,
+        Some(81),
+        Status::BAD_CONTINUATION_POINT_INVALID,
+        0,
+        false,
+    ),
+    (
+        false,
+        AT_5_00,
+        AT_5_07,
+        2,
+        true,
+        Some(81),
+        Status::BAD_CONTINUATION_POINT_INVALID,
+        0,
+        false,
+    ),
+    (
+        true,
+        AT_5_00,
+        AT_5_07,
+        2,
+        false,
+        Some(81),
+        Status::BAD_CONTINUATION_POINT_INVALID,
+        0,
+        false,
+    ),
+    (
+        false,
+        AT_4_48,
+        AT_4_48,
+        0,
+        false,
+        None,
+        Status::GOOD_NO_DATA,
+        0,
+        false,
+    ),
+    (
+        true,
+        AT_5_00,
+        AT_5_07,
+        0,
+        true,
+        Some(1),
+        Status::BAD_INVALID_ARGUMENT,
+        0,
+        false,
+    ),
+    (
+        false,
+        0,
+        0,
+        5,
+        true,
+        Some(1),
+        Status::BAD_HISTORY_OPERATION_INVALID,
+        0,
+        false,
+    ),
+    (
+        false,
+        AT_5_00,
+        0,
+        0,
+        false,
+        None,
+        Status::BAD_HISTORY_OPERATION_INVALID,
+        0,
+        false,
+    ),
+    (
+        true,
+        AT_5_00,
+        AT_5_07,
+        0,
+        false,
+        None,
+        Status::GOOD,
+        5,
+        false,
+    ),
+];
+
+/// Whether so many items are shown, and none where the read is refused.
+fn has_items(read: &HistoryData, modified: bool, is_good: bool, count: usize) -> bool {
+    match read {
+        HistoryData::Raw(values) => is_good && !modified && values.len() == count,
+        HistoryData::Modified(values, infos) => {
+            is_good && modified && values.len() == count && infos.len() == count
+        }
+        HistoryData::Nothing => !is_good && count == 0,
+    }
+}
+
+/// Whether the read is answered so.
+fn is_answered(alloc: Global, archive: &mut ListArchive, row: &NodeRead) -> bool {
+    let (modified, start, end, count, bounds, given, status, shown, more) = *row;
+    let details = asked(modified, start, end, count, bounds);
+    let point = match given {
+        Some(n) if n <= 81 => Some(&POINT[..n]),
+        _ => None,
+    };
+    let is_good = status == Status::GOOD || status == Status::GOOD_NO_DATA;
+    match read(alloc, archive, details, TimestampsToReturn::Source, point) {
+        Ok(told) => {
+            told.status == status
+                && has_items(&told.history_data, modified, is_good, shown)
+                && told.continuation_point.is_some() == more
+        }
+        Err(_) => false,
+    }
+}
+
+#[test]
+fn reads_are_answered(rt: HostRuntime) -> Result<(), Fail> {
+    let mut archive = archive_of(rt.alloc(), &VALUES)?;
+    for row in &NODE_READS {
+        assert!(rt; is_answered(rt.alloc(), &mut archive, row), "{row:?}");
+    }
+    Ok(())
+}
+
+/// Whether the page ends with this point.
+fn has_point(told: &HistoryReadResult, bytes: &[u8]) -> bool {
+    match &told.continuation_point {
+        Some(point) => point.as_slice() == bytes,
+        None => false,
+    }
+}
+
+/// Whether a value is this Int32, with this status, source time and source picoseconds.
+fn is_value(
+    shown: &DataValue,
+    value: Option<i32>,
+    status: Option<u32>,
+    time: Option<i64>,
+    pico: Option<u16>,
+) -> bool {
+    let same = match &shown.value {
+        Some(Variant::Scalar(Scalar::Int32(n))) => Some(*n) == value,
+        None => value.is_none(),
+        _ => false,
+    };
+    same && shown.status == status.map(Status)
+        && shown.source_time == time.map(Ticks)
+        && shown.source_pico == pico
+}
+
+/// Whether the item at an index is so.
+fn has_value(
+    told: &HistoryReadResult,
+    i: usize,
+    value: Option<i32>,
+    status: Option<u32>,
+    time: Option<i64>,
+    pico: Option<u16>,
+) -> bool {
+    let HistoryData::Raw(values) = &told.history_data else {
+        return false;
+    };
+    match values.as_slice().get(i) {
+        Some(shown) => is_value(shown, value, status, time, pico),
+        None => false,
+    }
+}
+
+#[test]
+fn first_points_have_their_bytes(rt: HostRuntime) -> Result<(), Fail> {
+    let mut archive = archive_of(rt.alloc(), &VALUES)?;
+    let first = read(
+        rt.alloc(),
+        &mut archive,
+        asked(false, AT_5_00, AT_5_07, 2, false),
+        TimestampsToReturn::Source,
+        None,
+    )?;
+    assert!(rt; has_point(&first, &POINT));
+    Ok(())
+}
+
+/// The times that are asked for, and what the value of the updates at 10 shows.
+static STAMPS: [(TimestampsToReturn, Option<i64>); 4] = [
+    (TimestampsToReturn::Source, Some(10)),
+    (TimestampsToReturn::Server, None),
+    (TimestampsToReturn::Both, Some(10)),
+    (TimestampsToReturn::Neither, None),
+];
+
+#[test]
+fn values_are_shown(rt: HostRuntime) -> Result<(), Fail> {
+    let mut archive = archive_of(rt.alloc(), &UPDATES)?;
+    for (stamps, time) in &STAMPS {
+        let told = read(
+            rt.alloc(),
+            &mut archive,
+            asked(false, 1, 11, 0, false),
+            *stamps,
+            None,
+        )?;
+        assert!(rt;
+            has_value(&told, 0, Some(9), Some(0x408), *time, None),
+            "{stamps:?}"
+        );
+    }
+    Ok(())
+}
+
+// ---- snapshots
+
+/// What is done between the pages: inserts at 5:04 and at 5:01, and a delete at 5:05.
+static LATER: [Row; 3] = [
+    (6, 105, AT_5_04, Insert, Some(4)),
+    (7, 106, AT_5_01, Insert, Some(1)),
+    (8, 107, AT_5_05, Delete, None),
+];
+
+/// The second page and the third one, of what was held at the first.
+static REST: [&[Shown]; 2] = [&[(AT_5_03, false), (AT_5_05, false)], &[(AT_5_06, false)]];
+
+/// Whether the read goes on behind row 11's first page as it would have then.
+fn goes_on_as_before<A: Archive>(alloc: Global, archive: &mut A) -> bool {
+    let details = asked(false, AT_5_00, AT_5_07, 2, false);
+    let Ok(second) = read(
+        alloc,
+        archive,
+        details,
+        TimestampsToReturn::Source,
+        Some(&POINT),
+    ) else {
+        return false;
+    };
+    has_shown(&second, REST[0])
+        && point_behind(alloc, archive, details, &second.continuation_point, REST[1]) == Some(None)
+}
+
+#[test]
+fn later_pages_are_of_what_was_held(rt: HostRuntime) -> Result<(), Fail> {
+    let mut archive = archive_of(rt.alloc(), &VALUES)?;
+    assert!(rt; goes_on_as_before(rt.alloc(), &mut archive));
+    for row in &LATER {
+        learn(rt.alloc(), &mut archive, row)?;
+    }
+    assert!(rt; goes_on_as_before(rt.alloc(), &mut archive));
+    Ok(())
+}
+
+fn status_of<A: Archive>(
+    alloc: Global,
+    archive: &mut A,
+    details: ReadRawModifiedDetails,
+    point: Option<&[u8]>,
+) -> Option<Status> {
+    match read(alloc, archive, details, TimestampsToReturn::Source, point) {
+        Ok(told) => Some(told.status),
+        Err(_) => None,
+    }
+}
+
+#[test]
+fn what_isnt_covered_is_refused(rt: HostRuntime) -> Result<(), Fail> {
+    let mut archive = archive_of(rt.alloc(), &VALUES[..4])?;
+    let details = asked(false, AT_5_00, AT_5_07, 2, false);
+    let told = status_of(rt.alloc(), &mut archive, details, Some(&POINT));
+    assert!(rt; told == Some(Status::BAD_CONTINUATION_POINT_INVALID));
+    Ok(())
+}
+
+/// The point's bytes as they were before it had picoseconds and a vector: 69 of them.
+fn earlier_point(alloc: Global) -> Result<Vec<u8>, AllocError> {
+    let mut bytes = Vec::new(alloc);
+    bytes.push(1)?;
+    bytes.extend_from_slice(&POINT[1..56])?;
+    bytes.extend_from_slice(&POINT[58..71])?;
+    Ok(bytes)
+}
+
+#[test]
+fn earlier_points_are_refused(rt: HostRuntime) -> Result<(), Fail> {
+    let mut archive = archive_of(rt.alloc(), &VALUES)?;
+    let details = asked(false, AT_5_00, AT_5_07, 2, false);
+    let point = earlier_point(rt.alloc())?;
+    assert!(rt; point.len() == 69);
+    let told = status_of(rt.alloc(), &mut archive, details, Some(&point));
+    assert!(rt; told == Some(Status::BAD_CONTINUATION_POINT_INVALID));
+    Ok(())
+}
+
+// ---- moments
+
+/// A value at 10, and one five intervals of 10 ps behind it.
+fn two_moments(alloc: Global) -> Result<ListArchive, LearnFault> {
+    let mut archive = archive_of(alloc, &ONE_VALUE)?;
+    let mut behind = record(alloc, &(2, 101, 10, Insert, Some(8)))?;
+    behind.time = Moment { ticks: 10, pico: 5 };
+    behind.value.source_pico = Some(5);
+    if behind.is_lawful() {
+        archive.learn(&behind)?;
+    }
+    Ok(archive)
+}
+
+#[test]
+fn moments_have_picoseconds(rt: HostRuntime) -> Result<(), Fail> {
+    let mut archive = two_moments(rt.alloc())?;
+    let told = read(
+        rt.alloc(),
+        &mut archive,
+        asked(false, 1, 100, 0, false),
+        TimestampsToReturn::Source,
+        None,
+    )?;
+    assert!(rt; has_value(&told, 0, Some(7), None, Some(10), None));
+    assert!(rt; has_value(&told, 1, Some(8), None, Some(10), Some(5)));
+    Ok(())
+}
+
+// ---- long reads
+
+/// An archive with so many values, at 1 and each time behind it.
+fn long_archive(alloc: Global, count: u16) -> Result<ListArchive, LearnFault> {
+    let mut archive = archive_of(alloc, &[])?;
+    for i in 1..=count {
+        let row = (
+            u64::from(i),
+            i64::from(i),
+            i64::from(i),
+            Insert,
+            Some(i32::from(i)),
+        );
+        learn(alloc, &mut archive, &row)?;
+    }
+    Ok(archive)
+}
+
+fn length_of(read: &HistoryData) -> usize {
+    match read {
+        HistoryData::Raw(values) => values.len(),
+        _ => 0,
+    }
+}
+
+/// How many items the page has from a point, and the next one.
+fn next_length(
+    alloc: Global,
+    archive: &mut ListArchive,
+    details: ReadRawModifiedDetails,
+    point: &Option<Bytes>,
+) -> Option<(usize, Option<Bytes>)> {
+    let bytes = point.as_ref().map(|point| point.as_slice());
+    match read(alloc, archive, details, TimestampsToReturn::Source, bytes) {
+        Ok(told) => Some((length_of(&told.history_data), told.continuation_point)),
+        Err(_) => None,
+    }
+}
+
+/// Whether the read has two pages of so many items, and no more.
+fn has_two(
+    alloc: Global,
+    archive: &mut ListArchive,
+    details: ReadRawModifiedDetails,
+    first: usize,
+    second: usize,
+) -> bool {
+    let Some((length, point)) = next_length(alloc, archive, details, &None) else {
+        return false;
+    };
+    length == first
+        && point.is_some()
+        && next_length(alloc, archive, details, &point) == Some((second, None))
+}
+
+#[test]
+fn pages_have_a_greatest_length(rt: HostRuntime) -> Result<(), Fail> {
+    let mut archive = long_archive(rt.alloc(), 1001)?;
+    assert!(rt;
+        has_two(
+            rt.alloc(),
+            &mut archive,
+            asked(false, 1, 2000, 0, false),
+            1000,
+            1
+        )
+    );
+    Ok(())
+}
+
+#[test]
+fn counts_limit_the_whole(rt: HostRuntime) -> Result<(), Fail> {
+    let mut archive = long_archive(rt.alloc(), 1600)?;
+    assert!(rt;
+        has_two(
+            rt.alloc(),
+            &mut archive,
+            asked(false, 1, 0, 1500, false),
+            1000,
+            500
+        )
+    );
+    Ok(())
+}
+
+// ---- faults
+
+/// Row 11's archive, whose call of this number behind its learning fails so.
+fn failing(alloc: Global, call: u64, failure: Failure) -> Result<ScriptedArchive, LearnFault> {
+    let Some(one) = ReplicaNo::new(1) else {
+        return Err(LearnFault::Store(StoreFault::WrongReplica));
+    };
+    let mut archive = ScriptedArchive::new(alloc, Uuid::nil(), one, call, failure);
+    for row in &VALUES {
+        let learned = record(alloc, row)?;
+        if learned.is_lawful() {
+            archive.learn(&learned)?;
+        }
+    }
+    Ok(archive)
+}
+
+/// The call that fails behind five of learning, how, and what the read is answered, twice.
+static FAULTS: [(u64, Failure, Status, Status); 5] = [
+    (
+        6,
+        Failure::OutOfMemory,
+        Status::BAD_OUT_OF_MEMORY,
+        Status::GOOD,
+    ),
+    (
+        6,
+        Failure::Refused,
+        Status::BAD_RESOURCE_UNAVAILABLE,
+        Status::GOOD,
+    ),
+    (
+        7,
+        Failure::Refused,
+        Status::BAD_RESOURCE_UNAVAILABLE,
+        Status::GOOD,
+    ),
+    (
+        7,
+        Failure::BrokenBefore,
+        Status::BAD_RESOURCE_UNAVAILABLE,
+        Status::BAD_RESOURCE_UNAVAILABLE,
+    ),
+    (0, Failure::Refused, Status::GOOD, Status::GOOD),
+];
+
+#[test]
+fn faults_are_told(rt: HostRuntime) -> Result<(), Fail> {
+    let details = asked(false, AT_5_00, AT_5_07, 2, false);
+    for (call, failure, first, second) in &FAULTS {
+        let mut archive = failing(rt.alloc(), *call, *failure)?;
+        assert!(rt;
+            status_of(rt.alloc(), &mut archive, details, None) == Some(*first),
+            "{call} {failure:?}"
+        );
+        assert!(rt;
+            status_of(rt.alloc(), &mut archive, details, None) == Some(*second),
+            "{call} {failure:?}"
+        );
+    }
+    Ok(())
+}
+
+#[test]
+fn no_more_is_asked_than_a_page_needs(rt: HostRuntime) -> Result<(), Fail> {
+    let mut archive = failing(rt.alloc(), 0, Failure::Refused)?;
+    assert!(rt; goes_on_as_before(rt.alloc(), &mut archive));
+    assert!(rt; archive.greatest_limit() <= 4);
+    Ok(())
+}

@@ -1,0 +1,773 @@
+ghost use Rattle.std.specs.Prelude.{IsTrue};
+ghost use Rattle.std.specs.List.{AllByRecursion};
+ghost use Rattle.ua_variant.specs.DataValue.{IsShortData};
+ghost use Rattle.hist_update.specs.Outcome.{IsRequest};
+
+use HistoryUpdateType::{Delete, Insert, Update};
+use archive::{Archive, Direction, Failure, ListArchive, ScriptedArchive, StoreFault};
+use hist_update::{Request, delete_at, delete_raw, update_data};
+use records::{Entry, Held, HistoryUpdateType, Moment, Record};
+use stamp::ReplicaNo;
+use std::alloc::{AllocError, Global};
+use std::test::Fail;
+use ua_binary::{Bytes, NodeId, Status, Text, Ticks};
+use ua_services::{HistoryUpdateResult, put_history_update_response};
+use ua_variant::{DataValue, Scalar, ValueType, Variant};
+use uuid::Uuid;
+
+const GOOD: Status = Status(0);
+
+const INSERTED: Status = Status(0x00A2_0000);
+
+const REPLACED: Status = Status(0x00A3_0000);
+
+const OUT_OF_MEMORY: Status = Status(0x8003_0000);
+
+const UNAVAILABLE: Status = Status(0x8004_0000);
+
+const TOO_LARGE: Status = Status(0x8008_0000);
+
+const NOTHING_TO_DO: Status = Status(0x800F_0000);
+
+const TOO_MANY: Status = Status(0x8010_0000);
+
+const BAD_TIME: Status = Status(0x8023_0000);
+
+const BAD_OPERATION: Status = Status(0x8071_0000);
+
+const UNSUPPORTED: Status = Status(0x8072_0000);
+
+const OTHER_TYPE: Status = Status(0x8074_0000);
+
+const NO_DATA: Status = Status(0x809B_0000);
+
+const EXISTS: Status = Status(0x809F_0000);
+
+const NONE_EXISTS: Status = Status(0x80A0_0000);
+
+const BAD_TIMES: Status = Status(0x80BD_0000);
+
+const INT32: ValueType = ValueType {
+    number: 6,
+    array: false,
+};
+
+const INT32_ARRAY: ValueType = ValueType {
+    number: 6,
+    array: true,
+};
+
+const BYTE_STRING: ValueType = ValueType {
+    number: 15,
+    array: false,
+};
+
+fn request(alloc: Global, reading: i64) -> Result<Request, AllocError> {
+    let node = NodeId::Named(1, Text::from_str(alloc, "T")?);
+    let user = Text::from_str(alloc, "ann")?;
+    Ok(Request {
+        node,
+        user,
+        reading,
+    })
+}
+
+/// Whether the node's id and the user's name are within their limits.
+fn is_request(request: &Request) -> bool
+    ensures { IsTrue result → IsRequest request.now }
+{
+    let short = match &request.node {
+        NodeId::Named(_, name) => name.len() <= 256,
+        NodeId::Opaque(_, id) => id.as_slice().len() <= 256,
+        _ => true,
+    };
+    short && request.user.len() <= 256
+}
+
+/// Whether a value may be written.
+fn is_short(value: &DataValue) -> bool
+    ensures { IsTrue result → IsShortData value.now }
+{
+    let close = match value.source_pico {
+        Some(pico) => pico <= 9999,
+        None => true,
+    };
+    close && value.server_pico.is_none() && value.size() < 0x8000_0000
+}
+
+fn are_short(values: &[DataValue]) -> bool
+    ensures { IsTrue result → AllByRecursion IsShortData values.now }
+{
+    values.iter().all(is_short)
+}
+
+fn value(written: Option<Variant>, time: Option<i64>) -> DataValue {
+    DataValue {
+        value: written,
+        status: None,
+        source_time: time.map(Ticks),
+        source_pico: None,
+        server_time: None,
+        server_pico: None,
+    }
+}
+
+fn int(written: i32) -> Option<Variant> {
+    Some(Variant::Scalar(Scalar::Int32(written)))
+}
+
+fn update<A: Archive>(
+    alloc: Global,
+    archive: &mut A,
+    reading: i64,
+    value_type: ValueType,
+    perform: i32,
+    values: &[DataValue],
+) -> Result<HistoryUpdateResult, AllocError> {
+    let request = request(alloc, reading)?;
+    if is_request(&request) && are_short(values) {
+        Ok(update_data(alloc, archive, &request, value_type, perform, values))
+    } else {
+        Err(AllocError)
+    }
+}
+
+fn delete<A: Archive>(
+    alloc: Global,
+    archive: &mut A,
+    reading: i64,
+    times: &[Ticks],
+) -> Result<HistoryUpdateResult, AllocError> {
+    let request = request(alloc, reading)?;
+    if is_request(&request) {
+        Ok(delete_at(alloc, archive, &request, times))
+    } else {
+        Err(AllocError)
+    }
+}
+
+fn erase<A: Archive>(
+    alloc: Global,
+    archive: &mut A,
+    modified: bool,
+    start: i64,
+    end: i64,
+) -> Result<HistoryUpdateResult, AllocError> {
+    let request = request(alloc, 100)?;
+    if is_request(&request) {
+        Ok(delete_raw(alloc, archive, &request, modified, Ticks(start), Ticks(end)))
+    } else {
+        Err(AllocError)
+    }
+}
+
+/// The code of the one operation, or the status where there is none.
+fn code_of(told: &HistoryUpdateResult) -> Status {
+    if told.operation_results.len() == 1 {
+        told.operation_results[0]
+    } else {
+        told.status
+    }
+}
+
+/// One operation: the clock, the number of the update (4 for a delete), the source time, the value, the code.
+type Row = (i64, i32, i64, i32, Status);
+
+fn operate<A: Archive>(alloc: Global, archive: &mut A, row: &Row) -> Result<Status, AllocError> {
+    let (reading, perform, time, written, _) = *row;
+    let told = if perform == 4 {
+        delete(alloc, archive, reading, &[Ticks(time)])?
+    } else {
+        let values = [value(int(written), Some(time))];
+        update(alloc, archive, reading, INT32, perform, &values)?
+    };
+    Ok(code_of(&told))
+}
+
+/// Whether each operation has its code.
+fn operates<A: Archive>(alloc: Global, archive: &mut A, rows: &[Row]) -> Result<bool, AllocError> {
+    let mut same = true;
+    for row in rows {
+        same = same && operate(alloc, archive, row)? == row.4;
+    }
+    Ok(same)
+}
+
+fn list_archive(alloc: Global) -> Result<ListArchive, StoreFault> {
+    match ReplicaNo::new(1) {
+        Some(one) => Ok(ListArchive::new(alloc, Uuid::nil(), one)),
+        None => Err(StoreFault::WrongReplica),
+    }
+}
+
+/// Whether the archive holds so many records of its own and has this greatest tick.
+fn holds<A: Archive>(archive: &mut A, number: u64, tick: i64) -> Result<bool, StoreFault> {
+    let own = archive.number();
+    let vector = archive.vector()?;
+    Ok(vector.get(own) == number && archive.top()? == tick)
+}
+
+static FIRST: [Row; 2] = [(100, 1, 10, 7, INSERTED), (100, 1, 10, 8, EXISTS)];
+
+static NEXT: [Row; 6] = [
+    (100, 3, 10, 8, REPLACED),
+    (100, 4, 10, 0, GOOD),
+    (100, 4, 10, 0, NONE_EXISTS),
+    (100, 2, 10, 9, NONE_EXISTS),
+    (100, 4, 0, 0, BAD_TIME),
+    (100, 1, 10, 9, INSERTED),
+];
+
+/// What was asked for at a source time, and the tick, in order.
+fn is_story(records: &[Record], wanted: &[(HistoryUpdateType, i64)]) -> bool {
+    let mut same = records.len() == wanted.len();
+    for (record, (asked, tick)) in records.iter().zip(wanted) {
+        same = same && record.asked == *asked && record.tick == *tick;
+    }
+    same
+}
+
+fn has_story<A: Archive>(
+    alloc: Global,
+    archive: &mut A,
+    time: i64,
+    wanted: &[(HistoryUpdateType, i64)],
+) -> Result<bool, StoreFault> {
+    let request = request(alloc, 0)?;
+    let story = archive.at(alloc, &request.node, Moment::at(time))?;
+    Ok(is_story(&story, wanted))
+}
+
+fn is_int(shown: &DataValue, written: i32) -> bool {
+    match &shown.value {
+        Some(Variant::Scalar(Scalar::Int32(found))) => *found == written,
+        _ => false,
+    }
+}
+
+fn is_entry(entry: &Entry, kind: HistoryUpdateType, written: i32) -> bool {
+    match &entry.value {
+        Some(shown) => entry.kind == kind && is_int(shown, written),
+        None => false,
+    }
+}
+
+fn are_entries(entries: &[Entry], wanted: &[(HistoryUpdateType, i32)]) -> bool {
+    let mut same = entries.len() == wanted.len();
+    for (entry, (kind, written)) in entries.iter().zip(wanted) {
+        same = same && is_entry(entry, *kind, *written);
+    }
+    same
+}
+
+/// Whether one value is live, this one, and another record stands beside it.
+fn is_live_alone(lives: &[Held], written: i32) -> bool {
+    match lives {
+        [held] => held.extra && is_int(&held.value, written),
+        _ => false,
+    }
+}
+
+/// The record of the first insert.
+fn first_record(alloc: Global) -> Result<Record, StoreFault> {
+    let Some(origin) = ReplicaNo::new(1) else {
+        return Err(StoreFault::WrongReplica);
+    };
+    let request = request(alloc, 0)?;
+    Ok(Record {
+        origin,
+        number: 1,
+        tick: 100,
+        node: request.node,
+        time: Moment::at(10),
+        asked: Insert,
+        user: request.user,
+        value: value(int(7), None),
+    })
+}
+
+/// Whether the archive holds the record of the first insert, and no other at its time.
+fn has_first<A: Archive>(alloc: Global, archive: &mut A) -> Result<bool, StoreFault> {
+    let wanted = first_record(alloc)?;
+    let story = archive.at(alloc, &wanted.node, Moment::at(10))?;
+    Ok(story.len() == 1 && story[0] == wanted)
+}
+
+static SHOWN: [(HistoryUpdateType, i32); 4] = [(Insert, 9), (Delete, 8), (Update, 7), (Insert, 7)];
+
+/// Whether the modifications and the live values from 1 to 100 are those of the two lists of operations.
+fn shows_all<A: Archive>(alloc: Global, archive: &mut A) -> Result<bool, StoreFault> {
+    let request = request(alloc, 0)?;
+    let all = archive.vector()?;
+    let log = archive.log(
+        alloc,
+        &request.node,
+        Moment::at(1),
+        Moment::at(100),
+        None,
+        Direction::Forward,
+        9,
+        &all,
+    )?;
+    let lives = archive.range(
+        alloc,
+        &request.node,
+        Moment::at(1),
+        Moment::at(100),
+        Direction::Forward,
+        9,
+        &all,
+    )?;
+    Ok(are_entries(&log, &SHOWN) && is_live_alone(&lives, 9))
+}
+
+#[test]
+fn operations_have_their_codes(rt: HostRuntime) -> Result<(), Fail> {
+    let alloc = rt.alloc();
+    let mut archive = list_archive(alloc)?;
+    assert!(rt; operates(alloc, &mut archive, &FIRST)?);
+    assert!(rt; holds(&mut archive, 1, 100)?);
+    assert!(rt; has_first(alloc, &mut archive)?);
+    assert!(rt; operates(alloc, &mut archive, &NEXT)?);
+    assert!(rt; holds(&mut archive, 4, 103)?);
+    let wanted = [(Insert, 100), (Update, 101), (Delete, 102), (Insert, 103)];
+    assert!(rt; has_story(alloc, &mut archive, 10, &wanted)?);
+    assert!(rt; shows_all(alloc, &mut archive)?);
+    Ok(())
+}
+
+/// Another replica's record with the greatest tick.
+fn last_record(alloc: Global) -> Result<Record, StoreFault> {
+    let Some(origin) = ReplicaNo::new(2) else {
+        return Err(StoreFault::WrongReplica);
+    };
+    let request = request(alloc, 0)?;
+    Ok(Record {
+        origin,
+        number: 1,
+        tick: 4_611_686_018_427_387_903,
+        node: request.node,
+        time: Moment::at(30),
+        asked: Insert,
+        user: request.user,
+        value: value(int(1), None),
+    })
+}
+
+/// Whether the other replica's record is learned.
+fn learns_last<A: Archive>(alloc: Global, archive: &mut A) -> Result<bool, StoreFault> {
+    let record = last_record(alloc)?;
+    Ok(record.is_lawful() && archive.learn(&record) == Ok(true))
+}
+
+#[test]
+fn ticks_rise(rt: HostRuntime) -> Result<(), Fail> {
+    let alloc = rt.alloc();
+    let mut archive = list_archive(alloc)?;
+    let later = [(864_000_000_100, 1, 20, 1, INSERTED)];
+    assert!(rt; operates(alloc, &mut archive, &later)?);
+    archive.reload()?;
+    assert!(rt; operates(alloc, &mut archive, &[(100, 3, 20, 2, REPLACED)])?);
+    let wanted = [(Insert, 864_000_000_100), (Update, 864_000_000_101)];
+    assert!(rt; has_story(alloc, &mut archive, 20, &wanted)?);
+    assert!(rt; learns_last(alloc, &mut archive)?);
+    let none_left = [
+        (100, 3, 20, 3, UNAVAILABLE),
+        (100, 4, 20, 0, UNAVAILABLE),
+        (100, 1, 20, 3, EXISTS),
+    ];
+    assert!(rt; operates(alloc, &mut archive, &none_left)?);
+    assert!(rt; holds(&mut archive, 2, 4_611_686_018_427_387_903)?);
+    Ok(())
+}
+
+/// What is written.
+#[derive(Clone, Copy, Debug)]
+enum Written {
+    Int,
+    Boolean,
+    Null,
+    Nothing,
+    Bytes(usize),
+}
+
+fn variant(alloc: Global, written: Written) -> Result<Option<Variant>, AllocError> {
+    Ok(match written {
+        Written::Int => int(7),
+        Written::Boolean => Some(Variant::Scalar(Scalar::Boolean(true))),
+        Written::Null => Some(Variant::Null),
+        Written::Nothing => None,
+        Written::Bytes(count) => {
+            let bytes = Bytes::new(vec![in alloc; 0; count]?);
+            Some(Variant::Scalar(Scalar::ByteString(Some(bytes))))
+        }
+    })
+}
+
+/// Inserts: the node's type, the value, its source time, the code.
+static INSERTS: [(ValueType, Written, Option<i64>, Status); 13] = [
+    (INT32, Written::Int, None, BAD_TIME),
+    (INT32, Written::Int, Some(0), BAD_TIME),
+    (INT32, Written::Int, Some(-5), BAD_TIME),
+    (INT32, Written::Boolean, Some(0), BAD_TIME),
+    (INT32, Written::Boolean, Some(10), OTHER_TYPE),
+    (INT32_ARRAY, Written::Int, Some(10), OTHER_TYPE),
+    (INT32, Written::Bytes(1_048_576), Some(10), OTHER_TYPE),
+    (BYTE_STRING, Written::Bytes(1_048_576), Some(10), TOO_LARGE),
+    (BYTE_STRING, Written::Bytes(1_048_529), Some(10), TOO_LARGE),
+    (BYTE_STRING, Written::Bytes(1_048_528), Some(10), INSERTED),
+    (BYTE_STRING, Written::Bytes(1_048_576), Some(10), TOO_LARGE),
+    (INT32, Written::Null, Some(11), INSERTED),
+    (INT32, Written::Nothing, Some(12), INSERTED),
+];
+
+fn inserts<A: Archive>(
+    alloc: Global,
+    archive: &mut A,
+    value_type: ValueType,
+    written: Written,
+    time: Option<i64>,
+) -> Result<Status, AllocError> {
+    let values = [value(variant(alloc, written)?, time)];
+    let told = update(alloc, archive, 100, value_type, 1, &values)?;
+    Ok(code_of(&told))
+}
+
+#[test]
+fn values_are_judged(rt: HostRuntime) -> Result<(), Fail> {
+    let alloc = rt.alloc();
+    let mut archive = list_archive(alloc)?;
+    let mut added: u64 = 0;
+    for (value_type, written, time, code) in &INSERTS {
+        let told = inserts(alloc, &mut archive, *value_type, *written, *time)?;
+        assert!(rt; told == *code, "{written:?} {time:?}: {told:?}");
+        if *code == INSERTED {
+            added = added.saturating_add(1);
+        }
+        assert!(rt;
+            archive.vector()?.get(archive.number()) == added,
+            "{written:?} {time:?}"
+        );
+    }
+    Ok(())
+}
+
+fn values(alloc: Global, first: i64, count: i64) -> Result<Vec<DataValue>, AllocError> {
+    let mut values = Vec::new(alloc);
+    for i in 0..count {
+        values.push(value(int(1), Some(first.wrapping_add(i))))?;
+    }
+    Ok(values)
+}
+
+fn times(alloc: Global, first: i64, count: i64) -> Result<Vec<Ticks>, AllocError> {
+    let mut times = Vec::new(alloc);
+    for i in 0..count {
+        times.push(Ticks(first.wrapping_add(i)))?;
+    }
+    Ok(times)
+}
+
+/// Lists: the number of the update (4 for a delete), the first source time, how many, the status, how
+/// many codes, and the last of them.
+static LISTS: [(i32, i64, i64, Status, usize, Status); 12] = [
+    (1, 1, 0, NOTHING_TO_DO, 0, GOOD),
+    (4, 1, 0, NOTHING_TO_DO, 0, GOOD),
+    (0, 1, 1, BAD_OPERATION, 0, GOOD),
+    (5, 1, 0, BAD_OPERATION, 0, GOOD),
+    (-1, 1, 1001, BAD_OPERATION, 0, GOOD),
+    (1, 1, 1001, TOO_MANY, 0, GOOD),
+    (4, 1, 1001, TOO_MANY, 0, GOOD),
+    (1, 1, 1000, GOOD, 1000, INSERTED),
+    (1, 1000, 2, GOOD, 2, INSERTED),
+    (2, 1000, 1, GOOD, 1, REPLACED),
+    (4, 1001, 2, GOOD, 2, NONE_EXISTS),
+    (1, 1001, 1, GOOD, 1, INSERTED),
+];
+
+fn is_told(told: &HistoryUpdateResult, status: Status, count: usize, last: Status) -> bool {
+    match told.operation_results.last() {
+        Some(code) => told.status == status
+            && told.operation_results.len() == count
+            && *code == last,
+        None => told.status == status && count == 0,
+    }
+}
+
+fn list<A: Archive>(
+    alloc: Global,
+    archive: &mut A,
+    perform: i32,
+    first: i64,
+    count: i64,
+) -> Result<HistoryUpdateResult, AllocError> {
+    if perform == 4 {
+        delete(alloc, archive, 100, &times(alloc, first, count)?)
+    } else {
+        update(
+            alloc,
+            archive,
+            100,
+            INT32,
+            perform,
+            &values(alloc, first, count)?,
+        )
+    }
+}
+
+/// Deletes of stretches, one after the other: whether modifications are asked for, start, end, the
+/// status, and how many codes.
+type Stretch = (bool, i64, i64, Status, usize);
+
+/// Of 1,001 live values.
+static MANY: [Stretch; 4] = [
+    (false, 1, 2000, TOO_MANY, 0),
+    (false, 1, 1002, TOO_MANY, 0),
+    (false, 1001, 1001, GOOD, 1),
+    (false, 1, 2000, GOOD, 1000),
+];
+
+fn erases<A: Archive>(
+    alloc: Global,
+    archive: &mut A,
+    rows: &[Stretch],
+) -> Result<bool, AllocError> {
+    let mut same = true;
+    for (modified, start, end, status, count) in rows {
+        let told = erase(alloc, archive, *modified, *start, *end)?;
+        same = same && is_told(&told, *status, *count, GOOD);
+    }
+    Ok(same)
+}
+
+#[test]
+fn lists_have_their_limits(rt: HostRuntime) -> Result<(), Fail> {
+    let alloc = rt.alloc();
+    let mut archive = list_archive(alloc)?;
+    for (perform, first, count, status, codes, last) in &LISTS {
+        let told = list(alloc, &mut archive, *perform, *first, *count)?;
+        assert!(rt;
+            is_told(&told, *status, *codes, *last),
+            "{perform} {first} {count}"
+        );
+    }
+    assert!(rt; erases(alloc, &mut archive, &MANY)?);
+    Ok(())
+}
+
+/// Over no value.
+static EMPTY: [Stretch; 5] = [
+    (false, 1, 100, NO_DATA, 0),
+    (true, 1, 100, UNSUPPORTED, 0),
+    (true, 0, 100, UNSUPPORTED, 0),
+    (false, 0, 100, BAD_TIMES, 0),
+    (false, 100, 99, BAD_TIMES, 0),
+];
+
+/// Inserts at 5:00, 5:02, 5:03, 5:05 and 5:06, in minutes of 600,000,000 steps.
+static MINUTES: [Row; 5] = [
+    (100, 1, 180_000_000_000, 0, INSERTED),
+    (100, 1, 181_200_000_000, 2, INSERTED),
+    (100, 1, 181_800_000_000, 3, INSERTED),
+    (100, 1, 183_000_000_000, 5, INSERTED),
+    (100, 1, 183_600_000_000, 6, INSERTED),
+];
+
+/// Over these: from 5:00 to 5:03, at 5:01, at 5:03, and to the end of time.
+static OVER_MINUTES: [Stretch; 5] = [
+    (false, 180_000_000_000, 181_800_000_000, GOOD, 2),
+    (false, 180_000_000_000, 181_800_000_000, NO_DATA, 0),
+    (false, 180_600_000_000, 180_600_000_000, NO_DATA, 0),
+    (false, 181_800_000_000, 181_800_000_000, GOOD, 1),
+    (false, 1, i64::MAX, GOOD, 2),
+];
+
+#[test]
+fn stretches_are_deleted(rt: HostRuntime) -> Result<(), Fail> {
+    let alloc = rt.alloc();
+    let mut archive = list_archive(alloc)?;
+    assert!(rt; erases(alloc, &mut archive, &EMPTY)?);
+    assert!(rt; operates(alloc, &mut archive, &MINUTES)?);
+    assert!(rt; erases(alloc, &mut archive, &OVER_MINUTES)?);
+    assert!(rt; holds(&mut archive, 10, 109)?);
+    Ok(())
+}
+
+/// Which call of the archive fails, how, and the codes of inserts at 10, at 10 again and at 20.
+static FAILURES: [(u64, Failure, &[Status]); 9] = [
+    (0, Failure::Refused, &[INSERTED, EXISTS, INSERTED]),
+    (
+        1,
+        Failure::OutOfMemory,
+        &[OUT_OF_MEMORY, INSERTED, INSERTED],
+    ),
+    (2, Failure::Refused, &[UNAVAILABLE, INSERTED, INSERTED]),
+    (3, Failure::Refused, &[UNAVAILABLE, INSERTED, INSERTED]),
+    (
+        4,
+        Failure::OutOfMemory,
+        &[OUT_OF_MEMORY, INSERTED, INSERTED],
+    ),
+    (4, Failure::Refused, &[UNAVAILABLE, INSERTED, INSERTED]),
+    (
+        4,
+        Failure::BrokenBefore,
+        &[UNAVAILABLE, UNAVAILABLE, UNAVAILABLE],
+    ),
+    (
+        4,
+        Failure::BrokenAfter,
+        &[UNAVAILABLE, UNAVAILABLE, UNAVAILABLE],
+    ),
+    (8, Failure::OutOfMemory, &[INSERTED, EXISTS, OUT_OF_MEMORY]),
+];
+
+fn scripted(alloc: Global, call: u64, failure: Failure) -> Result<ScriptedArchive, StoreFault> {
+    match ReplicaNo::new(1) {
+        Some(one) => Ok(ScriptedArchive::new(alloc, Uuid::nil(), one, call, failure)),
+        None => Err(StoreFault::WrongReplica),
+    }
+}
+
+fn inserts_three(
+    alloc: Global,
+    call: u64,
+    failure: Failure,
+) -> Result<HistoryUpdateResult, StoreFault> {
+    let mut archive = scripted(alloc, call, failure)?;
+    let values = [
+        value(int(1), Some(10)),
+        value(int(2), Some(10)),
+        value(int(3), Some(20)),
+    ];
+    Ok(update(alloc, &mut archive, 100, INT32, 1, &values)?)
+}
+
+#[test]
+fn faults_have_their_codes(rt: HostRuntime) -> Result<(), Fail> {
+    for (call, failure, codes) in &FAILURES {
+        let told = inserts_three(rt.alloc(), *call, *failure)?;
+        assert!(rt;
+            told.status == GOOD && told.operation_results.as_slice() == *codes,
+            "{call} {failure:?}"
+        );
+    }
+    Ok(())
+}
+
+/// Over two values that were inserted by 8 calls: which call fails, how, the status of a delete of all,
+/// and how many codes. The first two calls of it are its listing, and each delete has four.
+static FAILED_STRETCHES: [(u64, Failure, Status, usize); 8] = [
+    (9, Failure::OutOfMemory, OUT_OF_MEMORY, 0),
+    (9, Failure::BrokenBefore, UNAVAILABLE, 0),
+    (10, Failure::OutOfMemory, OUT_OF_MEMORY, 0),
+    (10, Failure::Refused, UNAVAILABLE, 0),
+    (11, Failure::Refused, UNAVAILABLE, 2),
+    (14, Failure::BrokenAfter, UNAVAILABLE, 2),
+    (18, Failure::OutOfMemory, OUT_OF_MEMORY, 2),
+    (99, Failure::Refused, GOOD, 2),
+];
+
+static TWO: [Row; 2] = [(100, 1, 10, 1, INSERTED), (100, 1, 20, 2, INSERTED)];
+
+fn erases_two(
+    alloc: Global,
+    call: u64,
+    failure: Failure,
+) -> Result<HistoryUpdateResult, StoreFault> {
+    let mut archive = scripted(alloc, call, failure)?;
+    if !operates(alloc, &mut archive, &TWO)? {
+        return Err(StoreFault::Refused);
+    }
+    Ok(erase(alloc, &mut archive, false, 1, 100)?)
+}
+
+#[test]
+fn failed_deletes_have_their_status(rt: HostRuntime) -> Result<(), Fail> {
+    for (call, failure, status, count) in &FAILED_STRETCHES {
+        let told = erases_two(rt.alloc(), *call, *failure)?;
+        assert!(rt;
+            told.status == *status && told.operation_results.len() == *count,
+            "{call} {failure:?}"
+        );
+    }
+    Ok(())
+}
+
+/// Whether an insert of a value at 10 with these picoseconds is answered so.
+fn inserts_close<A: Archive>(
+    alloc: Global,
+    archive: &mut A,
+    pico: u16,
+    written: i32,
+) -> Result<Status, AllocError> {
+    let mut close = value(int(written), Some(10));
+    close.source_pico = Some(pico);
+    let told = update(alloc, archive, 100, INT32, 1, &[close])?;
+    match told.operation_results.as_slice() {
+        [code] => Ok(*code),
+        _ => Err(AllocError),
+    }
+}
+
+/// How many values are live at 10.
+fn live_at_10<A: Archive>(alloc: Global, archive: &mut A) -> Result<usize, StoreFault> {
+    let request = request(alloc, 0)?;
+    let to = Moment {
+        ticks: 10,
+        pico: 9999,
+    };
+    let all = archive.vector()?;
+    let lives = archive.range(
+        alloc,
+        &request.node,
+        Moment::at(10),
+        to,
+        Direction::Forward,
+        9,
+        &all,
+    )?;
+    Ok(lives.len())
+}
+
+#[test]
+fn moments_are_apart(rt: HostRuntime) -> Result<(), Fail> {
+    let alloc = rt.alloc();
+    let mut archive = list_archive(alloc)?;
+    assert!(rt; inserts_close(alloc, &mut archive, 0, 7)? == INSERTED);
+    assert!(rt; inserts_close(alloc, &mut archive, 5, 8)? == INSERTED);
+    assert!(rt; inserts_close(alloc, &mut archive, 5, 9)? == EXISTS);
+    assert!(rt; live_at_10(alloc, &mut archive)? == 2);
+    let deleted = delete(alloc, &mut archive, 100, &[Ticks(10)])?;
+    assert!(rt; is_told(&deleted, GOOD, 1, GOOD));
+    assert!(rt; live_at_10(alloc, &mut archive)? == 1);
+    assert!(rt; erases(alloc, &mut archive, &[(false, 10, 10, GOOD, 1)])?);
+    assert!(rt; live_at_10(alloc, &mut archive)? == 0);
+    Ok(())
+}
+
+/// Whether the answer to an insert is written as these bytes.
+fn is_answered(alloc: Global, bytes: &[u8]) -> Result<bool, StoreFault> {
+    let mut archive = list_archive(alloc)?;
+    let request = request(alloc, 100)?;
+    let values = [value(int(7), Some(10))];
+    if !is_request(&request) || !are_short(&values) {
+        return Ok(false);
+    }
+    let told = update_data(alloc, &mut archive, &request, INT32, 1, &values);
+    let mut out = Vec::new(alloc);
+    let put = put_history_update_response(&mut out, &[told]);
+    Ok(put.is_ok() && out.as_slice() == bytes)
+}
+
+/// One result: its status, one code, and no diagnostics; then no diagnostics.
+static ANSWER: [u8; 24] = [
+    1, 0, 0, 0, 0, 0, 0, 0, 1, 0, 0, 0, 0, 0, 0xA2, 0, 0xFF, 0xFF, 0xFF, 0xFF, 0xFF, 0xFF, 0xFF,
+    0xFF,
+];
+
+#[test]
+fn answers_are_written(rt: HostRuntime) -> Result<(), Fail> {
+    assert!(rt; is_answered(rt.alloc(), &ANSWER)?);
+    Ok(())
+}

@@ -1,0 +1,342 @@
+//! Greetings and chunks.
+
+use std::alloc::Global;
+use std::test::Fail;
+use uacp::{
+    Hello, Intake, Kind, Letter, UacpFault, answer_hello, put_ack, put_error, read_hello, split,
+};
+
+/// A greeting of 56 bytes: sizes 65,536, no other limits, a URL of 24 bytes.
+const HELLO: &[u8] =
+    b"HELF\x38\0\0\0\0\0\0\0\0\0\x01\0\0\0\x01\0\0\0\0\0\0\0\0\0\x18\0\0\0opc.tcp://localhost:4840";
+
+/// What the server answers to the body of a Hello.
+fn answer(alloc: Global, body: &[u8]) -> Result<Vec<u8>, UacpFault> {
+    let mut out = Vec::new(alloc);
+    match read_hello(body).and_then(|hello| answer_hello(&hello)) {
+        Ok(ack) => put_ack(&mut out, &ack)?,
+        Err(fault) => put_error(&mut out, fault.code())?,
+    }
+    Ok(out)
+}
+
+/// The next chunk's kind, letter and number of bytes after the header.
+fn next(intake: &mut Intake) -> Result<Option<(Kind, Letter, usize)>, UacpFault> {
+    let chunk = intake.next_chunk()?;
+    Ok(chunk.map(|chunk| (chunk.kind, chunk.letter, chunk.body.len())))
+}
+
+/// What stands first in some bytes, after a greeting or as the first ones.
+fn first(
+    alloc: Global,
+    is_greeted: bool,
+    bytes: &[u8],
+) -> Result<Option<(Kind, Letter, usize)>, UacpFault> {
+    let mut intake = Intake::new(alloc);
+    if is_greeted {
+        intake.feed(HELLO)?;
+        next(&mut intake)?;
+    }
+    intake.feed(bytes)?;
+    next(&mut intake)
+}
+
+#[test]
+fn greets(rt: HostRuntime) -> Result<(), Fail> {
+    let mut intake = Intake::new(rt.alloc());
+    intake.feed(HELLO).ok().ok_or("memory")?;
+    let chunk = intake.next_chunk().ok().flatten().ok_or("a chunk")?;
+    assert_eq!(rt; chunk.kind, Kind::Hello);
+    assert_eq!(rt; chunk.letter, Letter::Final);
+    let out = answer(rt.alloc(), chunk.body).ok().ok_or("memory")?;
+    assert_eq!(rt;
+        out.as_slice(),
+        b"ACKF\x1c\0\0\0\0\0\0\0\0\0\x01\0\0\0\x01\0\0\0\x40\0\x40\0\0\0".as_slice()
+    );
+    assert_eq!(rt; next(&mut intake), Ok(None));
+    Ok(())
+}
+
+#[test]
+fn greets_byte_by_byte(rt: HostRuntime) -> Result<(), Fail> {
+    let mut intake = Intake::new(rt.alloc());
+    for (i, byte) in HELLO.iter().enumerate() {
+        intake.feed(&[*byte]).ok().ok_or("memory")?;
+        let want = if i == 55 {
+            Some((Kind::Hello, Letter::Final, 48))
+        } else {
+            None
+        };
+        assert_eq!(rt; next(&mut intake), Ok(want), "after byte {i}");
+    }
+    Ok(())
+}
+
+/// Five numbers and a null URL, with these sizes.
+fn hello_of(receive_size: u32, send_size: u32) -> [u8; 24] {
+    let mut body = [0; 24];
+    body[4..8].copy_from_slice(&receive_size.to_le_bytes());
+    body[8..12].copy_from_slice(&send_size.to_le_bytes());
+    body[20..].copy_from_slice(&[255; 4]);
+    body
+}
+
+#[test]
+fn answers_by_the_sizes(rt: HostRuntime) -> Result<(), Fail> {
+    let too_small = b"ERRF\x10\0\0\0\0\0\xac\x80\xff\xff\xff\xff".as_slice();
+    for (receive_size, send_size) in [(8191, 65536), (65536, 8191), (0, 0)] {
+        let out = answer(rt.alloc(), &hello_of(receive_size, send_size))
+            .ok()
+            .ok_or("memory")?;
+        assert_eq!(rt;
+            out.as_slice(),
+            too_small,
+            "at {receive_size} and {send_size}"
+        );
+    }
+    for (receive_size, send_size, want) in [
+        (8192, 16384, (16384, 8192)),
+        (16384, 8192, (8192, 16384)),
+        (65537, 8192, (8192, 65536)),
+        (8192, u32::MAX, (65536, 8192)),
+    ] {
+        let hello = read_hello(&hello_of(receive_size, send_size))
+            .ok()
+            .ok_or("a Hello")?;
+        let ack = answer_hello(&hello).ok().ok_or("an Acknowledge")?;
+        assert_eq!(rt;
+            (ack.receive_size, ack.send_size),
+            want,
+            "at {receive_size} and {send_size}"
+        );
+    }
+    Ok(())
+}
+
+#[test]
+fn reads_hellos(rt: HostRuntime) -> Result<(), Fail> {
+    let hello = read_hello(
+        b"\x07\0\0\0\0\x20\0\0\0\x40\0\0\x01\0\0\0\x02\0\0\0\x03\0\0\0a\xc3\xa9",
+    );
+    let want = Hello {
+        version: 7,
+        receive_size: 8192,
+        send_size: 16384,
+        max_message: 1,
+        max_chunks: 2,
+    };
+    assert_eq!(rt; hello, Ok(want));
+    for (what, body) in [
+        ("nothing", b"".as_slice()),
+        (
+            "no URL",
+            b"\0\0\0\0\0\x20\0\0\0\x20\0\0\0\0\0\0\0\0\0\0".as_slice(),
+        ),
+        (
+            "length -2",
+            b"\0\0\0\0\0\x20\0\0\0\x20\0\0\0\0\0\0\0\0\0\0\xfe\xff\xff\xff".as_slice(),
+        ),
+        (
+            "a URL of two bytes that has one",
+            b"\0\0\0\0\0\x20\0\0\0\x20\0\0\0\0\0\0\0\0\0\0\x02\0\0\0a".as_slice(),
+        ),
+        (
+            "a URL that is not UTF-8",
+            b"\0\0\0\0\0\x20\0\0\0\x20\0\0\0\0\0\0\0\0\0\0\x02\0\0\0\xc3\x28".as_slice(),
+        ),
+        (
+            "a byte after a null URL",
+            b"\0\0\0\0\0\x20\0\0\0\x20\0\0\0\0\0\0\0\0\0\0\xff\xff\xff\xff\0".as_slice(),
+        ),
+        (
+            "a byte after the URL",
+            b"\0\0\0\0\0\x20\0\0\0\x20\0\0\0\0\0\0\0\0\0\0\x01\0\0\0ab".as_slice(),
+        ),
+    ] {
+        assert_eq!(rt; read_hello(body), Err(UacpFault::HelloInvalid), "at {what}");
+    }
+    Ok(())
+}
+
+#[test]
+fn judges_the_first_chunk(rt: HostRuntime) -> Result<(), Fail> {
+    for (what, bytes, want) in [
+        ("seven bytes", b"GET /ab".as_slice(), Ok(None)),
+        (
+            "size 31",
+            b"HELF\x1f\0\0\0".as_slice(),
+            Err(UacpFault::SizeTooSmall),
+        ),
+        (
+            "size 0",
+            b"HELF\0\0\0\0".as_slice(),
+            Err(UacpFault::SizeTooSmall),
+        ),
+        ("size 32", b"HELF\x20\0\0\0".as_slice(), Ok(None)),
+        ("size 4,128", b"HELF\x20\x10\0\0".as_slice(), Ok(None)),
+        (
+            "size 4,129",
+            b"HELF\x21\x10\0\0".as_slice(),
+            Err(UacpFault::TooLarge),
+        ),
+        (
+            "letters of no chunk",
+            b"GET \x2f\0\0\0".as_slice(),
+            Err(UacpFault::TypeInvalid),
+        ),
+        (
+            "more of a Hello",
+            b"HELC\x20\0\0\0".as_slice(),
+            Err(UacpFault::TypeInvalid),
+        ),
+        (
+            "a message",
+            b"MSGF\x18\0\0\0".as_slice(),
+            Err(UacpFault::TypeInvalid),
+        ),
+    ] {
+        assert_eq!(rt; first(rt.alloc(), false, bytes), want, "at {what}");
+    }
+    Ok(())
+}
+
+#[test]
+fn judges_later_chunks(rt: HostRuntime) -> Result<(), Fail> {
+    let more = Some((Kind::Message, Letter::More, 16));
+    for (what, bytes, want) in [
+        (
+            "MSG of 24",
+            b"MSGC\x18\0\0\0abcdefghijklmnop".as_slice(),
+            Ok(more),
+        ),
+        (
+            "MSG of 23",
+            b"MSGF\x17\0\0\0abcdefghijklmno".as_slice(),
+            Err(UacpFault::SizeTooSmall),
+        ),
+        ("MSG given up", b"MSGA\x18\0\0\0".as_slice(), Ok(None)),
+        ("MSG of 65,536", b"MSGF\0\0\x01\0".as_slice(), Ok(None)),
+        (
+            "MSG of 65,537",
+            b"MSGF\x01\0\x01\0".as_slice(),
+            Err(UacpFault::TooLarge),
+        ),
+        (
+            "OPN of 31",
+            b"OPNF\x1f\0\0\0".as_slice(),
+            Err(UacpFault::SizeTooSmall),
+        ),
+        ("OPN of 32", b"OPNF\x20\0\0\0".as_slice(), Ok(None)),
+        (
+            "more of an OPN",
+            b"OPNC\x20\0\0\0".as_slice(),
+            Err(UacpFault::TypeInvalid),
+        ),
+        (
+            "CLO of 23",
+            b"CLOF\x17\0\0\0".as_slice(),
+            Err(UacpFault::SizeTooSmall),
+        ),
+        ("CLO of 24", b"CLOF\x18\0\0\0".as_slice(), Ok(None)),
+        (
+            "a CLO given up",
+            b"CLOA\x18\0\0\0".as_slice(),
+            Err(UacpFault::TypeInvalid),
+        ),
+        ("a second HEL", HELLO, Err(UacpFault::TypeInvalid)),
+    ] {
+        assert_eq!(rt; first(rt.alloc(), true, bytes), want, "at {what}");
+    }
+    Ok(())
+}
+
+#[test]
+fn judges_by_the_limit(rt: HostRuntime) -> Result<(), Fail> {
+    for (size, want) in [(8192, Ok(None)), (8193, Err(UacpFault::TooLarge))] {
+        let mut intake = Intake::new(rt.alloc());
+        intake.feed(HELLO).ok().ok_or("memory")?;
+        assert!(rt; next(&mut intake).is_ok());
+        intake.set_limit(8192);
+        intake.feed(b"CLOF").ok().ok_or("memory")?;
+        let size: u32 = size;
+        intake.feed(&size.to_le_bytes()).ok().ok_or("memory")?;
+        assert_eq!(rt; next(&mut intake), want, "at {size}");
+        intake.set_limit(65536);
+        intake.feed(&[0; 16]).ok().ok_or("memory")?;
+        assert_eq!(rt; next(&mut intake), want, "again at {size}");
+    }
+    Ok(())
+}
+
+#[test]
+fn gives_several_chunks(rt: HostRuntime) -> Result<(), Fail> {
+    let mut intake = Intake::new(rt.alloc());
+    intake.feed(HELLO).ok().ok_or("memory")?;
+    intake
+        .feed(b"MSGC\x18\0\0\0abcdefghijklmnopMSGF\x19\0\0\0ABCDEFGHIJKLMNOPQCLO")
+        .ok()
+        .ok_or("memory")?;
+    assert_eq!(rt;
+        next(&mut intake),
+        Ok(Some((Kind::Hello, Letter::Final, 48)))
+    );
+    let chunk = intake.next_chunk().ok().flatten().ok_or("a chunk")?;
+    assert_eq!(rt; chunk.body, b"abcdefghijklmnop".as_slice());
+    intake.feed(b"F\x18\0\0\0").ok().ok_or("memory")?;
+    let chunk = intake.next_chunk().ok().flatten().ok_or("a chunk")?;
+    assert_eq!(rt; chunk.body, b"ABCDEFGHIJKLMNOPQ".as_slice());
+    assert_eq!(rt; next(&mut intake), Ok(None));
+    intake.feed(b"0123456789abcdef").ok().ok_or("memory")?;
+    assert_eq!(rt;
+        next(&mut intake),
+        Ok(Some((Kind::Close, Letter::Final, 16)))
+    );
+    Ok(())
+}
+
+#[test]
+fn tells_faults(rt: HostRuntime) -> Result<(), Fail> {
+    for (fault, number, code, bytes) in [
+        (UacpFault::TypeInvalid, 1, 0x807E_0000, [0, 0, 0x7e, 0x80]),
+        (UacpFault::TooLarge, 2, 0x8080_0000, [0, 0, 0x80, 0x80]),
+        (UacpFault::SizeTooSmall, 3, 0x8007_0000, [0, 0, 7, 0x80]),
+        (UacpFault::HelloInvalid, 4, 0x8007_0000, [0, 0, 7, 0x80]),
+        (
+            UacpFault::BuffersTooSmall,
+            5,
+            0x80AC_0000,
+            [0, 0, 0xac, 0x80],
+        ),
+        (UacpFault::OutOfMemory, 6, 0x8003_0000, [0, 0, 3, 0x80]),
+    ] {
+        assert_eq!(rt; fault.number(), number, "of {fault}");
+        assert_eq!(rt; fault.code().0, code, "of {fault}");
+        let mut out = vec![in rt.alloc(); 1, 2]?;
+        put_error(&mut out, fault.code()).ok().ok_or("memory")?;
+        assert_eq!(rt; out.len(), 18);
+        assert!(rt; out.as_slice().starts_with(b"\x01\x02ERRF\x10\0\0\0"));
+        assert_eq!(rt; &out[10..14], bytes.as_slice(), "of {fault}");
+    }
+    Ok(())
+}
+
+#[test]
+fn splits_bodies(rt: HostRuntime) -> Result<(), Fail> {
+    let body = [7; 8169];
+    for (len, limit, want) in [
+        (8169, 8192, (Some(8168), Some(1), None)),
+        (8168, 8192, (Some(8168), None, None)),
+        (0, 8192, (Some(0), None, None)),
+        (5, 26, (Some(2), Some(2), Some(1))),
+        (4, 26, (Some(2), Some(2), None)),
+    ] {
+        assert!(rt; len <= body.len() && 24 < limit);
+        let mut lens = split(&body[..len], limit).map(|piece| piece.len());
+        assert_eq!(rt;
+            (lens.next(), lens.next(), lens.next()),
+            want,
+            "{len} at {limit}"
+        );
+    }
+    Ok(())
+}

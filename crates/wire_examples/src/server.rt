@@ -1,0 +1,539 @@
+mod clients;
+mod network;
+mod peers;
+mod rows;
+mod runs;
+
+use archive::{Archive, ListArchive};
+use clients::{BEGIN, BEGUN, CLIENTS};
+use rows::{ACK, ANSWER, HELLO, OPEN, OPENED, PART, REQUEST, REST, ROWS, SESSION};
+use sql_archive::SqlArchive;
+use stamp::ReplicaNo;
+use std::alloc::Global;
+use std::io;
+use std::io::{Read, Write};
+use std::test::Fail;
+use ua_binary::{Status, Text};
+use ua_server::{
+    Clock, ConstantClock, Counted, HexFault, ServeFault, Served, SystemClock, answer_hex,
+    answers_go_item_by_item, chunks_are_counted, serve,
+};
+use ua_session::Users;
+use ua_settings::{Parts, Settings};
+use ua_space::{Plan, Space, VariablePlan};
+use uuid::Uuid;
+
+/// Takes one byte a call, and none once it has `room`.
+#[derive(Drop)]
+struct Narrow {
+    bytes: Vec<u8>,
+    room: usize,
+}
+
+impl Write for Narrow {
+    fn write(&mut self, buf: &[u8]) -> io::Result<usize> {
+        if self.bytes.len() >= self.room || buf.is_empty() {
+            return Ok(0);
+        }
+        self.bytes.push(buf[0])?;
+        Ok(1)
+    }
+
+    fn flush(&mut self) -> io::Result<()> {
+        Ok(())
+    }
+}
+
+/// Gives at most `size` bytes a call, and once they are over an error, or the end.
+#[derive(Drop)]
+struct Slow<'a> {
+    bytes: &'a [u8],
+    size: usize,
+    fails: bool,
+}
+
+impl Read for Slow<'_> {
+    fn read(&mut self, buf: &mut [u8]) -> io::Result<usize> {
+        if self.bytes.is_empty() && self.fails {
+            return Err(io::Error::from(io::ErrorKind::BrokenPipe));
+        }
+        let n = self.size.min(buf.len()).min(self.bytes.len());
+        let (piece, rest) = self.bytes.split_at(n);
+        buf[..n].copy_from_slice(piece);
+        self.bytes = rest;
+        Ok(n)
+    }
+}
+
+/// Is interrupted before each byte that it gives or takes.
+#[derive(Drop)]
+struct Halting<T> {
+    inner: T,
+    halts: bool,
+}
+
+impl<T> Halting<T> {
+    fn halt(&mut self) -> io::Result<()> {
+        self.halts = !self.halts;
+        if self.halts {
+            return Err(io::Error::from(io::ErrorKind::Interrupted));
+        }
+        Ok(())
+    }
+}
+
+impl Read for Halting<Slow<'_>> {
+    fn read(&mut self, buf: &mut [u8]) -> io::Result<usize> {
+        self.halt()?;
+        self.inner.read(buf)
+    }
+}
+
+impl Write for Halting<Narrow> {
+    fn write(&mut self, buf: &[u8]) -> io::Result<usize> {
+        self.halt()?;
+        self.inner.write(buf)
+    }
+
+    fn flush(&mut self) -> io::Result<()> {
+        Ok(())
+    }
+}
+
+/// Each reading is one tick after the last one.
+#[derive(Drop)]
+struct Ticking(i64);
+
+impl Clock for Ticking {
+    ghost gave = { λ a xs b. Unit };
+
+    ghost gave_none = { λ a. tt };
+
+    ghost gave_more = { λ a b c xs ys p q. tt };
+
+    fn now(&mut self) -> i64 {
+        let now = self.0;
+        self.0 = now.saturating_add(1);
+        now
+    }
+}
+
+fn clock() -> ConstantClock {
+    ConstantClock(116_444_736_000_000_000)
+}
+
+/// The archive of these settings, which holds nothing.
+pub(crate) fn archive_of(alloc: Global, settings: &Settings) -> ListArchive {
+    ListArchive::new(alloc, settings.archive(), settings.replica())
+}
+
+/// The parts, one after the other.
+fn joined(alloc: Global, parts: &[&str]) -> Result<String, Fail> {
+    let mut text = String::new(alloc);
+    for part in parts {
+        text.push_str(part)?;
+    }
+    Ok(text)
+}
+
+/// The bytes that the parts spell in hex digits.
+fn bytes_of(alloc: Global, parts: &[&str]) -> Result<Vec<u8>, Fail> {
+    let mut digits = Vec::new(alloc);
+    for part in parts {
+        for byte in part.bytes() {
+            if byte.is_ascii_hexdigit() {
+                digits.push(byte)?;
+            }
+        }
+    }
+    Ok(hex::decode(alloc, digits.as_slice())?)
+}
+
+/// The digits are these parts, one after the other.
+fn is_joined(digits: &[u8], parts: &[&str]) -> bool {
+    let mut rest = digits;
+    for part in parts {
+        match rest.strip_prefix(part.as_bytes()) {
+            Some(after) => rest = after,
+            None => return false,
+        }
+    }
+    rest.is_empty()
+}
+
+/// The answer of a server without settings, over an archive that holds nothing.
+fn answer<C: Clock>(
+    alloc: Global,
+    text: &str,
+    out: &mut Vec<u8>,
+    clock: &mut C,
+) -> Result<Served, HexFault> {
+    let Ok(settings) = Settings::bare(alloc) else {
+        return Err(HexFault::Serve(ServeFault::OutOfMemory));
+    };
+    let mut archive = archive_of(alloc, &settings);
+    answer_hex(alloc, &settings, &mut archive, text, out, clock)
+}
+
+/// Such a server serves a client.
+fn serve_bare<R: Read, W: Write>(
+    alloc: Global,
+    reader: &mut Counted<R>,
+    writer: &mut Counted<W>,
+) -> Result<Served, ServeFault> {
+    let Ok(settings) = Settings::bare(alloc) else {
+        return Err(ServeFault::OutOfMemory);
+    };
+    let mut archive = archive_of(alloc, &settings);
+    serve(alloc, &settings, &mut archive, reader, writer, &mut clock())
+}
+
+/// A connection in hex digits is answered so.
+fn is_answered(alloc: Global, text: &str, want: &[&str], ending: Served) -> Result<bool, Fail> {
+    let mut out = Vec::new(alloc);
+    let served = answer(alloc, text, &mut out, &mut clock())?;
+    Ok(served == ending && is_joined(out.as_slice(), want))
+}
+
+#[test]
+fn answers_in_hex(rt: HostRuntime) -> Result<(), Fail> {
+    for (what, input, want, ending) in ROWS {
+        let text = joined(rt.alloc(), input)?;
+        assert!(rt;
+            is_answered(rt.alloc(), text.as_str(), want, ending)?,
+            "{what}"
+        );
+    }
+    Ok(())
+}
+
+/// A plant with the one variable `ns=1;s=T`, an Int32.
+pub(crate) fn plant(alloc: Global) -> Result<Settings, Fail> {
+    let plan = Plan {
+        namespace: "urn:uahist:archive",
+        folders: &[],
+        variables: &[VariablePlan {
+            id: "T",
+            name: "T",
+            type_name: "Int32",
+            array: false,
+            folder: None,
+        }],
+    };
+    Ok(Settings::of(Parts {
+        archive: Uuid::nil(),
+        replica: ReplicaNo::new(1).ok_or("a replica")?,
+        store: None,
+        listen: Text::from_str(alloc, "127.0.0.1:4840")?,
+        url: Text::from_str(alloc, "opc.tcp://localhost:4840")?,
+        application: Text::from_str(alloc, "urn:uahist")?,
+        users: Users::new(alloc, true),
+        space: Space::build(alloc, &plan)?,
+    }))
+}
+
+/// What a plant writes over this archive to a client that begins a session and asks this.
+fn served_to<A: Archive>(
+    alloc: Global,
+    settings: &Settings,
+    archive: &mut A,
+    rows: &[(&str, &str, &str)],
+) -> Result<Vec<u8>, Fail> {
+    let mut input = bytes_of(alloc, &[HELLO, OPEN, BEGIN[0], BEGIN[1]])?;
+    for (_, request, _) in rows {
+        let bytes = bytes_of(alloc, &[request])?;
+        input.extend_from_slice(bytes.as_slice())?;
+    }
+    let mut reader = Counted::new(input.as_slice());
+    let mut writer = Counted::new(Vec::new(alloc));
+    serve(
+        alloc,
+        settings,
+        archive,
+        &mut reader,
+        &mut writer,
+        &mut clock(),
+    )?;
+    Ok(writer.into_inner())
+}
+
+/// The first row, by its name, whose answer isn't the next one that was written; what is behind all rows is named so.
+fn first_other<'a>(
+    alloc: Global,
+    written: &[u8],
+    rows: &[(&'a str, &str, &str)],
+) -> Result<Option<&'a str>, Fail> {
+    let begun = bytes_of(alloc, &[ACK, OPENED, BEGUN[0], BEGUN[1]])?;
+    let mut rest = written.strip_prefix(begun.as_slice()).ok_or("a session")?;
+    for (name, _, answer) in rows {
+        let want = bytes_of(alloc, &[answer])?;
+        match rest.strip_prefix(want.as_slice()) {
+            Some(after) => rest = after,
+            None => return Ok(Some(name)),
+        }
+    }
+    Ok(if rest.is_empty() {
+        None
+    } else {
+        Some("the end")
+    })
+}
+
+#[test]
+fn serves_clients_of_a_plant(rt: HostRuntime) -> Result<(), Fail> {
+    let settings = plant(rt.alloc())?;
+    for (client, rows) in CLIENTS {
+        let mut archive = archive_of(rt.alloc(), &settings);
+        let written = served_to(rt.alloc(), &settings, &mut archive, rows)?;
+        assert_eq!(rt;
+            first_other(rt.alloc(), written.as_slice(), rows)?,
+            None,
+            "{client}"
+        );
+    }
+    Ok(())
+}
+
+/// The same over an archive in SQLite.
+#[test]
+fn serves_clients_over_a_store(rt: HostRuntime) -> Result<(), Fail> {
+    let settings = plant(rt.alloc())?;
+    for (client, rows) in CLIENTS {
+        let mut archive = SqlArchive::open_in_memory(
+            rt.alloc(),
+            settings.archive(),
+            settings.replica(),
+        )?;
+        let written = served_to(rt.alloc(), &settings, &mut archive, rows)?;
+        assert_eq!(rt;
+            first_other(rt.alloc(), written.as_slice(), rows)?,
+            None,
+            "{client}"
+        );
+    }
+    Ok(())
+}
+
+#[test]
+fn refuses_bad_hex(rt: HostRuntime) {
+    for text in ["4G", "484", "48\t45"] {
+        let mut out = Vec::new(rt.alloc());
+        let result = answer(rt.alloc(), text, &mut out, &mut clock());
+        assert!(rt; result == Err(HexFault::BadHex) && out.is_empty(), "{text}");
+    }
+}
+
+/// What was written before stays, and after an error nothing is appended.
+#[test]
+fn keeps_what_was_written(rt: HostRuntime) -> Result<(), Fail> {
+    let mut out = vec![in rt.alloc(); 7u8]?;
+    for text in [HELLO, "4G"] {
+        let _ = answer(rt.alloc(), text, &mut out, &mut clock());
+        assert!(rt;
+            out.first() == Some(&7) && out.get(1..) == Some(ACK.as_bytes()),
+            "{text}"
+        );
+    }
+    Ok(())
+}
+
+/// The connection is served so from pieces of this size, with no fault; the reader fails at its end where it is told to.
+fn is_served(alloc: Global, bytes: &[u8], size: usize, fails: bool, want: &[u8]) -> bool {
+    let mut reader = Counted::new(Slow { bytes, size, fails });
+    let mut writer = Counted::new(Vec::new(alloc));
+    let result = serve_bare(alloc, &mut reader, &mut writer);
+    let ending = if fails {
+        Err(ServeFault::Read)
+    } else {
+        Ok(Served::EndOfInput)
+    };
+    let faults = if fails { 1 } else { 0 };
+    result == ending
+        && reader.faults() == faults
+        && writer.faults() == 0
+        && writer.into_inner().as_slice() == want
+}
+
+/// A writer that takes so many bytes has just these, and its failed call is counted.
+fn is_written(alloc: Global, bytes: &[u8], room: usize, want: &[u8]) -> bool {
+    let mut reader = Counted::new(bytes);
+    let mut writer = Counted::new(Narrow {
+        bytes: Vec::new(alloc),
+        room,
+    });
+    let result = serve_bare(alloc, &mut reader, &mut writer);
+    let (ending, faults) = if room < want.len() {
+        (Err(ServeFault::Write), 1)
+    } else {
+        (Ok(Served::EndOfInput), 0)
+    };
+    result == ending
+        && reader.faults() == 0
+        && writer.faults() == faults
+        && Some(writer.into_inner().bytes.as_slice()) == want.get(..room.min(want.len()))
+}
+
+/// How many bytes answer a front of a Hello, an opening and a message.
+fn answered_of(front: usize) -> usize {
+    match front {
+        0..56 => 0,
+        56..188 => 28,
+        188..243 => 163,
+        _ => 215,
+    }
+}
+
+#[test]
+fn serves_in_pieces(rt: HostRuntime) -> Result<(), Fail> {
+    let input = bytes_of(rt.alloc(), &[HELLO, OPEN, REQUEST])?;
+    let want = bytes_of(rt.alloc(), &[ACK, OPENED, ANSWER])?;
+    assert_eq!(rt; (input.len(), want.len()), (243, 215));
+    for size in 1..244 {
+        assert!(rt;
+            is_served(rt.alloc(), input.as_slice(), size, false, want.as_slice()),
+            "{size}"
+        );
+    }
+    Ok(())
+}
+
+#[test]
+fn serves_each_front(rt: HostRuntime) -> Result<(), Fail> {
+    let input = bytes_of(rt.alloc(), &[HELLO, OPEN, REQUEST])?;
+    let want = bytes_of(rt.alloc(), &[ACK, OPENED, ANSWER])?;
+    for count in 0..244 {
+        let bytes = input.get(..count).ok_or("a front")?;
+        let out = want.get(..answered_of(count)).ok_or("a front")?;
+        for fails in [true, false] {
+            assert!(rt; is_served(rt.alloc(), bytes, 1, fails, out), "{count}");
+        }
+    }
+    Ok(())
+}
+
+#[test]
+fn stops_where_the_writer_does(rt: HostRuntime) -> Result<(), Fail> {
+    let input = bytes_of(rt.alloc(), &[HELLO, OPEN, REQUEST])?;
+    let want = bytes_of(rt.alloc(), &[ACK, OPENED, ANSWER])?;
+    for room in 0..217 {
+        assert!(rt;
+            is_written(rt.alloc(), input.as_slice(), room, want.as_slice()),
+            "{room}"
+        );
+    }
+    Ok(())
+}
+
+/// A call that was interrupted is tried again, and counts as no failed one.
+#[test]
+fn goes_on_where_it_was_interrupted(rt: HostRuntime) -> Result<(), Fail> {
+    let input = bytes_of(rt.alloc(), &[HELLO, OPEN, REQUEST])?;
+    let want = bytes_of(rt.alloc(), &[ACK, OPENED, ANSWER])?;
+    let mut reader = Counted::new(Halting {
+        inner: Slow {
+            bytes: input.as_slice(),
+            size: 1,
+            fails: false,
+        },
+        halts: false,
+    });
+    let mut writer = Counted::new(Halting {
+        inner: Narrow {
+            bytes: Vec::new(rt.alloc()),
+            room: 1000,
+        },
+        halts: false,
+    });
+    let result = serve_bare(rt.alloc(), &mut reader, &mut writer);
+    assert!(rt; result == Ok(Served::EndOfInput));
+    assert!(rt; reader.faults() == 0 && writer.faults() == 0);
+    assert!(rt; writer.into_inner().inner.bytes.as_slice() == want.as_slice());
+    Ok(())
+}
+
+/// A connection with so many chunks of one message, of no byte each.
+fn many_chunks(alloc: Global, count: u8) -> Result<Vec<u8>, Fail> {
+    let mut bytes = bytes_of(alloc, &[HELLO, OPEN])?;
+    for number in 0..count {
+        bytes.extend_from_slice(b"MSGC\x18\0\0\0\x01\0\0\0\x01\0\0\0")?;
+        bytes.extend_from_slice(&[number.saturating_add(2), 0, 0, 0, 2, 0, 0, 0])?;
+    }
+    Ok(bytes)
+}
+
+/// How many chunks of one message come, what goes out, and how the connection ends.
+static COUNTS: [(u8, &[&str], Served); 2] = [
+    (64, &[ACK, OPENED], Served::EndOfInput),
+    (
+        65,
+        &[ACK, OPENED, "455252461000000000008080FFFFFFFF"],
+        Served::Refused(Status(0x8080_0000)),
+    ),
+];
+
+/// A message has 64 chunks, and not 65.
+#[test]
+fn bounds_a_message(rt: HostRuntime) -> Result<(), Fail> {
+    for (count, want, ending) in COUNTS {
+        let input = many_chunks(rt.alloc(), count)?;
+        let text = hex::encode(rt.alloc(), input.as_slice())?;
+        assert!(rt;
+            is_answered(rt.alloc(), text.as_str(), want, ending)?,
+            "{count}"
+        );
+    }
+    Ok(())
+}
+
+/// The clock is read once for the opening and once for the message, and for nothing else.
+#[test]
+fn reads_the_clock(rt: HostRuntime) -> Result<(), Fail> {
+    let text = joined(rt.alloc(), &[HELLO, OPEN, PART, REST, PART])?;
+    let mut clock = Ticking(0x0102_0304_0506_0708);
+    let mut out = Vec::new(rt.alloc());
+    let result = answer(rt.alloc(), text.as_str(), &mut out, &mut clock);
+    assert!(rt; result == Ok(Served::Refused(Status(0x8088_0000))));
+    assert_eq!(rt; clock.0, 0x0102_0304_0506_070A);
+    // the opening's answer has 270 digits after the Acknowledge's 56, the message's timestamp comes 28 bytes into its own
+    assert!(rt; out.get(382..398) == Some(b"0907060504030201".as_slice()));
+    Ok(())
+}
+
+/// Each request of a session is answered so, behind those before it.
+#[test]
+fn serves_a_session(rt: HostRuntime) -> Result<(), Fail> {
+    let mut text = joined(rt.alloc(), &[HELLO, OPEN])?;
+    let mut want = joined(rt.alloc(), &[ACK, OPENED])?;
+    for (what, request, response) in SESSION {
+        text.push_str(request)?;
+        want.push_str(response)?;
+        assert!(rt;
+            is_answered(
+                rt.alloc(),
+                text.as_str(),
+                &[want.as_str()],
+                Served::EndOfInput
+            )?,
+            "{what}"
+        );
+    }
+    Ok(())
+}
+
+#[test]
+fn numbers_its_faults(rt: HostRuntime) {
+    chunks_are_counted();
+    answers_go_item_by_item();
+    for (at, fault) in [
+        ServeFault::Read,
+        ServeFault::Write,
+        ServeFault::TooLong,
+        ServeFault::OutOfMemory,
+    ]
+    .iter()
+    .enumerate()
+    {
+        assert!(rt; fault.number() as usize == at + 1);
+    }
+    assert!(rt; SystemClock::new(&rt).now() >= clock().now());
+}

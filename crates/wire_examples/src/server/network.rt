@@ -1,0 +1,261 @@
+//! Connections over a network that is kept in memory.
+
+use super::clients::{BEGIN, BEGUN};
+use super::peers::{answered, called, filled_replica, replica};
+use super::rows::{ACK, ANSWER, HELLO, OPEN, OPENED, REQUEST};
+use super::{Narrow, Slow, archive_of, bytes_of, plant};
+use exchange::Replica;
+use std::alloc::Global;
+use std::net::SocketAddr;
+use std::test::Fail;
+use ua_server::{Counted, Listener, Network, serve_connections};
+
+/// A client: what it writes, whether its connection breaks behind that, and how many bytes it takes.
+#[derive(Clone, Copy)]
+pub(super) struct Client<'a> {
+    pub(super) bytes: &'a [u8],
+    pub(super) breaks: bool,
+    pub(super) room: usize,
+}
+
+/// Gives these clients, one after the other, where one is there, and keeps what each of them was written.
+#[derive(Drop)]
+pub(super) struct Clients<'a> {
+    alloc: Global,
+    clients: &'a [Option<Client<'a>>],
+    taken: usize,
+    written: Vec<Vec<u8>>,
+}
+
+impl<'a> Clients<'a> {
+    fn new(alloc: Global, clients: &'a [Option<Client<'a>>]) -> Self {
+        Clients {
+            alloc,
+            clients,
+            taken: 0,
+            written: Vec::new(alloc),
+        }
+    }
+}
+
+impl<'a> Listener for Clients<'a> {
+    type Reader = Slow<'a>;
+
+    type Writer = Narrow;
+
+    ghost accepted = { λ old came new. Unit {0} };
+
+    ghost closed = { λ old reader writer new. Unit {0} };
+
+    fn accept(&mut self) -> Option<(Slow<'a>, Narrow)> {
+        let next = self.taken;
+        self.taken = next.saturating_add(1);
+        let client = (*self.clients.get(next)?)?;
+        let reader = Slow {
+            bytes: client.bytes,
+            size: 40,
+            fails: client.breaks,
+        };
+        let writer = Narrow {
+            bytes: Vec::new(self.alloc),
+            room: client.room,
+        };
+        Some((reader, writer))
+    }
+
+    fn close(&mut self, reader: Counted<Slow<'a>>, writer: Counted<Narrow>)
+        ensures { Unit {0} }
+    {
+        drop(reader);
+        let _ = self.written.push(writer.into_inner().bytes);
+    }
+}
+
+/// A machine that can be listened at on port 4840, and whom these clients reach there.
+#[derive(Drop)]
+pub(super) struct Machine<'a> {
+    pub(super) alloc: Global,
+    pub(super) clients: &'a [Option<Client<'a>>],
+}
+
+impl<'a> Network for Machine<'a> {
+    type Listener = Clients<'a>;
+
+    type Reader = Slow<'a>;
+
+    type Writer = Narrow;
+
+    ghost listened = { λ old address listener new. Unit {0} };
+
+    ghost called = { λ old address came new. Unit {0} };
+
+    ghost parted = { λ old reader writer new. Unit {0} };
+
+    fn listen(&mut self, address: SocketAddr) -> Option<Clients<'a>> {
+        if address.port() == 4840 {
+            Some(Clients::new(self.alloc, self.clients))
+        } else {
+            None
+        }
+    }
+
+    /// The first of the clients is the peer at port 4840.
+    fn call(&mut self, address: SocketAddr) -> Option<(Slow<'a>, Narrow)> {
+        if address.port() == 4840 {
+            Clients::new(self.alloc, self.clients).accept()
+        } else {
+            None
+        }
+    }
+
+    fn part(&mut self, reader: Counted<Slow<'a>>, writer: Counted<Narrow>)
+        ensures { Unit {0} }
+    {
+        drop(reader);
+        drop(writer);
+    }
+}
+
+/// An insert of 7 as the fourth message of a connection, and its answer.
+const INSERT: &str =
+    "4D53474666000000010000000100000004000000070000000100BC020101030000000000000000000700000000000000FFFFFFFF00000000000000010000000100AA02011E000000030100010000005401000000010000000506070000000A00000000000000";
+
+const INSERTED: &str =
+    "4D5347464C000000010000000100000004000000070000000100BF0200803ED5DEB19D01070000000000000000FFFFFFFF0000000100000000000000010000000000A200FFFFFFFFFFFFFFFF";
+
+/// A Read of the value as the fourth message of a connection, and its answer.
+const READ: &str =
+    "4D5347466100000001000000010000000400000009000000010077020101030000000000000000000900000000000000FFFFFFFF000000000000000000000000000000020000000100000003010001000000540D000000FFFFFFFF0000FFFFFFFF";
+
+const VALUE: &str =
+    "4D534746520000000100000001000000040000000900000001007A0200803ED5DEB19D01090000000000000000FFFFFFFF000000010000000D06070000000A0000000000000000803ED5DEB19D01FFFFFFFF";
+
+/// Of so many connections a plant's server writes this, and this is told.
+fn is_served(
+    alloc: Global,
+    clients: &[Option<Client<'_>>],
+    connections: u32,
+    want: &[Vec<u8>],
+    told: &str,
+) -> Result<bool, Fail> {
+    let settings = plant(alloc)?;
+    let mut replica = Replica::new(archive_of(alloc, &settings));
+    let mut listener = Clients::new(alloc, clients);
+    let mut errors = Counted::new(Vec::new(alloc));
+    serve_connections(
+        alloc,
+        &settings,
+        &mut replica,
+        &mut listener,
+        connections,
+        &mut super::clock(),
+        &mut errors,
+    );
+    Ok(listener.written.as_slice() == want && errors.into_inner().as_slice() == told.as_bytes())
+}
+
+/// A client that reads all it is written, and ends well.
+fn well(bytes: &[u8]) -> Option<Client<'_>> {
+    Some(Client {
+        bytes,
+        breaks: false,
+        room: 10_000,
+    })
+}
+
+/// What one client wrote another one reads.
+#[test]
+fn serves_over_one_archive(rt: HostRuntime) -> Result<(), Fail> {
+    let alloc = rt.alloc();
+    let writes = bytes_of(alloc, &[HELLO, OPEN, BEGIN[0], BEGIN[1], INSERT])?;
+    let reads = bytes_of(alloc, &[HELLO, OPEN, BEGIN[0], BEGIN[1], READ])?;
+    let mut want = Vec::new(alloc);
+    for last in [INSERTED, VALUE] {
+        want.push(bytes_of(alloc, &[ACK, OPENED, BEGUN[0], BEGUN[1], last])?)?;
+    }
+    let clients = [well(writes.as_slice()), well(reads.as_slice())];
+    assert!(rt; is_served(alloc, &clients, 2, want.as_slice(), "")?);
+    Ok(())
+}
+
+/// One that breaks off inside a message, one that takes no answer, and one that can't be had are told, and the next one is
+/// served; behind so many none is.
+#[test]
+fn goes_on_behind_a_fault(rt: HostRuntime) -> Result<(), Fail> {
+    let alloc = rt.alloc();
+    let bytes = bytes_of(alloc, &[HELLO, OPEN, REQUEST])?;
+    let begun = bytes.get(..200).ok_or("a front")?;
+    let breaks = Some(Client {
+        bytes: begun,
+        breaks: true,
+        room: 10_000,
+    });
+    let deaf = Some(Client {
+        bytes: bytes.as_slice(),
+        breaks: false,
+        room: 28,
+    });
+    let clients = [breaks, deaf, None, well(bytes.as_slice()), well(begun)];
+    let mut want = Vec::new(alloc);
+    want.push(bytes_of(alloc, &[ACK, OPENED])?)?;
+    want.push(bytes_of(alloc, &[ACK])?)?;
+    want.push(bytes_of(alloc, &[ACK, OPENED, ANSWER])?)?;
+    let told =
+        "uahist: connection ended (1)\nuahist: connection ended (2)\nuahist: connection ended (1)\n";
+    assert!(rt; is_served(alloc, &clients, 4, want.as_slice(), told)?);
+    Ok(())
+}
+
+/// What replica 2 writes that calls replica 1, which holds nothing, and what it is answered: each answers what the other one
+/// wrote before.
+fn brought(alloc: Global) -> Result<(Vec<u8>, Vec<u8>), Fail> {
+    let mut there = Vec::new(alloc);
+    let mut answer = Vec::new(alloc);
+    for _ in 0..4 {
+        let mut two = filled_replica(alloc, 2)?;
+        let (wrote, _) = called(alloc, &mut two, answer.as_slice());
+        there = wrote;
+        answer = answered(alloc, &mut replica(alloc, 1)?, there.as_slice());
+    }
+    Ok((there, answer))
+}
+
+/// A client reads what a peer brought between it and the client before.
+#[test]
+fn serves_clients_and_peers(rt: HostRuntime) -> Result<(), Fail> {
+    let alloc = rt.alloc();
+    let greets = bytes_of(alloc, &[HELLO, OPEN, REQUEST])?;
+    let (brings, answer) = brought(alloc)?;
+    let reads = bytes_of(alloc, &[HELLO, OPEN, BEGIN[0], BEGIN[1], READ])?;
+    assert!(rt; brings.as_slice().starts_with(b"RXVF") && answer.as_slice().starts_with(b"RXDF"));
+    let mut want = Vec::new(alloc);
+    want.push(bytes_of(alloc, &[ACK, OPENED, ANSWER])?)?;
+    want.push(answer)?;
+    want.push(bytes_of(alloc, &[ACK, OPENED, BEGUN[0], BEGUN[1], VALUE])?)?;
+    let clients = [
+        well(greets.as_slice()),
+        well(brings.as_slice()),
+        well(reads.as_slice()),
+    ];
+    assert!(rt; is_served(alloc, &clients, 3, want.as_slice(), "")?);
+    Ok(())
+}
+
+/// What is too short to be a peer's is a client's, and one that breaks off there is told.
+#[test]
+fn serves_short_inputs(rt: HostRuntime) -> Result<(), Fail> {
+    let alloc = rt.alloc();
+    let breaks = Some(Client {
+        bytes: b"RX",
+        breaks: true,
+        room: 10_000,
+    });
+    let mut want = Vec::new(alloc);
+    for _ in 0..3 {
+        want.push(Vec::new(alloc))?;
+    }
+    let clients = [well(b""), well(b"RX"), breaks];
+    let told = "uahist: connection ended (1)\n";
+    assert!(rt; is_served(alloc, &clients, 3, want.as_slice(), told)?);
+    Ok(())
+}

@@ -1,0 +1,290 @@
+ghost use Rattle.std.specs.Prelude.{IsTrue};
+ghost use Rattle.records.specs.Spelling.{IsLawfulRecord};
+
+use super::{Narrow, Slow};
+use archive::{Archive, ListArchive, StoreFault};
+use exchange::{ExchangeFault, Replica};
+use records::{HistoryUpdateType, Moment, Record};
+use stamp::{ReplicaNo, Vector};
+use std::alloc::Global;
+use std::test::Fail;
+use ua_binary::{NodeId, Text};
+use ua_server::{Counted, Parted, ServeFault, SyncFault, serve_peer, sync};
+use ua_variant::{DataValue, Scalar, Variant};
+use uuid::Uuid;
+
+/// The first frame of replica 2, which holds nothing.
+const ASKED: &[u8] = b"RXVF\x1b\0\0\0\x02\0\0\0\0\0\0\0\0\0\0\0\0\0\0\0\0\x02\0";
+
+/// The same frame as if of replica 1.
+const ASKED_ITSELF: &[u8] = b"RXVF\x1b\0\0\0\x02\0\0\0\0\0\0\0\0\0\0\0\0\0\0\0\0\x01\0";
+
+/// What replica 1 answers, which holds nothing either.
+const NOTHING: &[u8] = b"RXDF\x1f\0\0\0\x02\0\0\0\0\0\0\0\0\0\0\0\0\0\0\0\0\x01\0\0\0\0\0";
+
+const END: &[u8] = b"RXEF\x0c\0\0\0\0\0\0\0";
+
+const BROKEN_OFF: &[u8] = b"RXEF\x0c\0\0\0\x07\0\0\0";
+
+const NO_FRAME: &[u8] = b"RXVF\x0b\0\0\0";
+
+const HEAD: &[u8] = b"RX";
+
+/// A frame that is one byte too short for its vector.
+const SHORT: &[u8] = b"RXVF\x1a\0\0\0\x02\0\0\0\0\0\0\0\0\0\0\0\0\0\0\0\0\x02";
+
+const ILL: &[u8] = b"RXEF\x0c\0\0\0\x01\0\0\0";
+
+const SELF_PEER: &[u8] = b"RXEF\x0c\0\0\0\x05\0\0\0";
+
+/// What a peer sends to replica 1 in pieces, what it is answered, and how that ends.
+static DIALOGS: [(&[&[u8]], &[&[u8]], Parted); 9] = [
+    (&[], &[], Parted::EndOfInput),
+    (&[ASKED], &[NOTHING], Parted::EndOfInput),
+    (&[ASKED, ASKED], &[NOTHING, NOTHING], Parted::EndOfInput),
+    (&[ASKED, END, ASKED], &[NOTHING], Parted::Done),
+    (&[ASKED, BROKEN_OFF, ASKED], &[NOTHING], Parted::Refused(7)),
+    (
+        &[ASKED_ITSELF, ASKED],
+        &[SELF_PEER],
+        Parted::Failed(ExchangeFault::SelfPeer),
+    ),
+    (
+        &[ASKED, NO_FRAME, ASKED],
+        &[NOTHING, ILL],
+        Parted::Failed(ExchangeFault::Frame),
+    ),
+    (
+        &[SHORT, ASKED],
+        &[ILL],
+        Parted::Failed(ExchangeFault::Frame),
+    ),
+    (&[ASKED, HEAD], &[NOTHING], Parted::EndOfInput),
+];
+
+pub(super) fn replica(alloc: Global, number: u8) -> Result<Replica<ListArchive>, StoreFault> {
+    match ReplicaNo::new(number) {
+        Some(number) => Ok(Replica::new(ListArchive::new(alloc, Uuid::nil(), number))),
+        None => Err(StoreFault::WrongReplica),
+    }
+}
+
+fn joined(alloc: Global, parts: &[&[u8]]) -> Result<Vec<u8>, Fail> {
+    let mut bytes = Vec::new(alloc);
+    for part in parts {
+        bytes.extend_from_slice(part)?;
+    }
+    Ok(bytes)
+}
+
+/// Replica 1 answers a peer so, whose bytes come in pieces of this size.
+fn is_answered(
+    alloc: Global,
+    bytes: &[u8],
+    size: usize,
+    want: &[u8],
+    parted: Parted,
+) -> Result<bool, Fail> {
+    let mut one = replica(alloc, 1)?;
+    let mut reader = Counted::new(Slow {
+        bytes,
+        size,
+        fails: false,
+    });
+    let mut writer = Counted::new(Vec::new(alloc));
+    let result = serve_peer(alloc, &mut one, &mut reader, &mut writer);
+    Ok(
+        result == Ok(parted)
+            && reader.faults() == 0
+            && writer.faults() == 0
+            && writer.into_inner().as_slice() == want,
+    )
+}
+
+#[test]
+fn answers_peers(rt: HostRuntime) -> Result<(), Fail> {
+    for (came, answers, parted) in &DIALOGS {
+        let bytes = joined(rt.alloc(), came)?;
+        let want = joined(rt.alloc(), answers)?;
+        for size in [1, 5, 100] {
+            assert!(rt;
+                is_answered(rt.alloc(), bytes.as_slice(), size, want.as_slice(), *parted)?,
+                "{parted:?} in pieces of {size}"
+            );
+        }
+    }
+    Ok(())
+}
+
+/// A writer that takes so many bytes has just these of the answer.
+fn is_written(alloc: Global, bytes: &[u8], room: usize, want: &[u8]) -> Result<bool, Fail> {
+    let mut one = replica(alloc, 1)?;
+    let mut reader = Counted::new(bytes);
+    let mut writer = Counted::new(Narrow {
+        bytes: Vec::new(alloc),
+        room,
+    });
+    let result = serve_peer(alloc, &mut one, &mut reader, &mut writer);
+    let (ending, faults) = if room < want.len() {
+        (Err(ServeFault::Write), 1)
+    } else {
+        (Ok(Parted::Done), 0)
+    };
+    Ok(
+        result == ending
+            && writer.faults() == faults
+            && Some(writer.into_inner().bytes.as_slice()) == want.get(..room.min(want.len())),
+    )
+}
+
+#[test]
+fn peers_are_answered_as_far_as_the_writer_goes(rt: HostRuntime) -> Result<(), Fail> {
+    let bytes = joined(rt.alloc(), &[ASKED, ASKED, END])?;
+    let want = joined(rt.alloc(), &[NOTHING, NOTHING])?;
+    for room in 0..64 {
+        assert!(rt;
+            is_written(rt.alloc(), bytes.as_slice(), room, want.as_slice())?,
+            "{room}"
+        );
+    }
+    Ok(())
+}
+
+/// Of each first part of a peer's bytes the whole frames are answered, and a reader that fails there is told.
+#[test]
+fn peers_are_answered_as_far_as_the_reader_goes(rt: HostRuntime) -> Result<(), Fail> {
+    let bytes = joined(rt.alloc(), &[ASKED, ASKED])?;
+    let want = joined(rt.alloc(), &[NOTHING, NOTHING])?;
+    for count in 0..54 {
+        let mut one = replica(rt.alloc(), 1)?;
+        let mut reader = Counted::new(Slow {
+            bytes: bytes.get(..count).ok_or("a front")?,
+            size: 4,
+            fails: true,
+        });
+        let mut writer = Counted::new(Vec::new(rt.alloc()));
+        let result = serve_peer(rt.alloc(), &mut one, &mut reader, &mut writer);
+        assert!(rt;
+            result == Err(ServeFault::Read) && reader.faults() == 1,
+            "{count}"
+        );
+        let out = want.get(..count / 27 * 31).ok_or("a front")?;
+        assert!(rt; writer.into_inner().as_slice() == out, "{count}");
+    }
+    Ok(())
+}
+
+fn is_lawful(held: &Record) -> bool
+    ensures { IsTrue result → IsLawfulRecord held.now }
+{
+    held.is_lawful()
+}
+
+/// A replica with a record of its own, an insert at node `ns=1;s=T`.
+pub(super) fn filled_replica(alloc: Global, number: u8) -> Result<Replica<ListArchive>, Fail> {
+    let mut held = replica(alloc, number)?;
+    let origin = held.archive.number();
+    let record = Record {
+        origin,
+        number: 1,
+        tick: 100,
+        node: NodeId::Named(1, Text::from_str(alloc, "T")?),
+        time: Moment::at(10),
+        asked: HistoryUpdateType::Insert,
+        user: Text::from_str(alloc, "ann")?,
+        value: DataValue {
+            value: Some(Variant::Scalar(Scalar::Int32(7))),
+            status: None,
+            source_time: None,
+            source_pico: None,
+            server_time: None,
+            server_pico: None,
+        },
+    };
+    if is_lawful(&record) {
+        held.archive.learn(&record)?;
+    }
+    Ok(held)
+}
+
+/// What replica 1 writes that calls a peer which sent these bytes, and how that ends.
+pub(super) fn called(
+    alloc: Global,
+    one: &mut Replica<ListArchive>,
+    bytes: &[u8],
+) -> (Vec<u8>, Result<(), SyncFault>) {
+    let mut reader = Counted::new(bytes);
+    let mut writer = Counted::new(Vec::new(alloc));
+    let result = sync(alloc, one, &mut reader, &mut writer);
+    (writer.into_inner(), result)
+}
+
+/// What replica 2 writes to a peer which sent these bytes.
+pub(super) fn answered(alloc: Global, two: &mut Replica<ListArchive>, bytes: &[u8]) -> Vec<u8> {
+    let mut reader = Counted::new(bytes);
+    let mut writer = Counted::new(Vec::new(alloc));
+    let _ = serve_peer(alloc, two, &mut reader, &mut writer);
+    writer.into_inner()
+}
+
+/// The letters of the frames in some bytes, one after the other.
+fn letters(alloc: Global, bytes: &[u8]) -> Result<Vec<u8>, Fail> {
+    let mut letters = Vec::new(alloc);
+    let mut rest = bytes;
+    for _ in 0..bytes.len() {
+        if rest.len() < 8 {
+            break;
+        }
+        letters.push(rest[2])?;
+        let size = u32::from_le_bytes([rest[4], rest[5], rest[6], rest[7]]) as usize;
+        rest = rest.get(size..).ok_or("a frame")?;
+    }
+    Ok(letters)
+}
+
+/// Two replicas, each with a record of its own, meet: each answers what the other one wrote before.
+#[test]
+fn replicas_meet(rt: HostRuntime) -> Result<(), Fail> {
+    let alloc = rt.alloc();
+    let mut back = Vec::new(alloc);
+    for round in 0..4 {
+        let mut one = filled_replica(alloc, 1)?;
+        let mut two = filled_replica(alloc, 2)?;
+        let (there, result) = called(alloc, &mut one, back.as_slice());
+        let answer = answered(alloc, &mut two, there.as_slice());
+        if round == 3 {
+            assert!(rt; result == Ok(()));
+            assert!(rt; letters(alloc, there.as_slice())?.as_slice() == b"VVDE".as_slice());
+            assert!(rt; letters(alloc, answer.as_slice())?.as_slice() == b"DDV".as_slice());
+            let ones = one.archive.since(alloc, &Vector::new(), 99)?;
+            let twos = two.archive.since(alloc, &Vector::new(), 99)?;
+            assert!(rt; ones.len() == 2 && ones.as_slice() == twos.as_slice());
+        } else {
+            assert!(rt;
+                result == Err(SyncFault::Exchange(ExchangeFault::Frame)),
+                "{round}"
+            );
+        }
+        back = answer;
+    }
+    Ok(())
+}
+
+/// What a called peer sends, and how the dialog ends.
+static CALLS: [(&[&[u8]], SyncFault); 4] = [
+    (&[], SyncFault::Exchange(ExchangeFault::Frame)),
+    (&[BROKEN_OFF], SyncFault::Peer(7)),
+    (&[END], SyncFault::Exchange(ExchangeFault::Frame)),
+    (&[NO_FRAME], SyncFault::Exchange(ExchangeFault::Frame)),
+];
+
+#[test]
+fn calls_end_so(rt: HostRuntime) -> Result<(), Fail> {
+    for (came, fault) in &CALLS {
+        let bytes = joined(rt.alloc(), came)?;
+        let mut one = replica(rt.alloc(), 1)?;
+        let (_, result) = called(rt.alloc(), &mut one, bytes.as_slice());
+        assert!(rt; result == Err(*fault), "{fault:?}");
+    }
+    Ok(())
+}

@@ -1,0 +1,269 @@
+use std::alloc::Global;
+use std::test::Fail;
+use ua_binary::NodeIdRef;
+use ua_settings::{Place, Settings, SettingsFault};
+use ua_space::BuildFault;
+
+/// A settings file with each kind of table.
+const SAMPLE: &str = r#"[archive]
+id = "6f9619ff-8b86-d011-b42d-00c04fc964ff"
+replica = 2
+store = "plant.db"
+[server]
+listen = "127.0.0.1:4840"
+url = "opc.tcp://localhost:4840"
+application = "urn:uahist"
+namespace = "urn:uahist:archive"
+anonymous = false
+[[user]]
+name = "ann"
+password = "pw"
+[[user]]
+name = "ben"
+password = ""
+[[folder]]
+id = "boiler"
+name = "Boiler"
+[[variable]]
+id = "T"
+name = "Temperature"
+type = "Double"
+folder = "boiler"
+[[variable]]
+id = "V"
+name = "Valves"
+type = "Boolean"
+array = true
+"#;
+
+/// The start of a file: all that has to be there but the namespace and whether users without a name are let in.
+const HEAD: &str =
+    "[archive]\nid = '00000000000000000000000000000000'\nreplica = 1\n[server]\nlisten = ''\nurl = ''\napplication = ''\n";
+
+/// What goes on behind the start, and why it is refused, if it is.
+static ROWS: [(&str, Option<SettingsFault>); 30] = [
+    ("namespace = ''\nanonymous = true", None),
+    ("namespace = ''\nanonymous =", Some(SettingsFault::NotToml)),
+    (
+        "namespace = ''\nnamespace = ''",
+        Some(SettingsFault::NotToml),
+    ),
+    ("anonymous = true", Some(SettingsFault::MissingKey)),
+    (
+        "namespace = ''\nanonymous = 1",
+        Some(SettingsFault::BadValue),
+    ),
+    (
+        "namespace = 1\nanonymous = true",
+        Some(SettingsFault::BadValue),
+    ),
+    (
+        "namespace = ''\nanonymous = true\ncolour = 1",
+        Some(SettingsFault::UnknownKey),
+    ),
+    ("colour = 1", Some(SettingsFault::UnknownKey)),
+    ("anonymous = 1", Some(SettingsFault::MissingKey)),
+    (
+        "namespace = ''\nanonymous = true\n[colour]",
+        Some(SettingsFault::UnknownKey),
+    ),
+    (
+        "namespace = ''\nanonymous = true\n[user]\nname = 'ann'\npassword = 'pw'",
+        Some(SettingsFault::BadValue),
+    ),
+    (
+        "namespace = ''\nanonymous = true\n[user]\ncolour = 1",
+        Some(SettingsFault::BadValue),
+    ),
+    (
+        "namespace = ''\nanonymous = true\n[[user]]\nname = 'ann'\npassword = ''",
+        None,
+    ),
+    (
+        "namespace = ''\nanonymous = true\n[[user]]\nname = 'ann'",
+        Some(SettingsFault::MissingKey),
+    ),
+    (
+        "namespace = ''\nanonymous = true\n[[user]]\nname = ''\npassword = ''",
+        Some(SettingsFault::BadValue),
+    ),
+    (
+        "namespace = ''\nanonymous = true\n[[user]]\nname = 'anonymous'\npassword = ''",
+        Some(SettingsFault::BadValue),
+    ),
+    (
+        "namespace = ''\nanonymous = true\n[[user]]\nname = 'ann'\npassword = ''\n[[user]]\nname = 'ann'\npassword = 'x'",
+        Some(SettingsFault::BadValue),
+    ),
+    (
+        "namespace = ''\nanonymous = true\n[[folder]]\nid = ''\nname = ''",
+        None,
+    ),
+    (
+        "namespace = ''\nanonymous = true\n[[folder]]\nid = 'f'\nname = 1",
+        Some(SettingsFault::BadValue),
+    ),
+    (
+        "namespace = ''\nanonymous = true\n[[variable]]\nid = 'T'\nname = ''\ntype = 'Int32'",
+        None,
+    ),
+    (
+        "namespace = ''\nanonymous = true\n[[variable]]\nid = ''\nname = ''\ntype = 'Int32'",
+        Some(SettingsFault::BadValue),
+    ),
+    (
+        "namespace = ''\nanonymous = true\n[[variable]]\nid = 'T'\nname = ''\ntype = 'Int32'\narray = 1",
+        Some(SettingsFault::BadValue),
+    ),
+    (
+        "namespace = ''\nanonymous = true\n[[variable]]\nid = 'T'\nname = ''\ntype = 'Int32'\nfolder = 'f'",
+        Some(SettingsFault::BadValue),
+    ),
+    (
+        "namespace = ''\nanonymous = true\n[[variable]]\nid = 'T'\nname = ''\ntype = 'Int32'\nfolder = 'f'\n[[folder]]\nid = 'f'\nname = ''",
+        None,
+    ),
+    (
+        "namespace = ''\nanonymous = true\n[[variable]]\nid = 'T'\nname = ''\ntype = 'Int33'",
+        Some(SettingsFault::Space(BuildFault::BadType)),
+    ),
+    (
+        "namespace = ''\nanonymous = true\n[[variable]]\nid = 'T'\nname = ''\ntype = 'Int32'\n[[variable]]\nid = 'T'\nname = ''\ntype = 'Int32'",
+        Some(SettingsFault::Space(BuildFault::DuplicateNode)),
+    ),
+    (
+        "namespace = ''\nanonymous = true\n[[variable]]\nid = 'T'\nname = ''\ntype = 'Int32'\n[[folder]]\nid = 'T'\nname = ''",
+        Some(SettingsFault::Space(BuildFault::DuplicateNode)),
+    ),
+    (
+        "namespace = ''\nanonymous = true\n[[variable]]\nid = 'T'\nname = ''\ntype = 'Int33'\n[[folder]]\nid = 'T'\nname = ''\ncolour = 1",
+        Some(SettingsFault::UnknownKey),
+    ),
+    (
+        "namespace = ''\nanonymous = 1\n[[variable]]\nid = 'T'\ntype = 'Int33'",
+        Some(SettingsFault::MissingKey),
+    ),
+    (
+        "user = [1]\nnamespace = ''\nanonymous = true",
+        Some(SettingsFault::UnknownKey),
+    ),
+];
+
+/// Why a text is refused.
+fn refusal(alloc: Global, text: &str) -> Option<SettingsFault> {
+    match Settings::read(alloc, text) {
+        Ok(_) => None,
+        Err(fault) => Some(fault),
+    }
+}
+
+#[test]
+fn files_are_judged(rt: HostRuntime) -> Result<(), Fail> {
+    for (rest, fault) in &ROWS {
+        let text = format!(in rt.alloc(); "{HEAD}{rest}\n")?;
+        assert_eq!(rt; refusal(rt.alloc(), text.as_str()), *fault, "{rest}");
+    }
+    Ok(())
+}
+
+/// Whether these are the sample's settings.
+fn is_sample(settings: &Settings) -> bool {
+    settings.replica().get() == 2
+        && settings.archive().as_bytes()[0] == 0x6f
+        && settings.store() == Some("plant.db")
+        && settings.listen() == "127.0.0.1:4840"
+        && settings.url() == "opc.tcp://localhost:4840"
+        && settings.application() == "urn:uahist"
+        && !settings.users().allows_anonymous()
+        && settings.users().has_named()
+}
+
+#[test]
+fn sample_is_read(rt: HostRuntime) -> Result<(), Fail> {
+    let settings = Settings::read(rt.alloc(), SAMPLE)?;
+    assert!(rt; is_sample(&settings));
+    let found = settings.space().variable(NodeIdRef::Named(1, "T"));
+    assert_eq!(rt; found.map(|variable| variable.value_type.number), Some(11));
+    Ok(())
+}
+
+/// The path of a store is a text.
+#[test]
+fn a_store_is_a_path(rt: HostRuntime) {
+    let text =
+        "[archive]\nid = '00000000000000000000000000000000'\nreplica = 1\nstore = 1\n[server]\nlisten = ''\nurl = ''\napplication = ''\nnamespace = ''\nanonymous = true\n";
+    assert_eq!(rt; refusal(rt.alloc(), text), Some(SettingsFault::BadValue));
+}
+
+/// Without settings, these texts and users.
+fn is_bare(settings: &Settings) -> bool {
+    settings.replica().get() == 1
+        && settings.store().is_none()
+        && settings.listen() == "127.0.0.1:4840"
+        && settings.url() == "opc.tcp://localhost:4840"
+        && settings.application() == "urn:uahist"
+        && settings.users().allows_anonymous()
+        && !settings.users().has_named()
+}
+
+#[test]
+fn bare_settings(rt: HostRuntime) -> Result<(), Fail> {
+    let settings = Settings::bare(rt.alloc())?;
+    assert!(rt; is_bare(&settings));
+    Ok(())
+}
+
+/// The faults and their numbers.
+static NUMBERS: [(SettingsFault, u8); 6] = [
+    (SettingsFault::NotToml, 1),
+    (SettingsFault::MissingKey, 2),
+    (SettingsFault::BadValue, 3),
+    (SettingsFault::UnknownKey, 4),
+    (SettingsFault::Space(BuildFault::TooMany), 5),
+    (SettingsFault::OutOfMemory, 6),
+];
+
+#[test]
+fn faults_have_numbers(rt: HostRuntime) {
+    for (fault, number) in &NUMBERS {
+        assert_eq!(rt; fault.number(), *number);
+    }
+}
+
+/// What goes on behind the start, and the place where it is refused.
+static PLACES: [(&str, &str); 8] = [
+    ("namespace =", "line 8"),
+    ("namespace = ''\nanonymous = 1", "[server] anonymous"),
+    (
+        "anonymous = true\n[[user]]\nname = 'ann'",
+        "[server] namespace",
+    ),
+    ("namespace = ''\nanonymous = true\n[colour]", "colour"),
+    (
+        "namespace = ''\nanonymous = true\n[[user]]\nname = 'ann'\npassword = ''\n[[user]]\nname = 'ben'",
+        "[[user]] 2, password",
+    ),
+    (
+        "namespace = ''\nanonymous = true\n[[variable]]\nid = 'T'\nname = ''\ntype = 'Int33'",
+        "[[variable]] 1, type",
+    ),
+    (
+        "namespace = ''\nanonymous = true\n[[folder]]\nid = 'T'\nname = ''\n[[variable]]\nid = 'T'\nname = ''\ntype = 'Int32'",
+        "[[variable]] 1, id",
+    ),
+    (
+        "namespace = ''\nanonymous = true\n[[folder]]\nid = 'T'\nname = ''\n'a\\nb' = 1",
+        "[[folder]] 1, a\\\\nb",
+    ),
+];
+
+#[test]
+fn places_are_told(rt: HostRuntime) -> Result<(), Fail> {
+    for (rest, place) in &PLACES {
+        let text = format!(in rt.alloc(); "{HEAD}{rest}\n")?;
+        let told = Place::of(rt.alloc(), text.as_str())?;
+        let shown = format!(in rt.alloc(); "{told}")?;
+        assert_eq!(rt; shown.as_str(), *place, "{rest}");
+    }
+    Ok(())
+}
