@@ -610,3 +610,25 @@ fn vectors_are_answered(rt: HostRuntime) -> Result<(), Fail> {
     assert!(rt; out.as_slice() == b"RXEF\x0c\0\0\0\x08\0\0\0".as_slice());
     Ok(())
 }
+
+/// How many records a responder learned and sent, which has one and was asked by these bytes.
+fn moved(alloc: Global, bytes: &[u8]) -> Result<(u32, u32), ExchangeFault> {
+    let mut one = list_replica(alloc, 1)?;
+    merge_rows(alloc, &mut one, &[(1, 1, 100, 7)])?;
+    let mut dialog = Dialog::responder();
+    let mut frames = Frames::new(alloc);
+    frames.feed(bytes)?;
+    let Ok(Some(frame)) = frames.next_frame() else {
+        return Err(ExchangeFault::Frame);
+    };
+    let mut out = Vec::new(alloc);
+    dialog.take(alloc, &mut one, frame, &mut out)?;
+    Ok((dialog.learned(), dialog.sent()))
+}
+
+#[test]
+fn records_are_counted(rt: HostRuntime) -> Result<(), Fail> {
+    assert!(rt; moved(rt.alloc(), ASKED) == Ok((0, 1)));
+    assert!(rt; moved(rt.alloc(), ASKED_ITSELF) == Err(ExchangeFault::SelfPeer));
+    Ok(())
+}

@@ -1,5 +1,5 @@
 -- What an end makes of a message, call by call.
-use Rattle.std.proofs.Common.{◌≡◌, ℕ, zero, suc, ◌+◌, true, false, Bool, List, [], ◌∷◌, take, length, Option, Some, None, Result, Ok, Err, IfOk, IfErr, refl, sym, ap, ◌∙◌, subst, arith, inl, inr, option_to_list}
+use Rattle.std.proofs.Common.{◌≡◌, ℕ, zero, suc, ◌+◌, ◌-◌, true, false, Bool, List, [], ◌∷◌, take, length, Option, Some, None, Result, Ok, Err, IfOk, IfErr, refl, sym, ap, ◌∙◌, subst, arith, inl, inr, option_to_list}
 use Rattle.std.proofs.lemmas.List.{take_all}
 use Rattle.std.proofs.lemmas.Bool.{true≢false}
 use Rattle.std.proofs.lemmas.Option.{none-some, same_Some}
@@ -32,11 +32,15 @@ use Rattle.exchange.specs.Merging.{learned_all, IsRefusal, Meets, Merges}
 use Rattle.exchange.proofs.MergeLemmas.{merged_stops}
 use Rattle.exchange.specs.declared.message.Party.{Party}
 use Rattle.records.specs.Contents.{numbers_of}
-use Rattle.exchange.specs.Dialogs.{ended_by, broken_off, is_bare, refusal, refusal_by, learnt, title_by, Turn, failing, asking, carrying, pushing, learning, Way, Clear, Unread, Stopped, Starved, Met, IsWay, gone, fault_on, party_of, Tells, IsSpelledReply, Handles, carries_none}
+use Rattle.exchange.specs.Dialogs.{ended_by, broken_off, is_bare, refusal, refusal_by, learnt, title_by, Turn, failing, asking, carrying, pushing, learning, Way, Clear, Unread, Stopped, Starved, Met, IsWay, gone, fault_on, party_of, Tells, IsSpelledReply, Handles, carries_none, capped, behind}
 use Rattle.archive.proofs.Vectors.{told_is}
 
 abbrev pub reply_by : State → Message → Reply
-reply_by state m = record { state = state; message = Some m; code = None }
+reply_by state m = record { state = state; message = Some m; code = None; learned = 0 }
+
+-- nothing was added where the content stays
+none_added : (R : Content) → capped (length R - length R) ≡ 0
+none_added R = omega arith
 
 abbrev pub title_in : Store → List ℕ → Title
 title_in b v = record { id = b.id; sender = b.own; vector = v }
@@ -64,6 +68,7 @@ module _ (a b : Store) where
       ap (λ (r : Reply). Ok r.state) (sym e),
       ap (λ t. Some (message.Asks t)) (sym (title_is v asks is h)) ∙ ap (λ (r : Reply). r.message) (sym e),
       ap (λ (r : Reply). r.code) (sym e),
+      none_added a.content ∙ ap (λ (r : Reply). r.learned) (sym e),
     );
     spelled = subst IsSpelledReply (sym e) fits;
     content = λ h u. asks.stays.content h u;
@@ -141,6 +146,7 @@ module _ (a b c : Store) (v : List ℕ) (w : ℕ → ℕ) (asks : Asks a b (Ok v
       ap (λ (r : Reply). Ok r.state) (sym e),
       ap (λ t. Some (message.Carries t (batch_of a.content w))) (sym (title h)) ∙ (ap (λ rs. Some (message.Carries (title_in c v) rs)) (sym (records h)) ∙ ap (λ (r : Reply). r.message) (sym e)),
       ap (λ (r : Reply). r.code) (sym e),
+      none_added a.content ∙ ap (λ (r : Reply). r.learned) (sym e),
     );
     spelled = spelled;
     content = λ h u. answers.stays.content h u ∙ kept h answers.passes.honest;
@@ -169,8 +175,8 @@ carry_sends a b c v w batch state t (Err fault) asks answers is e ok err = carry
 
 -- ---- pushing
 
-told_clear : (a c : Store) (turn : Turn) (reply : Reply) → (handles : Handles a c [] turn (Ok reply)) → c.honest → Tells turn (Ok reply)
-told_clear a c turn reply handles h = subst (λ w. Tells (gone w a.content [] turn) (Ok reply)) handles.clear (handles.tells h)
+told_clear : (a c : Store) (turn : Turn) (reply : Reply) → (handles : Handles a c [] turn (Ok reply)) → c.honest → Tells a.content turn (Ok reply)
+told_clear a c turn reply handles h = subst (λ w. Tells a.content (gone w a.content [] turn) (Ok reply)) handles.clear (handles.tells h)
 
 left_clear : (a c : Store) (turn : Turn) (reply : Reply) → (handles : Handles a c [] turn (Ok reply)) → c.honest → c.broken ≡ false → c.content ≡ turn.content
 left_clear a c turn reply handles h u = subst (λ w. c.content ≡ (gone w a.content [] turn).content) handles.clear (handles.content h u)
@@ -193,8 +199,8 @@ push_ends a c rs reply ends handles none e = record {
   passes = subst (λ w. Passes a c (option_to_list (fault_on w))) handles.clear handles.passes;
 }
   where
-    tells : (xs : List Record) → Tells (carrying (party_of a) state.Pushing a.content xs) (Ok reply) → Tells (pushing (party_of a) a.content xs) (Ok ends)
-    tells [] told = (ap (λ (r : Reply). Ok r.state) (sym e), ap (λ (r : Reply). r.message) (sym e), ap (λ (r : Reply). r.code) (sym e))
+    tells : (xs : List Record) → Tells a.content (carrying (party_of a) state.Pushing a.content xs) (Ok reply) → Tells a.content (pushing (party_of a) a.content xs) (Ok ends)
+    tells [] told = (ap (λ (r : Reply). Ok r.state) (sym e), ap (λ (r : Reply). r.message) (sym e), ap (λ (r : Reply). r.code) (sym e), none_added a.content ∙ ap (λ (r : Reply). r.learned) (sym e))
     tells (x ∷ xs) told = absurd (true≢false (sym none ∙ ap (λ o. option_map_or is_bare o false) (sym told.1)))
 
 -- it carries some
@@ -211,22 +217,22 @@ push_goes a c rs reply handles some = record {
   passes = subst (λ w. Passes a c (option_to_list (fault_on w))) handles.clear handles.passes;
 }
   where
-    tells : (xs : List Record) → Tells (carrying (party_of a) state.Pushing a.content xs) (Ok reply) → Tells (pushing (party_of a) a.content xs) (Ok reply)
+    tells : (xs : List Record) → Tells a.content (carrying (party_of a) state.Pushing a.content xs) (Ok reply) → Tells a.content (pushing (party_of a) a.content xs) (Ok reply)
     tells [] told = absurd (true≢false (ap (λ o. option_map_or is_bare o false) told.1 ∙ some))
     tells (x ∷ xs) told = told
 
 -- ---- learning
 
-fault_told : (X : Content) (f : ExchangeFault) (result : Result Reply ExchangeFault) → Tells (failing X f) result → result ≡ Err f
-fault_told X f (Ok reply) told = absurd (true≢false (sym (ap is_ok told.0)))
-fault_told X f (Err g) told = sym (ap (λ (t : Turn). err_of t.result) told)
+fault_told : (R X : Content) (f : ExchangeFault) (result : Result Reply ExchangeFault) → Tells R (failing X f) result → result ≡ Err f
+fault_told R X f (Ok reply) told = absurd (true≢false (sym (ap is_ok told.0)))
+fault_told R X f (Err g) told = sym (ap (λ (t : Turn). err_of t.result) told)
   where
     err_of : Result State ExchangeFault → Result Reply ExchangeFault
     err_of (Ok s) = Err f
     err_of (Err g) = Err g
 
-tells_fault : (Y : Content) (f : ExchangeFault) (result : Result Reply ExchangeFault) → result ≡ Err f → Tells (failing Y f) result
-tells_fault Y f result e = subst (Tells (failing Y f)) (sym e) refl
+tells_fault : (R Y : Content) (f : ExchangeFault) (result : Result Reply ExchangeFault) → result ≡ Err f → Tells R (failing Y f) result
+tells_fault R Y f result e = subst (Tells R (failing Y f)) (sym e) refl
 
 -- what was to carry records failed
 pub push_fails : (a c : Store) (rs : List Record) (fault : ExchangeFault) → Handles a c [] (carrying (party_of a) state.Pushing a.content rs) (Err fault) → Handles a c [] (pushing (party_of a) a.content rs) (Err fault)
@@ -241,12 +247,12 @@ push_fails a c rs fault handles = record {
   passes = handles.passes;
 }
   where
-    tells : (w : Way) → IsWay [] w → Tells (gone w a.content [] (carrying (party_of a) state.Pushing a.content rs)) (Err fault) → Tells (gone w a.content [] (pushing (party_of a) a.content rs)) (Err fault)
+    tells : (w : Way) → IsWay [] w → Tells a.content (gone w a.content [] (carrying (party_of a) state.Pushing a.content rs)) (Err fault) → Tells a.content (gone w a.content [] (pushing (party_of a) a.content rs)) (Err fault)
     tells Clear is told = absurd (true≢false (ap is_ok (ap (λ (t : Turn). t.result) told)))
     tells Unread is told = told
     tells (Stopped k f) is told = absurd (omega (arith, is))
-    tells Starved is told = tells_fault _ _ (Err fault) (fault_told _ _ (Err fault) told)
-    tells (Met f) is told = tells_fault _ _ (Err fault) (fault_told _ _ (Err fault) told)
+    tells Starved is told = tells_fault a.content _ _ (Err fault) (fault_told a.content _ _ (Err fault) told)
+    tells (Met f) is told = tells_fault a.content _ _ (Err fault) (fault_told a.content _ _ (Err fault) told)
 
     left : (w : Way) → (gone w a.content [] (carrying (party_of a) state.Pushing a.content rs)).content ≡ (gone w a.content [] (pushing (party_of a) a.content rs)).content
     left Clear = sym (pushed_content (party_of a) a.content rs)
@@ -327,8 +333,8 @@ lifted Starved = Starved
 lifted (Met fault) = Met fault
 
 -- all were learned, and the own vector is to be sent
-module _ (a b c : Store) (rs : List Record) (n : ℕ) (state : State) (result : Result Reply ExchangeFault)
-    (merges : Merges a b rs (Ok n)) (handles : Handles b c [] (asking (party_of b) state b.content) result) (ended : b.broken ≡ true → result ≡ Err (exchange.Store Broken)) where
+module _ (a b c : Store) (rs : List Record) (n : ℕ) (state : State) (asked : Result Reply ExchangeFault)
+    (merges : Merges a b rs (Ok n)) (handles : Handles b c [] (asking (party_of b) state b.content) asked) (ended : b.broken ≡ true → asked ≡ Err (exchange.Store Broken)) where
   learning_is : c.honest → learning (party_of a) state a.content rs ≡ asking (party_of a) state (merged rs a.content)
   learning_is h = ap (learnt (party_of a) state (merged rs a.content)) (none_refused_all rs 0 a.content (merged rs a.content) (merges.tells (handles.passes.honest h)).0)
 
@@ -346,16 +352,27 @@ module _ (a b c : Store) (rs : List Record) (n : ℕ) (state : State) (result : 
   lifted_outside Starved is = tt
   lifted_outside (Met fault) is = tt
 
-  lifted_tells : (w : Way) → c.honest → IsWay [] w → Tells (gone w b.content [] (asking (party_of b) state b.content)) result → Tells (gone (lifted w) a.content rs (learning (party_of a) state a.content rs)) result
+  -- so many were added
+  behind_tells : c.honest → (r : Result Reply ExchangeFault) → asking (party_of b) state b.content ≡ learning (party_of a) state a.content rs → Tells b.content (asking (party_of b) state b.content) r
+      → Tells a.content (learning (party_of a) state a.content rs) (behind n r)
+  behind_tells h (Ok reply) same told = (
+    ap (λ (t : Turn). t.result) (sym same) ∙ told.0,
+    ap (λ (t : Turn). t.reply) (sym same) ∙ told.1,
+    ap (λ (t : Turn). t.code) (sym same) ∙ told.2,
+    ap (λ (R : Content). capped (length R - length a.content)) (learnt_content (party_of a) state (merged rs a.content) (refusal 0 a.content rs)) ∙ sym (merges.tells (handles.passes.honest h)).1,
+  )
+  behind_tells h (Err fault) same told = absurd (true≢false (ap is_ok (ap (λ (t : Turn). t.result) told)))
+
+  lifted_tells : (w : Way) → c.honest → IsWay [] w → Tells b.content (gone w b.content [] (asking (party_of b) state b.content)) asked → Tells a.content (gone (lifted w) a.content rs (learning (party_of a) state a.content rs)) (behind n asked)
   lifted_tells Clear h is told = go b.broken refl
     where
-      go : (x : Bool) → b.broken ≡ x → Tells (learning (party_of a) state a.content rs) result
-      go true e = absurd (true≢false (ap is_ok (ap (λ (t : Turn). t.result) (subst (Tells (asking (party_of b) state b.content)) (ended e) told))))
-      go false e = subst (λ t. Tells t result) (asking_is h e) told
-  lifted_tells Unread h is told = tells_fault _ _ result (fault_told _ _ result told)
+      go : (x : Bool) → b.broken ≡ x → Tells a.content (learning (party_of a) state a.content rs) (behind n asked)
+      go true e = absurd (true≢false (ap is_ok (ap (λ (t : Turn). t.result) (subst (Tells b.content (asking (party_of b) state b.content)) (ended e) told))))
+      go false e = behind_tells h asked (asking_is h e) told
+  lifted_tells Unread h is told = tells_fault a.content _ _ (behind n asked) (ap (behind n) (fault_told b.content _ _ asked told))
   lifted_tells (Stopped k fault) h is told = absurd (omega (arith, is))
-  lifted_tells Starved h is told = tells_fault _ _ result (fault_told _ _ result told)
-  lifted_tells (Met fault) h is told = tells_fault _ _ result (fault_told _ _ result told)
+  lifted_tells Starved h is told = tells_fault a.content _ _ (behind n asked) (ap (behind n) (fault_told b.content _ _ asked told))
+  lifted_tells (Met fault) h is told = tells_fault a.content _ _ (behind n asked) (ap (behind n) (fault_told b.content _ _ asked told))
 
   left_by : (w : Way) → IsWay [] w → (gone w b.content [] (asking (party_of b) state b.content)).content ≡ b.content
   left_by Clear is = refl
@@ -378,17 +395,21 @@ module _ (a b c : Store) (rs : List Record) (n : ℕ) (state : State) (result : 
   lifted_faults Starved = refl
   lifted_faults (Met fault) = refl
 
-  lifted_clear : (r : Result Reply ExchangeFault) → IfOk r (λ _. handles.way ≡ Clear) → IfOk r (λ _. lifted handles.way ≡ Clear)
+  lifted_clear : (r : Result Reply ExchangeFault) → IfOk r (λ _. handles.way ≡ Clear) → IfOk (behind n r) (λ _. lifted handles.way ≡ Clear)
   lifted_clear (Ok reply) e = ap lifted e
   lifted_clear (Err fault) e = tt
 
-  pub learn_asks : Handles a c rs (learning (party_of a) state a.content rs) result
+  behind_spelled : (r : Result Reply ExchangeFault) → IfOk r IsSpelledReply → IfOk (behind n r) IsSpelledReply
+  behind_spelled (Ok reply) is = is
+  behind_spelled (Err fault) is = tt
+
+  pub learn_asks : Handles a c rs (learning (party_of a) state a.content rs) (behind n asked)
   learn_asks = record {
     way = lifted handles.way;
     outside = lifted_outside handles.way handles.outside;
-    clear = lifted_clear result handles.clear;
+    clear = lifted_clear asked handles.clear;
     tells = λ h. lifted_tells handles.way h handles.outside (handles.tells h);
-    spelled = handles.spelled;
+    spelled = behind_spelled asked handles.spelled;
     content = λ h u.
         let used : b.broken ≡ false = unbroken_before b c _ handles.passes u in
         handles.content h u ∙ (left_by handles.way handles.outside ∙ (left_is h used ∙ sym (lifted_left handles.way handles.outside)));
@@ -459,7 +480,7 @@ learn_stops a b rs state exchange.TooLong merges = absurd merges.tells
 learn_stops a b rs state exchange.PeerFormat merges = absurd merges.tells
 
 -- the store wasn't asked
-pub unmoved : (a : Store) (rs : List Record) (turn : Turn) (result : Result Reply ExchangeFault) → Tells turn result → turn.content ≡ a.content → IfOk result IsSpelledReply → Handles a a rs turn result
+pub unmoved : (a : Store) (rs : List Record) (turn : Turn) (result : Result Reply ExchangeFault) → Tells a.content turn result → turn.content ≡ a.content → IfOk result IsSpelledReply → Handles a a rs turn result
 unmoved a rs turn result told kept spelled = record {
   way = Clear;
   outside = tt;
@@ -479,6 +500,6 @@ pub broken_kept : (R : Content) (n : ℕ) → (broken_off R n).content ≡ R
 broken_kept R zero = refl
 broken_kept R (suc n) = refl
 
-pub breaks_off : (n : ℕ) (reply : Reply) → (n ≡ 0 → ⊥) → ((R : Content) → Tells (ended_by R n) (Ok reply)) → (R : Content) → Tells (broken_off R n) (Ok reply)
+pub breaks_off : (n : ℕ) (reply : Reply) → (n ≡ 0 → ⊥) → ((R : Content) → Tells R (ended_by R n) (Ok reply)) → (R : Content) → Tells R (broken_off R n) (Ok reply)
 breaks_off zero reply some told R = absurd (some refl)
 breaks_off (suc n) reply some told R = told R

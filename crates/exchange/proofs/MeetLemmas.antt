@@ -53,7 +53,7 @@ fault_own m bytes fault is e none =
 pub record Clearly (old new : Store) (before after : Standing) (m : Message) (out now : List ℕ) (s : State) : Type 0 where
   pub result : (turned (party_of old) before.state old.content m).result ≡ Ok s
   pub written : now ≡ out ++ bytes_of (turned (party_of old) before.state old.content m).reply
-  pub stands : after ≡ standing_after before (kind_of m) (turned (party_of old) before.state old.content m)
+  pub stands : after ≡ standing_after before old.content (kind_of m) (turned (party_of old) before.state old.content m)
   pub content : new.broken ≡ false → new.content ≡ (turned (party_of old) before.state old.content m).content
   pub passes : Passes old new []
 
@@ -93,7 +93,7 @@ module _ (old new : Store) (before after : Standing) (m : Message) (out written 
       record {
         result = result wrote;
         written = bytes wrote;
-        stands = takes.stands honest ∙ ap (standing_after before (kind_of m)) turn;
+        stands = takes.stands honest ∙ ap (standing_after before old.content (kind_of m)) turn;
         content = λ u. takes.content honest u ∙ ap (λ (t : Turn). t.content) turn;
         passes = subst (λ w. Passes old new (option_to_list (fault_on w))) is takes.passes;
       }

@@ -1,10 +1,10 @@
 -- What an end makes of a frame.
-use Rattle.std.proofs.Common.{◌≡◌, ℕ, zero, suc, List, [], ◌++◌, take, Option, Some, None, Result, Ok, Err, IfOk, refl, sym, ap, ◌∙◌, subst, inl, inr, option_to_list}
+use Rattle.std.proofs.Common.{◌≡◌, ℕ, zero, suc, ◌+◌, arith, List, [], ◌++◌, take, Option, Some, None, Result, Ok, Err, IfOk, refl, sym, ap, ◌∙◌, subst, inl, inr, option_to_list}
 use Rattle.std.specs.Option.{option_map_or, option_or}
 use Rattle.std.specs.Result.{result_unwrap_or}
 use Rattle.stamp.specs.Numbers.{number_of, IsVector}
 use Rattle.ua_binary.specs.Format.{Puts}
-use Rattle.records.specs.Contents.{vec, merged}
+use Rattle.records.specs.Contents.{Content, vec, merged}
 use Rattle.records.specs.Spelling.{GivesUnless}
 use Rattle.archive.specs.Store.{Store, Asks, Passes}
 use Rattle.std.proofs.lemmas.Option.{none-some}
@@ -17,13 +17,14 @@ use Rattle.exchange.specs.declared.message.Message.TheVariants as message
 use Rattle.exchange.specs.declared.message.State.{State}
 use Rattle.exchange.specs.declared.message.State.TheVariants as state
 use Rattle.exchange.specs.declared.dialog.Reply.{Reply}
+use Rattle.exchange.specs.declared.dialog.Progress.{Progress}
 use Rattle.exchange.specs.Frames.{frame_of, message_at}
-use Rattle.exchange.specs.Dialogs.{Turn, failing, turned, title_by, Way, Clear, Unread, Stopped, Starved, Met, IsWay, gone, fault_on, records_in, records_read, Standing, unfit, received, answered, answered_to, standing_after, taken_after, party_of, bytes_of, Tells, TellsFault, Handles, Writes, Takes, Greets, Sends, SendsHandled, AnswersTo, Concludes}
+use Rattle.exchange.specs.Dialogs.{Turn, failing, turned, title_by, Way, Clear, Unread, Stopped, Starved, Met, IsWay, gone, fault_on, records_in, records_read, Standing, unfit, received, answered, answered_to, standing_after, taken_after, party_of, bytes_of, Tells, TellsFault, Handles, Writes, Takes, Greets, Sends, SendsHandled, AnswersTo, Concludes, capped, counted_by, added_to, carried}
 use Rattle.exchange.proofs.HandleLemmas.{title_in, title_is}
 
 -- ---- what was handled is written
 
-pub answers_sent : (a c : Store) (state : State) (m : Message) (handled : Result Reply ExchangeFault) (result : Result (State × Option ℕ) ExchangeFault) (out written : List ℕ)
+pub answers_sent : (a c : Store) (state : State) (m : Message) (handled : Result Reply ExchangeFault) (result : Result Progress ExchangeFault) (out written : List ℕ)
     → Handles a c (records_in m) (turned (party_of a) state a.content m) handled → SendsHandled handled result out written → AnswersTo a c state (Ok m) out written result
 answers_sent a c state m (Ok reply) (Ok done) out written handles sends = record {
   way = handles.way;
@@ -32,9 +33,11 @@ answers_sent a c state m (Ok reply) (Ok done) out written handles sends = record
   outside = handles.outside;
   sends = λ h.
       let told = handles.tells h in (
-        told.0 ∙ ap Ok (sym sends.0),
-        told.2 ∙ sym sends.1,
-        sends.2 ∙ ap (λ o. out ++ bytes_of o) (sym told.1),
+        told.0 ∙ ap (λ (d : Progress). Ok d.state) (sym sends.0),
+        told.2 ∙ ap (λ (d : Progress). d.code) (sym sends.0),
+        sends.1 ∙ ap (λ o. out ++ bytes_of o) (sym told.1),
+        told.3 ∙ ap (λ (d : Progress). d.learned) (sym sends.0),
+        ap carried told.1 ∙ ap (λ (d : Progress). d.sent) (sym sends.0),
       );
   content = handles.content;
   crash = handles.crash;
@@ -66,9 +69,9 @@ answers_sent a c state m (Err fault) (Err told) out written handles sends = reco
 
 module _ (a c : Store) (before counted after : Standing) (kind : FrameKind) (out mid written : List ℕ) (result : Result State ExchangeFault)
     (counts : counted ≡ record before { taken = taken_after (unfit before kind) before.taken }) where
-  writes : (turn : Turn) (answered : Result (State × Option ℕ) ExchangeFault) → Sends turn answered out mid → Concludes counted after answered result mid written → Writes turn result out written
-  writes turn (Ok done) sends concludes = inl (concludes.1 ∙ sym sends.0, concludes.2 ∙ sends.2)
-  writes turn (Err fault) sends concludes = elim concludes.1 [
+  writes : (R : Content) (turn : Turn) (answered : Result Progress ExchangeFault) → Sends R turn answered out mid → Concludes counted after answered result mid written → Writes turn result out written
+  writes R turn (Ok done) sends concludes = inl (concludes.1 ∙ sym sends.0, concludes.2 ∙ sends.2)
+  writes R turn (Err fault) sends concludes = elim concludes.1 [
     | inl told ↦ inl (
       told.0 ∙ sym (ap (λ (t : Turn). t.result) sends.0),
       told.1 ∙ (ap (λ o. o ++ frame_of (message.Ends (Rattle.exchange.specs.Fault.exchange_number fault))) sends.1 ∙ ap (λ (t : Turn). out ++ bytes_of t.reply) (sym sends.0)),
@@ -76,22 +79,37 @@ module _ (a c : Store) (before counted after : Standing) (kind : FrameKind) (out
     | inr starved ↦ inr (fault, ap (λ (t : Turn). t.result) sends.0, starved.0, starved.1 ∙ sends.1)
   ]
 
-  stands : (turn : Turn) (answered : Result (State × Option ℕ) ExchangeFault) → Sends turn answered out mid → Concludes counted after answered result mid written → after ≡ standing_after before kind turn
-  stands turn (Ok done) sends concludes =
+  -- an end whose turn went well, by what was told of it
+  abbrev goes_by : Result State ExchangeFault → Option ℕ → (learned sent : ℕ) → Standing
+  goes_by r code learned sent = record {
+    state = result_unwrap_or r state.Failed;
+    taken = taken_after (unfit before kind) before.taken;
+    code = option_or code before.code;
+    started = before.started;
+    learned = counted_by r before.learned learned;
+    sent = counted_by r before.sent sent;
+  }
+
+  capped_twice : (n m : ℕ) → capped (n + capped m) ≡ capped (n + m)
+  capped_twice n m = omega arith
+
+  stands : (R : Content) (turn : Turn) (answered : Result Progress ExchangeFault) → Sends R turn answered out mid → Concludes counted after answered result mid written → after ≡ standing_after before R kind turn
+  stands R turn (Ok done) sends concludes =
       concludes.0
-      ∙ (ap (λ (s : Standing). let t : Standing = record s { state = done.0; code = option_or done.1 s.code } in t) counts
-      ∙ (ap (λ (r : Result State ExchangeFault). let t : Standing = record { state = result_unwrap_or r state.Failed; taken = taken_after (unfit before kind) before.taken; code = option_or done.1 before.code; started = before.started } in t) (sym sends.0)
-      ∙ ap (λ (o : Option ℕ). let t : Standing = record { state = result_unwrap_or turn.result state.Failed; taken = taken_after (unfit before kind) before.taken; code = option_or o before.code; started = before.started } in t) (sym sends.1)))
-  stands turn (Err fault) sends concludes =
+      ∙ (ap (λ (s : Standing). let t : Standing = record s { state = done.state; code = option_or done.code s.code; learned = capped (s.learned + done.learned); sent = capped (s.sent + done.sent) } in t) counts
+      ∙ (ap (λ n. let t : Standing = record (goes_by (Ok done.state) done.code done.learned done.sent) { learned = n } in t) (ap (λ n. capped (before.learned + n)) (sym sends.3) ∙ capped_twice before.learned (added_to R turn))
+      ∙ (ap (λ r. goes_by r done.code (added_to R turn) done.sent) (sym sends.0)
+      ∙ (ap (λ code. goes_by turn.result code (added_to R turn) done.sent) (sym sends.1) ∙ ap (goes_by turn.result turn.code (added_to R turn)) (sym sends.4)))))
+  stands R turn (Err fault) sends concludes =
       concludes.0
       ∙ (ap (λ (s : Standing). let t : Standing = record s { state = state.Failed } in t) counts
-      ∙ ap (λ (x : Turn). let t : Standing = record { state = result_unwrap_or x.result state.Failed; taken = taken_after (unfit before kind) before.taken; code = option_or x.code before.code; started = before.started } in t) (sym sends.0))
+      ∙ ap (λ (x : Turn). goes_by x.result x.code (added_to R x) (carried x.reply)) (sym sends.0))
 
-  taken_is : (answered : Result (State × Option ℕ) ExchangeFault) → Concludes counted after answered result mid written → after.taken ≡ taken_after (unfit before kind) before.taken
+  taken_is : (answered : Result Progress ExchangeFault) → Concludes counted after answered result mid written → after.taken ≡ taken_after (unfit before kind) before.taken
   taken_is (Ok done) concludes = ap (λ (s : Standing). s.taken) concludes.0 ∙ ap (λ (s : Standing). s.taken) counts
   taken_is (Err fault) concludes = ap (λ (s : Standing). s.taken) concludes.0 ∙ ap (λ (s : Standing). s.taken) counts
 
-  started_is : (answered : Result (State × Option ℕ) ExchangeFault) → Concludes counted after answered result mid written → after.started ≡ before.started
+  started_is : (answered : Result Progress ExchangeFault) → Concludes counted after answered result mid written → after.started ≡ before.started
   started_is (Ok done) concludes = ap (λ (s : Standing). s.started) concludes.0 ∙ ap (λ (s : Standing). s.started) counts
   started_is (Err fault) concludes = ap (λ (s : Standing). s.started) concludes.0 ∙ ap (λ (s : Standing). s.started) counts
 
@@ -103,7 +121,7 @@ module _ (a c : Store) (before counted after : Standing) (kind : FrameKind) (out
   always (Ok s) x = x
   always (Err f) x = tt
 
-  failed : (fault : ExchangeFault) (answered : Result (State × Option ℕ) ExchangeFault) → answered ≡ Err fault → Concludes counted after answered result mid written → IfOk result (λ _. unfit before kind ≡ None)
+  failed : (fault : ExchangeFault) (answered : Result Progress ExchangeFault) → answered ≡ Err fault → Concludes counted after answered result mid written → IfOk result (λ _. unfit before kind ≡ None)
   failed fault (Ok done) is concludes = absurd (cc)
   failed fault (Err told) is concludes = elim concludes.1 [
     | inl told ↦ subst (λ (r : Result State ExchangeFault). IfOk r (λ _. unfit before kind ≡ None)) (sym told.0) tt
@@ -111,19 +129,19 @@ module _ (a c : Store) (before counted after : Standing) (kind : FrameKind) (out
   ]
 
   -- where the dialog goes on, the frame could be taken
-  fits : (message r : Result Message ExchangeFault) (answered : Result (State × Option ℕ) ExchangeFault) → option_map_or (λ f. Err f) (unfit before kind) message ≡ r → AnswersTo a c before.state r out mid answered
+  fits : (message r : Result Message ExchangeFault) (answered : Result Progress ExchangeFault) → option_map_or (λ f. Err f) (unfit before kind) message ≡ r → AnswersTo a c before.state r out mid answered
       → Concludes counted after answered result mid written → IfOk result (λ _. unfit before kind ≡ None)
   fits message (Ok m) answered e answers concludes = always result (could (unfit before kind) message m e)
   fits message (Err fault) answered e answers concludes = failed fault answered answers.untaken concludes
 
   -- what was received is what the frame says
-  takes_it : (body : List ℕ) (answered : Result (State × Option ℕ) ExchangeFault) → AnswersTo a c before.state (received (party_of a) before kind body) out mid answered
+  takes_it : (body : List ℕ) (answered : Result Progress ExchangeFault) → AnswersTo a c before.state (received (party_of a) before kind body) out mid answered
       → Concludes counted after answered result mid written → Takes a c before after kind body out written result
   takes_it body answered answers concludes = record {
     way = answers.way;
     outside = answers.outside;
-    writes = λ h. writes _ answered (answers.sends h) concludes;
-    stands = λ h. stands _ answered (answers.sends h) concludes;
+    writes = λ h. writes a.content _ answered (answers.sends h) concludes;
+    stands = λ h. stands a.content _ answered (answers.sends h) concludes;
     content = answers.content;
     crash = answers.crash;
     passes = answers.passes;
@@ -133,13 +151,13 @@ module _ (a c : Store) (before counted after : Standing) (kind : FrameKind) (out
   }
 
   -- memory was wanting before it was known
-  unread : (body : List ℕ) (answered : Result (State × Option ℕ) ExchangeFault) → AnswersTo a c before.state (Err exchange.OutOfMemory) out mid answered
+  unread : (body : List ℕ) (answered : Result Progress ExchangeFault) → AnswersTo a c before.state (Err exchange.OutOfMemory) out mid answered
       → Concludes counted after answered result mid written → Takes a c before after kind body out written result
   unread body answered answers concludes = record {
     way = Unread;
     outside = outside (received (party_of a) before kind body);
-    writes = λ h. writes (Rattle.exchange.specs.Dialogs.answered (party_of a) before a.content Unread kind body) answered (same (received (party_of a) before kind body) (sends h)) concludes;
-    stands = λ h. stands (Rattle.exchange.specs.Dialogs.answered (party_of a) before a.content Unread kind body) answered (same (received (party_of a) before kind body) (sends h)) concludes;
+    writes = λ h. writes a.content (Rattle.exchange.specs.Dialogs.answered (party_of a) before a.content Unread kind body) answered (same (received (party_of a) before kind body) (sends h)) concludes;
+    stands = λ h. stands a.content (Rattle.exchange.specs.Dialogs.answered (party_of a) before a.content Unread kind body) answered (same (received (party_of a) before kind body) (sends h)) concludes;
     content = λ h u. subst (λ w. c.content ≡ (gone w a.content [] (failing a.content exchange.OutOfMemory)).content) answers.unmoved (answers.content h u) ∙ left (received (party_of a) before kind body);
     crash = λ h left m. elim (answers.crash h left m) [
       | inl old ↦ inl old
@@ -154,10 +172,10 @@ module _ (a c : Store) (before counted after : Standing) (kind : FrameKind) (out
       outside : (r : Result Message ExchangeFault) → IsWay (records_read r) Unread
       outside r = tt
 
-      sends : c.honest → Sends (failing a.content exchange.OutOfMemory) answered out mid
-      sends h = subst (λ w. Sends (gone w a.content [] (failing a.content exchange.OutOfMemory)) answered out mid) answers.unmoved (answers.sends h)
+      sends : c.honest → Sends a.content (failing a.content exchange.OutOfMemory) answered out mid
+      sends h = subst (λ w. Sends a.content (gone w a.content [] (failing a.content exchange.OutOfMemory)) answered out mid) answers.unmoved (answers.sends h)
 
-      same : (r : Result Message ExchangeFault) → Sends (failing a.content exchange.OutOfMemory) answered out mid → Sends (answered_to (party_of a) before.state a.content Unread r) answered out mid
+      same : (r : Result Message ExchangeFault) → Sends a.content (failing a.content exchange.OutOfMemory) answered out mid → Sends a.content (answered_to (party_of a) before.state a.content Unread r) answered out mid
       same (Ok m) s = s
       same (Err f) s = s
 
@@ -169,7 +187,7 @@ module _ (a c : Store) (before counted after : Standing) (kind : FrameKind) (out
       none zero = refl
       none (suc k) = refl
 
-  pub takes : (body : List ℕ) (got : Result Message ExchangeFault) (answered : Result (State × Option ℕ) ExchangeFault) → GivesUnless exchange.OutOfMemory got (received (party_of a) before kind body)
+  pub takes : (body : List ℕ) (got : Result Message ExchangeFault) (answered : Result Progress ExchangeFault) → GivesUnless exchange.OutOfMemory got (received (party_of a) before kind body)
       → AnswersTo a c before.state got out mid answered → Concludes counted after answered result mid written → Takes a c before after kind body out written result
   takes body (Ok m) answered gives answers concludes = takes_it body answered (subst (λ r. AnswersTo a c before.state r out mid answered) (sym gives) answers) concludes
   takes body (Err exchange.OutOfMemory) answered gives answers concludes = unread body answered answers concludes

@@ -137,7 +137,7 @@ module _ (a0 b0 a : Store) (there : List ℕ) where
         other = λ left m. rests_hold b0.content a0.content b0 k meet.other.0 meet.other.1 (between_first b0.content a0.content (meet.other.0 k meet.other.1).lawful) left m;
       },
     );
-    refused = λ h k none. (greets.stays, stays_none b0);
+    refused = λ h k none. (refl, greets.stays, stays_none b0);
     long = λ h k meet e. absurd (not_long fault (of_answer fault greets.kept.0) (err_is fault exchange.TooLong e));
     told = λ h k meet. all_told (store_fault_of fault);
     faults = option_to_list (store_fault_told {A = Unit {0}} (Err fault));
@@ -146,8 +146,8 @@ module _ (a0 b0 a : Store) (there : List ℕ) where
     passes_other = passes-none b0;
   }
 
-  pub talk_starts : (first second : Standing) (u : Unit {0}) → Greets a0 a [] there (Ok u) → first ≡ record { state = state.Pulling; taken = 0; code = None; started = true }
-      → second ≡ record { state = state.Serving; taken = 0; code = None; started = true } → Rests a → IsParty (party_of a0) → Rests b0 → Talk a0 b0 a b0 first second there 1 0
+  pub talk_starts : (first second : Standing) (u : Unit {0}) → Greets a0 a [] there (Ok u) → first ≡ record { state = state.Pulling; taken = 0; code = None; started = true; learned = 0; sent = 0 }
+      → second ≡ record { state = state.Serving; taken = 0; code = None; started = true; learned = 0; sent = 0 } → Rests a → IsParty (party_of a0) → Rests b0 → Talk a0 b0 a b0 first second there 1 0
   talk_starts first second u greets e f rests party rests_other = record {
     of = record { faults = []; passes = greets.passes; others = []; passes_other = passes-none b0 };
     started = ap (λ (s : Standing). s.started) e;
@@ -395,7 +395,7 @@ module _ (a0 b0 : Store) (party : IsParty (party_of a0)) (party_other : IsParty 
           let w = way h (hands.passes.honest k) k meet in
           (is.0, record { one = λ left m. rests_hold a0.content b0.content a h w.used.0.0 w.used.0.1 w.one left m; other = is.1 });
       told = λ h k meet. more_told fault talk.of.faults (talk.of.others ++ hands.faults) (more_told fault talk.of.others hands.faults (failed h (hands.passes.honest k) k meet fault hands).2);
-      refused = λ h k none. ((first_frame h (hands.passes.honest k) k none).one, stays h (hands.passes.honest k) k none fault hands);
+      refused = λ h k none. (refl, (first_frame h (hands.passes.honest k) k none).one, stays h (hands.passes.honest k) k none fault hands);
       long = λ h k meet e u v. long h (hands.passes.honest k) k meet fault hands (err_is fault exchange.TooLong e) v;
       faults = talk.of.faults;
       passes = talk.of.passes;
@@ -477,7 +477,7 @@ talk_ends a0 b0 a b first second there n round talk past = record {
   joined = λ h k meet. tt;
   between = λ h k meet. absurd (over h k meet);
   told = λ h k meet. tt;
-  refused = λ h k none. let first = talk.alone h k none in (first.one, first.other);
+  refused = λ h k none. let first = talk.alone h k none in (refl, first.one, first.other);
   long = λ h k meet e u v. absurd (over h k meet);
   faults = talk.of.faults;
   passes = talk.of.passes;

@@ -1,6 +1,6 @@
 -- A dialog between two replicas: what an end makes of each frame that it takes, and what it answers. Both ends of a dialog, over memory or over
 -- a connection, are these.
-use Rattle.std.specs.Prelude.{◌≡◌, ◌⊎◌, ⊤, ℕ, zero, suc, ◌+◌, ◌<◌, nat_le, Bool, true, false, List, [], ◌∷◌, ◌++◌, take, length, Option, None, Some, unwrap_or, Result, Ok, Err, IfOk, IfErr, IfSome, if◌then◌else◌, option_to_list}
+use Rattle.std.specs.Prelude.{◌≡◌, ◌⊎◌, ⊤, ℕ, zero, suc, ◌+◌, ◌-◌, ◌^◌, ◌<◌, min, nat_le, Bool, true, false, List, [], ◌∷◌, ◌++◌, take, length, Option, None, Some, unwrap_or, Result, Ok, Err, IfOk, IfErr, IfSome, if◌then◌else◌, option_to_list}
 use Rattle.std.specs.Option.{option_map_or, option_or}
 use Rattle.std.specs.Result.{result_unwrap_or}
 use Rattle.stamp.specs.Numbers.{number_of}
@@ -25,6 +25,7 @@ use Rattle.exchange.specs.Fault.{exchange_number, store_fault_told}
 use Rattle.exchange.specs.Batches.{batch_of, IsOfAnswer}
 use Rattle.exchange.specs.declared.message.Party.{Party}
 use Rattle.exchange.specs.declared.dialog.Reply.{Reply}
+use Rattle.exchange.specs.declared.dialog.Progress.{Progress}
 use Rattle.exchange.specs.Frames.{message_at, frame_of, IsSpelled}
 
 -- ---- what an end says
@@ -40,6 +41,10 @@ pub record Turn : Type 0 where
   pub reply : Option Message
   pub content : Content
   pub code : Option ℕ
+
+-- how many records the turn added to what was held before it
+abbrev pub added_to : Content → Turn → ℕ
+added_to R turn = length turn.content - length R
 
 -- a fault is told by its number, and ends the dialog
 abbrev pub failing : Content → ExchangeFault → Turn
@@ -144,7 +149,20 @@ gone (Stopped learned fault) R rs turn = failing (merged (take learned rs) R) (L
 gone Starved R rs turn = failing turn.content OutOfMemory
 gone (Met fault) R rs turn = failing turn.content (exchange.Store fault)
 
+-- how many records an answer carries
+abbrev pub carried : Option Message → ℕ
+carried reply = option_map_or (λ m. length (records_in m)) reply 0
+
 -- ---- an end
+
+-- a count stops at the greatest u32
+abbrev pub capped : ℕ → ℕ
+capped n = min n (2 ^ 32 - 1)
+
+-- a count behind a turn: one that met a fault doesn't count
+abbrev pub counted_by : Result State ExchangeFault → ℕ → ℕ → ℕ
+counted_by (Ok state) count more = capped (count + more)
+counted_by (Err fault) count more = count
 
 -- how an end stands between two frames
 pub record Standing : Type 0 where
@@ -155,6 +173,10 @@ pub record Standing : Type 0 where
   pub code : Option ℕ
   -- an initiator takes frames once it sent its first one
   pub started : Bool
+  -- how many records its turns added to what it holds
+  pub learned : ℕ
+  -- how many records its turns sent
+  pub sent : ℕ
 
 abbrev pub is_over : State → Bool
 is_over Done = true
@@ -190,8 +212,16 @@ abbrev pub taken_after : Option ExchangeFault → ℕ → ℕ
 taken_after None n = n + 1
 taken_after (Some fault) n = n
 
-abbrev pub standing_after : Standing → FrameKind → Turn → Standing
-standing_after s kind turn = record { state = result_unwrap_or turn.result Failed; taken = taken_after (unfit s kind) s.taken; code = option_or turn.code s.code; started = s.started }
+-- how an end that held this stands behind the turn that a frame of this kind came to
+abbrev pub standing_after : Standing → Content → FrameKind → Turn → Standing
+standing_after s R kind turn = record {
+  state = result_unwrap_or turn.result Failed;
+  taken = taken_after (unfit s kind) s.taken;
+  code = option_or turn.code s.code;
+  started = s.started;
+  learned = counted_by turn.result s.learned (added_to R turn);
+  sent = counted_by turn.result s.sent (carried turn.reply);
+}
 
 abbrev pub bytes_of : Option Message → List ℕ
 bytes_of message = option_map_or frame_of message []
@@ -201,10 +231,15 @@ bytes_of message = option_map_or frame_of message []
 abbrev pub party_of : Store → Party
 party_of s = record { id = s.id; own = s.own }
 
--- a message was handled: the state, the answer and the peer's number are those of the turn, or its fault is told
-abbrev pub Tells : Turn → Result Reply ExchangeFault → Type 0
-Tells turn (Ok reply) = (turn.result ≡ Ok reply.state) × (turn.reply ≡ reply.message) × (turn.code ≡ reply.code)
-Tells turn (Err fault) = turn ≡ failing turn.content fault
+-- a message was handled where this was held: the state, the answer, the peer's number and how many records were added are those of the turn, or its fault is told
+abbrev pub Tells : Content → Turn → Result Reply ExchangeFault → Type 0
+Tells R turn (Ok reply) = (turn.result ≡ Ok reply.state) × (turn.reply ≡ reply.message) × (turn.code ≡ reply.code) × (capped (added_to R turn) ≡ reply.learned)
+Tells R turn (Err fault) = turn ≡ failing turn.content fault
+
+-- what is answered behind so many records that were learned
+abbrev pub behind : ℕ → Result Reply ExchangeFault → Result Reply ExchangeFault
+behind learned (Ok reply) = Ok (record reply { learned = learned })
+behind learned (Err fault) = Err fault
 
 abbrev pub IsSpelledReply : Reply → Type 0
 IsSpelledReply reply = IfSome reply.message IsSpelled
@@ -214,7 +249,7 @@ pub record Handles (old new : Store) (rs : List Record) (turn : Turn) (result : 
   pub way : Way
   pub outside : IsWay rs way
   pub clear : IfOk result (λ _. way ≡ Clear)
-  pub tells : new.honest → Tells (gone way old.content rs turn) result
+  pub tells : new.honest → Tells old.content (gone way old.content rs turn) result
   pub spelled : IfOk result IsSpelledReply
   pub content : new.honest → new.broken ≡ false → new.content ≡ (gone way old.content rs turn).content
   -- a crash leaves what it could leave before, or the content with some first records of the batch
@@ -237,7 +272,7 @@ pub record Takes (old new : Store) (before after : Standing) (kind : FrameKind) 
   pub way : Way
   pub outside : IsWay (records_read (received (party_of old) before kind body)) way
   pub writes : new.honest → Writes (answered (party_of old) before old.content way kind body) result out written
-  pub stands : new.honest → after ≡ standing_after before kind (answered (party_of old) before old.content way kind body)
+  pub stands : new.honest → after ≡ standing_after before old.content kind (answered (party_of old) before old.content way kind body)
   pub content : new.honest → new.broken ≡ false → new.content ≡ (answered (party_of old) before old.content way kind body).content
   pub crash : new.honest → (left : Content) → new.may_hold left
       → old.may_hold left ⊎ ((old.broken ≡ false) × (k : ℕ) × (left ≡ merged (take k (records_read (received (party_of old) before kind body))) old.content))
@@ -266,33 +301,37 @@ TellsFault fault result out written =
     ((result ≡ Err fault) × (written ≡ out ++ frame_of (Ends (exchange_number fault))))
     ⊎ ((result ≡ Err OutOfMemory) × (written ≡ out))
 
--- a turn was made, and its answer written; or its fault is still to be told
-abbrev pub Sends : Turn → Result (State × Option ℕ) ExchangeFault → List ℕ → List ℕ → Type 0
-Sends turn (Ok done) out written = (turn.result ≡ Ok done.0) × (turn.code ≡ done.1) × (written ≡ out ++ bytes_of turn.reply)
-Sends turn (Err fault) out written = (turn ≡ failing turn.content fault) × (written ≡ out)
+-- a turn was made where this was held, and its answer written; or its fault is still to be told
+abbrev pub Sends : Content → Turn → Result Progress ExchangeFault → List ℕ → List ℕ → Type 0
+Sends R turn (Ok done) out written =
+    (turn.result ≡ Ok done.state) × (turn.code ≡ done.code) × (written ≡ out ++ bytes_of turn.reply) × (capped (added_to R turn) ≡ done.learned) × (carried turn.reply ≡ done.sent)
+Sends R turn (Err fault) out written = (turn ≡ failing turn.content fault) × (written ≡ out)
 
 -- what was handled is written, or memory for that is wanting
-abbrev pub SendsHandled : Result Reply ExchangeFault → Result (State × Option ℕ) ExchangeFault → List ℕ → List ℕ → Type 0
-SendsHandled (Ok reply) (Ok done) out written = (done.0 ≡ reply.state) × (done.1 ≡ reply.code) × (written ≡ out ++ bytes_of reply.message)
+abbrev pub SendsHandled : Result Reply ExchangeFault → Result Progress ExchangeFault → List ℕ → List ℕ → Type 0
+SendsHandled (Ok reply) (Ok done) out written =
+    (done ≡ record { state = reply.state; code = reply.code; learned = reply.learned; sent = carried reply.message }) × (written ≡ out ++ bytes_of reply.message)
 SendsHandled (Ok reply) (Err fault) out written = (fault ≡ OutOfMemory) × (written ≡ out)
 SendsHandled (Err fault) (Ok done) out written = ⊥
 SendsHandled (Err fault) (Err told) out written = (told ≡ fault) × (written ≡ out)
 
 -- what was received was answered
-pub record AnswersTo (old new : Store) (state : State) (received : Result Message ExchangeFault) (out written : List ℕ) (result : Result (State × Option ℕ) ExchangeFault) : Type 0 where
+pub record AnswersTo (old new : Store) (state : State) (received : Result Message ExchangeFault) (out written : List ℕ) (result : Result Progress ExchangeFault) : Type 0 where
   pub way : Way
   -- what wasn't received moves nothing
   pub unmoved : IfErr received (λ _. way ≡ Clear)
   -- and its fault is told, whatever the store
   pub untaken : IfErr received (λ fault. result ≡ Err fault)
   pub outside : IsWay (records_read received) way
-  pub sends : new.honest → Sends (answered_to (party_of old) state old.content way received) result out written
+  pub sends : new.honest → Sends old.content (answered_to (party_of old) state old.content way received) result out written
   pub content : new.honest → new.broken ≡ false → new.content ≡ (answered_to (party_of old) state old.content way received).content
   pub crash : new.honest → (left : Content) → new.may_hold left
       → old.may_hold left ⊎ ((old.broken ≡ false) × (k : ℕ) × (left ≡ merged (take k (records_read received)) old.content))
   pub passes : Passes old new (option_to_list (fault_on way))
 
 -- an end stands as what was answered says, and a fault is told
-abbrev pub Concludes : Standing → Standing → Result (State × Option ℕ) ExchangeFault → Result State ExchangeFault → List ℕ → List ℕ → Type 0
-Concludes before after (Ok done) result out written = (after ≡ record before { state = done.0; code = option_or done.1 before.code }) × (result ≡ Ok done.0) × (written ≡ out)
+abbrev pub Concludes : Standing → Standing → Result Progress ExchangeFault → Result State ExchangeFault → List ℕ → List ℕ → Type 0
+Concludes before after (Ok done) result out written =
+    (after ≡ record before { state = done.state; code = option_or done.code before.code; learned = capped (before.learned + done.learned); sent = capped (before.sent + done.sent) })
+    × (result ≡ Ok done.state) × (written ≡ out)
 Concludes before after (Err fault) result out written = (after ≡ record before { state = Failed }) × TellsFault fault result out written

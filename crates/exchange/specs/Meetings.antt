@@ -1,5 +1,5 @@
 -- Dialogs of two replicas over memory.
-use Rattle.std.specs.Prelude.{◌≡◌, ◌⊎◌, ⊤, ℕ, ◌+◌, ◌*◌, ◌≤◌, false, List, [], length, Result, Ok, Err, IfOk, IfErr, IfSome, ◌++◌, ◌∷◌, Some, option_to_list}
+use Rattle.std.specs.Prelude.{◌≡◌, ◌⊎◌, ⊤, ℕ, ◌+◌, ◌*◌, ◌≤◌, false, List, [], length, Result, Ok, Err, IsErr, IfOk, IfErr, IfSome, ◌++◌, ◌∷◌, Some, option_to_list}
 use Rattle.records.specs.Lists.{Has}
 use Rattle.stamp.specs.Numbers.{number_of}
 use Rattle.records.specs.Contents.{Content, AreCompatible, IsWithin, join, vec}
@@ -65,8 +65,8 @@ IsTold fault faults = IfSome (store_fault_of fault) (Has faults)
 pub record Converses (a b a' b' : Store) (result : Result ℕ ExchangeFault) : Type 0 where
   pub joined : a'.honest → b'.honest → CanMeet a b → IfOk result (AreJoined a.content b.content a'.content b'.content)
   pub between : a'.honest → b'.honest → CanMeet a b → IfErr result (λ fault. IsOfMeeting fault × AreBetween a b a' b')
-  -- replicas of two archives, or of one number, stay as they were
-  pub refused : a'.honest → b'.honest → ((a.id ≡ b.id) × (a.own ≡ b.own → ⊥) → ⊥) → Stays a a' × Stays b b'
+  -- replicas of two archives, or of one number, come to no end, and stay as they were
+  pub refused : a'.honest → b'.honest → ((a.id ≡ b.id) × (a.own ≡ b.own → ⊥) → ⊥) → IsErr result × Stays a a' × Stays b b'
   -- so many frames go by only where as many records were added
   pub long : a'.honest → b'.honest → CanMeet a b → result ≡ Err exchange.TooLong → a'.broken ≡ false → b'.broken ≡ false → 999999 + (length a.content + length b.content) ≤ length a'.content + length b'.content
   pub faults : List StoreFault
