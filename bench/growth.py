@@ -249,7 +249,7 @@ def exchanged(caller_is_refused):
         one, two = pair(machine)
         now = [set(m.dump().out.splitlines()) for m in (one, two)]
         both = held[0] | held[1]
-        if not (held[0] <= now[0] <= both and held[1] <= now[1] <= both) or (caller_is_refused and run.status == 0 and now != [both, both]):
+        if not (held[0] <= now[0] <= both and held[1] <= now[1] <= both) or (caller_is_refused and run.status == 0 and (now != [both, both] or run.out != whole.out)):
             fault("an exchange left otherwise", run, growth)
         again = exchange(one, two, None, 0, True)
         if again.status != 0 or [set(m.dump().out.splitlines()) for m in (one, two)] != [both, both]:

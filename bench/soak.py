@@ -9,7 +9,7 @@ end of each fourth call. At the end both call each other: their dumps have to be
 reads has to be equal byte for byte, each write that was answered Good has to be among the records, and none that nobody asked
 for. Prints what was done each minute, and at the end the greatest memory of each command and the sizes of the files.
 """
-import argparse, collections, os, random, shutil, socket, struct, subprocess, sys, tempfile, threading, time
+import argparse, collections, os, random, re, shutil, socket, struct, subprocess, sys, tempfile, threading, time
 import reading, running
 from opcua import *
 
@@ -186,7 +186,7 @@ def call(caller, peer):
     server = peer.serve()
     called = caller.run("sync", "--peer", f"127.0.0.1:{peer.port}")
     run = server.end()
-    assert called.status == 0 and called.said == "" and run.status == 0, (called.status, called.said, run.status, run.said)
+    assert called.status == 0 and re.fullmatch(rb"learned \d+ sent \d+\n", called.out) and called.said == "" and run.status == 0, (called.status, called.out, called.said, run.status, run.said)
     counts["calls"] += 1
 
 

@@ -5,8 +5,9 @@
 
 In each round a client updates values at one of them, at few moments so that the two contradict each other, and then one
 calls the other (`sync`); in every third round a program is killed (SIGKILL) in between. At the end they are synced once more:
-their dumps have to be equal, what they answer to the same reads of raw and modified values has to be equal byte for byte, and
-no update that was answered Good may be missing. The first thing that is otherwise ends the script by an error.
+the line that is printed has to tell by how many records the dumps grew, the dumps have to be equal, what they answer to the
+same reads of raw and modified values has to be equal byte for byte, and no update that was answered Good may be missing. The
+first thing that is otherwise ends the script by an error.
 """
 import os, random, subprocess, sys, tempfile, threading
 from opcua import EPOCH, Client, int32, node, value_at
@@ -54,16 +55,16 @@ class Replica:
         server.wait()
 
     def call(self, peer, kill):
-        """Calls the other one; whether that came to its end."""
+        """Calls the other one; how that ended, and what was printed and said."""
         server = peer.serve()
         one.connect_probe(peer.port)
-        caller = subprocess.Popen([program, "sync", "--settings", self.settings, "--peer", f"127.0.0.1:{peer.port}"], stderr=subprocess.PIPE, text=True)
+        caller = subprocess.Popen([program, "sync", "--settings", self.settings, "--peer", f"127.0.0.1:{peer.port}"], stdout=subprocess.PIPE, stderr=subprocess.PIPE, text=True)
         if kill:
             threading.Timer(chance.uniform(0.0, 0.05), chance.choice([server, caller]).kill).start()
-        said = caller.communicate()[1]
+        printed, said = caller.communicate()
         server.kill()
         server.wait()
-        return caller.returncode, said
+        return caller.returncode, printed, said
 
     def dump(self):
         return subprocess.run([program, "dump", "--settings", self.settings], stdout=subprocess.PIPE, check=True).stdout
@@ -83,10 +84,14 @@ if __name__ == "__main__":
         side.update(chance.randrange(1, 60), k % 3 == 2)
         caller, peer = chance.choice([(a, b), (b, a)])
         caller.call(peer, k % 3 == 1)
-    status, said = a.call(b, False)
+    held = [len(side.dump().splitlines()) for side in (a, b)]
+    status, printed, said = a.call(b, False)
     assert status == 0, said
     first, second = a.dump(), b.dump()
     assert first == second, "the dumps differ"
+    learned, sent = (len(first.splitlines()) - before for before in held)
+    assert printed == f"learned {learned} sent {sent}\n", printed
+    assert b.call(a, False) == (0, "learned 0 sent 0\n", ""), "a second call moved records"
     lines = [line.split() for line in first.decode().splitlines()]
     for side in (a, b):
         mine = sum(1 for line in lines if line[0] == str(side.number))

@@ -15,3 +15,4 @@ pub mod Firsts
 pub mod Talks
 pub mod Talking
 pub mod Syncing
+pub mod Counts

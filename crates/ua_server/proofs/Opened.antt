@@ -8,13 +8,14 @@ use Rattle.ua_settings.specs.Settings.{Values}
 use Rattle.ua_server.specs.declared.program.ProgramFault.{ProgramFault}
 use Rattle.ua_server.specs.declared.program.ProgramFault.TheVariants as program
 use Rattle.ua_server.specs.declared.outcome.ServeFault.TheVariants.{Read, Write}
+use Rattle.ua_server.specs.declared.calling.Synced.{Synced}
 use Rattle.ua_server.specs.declared.calling.SyncFault.{SyncFault}
 use Rattle.ua_server.specs.declared.calling.SyncFault.TheVariants as sync
 use Rattle.ua_server.specs.Bytes.{counted}
 use Rattle.ua_server.specs.Tally.{Tally}
 use Rattle.ua_server.specs.Calling.{Syncs}
 use Rattle.ua_server.proofs.Networks.{has-counted}
-use Rattle.ua_server.specs.Program.{empty_of, unopened, OverOpened, OverStore, Over, Calls, IsSynced, sync_result}
+use Rattle.ua_server.specs.Program.{empty_of, unopened, OverOpened, OverStore, Over, Calls, IsSynced, PrintsSynced}
 
 kept-opened : {K : Type 0} (opening : Result K StoreFault) (kept : K) → Ok kept ≡ unopened opening → opening ≡ Ok kept
 kept-opened (Ok first) kept is = cc
@@ -42,13 +43,13 @@ over-refused held opened untouched settings does P path opening fault is gave no
     subst (λ o. OverStore held opened untouched settings o does (λ f. P (program.Store f))) (sym is) (opening, gave, subst (λ x. OverOpened held x does (λ f. P (program.Store f))) (sym r.1) r.2)
 
 -- a peer was called over a connection that had no failed call before
-pub was-synced : {N R W : Type 0} (calls : Calls N R W) (first last : Store) (reader : R) (writer : W) (reader_counted read : Tally R) (writer_counted wrote : Tally W) (between after : N) (ending : Result (Unit {0}) SyncFault) (result : Result (Unit {0}) ProgramFault)
+pub was-synced : {N R W : Type 0} (calls : Calls N R W) (first last : Store) (reader : R) (writer : W) (reader_counted read : Tally R) (writer_counted wrote : Tally W) (between after : N) (old now : Option (List ℕ)) (ending : Result Synced SyncFault) (result : Result (Unit {0}) ProgramFault)
     → reader_counted ≡ record { inner = reader; faults = 0 } → writer_counted ≡ record { inner = writer; faults = 0 }
     → Syncs first last (calls.unread reader_counted.inner) (calls.unread read.inner) (calls.written writer_counted.inner) (calls.written wrote.inner) ending
     → (ending ≡ Err (sync.Connection Read) → read.faults ≡ counted reader_counted.faults) → (ending ≡ Err (sync.Connection Write) → wrote.faults ≡ counted writer_counted.faults)
     → ((ending ≡ Err (sync.Connection Read) → ⊥) → read.faults ≡ reader_counted.faults) → ((ending ≡ Err (sync.Connection Write) → ⊥) → wrote.faults ≡ writer_counted.faults)
-    → calls.parted between read wrote after → result ≡ sync_result ending → IsSynced calls first last reader writer between after result
-was-synced {N} {R} {W} calls first last reader writer reader_counted read writer_counted wrote between after ending result begins opens syncs read_failed write_failed all_read all_written given told = record {
+    → calls.parted between read wrote after → PrintsSynced old now ending result → IsSynced calls first last reader writer between after old now result
+was-synced {N} {R} {W} calls first last reader writer reader_counted read writer_counted wrote between after old now ending result begins opens syncs read_failed write_failed all_read all_written given prints = record {
   read = read;
   wrote = wrote;
   synced = ending;
@@ -58,5 +59,5 @@ was-synced {N} {R} {W} calls first last reader writer reader_counted read writer
   reads = has-counted reader_counted read reader begins read_failed all_read;
   writes = has-counted writer_counted wrote writer opens write_failed all_written;
   given_back = given;
-  told = told;
+  prints = prints;
 }

@@ -15,6 +15,7 @@ use Rattle.ua_server.specs.declared.hexed.HexFault.TheVariants as hexed
 use Rattle.ua_server.specs.declared.program.ProgramFault.{ProgramFault}
 use Rattle.ua_server.specs.declared.program.ProgramFault.TheVariants.{Line, File, Settings, BadHex, Address, Connection}
 use Rattle.ua_server.specs.declared.program.ProgramFault.TheVariants as program
+use Rattle.ua_server.specs.declared.calling.Synced.{Synced}
 use Rattle.ua_server.specs.declared.calling.SyncFault.{SyncFault}
 use Rattle.ua_server.specs.declared.calling.SyncFault.TheVariants as sync
 use Rattle.ua_server.specs.declared.dumps.DumpFault.{DumpFault}
@@ -32,7 +33,7 @@ use Rattle.ua_server.specs.Given.{Outside}
 use Rattle.ua_server.specs.Client.{Ending}
 use Rattle.ua_server.proofs.Outsides.{nothing}
 use Rattle.ua_server.specs.Hexed.{AnswersText, AnswersHex, IsUntouched, digits_of}
-use Rattle.ua_server.specs.Program.{empty_of, WasText, AnswersDigits, IsAnswered, IsUnmade, IsBadText, IsUnbegun, SettingsAt, Machine, OverStore, By, Calls, CallsPeer, Scene, program_result, dump_result, sync_result, IsRefused, DoesLine, Runs}
+use Rattle.ua_server.specs.Program.{empty_of, WasText, AnswersDigits, IsAnswered, IsUnmade, IsBadText, IsUnbegun, SettingsAt, Machine, OverStore, By, Calls, CallsPeer, Scene, program_result, dump_result, sync_fault, PrintsSynced, IsRefused, DoesLine, Runs}
 use Rattle.ua_server.specs.Network.{Means}
 use Rattle.std.specs.declared.net.socket_addr.SocketAddr.{SocketAddr}
 use Rattle.ua_server.specs.declared.line.Line.{Line as CommandLine}
@@ -161,16 +162,16 @@ dumped-line (Err (dump.Store fault)) line same = cc
 dumped-line (Err dump.Write) line same = cc
 dumped-line (Err dump.OutOfMemory) line same = cc
 
-synced-line : (synced : Result (Unit {0}) SyncFault) (line : LineFault) → Err (Line line) ≡ sync_result synced → ⊥
-synced-line (Ok done) line same = cc
-synced-line (Err (sync.Connection fault)) line same = cc
-synced-line (Err (sync.Exchange fault)) line same = cc
-synced-line (Err (sync.Peer number)) line same = cc
+synced-line : (old written : Option (List ℕ)) (synced : Result Synced SyncFault) (line : LineFault) → PrintsSynced old written synced (Err (Line line)) → ⊥
+synced-line old written (Ok synced) line prints = let same = prints.0 in cc
+synced-line old written (Err (sync.Connection fault)) line prints = let same = prints.0 in cc
+synced-line old written (Err (sync.Exchange fault)) line prints = let same = prints.0 in cc
+synced-line old written (Err (sync.Peer number)) line prints = let same = prints.0 in cc
 
-called-line : {T N R W : Type 0} (calls : Calls N R W) (held : T → Store) (text : List ℕ) (first last : T) (network after : N) (line : LineFault) → CallsPeer calls held text first last network after (Err (Line line)) → ⊥
-called-line calls held text first last network after line (inl (none, is, stays, quiet)) = absurd cc
-called-line calls held text first last network after line (inr (address, spells, (None, between, called, (is, stays, quiet)))) = absurd cc
-called-line calls held text first last network after line (inr (address, spells, (Some (reader, writer), between, called, so))) = synced-line so.synced line so.told
+called-line : {T N R W : Type 0} (calls : Calls N R W) (held : T → Store) (text : List ℕ) (first last : T) (network after : N) (old written : Option (List ℕ)) (line : LineFault) → CallsPeer calls held text first last network after old written (Err (Line line)) → ⊥
+called-line calls held text first last network after old written line (inl (none, is, stays, quiet, kept)) = absurd cc
+called-line calls held text first last network after old written line (inr (address, spells, (None, between, called, (is, stays, quiet, kept)))) = absurd cc
+called-line calls held text first last network after old written line (inr (address, spells, (Some (reader, writer), between, called, so))) = synced-line old written so.synced line so.prints
 
 same-line : (line : LineFault) (fault : ProgramFault) (x : Result (Unit {0}) ProgramFault) → x ≡ Err (Line line) → x ≡ Err fault → fault ≡ Line line
 same-line line fault x is so = cc
@@ -189,9 +190,9 @@ line-done faults taken matches machine calls means listened told (Serve path cou
 line-done faults taken matches machine calls means listened told (Dump path) old new (Err (Line fault)) free is (unread, network, clock, errors, so) =
     let b = by-line machine (Some path.now) _ _ fault (new.written ≡ old.written) (λ settings T held first x. dumped-line x.1 fault x.3) (λ f x. (same-line fault f (Err (Line fault)) refl x.0, x.1)) so in
     (unbegun-refused taken matches fault b.0, unread, b.1, network, errors, b.2, b.3)
-line-done faults taken matches machine calls means listened told (Sync path peer) old new (Err (Line fault)) free is (unread, written, clock, errors, so) =
-    let b = by-line machine (Some path.now) _ _ fault (new.network ≡ old.network) (λ settings T held first x. called-line calls held peer.now first x.0 old.network new.network fault x.1) (λ f x. (same-line fault f (Err (Line fault)) refl x.0, x.1)) so in
-    (unbegun-refused taken matches fault b.0, unread, written, b.1, errors, b.2, b.3)
+line-done faults taken matches machine calls means listened told (Sync path peer) old new (Err (Line fault)) free is (unread, clock, errors, so) =
+    let b = by-line machine (Some path.now) _ _ fault ((new.network ≡ old.network) × (new.written ≡ old.written)) (λ settings T held first x. called-line calls held peer.now first x.0 old.network new.network old.written new.written fault x.1) (λ f x. (same-line fault f (Err (Line fault)) refl x.0, (x.1, x.2))) so in
+    (unbegun-refused taken matches fault b.0, unread, b.1.1, b.1.0, errors, b.2, b.3)
 line-done faults taken matches machine calls means listened told line old new (Err File) free is so = (free, (line, is, so))
 line-done faults taken matches machine calls means listened told line old new (Err (Settings fault place)) free is so = (free, (line, is, so))
 line-done faults taken matches machine calls means listened told line old new (Err (program.Store fault)) free is so = (free, (line, is, so))

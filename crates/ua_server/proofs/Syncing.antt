@@ -10,10 +10,11 @@ use Rattle.ua_server.specs.declared.outcome.ServeFault.{ServeFault}
 use Rattle.ua_server.specs.declared.outcome.ServeFault.TheVariants.{Read, Write, TooLong, OutOfMemory}
 use Rattle.ua_server.specs.declared.peers.Parted.{Parted}
 use Rattle.ua_server.specs.declared.peers.Parted.TheVariants as parted
+use Rattle.ua_server.specs.declared.calling.Synced.{Synced}
 use Rattle.ua_server.specs.declared.calling.SyncFault.{SyncFault}
 use Rattle.ua_server.specs.declared.calling.SyncFault.TheVariants.{Connection, Exchange}
 use Rattle.ua_server.specs.Bytes.{AppendsPart}
-use Rattle.ua_server.specs.Peers.{Talks, Speaks, Meets}
+use Rattle.ua_server.specs.Peers.{Talks, Speaks, MeetsTo}
 use Rattle.ua_server.specs.Calling.{calling, synced_by, Syncs}
 use Rattle.ua_server.proofs.Talks.{talks-then}
 
@@ -33,31 +34,30 @@ talks-quiet start a b rest stays passes = record {
   crash = λ h u left m. inl (stays.crash h left m);
 }
 
-speaks-behind : (start : Standing) (a b c : Store) (came out : List ℕ) (ending : Result Parted ServeFault) → Stays a b → Passes a b [] → Speaks start b c came out ending → Speaks start a c came out ending
-speaks-behind start a b c came out (Ok parted.EndOfInput) stays passes s = (s.0, s.1, s.2, talks-then start start s.1 a b c came [] came out s.0 None (talks-quiet start a b came stays passes) s.3)
-speaks-behind start a b c came out (Ok parted.Done) stays passes s = (s.0, s.1, talks-then start start s.1 a b c came [] came out s.0 (Some (Ok parted.Done)) (talks-quiet start a b came stays passes) s.2)
-speaks-behind start a b c came out (Ok (parted.Refused n)) stays passes s = (s.0, s.1, talks-then start start s.1 a b c came [] came out s.0 (Some (Ok (parted.Refused n))) (talks-quiet start a b came stays passes) s.2)
-speaks-behind start a b c came out (Ok (parted.Failed fault)) stays passes s = (s.0, s.1, talks-then start start s.1 a b c came [] came out s.0 (Some (Ok (parted.Failed fault))) (talks-quiet start a b came stays passes) s.2)
-speaks-behind start a b c came out (Err Read) stays passes s = (s.0, s.1, s.2, talks-then start start s.1 a b c came [] came out s.0 None (talks-quiet start a b came stays passes) s.3)
-speaks-behind start a b c came out (Err Write) stays passes s =
-    (s.0, s.1, s.2, s.3, talks-then start start s.3 a b c came [] came (out ++ s.0) s.1 s.2 (talks-quiet start a b came stays passes) s.4)
-speaks-behind start a b c came out (Err TooLong) stays passes s = (s.0, s.1, talks-then start start s.1 a b c came [] came out s.0 (Some (Err TooLong)) (talks-quiet start a b came stays passes) s.2)
-speaks-behind start a b c came out (Err OutOfMemory) stays passes s = (s.0, s.1, talks-then start start s.1 a b c came [] came out s.0 (Some (Err OutOfMemory)) (talks-quiet start a b came stays passes) s.2)
+speaks-behind : (start last : Standing) (a b c : Store) (came out : List ℕ) (ending : Result Parted ServeFault) → Stays a b → Passes a b [] → Speaks start b c came out ending last → Speaks start a c came out ending last
+speaks-behind start last a b c came out (Ok parted.EndOfInput) stays passes s = (s.0, s.1, talks-then start start last a b c came [] came out s.0 None (talks-quiet start a b came stays passes) s.2)
+speaks-behind start last a b c came out (Ok parted.Done) stays passes s = (s.0, talks-then start start last a b c came [] came out s.0 (Some (Ok parted.Done)) (talks-quiet start a b came stays passes) s.1)
+speaks-behind start last a b c came out (Ok (parted.Refused n)) stays passes s = (s.0, talks-then start start last a b c came [] came out s.0 (Some (Ok (parted.Refused n))) (talks-quiet start a b came stays passes) s.1)
+speaks-behind start last a b c came out (Ok (parted.Failed fault)) stays passes s = (s.0, talks-then start start last a b c came [] came out s.0 (Some (Ok (parted.Failed fault))) (talks-quiet start a b came stays passes) s.1)
+speaks-behind start last a b c came out (Err Read) stays passes s = (s.0, s.1, talks-then start start last a b c came [] came out s.0 None (talks-quiet start a b came stays passes) s.2)
+speaks-behind start last a b c came out (Err Write) stays passes s = (s.0, s.1, s.2, talks-then start start last a b c came [] came (out ++ s.0) s.1 s.2 (talks-quiet start a b came stays passes) s.3)
+speaks-behind start last a b c came out (Err TooLong) stays passes s = (s.0, talks-then start start last a b c came [] came out s.0 (Some (Err TooLong)) (talks-quiet start a b came stays passes) s.1)
+speaks-behind start last a b c came out (Err OutOfMemory) stays passes s = (s.0, talks-then start start last a b c came [] came out s.0 (Some (Err OutOfMemory)) (talks-quiet start a b came stays passes) s.1)
 
-meets-behind : (start : Standing) (a b c : Store) (unread left before after : Option (List ℕ)) (ending : Result Parted ServeFault) → Stays a b → Passes a b [] → Meets start b c unread left before after ending
-    → Meets start a c unread left before after ending
-meets-behind start a b c unread left before after ending stays passes m =
-    record { came = m.came; out = m.out; read = m.read; over = m.over; written = m.written; speaks = speaks-behind start a b c m.came m.out ending stays passes m.speaks }
+meets-behind : (start last : Standing) (a b c : Store) (unread left before after : Option (List ℕ)) (ending : Result Parted ServeFault) → Stays a b → Passes a b [] → MeetsTo start b c [] unread left before after ending last
+    → MeetsTo start a c [] unread left before after ending last
+meets-behind start last a b c unread left before after ending stays passes m =
+    record { came = m.came; out = m.out; read = m.read; over = m.over; written = m.written; speaks = speaks-behind start last a b c m.came m.out ending stays passes m.speaks }
 
-honest-so : (b c : Store) (start : Standing) (came out : List ℕ) (ending : Result Parted ServeFault) → Speaks start b c came out ending → c.honest → b.honest
-honest-so b c start came out (Ok parted.EndOfInput) s = s.3.passes.honest
-honest-so b c start came out (Ok parted.Done) s = s.2.passes.honest
-honest-so b c start came out (Ok (parted.Refused n)) s = s.2.passes.honest
-honest-so b c start came out (Ok (parted.Failed fault)) s = s.2.passes.honest
-honest-so b c start came out (Err Read) s = s.3.passes.honest
-honest-so b c start came out (Err Write) s = s.4.passes.honest
-honest-so b c start came out (Err TooLong) s = s.2.passes.honest
-honest-so b c start came out (Err OutOfMemory) s = s.2.passes.honest
+honest-so : (b c : Store) (start last : Standing) (came out : List ℕ) (ending : Result Parted ServeFault) → Speaks start b c came out ending last → c.honest → b.honest
+honest-so b c start last came out (Ok parted.EndOfInput) s = s.2.passes.honest
+honest-so b c start last came out (Ok parted.Done) s = s.1.passes.honest
+honest-so b c start last came out (Ok (parted.Refused n)) s = s.1.passes.honest
+honest-so b c start last came out (Ok (parted.Failed fault)) s = s.1.passes.honest
+honest-so b c start last came out (Err Read) s = s.2.passes.honest
+honest-so b c start last came out (Err Write) s = s.3.passes.honest
+honest-so b c start last came out (Err TooLong) s = s.1.passes.honest
+honest-so b c start last came out (Err OutOfMemory) s = s.1.passes.honest
 
 pub syncs-unasked : (a b : Store) (unread before : Option (List ℕ)) (empty out : List ℕ) (started : Result (Unit {0}) ExchangeFault) (fault : ExchangeFault) → empty ≡ [] → Greets a b empty out started → started ≡ Err fault
     → Syncs a b unread unread before before (Err (Exchange fault))
@@ -70,21 +70,22 @@ pub syncs-unsent : (a b : Store) (unread before after : Option (List ℕ)) (empt
 syncs-unsent a b unread before after empty out started fault none greets is part same =
     let write : fault ≡ Write = cc in
     let made : Greets a b [] out (Ok tt) = subst (λ (r : Result (Unit {0}) ExchangeFault). Greets a b [] out r) is (subst (λ (e : List ℕ). Greets a b e out started) none greets) in
-    inr (inl (record { frame = out; told = ap (λ (f : ServeFault). let r : Result (Unit {0}) SyncFault = Err (Connection f) in r) write; greets = made; read = Consumes-nil unread; written = part }))
+    inr (inl (record { frame = out; told = ap (λ (f : ServeFault). let r : Result Synced SyncFault = Err (Connection f) in r) write; greets = made; read = Consumes-nil unread; written = part }))
 
-pub syncs-asked : (a b c : Store) (unread left before between after : Option (List ℕ)) (empty out : List ℕ) (started : Result (Unit {0}) ExchangeFault) (ending : Result Parted ServeFault) (result : Result (Unit {0}) SyncFault) (start : Standing)
-    → empty ≡ [] → Greets a b empty out started → started ≡ Ok tt → Appends before between out → start ≡ calling → Meets start b c unread left between after ending → result ≡ synced_by ending
+pub syncs-asked : (a b c : Store) (unread left before between after : Option (List ℕ)) (empty out : List ℕ) (started : Result (Unit {0}) ExchangeFault) (ending : Result Parted ServeFault) (result : Result Synced SyncFault) (start last : Standing)
+    → empty ≡ [] → Greets a b empty out started → started ≡ Ok tt → Appends before between out → start ≡ calling → MeetsTo start b c [] unread left between after ending last → result ≡ synced_by last ending
     → Syncs a c unread left before after result
-syncs-asked a b c unread left before between after empty out started ending result start none greets is appends at meets told =
+syncs-asked a b c unread left before between after empty out started ending result start last none greets is appends at meets told =
     let made : Greets a b [] out (Ok tt) = subst (λ (r : Result (Unit {0}) ExchangeFault). Greets a b [] out r) is (subst (λ (e : List ℕ). Greets a b e out started) none greets) in
-    let so : Meets calling b c unread left between after ending =
-    subst (λ (s : Standing). Meets s b c unread left between after ending) at meets in
+    let so : MeetsTo calling b c [] unread left between after ending last =
+    subst (λ (s : Standing). MeetsTo s b c [] unread left between after ending last) at meets in
     inr (inr (record {
       frame = out;
-      is = λ h. made.frame (honest-so b c calling so.came so.out ending so.speaks h);
+      is = λ h. made.frame (honest-so b c calling last so.came so.out ending so.speaks h);
       between = between;
       written = appends;
       ending = ending;
+      last = last;
       told = told;
-      meets = meets-behind calling a b c unread left between after ending made.stays made.passes so;
+      meets = meets-behind calling last a b c unread left between after ending made.stays made.passes so;
     }))

@@ -23,7 +23,7 @@ use Rattle.ua_server.specs.declared.outcome.ServeFault.TheVariants.{Read, Write,
 use Rattle.ua_server.specs.declared.peers.Parted.{Parted}
 use Rattle.ua_server.specs.declared.peers.Parted.TheVariants as parted
 use Rattle.ua_server.specs.Bytes.{AppendsPart}
-use Rattle.ua_server.specs.Peers.{failed_as, ended_as, is_silent, Talks, Speaks, MeetsBehind}
+use Rattle.ua_server.specs.Peers.{failed_as, ended_as, is_silent, Talks, Speaks, MeetsTo}
 use Rattle.ua_server.specs.Talking.{ending_of, stop_of, ending_in, IsReady, TakesOne, LeavesOne, IsNoLess, IsDrained, LeavesAll, AnswersAll, Drained, TellsWant, DrainedSoFar, MeetsSoFar}
 use Rattle.ua_server.proofs.Talks.{talks-start, talks-then, talks-more, talks-starved, talks-frame, talks-ill}
 
@@ -327,40 +327,40 @@ meets-drained start mid last a b c first unread left old written sent frames nex
 }
 
 pub meets-end : (start last : Standing) (a b : Store) (first : List ℕ) (unread left rest old written : Option (List ℕ)) (frames bytes : List ℕ) → MeetsSoFar start a b first unread left old written frames last → Consumes left rest bytes → bytes ≡ [] → IsAtEnd rest
-    → cut frames ≡ Ok None → MeetsBehind start a b first unread rest old written (Ok parted.EndOfInput)
+    → cut frames ≡ Ok None → MeetsTo start a b first unread rest old written (Ok parted.EndOfInput) last
 meets-end start last a b first unread left rest old written frames bytes so read none end short = record {
   came = so.came;
   out = so.out;
   read = subst (λ (l : List ℕ). Consumes unread rest l) (append-nil so.came) (Consumes-trans unread left rest so.came [] so.read (subst (λ (l : List ℕ). Consumes left rest l) none read));
   over = λ q. end;
   written = so.written;
-  speaks = (frames, last, short, so.talks);
+  speaks = (frames, short, so.talks);
 }
 
 pub meets-failed : (start last : Standing) (a b : Store) (first : List ℕ) (unread left rest old written : Option (List ℕ)) (frames : List ℕ) (result : Result Parted ServeFault) → MeetsSoFar start a b first unread left old written frames last → Keeps left rest
-    → cut frames ≡ Ok None → result ≡ Err Read → MeetsBehind start a b first unread rest old written result
+    → cut frames ≡ Ok None → result ≡ Err Read → MeetsTo start a b first unread rest old written result last
 meets-failed start last a b first unread left rest old written frames result so kept short is =
-    subst (λ (x : Result Parted ServeFault). MeetsBehind start a b first unread rest old written x) (sym is)
-    (record { came = so.came; out = so.out; read = Consumes-kept unread left rest so.came so.read kept; over = λ q. absurd (cc); written = so.written; speaks = (frames, last, short, so.talks) })
+    subst (λ (x : Result Parted ServeFault). MeetsTo start a b first unread rest old written x last) (sym is)
+    (record { came = so.came; out = so.out; read = Consumes-kept unread left rest so.came so.read kept; over = λ q. absurd (cc); written = so.written; speaks = (frames, short, so.talks) })
 
 -- memory for what came was wanting
 meets-want : (start last : Standing) (a b : Store) (first : List ℕ) (unread left old written sent : Option (List ℕ)) (frames : List ℕ) (result : Result Parted ServeFault) → MeetsSoFar start a b first unread left old written frames last
-    → TellsWant written sent result → MeetsBehind start a b first unread left old sent result
+    → TellsWant written sent result → MeetsTo start a b first unread left old sent result last
 meets-want start last a b first unread left old written sent frames result so tells = go result tells
   where
     all : Talks start a b (first ++ so.came) (so.out ++ end_frame 4) frames (Some (Ok (parted.Failed exchange.OutOfMemory))) last
     all = talks-starved start last a b (first ++ so.came) so.out frames so.talks
 
-    go : (r : Result Parted ServeFault) → TellsWant written sent r → MeetsBehind start a b first unread left old sent r
+    go : (r : Result Parted ServeFault) → TellsWant written sent r → MeetsTo start a b first unread left old sent r last
     go (Ok p) t =
-        subst (λ (x : Parted). MeetsBehind start a b first unread left old sent (Ok x)) (sym {b = parted.Failed exchange.OutOfMemory} t.0)
+        subst (λ (x : Parted). MeetsTo start a b first unread left old sent (Ok x) last) (sym {b = parted.Failed exchange.OutOfMemory} t.0)
         (record {
           came = so.came;
           out = so.out ++ end_frame 4;
           read = so.read;
           over = λ q. absurd (cc);
           written = Appends-trans old written sent so.out (end_frame 4) so.written t.1;
-          speaks = (frames, last, all);
+          speaks = (frames, all);
         })
     go (Err Read) t = absurd t
     go (Err Write) t = record {
@@ -373,7 +373,6 @@ meets-want start last a b first unread left old written sent frames result so te
         t.1,
         frames,
         Some (Ok (parted.Failed exchange.OutOfMemory)),
-        last,
         subst (λ (o : List ℕ). Talks start a b (first ++ so.came) o frames (Some (Ok (parted.Failed exchange.OutOfMemory))) last) (ap (λ (o : List ℕ). so.out ++ o) t.2 ∙ sym (append_assoc so.out t.0 t.1)) all,
       );
     }
@@ -381,16 +380,16 @@ meets-want start last a b first unread left old written sent frames result so te
     go (Err OutOfMemory) t = absurd t
 
 pub meets-starved : (start last : Standing) (a b : Store) (first : List ℕ) (unread left rest old written sent : Option (List ℕ)) (frames piece : List ℕ) (result : Result Parted ServeFault) → MeetsSoFar start a b first unread left old written frames last
-    → Consumes left rest piece → TellsWant written sent result → MeetsBehind start a b first unread rest old sent result
+    → Consumes left rest piece → TellsWant written sent result → MeetsTo start a b first unread rest old sent result last
 meets-starved start last a b first unread left rest old written sent frames piece result so read tells =
     meets-want start last a b first unread rest old written sent (frames ++ piece) result (meets-more start last a b first unread left rest old written frames piece so read) tells
 
-pub meets-unfed : (start : Standing) (a : Store) (unread written sent : Option (List ℕ)) (first : List ℕ) (result : Result Parted ServeFault) → TellsWant written sent result → MeetsBehind start a a first unread unread written sent result
+pub meets-unfed : (start : Standing) (a : Store) (unread written sent : Option (List ℕ)) (first : List ℕ) (result : Result Parted ServeFault) → TellsWant written sent result → MeetsTo start a a first unread unread written sent result start
 meets-unfed start a unread written sent first result tells = meets-want start start a a first unread unread written written sent first result (meets-first start a unread written first) tells
 
 -- the dialog ended
 pub meets-stop : (start mid last : Standing) (a b c : Store) (first : List ℕ) (unread left old written sent : Option (List ℕ)) (held next : Held) (p : Parted) → MeetsSoFar start a b first unread left old written held.waiting mid
-    → Drained mid b c written sent held.waiting next.waiting (Ok (Some p)) last → LeavesAll held next mid last (Ok (Some p)) → MeetsBehind start a c first unread left old sent (Ok p)
+    → Drained mid b c written sent held.waiting next.waiting (Ok (Some p)) last → LeavesAll held next mid last (Ok (Some p)) → MeetsTo start a c first unread left old sent (Ok p) last
 meets-stop start mid last a b c first unread left old written sent held next p so drained leaves = record {
   came = so.came;
   out = so.out ++ drained.0;
@@ -406,15 +405,15 @@ meets-stop start mid last a b c first unread left old written sent held next p s
     own (parted.Refused n) leaves q = cc
     own (parted.Failed fault) leaves q = cc
 
-    speaks : (p : Parted) → LeavesAll held next mid last (Ok (Some p)) → Talks start a c (first ++ so.came) (so.out ++ drained.0) next.waiting (Some (Ok p)) last → Speaks start a c (first ++ so.came) (so.out ++ drained.0) (Ok p)
+    speaks : (p : Parted) → LeavesAll held next mid last (Ok (Some p)) → Talks start a c (first ++ so.came) (so.out ++ drained.0) next.waiting (Some (Ok p)) last → Speaks start a c (first ++ so.came) (so.out ++ drained.0) (Ok p) last
     speaks parted.EndOfInput leaves talks = absurd leaves
-    speaks parted.Done leaves talks = (next.waiting, last, talks)
-    speaks (parted.Refused n) leaves talks = (next.waiting, last, talks)
-    speaks (parted.Failed fault) leaves talks = (next.waiting, last, talks)
+    speaks parted.Done leaves talks = (next.waiting, talks)
+    speaks (parted.Refused n) leaves talks = (next.waiting, talks)
+    speaks (parted.Failed fault) leaves talks = (next.waiting, talks)
 
 -- a fault ended it
 pub meets-fault : (start mid last : Standing) (a b c : Store) (first : List ℕ) (unread left old written sent : Option (List ℕ)) (held next : Held) (fault : ServeFault) → MeetsSoFar start a b first unread left old written held.waiting mid
-    → Drained mid b c written sent held.waiting next.waiting (Err fault) last → LeavesAll held next mid last (Err fault) → MeetsBehind start a c first unread left old sent (Err fault)
+    → Drained mid b c written sent held.waiting next.waiting (Err fault) last → LeavesAll held next mid last (Err fault) → MeetsTo start a c first unread left old sent (Err fault) last
 meets-fault start mid last a b c first unread left old written sent held next fault so drained leaves = record {
   came = so.came;
   out = so.out ++ drained.0;
@@ -424,15 +423,14 @@ meets-fault start mid last a b c first unread left old written sent held next fa
   speaks = speaks fault leaves drained.2;
 }
   where
-    speaks : (f : ServeFault) → LeavesAll held next mid last (Err f) → AnswersAll mid b c held.waiting drained.0 next.waiting (Err f) last → Speaks start a c (first ++ so.came) (so.out ++ drained.0) (Err f)
+    speaks : (f : ServeFault) → LeavesAll held next mid last (Err f) → AnswersAll mid b c held.waiting drained.0 next.waiting (Err f) last → Speaks start a c (first ++ so.came) (so.out ++ drained.0) (Err f) last
     speaks Read leaves answers = absurd leaves
     speaks Write leaves answers = (
       answers.0,
       next.waiting,
       answers.1,
-      last,
       subst (λ (o : List ℕ). Talks start a c (first ++ so.came) o next.waiting answers.1 last) (sym (append_assoc so.out drained.0 answers.0))
           (talks-then start mid last a b c (first ++ so.came) so.out held.waiting (drained.0 ++ answers.0) next.waiting answers.1 so.talks answers.2),
     )
-    speaks TooLong leaves answers = (next.waiting, last, talks-then start mid last a b c (first ++ so.came) so.out held.waiting drained.0 next.waiting (Some (Err TooLong)) so.talks answers)
-    speaks OutOfMemory leaves answers = (next.waiting, last, talks-then start mid last a b c (first ++ so.came) so.out held.waiting drained.0 next.waiting (Some (Err OutOfMemory)) so.talks answers)
+    speaks TooLong leaves answers = (next.waiting, talks-then start mid last a b c (first ++ so.came) so.out held.waiting drained.0 next.waiting (Some (Err TooLong)) so.talks answers)
+    speaks OutOfMemory leaves answers = (next.waiting, talks-then start mid last a b c (first ++ so.came) so.out held.waiting drained.0 next.waiting (Some (Err OutOfMemory)) so.talks answers)

@@ -181,7 +181,7 @@ talks-starved start last a b came out rest t = record {
 -- ---- one frame
 
 -- where the dialog goes on, no fault of the store came in the way
-clear-so : (p : Party) (state next : State) (R : Content) (way : Way) (r : Result Message ExchangeFault) → (answered_to p state R way r).result ≡ Ok next → fault_on way ≡ None
+pub clear-so : (p : Party) (state next : State) (R : Content) (way : Way) (r : Result Message ExchangeFault) → (answered_to p state R way r).result ≡ Ok next → fault_on way ≡ None
 clear-so p state next R Clear r e = refl
 clear-so p state next R Unread r e = refl
 clear-so p state next R Starved r e = refl
@@ -190,7 +190,7 @@ clear-so p state next R (Stopped learned fault) (Err f) e = absurd (cc)
 clear-so p state next R (Met fault) (Ok m) e = absurd (cc)
 clear-so p state next R (Met fault) (Err f) e = absurd (cc)
 
-written-so : (turn : Turn) (next : State) (said : List ℕ) → Writes turn (Ok next) [] said → turn.result ≡ Ok next
+pub written-so : (turn : Turn) (next : State) (said : List ℕ) → Writes turn (Ok next) [] said → turn.result ≡ Ok next
 written-so turn next said w = elim w [
   | inl told ↦ sym told.0
   | inr starved ↦ absurd (cc)

@@ -41,7 +41,7 @@ turn_of p side t = answered p side.standing side.content t.way t.frame.kind t.fr
 
 -- the side behind the frame
 abbrev pub after : Party → Side → Taken → Side
-after p side t = record { standing = standing_after side.standing t.frame.kind (turn_of p side t); content = (turn_of p side t).content }
+after p side t = record { standing = standing_after side.standing side.content t.frame.kind (turn_of p side t); content = (turn_of p side t).content }
 
 abbrev pub after_all : Party → Side → List Taken → Side
 after_all p side [] = side
@@ -133,30 +133,32 @@ pub record Talks (start : Standing) (old new : Store) (came out rest : List ℕ)
   pub crash : new.honest → old.broken ≡ false → (left : Content) → new.may_hold left → old.may_hold left ⊎ MayLeave (party_of old) (side_of start old) taken left
 
 -- the dialog is open, and no whole frame is left
-abbrev pub Waits : Standing → Store → Store → List ℕ → List ℕ → Type 0
-Waits start old new came out = (rest : List ℕ) × (last : Standing) × (cut rest ≡ Ok None) × Talks start old new came out rest None last
+abbrev pub Waits : Standing → Store → Store → List ℕ → List ℕ → Standing → Type 0
+Waits start old new came out last = (rest : List ℕ) × (cut rest ≡ Ok None) × Talks start old new came out rest None last
 
 -- This went out for the bytes that came. At the end of the input, and where a read failed, each frame that came was answered. Where a write failed, it
--- is a first part of what was to be written.
-abbrev pub Speaks : Standing → Store → Store → List ℕ → List ℕ → Result Parted ServeFault → Type 0
-Speaks start old new came out (Ok parted.EndOfInput) = Waits start old new came out
-Speaks start old new came out (Err Read) = Waits start old new came out
-Speaks start old new came out (Err Write) =
-    (unsent rest : List ℕ) × (ending : Option (Result Parted ServeFault)) × (last : Standing) × Talks start old new came (out ++ unsent) rest ending last
-Speaks start old new came out ending = (rest : List ℕ) × (last : Standing) × Talks start old new came out rest (Some ending) last
+-- is a first part of what was to be written. The end stands so then.
+abbrev pub Speaks : Standing → Store → Store → List ℕ → List ℕ → Result Parted ServeFault → Standing → Type 0
+Speaks start old new came out (Ok parted.EndOfInput) last = Waits start old new came out last
+Speaks start old new came out (Err Read) last = Waits start old new came out last
+Speaks start old new came out (Err Write) last = (unsent rest : List ℕ) × (ending : Option (Result Parted ServeFault)) × Talks start old new came (out ++ unsent) rest ending last
+Speaks start old new came out ending last = (rest : List ℕ) × Talks start old new came out rest (Some ending) last
 
--- an end stood so at the start, and a dialog over a connection, of which these first bytes were read before, ended so
-pub record MeetsBehind (start : Standing) (old new : Store) (first : List ℕ) (unread left : Option (List ℕ)) (before after : Option (List ℕ)) (ending : Result Parted ServeFault) : Type 0 where
+-- an end stood so at the start and so at last, and a dialog over a connection, of which these first bytes were read before, ended so
+pub record MeetsTo (start : Standing) (old new : Store) (first : List ℕ) (unread left : Option (List ℕ)) (before after : Option (List ℕ)) (ending : Result Parted ServeFault) (last : Standing) : Type 0 where
   pub came : List ℕ
   pub out : List ℕ
   pub read : Consumes unread left came
   pub over : ending ≡ Ok parted.EndOfInput → IsAtEnd left
   pub written : Appends before after out
-  pub speaks : Speaks start old new (first ++ came) out ending
+  pub speaks : Speaks start old new (first ++ came) out ending last
+
+abbrev pub MeetsBehind : Standing → (old new : Store) → List ℕ → (unread left before after : Option (List ℕ)) → Result Parted ServeFault → Type 0
+MeetsBehind start old new first unread left before after ending = (last : Standing) × MeetsTo start old new first unread left before after ending last
 
 abbrev pub Meets : Standing → (old new : Store) → (unread left before after : Option (List ℕ)) → Result Parted ServeFault → Type 0
 Meets start old new unread left before after ending = MeetsBehind start old new [] unread left before after ending
 
 -- before the first frame of the end that answers
 abbrev pub responding : Standing
-responding = record { state = Rattle.exchange.specs.declared.message.State.TheVariants.Serving; taken = 0; code = None; started = true }
+responding = record { state = Rattle.exchange.specs.declared.message.State.TheVariants.Serving; taken = 0; code = None; started = true; learned = 0; sent = 0 }

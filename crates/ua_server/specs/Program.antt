@@ -30,6 +30,8 @@ use Rattle.ua_server.specs.Hexed.{AnswersText, IsUntouched, digits_of}
 use Rattle.ua_server.specs.Serving.{Serves}
 use Rattle.ua_server.specs.Dumping.{Dumps}
 use Rattle.ua_server.specs.Calling.{Syncs}
+use Rattle.ua_server.specs.Telling.{synced_line}
+use Rattle.ua_server.specs.declared.calling.Synced.{Synced}
 use Rattle.ua_server.specs.declared.calling.SyncFault.{SyncFault}
 use Rattle.ua_server.specs.declared.calling.SyncFault.TheVariants as sync
 use Rattle.std.specs.Net.Grammar.{IsSocketText}
@@ -216,12 +218,19 @@ DumpsBy machine path old written result =
     (λ settings T held first. (last : T) × (dumped : Result (Unit {0}) DumpFault) × Dumps (held first) (held last) old written dumped × (result ≡ dump_result dumped))
     (λ fault. (result ≡ Err fault) × (written ≡ old))
 
--- what the end of a dialog with a peer that was called is called by the program
-abbrev pub sync_result : Result (Unit {0}) SyncFault → Result (Unit {0}) ProgramFault
-sync_result (Ok done) = Ok done
-sync_result (Err (sync.Connection fault)) = Err (program.Call fault)
-sync_result (Err (sync.Exchange fault)) = Err (program.Exchange fault)
-sync_result (Err (sync.Peer number)) = Err (program.Peer number)
+-- what the fault of a dialog with a peer that was called is called by the program
+abbrev pub sync_fault : SyncFault → ProgramFault
+sync_fault (sync.Connection fault) = program.Call fault
+sync_fault (sync.Exchange fault) = program.Exchange fault
+sync_fault (sync.Peer number) = program.Peer number
+
+-- of a dialog that came to its end the line was printed, a first part of it where the writer failed, nothing where memory for it was wanting; of another one
+-- nothing was printed, and its fault is told
+abbrev pub PrintsSynced : Option (List ℕ) → Option (List ℕ) → Result Synced SyncFault → Result (Unit {0}) ProgramFault → Type 0
+PrintsSynced old written (Ok synced) (Ok done) = Appends old written (synced_line synced)
+PrintsSynced old written (Ok synced) (Err (Connection Write)) = AppendsPart old written (synced_line synced)
+PrintsSynced old written (Ok synced) (Err fault) = (fault ≡ Connection OutOfMemory) × (written ≡ old)
+PrintsSynced old written (Err cause) result = (result ≡ Err (sync_fault cause)) × (written ≡ old)
 
 -- how a network calls peers and takes back their connections, and what is known of what they write and read
 pub record Calls (N R W : Type 0) : Type 1 where
@@ -230,34 +239,35 @@ pub record Calls (N R W : Type 0) : Type 1 where
   pub unread : R → Option (List ℕ)
   pub written : W → Option (List ℕ)
 
--- a connection was had, and the peer was called over it, as the initiator of a dialog; it was given back with its failed calls, of which there is one just where it ended by that
-pub record IsSynced {N R W : Type 0} (calls : Calls N R W) (first last : Store) (reader : R) (writer : W) (between after : N) (result : Result (Unit {0}) ProgramFault) : Type 0 where
+-- a connection was had, and the peer was called over it, as the initiator of a dialog; it was given back with its failed calls, of which there is one just where it ended by that;
+-- and then the line was printed
+pub record IsSynced {N R W : Type 0} (calls : Calls N R W) (first last : Store) (reader : R) (writer : W) (between after : N) (old written : Option (List ℕ)) (result : Result (Unit {0}) ProgramFault) : Type 0 where
   pub read : Tally R
   pub wrote : Tally W
-  pub synced : Result (Unit {0}) SyncFault
+  pub synced : Result Synced SyncFault
   pub syncs : Syncs first last (calls.unread reader) (calls.unread read.inner) (calls.written writer) (calls.written wrote.inner) synced
   pub reads : HasCounted (synced ≡ Err (sync.Connection Read)) read
   pub writes : HasCounted (synced ≡ Err (sync.Connection Write)) wrote
   pub given_back : calls.parted between read wrote after
-  pub told : result ≡ sync_result synced
+  pub prints : PrintsSynced old written synced result
 
 -- what came of a call
-abbrev pub ComesOf : {T N R W : Type 0} → Calls N R W → (T → Store) → T → T → Option (R × W) → N → N → Result (Unit {0}) ProgramFault → Type 0
-ComesOf calls held first last None between after result = (result ≡ Err Address) × (last ≡ first) × (after ≡ between)
-ComesOf calls held first last (Some (reader, writer)) between after result = IsSynced calls (held first) (held last) reader writer between after result
+abbrev pub ComesOf : {T N R W : Type 0} → Calls N R W → (T → Store) → T → T → Option (R × W) → N → N → Option (List ℕ) → Option (List ℕ) → Result (Unit {0}) ProgramFault → Type 0
+ComesOf calls held first last None between after old written result = (result ≡ Err Address) × (last ≡ first) × (after ≡ between) × (written ≡ old)
+ComesOf calls held first last (Some (reader, writer)) between after old written result = IsSynced calls (held first) (held last) reader writer between after old written result
 
 -- the peer at an address was called; or the text is no address, and nothing was done
-abbrev pub CallsPeer : {T N R W : Type 0} → Calls N R W → (T → Store) → List ℕ → T → T → N → N → Result (Unit {0}) ProgramFault → Type 0
-CallsPeer {T} {N} {R} {W} calls held text first last network after result =
-    (((address : SocketAddr) → IsSocketText text address → ⊥) × (result ≡ Err Address) × (last ≡ first) × (after ≡ network))
-    ⊎ ((address : SocketAddr) × IsSocketText text address × ((came : Option (R × W)) × (between : N) × calls.called network address came between × ComesOf calls held first last came between after result))
+abbrev pub CallsPeer : {T N R W : Type 0} → Calls N R W → (T → Store) → List ℕ → T → T → N → N → Option (List ℕ) → Option (List ℕ) → Result (Unit {0}) ProgramFault → Type 0
+CallsPeer {T} {N} {R} {W} calls held text first last network after old written result =
+    (((address : SocketAddr) → IsSocketText text address → ⊥) × (result ≡ Err Address) × (last ≡ first) × (after ≡ network) × (written ≡ old))
+    ⊎ ((address : SocketAddr) × IsSocketText text address × ((came : Option (R × W)) × (between : N) × calls.called network address came between × ComesOf calls held first last came between after old written result))
 
 -- a peer is called, or nothing is done
-abbrev pub SyncsBy : {K N R W : Type 0} → Machine K → Calls N R W → List ℕ → List ℕ → N → N → Result (Unit {0}) ProgramFault → Type 0
-SyncsBy machine calls path peer network after result =
+abbrev pub SyncsBy : {K N R W : Type 0} → Machine K → Calls N R W → List ℕ → List ℕ → N → N → Option (List ℕ) → Option (List ℕ) → Result (Unit {0}) ProgramFault → Type 0
+SyncsBy machine calls path peer network after old written result =
     By machine (Some path)
-    (λ settings T held first. (last : T) × CallsPeer calls held peer first last network after result)
-    (λ fault. (result ≡ Err fault) × (after ≡ network))
+    (λ settings T held first. (last : T) × CallsPeer calls held peer first last network after old written result)
+    (λ fault. (result ≡ Err fault) × (after ≡ network) × (written ≡ old))
 
 -- what stands around a run: what is unread of the input and written to the output, as far as that is known, the network, the clock, and standard error
 pub record Scene (N C E : Type 0) : Type 0 where
@@ -277,7 +287,7 @@ DoesLine machine calls means listened told (Serve path count) old new result =
 DoesLine machine calls means listened told (Dump path) old new result =
     (new.unread ≡ old.unread) × (new.network ≡ old.network) × (new.clock ≡ old.clock) × (new.errors ≡ old.errors) × DumpsBy machine path.now old.written new.written result
 DoesLine machine calls means listened told (Sync path peer) old new result =
-    (new.unread ≡ old.unread) × (new.written ≡ old.written) × (new.clock ≡ old.clock) × (new.errors ≡ old.errors) × SyncsBy machine calls path.now peer.now old.network new.network result
+    (new.unread ≡ old.unread) × (new.clock ≡ old.clock) × (new.errors ≡ old.errors) × SyncsBy machine calls path.now peer.now old.network new.network old.written new.written result
 
 -- a line is refused for want of memory, or where clap refuses it or its matches name no command
 abbrev pub IsRefused : Bool → Option (Text × List Row) → LineFault → Type 0

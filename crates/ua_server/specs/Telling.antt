@@ -1,10 +1,12 @@
--- What a run of the program tells on standard error, and its exit status.
+-- What a run of the program tells on standard error, its exit status, and the line of a call of a peer.
 use Rattle.std.specs.Prelude.{◌≡◌, ℕ, List, [], ◌∷◌, ◌++◌, Option, None, Some, Result, Ok, Err, ◌⊎◌, codes, ◌==◌, if◌then◌else◌}
+use Rattle.std.specs.Fmt.{decimal}
 use Rattle.std.specs.Io.KnownBytes.{Appends}
 use Rattle.ua_server.specs.declared.outcome.ServeFault.{ServeFault}
 use Rattle.ua_server.specs.declared.outcome.ServeFault.TheVariants.{Read, Write, TooLong, OutOfMemory}
 use Rattle.ua_server.specs.declared.program.ProgramFault.{ProgramFault}
 use Rattle.ua_server.specs.declared.program.ProgramFault.TheVariants.{Line, File, Settings, Store, BadHex, Address, Connection, Call, Exchange, Peer}
+use Rattle.ua_server.specs.declared.calling.Synced.{Synced}
 use Rattle.ua_server.specs.declared.line.LineFault.{LineFault}
 use Rattle.ua_server.specs.declared.line.LineFault.TheVariants.{Words, OutOfMemory as NoMemory}
 use Rattle.ua_server.specs.Bytes.{AppendsPart, counted}
@@ -85,6 +87,10 @@ text_of (Peer number) = exchange_text number
 abbrev pub place_of : ProgramFault → Option (List ℕ)
 place_of (Settings fault place) = place
 place_of fault = None
+
+-- the line that tells how many records a call of a peer moved
+abbrev pub synced_line : Synced → List ℕ
+synced_line synced = codes "learned " ++ (decimal synced.learned ++ (codes " sent " ++ (decimal synced.sent ++ 10 ∷ [])))
 
 -- a line of the program's
 abbrev pub told_line : List ℕ → List ℕ

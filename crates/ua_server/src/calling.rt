@@ -2,7 +2,7 @@
 
 ghost use Rattle.std.specs.Prelude.{◌≡◌, IsErrOf};
 ghost use Rattle.ua_server.specs.Bytes.{counted};
-ghost use Rattle.ua_server.specs.Calling.{synced_by, Syncs};
+ghost use Rattle.ua_server.specs.Calling.{synced_by, Syncs, Adds};
 
 use crate::counted::Counted;
 use crate::outcome::ServeFault;
@@ -12,6 +12,15 @@ use exchange::{Dialog, ExchangeFault, Replica};
 use std::alloc::Global;
 use std::io::{Read, Write};
 use thiserror::Error;
+
+/// How many records a dialog moved; each is 2^32 - 1 where they were more.
+#[derive(Clone, Copy, Debug, PartialEq, Eq)]
+pub struct Synced {
+    /// The records that the own archive holds more than before.
+    pub learned: u32,
+    /// The records that were sent to the peer.
+    pub sent: u32,
+}
 
 /// Why a dialog with a peer that was called didn't come to its end.
 #[derive(Clone, Copy, Debug, PartialEq, Eq, Error)]
@@ -28,12 +37,15 @@ pub enum SyncFault {
 }
 
 /// What the end of a dialog is to the one that called.
-fn synced_by(parted: Result<Parted, ServeFault>) -> Result<(), SyncFault>
-    ensures { result ≡ synced_by parted }
+fn synced_by(dialog: &Dialog, parted: Result<Parted, ServeFault>) -> Result<Synced, SyncFault>
+    ensures { result ≡ synced_by dialog.now parted }
 {
     match parted {
         Ok(Parted::EndOfInput) => Err(SyncFault::Exchange(ExchangeFault::Frame)),
-        Ok(Parted::Done) => Ok(()),
+        Ok(Parted::Done) => Ok(Synced {
+            learned: dialog.learned(),
+            sent: dialog.sent(),
+        }),
         Ok(Parted::Refused(code)) => Err(SyncFault::Peer(code)),
         Ok(Parted::Failed(fault)) => Err(SyncFault::Exchange(fault)),
         Err(fault) => Err(SyncFault::Connection(fault)),
@@ -41,7 +53,8 @@ fn synced_by(parted: Result<Parted, ServeFault>) -> Result<(), SyncFault>
 }
 
 /// Calls a peer: one dialog over a connection, as its initiator. Where it answers `Ok`, an `RXE` with 0 was written once the
-/// peer had sent all that this replica lacked and was sent all that it lacked itself.
+/// peer had sent all that this replica lacked and was sent all that it lacked itself, and the answer tells how many records
+/// were added here and how many were sent: a record that was held already isn't added, and each is sent once.
 ///
 /// Where the reader's bytes and the writer's contents are known, and the archive's store is honest and in use, what goes
 /// out is the initiator's first frame, and then what it answers to the frames that were read, one after the other; what the
@@ -55,8 +68,9 @@ pub fn sync<R: Read, W: Write, A: Archive>(
     replica: &mut Replica<A>,
     reader: &mut Counted<R>,
     writer: &mut Counted<W>,
-) -> Result<(), SyncFault>
+) -> Result<Synced, SyncFault>
     ensures syncs { Syncs (A.state replica.old.archive) (A.state replica.new.archive) (R.remaining reader.old.inner) (R.remaining reader.new.inner) (W.contents writer.old.inner) (W.contents writer.new.inner) result }
+    ensures adds { Adds (A.state replica.old.archive) (A.state replica.new.archive) result }
     ensures read { IsErrOf result (SyncFault.Connection ServeFault.Read) → reader.new.faults ≡ counted reader.old.faults }
     ensures write { IsErrOf result (SyncFault.Connection ServeFault.Write) → writer.new.faults ≡ counted writer.old.faults }
     ensures read_kept { (IsErrOf result (SyncFault.Connection ServeFault.Read) → ⊥) → reader.new.faults ≡ reader.old.faults }
@@ -72,5 +86,6 @@ pub fn sync<R: Read, W: Write, A: Archive>(
         Ok(()) => {}
         Err(fault) => return Err(SyncFault::Connection(fault)),
     }
-    synced_by(talk(alloc, replica, &mut dialog, &[], reader, writer))
+    let parted = talk(alloc, replica, &mut dialog, &[], reader, writer);
+    synced_by(&dialog, parted)
 }

@@ -24,7 +24,7 @@ mod single;
 mod stores;
 mod turn;
 
-pub use calling::{SyncFault, sync};
+pub use calling::{SyncFault, Synced, sync};
 pub use clock::{Clock, ConstantClock, SystemClock};
 pub use connection::MOST_CHUNKS;
 pub use connections::serve_connections;

@@ -4,7 +4,7 @@ ghost use Rattle.std.specs.Prelude.{◌≡◌, false, [], IsErrOf, ◌≤◌, �
 ghost use Rattle.exchange.specs.declared.fault.ExchangeFault.TheVariants as exchange;
 ghost use Rattle.exchange.specs.Dialogs.{TellsFault};
 ghost use Rattle.ua_server.specs.Bytes.{counted};
-ghost use Rattle.ua_server.specs.Peers.{is_silent, Talks, MeetsBehind, Meets, responding};
+ghost use Rattle.ua_server.specs.Peers.{is_silent, Talks, MeetsTo, Meets, responding};
 ghost use Rattle.ua_server.specs.Talking.{ending_of, stop_of, IsReady, LeavesOne, LeavesAll, Drained, TellsWant};
 
 use crate::counted::Counted;
@@ -136,7 +136,7 @@ pub(crate) fn talk<R: Read, W: Write, A: Archive>(
 ) -> Result<Parted, ServeFault>
     requires ready { IsReady dialog.old }
     requires few { length first.now < 8 }
-    ensures meets { MeetsBehind dialog.old (A.state replica.old.archive) (A.state replica.new.archive) first.now (R.remaining reader.old.inner) (R.remaining reader.new.inner) (W.contents writer.old.inner) (W.contents writer.new.inner) result }
+    ensures meets { MeetsTo dialog.old (A.state replica.old.archive) (A.state replica.new.archive) first.now (R.remaining reader.old.inner) (R.remaining reader.new.inner) (W.contents writer.old.inner) (W.contents writer.new.inner) result dialog.new }
     ensures read { IsErrOf result ServeFault.Read → reader.new.faults ≡ counted reader.old.faults }
     ensures write { IsErrOf result ServeFault.Write → writer.new.faults ≡ counted writer.old.faults }
     ensures read_kept { (IsErrOf result ServeFault.Read → ⊥) → reader.new.faults ≡ reader.old.faults }

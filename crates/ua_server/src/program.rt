@@ -1,18 +1,18 @@
 //! The program, over any reader and writers.
 
-ghost use Rattle.std.specs.Prelude.{◌≡◌, ◌+◌, ℕ, ℤ, List, [], ◌∷◌, ◌++◌, IfOk, IfErr, OnOk, OnErr, IsErrOf, map, option_copied};
+ghost use Rattle.std.specs.Prelude.{◌≡◌, ◌+◌, ℕ, ℤ, List, [], ◌∷◌, ◌++◌, IfOk, IfErr, OnOk, OnErr, IsErrOf, map, option_copied, string_bytes};
 ghost use Rattle.std.specs.Io.KnownBytes.{Appends};
 ghost use Rattle.ua_server.specs.Bytes.{counted, AppendsPart};
 ghost use Rattle.ua_server.specs.Given.{Outside};
-ghost use Rattle.ua_server.specs.Telling.{status_of, IsTold, refusal_text, store_text, connection_text, exchange_text, told_line, place_line, error_lines};
-ghost use Rattle.ua_server.specs.Program.{empty_of, AnswersAt, fault_of, program_result, unopened, AnswersBy, ServesBy, dump_result, DumpsBy, sync_result, CallsPeer, SyncsBy, DoesLine, Runs};
+ghost use Rattle.ua_server.specs.Telling.{status_of, IsTold, refusal_text, store_text, connection_text, exchange_text, told_line, place_line, error_lines, synced_line};
+ghost use Rattle.ua_server.specs.Program.{empty_of, AnswersAt, fault_of, program_result, unopened, AnswersBy, ServesBy, dump_result, DumpsBy, sync_fault, PrintsSynced, CallsPeer, SyncsBy, DoesLine, Runs};
 ghost use Rattle.ua_server.specs.Dumping.{Dumps};
 ghost use Rattle.clap.specs.Words.{subcommand_of};
 ghost use Rattle.clap.specs.Takes.{takes};
 ghost use Rattle.clap.specs.Faults.{fault_of as fault_kinds};
 ghost use Rattle.ua_server.specs.Line.{uahist};
 
-use crate::calling::{SyncFault, sync};
+use crate::calling::{SyncFault, Synced, sync};
 use crate::clock::Clock;
 use crate::connections::serve_at;
 use crate::counted::Counted;
@@ -26,10 +26,11 @@ use crate::single::answer_at;
 use crate::stores::Stores;
 use archive::{Archive, ListArchive, StoreFault};
 use exchange::{ExchangeFault, Replica};
-use std::alloc::Global;
+use std::alloc::{AllocError, Global};
 use std::convert::AsStr;
 use std::error::Error;
 use std::fmt;
+use std::fmt::Write as _;
 use std::io::{Read, Write};
 use std::net::SocketAddr;
 use ua_binary::Text;
@@ -376,26 +377,75 @@ fn dump_by<F: SettingsFiles, D: Stores, W: Write>(
     }
 }
 
-/// What the end of a dialog is called by the program.
-fn synced(ending: Result<(), SyncFault>) -> Result<(), ProgramFault>
-    ensures { result ≡ sync_result ending }
+/// What the fault of a dialog is called by the program.
+fn sync_fault(fault: SyncFault) -> ProgramFault
+    ensures { result ≡ sync_fault fault }
 {
-    match ending {
-        Ok(()) => Ok(()),
-        Err(SyncFault::Connection(fault)) => Err(ProgramFault::Call(fault)),
-        Err(SyncFault::Exchange(fault)) => Err(ProgramFault::Exchange(fault)),
-        Err(SyncFault::Peer(number)) => Err(ProgramFault::Peer(number)),
+    match fault {
+        SyncFault::Connection(fault) => ProgramFault::Call(fault),
+        SyncFault::Exchange(fault) => ProgramFault::Exchange(fault),
+        SyncFault::Peer(number) => ProgramFault::Peer(number),
     }
 }
 
-/// Calls the peer at an address, and exchanges records with it.
-fn sync_over<A: Archive + Drop, N: Network>(
+/// The line that tells how many records a call of a peer moved.
+fn synced_line(alloc: Global, synced: Synced) -> Result<String, AllocError>
+    ensures { IfOk result (λ line. string_bytes line ≡ synced_line synced) }
+{
+    let mut line = String::new(alloc);
+    let learned = synced.learned;
+    let sent = synced.sent;
+    writeln!(line, "learned {learned} sent {sent}")?;
+    Ok(line)
+}
+
+/// Prints the line of a dialog that came to its end.
+fn print_synced<W: Write>(
+    alloc: Global,
+    synced: Synced,
+    output: &mut Counted<W>,
+) -> Result<(), ProgramFault>
+    ensures prints { PrintsSynced (W.contents output.old.inner) (W.contents output.new.inner) (Ok synced) result }
+    ensures read { IsErrOf result (ProgramFault.Connection ServeFault.Read) → ⊥ }
+    ensures write { IsErrOf result (ProgramFault.Connection ServeFault.Write) → output.new.faults ≡ counted output.old.faults }
+{
+    let line = match synced_line(alloc, synced) {
+        Ok(line) => line,
+        Err(_) => return Err(ProgramFault::Connection(ServeFault::OutOfMemory)),
+    };
+    match output.send(line.as_bytes()) {
+        Ok(()) => Ok(()),
+        Err(_) => Err(ProgramFault::Connection(ServeFault::Write)),
+    }
+}
+
+/// Prints the line of a dialog that came to its end; of another one its fault is told.
+fn report_synced<W: Write>(
+    alloc: Global,
+    ending: Result<Synced, SyncFault>,
+    output: &mut Counted<W>,
+) -> Result<(), ProgramFault>
+    ensures prints { PrintsSynced (W.contents output.old.inner) (W.contents output.new.inner) ending result }
+    ensures read { IsErrOf result (ProgramFault.Connection ServeFault.Read) → ⊥ }
+    ensures write { IsErrOf result (ProgramFault.Connection ServeFault.Write) → output.new.faults ≡ counted output.old.faults }
+{
+    match ending {
+        Ok(synced) => print_synced(alloc, synced, output),
+        Err(fault) => Err(sync_fault(fault)),
+    }
+}
+
+/// Calls the peer at an address, exchanges records with it, and prints how many were moved.
+fn sync_over<A: Archive + Drop, N: Network, W: Write>(
     alloc: Global,
     archive: A,
     peer: &str,
     network: &mut N,
+    output: &mut Counted<W>,
 ) -> Result<(), ProgramFault>
-    ensures { (last : _) × CallsPeer (record { called = N.called; parted = N.parted; unread = N.Reader.remaining; written = N.Writer.contents }) A.state peer.now archive last network.old network.new result }
+    ensures read { IsErrOf result (ProgramFault.Connection ServeFault.Read) → ⊥ }
+    ensures write { IsErrOf result (ProgramFault.Connection ServeFault.Write) → output.new.faults ≡ counted output.old.faults }
+    ensures calls { (last : _) × CallsPeer (record { called = N.called; parted = N.parted; unread = N.Reader.remaining; written = N.Writer.contents }) A.state peer.now archive last network.old network.new (W.contents output.old.inner) (W.contents output.new.inner) result }
 {
     let Ok(address) = peer.parse::<SocketAddr>() else {
         return Err(ProgramFault::Address);
@@ -408,28 +458,31 @@ fn sync_over<A: Archive + Drop, N: Network>(
     let mut replica = Replica { archive };
     let ending = sync(alloc, &mut replica, &mut reader, &mut writer);
     network.part(reader, writer);
-    synced(ending)
+    report_synced(alloc, ending, output)
 }
 
 /// Calls the peer at an address by the settings of the file at a path.
-fn sync_by<F: SettingsFiles, D: Stores, N: Network>(
+fn sync_by<F: SettingsFiles, D: Stores, N: Network, W: Write>(
     alloc: Global,
     path: &str,
     peer: &str,
     files: &mut F,
     stores: &mut D,
     network: &mut N,
+    output: &mut Counted<W>,
 ) -> Result<(), ProgramFault>
-    ensures { SyncsBy (record { reads = λ path text. F.gave files.old path text files.new; unasked = files.new ≡ files.old; opened = λ path id number opening. D.opened stores.old path id number opening stores.new; untouched = stores.new ≡ stores.old; held = D.Kept.state }) (record { called = N.called; parted = N.parted; unread = N.Reader.remaining; written = N.Writer.contents }) path.now peer.now network.old network.new result }
+    ensures read { IsErrOf result (ProgramFault.Connection ServeFault.Read) → ⊥ }
+    ensures write { IsErrOf result (ProgramFault.Connection ServeFault.Write) → output.new.faults ≡ counted output.old.faults }
+    ensures syncs { SyncsBy (record { reads = λ path text. F.gave files.old path text files.new; unasked = files.new ≡ files.old; opened = λ path id number opening. D.opened stores.old path id number opening stores.new; untouched = stores.new ≡ stores.old; held = D.Kept.state }) (record { called = N.called; parted = N.parted; unread = N.Reader.remaining; written = N.Writer.contents }) path.now peer.now network.old network.new (W.contents output.old.inner) (W.contents output.new.inner) result }
 {
     let settings = match settings_at(alloc, Some(path), files) {
         Ok(settings) => settings,
         Err(fault) => return Err(fault),
     };
     match settings.store() {
-        None => sync_over(alloc, archive_of(alloc, &settings), peer, network),
+        None => sync_over(alloc, archive_of(alloc, &settings), peer, network, output),
         Some(path) => match open_store(&settings, path, stores) {
-            Ok(archive) => sync_over(alloc, archive, peer, network),
+            Ok(archive) => sync_over(alloc, archive, peer, network, output),
             Err(fault) => Err(fault),
         },
     }
@@ -473,7 +526,9 @@ fn do_line<F: SettingsFiles, D: Stores, N: Network, R: Read, W: Write, E: Write,
             errors,
         ),
         Line::Dump { settings } => dump_by(alloc, settings, files, stores, output),
-        Line::Sync { settings, peer } => sync_by(alloc, settings, peer, files, stores, network),
+        Line::Sync { settings, peer } => {
+            sync_by(alloc, settings, peer, files, stores, network, output)
+        }
     }
 }
 
@@ -484,7 +539,8 @@ fn do_line<F: SettingsFiles, D: Stores, N: Network, R: Read, W: Write, E: Write,
 /// Errors: `Line` where the words are no command, `File` and `Settings` where the settings file can't be read or is refused,
 /// `Store` where the settings' store can't be opened, or can't be read for a dump, `Address` where the settings' address, or
 /// that of the peer to be called, is none, or can't be listened at or called, `BadHex` where the input is to be hex and
-/// isn't, `Connection` where the connection of standard input met a fault, or a dump's writer did, and of a call of a peer
+/// isn't, `Connection` where the connection of standard input met a fault, or a dump's writer did, or that of the line of a
+/// call of a peer, and of such a call
 /// `Call` where its connection met a fault, `Exchange` where the exchange met one here, and `Peer` where the peer ended it
 /// by a number; what went out before it stands, and what was learned.
 #[tactic(auto, using(crate::proofs::Printing::lines))]

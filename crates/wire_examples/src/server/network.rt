@@ -1,7 +1,7 @@
 //! Connections over a network that is kept in memory.
 
 use super::clients::{BEGIN, BEGUN};
-use super::peers::{answered, called, filled_replica, replica};
+use super::peers::{QUIET, answered, called, filled_replica, replica};
 use super::rows::{ACK, ANSWER, HELLO, OPEN, OPENED, REQUEST};
 use super::{Narrow, Slow, archive_of, bytes_of, plant};
 use exchange::Replica;
@@ -71,6 +71,13 @@ impl<'a> Listener for Clients<'a> {
     }
 }
 
+/// A peer that holds nothing.
+static QUIET_PEER: [Option<Client<'static>>; 1] = [Some(Client {
+    bytes: QUIET,
+    breaks: false,
+    room: 1000,
+})];
+
 /// A machine that can be listened at on port 4840, and whom these clients reach there.
 #[derive(Drop)]
 pub(super) struct Machine<'a> {
@@ -99,12 +106,12 @@ impl<'a> Network for Machine<'a> {
         }
     }
 
-    /// The first of the clients is the peer at port 4840.
+    /// The first of the clients is the peer at port 4840; the one at port 4842 holds nothing.
     fn call(&mut self, address: SocketAddr) -> Option<(Slow<'a>, Narrow)> {
-        if address.port() == 4840 {
-            Clients::new(self.alloc, self.clients).accept()
-        } else {
-            None
+        match address.port() {
+            4840 => Clients::new(self.alloc, self.clients).accept(),
+            4842 => Clients::new(self.alloc, &QUIET_PEER).accept(),
+            _ => None,
         }
     }
 

@@ -9,7 +9,7 @@ use stamp::{ReplicaNo, Vector};
 use std::alloc::Global;
 use std::test::Fail;
 use ua_binary::{NodeId, Text};
-use ua_server::{Counted, Parted, ServeFault, SyncFault, serve_peer, sync};
+use ua_server::{Counted, Parted, ServeFault, SyncFault, Synced, serve_peer, sync};
 use ua_variant::{DataValue, Scalar, Variant};
 use uuid::Uuid;
 
@@ -21,6 +21,9 @@ const ASKED_ITSELF: &[u8] = b"RXVF\x1b\0\0\0\x02\0\0\0\0\0\0\0\0\0\0\0\0\0\0\0\0
 
 /// What replica 1 answers, which holds nothing either.
 const NOTHING: &[u8] = b"RXDF\x1f\0\0\0\x02\0\0\0\0\0\0\0\0\0\0\0\0\0\0\0\0\x01\0\0\0\0\0";
+
+/// What replica 2 answers, which holds nothing.
+pub(super) const QUIET: &[u8] = b"RXDF\x1f\0\0\0\x02\0\0\0\0\0\0\0\0\0\0\0\0\0\0\0\0\x02\0\0\0\0\0";
 
 const END: &[u8] = b"RXEF\x0c\0\0\0\0\0\0\0";
 
@@ -212,11 +215,17 @@ pub(super) fn called(
     alloc: Global,
     one: &mut Replica<ListArchive>,
     bytes: &[u8],
-) -> (Vec<u8>, Result<(), SyncFault>) {
+) -> (Vec<u8>, Result<Synced, SyncFault>) {
     let mut reader = Counted::new(bytes);
     let mut writer = Counted::new(Vec::new(alloc));
     let result = sync(alloc, one, &mut reader, &mut writer);
     (writer.into_inner(), result)
+}
+
+/// How many records replica 1 tells that calls a peer which sent these bytes.
+fn moved(alloc: Global, one: &mut Replica<ListArchive>, bytes: &[u8]) -> Result<Synced, SyncFault> {
+    let (_, result) = called(alloc, one, bytes);
+    result
 }
 
 /// What replica 2 writes to a peer which sent these bytes.
@@ -242,7 +251,8 @@ fn letters(alloc: Global, bytes: &[u8]) -> Result<Vec<u8>, Fail> {
     Ok(letters)
 }
 
-/// Two replicas, each with a record of its own, meet: each answers what the other one wrote before.
+/// Two replicas, each with a record of its own, meet: each answers what the other one wrote before. Where the same bytes come
+/// once more the record in them is held already.
 #[test]
 fn replicas_meet(rt: HostRuntime) -> Result<(), Fail> {
     let alloc = rt.alloc();
@@ -253,12 +263,26 @@ fn replicas_meet(rt: HostRuntime) -> Result<(), Fail> {
         let (there, result) = called(alloc, &mut one, back.as_slice());
         let answer = answered(alloc, &mut two, there.as_slice());
         if round == 3 {
-            assert!(rt; result == Ok(()));
+            assert!(rt;
+                result
+                    == Ok(Synced {
+                        learned: 1,
+                        sent: 1
+                    })
+            );
             assert!(rt; letters(alloc, there.as_slice())?.as_slice() == b"VVDE".as_slice());
             assert!(rt; letters(alloc, answer.as_slice())?.as_slice() == b"DDV".as_slice());
             let ones = one.archive.since(alloc, &Vector::new(), 99)?;
             let twos = two.archive.since(alloc, &Vector::new(), 99)?;
             assert!(rt; ones.len() == 2 && ones.as_slice() == twos.as_slice());
+            let again = moved(alloc, &mut one, back.as_slice());
+            assert!(rt;
+                again
+                    == Ok(Synced {
+                        learned: 0,
+                        sent: 1
+                    })
+            );
         } else {
             assert!(rt;
                 result == Err(SyncFault::Exchange(ExchangeFault::Frame)),
@@ -267,6 +291,19 @@ fn replicas_meet(rt: HostRuntime) -> Result<(), Fail> {
         }
         back = answer;
     }
+    Ok(())
+}
+
+#[test]
+fn calls_may_move_nothing(rt: HostRuntime) -> Result<(), Fail> {
+    let mut one = replica(rt.alloc(), 1)?;
+    let told = moved(rt.alloc(), &mut one, QUIET);
+    assert!(rt;
+        told == Ok(Synced {
+            learned: 0,
+            sent: 0
+        })
+    );
     Ok(())
 }
 

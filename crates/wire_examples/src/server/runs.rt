@@ -195,7 +195,37 @@ fn reads_lines(rt: HostRuntime) {
 }
 
 /// Command lines, the input, the room of the output, what it has then, what is said, and the exit status.
-static RUNS: [(&[&str], &[u8], usize, &str, &str, u8); 24] = [
+static RUNS: [(&[&str], &[u8], usize, &str, &str, u8); 26] = [
+    (
+        &[
+            "uahist",
+            "sync",
+            "--settings",
+            "good",
+            "--peer",
+            "127.0.0.1:4842",
+        ],
+        b"",
+        1000,
+        "learned 0 sent 0\n",
+        "",
+        0,
+    ),
+    (
+        &[
+            "uahist",
+            "sync",
+            "--settings",
+            "good",
+            "--peer",
+            "127.0.0.1:4842",
+        ],
+        b"",
+        5,
+        "learn",
+        "uahist: connection ended (2)\n",
+        1,
+    ),
     (
         &["uahist", "sync", "--settings", "good", "--peer", "plant"],
         b"",

@@ -1,6 +1,6 @@
-use Rattle.std.proofs.Common.{subst}
+use Rattle.std.proofs.Common.{subst, []}
 use Rattle.exchange.specs.Dialogs.{Standing}
-use Rattle.ua_server.specs.Peers.{Meets}
+use Rattle.ua_server.specs.Peers.{MeetsTo}
 use Rattle.ua_server.proofs.peers.serve_peer.Goals as goal
 
 pub returns-clause-meets : goal.returns-clause-meets
@@ -8,4 +8,4 @@ returns-clause-meets g c =
     let state = g.A.Archive.state in
     let left = g.R.Read.remaining in
     let contents = g.W.Write.contents in
-    subst (λ (s : Standing). Meets s (state c.args.replica.now.archive) (state c.talk.new.replica.archive) (left c.args.reader.now.inner) (left c.talk.new.reader.inner) (contents c.args.writer.now.inner) (contents c.talk.new.writer.inner) c.talk.result) c.responder-dialog.ensures c.talk.ensures.meets
+    (c.talk.new.dialog, subst (λ (s : Standing). MeetsTo s (state c.args.replica.now.archive) (state c.talk.new.replica.archive) [] (left c.args.reader.now.inner) (left c.talk.new.reader.inner) (contents c.args.writer.now.inner) (contents c.talk.new.writer.inner) c.talk.result c.talk.new.dialog) c.responder-dialog.ensures c.talk.ensures.meets)

@@ -3,14 +3,14 @@ use Rattle.ua_server.specs.Program.{Calls}
 use Rattle.ua_server.proofs.Opened.{was-synced}
 use Rattle.ua_server.proofs.program.sync_over.Goals as goal
 
-pub returns-in_default : goal.returns-in_default
-returns-in_default g c = (c.args.archive, inl (search rules, refl, refl, refl))
+pub returns-in_default-clause-calls : goal.returns-in_default-clause-calls
+returns-in_default-clause-calls g c = (c.args.archive, inl (search rules, refl, refl, refl, refl))
 
-pub returns-in_default-call : goal.returns-in_default-call
-returns-in_default-call g c = (c.args.archive, inr (c.in-Ok.address, search rules, (None, c.call.new.self, rw (← c.in_default-call.is) c.call.ensures, (refl, refl, refl))))
+pub returns-in_default-call-clause-calls : goal.returns-in_default-call-clause-calls
+returns-in_default-call-clause-calls g c = (c.args.archive, inr (c.in-Ok.address, search rules, (None, c.call.new.self, rw (← c.in_default-call.is) c.call.ensures, (refl, refl, refl, refl))))
 
-pub returns : goal.returns
-returns g c =
+pub returns-clause-calls : goal.returns-clause-calls
+returns-clause-calls g c =
     let calls : Calls g.row.N.Denot g.row.N-Reader.Denot g.row.N-Writer.Denot = record { called = g.N.Network.called; parted = g.N.Network.parted; unread = g.N.Reader.Read.remaining; written = g.N.Writer.Write.contents } in
     let ends = c.sync-ending.ensures in (
       c.sync-ending.new.replica.archive,
@@ -21,8 +21,8 @@ returns g c =
           Some (c.in-Some.reader, c.in-Some.writer),
           c.call.new.self,
           rw (← c.in-Some.is) c.call.ensures,
-          was-synced calls (g.A.Archive.state c.args.archive) (g.A.Archive.state c.sync-ending.new.replica.archive) c.in-Some.reader c.in-Some.writer c.new-reader.result c.sync-ending.new.reader c.new-writer.result c.sync-ending.new.writer c.call.new.self c.part.new.self c.sync-ending.result c.synced.result
-              c.new-reader.ensures c.new-writer.ensures ends.syncs ends.read ends.write ends.read_kept ends.write_kept c.part.ensures c.synced.ensures,
+          was-synced calls (g.A.Archive.state c.args.archive) (g.A.Archive.state c.sync-ending.new.replica.archive) c.in-Some.reader c.in-Some.writer c.new-reader.result c.sync-ending.new.reader c.new-writer.result c.sync-ending.new.writer c.call.new.self c.part.new.self (g.W.Write.contents c.args.output.now.inner) (g.W.Write.contents c.report_synced.new.output.inner) c.sync-ending.result c.report_synced.result
+              c.new-reader.ensures c.new-writer.ensures ends.syncs ends.read ends.write ends.read_kept ends.write_kept c.part.ensures c.report_synced.ensures.prints,
         ),
       ),
     )
