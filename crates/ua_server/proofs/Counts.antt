@@ -125,6 +125,9 @@ done-fine taken code rest beside is = elim is [
   ]
 ]
 
+from-none : (n m : ℕ) → n ≡ capped (0 + m) → n ≡ capped m
+from-none n m is = omega (arith, is)
+
 talk-adds : (a b : Store) (came out rest : List ℕ) (last : Standing) → Talks calling a b came out rest (Some (Ok parted.Done)) last → b.honest → a.broken ≡ false → last.learned ≡ capped (length b.content - length a.content)
 talk-adds a b came out rest last talks h u =
     let fine = done-fine talks.taken last.code rest talks.beside talks.ends in
@@ -132,7 +135,8 @@ talk-adds a b came out rest last talks h u =
     let quiet : Passes a b [] = subst (λ (faults : List StoreFault). Passes a b faults) (no-faults (party_of a) (side_of calling a) talks.taken answered fine) talks.passes in
     let used : b.broken ≡ false = quiet.broken ∙ (or-false a.broken ∙ u) in
     let more = grows (party_of a) (side_of calling a) talks.taken (omega arith) answered fine in
-    ap (λ (s : Standing). s.learned) (talks.stands h u) ∙ (more.1 ∙ ap (λ (R : Content). capped (length R - length a.content)) (sym (talks.content h u used)))
+    let counts : (after_all (party_of a) (side_of calling a) talks.taken).standing.learned ≡ capped (length (after_all (party_of a) (side_of calling a) talks.taken).content - length a.content) = from-none _ _ more.1 in
+    ap (λ (s : Standing). s.learned) (talks.stands h u) ∙ (counts ∙ ap (λ (R : Content). capped (length R - length a.content)) (sym (talks.content h u used)))
 
 pub adds-so : (a b : Store) (unread left before written : Option (List ℕ)) (result : Result Synced SyncFault) → Syncs a b unread left before written result → Adds a b result
 adds-so a b unread left before written result syncs h u = elim syncs [

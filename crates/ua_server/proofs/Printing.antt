@@ -33,7 +33,7 @@ use Rattle.ua_server.specs.Given.{Outside}
 use Rattle.ua_server.specs.Client.{Ending}
 use Rattle.ua_server.proofs.Outsides.{nothing}
 use Rattle.ua_server.specs.Hexed.{AnswersText, AnswersHex, IsUntouched, digits_of}
-use Rattle.ua_server.specs.Program.{empty_of, WasText, AnswersDigits, IsAnswered, IsUnmade, IsBadText, IsUnbegun, SettingsAt, Machine, OverStore, By, Calls, CallsPeer, Scene, program_result, dump_result, sync_fault, PrintsSynced, IsRefused, DoesLine, Runs}
+use Rattle.ua_server.specs.Program.{empty_of, WasText, AnswersDigits, IsAnswered, IsUnmade, IsBadText, IsUnbegun, SettingsAt, Machine, OverStore, By, Calls, CallsPeer, Scene, program_result, dump_result, PrintsSynced, IsRefused, DoesLine, Runs}
 use Rattle.ua_server.specs.Network.{Means}
 use Rattle.std.specs.declared.net.socket_addr.SocketAddr.{SocketAddr}
 use Rattle.ua_server.specs.declared.line.Line.{Line as CommandLine}

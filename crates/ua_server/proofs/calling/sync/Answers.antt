@@ -19,9 +19,9 @@ returns-clause-syncs g c =
     let contents = g.W.Write.contents in
     let all = rw c.as_slice.ensures.value at c.in-Ok-send.ensures.ok in
     let start : c.start.new.self ≡ Rattle.ua_server.specs.Calling.calling = c.in-Ok.ensures.ok ∙ ap (λ (s : Standing). let t : Standing = record s { started = true } in t) c.initiator-dialog.ensures in
-    syncs-asked (state c.args.replica.now.archive) (state c.start.new.replica.archive) (state c.talk.new.replica.archive) (g.R.Read.remaining c.args.reader.now.inner) (g.R.Read.remaining c.talk.new.reader.inner)
-    (contents c.args.writer.now.inner) (contents c.send.new.self.inner) (contents c.talk.new.writer.inner) c.new-out.result.items c.start.new.out.items c.start.result c.talk.result c.synced_by.result c.start.new.self c.talk.new.dialog
-    c.new-out.ensures.items c.start.ensures.greets c.in-Ok.is all start c.talk.ensures.meets c.synced_by.ensures
+    syncs-asked (state c.args.replica.now.archive) (state c.start.new.replica.archive) (state c.talk-parted.new.replica.archive) (g.R.Read.remaining c.args.reader.now.inner) (g.R.Read.remaining c.talk-parted.new.reader.inner)
+    (contents c.args.writer.now.inner) (contents c.send.new.self.inner) (contents c.talk-parted.new.writer.inner) c.new-out.result.items c.start.new.out.items c.start.result c.talk-parted.result c.synced_by.result c.start.new.self c.talk-parted.new.dialog
+    c.new-out.ensures.items c.start.ensures.greets c.in-Ok.is all start c.talk-parted.ensures.meets c.synced_by.ensures
 
 pub returns-clause-adds : goal.returns-clause-adds
 returns-clause-adds g c = adds-so _ _ _ _ _ _ _ (returns-clause-syncs g c)
