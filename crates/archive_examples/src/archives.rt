@@ -16,7 +16,7 @@ use uuid::Uuid;
 /// An update of node ns=1;s=T: origin, number, tick, source time, what was asked, and the value.
 pub(crate) type Row = (u8, u64, i64, i64, HistoryUpdateType, Option<i32>);
 
-fn node(alloc: Global) -> Result<NodeId, AllocError> {
+pub(crate) fn node(alloc: Global) -> Result<NodeId, AllocError> {
     Ok(NodeId::Named(1, Text::from_str(alloc, "T")?))
 }
 
@@ -64,7 +64,7 @@ pub(crate) fn learn<A: Archive>(
     }
 }
 
-fn list_archive(alloc: Global) -> Result<ListArchive, StoreFault> {
+pub(crate) fn list_archive(alloc: Global) -> Result<ListArchive, StoreFault> {
     match ReplicaNo::new(1) {
         Some(one) => Ok(ListArchive::new(alloc, Uuid::nil(), one)),
         None => Err(StoreFault::WrongReplica),

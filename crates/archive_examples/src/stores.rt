@@ -1,10 +1,14 @@
-//! The same queries over an archive in SQLite, which is kept in memory.
+//! The same queries over an archive in SQLite, which is kept in memory, and a history that is longer than
+//! what it reads by one query.
 
-use crate::archives::{answers, learns_in_order};
-use archive::StoreFault;
+use crate::archives::{Row, answers, learn, learns_in_order, list_archive, node};
+use Direction::{Backward, Forward};
+use HistoryUpdateType::{Delete, Update};
+use archive::{Archive, Direction, LearnFault, StoreFault};
+use records::{HistoryUpdateType, Moment};
 use sql_archive::SqlArchive;
 use sqlite::MemStore;
-use stamp::ReplicaNo;
+use stamp::{ReplicaNo, Vector};
 use std::alloc::Global;
 use std::test::Fail;
 use uuid::Uuid;
@@ -27,5 +31,120 @@ fn records_are_learned(rt: HostRuntime) -> Result<(), Fail> {
 fn queries_are_answered(rt: HostRuntime) -> Result<(), Fail> {
     let mut archive = sql_archive(rt.alloc())?;
     assert!(rt; answers(rt.alloc(), &mut archive)?);
+    Ok(())
+}
+
+/// The updates of a replica in a long history. Replica 1 makes two at each time, of which every tenth is a
+/// delete; replica 2 makes one at every seventh time, whose tick lies between those two; replica 3 makes
+/// all of its own at one time.
+fn long_row(replica: u8, n: u16) -> Row {
+    let (number, k) = (u64::from(n), i64::from(n));
+    let written = Some(i32::from(n));
+    match replica {
+        1 if n % 10 == 5 => (1, number, 10 * k, 1 + k / 2, Delete, None),
+        1 => (1, number, 10 * k, 1 + k / 2, Update, written),
+        2 => (2, number, 140 * k - 15, 7 * k, Update, written),
+        _ => (3, number, 10 * k + 3, 50, Update, written),
+    }
+}
+
+fn fill_long<A: Archive>(
+    alloc: Global,
+    archive: &mut A,
+    replica: u8,
+    last: u16,
+) -> Result<(), LearnFault> {
+    for n in 1..=last {
+        learn(alloc, archive, &long_row(replica, n))?;
+    }
+    Ok(())
+}
+
+fn fill_all<A: Archive>(alloc: Global, archive: &mut A) -> Result<(), LearnFault> {
+    fill_long(alloc, archive, 1, 800)?;
+    fill_long(alloc, archive, 2, 50)?;
+    fill_long(alloc, archive, 3, 40)
+}
+
+/// How many records of each replica are looked at.
+fn within(numbers: [u64; 3]) -> Vector {
+    let mut vector = Vector::new();
+    for (replica, number) in [1u8, 2, 3].iter().zip(&numbers) {
+        if let Some(replica) = ReplicaNo::new(*replica)
+            && *number <= 800
+        {
+            vector.raise(replica, *number);
+        }
+    }
+    vector
+}
+
+/// From, to, limit, and how many records of each replica are looked at.
+type Reading = (i64, i64, usize, [u64; 3]);
+
+/// Whether two archives show the same values between two times, the same modifications, and the same
+/// value before or behind them.
+fn shows_same<A: Archive, B: Archive>(
+    alloc: Global,
+    one: &mut A,
+    two: &mut B,
+    reading: &Reading,
+    direction: Direction,
+) -> Result<bool, StoreFault> {
+    let (from, to, limit, numbers) = *reading;
+    let (from, to, within) = (Moment::at(from), Moment::at(to), within(numbers));
+    let node = node(alloc)?;
+    let values = one.range(alloc, &node, from, to, direction, limit, &within)
+        == two.range(alloc, &node, from, to, direction, limit, &within);
+    let entries = one.log(alloc, &node, from, to, None, direction, limit, &within)
+        == two.log(alloc, &node, from, to, None, direction, limit, &within);
+    let next = one.next_outside(alloc, &node, from, direction, &within)
+        == two.next_outside(alloc, &node, from, direction, &within);
+    Ok(values && entries && next)
+}
+
+/// All, the first values alone, some that end in mid-query, the time with many records, and what older
+/// vectors show.
+static READINGS: [Reading; 16] = [
+    (1, 500, 1000, [800, 50, 40]),
+    (1, 500, 0, [800, 50, 40]),
+    (1, 500, 1, [800, 50, 40]),
+    (1, 500, 15, [800, 50, 40]),
+    (1, 500, 16, [800, 50, 40]),
+    (2, 500, 17, [800, 50, 40]),
+    (3, 401, 300, [800, 50, 40]),
+    (40, 60, 1000, [800, 50, 40]),
+    (50, 50, 1000, [800, 50, 40]),
+    (49, 400, 33, [800, 50, 40]),
+    (400, 401, 5, [800, 50, 40]),
+    (60, 40, 1000, [800, 50, 40]),
+    (1, 500, 1000, [301, 20, 7]),
+    (1, 500, 1000, [0, 50, 0]),
+    (45, 55, 1000, [90, 3, 39]),
+    (1, 500, 1000, [0, 0, 0]),
+];
+
+fn shows_same_values<A: Archive, B: Archive>(
+    alloc: Global,
+    one: &mut A,
+    two: &mut B,
+    direction: Direction,
+) -> Result<bool, StoreFault> {
+    for reading in &READINGS {
+        if !shows_same(alloc, one, two, reading, direction)? {
+            return Ok(false);
+        }
+    }
+    Ok(true)
+}
+
+#[test]
+fn long_histories_are_read_in_parts(rt: HostRuntime) -> Result<(), Fail> {
+    let mut list = list_archive(rt.alloc())?;
+    let mut sql = sql_archive(rt.alloc())?;
+    assert!(rt; fill_all(rt.alloc(), &mut list) == Ok(()));
+    assert!(rt; fill_all(rt.alloc(), &mut sql) == Ok(()));
+    assert!(rt; shows_same_values(rt.alloc(), &mut list, &mut sql, Forward)?);
+    assert!(rt; shows_same_values(rt.alloc(), &mut list, &mut sql, Backward)?);
     Ok(())
 }

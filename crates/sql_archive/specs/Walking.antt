@@ -1,11 +1,14 @@
 -- Going over the times of a node in a direction.
-use Rattle.std.specs.Prelude.{◌≡◌, ◌-◌, ◌^◌, true, false, not, ◌&&◌, ℕ, ℤ, pos, negsuc, ◌≤ℤ◌, ◌+ℤ◌, ◌*ℤ◌, List, [], ◌∷◌, filter, reverse, Option, Some, None}
-use Rattle.std.specs.List.{flat_map, cons_option}
+use Rattle.std.specs.Prelude.{◌≡◌, ◌-◌, ◌^◌, true, false, not, ◌&&◌, Bool, ℕ, ℤ, pos, negsuc, ◌≤ℤ◌, ◌+ℤ◌, ◌*ℤ◌, List, [], ◌∷◌, ◌++◌, filter, reverse, Option, Some, None, IfSome}
+use Rattle.std.specs.List.{flat_map, cons_option, AllByRecursion}
+use Rattle.std.specs.declared.cmp.Ordering.{Ordering}
+use Rattle.std.specs.Ordering.{int_cmp, ordering_then}
 use Rattle.ua_binary.specs.declared.values.NodeId.{NodeId}
-use Rattle.records.specs.Lists.{Has}
+use Rattle.records.specs.Lists.{Has, sort_by}
+use Rattle.records.specs.Same.{same_node}
 use Rattle.sql_archive.specs.declared.reads.Story.{Story}
 use Rattle.records.specs.Contents.{Content, cut}
-use Rattle.records.specs.Records.{story, current, entries}
+use Rattle.records.specs.Records.{story, stamp_cmp, current, entries}
 use Rattle.records.specs.declared.record.Record.{Record}
 use Rattle.records.specs.Moments.{moment}
 use Rattle.records.specs.declared.shown.Held.{Held}
@@ -52,6 +55,47 @@ abbrev pub first_time : List Record → Option ℤ
 first_time [] = None
 first_time (r ∷ rs) = Some r.time
 
+-- ---- what is read ahead
+
+-- in the direction: by time, and within a time by stamp
+abbrev pub walk_cmp : Direction → Record → Record → Ordering
+walk_cmp Forward a b = ordering_then (int_cmp a.time b.time) (stamp_cmp a b)
+walk_cmp Backward a b = ordering_then (int_cmp b.time a.time) (stamp_cmp b a)
+
+-- the node's records whose time is strictly beyond a place, in the direction
+abbrev pub records_beyond : Content → NodeId → Direction → ℤ → List Record
+records_beyond R node d place = sort_by (walk_cmp d) (filter (λ r. same_node r.node node && is_past d place r.time) R)
+
+-- the first of these records are held; where they end, all of them
+pub record AreHeld (all held : List Record) (ends : Bool) : Type 0 where
+  pub behind : List Record
+  pub next : all ≡ held ++ behind
+  pub whole : ends ≡ true → behind ≡ []
+
+-- held are the next records beyond a place
+abbrev pub IsAhead : Content → NodeId → Direction → ℤ → List Record → Bool → Type 0
+IsAhead R node d place = AreHeld (records_beyond R node d place)
+
+-- held are the records of this time, in the direction, and behind them the next ones beyond it
+abbrev pub StandsFirst : Content → NodeId → Direction → ℤ → List Record → Bool → Type 0
+StandsFirst R node d time = AreHeld (in_direction d (story R node time) ++ records_beyond R node d time)
+
+-- nothing is held, and others may stand behind it
+abbrev pub is_used_up : List Record → Bool → Bool
+is_used_up [] ends = not ends
+is_used_up (r ∷ rs) ends = false
+
+-- the first record is taken where it is of this time, and else nothing
+abbrev pub IsTaken : ℤ → List Record → Option Record → List Record → Type 0
+IsTaken time old None new = (new ≡ old) × (first_time old ≡ Some time → ⊥)
+IsTaken time old (Some r) new = (old ≡ r ∷ new) × (r.time ≡ time)
+
+-- the first records are taken, as long as they are of this time
+pub record AreTaken (time : ℤ) (old taken left : List Record) : Type 0 where
+  pub parts : old ≡ taken ++ left
+  pub each : AllByRecursion (λ r. r.time ≡ time) taken
+  pub no_more : first_time left ≡ Some time → ⊥
+
 -- ---- what is shown of a time
 
 abbrev pub values_at : Content → NodeId → ℤ → List Held
@@ -68,3 +112,7 @@ pub record IsStoryAt (R : Content) (node : NodeId) (v : ℕ → ℕ) (d : Direct
 abbrev pub IsNextStory : Content → NodeId → (ℕ → ℕ) → Direction → ℤ → ℤ → Option Story → Type 0
 IsNextStory R node v d place far None = stretch d place far (times R node) ≡ []
 IsNextStory R node v d place far (Some s) = IsStoryAt R node v d place far s.time s.records.items
+
+-- the next story; behind one, held are the next records beyond its time
+abbrev pub IsTold : Content → NodeId → (ℕ → ℕ) → Direction → ℤ → ℤ → Option Story → List Record → Bool → Type 0
+IsTold R node v d place far told held ends = IsNextStory R node v d place far told × IfSome told (λ s. IsAhead R node d s.time held ends)

@@ -77,7 +77,7 @@ is_before node time pico c =
 abbrev pub moment_order : Row → Row → Ordering
 moment_order a b = ordering_then (value_cmp (column a 4) (column b 4)) (ordering_then (value_cmp (column a 5) (column b 5)) (stamp_cmp a b))
 
--- of all rows of a node the first one, in the direction, whose time is beyond the place
-abbrev pub IsNextRow : Direction → List ℕ → ℤ → ℤ → List Row → List Row → Type 0
-IsNextRow Forward node time pico = IsPage (is_after node time pico) moment_order (Some 1)
-IsNextRow Backward node time pico = IsPage (is_before node time pico) (λ a b. moment_order b a) (Some 1)
+-- of all rows of a node the first so many, in the direction, whose time is beyond the place
+abbrev pub AreNextRows : Direction → List ℕ → ℤ → ℤ → Option ℕ → List Row → List Row → Type 0
+AreNextRows Forward node time pico = IsPage (is_after node time pico) moment_order
+AreNextRows Backward node time pico = IsPage (is_before node time pico) (λ a b. moment_order b a)

@@ -1,6 +1,7 @@
 //! An archive over SQLite, in memory or in a file: one row for each record, in the tables of store format 2.
 #![tactic(auto)]
 
+mod ahead;
 mod checking;
 mod decode;
 mod files;

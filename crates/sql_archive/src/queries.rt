@@ -6,7 +6,7 @@ ghost use Rattle.sqlite.specs.Held.{state};
 ghost use Rattle.records.specs.Moments.{ticks_of, pico_of};
 ghost use Rattle.sqlite_value.specs.declared.value.Value.TheVariants.{Int};
 ghost use Rattle.sqlite_sql.specs.Query.{as_count};
-ghost use Rattle.sql_archive.specs.Words.{cells, is_named, is_from, is_behind, name_order, descending_number, is_after, is_before, moment_order, IsPage, IsNextRow};
+ghost use Rattle.sql_archive.specs.Words.{cells, is_named, is_from, is_behind, name_order, descending_number, is_after, is_before, moment_order, IsPage, AreNextRows};
 ghost use Rattle.sql_archive.specs.Rows.{meta_cells};
 ghost use Rattle.sql_archive.specs.State.{AreAt, Asked, Idles};
 
@@ -31,6 +31,13 @@ pub(crate) fn place_of(time: Moment) -> Place
         ticks: time.ticks(),
         pico: i64::from(time.pico()),
     }
+}
+
+/// Rows of a node beyond a place in time: so many of them.
+#[derive(Clone, Copy, Debug)]
+pub(crate) struct Next {
+    pub(crate) place: Place,
+    pub(crate) count: i64,
 }
 
 /// The name of a record, as its row has it.
@@ -64,51 +71,51 @@ pub(crate) fn rows_at<S: Alter>(
     )
 }
 
-/// The first row of a node, by time, whose time is after a place.
+/// The first rows of a node, by time and stamp, whose time is after a place.
 fn rows_after<S: Alter>(
     conn: &mut Connection<S>,
     node: &[u8],
-    place: &Place,
+    next: &Next,
 ) -> Result<Vec<Row>, StoreFault>
     requires { HasCleanDisk (state S.Store conn.old) → Idles (state S.Store conn.old) }
-    ensures { Asked (state S.Store conn.old) (state S.Store conn.new) result (λ rows. IsPage (is_after node.now place.now.ticks place.now.pico) moment_order (Some 1) (cells ((state S.Store conn.old).now.trees 1)) rows.items) }
+    ensures { Asked (state S.Store conn.old) (state S.Store conn.new) result (λ rows. IsPage (is_after node.now next.now.place.ticks next.now.place.pico) moment_order (as_count (Int next.now.count)) (cells ((state S.Store conn.old).now.trees 1)) rows.items) }
 {
     select(
         conn,
-        "SELECT origin, number, tick, node, time, pico, asked, who, value FROM records2 WHERE node = ?1 AND time >= ?2 AND (time > ?2 OR pico > ?3) ORDER BY time, pico, tick, origin LIMIT 1",
-        params![node, &place.ticks, &place.pico],
+        "SELECT origin, number, tick, node, time, pico, asked, who, value FROM records2 WHERE node = ?1 AND time >= ?2 AND (time > ?2 OR pico > ?3) ORDER BY time, pico, tick, origin LIMIT ?4",
+        params![node, &next.place.ticks, &next.place.pico, &next.count],
     )
 }
 
-/// The last row of a node, by time, whose time is before a place.
+/// The last rows of a node, by time and stamp, whose time is before a place: the last one first.
 fn rows_before<S: Alter>(
     conn: &mut Connection<S>,
     node: &[u8],
-    place: &Place,
+    next: &Next,
 ) -> Result<Vec<Row>, StoreFault>
     requires { HasCleanDisk (state S.Store conn.old) → Idles (state S.Store conn.old) }
-    ensures { Asked (state S.Store conn.old) (state S.Store conn.new) result (λ rows. IsPage (is_before node.now place.now.ticks place.now.pico) (λ a b. moment_order b a) (Some 1) (cells ((state S.Store conn.old).now.trees 1)) rows.items) }
+    ensures { Asked (state S.Store conn.old) (state S.Store conn.new) result (λ rows. IsPage (is_before node.now next.now.place.ticks next.now.place.pico) (λ a b. moment_order b a) (as_count (Int next.now.count)) (cells ((state S.Store conn.old).now.trees 1)) rows.items) }
 {
     select(
         conn,
-        "SELECT origin, number, tick, node, time, pico, asked, who, value FROM records2 WHERE node = ?1 AND time <= ?2 AND (time < ?2 OR pico < ?3) ORDER BY time DESC, pico DESC, tick DESC, origin DESC LIMIT 1",
-        params![node, &place.ticks, &place.pico],
+        "SELECT origin, number, tick, node, time, pico, asked, who, value FROM records2 WHERE node = ?1 AND time <= ?2 AND (time < ?2 OR pico < ?3) ORDER BY time DESC, pico DESC, tick DESC, origin DESC LIMIT ?4",
+        params![node, &next.place.ticks, &next.place.pico, &next.count],
     )
 }
 
-/// The first row of a node, in the direction, whose time is beyond a place.
+/// The first rows of a node, in the direction, whose time is beyond a place.
 pub(crate) fn rows_next<S: Alter>(
     conn: &mut Connection<S>,
     node: &[u8],
-    place: &Place,
+    next: &Next,
     direction: Direction,
 ) -> Result<Vec<Row>, StoreFault>
     requires { HasCleanDisk (state S.Store conn.old) → Idles (state S.Store conn.old) }
-    ensures { Asked (state S.Store conn.old) (state S.Store conn.new) result (λ rows. IsNextRow direction node.now place.now.ticks place.now.pico (cells ((state S.Store conn.old).now.trees 1)) rows.items) }
+    ensures { Asked (state S.Store conn.old) (state S.Store conn.new) result (λ rows. AreNextRows direction node.now next.now.place.ticks next.now.place.pico (as_count (Int next.now.count)) (cells ((state S.Store conn.old).now.trees 1)) rows.items) }
 {
     match direction {
-        Direction::Forward => rows_after(conn, node, place),
-        Direction::Backward => rows_before(conn, node, place),
+        Direction::Forward => rows_after(conn, node, next),
+        Direction::Backward => rows_before(conn, node, next),
     }
 }
 

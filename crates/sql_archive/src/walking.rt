@@ -1,7 +1,6 @@
-//! Going over the times of a node, in a direction: one query finds the next time, and another one the
-//! records there.
+//! Going over the times of a node, in a direction, and the records of each.
 
-ghost use Rattle.std.specs.Prelude.{◌≡◌, take, not, filter};
+ghost use Rattle.std.specs.Prelude.{◌≡◌, ◌<◌, take, not, filter};
 ghost use Rattle.std.specs.List.{flat_map};
 ghost use Rattle.sqlite.specs.State.{HasCleanDisk};
 ghost use Rattle.sqlite.specs.Held.{state};
@@ -12,11 +11,11 @@ ghost use Rattle.records.specs.Records.{story, is_beyond};
 ghost use Rattle.archive.specs.Reading.{times};
 ghost use Rattle.sql_archive.specs.Rows.{content_in, IsFilled};
 ghost use Rattle.sql_archive.specs.State.{Idles, Asked};
-ghost use Rattle.sql_archive.specs.Walking.{moment_at, IsPlace, IsNextTime, IsNextStory, stretch, first_time, values_at, entries_at};
+ghost use Rattle.sql_archive.specs.Walking.{moment_at, IsPlace, IsNextStory, IsTold, StandsFirst, IsAhead, stretch, values_at, entries_at};
 
-use crate::decode::decode_all;
-use crate::queries::{Place, place_of, rows_next};
-use crate::reads::{Story, story_at};
+use crate::ahead::{Ahead, next_time, nothing_ahead, rows_to_ask, take_story};
+use crate::queries::{Place, place_of};
+use crate::reads::Story;
 use crate::shown::{push_entries, push_value};
 use archive::{Direction, LogPlace, StoreFault};
 use records::{Entry, Held, Moment, Record};
@@ -25,51 +24,25 @@ use stamp::Vector;
 use std::alloc::Global;
 use ua_binary::NodeId;
 
-/// The time of the first of some records.
-fn first_time(records: &[Record]) -> Option<Moment>
-    ensures { result ≡ first_time records.now }
-{
-    let first = records.first()?;
-    Some(first.time)
-}
-
-/// The first time of a node, by its spelling, that is strictly beyond a place.
-fn next_time<S: Alter>(
-    alloc: Global,
-    conn: &mut Connection<S>,
-    node: &NodeId,
-    bytes: &[u8],
-    place: &Place,
-    direction: Direction,
-) -> Result<Option<Moment>, StoreFault>
-    requires idles { HasCleanDisk (state S.Store conn.old) → Idles (state S.Store conn.old) }
-    requires filled { HasCleanDisk (state S.Store conn.old) → IsFilled (state S.Store conn.old).now.trees }
-    requires spelled { bytes.now ≡ node_id.canon node.now }
-    requires lawful { IsNodeId node.now }
-    requires place { IsPlace direction place.now.pico }
-    ensures { Asked (state S.Store conn.old) (state S.Store conn.new) result (IsNextTime direction (moment_at place.now.ticks place.now.pico) (times (content_in (state S.Store conn.old).now.trees) node.now)) }
-{
-    let rows = rows_next(conn, bytes, place, direction)?;
-    let records = decode_all(alloc, &rows)?;
-    Ok(first_time(&records))
-}
-
-/// The records of a node and a time that a vector covers, by their stamps.
+/// Takes off the records of the first time that is held, and keeps those that a vector covers.
 fn covered_story<S: Alter>(
     alloc: Global,
     conn: &mut Connection<S>,
+    ahead: &mut Ahead,
     node: &NodeId,
     bytes: &[u8],
     time: Moment,
+    direction: Direction,
     within: &Vector,
 ) -> Result<Vec<Record>, StoreFault>
     requires idles { HasCleanDisk (state S.Store conn.old) → Idles (state S.Store conn.old) }
     requires filled { HasCleanDisk (state S.Store conn.old) → IsFilled (state S.Store conn.old).now.trees }
     requires spelled { bytes.now ≡ node_id.canon node.now }
     requires lawful { IsNodeId node.now }
-    ensures { Asked (state S.Store conn.old) (state S.Store conn.new) result (λ v. v.items ≡ story (cut (content_in (state S.Store conn.old).now.trees) (number_of within.now)) node.now time) }
+    requires first { HasCleanDisk (state S.Store conn.old) → StandsFirst (content_in (state S.Store conn.old).now.trees) node.now direction time ahead.old.records.items ahead.old.ends }
+    ensures { Asked (state S.Store conn.old) (state S.Store conn.new) result (λ v. (v.items ≡ story (cut (content_in (state S.Store conn.old).now.trees) (number_of within.now)) node.now time) × IsAhead (content_in (state S.Store conn.old).now.trees) node.now direction time ahead.new.records.items ahead.new.ends) }
 {
-    let mut records = story_at(alloc, conn, node, bytes, time)?;
+    let mut records = take_story(alloc, conn, ahead, node, bytes, time, direction)?;
     keep_covered(&mut records, within);
     Ok(records)
 }
@@ -81,15 +54,17 @@ fn keep_covered(records: &mut Vec<Record>, within: &Vector)
 }
 
 /// The first time of a node that is strictly beyond a place, and not beyond a far time, with the
-/// records that a vector covers.
+/// records that a vector covers. What is held ahead is then what stands beyond that time.
 fn next_story<S: Alter>(
     alloc: Global,
     conn: &mut Connection<S>,
+    ahead: &mut Ahead,
     node: &NodeId,
     bytes: &[u8],
     place: &Place,
     far: Moment,
     direction: Direction,
+    count: u16,
     within: &Vector,
 ) -> Result<Option<Story>, StoreFault>
     requires idles { HasCleanDisk (state S.Store conn.old) → Idles (state S.Store conn.old) }
@@ -97,16 +72,22 @@ fn next_story<S: Alter>(
     requires spelled { bytes.now ≡ node_id.canon node.now }
     requires lawful { IsNodeId node.now }
     requires place { IsPlace direction place.now.pico }
-    ensures { Asked (state S.Store conn.old) (state S.Store conn.new) result (IsNextStory (content_in (state S.Store conn.old).now.trees) node.now (number_of within.now) direction (moment_at place.now.ticks place.now.pico) far) }
+    requires some { 0 < count }
+    requires ahead { HasCleanDisk (state S.Store conn.old) → IsAhead (content_in (state S.Store conn.old).now.trees) node.now direction (moment_at place.now.ticks place.now.pico) ahead.old.records.items ahead.old.ends }
+    ensures { Asked (state S.Store conn.old) (state S.Store conn.new) result (λ o. IsTold (content_in (state S.Store conn.old).now.trees) node.now (number_of within.now) direction (moment_at place.now.ticks place.now.pico) far o ahead.new.records.items ahead.new.ends) }
 {
-    let next = next_time(alloc, conn, node, bytes, place, direction)?;
+    let next = next_time(
+        alloc, conn, ahead, node, bytes, place, direction, count,
+    )?;
     let Some(time) = next else {
         return Ok(None);
     };
     if direction.is_past(far, time) {
         return Ok(None);
     }
-    let records = covered_story(alloc, conn, node, bytes, time, within)?;
+    let records = covered_story(
+        alloc, conn, ahead, node, bytes, time, direction, within,
+    )?;
     Ok(Some(Story { time, records }))
 }
 
@@ -130,13 +111,17 @@ pub(crate) fn values<S: Alter>(
     ensures { Asked (state S.Store conn.old) (state S.Store conn.new) result (λ v. v.items ≡ take limit (flat_map (values_at (cut (content_in (state S.Store conn.old).now.trees) (number_of within.now)) node.now) (stretch direction (moment_at start.ticks start.pico) far (times (content_in (state S.Store conn.old).now.trees) node.now)))) }
 {
     let mut found = Vec::new(alloc);
+    let mut ahead = nothing_ahead(alloc);
     let mut place = start;
     for _ in 0..u64::MAX {
         if found.len() >= limit {
             found.truncate(limit);
             return Ok(found);
         }
-        let next = next_story(alloc, conn, node, bytes, &place, far, direction, within)?;
+        let count = rows_to_ask(found.len(), limit);
+        let next = next_story(
+            alloc, conn, &mut ahead, node, bytes, &place, far, direction, count, within,
+        )?;
         let Some(story) = next else {
             found.truncate(limit);
             return Ok(found);
@@ -169,13 +154,17 @@ pub(crate) fn entries<S: Alter>(
     ensures { Asked (state S.Store conn.old) (state S.Store conn.new) result (λ v. v.items ≡ take limit (flat_map (entries_at (cut (content_in (state S.Store conn.old).now.trees) (number_of within.now)) node.now after.now direction) (stretch direction (moment_at start.ticks start.pico) far (times (content_in (state S.Store conn.old).now.trees) node.now)))) }
 {
     let mut found = Vec::new(alloc);
+    let mut ahead = nothing_ahead(alloc);
     let mut place = start;
     for _ in 0..u64::MAX {
         if found.len() >= limit {
             found.truncate(limit);
             return Ok(found);
         }
-        let next = next_story(alloc, conn, node, bytes, &place, far, direction, within)?;
+        let count = rows_to_ask(found.len(), limit);
+        let next = next_story(
+            alloc, conn, &mut ahead, node, bytes, &place, far, direction, count, within,
+        )?;
         let Some(story) = next else {
             found.truncate(limit);
             return Ok(found);
