@@ -11,6 +11,7 @@ pub mod AskLemmas
 pub mod WalkLemmas
 pub mod PageLemmas
 pub mod RangeLemmas
+pub mod AheadLemmas
 pub mod LoopLemmas
 pub mod SinceLemmas
 pub mod StandingLemmas

@@ -40,9 +40,9 @@ use Rattle.archive.specs.declared.reading.Direction.{Direction}
 use Rattle.archive.specs.declared.reading.Direction.TheVariants.{Forward, Backward}
 use Rattle.archive.proofs.SetLemmas.{has-once, has_from_once}
 use Rattle.archive.proofs.Turning.{has-map, has_from_map}
-use Rattle.sql_archive.specs.Words.{cells, is_after, is_before, moment_order, IsPage, IsNextRow}
+use Rattle.sql_archive.specs.Words.{cells, is_after, is_before, moment_order, IsPage, AreNextRows}
 use Rattle.sql_archive.specs.Rows.{row_of, records_in, content_in, AreRecords, IsFilled}
-use Rattle.sql_archive.specs.Walking.{moment_at, IsPlace, IsNextTime, first_time}
+use Rattle.sql_archive.specs.Walking.{moment_at, IsPlace, IsNextTime, first_time, time_order, walk_cmp, records_beyond}
 use Rattle.sql_archive.proofs.RowLemmas.{each_record, records_back, content_is}
 use Rattle.sql_archive.proofs.StoryLemmas.{sort_same, ascends, row_stamp_total, numbers_cmp, stamps_as, nodes_as, filter_as}
 use Rattle.sql_archive.proofs.WalkLemmas.{turned_total}
@@ -84,10 +84,7 @@ page_found pass row_cmp row_total p cmp total limit R db rows l stand tests orde
 
 -- ---- the order by moment
 
-abbrev time_order : Record → Record → Ordering
-time_order a b = ordering_then (int_cmp a.time b.time) (stamp_cmp a b)
-
-time_order_total : IsTotalOrder time_order
+pub time_order_total : IsTotalOrder time_order
 time_order_total = then_total (on_total (λ (r : Record). r.time) int_cmp_total) stamp_total
 
 moment_order_total : IsTotalOrder moment_order
@@ -104,7 +101,7 @@ moments_as a b =
     ∙ ap₂ ordering_then (ap₂ ordering_then (value_cmp-Int (ticks_of a.time) (ticks_of b.time)) (value_cmp-Int (pos (pico_of a.time)) (pos (pico_of b.time)) ∙ numbers_cmp (pico_of a.time) (pico_of b.time))
     ∙ (in_order (ticks_of a.time) (ticks_of b.time) (pico_of a.time) (pico_of b.time) (pico_within a.time) (pico_within b.time) ∙ ap₂ int_cmp (whole_again a.time) (whole_again b.time))) (stamps_as a b)
 
-untied : (a b : Record) → is_eq (stamp_cmp a b) ≡ false → is_eq (time_order a b) ≡ false
+pub untied : (a b : Record) → is_eq (stamp_cmp a b) ≡ false → is_eq (time_order a b) ≡ false
 untied a b h = go (int_cmp a.time b.time)
   where
     go : (o : Ordering) → is_eq (ordering_then o (stamp_cmp a b)) ≡ false
@@ -112,7 +109,7 @@ untied a b h = go (int_cmp a.time b.time)
     go Equal = h
     go Greater = refl
 
-untied_back : (a b : Record) → is_eq (stamp_cmp a b) ≡ false → is_eq (time_order b a) ≡ false
+pub untied_back : (a b : Record) → is_eq (stamp_cmp a b) ≡ false → is_eq (time_order b a) ≡ false
 untied_back a b h = untied b a (ap is_eq (stamp_total.antisymm b a) ∙ go (stamp_cmp a b) h)
   where
     go : (o : Ordering) → is_eq o ≡ false → is_eq (Rattle.std.specs.Ordering.ordering_reverse o) ≡ false
@@ -143,7 +140,7 @@ after_by a t p q low high place = grind (arith, nat_tests, ints)
 before_by : (a t p q : ℤ) → pos 0 ≤ℤ p → p ≤ℤ pos 9999 → IsPlace Backward q → (is_le (int_cmp a t) && (is_lt (int_cmp a t) || is_lt (int_cmp p q))) ≡ is_past Backward (moment_at t q) (moment_at a p)
 before_by a t p q low high place = grind (arith, nat_tests, ints)
 
-abbrev beyond_place : Direction → NodeId → ℤ → Record → Bool
+abbrev pub beyond_place : Direction → NodeId → ℤ → Record → Bool
 beyond_place d node place r = same_node r.node node && is_past d place r.time
 
 after_as : (node : NodeId) (t q : ℤ) (r : Record) → IsNodeId node → IsNodeId r.node → IsPlace Forward q → is_after (node_id.canon node) t q (row_of r) ≡ beyond_place Forward node (moment_at t q) r
@@ -179,8 +176,8 @@ at_time R node t h =
     let q = has_from_filter (is_of node) R p.0 p.1 in (p.0, q.0, q.1, p.2)
 
 -- of the records beyond a place, in their order by moment, the first has the next time
-next_by : (d : Direction) (R : Content) (node : NodeId) (place : ℤ) (cmp : Record → Record → Ordering) (total : IsTotalOrder cmp) → ((a b : Record) → cmp a b ≡ Less → is_past d b.time a.time ≡ false) → IsApart cmp (filter (beyond_place d node place) R)
-    → IsNextTime d place (times R node) (first_time (take 1 (sort_by cmp (filter (beyond_place d node place) R))))
+pub next_by : (d : Direction) (R : Content) (node : NodeId) (place : ℤ) (cmp : Record → Record → Ordering) (total : IsTotalOrder cmp) → ((a b : Record) → cmp a b ≡ Less → is_past d b.time a.time ≡ false) → IsApart cmp (filter (beyond_place d node place) R)
+    → IsNextTime d place (times R node) (first_time (sort_by cmp (filter (beyond_place d node place) R)))
 next_by d R node place cmp total goes apart = go (sort_by cmp (filter beyond R)) refl
   where
     beyond : Record → Bool
@@ -197,7 +194,7 @@ next_by d R node place cmp total goes apart = go (sort_by cmp (filter beyond R))
     not_past_itself Forward t = grind (arith, nat_tests, ints)
     not_past_itself Backward t = grind (arith, nat_tests, ints)
 
-    go : (xs : List Record) → sort_by cmp (filter beyond R) ≡ xs → IsNextTime d place (times R node) (first_time (take 1 xs))
+    go : (xs : List Record) → sort_by cmp (filter beyond R) ≡ xs → IsNextTime d place (times R node) (first_time xs)
     go [] e = λ t h. untrue (is_past d place t) (λ p. let r = at_time R node t h in subst (λ l. Has l r.0) e (member r.0 r.1 r.2 (subst (λ u. is_past d place u ≡ true) (sym r.3) p)))
     go (x ∷ xs) e =
         let in_it = has_from_filter beyond R x (has_from_sort_by cmp total (filter beyond R) x (subst (λ l. Has l x) (sym e) (inl refl))) in
@@ -214,7 +211,7 @@ next_by d R node place cmp total goes apart = go (sort_by cmp (filter beyond R))
               ]),
         )
 
-forward_goes : (a b : Record) → time_order a b ≡ Less → is_past Forward b.time a.time ≡ false
+pub forward_goes : (a b : Record) → time_order a b ≡ Less → is_past Forward b.time a.time ≡ false
 forward_goes a b e = go (int_cmp a.time b.time) refl e
   where
     go : (o : Ordering) → int_cmp a.time b.time ≡ o → ordering_then o (stamp_cmp a b) ≡ Less → is_past Forward b.time a.time ≡ false
@@ -222,7 +219,7 @@ forward_goes a b e = go (int_cmp a.time b.time) refl e
     go Equal p h = grind (arith, nat_tests, ints)
     go Greater p h = absurd (let q = h in cc)
 
-backward_goes : (a b : Record) → time_order b a ≡ Less → is_past Backward b.time a.time ≡ false
+pub backward_goes : (a b : Record) → time_order b a ≡ Less → is_past Backward b.time a.time ≡ false
 backward_goes a b e = go (int_cmp b.time a.time) refl e
   where
     go : (o : Ordering) → int_cmp b.time a.time ≡ o → ordering_then o (stamp_cmp b a) ≡ Less → is_past Backward b.time a.time ≡ false
@@ -230,22 +227,22 @@ backward_goes a b e = go (int_cmp b.time a.time) refl e
     go Equal p h = grind (arith, nat_tests, ints)
     go Greater p h = absurd (let q = h in cc)
 
--- the rows behind a place, as IsPage has them, tell the next time
-pub next_found : (d : Direction) (db : Trees) (node : NodeId) (bytes : List ℕ) (ticks pico : ℤ) (rows : List Row) (items : List Record) → IsFilled db → IsNodeId node → bytes ≡ node_id.canon node → IsPlace d pico
-    → IsNextRow d bytes ticks pico (cells (db 1)) rows → items ≡ flat_map records_in rows → IsNextTime d (moment_at ticks pico) (times (content_in db) node) (first_time items)
-next_found Forward db node bytes ticks pico rows items (R, l, stand) ok is place page read =
+-- no two of a node's records beyond a place tie
+pub apart_beyond : (d : Direction) (R : Content) (node : NodeId) (place : ℤ) → IsApart stamp_cmp R → IsApart (walk_cmp d) (filter (beyond_place d node place) R)
+apart_beyond Forward R node place apart = pairwise-filter _ (beyond_place Forward node place) R (pairwise_weaker _ _ untied R apart)
+apart_beyond Backward R node place apart = pairwise-filter _ (beyond_place Backward node place) R (pairwise_weaker _ _ untied_back R apart)
+
+-- the rows beyond a place, as IsPage has them, are the records there
+pub rows_found : (d : Direction) (db : Trees) (node : NodeId) (bytes : List ℕ) (ticks pico : ℤ) (limit : Option ℕ) (rows : List Row) (items : List Record) → IsFilled db → IsNodeId node → bytes ≡ node_id.canon node → IsPlace d pico
+    → AreNextRows d bytes ticks pico limit (cells (db 1)) rows → items ≡ flat_map records_in rows → items ≡ limited limit (records_beyond (content_in db) node d (moment_at ticks pico))
+rows_found Forward db node bytes ticks pico limit rows items (R, l, stand) ok is place page read =
     let p = beyond_place Forward node (moment_at ticks pico) in
-    let apart = pairwise-filter _ p R (pairwise_weaker _ _ untied R (closed_stamps R l.closed)) in
-    let found = page_found (is_after (node_id.canon node) ticks pico) moment_order moment_order_total p time_order time_order_total (Some 1) R db rows l stand (λ r h. after_as node ticks pico r ok (each_record R l r h).0.node place) moments_as apart
-    (subst (λ b. IsPage (is_after b ticks pico) moment_order (Some 1) (cells (db 1)) rows) is page) in
-    subst (λ S. IsNextTime Forward (moment_at ticks pico) (times S node) (first_time items)) (sym (content_is R db l stand))
-    (subst (λ k. IsNextTime Forward (moment_at ticks pico) (times R node) (first_time k)) (sym (read ∙ found)) (next_by Forward R node (moment_at ticks pico) time_order time_order_total forward_goes apart))
-next_found Backward db node bytes ticks pico rows items (R, l, stand) ok is place page read =
+    let found = page_found (is_after (node_id.canon node) ticks pico) moment_order moment_order_total p time_order time_order_total limit R db rows l stand (λ r h. after_as node ticks pico r ok (each_record R l r h).0.node place) moments_as
+    (apart_beyond Forward R node (moment_at ticks pico) (closed_stamps R l.closed)) (subst (λ b. IsPage (is_after b ticks pico) moment_order limit (cells (db 1)) rows) is page) in
+    subst (λ S. items ≡ limited limit (records_beyond S node Forward (moment_at ticks pico))) (sym (content_is R db l stand)) (read ∙ found)
+rows_found Backward db node bytes ticks pico limit rows items (R, l, stand) ok is place page read =
     let p = beyond_place Backward node (moment_at ticks pico) in
-    let apart = pairwise-filter _ p R (pairwise_weaker _ _ untied_back R (closed_stamps R l.closed)) in
     let cmp : Record → Record → Ordering = λ a b. time_order b a in
-    let total = turned_total time_order time_order_total in
-    let found = page_found (is_before (node_id.canon node) ticks pico) (λ a b. moment_order b a) (turned_total moment_order moment_order_total) p cmp total (Some 1) R db rows l stand (λ r h. before_as node ticks pico r ok (each_record R l r h).0.node place) (λ a b. moments_as b a) apart
-    (subst (λ b. IsPage (is_before b ticks pico) (λ a c. moment_order c a) (Some 1) (cells (db 1)) rows) is page) in
-    subst (λ S. IsNextTime Backward (moment_at ticks pico) (times S node) (first_time items)) (sym (content_is R db l stand))
-    (subst (λ k. IsNextTime Backward (moment_at ticks pico) (times R node) (first_time k)) (sym (read ∙ found)) (next_by Backward R node (moment_at ticks pico) cmp total backward_goes apart))
+    let found = page_found (is_before (node_id.canon node) ticks pico) (λ a b. moment_order b a) (turned_total moment_order moment_order_total) p cmp (turned_total time_order time_order_total) limit R db rows l stand (λ r h. before_as node ticks pico r ok (each_record R l r h).0.node place) (λ a b. moments_as b a)
+    (apart_beyond Backward R node (moment_at ticks pico) (closed_stamps R l.closed)) (subst (λ b. IsPage (is_before b ticks pico) (λ a c. moment_order c a) limit (cells (db 1)) rows) is page) in
+    subst (λ S. items ≡ limited limit (records_beyond S node Backward (moment_at ticks pico))) (sym (content_is R db l stand)) (read ∙ found)

@@ -29,7 +29,7 @@ use Rattle.sqlite.specs.State.{State, Shown, ShowsRows, IsUnchanged}
 use Rattle.sqlite.specs.Clock.{timed}
 use Rattle.sqlite.proofs.Callers.{IsPlain, command_of, reads_as}
 use Rattle.sql_archive.specs.Tables.{archive_schema}
-use Rattle.sql_archive.specs.Words.{columns_of, cells, is_at, is_named, is_from, is_behind, is_after, is_before, IsPage, IsNextRow, name_order, descending_number, moment_order, stamp_cmp}
+use Rattle.sql_archive.specs.Words.{columns_of, cells, is_at, is_named, is_from, is_behind, is_after, is_before, IsPage, name_order, descending_number, moment_order, stamp_cmp}
 use Rattle.sql_archive.specs.State.{AreAt, shown_of}
 use Rattle.sql_archive.specs.Rows.{meta_columns, meta_cells}
 use Rattle.sql_archive.proofs.Texts.{at_text, since_text, after_text, before_text, all_text, whose_text, named_text, last_text}
@@ -309,7 +309,7 @@ finds_since old new origin number limit rows has h =
       front = all.3;
     }
 
--- ---- the next row of a node
+-- ---- the next rows of a node
 
 abbrev after_tests : List Term
 after_tests = eq (col 1 4) (col 0 0) ∷ op2 (Compare Ge Binary) (col 1 5) (col 0 1) ∷ op2 Or (op2 (Compare Gt Binary) (col 1 5) (col 0 1)) (op2 (Compare Gt Binary) (col 1 6) (col 0 2)) ∷ []
@@ -326,7 +326,7 @@ up_moment = (col 1 5, ascending Binary) ∷ (col 1 6, ascending Binary) ∷ (col
 abbrev down_moment : List (Term × Key)
 down_moment = (col 1 5, down) ∷ (col 1 6, down) ∷ (col 1 3, down) ∷ (col 1 1, down) ∷ []
 
-after_is : (command_of (understood archive_schema after_text) ≡ Select (record { lets = []; body = simple 1 after_tests each up_moment (lit (Int (pos 1))) }) names) × (reads_listing archive_schema after_text ≡ false)
+after_is : (command_of (understood archive_schema after_text) ≡ Select (record { lets = []; body = simple 1 after_tests each up_moment (col 0 3) }) names) × (reads_listing archive_schema after_text ≡ false)
 unfolding understood everything
 after_is = (refl, refl)
 
@@ -334,7 +334,7 @@ pub after_plain : IsPlain (understood archive_schema after_text)
 unfolding understood everything
 after_plain = (refl, refl)
 
-before_is : (command_of (understood archive_schema before_text) ≡ Select (record { lets = []; body = simple 1 before_tests each down_moment (lit (Int (pos 1))) }) names) × (reads_listing archive_schema before_text ≡ false)
+before_is : (command_of (understood archive_schema before_text) ≡ Select (record { lets = []; body = simple 1 before_tests each down_moment (col 0 3) }) names) × (reads_listing archive_schema before_text ≡ false)
 unfolding understood everything
 before_is = (refl, refl)
 
@@ -348,12 +348,12 @@ by_moment c = column c 4 ∷ column c 5 ∷ column c 2 ∷ column c 0 ∷ []
 last_of_four : (a b c d : Ordering) → ordering_then a (ordering_then b (ordering_then c (ordering_then d Ordering.Equal))) ≡ ordering_then a (ordering_then b (ordering_then c d))
 last_of_four a b c d = ap (λ o. ordering_then a (ordering_then b (ordering_then c o))) (then-Equal d)
 
-pub finds_after : (old new : State) (node : List ℕ) (time pico : ℤ) (rows : List Row) → old.now.schema ≡ archive_schema → Shown after_text (Blob node ∷ Int time ∷ Int pico ∷ []) old new rows
-    → IsPage (is_after node time pico) moment_order (Some 1) (cells (old.now.trees 1)) rows
-finds_after old new node time pico rows has h =
-    let params = Blob node ∷ Int time ∷ Int pico ∷ [] in
+pub finds_after : (old new : State) (node : List ℕ) (time pico count : ℤ) (rows : List Row) → old.now.schema ≡ archive_schema → Shown after_text (Blob node ∷ Int time ∷ Int pico ∷ Int count ∷ []) old new rows
+    → IsPage (is_after node time pico) moment_order (as_count (Int count)) (cells (old.now.trees 1)) rows
+finds_after old new node time pico count rows has h =
+    let params = Blob node ∷ Int time ∷ Int pico ∷ Int count ∷ [] in
     let got = reads_as after_text params old new archive_schema has _ after_is.0 after_plain after_is.1 rows h in
-    let all = answered 1 after_tests each up_moment (lit (Int (pos 1))) params columns_of (is_after node time pico) by_moment (λ r. refl)
+    let all = answered 1 after_tests each up_moment (col 0 3) params columns_of (is_after node time pico) by_moment (λ r. refl)
     (λ r. rw (equals (column r 4) (Blob node) refl) (ap (λ b. is_eq (value_cmp (column r 4) (Blob node)) && b) (both_true _ _))) old.now.trees rows (got.answer Null) in
     record {
       ordered = all.0;
@@ -362,12 +362,12 @@ finds_after old new node time pico rows has h =
       front = all.3;
     }
 
-pub finds_before : (old new : State) (node : List ℕ) (time pico : ℤ) (rows : List Row) → old.now.schema ≡ archive_schema → Shown before_text (Blob node ∷ Int time ∷ Int pico ∷ []) old new rows
-    → IsPage (is_before node time pico) (λ a b. moment_order b a) (Some 1) (cells (old.now.trees 1)) rows
-finds_before old new node time pico rows has h =
-    let params = Blob node ∷ Int time ∷ Int pico ∷ [] in
+pub finds_before : (old new : State) (node : List ℕ) (time pico count : ℤ) (rows : List Row) → old.now.schema ≡ archive_schema → Shown before_text (Blob node ∷ Int time ∷ Int pico ∷ Int count ∷ []) old new rows
+    → IsPage (is_before node time pico) (λ a b. moment_order b a) (as_count (Int count)) (cells (old.now.trees 1)) rows
+finds_before old new node time pico count rows has h =
+    let params = Blob node ∷ Int time ∷ Int pico ∷ Int count ∷ [] in
     let got = reads_as before_text params old new archive_schema has _ before_is.0 before_plain before_is.1 rows h in
-    let all = answered 1 before_tests each down_moment (lit (Int (pos 1))) params columns_of (is_before node time pico) by_moment (λ r. refl)
+    let all = answered 1 before_tests each down_moment (col 0 3) params columns_of (is_before node time pico) by_moment (λ r. refl)
     (λ r. rw (equals (column r 4) (Blob node) refl) (ap (λ b. is_eq (value_cmp (column r 4) (Blob node)) && b) (both_true _ _))) old.now.trees rows (got.answer Null) in
     record {
       ordered = all.0;

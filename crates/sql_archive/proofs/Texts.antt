@@ -46,7 +46,7 @@ abbrev pub since_text : List ℕ
 since_text = codes "SELECT origin, number, tick, node, time, pico, asked, who, value FROM records2 WHERE origin = ?1 AND number > ?2 ORDER BY origin, number LIMIT ?3"
 
 abbrev pub after_text : List ℕ
-after_text = codes "SELECT origin, number, tick, node, time, pico, asked, who, value FROM records2 WHERE node = ?1 AND time >= ?2 AND (time > ?2 OR pico > ?3) ORDER BY time, pico, tick, origin LIMIT 1"
+after_text = codes "SELECT origin, number, tick, node, time, pico, asked, who, value FROM records2 WHERE node = ?1 AND time >= ?2 AND (time > ?2 OR pico > ?3) ORDER BY time, pico, tick, origin LIMIT ?4"
 
 abbrev pub before_text : List ℕ
-before_text = codes "SELECT origin, number, tick, node, time, pico, asked, who, value FROM records2 WHERE node = ?1 AND time <= ?2 AND (time < ?2 OR pico < ?3) ORDER BY time DESC, pico DESC, tick DESC, origin DESC LIMIT 1"
+before_text = codes "SELECT origin, number, tick, node, time, pico, asked, who, value FROM records2 WHERE node = ?1 AND time <= ?2 AND (time < ?2 OR pico < ?3) ORDER BY time DESC, pico DESC, tick DESC, origin DESC LIMIT ?4"

@@ -34,11 +34,11 @@ use Rattle.sql_archive.specs.Walking.{moment_at, IsPlace, IsNextTime, stretch, f
 
 -- ---- integers in a direction
 
-not_past_itself : (d : Direction) (t : ℤ) → is_past d t t ≡ false
+pub not_past_itself : (d : Direction) (t : ℤ) → is_past d t t ≡ false
 not_past_itself Forward t = grind (arith, nat_tests, ints)
 not_past_itself Backward t = grind (arith, nat_tests, ints)
 
-past_then : (d : Direction) (s t u : ℤ) → is_past d s t ≡ true → is_past d t u ≡ true → is_past d s u ≡ true
+pub past_then : (d : Direction) (s t u : ℤ) → is_past d s t ≡ true → is_past d t u ≡ true → is_past d s u ≡ true
 past_then Forward s t u p q = grind (arith, nat_tests, ints)
 past_then Backward s t u p q = grind (arith, nat_tests, ints)
 
@@ -67,11 +67,11 @@ less_past : (d : Direction) (s t : ℤ) → along d s t ≡ Less → is_past d s
 less_past Forward s t e = grind (arith, nat_tests, ints)
 less_past Backward s t e = grind (arith, nat_tests, ints)
 
-past_less : (d : Direction) (s t : ℤ) → is_past d s t ≡ true → along d s t ≡ Less
+pub past_less : (d : Direction) (s t : ℤ) → is_past d s t ≡ true → along d s t ≡ Less
 past_less Forward s t e = grind (arith, nat_tests, ints)
 past_less Backward s t e = grind (arith, nat_tests, ints)
 
-past_or_same : (d : Direction) (s t : ℤ) → is_past d s t ≡ false → (s ≡ t) ⊎ (is_past d t s ≡ true)
+pub past_or_same : (d : Direction) (s t : ℤ) → is_past d s t ≡ false → (s ≡ t) ⊎ (is_past d t s ≡ true)
 past_or_same Forward s t p = go (int_cmp s t) refl
   where
     go : (o : Ordering) → int_cmp s t ≡ o → (s ≡ t) ⊎ (is_past Forward t s ≡ true)

@@ -2,7 +2,7 @@
 use Rattle.std.specs.Prelude.{◌≡◌, ◌-◌, ◌^◌, true, false, not, ◌&&◌, Bool, ℕ, ℤ, pos, negsuc, ◌≤ℤ◌, ◌+ℤ◌, ◌*ℤ◌, List, [], ◌∷◌, ◌++◌, filter, reverse, Option, Some, None, IfSome}
 use Rattle.std.specs.List.{flat_map, cons_option, AllByRecursion}
 use Rattle.std.specs.declared.cmp.Ordering.{Ordering}
-use Rattle.std.specs.Ordering.{int_cmp, ordering_then}
+use Rattle.std.specs.Ordering.{int_cmp, on, then_cmp}
 use Rattle.ua_binary.specs.declared.values.NodeId.{NodeId}
 use Rattle.records.specs.Lists.{Has, sort_by}
 use Rattle.records.specs.Same.{same_node}
@@ -57,10 +57,14 @@ first_time (r ∷ rs) = Some r.time
 
 -- ---- what is read ahead
 
--- in the direction: by time, and within a time by stamp
+-- by time, and within a time by stamp
+abbrev pub time_order : Record → Record → Ordering
+time_order = then_cmp (on (λ r. r.time) int_cmp) stamp_cmp
+
+-- the same in the direction
 abbrev pub walk_cmp : Direction → Record → Record → Ordering
-walk_cmp Forward a b = ordering_then (int_cmp a.time b.time) (stamp_cmp a b)
-walk_cmp Backward a b = ordering_then (int_cmp b.time a.time) (stamp_cmp b a)
+walk_cmp Forward = time_order
+walk_cmp Backward = λ a b. time_order b a
 
 -- the node's records whose time is strictly beyond a place, in the direction
 abbrev pub records_beyond : Content → NodeId → Direction → ℤ → List Record

@@ -1,7 +1,7 @@
 //! Records of a node that are read ahead, in a direction: one query reads several rows, and the records of
 //! the next time are the first of them.
 
-ghost use Rattle.std.specs.Prelude.{◌≡◌, ◌<◌, ◌≤◌, ◌+◌, ◌-◌, [], true, false, IfOk, IfErr, IfSome, MatchOption};
+ghost use Rattle.std.specs.Prelude.{◌≡◌, ◌<◌, ◌≤◌, ◌+◌, ◌-◌, pos, [], true, false, IfOk, IfErr, IfSome, MatchOption};
 ghost use Rattle.sqlite.specs.State.{HasCleanDisk};
 ghost use Rattle.sqlite.specs.Held.{state};
 ghost use Rattle.ua_binary.specs.Binary.{node_id, IsNodeId};
@@ -69,6 +69,18 @@ fn is_used_up(ahead: &Ahead) -> bool
     ahead.records.is_empty() && !ahead.ends
 }
 
+/// So many rows beyond a place.
+fn rows_beyond(place: &Place, count: u16) -> Next
+    ensures ticks { result.place.ticks ≡ place.now.ticks }
+    ensures pico { result.place.pico ≡ place.now.pico }
+    ensures count { result.count ≡ pos count }
+{
+    Next {
+        place: *place,
+        count: i64::from(count),
+    }
+}
+
 /// The next records beyond a place: so many of them, or all that there are.
 fn read_ahead<S: Alter>(
     alloc: Global,
@@ -87,10 +99,7 @@ fn read_ahead<S: Alter>(
     requires some { 0 < count }
     ensures { Asked (state S.Store conn.old) (state S.Store conn.new) result (λ a. IsAhead (content_in (state S.Store conn.old).now.trees) node.now direction (moment_at place.now.ticks place.now.pico) a.records.items a.ends × (is_used_up a.records.items a.ends ≡ false)) }
 {
-    let next = Next {
-        place: *place,
-        count: i64::from(count),
-    };
+    let next = rows_beyond(place, count);
     let rows = rows_next(conn, bytes, &next, direction)?;
     let records = decode_all(alloc, &rows)?;
     let ends = records.len() < usize::from(count);

@@ -9,8 +9,10 @@ returns g c =
     let e = c.in_ok-records.ensures in
     record {
       answer = λ clean.
-          covered_found (state g.S.Store c.args.conn.now).now.trees c.args.node.now c.args.time (number_of c.args.within.now) c.in_ok-records.records.items c.keep_covered.new.records.items (c.requires.filled (omega (arith, e.crash.clean, clean)))
-          (e.answer clean) c.keep_covered.ensures;
+          let told = e.answer clean in (
+            covered_found (state g.S.Store c.args.conn.now).now.trees c.args.node.now c.args.time (number_of c.args.within.now) c.in_ok-records.records.items c.keep_covered.new.records.items (c.requires.filled (omega (arith, e.crash.clean, clean))) told.0 c.keep_covered.ensures,
+            told.1,
+          );
       kept = λ clean ok. e.kept clean refl;
       met = tt;
       crash = e.crash;
