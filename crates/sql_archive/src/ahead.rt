@@ -156,9 +156,7 @@ pub(crate) fn next_time<S: Alter>(
     requires ahead { HasCleanDisk (state S.Store conn.old) → IsAhead (content_in (state S.Store conn.old).now.trees) node.now direction (moment_at place.now.ticks place.now.pico) ahead.old.records.items ahead.old.ends }
     ensures { Asked (state S.Store conn.old) (state S.Store conn.new) result (λ t. IsNextTime direction (moment_at place.now.ticks place.now.pico) (times (content_in (state S.Store conn.old).now.trees) node.now) t × IfSome t (λ time. StandsFirst (content_in (state S.Store conn.old).now.trees) node.now direction time ahead.new.records.items ahead.new.ends)) }
 {
-    fill(
-        alloc, conn, ahead, node, bytes, place, direction, count,
-    )?;
+    fill(alloc, conn, ahead, node, bytes, place, direction, count)?;
     Ok(first_time(&ahead.records))
 }
 

@@ -76,18 +76,14 @@ fn next_story<S: Alter>(
     requires ahead { HasCleanDisk (state S.Store conn.old) → IsAhead (content_in (state S.Store conn.old).now.trees) node.now direction (moment_at place.now.ticks place.now.pico) ahead.old.records.items ahead.old.ends }
     ensures { Asked (state S.Store conn.old) (state S.Store conn.new) result (λ o. IsTold (content_in (state S.Store conn.old).now.trees) node.now (number_of within.now) direction (moment_at place.now.ticks place.now.pico) far o ahead.new.records.items ahead.new.ends) }
 {
-    let next = next_time(
-        alloc, conn, ahead, node, bytes, place, direction, count,
-    )?;
+    let next = next_time(alloc, conn, ahead, node, bytes, place, direction, count)?;
     let Some(time) = next else {
         return Ok(None);
     };
     if direction.is_past(far, time) {
         return Ok(None);
     }
-    let records = covered_story(
-        alloc, conn, ahead, node, bytes, time, direction, within,
-    )?;
+    let records = covered_story(alloc, conn, ahead, node, bytes, time, direction, within)?;
     Ok(Some(Story { time, records }))
 }
 
