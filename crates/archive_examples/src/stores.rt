@@ -11,6 +11,7 @@ use sqlite::MemStore;
 use stamp::{ReplicaNo, Vector};
 use std::alloc::Global;
 use std::test::Fail;
+use ua_binary::NodeId;
 use uuid::Uuid;
 
 fn sql_archive(alloc: Global) -> Result<SqlArchive<MemStore>, StoreFault> {
@@ -82,25 +83,49 @@ fn within(numbers: [u64; 3]) -> Vector {
 /// From, to, limit, and how many records of each replica are looked at.
 type Reading = (i64, i64, usize, [u64; 3]);
 
-/// Whether two archives show the same values between two times, the same modifications, and the same
-/// value before or behind them.
-fn shows_same<A: Archive, B: Archive>(
+/// Whether two archives show the same values between two times.
+fn same_values<A: Archive, B: Archive>(
     alloc: Global,
     one: &mut A,
     two: &mut B,
+    node: &NodeId,
     reading: &Reading,
     direction: Direction,
-) -> Result<bool, StoreFault> {
+) -> bool {
     let (from, to, limit, numbers) = *reading;
     let (from, to, within) = (Moment::at(from), Moment::at(to), within(numbers));
-    let node = node(alloc)?;
-    let values = one.range(alloc, &node, from, to, direction, limit, &within)
-        == two.range(alloc, &node, from, to, direction, limit, &within);
-    let entries = one.log(alloc, &node, from, to, None, direction, limit, &within)
-        == two.log(alloc, &node, from, to, None, direction, limit, &within);
-    let next = one.next_outside(alloc, &node, from, direction, &within)
-        == two.next_outside(alloc, &node, from, direction, &within);
-    Ok(values && entries && next)
+    let values = one.range(alloc, node, from, to, direction, limit, &within);
+    values == two.range(alloc, node, from, to, direction, limit, &within)
+}
+
+/// Whether they show the same modifications.
+fn same_entries<A: Archive, B: Archive>(
+    alloc: Global,
+    one: &mut A,
+    two: &mut B,
+    node: &NodeId,
+    reading: &Reading,
+    direction: Direction,
+) -> bool {
+    let (from, to, limit, numbers) = *reading;
+    let (from, to, within) = (Moment::at(from), Moment::at(to), within(numbers));
+    let entries = one.log(alloc, node, from, to, None, direction, limit, &within);
+    entries == two.log(alloc, node, from, to, None, direction, limit, &within)
+}
+
+/// Whether they show the same value beyond the first time.
+fn same_next<A: Archive, B: Archive>(
+    alloc: Global,
+    one: &mut A,
+    two: &mut B,
+    node: &NodeId,
+    reading: &Reading,
+    direction: Direction,
+) -> bool {
+    let (from, _, _, numbers) = *reading;
+    let (from, within) = (Moment::at(from), within(numbers));
+    let next = one.next_outside(alloc, node, from, direction, &within);
+    next == two.next_outside(alloc, node, from, direction, &within)
 }
 
 /// All, the first values alone, some that end in mid-query, the time with many records, and what older
@@ -124,27 +149,50 @@ static READINGS: [Reading; 16] = [
     (1, 500, 1000, [0, 0, 0]),
 ];
 
-fn shows_same_values<A: Archive, B: Archive>(
+fn shows_same<A: Archive, B: Archive>(
     alloc: Global,
     one: &mut A,
     two: &mut B,
     direction: Direction,
 ) -> Result<bool, StoreFault> {
+    let node = node(alloc)?;
     for reading in &READINGS {
-        if !shows_same(alloc, one, two, reading, direction)? {
+        if !(same_values(alloc, one, two, &node, reading, direction)
+            && same_entries(alloc, one, two, &node, reading, direction)
+            && same_next(alloc, one, two, &node, reading, direction))
+        {
             return Ok(false);
         }
     }
     Ok(true)
 }
 
+/// How many values are live in all.
+fn count_values<A: Archive>(alloc: Global, archive: &mut A) -> Result<usize, StoreFault> {
+    let node = node(alloc)?;
+    let (from, to, within) = (Moment::at(1), Moment::at(500), within([800, 50, 40]));
+    let values = archive.range(alloc, &node, from, to, Forward, 1000, &within)?;
+    Ok(values.len())
+}
+
+/// How many modifications there are.
+fn count_entries<A: Archive>(alloc: Global, archive: &mut A) -> Result<usize, StoreFault> {
+    let node = node(alloc)?;
+    let (from, to, within) = (Moment::at(1), Moment::at(500), within([800, 50, 40]));
+    let entries = archive.log(alloc, &node, from, to, None, Backward, 1000, &within)?;
+    Ok(entries.len())
+}
+
+/// Of 401 times each fifth ends with a delete.
 #[test]
 fn long_histories_are_read_in_parts(rt: HostRuntime) -> Result<(), Fail> {
     let mut list = list_archive(rt.alloc())?;
     let mut sql = sql_archive(rt.alloc())?;
     assert!(rt; fill_all(rt.alloc(), &mut list) == Ok(()));
     assert!(rt; fill_all(rt.alloc(), &mut sql) == Ok(()));
-    assert!(rt; shows_same_values(rt.alloc(), &mut list, &mut sql, Forward)?);
-    assert!(rt; shows_same_values(rt.alloc(), &mut list, &mut sql, Backward)?);
+    assert!(rt; count_values(rt.alloc(), &mut sql)? == 321);
+    assert!(rt; count_entries(rt.alloc(), &mut sql)? == 890);
+    assert!(rt; shows_same(rt.alloc(), &mut list, &mut sql, Forward)?);
+    assert!(rt; shows_same(rt.alloc(), &mut list, &mut sql, Backward)?);
     Ok(())
 }
