@@ -12,6 +12,7 @@ use Rattle.ua_variant.specs.DataValue.{data_value}
 use Rattle.ua_services.specs.declared.history.HistoryReadDetails.TheVariants.{Other}
 use Rattle.ua_services.specs.Structure.{is_type, binary_body}
 use Rattle.ua_services.specs.History.{raw_of, raw_fields, read_raw_modified_details, read_details_type, read_details_form, history_read_details, point_of, continuation_point, history_read_value_id, history_read_request, modification_info, History, Nothing, Raw, Modified, history_form, history_type, IsHistory, history_data, IsHistoryRead, history_read_result, history_read_response}
+use Rattle.ua_services.proofs.Firsts.{first_lawful}
 use Rattle.ua_services.proofs.Unkept.{closed_lawful, many_lawful, array_fits, many_fits, null_lawful, structure_lawful, structure_with_values_lawful}
 use Rattle.ua_services.proofs.ReadsLawful.{timestamps_lawful, data_values_lawful}
 
@@ -39,7 +40,7 @@ history_read_lawful = history_read_item.lawful
 
 pub history_asked_lawful : IsLawful history_read_request
 unfolding history_read_request
-history_asked_lawful = then_lawful read_details_lawful (then_lawful timestamps_lawful (then_lawful boolean_lawful (many_lawful history_read_item)))
+history_asked_lawful = then_lawful read_details_lawful (then_lawful timestamps_lawful (then_lawful boolean_lawful (first_lawful 101 (λ e. e) history_read_item)))
 
 pub info_item : IsItemLawful modification_info
 unfolding modification_info ticks signed text

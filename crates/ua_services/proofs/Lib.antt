@@ -1,5 +1,6 @@
 pub mod Skipped
 pub mod Unkept
+pub mod Firsts
 pub mod Lawful
 pub mod Fits
 pub mod UpdatesLawful

@@ -9,6 +9,7 @@ use Rattle.ua_variant.specs.Raise.{variant_fault}
 use Rattle.ua_variant.specs.DataValue.{data_value}
 use Rattle.ua_services.specs.Browsing.{browse_direction, direction_of, direction_number, browse_description, no_view, browse_request, reference_description, browse_result, browse_response}
 use Rattle.ua_services.specs.Attributes.{timestamps, timestamps_of, timestamps_number, read_value_id, no_age, read_request, data_values, read_response}
+use Rattle.ua_services.proofs.Firsts.{first_lawful}
 use Rattle.ua_services.proofs.Unkept.{unkept_lawful, past_lawful, closed_lawful, many_lawful, array_fits, many_fits, null_lawful}
 use Rattle.ua_services.proofs.UpdatesLawful.{data_value_item}
 
@@ -25,7 +26,7 @@ browse_lawful = browse_item.lawful
 
 pub browse_asked_lawful : IsLawful browse_request
 unfolding browse_request
-browse_asked_lawful = past_lawful (unkept_lawful no_view (then_lawful node_id_lawful (then_lawful ticks_lawful u32_lawful))) (past_lawful (unkept_lawful 0 u32_lawful) (many_lawful browse_item))
+browse_asked_lawful = past_lawful (unkept_lawful no_view (then_lawful node_id_lawful (then_lawful ticks_lawful u32_lawful))) (past_lawful (unkept_lawful 0 u32_lawful) (first_lawful 1001 (λ e. e) browse_item))
 
 pub reference_item : IsItemLawful reference_description
 unfolding reference_description node_id boolean qualified localized signed
@@ -59,7 +60,7 @@ read_lawful = read_item.lawful
 
 pub read_asked_lawful : IsLawful read_request
 unfolding read_request
-read_asked_lawful = past_lawful (unkept_lawful no_age (block_lawful 8)) (then_lawful timestamps_lawful (many_lawful read_item))
+read_asked_lawful = past_lawful (unkept_lawful no_age (block_lawful 8)) (then_lawful timestamps_lawful (first_lawful 1001 (λ e. e) read_item))
 
 pub data_values_lawful : IsLawful data_values
 data_values_lawful = array_of_items variant_fault data_value_item

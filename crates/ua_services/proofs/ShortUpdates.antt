@@ -1,18 +1,19 @@
 -- The values of a HistoryUpdate that were read may be written again.
 use Rattle.std.proofs.Common.{◌≡◌, List, Ok, subst, sym}
-use Rattle.std.specs.List.{All, AllByRecursion}
+use Rattle.std.specs.List.{AllByRecursion}
 use Rattle.std.proofs.lemmas.List.Elements.{recursion_from_All}
 use Rattle.ua_binary.specs.declared.values.NodeId.{NodeId}
-use Rattle.ua_binary.specs.Format.{Format, chosen}
+use Rattle.ua_binary.specs.Format.{chosen}
 use Rattle.std.specs.Int.{w32}
 use Rattle.ua_binary.specs.Binary.{signed, node_id}
-use Rattle.ua_binary.proofs.Counted.{SpellsOnly, any_only, then_only, headed_only, chosen_only, raised_only, array_only, read_only}
+use Rattle.ua_binary.proofs.Counted.{SpellsOnly, any_only, then_only, headed_only, chosen_only, raised_only, read_only}
 use Rattle.ua_variant.specs.Raise.{variant_fault}
 use Rattle.ua_variant.specs.Variant.{raise}
 use Rattle.ua_variant.specs.DataValue.{IsShortData}
 use Rattle.ua_variant.proofs.Short.{data_value_only}
 use Rattle.ua_services.specs.Structure.{is_type}
 use Rattle.ua_services.specs.Updates.{DataUpdate, Details, HasShortValues, update_data_details, update_data_form, delete_raw_modified_form, delete_at_time_form, other_form, details_type, details_form, history_update_details, history_update_request}
+use Rattle.ua_services.proofs.Firsts.{first_only}
 use Rattle.ua_services.proofs.UpdatesLawful.{updates_asked_lawful}
 
 abbrev IsShortUpdate : DataUpdate → Type 0
@@ -21,7 +22,7 @@ IsShortUpdate d = AllByRecursion IsShortData d.1.1
 update_data_only : SpellsOnly update_data_details IsShortUpdate
 unfolding update_data_details
 update_data_only =
-    let parts = then_only (any_only (raise node_id)) (then_only (any_only (raise (signed w32))) (array_only variant_fault data_value_only)) in
+    let parts = then_only (any_only (raise node_id)) (then_only (any_only (raise (signed w32))) (first_only 1001 variant_fault data_value_only)) in
     record { holds = λ bytes v s. recursion_from_All IsShortData v.1.1 (parts.holds bytes v s).1.1.1 }
 
 update_only : SpellsOnly update_data_form HasShortValues
@@ -46,7 +47,7 @@ request_only : SpellsOnly history_update_request (λ v. AllByRecursion HasShortV
 unfolding history_update_request history_update_details
 request_only =
     let each : SpellsOnly history_update_details HasShortValues = headed_only details_type details_form (any_only (raise node_id)) (λ id _. details_only id) in
-    let all = array_only variant_fault each in
+    let all = first_only 101 variant_fault each in
     record { holds = λ bytes v s. recursion_from_All HasShortValues v (all.holds bytes v s).1 }
 
 pub short_request : (bytes : List _) (v : List Details) (rest : List _) → history_update_request.read bytes ≡ Ok (v, rest) → AllByRecursion HasShortValues v

@@ -13,7 +13,7 @@ use Rattle.ua_variant.specs.declared.data.DataValue.{DataValue}
 use Rattle.ua_variant.specs.Raise.{variant_fault}
 use Rattle.ua_variant.specs.Variant.{raise}
 use Rattle.ua_variant.specs.DataValue.{data_value, IsShortData}
-use Rattle.ua_services.specs.Unkept.{unkept, ◌▹◌, ◌◃◌, many, AreFew, null}
+use Rattle.ua_services.specs.Unkept.{unkept, ◌▹◌, ◌◃◌, AreFew, first_of, null}
 use Rattle.ua_services.specs.declared.attributes.TimestampsToReturn.{TimestampsToReturn}
 use Rattle.ua_services.specs.declared.attributes.TimestampsToReturn.TheVariants.{Source, Server, Both, Neither}
 use Rattle.ua_services.specs.declared.attributes.ReadValueId.{ReadValueId}
@@ -55,9 +55,9 @@ read_asked r = (r.timestamps, map read_fields r.nodes.items)
 abbrev pub no_age : List ℕ
 no_age = 0 ∷ 0 ∷ 0 ∷ 0 ∷ 0 ∷ 0 ∷ 0 ∷ 0 ∷ []
 
--- greatest age, moments, what is read
+-- greatest age, moments, what is read: of which 1,001 are kept
 unfoldable pub read_request : Format BinaryFault ReadAsked
-read_request = unkept no_age (block 8) ▹ timestamps ▸ many read_value_id
+read_request = unkept no_age (block 8) ▹ timestamps ▸ first_of 1001 (λ e. e) read_value_id
 
 -- ---- the response
 

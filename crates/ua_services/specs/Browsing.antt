@@ -12,7 +12,7 @@ use Rattle.ua_binary.specs.declared.values.QualifiedName.{QualifiedName}
 use Rattle.ua_binary.specs.declared.values.LocalizedText.{LocalizedText}
 use Rattle.ua_binary.specs.Format.{Format, ◌▸◌, standing_for, fitting}
 use Rattle.ua_binary.specs.Binary.{unsigned, signed, boolean, byte_string, node_id, node_of, IsNodeId, IsShortNode, ticks, status, qualified, IsQualified, localized, IsLocalized, IsShortLocalized, IsCounted}
-use Rattle.ua_services.specs.Unkept.{unkept, ◌▹◌, ◌◃◌, many, AreFew, null}
+use Rattle.ua_services.specs.Unkept.{unkept, ◌▹◌, ◌◃◌, many, AreFew, first_of, null}
 use Rattle.ua_services.specs.declared.browsing.BrowseDirection.{BrowseDirection}
 use Rattle.ua_services.specs.declared.browsing.BrowseDirection.TheVariants.{Forward, Inverse, Both}
 use Rattle.ua_services.specs.declared.browsing.NodeClass.{NodeClass}
@@ -53,9 +53,9 @@ view_description = node_id ▸ ticks ▸ unsigned w32
 abbrev pub no_view : NodeId × (Ticks × ℕ)
 no_view = (Numeric 0 0, (record { 0 = pos 0 }, 0))
 
--- the view, the most references, what is browsed
+-- the view, the most references, what is browsed: of which 1,001 are kept
 unfoldable pub browse_request : Format BinaryFault (List BrowseFields)
-browse_request = unkept no_view view_description ▹ unkept 0 (unsigned w32) ▹ many browse_description
+browse_request = unkept no_view view_description ▹ unkept 0 (unsigned w32) ▹ first_of 1001 (λ e. e) browse_description
 
 -- ---- the response
 

@@ -17,7 +17,7 @@ use Rattle.ua_variant.specs.declared.data.DataValue.{DataValue}
 use Rattle.ua_variant.specs.Raise.{variant_fault}
 use Rattle.ua_variant.specs.Variant.{raise}
 use Rattle.ua_variant.specs.DataValue.{data_value}
-use Rattle.ua_services.specs.Unkept.{◌◃◌, many, AreFew, null}
+use Rattle.ua_services.specs.Unkept.{◌◃◌, many, AreFew, first_of, null}
 use Rattle.ua_services.specs.Structure.{is_type, structure, structure_with_values}
 use Rattle.ua_services.specs.Attributes.{timestamps, data_values, AreShortValues}
 use Rattle.ua_services.specs.declared.attributes.TimestampsToReturn.{TimestampsToReturn}
@@ -90,9 +90,9 @@ HistoryAsked = HistoryReadDetails × (Option TimestampsToReturn × (Bool × List
 abbrev pub history_asked : HistoryReadRequest → HistoryAsked
 history_asked r = (r.details, (r.timestamps, (r.release_continuation_points, map history_read_fields r.nodes.items)))
 
--- details, moments, whether continuation points are released, what is read
+-- details, moments, whether continuation points are released, what is read: of which 101 are kept
 unfoldable pub history_read_request : Format BinaryFault HistoryAsked
-history_read_request = history_read_details ▸ timestamps ▸ boolean ▸ many history_read_value_id
+history_read_request = history_read_details ▸ timestamps ▸ boolean ▸ first_of 101 (λ e. e) history_read_value_id
 
 -- ---- the response
 

@@ -1,10 +1,10 @@
 -- Fields that are read by their grammar and not kept.
-use Rattle.std.specs.Prelude.{◌<◌, ◌^◌, negsuc, List, length, Ok}
+use Rattle.std.specs.Prelude.{◌≡◌, ℕ, ◌<◌, ◌≤◌, ◌^◌, negsuc, List, length, take, Ok}
 use Rattle.std.specs.List.{AllByRecursion}
 use Rattle.std.specs.Int.{w32}
 use Rattle.ua_binary.specs.declared.fault.BinaryFault.{BinaryFault}
 use Rattle.ua_binary.specs.declared.fault.BinaryFault.TheVariants.{BadEncodingByte}
-use Rattle.ua_binary.specs.Format.{◌>>=◌, Format, exactly, ◌▸◌, standing_for, fitting}
+use Rattle.ua_binary.specs.Format.{◌>>=◌, Reading, Format, exactly, ◌▸◌, standing_for, fitting}
 use Rattle.ua_binary.specs.Binary.{signed, array}
 
 -- a field whose value isn't kept; where it is written, it is this one
@@ -28,6 +28,19 @@ many f = array (λ e. e) f
 -- few enough to be counted, each with a spelling
 abbrev pub AreFew : {E A : Type 0} → Format E A → List A → Type 0
 AreFew f vs = (length vs < 2 ^ 31) × AllByRecursion f.Fits vs
+
+-- of what was read, the first so many items
+abbrev pub first_items : {E A : Type 0} → ℕ → Reading E (List A) → Reading E (List A)
+first_items most r = r >>= λ a. Ok (take most a.0, a.1)
+
+-- the first so many items of an array, each of which is read
+unfoldable pub first_of : {E A : Type 0} → ℕ → (BinaryFault → E) → Format E A → Format E (List A)
+first_of most told f = record {
+  Spells = λ bytes vs. (all : List _) × (array told f).Spells bytes all × (vs ≡ take most all);
+  read = λ bytes. first_items most ((array told f).read bytes);
+  canon = (array told f).canon;
+  Fits = λ vs. (length vs ≤ most) × (array told f).Fits vs;
+}
 
 -- an array that isn't kept; a null one is written
 abbrev pub unkept_array : {A : Type 0} → Format BinaryFault A → Format BinaryFault (Unit {0})

@@ -9,13 +9,13 @@ use Rattle.ua_binary.specs.declared.values.Ticks.{Ticks}
 use Rattle.ua_binary.specs.declared.codes.Status.{Status}
 use Rattle.ua_binary.specs.declared.values.Body.TheVariants.{Absent}
 use Rattle.ua_binary.specs.Format.{Format, ◌▸◌, chosen, headed, standing_for, fitting}
-use Rattle.ua_binary.specs.Binary.{signed, boolean, node_id, node_of, ticks, status, body, array}
+use Rattle.ua_binary.specs.Binary.{signed, boolean, node_id, node_of, ticks, status, body}
 use Rattle.ua_variant.specs.declared.fault.VariantFault.{VariantFault}
 use Rattle.ua_variant.specs.declared.data.DataValue.{DataValue}
 use Rattle.ua_variant.specs.Raise.{variant_fault}
 use Rattle.ua_variant.specs.Variant.{raise}
 use Rattle.ua_variant.specs.DataValue.{data_value, IsShortData}
-use Rattle.ua_services.specs.Unkept.{◌◃◌, many, AreFew, null}
+use Rattle.ua_services.specs.Unkept.{◌◃◌, many, AreFew, first_of, null}
 use Rattle.ua_services.specs.Structure.{is_type, structure, structure_with_values}
 use Rattle.ua_services.specs.declared.updates.UpdateDataDetails.{UpdateDataDetails}
 use Rattle.ua_services.specs.declared.updates.DeleteRawModifiedDetails.{DeleteRawModifiedDetails}
@@ -33,9 +33,9 @@ DataUpdate = NodeId × (ℤ × List DataValue)
 abbrev pub data_update : UpdateDataDetails → DataUpdate
 data_update d = (node_of d.node_id, (d.perform, d.values))
 
--- node, perform, values
+-- node, perform, values: of which 1,001 are kept
 unfoldable pub update_data_details : Format VariantFault DataUpdate
-update_data_details = raise node_id ▸ raise (signed w32) ▸ array variant_fault data_value
+update_data_details = raise node_id ▸ raise (signed w32) ▸ first_of 1001 variant_fault data_value
 
 -- a node, whether modified values are meant, and a range of time
 abbrev pub RawDeletion : Type 0
@@ -55,9 +55,9 @@ DeletionAt = NodeId × List Ticks
 abbrev pub deletion_at : DeleteAtTimeDetails → DeletionAt
 deletion_at d = (node_of d.node_id, d.times)
 
--- node, times
+-- node, times: of which 1,001 are kept
 unfoldable pub delete_at_time_details : Format BinaryFault DeletionAt
-delete_at_time_details = node_id ▸ many ticks
+delete_at_time_details = node_id ▸ first_of 1001 (λ e. e) ticks
 
 -- what one of the details asks
 pub data Details : Type 0 where
@@ -118,9 +118,9 @@ abbrev pub HasShortValues : Details → Type 0
 HasShortValues (UpdateData d) = AllByRecursion IsShortData d.1.1
 HasShortValues details = Unit {0}
 
--- the details, each by itself
+-- the details, each by itself: of which 101 are kept
 unfoldable pub history_update_request : Format VariantFault (List Details)
-history_update_request = array variant_fault history_update_details
+history_update_request = first_of 101 variant_fault history_update_details
 
 -- the status of one of the details, and the codes of its operations
 abbrev pub UpdateFields : Type 0

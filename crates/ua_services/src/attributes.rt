@@ -6,11 +6,10 @@ ghost use Rattle.ua_variant.specs.DataValue.{data_value};
 ghost use Rattle.ua_services.specs.Unkept.{AreFew};
 ghost use Rattle.ua_services.specs.Attributes.{timestamps_of, timestamps, ReadFields, read_fields, read_value_id, read_asked, read_request, data_values, AreShortValues, read_response};
 
+use crate::first::{OF_A_THOUSAND, read_first};
 use crate::many::put_null_array;
 use std::alloc::Global;
-use ua_binary::{
-    BinaryFault, Cursor, Decode, NodeIdRef, QualifiedRef, or_undone, put_count, read_array,
-};
+use ua_binary::{BinaryFault, Cursor, Decode, NodeIdRef, QualifiedRef, or_undone, put_count};
 use ua_variant::{DataValue, put_data_value};
 
 /// Which moments a client wants of a data value (Part 4, 7.40).
@@ -51,6 +50,7 @@ pub struct ReadValueId<'a> {
 pub struct ReadRequest<'a> {
     /// None where the number says none of the four.
     pub timestamps: Option<TimestampsToReturn>,
+    /// The first 1,001 at most.
     pub nodes: Vec<ReadValueId<'a>>,
 }
 
@@ -91,8 +91,9 @@ impl<'a> Decode<'a> for ReadValueId<'a> {
 }
 
 /// Reads a Read request (Part 4, 5.11.2) behind its header: a Double, the greatest age, which isn't
-/// kept, the moments that are wanted, and an array of what is read. A fault is that of the leftmost
-/// field that has no spelling, or `OutOfMemory`, and leaves the cursor where it was.
+/// kept, the moments that are wanted, and an array of what is read, of which at most 1,001 items are
+/// kept; every item is read and judged. A fault is that of the leftmost field that has no spelling, or
+/// `OutOfMemory`, and leaves the cursor where it was.
 #[tactic(auto, unfolding(crate::specs::Attributes::read_request))]
 pub fn read_read_request<'a>(
     alloc: Global,
@@ -103,7 +104,7 @@ pub fn read_read_request<'a>(
     let mut next = cursor.fork();
     let _max_age = next.eight()?;
     let timestamps = read_timestamps(&mut next)?;
-    let nodes = read_array(alloc, &mut next)?;
+    let nodes = read_first(alloc, &mut next, OF_A_THOUSAND)?;
     *cursor = next;
     Ok(ReadRequest { timestamps, nodes })
 }

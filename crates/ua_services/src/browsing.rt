@@ -6,12 +6,13 @@ ghost use Rattle.ua_binary.specs.Binary.{ticks};
 ghost use Rattle.ua_services.specs.Unkept.{unkept};
 ghost use Rattle.ua_services.specs.Browsing.{direction_of, browse_direction, BrowseFields, browse_fields, browse_description, view_description, no_view, browse_request, ReferenceFields, reference_fields, reference_description, IsShortReference, BrowsedFields, browsed_fields, browse_result, IsShortBrowsed, AreShortBrowsed, AreBrowsed, browse_response};
 
+use crate::first::{OF_A_THOUSAND, read_first};
 use crate::many::{many_size, put_many, put_null_array};
 use std::alloc::{AllocError, Global};
 use ua_binary::{
     BinaryFault, Cursor, Decode, Encode, Listing, LocalizedText, NodeId, NodeIdRef, QualifiedName,
     Status, TryClone, or_undone, put_boolean, put_bytes, put_i32, put_localized, put_node_id,
-    put_qualified, put_status, read_array,
+    put_qualified, put_status,
 };
 
 /// Which references are followed (Part 4, 7.5).
@@ -88,6 +89,7 @@ pub struct BrowseDescription<'a> {
 /// What a Browse asks (Part 4, 5.9.2).
 #[derive(Debug, Drop)]
 pub struct BrowseRequest<'a> {
+    /// The first 1,001 at most.
     pub nodes: Vec<BrowseDescription<'a>>,
 }
 
@@ -164,8 +166,9 @@ impl<'a> Decode<'a> for BrowseDescription<'a> {
 }
 
 /// Reads a Browse request (Part 4, 5.9.2) behind its header: a view, the most references, neither of
-/// which is kept, and an array of what is browsed. A fault is that of the leftmost field that has no
-/// spelling, or `OutOfMemory`, and leaves the cursor where it was.
+/// which is kept, and an array of what is browsed, of which at most 1,001 items are kept; every item is
+/// read and judged. A fault is that of the leftmost field that has no spelling, or `OutOfMemory`, and
+/// leaves the cursor where it was.
 #[tactic(auto, unfolding(crate::specs::Browsing::browse_request))]
 pub fn read_browse_request<'a>(
     alloc: Global,
@@ -176,7 +179,7 @@ pub fn read_browse_request<'a>(
     let mut next = cursor.fork();
     skip_view(&mut next)?;
     let _max_references = next.u32()?;
-    let nodes = read_array(alloc, &mut next)?;
+    let nodes = read_first(alloc, &mut next, OF_A_THOUSAND)?;
     *cursor = next;
     Ok(BrowseRequest { nodes })
 }

@@ -10,13 +10,14 @@ ghost use Rattle.ua_services.specs.History.{read_raw_modified_form, other_read_f
 ghost use Rattle.ua_binary.specs.declared.values.NodeId.TheVariants.{Numeric};
 
 use crate::attributes::{TimestampsToReturn, data_values_size, put_data_values, read_timestamps};
+use crate::first::{OF_A_HUNDRED, read_first};
 use crate::many::{many_size, put_many, put_null_array};
 use crate::structure::{is_type, read_binary_body};
 use std::alloc::{AllocError, Global};
 use ua_binary::{
     BinaryFault, Bytes, Cursor, Decode, Encode, Listing, NodeId, NodeIdRef, QualifiedRef, Status,
     Text, Ticks, TryClone, or_undone, put_count, put_i32, put_node_id, put_owned_bytes,
-    put_owned_text, put_status, put_ticks, put_u8, read_array,
+    put_owned_text, put_status, put_ticks, put_u8,
 };
 use ua_variant::{DataValue, HistoryUpdateType};
 
@@ -60,6 +61,7 @@ pub struct HistoryReadRequest<'a> {
     pub timestamps: Option<TimestampsToReturn>,
     /// Whether the continuation points are only given back.
     pub release_continuation_points: bool,
+    /// The first 101 at most.
     pub nodes: Vec<HistoryReadValueId<'a>>,
 }
 
@@ -180,8 +182,9 @@ impl<'a> Decode<'a> for HistoryReadValueId<'a> {
 
 /// Reads a HistoryRead request (Part 4, 5.11.3) behind its header: an extension object, of which
 /// ReadRawModifiedDetails are looked into and fill the body, the moments that are wanted, a Boolean and
-/// an array of what is read. A fault is that of the leftmost field that has no spelling, or
-/// `OutOfMemory`, and leaves the cursor where it was.
+/// an array of what is read, of which at most 101 items are kept; every item is read and judged. A fault
+/// is that of the leftmost field that has no spelling, or `OutOfMemory`, and leaves the cursor where it
+/// was.
 #[tactic(auto, unfolding(crate::specs::History::history_read_request))]
 pub fn read_history_read_request<'a>(
     alloc: Global,
@@ -193,7 +196,7 @@ pub fn read_history_read_request<'a>(
     let details = read_details(&mut next)?;
     let timestamps = read_timestamps(&mut next)?;
     let release_continuation_points = next.boolean()?;
-    let nodes = read_array(alloc, &mut next)?;
+    let nodes = read_first(alloc, &mut next, OF_A_HUNDRED)?;
     *cursor = next;
     Ok(HistoryReadRequest {
         details,

@@ -9,6 +9,7 @@
 mod attributes;
 mod browsing;
 mod endpoints;
+mod first;
 mod history;
 mod identity;
 mod laws;

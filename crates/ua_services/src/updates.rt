@@ -5,12 +5,13 @@ ghost use Rattle.ua_binary.specs.Format.{Puts, PutsPart, Reads, ReadsUnless};
 ghost use Rattle.std.specs.List.{AllByRecursion};
 ghost use Rattle.ua_services.specs.Updates.{Details, HasShortValues, details_of, update_data_form, delete_raw_modified_form, delete_at_time_form, other_form, history_update_details, history_update_request, UpdateFields, update_fields, history_update_result, IsShortUpdate, AreShortUpdates, AreUpdated, history_update_response};
 
+use crate::first::{OF_A_HUNDRED, OF_A_THOUSAND, read_first};
 use crate::many::{many_size, put_many, put_null_array};
 use crate::structure::{is_type, read_binary_body};
 use std::alloc::{AllocError, Global};
 use ua_binary::{
     BinaryFault, Cursor, Decode, Encode, Listing, NodeIdRef, Status, Ticks, TryClone, or_undone,
-    put_status, read_array,
+    put_status,
 };
 use ua_variant::{DataValue, VariantFault};
 
@@ -20,6 +21,7 @@ pub struct UpdateDataDetails<'a> {
     pub node_id: NodeIdRef<'a>,
     /// Which update is asked: 1 Insert, 2 Replace, 3 Update; whether it is one of these isn't looked at.
     pub perform: i32,
+    /// The first 1,001 at most.
     pub values: Listing<DataValue>,
 }
 
@@ -37,6 +39,7 @@ pub struct DeleteRawModifiedDetails<'a> {
 #[derive(Debug, Drop)]
 pub struct DeleteAtTimeDetails<'a> {
     pub node_id: NodeIdRef<'a>,
+    /// The first 1,001 at most.
     pub times: Listing<Ticks>,
 }
 
@@ -54,6 +57,7 @@ pub enum HistoryUpdateDetails<'a> {
 /// What a HistoryUpdate asks (Part 4, 5.11.5).
 #[derive(Debug, Drop)]
 pub struct HistoryUpdateRequest<'a> {
+    /// The first 101 at most.
     pub details: Vec<HistoryUpdateDetails<'a>>,
 }
 
@@ -66,7 +70,7 @@ pub struct HistoryUpdateResult {
     pub operation_results: Listing<Status>,
 }
 
-/// The body of UpdateDataDetails.
+/// The body of UpdateDataDetails. Of its values at most 1,001 are kept; every one is read and judged.
 #[tactic(auto, unfolding(crate::specs::Updates::update_data_details))]
 fn read_update_data<'a>(
     alloc: Global,
@@ -78,7 +82,7 @@ fn read_update_data<'a>(
     let mut body = read_binary_body(&mut next)?;
     let node_id = body.node_id()?;
     let perform = body.i32()?;
-    let values = Listing::of(read_array(alloc, &mut body)?);
+    let values = Listing::of(read_first(alloc, &mut body, OF_A_THOUSAND)?);
     if !body.rest().is_empty() {
         return Err(VariantFault::BadEncodingByte);
     }
@@ -115,7 +119,7 @@ fn read_delete_raw_modified<'a>(
     }))
 }
 
-/// The body of DeleteAtTimeDetails.
+/// The body of DeleteAtTimeDetails. Of its times at most 1,001 are kept; every one is read and judged.
 #[tactic(auto, unfolding(crate::specs::Updates::delete_at_time_details))]
 fn read_delete_at_time<'a>(
     alloc: Global,
@@ -126,7 +130,7 @@ fn read_delete_at_time<'a>(
     let mut next = cursor.fork();
     let mut body = read_binary_body(&mut next)?;
     let node_id = body.node_id()?;
-    let times = Listing::of(read_array(alloc, &mut body)?);
+    let times = Listing::of(read_first(alloc, &mut body, OF_A_THOUSAND)?);
     if !body.rest().is_empty() {
         return Err(BinaryFault::BadEncodingByte);
     }
@@ -174,8 +178,10 @@ impl<'a> Decode<'a> for HistoryUpdateDetails<'a> {
 
 /// Reads a HistoryUpdate request (Part 4, 5.11.5) behind its header: an array of extension objects, of
 /// which UpdateDataDetails, DeleteRawModifiedDetails and DeleteAtTimeDetails are looked into, and fill
-/// their bodies. A fault is that of the leftmost field that has no spelling, or `OutOfMemory`, and
-/// leaves the cursor where it was. Values that are read may be written again.
+/// their bodies. Of the array at most 101 items are kept, and of the values or times of one of them at
+/// most 1,001; every item is read and judged. A fault is that of the leftmost field that has no
+/// spelling, or `OutOfMemory`, and leaves the cursor where it was. Values that are kept may be written
+/// again.
 #[tactic(auto, unfolding(crate::specs::Updates::history_update_request))]
 pub fn read_history_update_request<'a>(
     alloc: Global,
@@ -184,7 +190,7 @@ pub fn read_history_update_request<'a>(
     ensures reads { ReadsUnless VariantFault.OutOfMemory (λ r. map details_of r.details.items) result cursor.old cursor.new history_update_request.read }
     ensures short { IfOk result (λ r. AllByRecursion HasShortValues (map details_of r.details.items)) }
 {
-    let details = read_array(alloc, cursor)?;
+    let details = read_first(alloc, cursor, OF_A_HUNDRED)?;
     Ok(HistoryUpdateRequest { details })
 }
 
