@@ -1,5 +1,6 @@
-//! Examples: settings, structures, services and whole connections in rows. Nothing stands on this crate. Its
-//! tests are in one program, so that the crates that they are about are proved once.
+//! Examples: bytes, variants, chunks, channels, structures, sessions, settings and address spaces in rows.
+//! Nothing stands on this crate. Its tests are in one program, so that the crates that they are about are proved
+//! once.
 #![tactic(auto)]
 
 #[cfg(test)]
@@ -8,10 +9,6 @@ mod binary;
 mod channels;
 #[cfg(test)]
 mod greetings;
-#[cfg(test)]
-mod server;
-#[cfg(test)]
-mod services;
 #[cfg(test)]
 mod sessions;
 #[cfg(test)]
