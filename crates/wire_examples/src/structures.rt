@@ -8,13 +8,14 @@ use ua_binary::{
 };
 use ua_services::{
     ApplicationDescription, ApplicationType, BrowseResult, CreateSessionResponse,
-    EndpointDescription, HistoryData, HistoryReadResult, HistoryUpdateResult, MessageSecurityMode,
-    ModificationInfo, NodeClass, ReferenceDescription, UserTokenPolicy, UserTokenType,
-    put_activate_session_response, put_browse_response, put_create_session_response,
-    put_get_endpoints_response, put_history_read_response, put_history_update_response,
-    put_read_response, read_activate_session_request, read_browse_request,
-    read_close_session_request, read_create_session_request, read_get_endpoints_request,
-    read_history_read_request, read_history_update_request, read_read_request,
+    EndpointDescription, HistoryData, HistoryReadResult, HistoryUpdateDetails,
+    HistoryUpdateRequest, HistoryUpdateResult, MessageSecurityMode, ModificationInfo, NodeClass,
+    ReferenceDescription, UserTokenPolicy, UserTokenType, put_activate_session_response,
+    put_browse_response, put_create_session_response, put_get_endpoints_response,
+    put_history_read_response, put_history_update_response, put_read_response,
+    read_activate_session_request, read_browse_request, read_close_session_request,
+    read_create_session_request, read_get_endpoints_request, read_history_read_request,
+    read_history_update_request, read_read_request,
 };
 use ua_variant::{DataValue, HistoryUpdateType, Scalar, Variant};
 
@@ -285,6 +286,143 @@ fn refused_requests(rt: HostRuntime) {
         let left = left_of(rt.alloc(), kind, bytes, want);
         assert!(rt; left == Some(bytes.len()), "{want} at {bytes:?}");
     }
+}
+
+/// A request with a list that is longer than the service takes.
+#[derive(Clone, Copy, Debug)]
+struct LongList {
+    kind: Kind,
+    /// The bytes before the first item.
+    front: &'static [u8],
+    count: usize,
+    item: &'static [u8],
+    /// As many bytes, whose first one has no meaning.
+    broken: &'static [u8],
+    kept: usize,
+}
+
+/// Values of an update, details of updates, and nodes to browse, to read and to read the history of.
+static LONG_LISTS: [LongList; 5] = [
+    LongList {
+        kind: Kind::HistoryUpdate,
+        front: b"\x01\0\0\0\x01\0\xaa\x02\x01\xe6\x05\0\0\0\x55\x01\0\0\0\xdc\x05\0\0",
+        count: 1500,
+        item: b"\0",
+        broken: b"\x40",
+        kept: 1001,
+    },
+    LongList {
+        kind: Kind::HistoryUpdate,
+        front: b"\x96\0\0\0",
+        count: 150,
+        item: b"\0\0\0",
+        broken: b"\x06\0\0",
+        kept: 101,
+    },
+    LongList {
+        kind: Kind::Browse,
+        front: b"\0\0\0\0\0\0\0\0\0\0\0\0\0\0\0\0\0\0\xdc\x05\0\0",
+        count: 1500,
+        item: b"\0\x55\0\0\0\0\0\0\0\0\0\0\0\0\0\0\0",
+        broken: b"\x06\x55\0\0\0\0\0\0\0\0\0\0\0\0\0\0\0",
+        kept: 1001,
+    },
+    LongList {
+        kind: Kind::Read,
+        front: b"\0\0\0\0\0\0\0\0\x02\0\0\0\xdc\x05\0\0",
+        count: 1500,
+        item: b"\0\x55\x0d\0\0\0\xff\xff\xff\xff\0\0\xff\xff\xff\xff",
+        broken: b"\x06\x55\x0d\0\0\0\xff\xff\xff\xff\0\0\xff\xff\xff\xff",
+        kept: 1001,
+    },
+    LongList {
+        kind: Kind::HistoryRead,
+        front: b"\x01\0\x8c\x02\0\x02\0\0\0\0\x96\0\0\0",
+        count: 150,
+        item: b"\0\x55\xff\xff\xff\xff\0\0\xff\xff\xff\xff\xff\xff\xff\xff",
+        broken: b"\x06\x55\xff\xff\xff\xff\0\0\xff\xff\xff\xff\xff\xff\xff\xff",
+        kept: 101,
+    },
+];
+
+/// The bytes of that request, with this for the last item.
+fn spelled(alloc: Global, list: LongList, last: &[u8]) -> Result<Vec<u8>, AllocError> {
+    let mut bytes = Vec::from_slice(alloc, list.front)?;
+    for _ in 1..list.count {
+        bytes.extend_from_slice(list.item)?;
+    }
+    bytes.extend_from_slice(last)?;
+    Ok(bytes)
+}
+
+/// How many items of a HistoryUpdate were kept: of the list in its first details, where they have one.
+fn kept_of_update(request: &HistoryUpdateRequest<'_>) -> usize {
+    match request.details.first() {
+        Some(HistoryUpdateDetails::UpdateData(update)) => update.values.len(),
+        Some(HistoryUpdateDetails::DeleteAtTime(deletion)) => deletion.times.len(),
+        _ => request.details.len(),
+    }
+}
+
+/// How many items were kept of a request that fills these bytes.
+fn kept_of(alloc: Global, kind: Kind, bytes: &[u8]) -> Option<usize> {
+    let mut cursor = Cursor::new(bytes);
+    let kept = match kind {
+        Kind::HistoryUpdate => {
+            kept_of_update(&read_history_update_request(alloc, &mut cursor).ok()?)
+        }
+        Kind::Browse => read_browse_request(alloc, &mut cursor).ok()?.nodes.len(),
+        Kind::Read => read_read_request(alloc, &mut cursor).ok()?.nodes.len(),
+        Kind::HistoryRead => {
+            read_history_read_request(alloc, &mut cursor)
+                .ok()?
+                .nodes
+                .len()
+        }
+        _ => return None,
+    };
+    if cursor.rest().is_empty() {
+        Some(kept)
+    } else {
+        None
+    }
+}
+
+#[test]
+fn one_item_more_than_allowed_is_kept(rt: HostRuntime) -> Result<(), AllocError> {
+    for list in LONG_LISTS {
+        let bytes = spelled(rt.alloc(), list, list.item)?;
+        let kept = kept_of(rt.alloc(), list.kind, bytes.as_slice());
+        assert!(rt; kept == Some(list.kept), "{list:?}");
+    }
+    // the times of a deletion
+    let times = LongList {
+        kind: Kind::HistoryUpdate,
+        front: b"\x01\0\0\0\x01\0\xb3\x02\x01\xe6\x2e\0\0\0\x55\xdc\x05\0\0",
+        count: 1500,
+        item: b"\x0a\0\0\0\0\0\0\0",
+        broken: b"",
+        kept: 1001,
+    };
+    let bytes = spelled(rt.alloc(), times, times.item)?;
+    let kept = kept_of(rt.alloc(), times.kind, bytes.as_slice());
+    assert!(rt; kept == Some(times.kept));
+    Ok(())
+}
+
+#[test]
+fn items_that_are_not_kept_are_read(rt: HostRuntime) -> Result<(), AllocError> {
+    for list in LONG_LISTS {
+        let bytes = spelled(rt.alloc(), list, list.broken)?;
+        let left = left_of(
+            rt.alloc(),
+            list.kind,
+            bytes.as_slice(),
+            "Err(BadEncodingByte)",
+        );
+        assert!(rt; left == Some(bytes.len()), "{list:?}");
+    }
+    Ok(())
 }
 
 fn text(alloc: Global, text: &str) -> Result<Option<Text>, AllocError> {
