@@ -10,5 +10,6 @@ pub mod Ranges
 pub mod Logs
 pub mod Resuming
 pub mod Cutting
+pub mod Narrow
 pub mod Vectors
 pub mod Acting

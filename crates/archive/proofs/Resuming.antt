@@ -44,7 +44,7 @@ module _ {X : Type 0} (past : X → X → Bool) (back : (x y : X) → past x y �
   past_is_drop (y ∷ xs) (suc k) x up e = ap (λ b. cond b (y ∷ filter (past x) xs) (filter (past x) xs)) (not_past x y xs k up.0 e) ∙ past_is_drop xs k x up.1 e
 
 -- what is past an element passes a test that lets through all that is past it
-past_passes : {X : Type 0} (p q : X → Bool) → ((x : X) → p x ≡ true → q x ≡ true) → (xs : List X) → filter p (filter q xs) ≡ filter p xs
+pub past_passes : {X : Type 0} (p q : X → Bool) → ((x : X) → p x ≡ true → q x ≡ true) → (xs : List X) → filter p (filter q xs) ≡ filter p xs
 past_passes p q on [] = refl
 past_passes {X} p q on (x ∷ xs) = go (q x) (p x) refl refl (past_passes p q on xs)
   where

@@ -341,21 +341,57 @@ fn copy_of(r: &Record) -> Result<Record, StoreFault>
     Ok(r.try_clone()?)
 }
 
-/// The records that a vector covers.
-fn covered(alloc: Global, records: &[Record], within: &Vector) -> Result<Vec<Record>, StoreFault>
-    ensures value { IfOk result (λ v. v.items ≡ cut records.now (number_of within.now)) }
+/// A node's records that a vector covers.
+fn covered(
+    alloc: Global,
+    records: &[Record],
+    node: &NodeId,
+    within: &Vector,
+) -> Result<Vec<Record>, StoreFault>
+    ensures value { IfOk result (λ v. v.items ≡ filter (is_of node.now) (cut records.now (number_of within.now))) }
     ensures memory { IfErr result (λ e. e ≡ store.OutOfMemory) }
 {
     let mut found = Vec::new(alloc);
     for r in records {
-        if is_covered(within, r) {
+        if is_covered(within, r) && is_of(node, r) {
             push(&mut found, copy_of(r)?)?;
         }
     }
     Ok(found)
 }
 
-#[tactic(auto, using(crate::proofs::Cutting::apart_cut))]
+/// A node's live values, forward, of what a vector covers.
+#[tactic(auto, using(crate::proofs::Cutting::apart_cut, crate::proofs::Narrow::own_apart))]
+fn lives_within(
+    alloc: Global,
+    records: &[Record],
+    node: &NodeId,
+    within: &Vector,
+) -> Result<Vec<Held>, StoreFault>
+    requires { IsApart stamp_cmp records.now }
+    ensures value { IfOk result (λ v. v.items ≡ lives (cut records.now (number_of within.now)) node.now) }
+    ensures memory { IfErr result (λ e. e ≡ store.OutOfMemory) }
+{
+    let records = covered(alloc, records, node, within)?;
+    lives_of(alloc, &records, node)
+}
+
+/// A node's modifications, forward, of what a vector covers.
+#[tactic(auto, using(crate::proofs::Cutting::apart_cut, crate::proofs::Narrow::own_apart))]
+fn log_within(
+    alloc: Global,
+    records: &[Record],
+    node: &NodeId,
+    within: &Vector,
+) -> Result<Vec<Entry>, StoreFault>
+    requires { IsApart stamp_cmp records.now }
+    ensures value { IfOk result (λ v. v.items ≡ log (cut records.now (number_of within.now)) node.now) }
+    ensures memory { IfErr result (λ e. e ≡ store.OutOfMemory) }
+{
+    let records = covered(alloc, records, node, within)?;
+    log_of_node(alloc, &records, node)
+}
+
 fn range_in(
     alloc: Global,
     records: &[Record],
@@ -370,15 +406,13 @@ fn range_in(
     ensures value { IfOk result (λ v. v.items ≡ take limit (range_of (cut records.now (number_of within.now)) node.now from to direction)) }
     ensures memory { IfErr result (λ e. e ≡ store.OutOfMemory) }
 {
-    let records = covered(alloc, records, within)?;
-    let mut found = lives_of(alloc, &records, node)?;
+    let mut found = lives_within(alloc, records, node, within)?;
     keep_lives_between(&mut found, from, to);
     turn(direction, &mut found);
     found.truncate(limit);
     Ok(found)
 }
 
-#[tactic(auto, using(crate::proofs::Cutting::apart_cut))]
 fn log_in(
     alloc: Global,
     records: &[Record],
@@ -394,8 +428,7 @@ fn log_in(
     ensures value { IfOk result (λ v. v.items ≡ take limit (log_of (cut records.now (number_of within.now)) node.now from to after direction)) }
     ensures memory { IfErr result (λ e. e ≡ store.OutOfMemory) }
 {
-    let records = covered(alloc, records, within)?;
-    let mut found = log_of_node(alloc, &records, node)?;
+    let mut found = log_within(alloc, records, node, within)?;
     keep_entries_between(&mut found, from, to);
     turn(direction, &mut found);
     keep_entries_after(&mut found, direction, after);
@@ -403,7 +436,6 @@ fn log_in(
     Ok(found)
 }
 
-#[tactic(auto, using(crate::proofs::Cutting::apart_cut))]
 fn outside_in(
     alloc: Global,
     records: &[Record],
@@ -416,8 +448,7 @@ fn outside_in(
     ensures value { IfOk result (λ h. h ≡ outside_of (cut records.now (number_of within.now)) node.now time direction) }
     ensures memory { IfErr result (λ e. e ≡ store.OutOfMemory) }
 {
-    let records = covered(alloc, records, within)?;
-    let mut found = lives_of(alloc, &records, node)?;
+    let mut found = lives_within(alloc, records, node, within)?;
     keep_lives_past(&mut found, direction, time);
     turn(direction, &mut found);
     found.truncate(1);
