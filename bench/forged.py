@@ -301,7 +301,7 @@ def large_messages():
 
 
 def large():
-    """The memory that the largest messages take, which are refused or answered like others: at most 160 bytes for each of theirs."""
+    """The memory that the largest messages take, which are refused or answered like others: at most 80 bytes for each of theirs."""
     room = Room("large", "bench.toml")
     for name, type_id, body in large_messages():
         client = Client()
@@ -315,7 +315,7 @@ def large():
             print(f"large: {name}{', a store' if settings == room.settings else ''}: {run.kilobytes} kB, {run.seconds:.2f} s, {len(run.out)} bytes, status {told:08X}", flush=True)
             if run.status != 0 or run.said or not is_whole(run.out):
                 fault("large", f"{name}: ended by {run.status} {run.said!r}", sent[:400])
-            if run.kilobytes > 160 * 4096:
+            if run.kilobytes > 80 * 4096:
                 fault("large", f"{name}: {run.kilobytes} kB", sent[:400])
 
 
