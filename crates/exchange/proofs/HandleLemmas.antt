@@ -1,9 +1,9 @@
 -- What an end makes of a message, call by call.
-use Rattle.std.proofs.Common.{◌≡◌, ℕ, zero, suc, ◌+◌, ◌-◌, true, false, Bool, List, [], ◌∷◌, take, length, Option, Some, None, Result, Ok, Err, IfOk, IfErr, refl, sym, ap, ◌∙◌, subst, arith, inl, inr, option_to_list}
+use Rattle.std.proofs.Common.{◌≡◌, ◌⊎◌, ◌<◌, ℕ, zero, suc, ◌+◌, ◌-◌, true, false, Bool, List, [], ◌∷◌, take, length, Option, Some, None, Result, Ok, Err, IfOk, IfErr, refl, sym, ap, ◌∙◌, subst, arith, inl, inr, option_to_list}
 use Rattle.std.proofs.lemmas.List.{take_all}
 use Rattle.std.proofs.lemmas.Bool.{true≢false}
 use Rattle.std.proofs.lemmas.Option.{none-some, same_Some}
-use Rattle.std.specs.Prelude.{slice_get, unwrap_or, ◌||◌}
+use Rattle.std.specs.Prelude.{⊤, slice_get, unwrap_or, ◌||◌}
 use Rattle.std.specs.Option.{option_map_or, option_and_then}
 use Rattle.std.specs.Result.{is_ok}
 use Rattle.std.specs.List.{list_any}
@@ -28,11 +28,11 @@ use Rattle.exchange.specs.declared.replica.Batch.{Batch}
 use Rattle.exchange.specs.Batches.{batch_of, Answers}
 use Rattle.exchange.specs.Frames.{IsTitle}
 use Rattle.exchange.specs.Fault.{store_fault_of}
-use Rattle.exchange.specs.Merging.{learned_all, IsRefusal, Meets, Merges}
+use Rattle.exchange.specs.Merging.{learned_all, IsRefusal, Meets, learned_of, MayBeLeft, Merges}
 use Rattle.exchange.proofs.MergeLemmas.{merged_stops}
 use Rattle.exchange.specs.declared.message.Party.{Party}
 use Rattle.records.specs.Contents.{numbers_of}
-use Rattle.exchange.specs.Dialogs.{ended_by, broken_off, is_bare, refusal, refusal_by, learnt, title_by, Turn, failing, asking, carrying, pushing, learning, Way, Clear, Unread, Stopped, Starved, Met, IsWay, gone, fault_on, party_of, Tells, IsSpelledReply, Handles, carries_none, capped, behind}
+use Rattle.exchange.specs.Dialogs.{ended_by, broken_off, is_bare, refusal, refusal_by, learnt, title_by, Turn, failing, asking, carrying, pushing, learning, pulled, Way, Clear, Unread, Stopped, Starved, Met, IsWay, gone, learned_in, fault_on, party_of, IsHeld, Tells, IsSpelledReply, Handles, carries_none, capped, behind}
 use Rattle.archive.proofs.Vectors.{told_is}
 
 abbrev pub reply_by : State → Message → Reply
@@ -59,12 +59,12 @@ module _ (a b : Store) where
       ∙ ap (λ w. let t : Title = record { id = a.id; sender = a.own; vector = w } in t) vector)
 
   pub ask_ok : (v : List ℕ) (state : State) (reply : Reply) → Asks a b (Ok v) (λ v. (replica : ℕ) → number_of v replica ≡ vec a.content replica) → IsVector v
-      → IsTitle (title_in b v) → reply ≡ reply_by state (message.Asks (title_in b v)) → Handles a b [] (asking (party_of a) state a.content) (Ok reply)
+      → IsTitle (title_in b v) → reply ≡ reply_by state (message.Asks (title_in b v)) → Handles a b [] (asking (party_of a) state) (Ok reply)
   ask_ok v state reply asks is fits e = record {
     way = Clear;
     outside = tt;
     clear = refl;
-    tells = λ h. (
+    tells = λ h R held. subst (λ R. Tells R (asking (party_of a) state R) (Ok reply)) (held (in_use a b asks.leaves)) (
       ap (λ (r : Reply). Ok r.state) (sym e),
       ap (λ t. Some (message.Asks t)) (sym (title_is v asks is h)) ∙ ap (λ (r : Reply). r.message) (sym e),
       ap (λ (r : Reply). r.code) (sym e),
@@ -72,20 +72,20 @@ module _ (a b : Store) where
     );
     spelled = subst IsSpelledReply (sym e) fits;
     content = λ h u. asks.stays.content h u;
-    crash = λ h left m. inl (asks.stays.crash h left m);
+    crash = λ h left m. inl (asks.stays.crash h left m, refl);
     passes = passes-leaves a b None asks.leaves;
   }
 
   -- the store failed
-  pub fails : {A : Type 0} (fault : StoreFault) (P : A → Type 0) (turn : Turn) → Asks {A = A} a b (Err fault) P → turn.content ≡ a.content → Handles a b [] turn (Err (exchange.Store fault))
-  fails fault P turn asks e = record {
+  pub fails : {A : Type 0} (fault : StoreFault) (P : A → Type 0) (turn : Content → Turn) → Asks {A = A} a b (Err fault) P → (turn a.content).content ≡ a.content → learned_of [] (turn a.content).result ≡ 0 → Handles a b [] turn (Err (exchange.Store fault))
+  fails fault P turn asks e none = record {
     way = Met fault;
     outside = tt;
     clear = tt;
-    tells = λ h. refl;
+    tells = λ h R held. refl;
     spelled = tt;
     content = λ h u. asks.stays.content h u ∙ sym e;
-    crash = λ h left m. inl (asks.stays.crash h left m);
+    crash = λ h left m. inl (asks.stays.crash h left m, none);
     passes = passes-leaves a b (Some fault) asks.leaves;
   }
 
@@ -95,54 +95,54 @@ module _ (a b c : Store) (v : List ℕ) (w : ℕ → ℕ) (asks : Asks a b (Ok v
   kept : c.honest → (c.honest → b.honest) → b.content ≡ a.content
   kept h back = asks.stays.content (back h) (left_in_use a b asks.leaves)
 
-  pub carry_fails : (fault : ExchangeFault) (turn : Turn) → Answers b c w (Err fault) → turn.content ≡ a.content → Handles a c [] turn (Err fault)
-  carry_fails exchange.OutOfMemory turn answers e = record {
+  pub carry_fails : (fault : ExchangeFault) (turn : Content → Turn) → Answers b c w (Err fault) → (turn a.content).content ≡ a.content → learned_of [] (turn a.content).result ≡ 0 → Handles a c [] turn (Err fault)
+  carry_fails exchange.OutOfMemory turn answers e none = record {
     way = Starved;
     outside = tt;
     clear = tt;
-    tells = λ h. refl;
+    tells = λ h R held. refl;
     spelled = tt;
     content = λ h u. answers.stays.content h u ∙ (kept h answers.passes.honest ∙ sym e);
-    crash = λ h left m. inl (asks.stays.crash (answers.passes.honest h) left (answers.stays.crash h left m));
+    crash = λ h left m. inl (asks.stays.crash (answers.passes.honest h) left (answers.stays.crash h left m), none);
     passes = passes-then a b c [] [] (passes-leaves a b None asks.leaves) answers.passes;
   }
-  carry_fails (exchange.Store fault) turn answers e = record {
+  carry_fails (exchange.Store fault) turn answers e none = record {
     way = Met fault;
     outside = tt;
     clear = tt;
-    tells = λ h. refl;
+    tells = λ h R held. refl;
     spelled = tt;
     content = λ h u. answers.stays.content h u ∙ (kept h answers.passes.honest ∙ sym e);
-    crash = λ h left m. inl (asks.stays.crash (answers.passes.honest h) left (answers.stays.crash h left m));
+    crash = λ h left m. inl (asks.stays.crash (answers.passes.honest h) left (answers.stays.crash h left m), none);
     passes = passes-then a b c [] (fault ∷ []) (passes-leaves a b None asks.leaves) answers.passes;
   }
-  carry_fails exchange.Frame turn answers e = absurd answers.only
-  carry_fails exchange.WrongArchive turn answers e = absurd answers.only
-  carry_fails (exchange.Learn learned cause) turn answers e = absurd answers.only
-  carry_fails exchange.SelfPeer turn answers e = absurd answers.only
-  carry_fails exchange.TooLong turn answers e = absurd answers.only
-  carry_fails exchange.PeerFormat turn answers e = absurd answers.only
+  carry_fails exchange.Frame turn answers e none = absurd answers.only
+  carry_fails exchange.WrongArchive turn answers e none = absurd answers.only
+  carry_fails (exchange.Learn learned cause) turn answers e none = absurd answers.only
+  carry_fails exchange.SelfPeer turn answers e none = absurd answers.only
+  carry_fails exchange.TooLong turn answers e none = absurd answers.only
+  carry_fails exchange.PeerFormat turn answers e none = absurd answers.only
 
   -- memory was wanting for what is sent, or a store that isn't honest gave what can't be
-  pub carry_starves : (batch : Batch) (fault : ExchangeFault) (turn : Turn) → Answers b c w (Ok batch) → fault ≡ exchange.OutOfMemory → turn.content ≡ a.content → Handles a c [] turn (Err fault)
-  carry_starves batch fault turn answers f e = subst (λ x. Handles a c [] turn (Err x)) (sym f) (record {
+  pub carry_starves : (batch : Batch) (fault : ExchangeFault) (turn : Content → Turn) → Answers b c w (Ok batch) → fault ≡ exchange.OutOfMemory → (turn a.content).content ≡ a.content → learned_of [] (turn a.content).result ≡ 0 → Handles a c [] turn (Err fault)
+  carry_starves batch fault turn answers f e none = subst (λ x. Handles a c [] turn (Err x)) (sym f) (record {
     way = Starved;
     outside = tt;
     clear = tt;
-    tells = λ h. refl;
+    tells = λ h R held. refl;
     spelled = tt;
     content = λ h u. answers.stays.content h u ∙ (kept h answers.passes.honest ∙ sym e);
-    crash = λ h left m. inl (asks.stays.crash (answers.passes.honest h) left (answers.stays.crash h left m));
+    crash = λ h left m. inl (asks.stays.crash (answers.passes.honest h) left (answers.stays.crash h left m), none);
     passes = passes-then a b c [] [] (passes-leaves a b None asks.leaves) answers.passes;
   })
 
   pub carry_ok : (batch : Batch) (state : State) (reply : Reply) → Answers b c w (Ok batch) → IsVector v → IsSpelledReply reply
-      → reply ≡ reply_by state (message.Carries (title_in c v) batch.records) → Handles a c [] (carrying (party_of a) state a.content (batch_of a.content w)) (Ok reply)
+      → reply ≡ reply_by state (message.Carries (title_in c v) batch.records) → Handles a c [] (λ R. carrying (party_of a) state R (batch_of R w)) (Ok reply)
   carry_ok batch state reply answers is spelled e = record {
     way = Clear;
     outside = tt;
     clear = refl;
-    tells = λ h. (
+    tells = λ h R held. subst (λ R. Tells R (carrying (party_of a) state R (batch_of R w)) (Ok reply)) (held (in_use a b asks.leaves)) (
       ap (λ (r : Reply). Ok r.state) (sym e),
       ap (λ t. Some (message.Carries t (batch_of a.content w))) (sym (title h)) ∙ (ap (λ rs. Some (message.Carries (title_in c v) rs)) (sym (records h)) ∙ ap (λ (r : Reply). r.message) (sym e)),
       ap (λ (r : Reply). r.code) (sym e),
@@ -150,7 +150,7 @@ module _ (a b c : Store) (v : List ℕ) (w : ℕ → ℕ) (asks : Asks a b (Ok v
     );
     spelled = spelled;
     content = λ h u. answers.stays.content h u ∙ kept h answers.passes.honest;
-    crash = λ h left m. inl (asks.stays.crash (answers.passes.honest h) left (answers.stays.crash h left m));
+    crash = λ h left m. inl (asks.stays.crash (answers.passes.honest h) left (answers.stays.crash h left m), refl);
     passes = passes-then a b c [] [] (passes-leaves a b None asks.leaves) answers.passes;
   }
     where
@@ -168,58 +168,81 @@ module _ (a b c : Store) (v : List ℕ) (w : ℕ → ℕ) (asks : Asks a b (Ok v
 -- what was to be sent is, or memory was wanting
 pub carry_sends : (a b c : Store) (v : List ℕ) (w : ℕ → ℕ) (batch : Batch) (state : State) (t : Title) (result : Result Reply ExchangeFault) → Asks a b (Ok v) (λ v. (replica : ℕ) → number_of v replica ≡ vec a.content replica)
     → Answers b c w (Ok batch) → IsVector v → t ≡ title_in c v → IfOk result (λ r. (r ≡ reply_by state (message.Carries t batch.records)) × IsSpelledReply r) → IfErr result (λ e. e ≡ exchange.OutOfMemory)
-    → Handles a c [] (carrying (party_of a) state a.content (batch_of a.content w)) result
+    → Handles a c [] (λ R. carrying (party_of a) state R (batch_of R w)) result
 carry_sends a b c v w batch state t (Ok reply) asks answers is e ok err =
     carry_ok a b c v w asks batch state reply answers is ok.1 (ok.0 ∙ ap (λ (x : Title). reply_by state (message.Carries x batch.records)) e)
-carry_sends a b c v w batch state t (Err fault) asks answers is e ok err = carry_starves a b c v w asks batch fault _ answers err refl
+carry_sends a b c v w batch state t (Err fault) asks answers is e ok err = carry_starves a b c v w asks batch fault _ answers err refl refl
 
 -- ---- pushing
 
-told_clear : (a c : Store) (turn : Turn) (reply : Reply) → (handles : Handles a c [] turn (Ok reply)) → c.honest → Tells a.content turn (Ok reply)
-told_clear a c turn reply handles h = subst (λ w. Tells a.content (gone w a.content [] turn) (Ok reply)) handles.clear (handles.tells h)
+told_clear : (a c : Store) (turn : Content → Turn) (reply : Reply) → (handles : Handles a c [] turn (Ok reply)) → c.honest → (R : Content) → IsHeld a R → Tells R (turn R) (Ok reply)
+told_clear a c turn reply handles h R held = subst (λ w. Tells R (gone w R [] (turn R)) (Ok reply)) handles.clear (handles.tells h R held)
 
-left_clear : (a c : Store) (turn : Turn) (reply : Reply) → (handles : Handles a c [] turn (Ok reply)) → c.honest → c.broken ≡ false → c.content ≡ turn.content
-left_clear a c turn reply handles h u = subst (λ w. c.content ≡ (gone w a.content [] turn).content) handles.clear (handles.content h u)
+left_clear : (a c : Store) (turn : Content → Turn) (reply : Reply) → (handles : Handles a c [] turn (Ok reply)) → c.honest → c.broken ≡ false → c.content ≡ (turn a.content).content
+left_clear a c turn reply handles h u = subst (λ w. c.content ≡ (gone w a.content [] (turn a.content)).content) handles.clear (handles.content h u)
 
-pushed_content : (p : Party) (R : Content) (rs : List Record) → (pushing p R rs).content ≡ R
+pub pushed_content : (p : Party) (R : Content) (rs : List Record) → (pushing p R rs).content ≡ R
 pushed_content p R [] = refl
 pushed_content p R (r ∷ rs) = refl
 
+-- where there are no records a crash leaves what it could leave, or the content
+left_none : (a : Store) (n : ℕ) (left : Content) → MayBeLeft a [] n left → a.may_hold left ⊎ ((a.broken ≡ false) × (left ≡ a.content))
+left_none a n left (inl old) = inl old.0
+left_none a n left (inr q) = inr (q.0, q.4 ∙ none q.1)
+  where
+    none : (k : ℕ) → merged (take k []) a.content ≡ a.content
+    none zero = refl
+    none (suc k) = refl
+
+none_left : (a : Store) (n : ℕ) (left : Content) → n ≡ 0 → a.may_hold left ⊎ ((a.broken ≡ false) × (left ≡ a.content)) → MayBeLeft a [] n left
+none_left a n left none (inl old) = inl (old, none)
+none_left a n left none (inr q) = inr (q.0, 0, omega (arith, none), omega arith, q.1)
+
+pushed_none : (p : Party) (R : Content) (rs : List Record) (w : Way) → IsWay [] w → learned_in w [] (pushing p R rs) ≡ 0
+pushed_none p R [] Clear is = refl
+pushed_none p R (r ∷ rs) Clear is = refl
+pushed_none p R rs Unread is = refl
+pushed_none p R rs (Stopped k fault) is = absurd (omega (arith, is))
+pushed_none p R [] Starved is = refl
+pushed_none p R (r ∷ rs) Starved is = refl
+pushed_none p R [] (Met fault) is = refl
+pushed_none p R (r ∷ rs) (Met fault) is = refl
+
 -- what was to carry records carries none: the dialog ends
-pub push_ends : (a c : Store) (rs : List Record) (reply ends : Reply) → Handles a c [] (carrying (party_of a) state.Pushing a.content rs) (Ok reply) → carries_none reply ≡ true
-    → ends ≡ reply_by state.Done (message.Ends 0) → Handles a c [] (pushing (party_of a) a.content rs) (Ok ends)
+pub push_ends : (a c : Store) (rs : Content → List Record) (reply ends : Reply) → Handles a c [] (λ R. carrying (party_of a) state.Pushing R (rs R)) (Ok reply) → carries_none reply ≡ true
+    → ends ≡ reply_by state.Done (message.Ends 0) → Handles a c [] (λ R. pushing (party_of a) R (rs R)) (Ok ends)
 push_ends a c rs reply ends handles none e = record {
   way = Clear;
   outside = tt;
   clear = refl;
-  tells = λ h. tells rs (told_clear a c (carrying (party_of a) state.Pushing a.content rs) reply handles h);
+  tells = λ h R held. tells R (rs R) (told_clear a c (λ R. carrying (party_of a) state.Pushing R (rs R)) reply handles h R held);
   spelled = subst IsSpelledReply (sym e) (omega arith);
-  content = λ h u. left_clear a c (carrying (party_of a) state.Pushing a.content rs) reply handles h u ∙ sym (pushed_content (party_of a) a.content rs);
-  crash = handles.crash;
+  content = λ h u. left_clear a c (λ R. carrying (party_of a) state.Pushing R (rs R)) reply handles h u ∙ sym (pushed_content (party_of a) a.content (rs a.content));
+  crash = λ h left m. none_left a _ left (pushed_none (party_of a) a.content (rs a.content) Clear tt) (left_none a _ left (handles.crash h left m));
   passes = subst (λ w. Passes a c (option_to_list (fault_on w))) handles.clear handles.passes;
 }
   where
-    tells : (xs : List Record) → Tells a.content (carrying (party_of a) state.Pushing a.content xs) (Ok reply) → Tells a.content (pushing (party_of a) a.content xs) (Ok ends)
-    tells [] told = (ap (λ (r : Reply). Ok r.state) (sym e), ap (λ (r : Reply). r.message) (sym e), ap (λ (r : Reply). r.code) (sym e), none_added a.content ∙ ap (λ (r : Reply). r.learned) (sym e))
-    tells (x ∷ xs) told = absurd (true≢false (sym none ∙ ap (λ o. option_map_or is_bare o false) (sym told.1)))
+    tells : (R : Content) (xs : List Record) → Tells R (carrying (party_of a) state.Pushing R xs) (Ok reply) → Tells R (pushing (party_of a) R xs) (Ok ends)
+    tells R [] told = (ap (λ (r : Reply). Ok r.state) (sym e), ap (λ (r : Reply). r.message) (sym e), ap (λ (r : Reply). r.code) (sym e), none_added R ∙ ap (λ (r : Reply). r.learned) (sym e))
+    tells R (x ∷ xs) told = absurd (true≢false (sym none ∙ ap (λ o. option_map_or is_bare o false) (sym told.1)))
 
 -- it carries some
-pub push_goes : (a c : Store) (rs : List Record) (reply : Reply) → Handles a c [] (carrying (party_of a) state.Pushing a.content rs) (Ok reply) → carries_none reply ≡ false
-    → Handles a c [] (pushing (party_of a) a.content rs) (Ok reply)
+pub push_goes : (a c : Store) (rs : Content → List Record) (reply : Reply) → Handles a c [] (λ R. carrying (party_of a) state.Pushing R (rs R)) (Ok reply) → carries_none reply ≡ false
+    → Handles a c [] (λ R. pushing (party_of a) R (rs R)) (Ok reply)
 push_goes a c rs reply handles some = record {
   way = Clear;
   outside = tt;
   clear = refl;
-  tells = λ h. tells rs (told_clear a c (carrying (party_of a) state.Pushing a.content rs) reply handles h);
+  tells = λ h R held. tells R (rs R) (told_clear a c (λ R. carrying (party_of a) state.Pushing R (rs R)) reply handles h R held);
   spelled = handles.spelled;
-  content = λ h u. left_clear a c (carrying (party_of a) state.Pushing a.content rs) reply handles h u ∙ sym (pushed_content (party_of a) a.content rs);
-  crash = handles.crash;
+  content = λ h u. left_clear a c (λ R. carrying (party_of a) state.Pushing R (rs R)) reply handles h u ∙ sym (pushed_content (party_of a) a.content (rs a.content));
+  crash = λ h left m. none_left a _ left (pushed_none (party_of a) a.content (rs a.content) Clear tt) (left_none a _ left (handles.crash h left m));
   passes = subst (λ w. Passes a c (option_to_list (fault_on w))) handles.clear handles.passes;
 }
   where
-    tells : (xs : List Record) → Tells a.content (carrying (party_of a) state.Pushing a.content xs) (Ok reply) → Tells a.content (pushing (party_of a) a.content xs) (Ok reply)
-    tells [] told = absurd (true≢false (ap (λ o. option_map_or is_bare o false) told.1 ∙ some))
-    tells (x ∷ xs) told = told
+    tells : (R : Content) (xs : List Record) → Tells R (carrying (party_of a) state.Pushing R xs) (Ok reply) → Tells R (pushing (party_of a) R xs) (Ok reply)
+    tells R [] told = absurd (true≢false (ap (λ o. option_map_or is_bare o false) told.1 ∙ some))
+    tells R (x ∷ xs) told = told
 
 -- ---- learning
 
@@ -235,31 +258,31 @@ tells_fault : (R Y : Content) (f : ExchangeFault) (result : Result Reply Exchang
 tells_fault R Y f result e = subst (Tells R (failing Y f)) (sym e) refl
 
 -- what was to carry records failed
-pub push_fails : (a c : Store) (rs : List Record) (fault : ExchangeFault) → Handles a c [] (carrying (party_of a) state.Pushing a.content rs) (Err fault) → Handles a c [] (pushing (party_of a) a.content rs) (Err fault)
+pub push_fails : (a c : Store) (rs : Content → List Record) (fault : ExchangeFault) → Handles a c [] (λ R. carrying (party_of a) state.Pushing R (rs R)) (Err fault) → Handles a c [] (λ R. pushing (party_of a) R (rs R)) (Err fault)
 push_fails a c rs fault handles = record {
   way = handles.way;
   outside = handles.outside;
   clear = tt;
-  tells = λ h. tells handles.way handles.outside (handles.tells h);
+  tells = λ h R held. tells R handles.way handles.outside (handles.tells h R held);
   spelled = tt;
   content = λ h u. handles.content h u ∙ left handles.way;
-  crash = handles.crash;
+  crash = λ h left m. none_left a _ left (pushed_none (party_of a) a.content (rs a.content) handles.way handles.outside) (left_none a _ left (handles.crash h left m));
   passes = handles.passes;
 }
   where
-    tells : (w : Way) → IsWay [] w → Tells a.content (gone w a.content [] (carrying (party_of a) state.Pushing a.content rs)) (Err fault) → Tells a.content (gone w a.content [] (pushing (party_of a) a.content rs)) (Err fault)
-    tells Clear is told = absurd (true≢false (ap is_ok (ap (λ (t : Turn). t.result) told)))
-    tells Unread is told = told
-    tells (Stopped k f) is told = absurd (omega (arith, is))
-    tells Starved is told = tells_fault a.content _ _ (Err fault) (fault_told a.content _ _ (Err fault) told)
-    tells (Met f) is told = tells_fault a.content _ _ (Err fault) (fault_told a.content _ _ (Err fault) told)
+    tells : (R : Content) (w : Way) → IsWay [] w → Tells R (gone w R [] (carrying (party_of a) state.Pushing R (rs R))) (Err fault) → Tells R (gone w R [] (pushing (party_of a) R (rs R))) (Err fault)
+    tells R Clear is told = absurd (true≢false (ap is_ok (ap (λ (t : Turn). t.result) told)))
+    tells R Unread is told = told
+    tells R (Stopped k f) is told = absurd (omega (arith, is))
+    tells R Starved is told = tells_fault R _ _ (Err fault) (fault_told R _ _ (Err fault) told)
+    tells R (Met f) is told = tells_fault R _ _ (Err fault) (fault_told R _ _ (Err fault) told)
 
-    left : (w : Way) → (gone w a.content [] (carrying (party_of a) state.Pushing a.content rs)).content ≡ (gone w a.content [] (pushing (party_of a) a.content rs)).content
-    left Clear = sym (pushed_content (party_of a) a.content rs)
+    left : (w : Way) → (gone w a.content [] (carrying (party_of a) state.Pushing a.content (rs a.content))).content ≡ (gone w a.content [] (pushing (party_of a) a.content (rs a.content))).content
+    left Clear = sym (pushed_content (party_of a) a.content (rs a.content))
     left Unread = refl
     left (Stopped k f) = refl
-    left Starved = sym (pushed_content (party_of a) a.content rs)
-    left (Met f) = sym (pushed_content (party_of a) a.content rs)
+    left Starved = sym (pushed_content (party_of a) a.content (rs a.content))
+    left (Met f) = sym (pushed_content (party_of a) a.content (rs a.content))
 
 -- where all are learned, nothing is refused
 none_refused_all : (rs : List Record) (k : ℕ) (R S : Content) → learned_all rs R ≡ Some S → refusal k R rs ≡ None
@@ -309,7 +332,7 @@ first_refused (r ∷ rs) (suc k) j R S next cause e there told = go (λ T h. fir
     go rest TickTooFar is = none (ap (after_finding R r) is)
     go rest TickNotRising is = none (ap (after_finding R r) is)
 
-learnt_content : (p : Party) (state : State) (R : Content) (o : Option ExchangeFault) → (learnt p state R o).content ≡ R
+pub learnt_content : (p : Party) (state : State) (R : Content) (o : Option ExchangeFault) → (learnt p state R o).content ≡ R
 learnt_content p state R None = refl
 learnt_content p state R (Some fault) = refl
 
@@ -334,7 +357,7 @@ lifted (Met fault) = Met fault
 
 -- all were learned, and the own vector is to be sent
 module _ (a b c : Store) (rs : List Record) (n : ℕ) (state : State) (asked : Result Reply ExchangeFault)
-    (merges : Merges a b rs (Ok n)) (handles : Handles b c [] (asking (party_of b) state b.content) asked) (ended : b.broken ≡ true → asked ≡ Err (exchange.Store Broken)) where
+    (merges : Merges a b rs (Ok n)) (handles : Handles b c [] (asking (party_of b) state) asked) (ended : b.broken ≡ true → asked ≡ Err (exchange.Store Broken)) where
   learning_is : c.honest → learning (party_of a) state a.content rs ≡ asking (party_of a) state (merged rs a.content)
   learning_is h = ap (learnt (party_of a) state (merged rs a.content)) (none_refused_all rs 0 a.content (merged rs a.content) (merges.tells (handles.passes.honest h)).0)
 
@@ -363,16 +386,17 @@ module _ (a b c : Store) (rs : List Record) (n : ℕ) (state : State) (asked : R
   )
   behind_tells h (Err fault) same told = absurd (true≢false (ap is_ok (ap (λ (t : Turn). t.result) told)))
 
-  lifted_tells : (w : Way) → c.honest → IsWay [] w → Tells b.content (gone w b.content [] (asking (party_of b) state b.content)) asked → Tells a.content (gone (lifted w) a.content rs (learning (party_of a) state a.content rs)) (behind n asked)
-  lifted_tells Clear h is told = go b.broken refl
+  lifted_tells : (w : Way) → c.honest → IsWay [] w → Tells b.content (gone w b.content [] (asking (party_of b) state b.content)) asked → (R : Content) → IsHeld a R
+      → Tells R (gone (lifted w) R rs (learning (party_of a) state R rs)) (behind n asked)
+  lifted_tells Clear h is told R held = go b.broken refl
     where
-      go : (x : Bool) → b.broken ≡ x → Tells a.content (learning (party_of a) state a.content rs) (behind n asked)
+      go : (x : Bool) → b.broken ≡ x → Tells R (learning (party_of a) state R rs) (behind n asked)
       go true e = absurd (true≢false (ap is_ok (ap (λ (t : Turn). t.result) (subst (Tells b.content (asking (party_of b) state b.content)) (ended e) told))))
-      go false e = behind_tells h asked (asking_is h e) told
-  lifted_tells Unread h is told = tells_fault a.content _ _ (behind n asked) (ap (behind n) (fault_told b.content _ _ asked told))
-  lifted_tells (Stopped k fault) h is told = absurd (omega (arith, is))
-  lifted_tells Starved h is told = tells_fault a.content _ _ (behind n asked) (ap (behind n) (fault_told b.content _ _ asked told))
-  lifted_tells (Met fault) h is told = tells_fault a.content _ _ (behind n asked) (ap (behind n) (fault_told b.content _ _ asked told))
+      go false e = subst (λ R. Tells R (learning (party_of a) state R rs) (behind n asked)) (held (unbroken_before a b [] merges.passes e)) (behind_tells h asked (asking_is h e) told)
+  lifted_tells Unread h is told R held = tells_fault R _ _ (behind n asked) (ap (behind n) (fault_told b.content _ _ asked told))
+  lifted_tells (Stopped k fault) h is told R held = absurd (omega (arith, is))
+  lifted_tells Starved h is told R held = tells_fault R _ _ (behind n asked) (ap (behind n) (fault_told b.content _ _ asked told))
+  lifted_tells (Met fault) h is told R held = tells_fault R _ _ (behind n asked) (ap (behind n) (fault_told b.content _ _ asked told))
 
   left_by : (w : Way) → IsWay [] w → (gone w b.content [] (asking (party_of b) state b.content)).content ≡ b.content
   left_by Clear is = refl
@@ -387,6 +411,13 @@ module _ (a b c : Store) (rs : List Record) (n : ℕ) (state : State) (asked : R
   lifted_left (Stopped k fault) is = absurd (omega (arith, is))
   lifted_left Starved is = learnt_content (party_of a) state (merged rs a.content) (refusal 0 a.content rs)
   lifted_left (Met fault) is = learnt_content (party_of a) state (merged rs a.content) (refusal 0 a.content rs)
+
+  lifted_learned : c.honest → (w : Way) → IsWay [] w → learned_in (lifted w) rs (learning (party_of a) state a.content rs) ≡ length rs
+  lifted_learned h Clear is = ap (λ (t : Turn). learned_of rs t.result) (learning_is h)
+  lifted_learned h Unread is = ap (λ (t : Turn). learned_of rs t.result) (learning_is h)
+  lifted_learned h (Stopped k fault) is = absurd (omega (arith, is))
+  lifted_learned h Starved is = ap (λ (t : Turn). learned_of rs t.result) (learning_is h)
+  lifted_learned h (Met fault) is = ap (λ (t : Turn). learned_of rs t.result) (learning_is h)
 
   lifted_faults : (w : Way) → fault_on (lifted w) ≡ fault_on w
   lifted_faults Clear = refl
@@ -403,26 +434,22 @@ module _ (a b c : Store) (rs : List Record) (n : ℕ) (state : State) (asked : R
   behind_spelled (Ok reply) is = is
   behind_spelled (Err fault) is = tt
 
-  pub learn_asks : Handles a c rs (learning (party_of a) state a.content rs) (behind n asked)
+  pub learn_asks : Handles a c rs (λ R. learning (party_of a) state R rs) (behind n asked)
   learn_asks = record {
     way = lifted handles.way;
     outside = lifted_outside handles.way handles.outside;
     clear = lifted_clear asked handles.clear;
-    tells = λ h. lifted_tells handles.way h handles.outside (handles.tells h);
+    tells = λ h. lifted_tells handles.way h handles.outside (handles.tells h b.content (λ u. refl));
     spelled = behind_spelled asked handles.spelled;
     content = λ h u.
         let used : b.broken ≡ false = unbroken_before b c _ handles.passes u in
         handles.content h u ∙ (left_by handles.way handles.outside ∙ (left_is h used ∙ sym (lifted_left handles.way handles.outside)));
-    crash = λ h left m. elim (handles.crash h left m) [
-      | inl before ↦ elim (merges.crash (handles.passes.honest h) left before) [ inl old ↦ inl old.0 | inr q ↦ inr (q.0, q.1, q.4) ]
-      | inr q ↦ inr (unbroken_before a b [] merges.passes q.0, length rs, q.2 ∙ (left_by_take q.1 ∙ (left_is h q.0 ∙ ap (λ xs. merged xs a.content) (sym (take_all (length rs) rs (omega arith))))))
-    ];
+    crash = λ h left m. subst (λ n. MayBeLeft a rs n left) (sym (lifted_learned h handles.way handles.outside)) (elim (left_none b _ left (handles.crash h left m)) [
+      | inl before ↦ merges.crash (handles.passes.honest h) left before
+      | inr q ↦ inr (unbroken_before a b [] merges.passes q.0, length rs, omega arith, omega arith, q.1 ∙ (left_is h q.0 ∙ ap (λ xs. merged xs a.content) (sym (take_all (length rs) rs (omega arith)))))
+    ]);
     passes = subst (λ o. Passes a c (option_to_list o)) (sym (lifted_faults handles.way)) (passes-then a b c [] (option_to_list (fault_on handles.way)) merges.passes handles.passes);
   }
-    where
-      left_by_take : (k : ℕ) → merged (take k []) b.content ≡ b.content
-      left_by_take zero = refl
-      left_by_take (suc k) = refl
 
 meets_refusal : (S : Content) (r : Record) (cause : LearnFault) → IsRefusal cause → Meets S r cause → answer_to (finding S r) ≡ Err cause
 meets_refusal S r (refused.Gap held got) is met = met
@@ -438,33 +465,48 @@ no_fault k refused.TickNotRising is = refl
 no_fault k refused.TickTooFar is = refl
 no_fault k (refused.Store fault) is = absurd is
 
-refuses : (a b : Store) (rs : List Record) (state : State) (k : ℕ) (cause : LearnFault) → Merges a b rs (Err (exchange.Learn k cause)) → IsRefusal cause → Handles a b rs (learning (party_of a) state a.content rs) (Err (exchange.Learn k cause))
+refuses : (a b : Store) (rs : List Record) (state : State) (k : ℕ) (cause : LearnFault) → Merges a b rs (Err (exchange.Learn k cause)) → IsRefusal cause → Handles a b rs (λ R. learning (party_of a) state R rs) (Err (exchange.Learn k cause))
 refuses a b rs state k cause merges is = record {
   way = Clear;
   outside = tt;
   clear = tt;
-  tells = λ h.
-      let stops = merges.tells.1 h in
-      let is_refused = first_refused rs k 0 a.content (merged (take k rs) a.content) stops.next cause stops.held stops.there (meets_refusal _ stops.next cause is stops.met) in
-      let at : 0 + k ≡ k = omega arith in
-      let turn : learning (party_of a) state a.content rs ≡ failing (merged rs a.content) (exchange.Learn k cause) = ap (learnt (party_of a) state (merged rs a.content)) (is_refused ∙ ap (λ n. Some (exchange.Learn n cause)) at) in
-      turn ∙ ap (λ R. failing R (exchange.Learn k cause)) (sym (learnt_content (party_of a) state (merged rs a.content) (refusal 0 a.content rs)));
+  tells = λ h R held. subst (λ R. Tells R (learning (party_of a) state R rs) (Err (exchange.Learn k cause))) (held (used a.broken refl))
+      (turn h ∙ ap (λ R. failing R (exchange.Learn k cause)) (sym (learnt_content (party_of a) state (merged rs a.content) (refusal 0 a.content rs))));
   spelled = tt;
   content = λ h u. merges.content h u ∙ (sym (merged_stops a.content rs k cause (merges.tells.1 h) is) ∙ sym (learnt_content (party_of a) state (merged rs a.content) (refusal 0 a.content rs)));
-  crash = λ h left m. elim (merges.crash h left m) [ inl old ↦ inl old.0 | inr q ↦ inr (q.0, q.1, q.4) ];
+  crash = λ h left m. subst (λ n. MayBeLeft a rs n left) (sym (ap (λ (t : Turn). learned_of rs t.result) (turn h))) (merges.crash h left m);
   passes = subst (Passes a b) (no_fault k cause is) merges.passes;
 }
+  where
+    turn : b.honest → learning (party_of a) state a.content rs ≡ failing (merged rs a.content) (exchange.Learn k cause)
+    turn h =
+        let stops = merges.tells.1 h in
+        let is_refused = first_refused rs k 0 a.content (merged (take k rs) a.content) stops.next cause stops.held stops.there (meets_refusal _ stops.next cause is stops.met) in
+        let at : 0 + k ≡ k = omega arith in
+        ap (learnt (party_of a) state (merged rs a.content)) (is_refused ∙ ap (λ n. Some (exchange.Learn n cause)) at)
+
+    refused_by : Result ℕ ExchangeFault → Type 0
+    refused_by (Err (exchange.Learn k cause)) = IsRefusal cause
+    refused_by result = ⊤
+
+    few : (n : ℕ) → k < n → 0 < n
+    few n less = omega (arith, less)
+
+    -- a broken store refuses no record
+    used : (x : Bool) → a.broken ≡ x → a.broken ≡ false
+    used true e = absurd (subst refused_by (merges.ended e (few (length rs) merges.tells.0)) is)
+    used false e = e
 
 -- one was refused, or the store failed at it
-pub learn_stops : (a b : Store) (rs : List Record) (state : State) (fault : ExchangeFault) → Merges a b rs (Err fault) → Handles a b rs (learning (party_of a) state a.content rs) (Err fault)
+pub learn_stops : (a b : Store) (rs : List Record) (state : State) (fault : ExchangeFault) → Merges a b rs (Err fault) → Handles a b rs (λ R. learning (party_of a) state R rs) (Err fault)
 learn_stops a b rs state (exchange.Learn k (refused.Store fault)) merges = record {
   way = Stopped k fault;
   outside = merges.tells.0;
   clear = tt;
-  tells = λ h. refl;
+  tells = λ h R held. refl;
   spelled = tt;
   content = λ h u. merges.content h u;
-  crash = λ h left m. elim (merges.crash h left m) [ inl old ↦ inl old.0 | inr q ↦ inr (q.0, q.1, q.4) ];
+  crash = merges.crash;
   passes = merges.passes;
 }
 learn_stops a b rs state (exchange.Learn k refused.Clash) merges = refuses a b rs state k refused.Clash merges tt
@@ -479,16 +521,27 @@ learn_stops a b rs state (exchange.Store fault) merges = absurd merges.tells
 learn_stops a b rs state exchange.TooLong merges = absurd merges.tells
 learn_stops a b rs state exchange.PeerFormat merges = absurd merges.tells
 
+-- the initiator pulls: a batch of no record is answered by what the peer lacks, and others are learned
+pub pulled_none : (a c : Store) (t : Title) (rs : List Record) (result : Result Reply ExchangeFault) → rs ≡ [] → Handles a c [] (λ R. pushing (party_of a) R (batch_of R (number_of t.vector))) result
+    → Handles a c rs (λ R. pulled (party_of a) R t rs) result
+pulled_none a c t [] result none handles = handles
+pulled_none a c t (r ∷ rs) result none handles = absurd (cc)
+
+pub pulled_some : (a c : Store) (t : Title) (rs : List Record) (result : Result Reply ExchangeFault) → (rs ≡ [] → ⊥) → Handles a c rs (λ R. learning (party_of a) state.Pulling R rs) result → Handles a c rs (λ R. pulled (party_of a) R t rs) result
+pulled_some a c t [] result some handles = absurd (some refl)
+pulled_some a c t (r ∷ rs) result some handles = handles
+
 -- the store wasn't asked
-pub unmoved : (a : Store) (rs : List Record) (turn : Turn) (result : Result Reply ExchangeFault) → Tells a.content turn result → turn.content ≡ a.content → IfOk result IsSpelledReply → Handles a a rs turn result
-unmoved a rs turn result told kept spelled = record {
+pub unmoved : (a : Store) (rs : List Record) (turn : Content → Turn) (result : Result Reply ExchangeFault) → ((R : Content) → Tells R (turn R) result) → (turn a.content).content ≡ a.content → learned_of rs (turn a.content).result ≡ 0
+    → IfOk result IsSpelledReply → Handles a a rs turn result
+unmoved a rs turn result told kept none spelled = record {
   way = Clear;
   outside = tt;
   clear = clear result;
-  tells = λ h. told;
+  tells = λ h R held. told R;
   spelled = spelled;
   content = λ h u. sym kept;
-  crash = λ h left m. inl m;
+  crash = λ h left m. inl (m, none);
   passes = passes-none a;
 }
   where
@@ -499,6 +552,10 @@ unmoved a rs turn result told kept spelled = record {
 pub broken_kept : (R : Content) (n : ℕ) → (broken_off R n).content ≡ R
 broken_kept R zero = refl
 broken_kept R (suc n) = refl
+
+pub broken_none : (R : Content) (n : ℕ) → learned_of [] (broken_off R n).result ≡ 0
+broken_none R zero = refl
+broken_none R (suc n) = refl
 
 pub breaks_off : (n : ℕ) (reply : Reply) → (n ≡ 0 → ⊥) → ((R : Content) → Tells R (ended_by R n) (Ok reply)) → (R : Content) → Tells R (broken_off R n) (Ok reply)
 breaks_off zero reply some told R = absurd (some refl)

@@ -75,7 +75,7 @@ module _ (old new : Store) (before after : Standing) (m : Message) (out written 
   answer_is w = ap (Rattle.exchange.specs.Dialogs.answered_to (party_of old) before.state old.content w) got
 
   wrote : (result : Result State ExchangeFault) (takes : Takes old new before after (kind_of m) (body_of m) out written result) → Writes (by_way takes.way) result out written
-  wrote result takes = subst (λ t. Writes t result out written) (answer_is takes.way) (takes.writes honest)
+  wrote result takes = subst (λ t. Writes t result out written) (answer_is takes.way) (takes.writes honest old.content (λ u. refl))
 
   -- only a clear way leads to an Ok
   clear : (s : State) (w : Way) → Writes (by_way w) (Ok s) out written → w ≡ Clear
@@ -89,11 +89,11 @@ module _ (old new : Store) (before after : Standing) (m : Message) (out written 
   clearly s takes =
       let is : takes.way ≡ Clear = clear s takes.way (wrote (Ok s) takes) in
       let turn : answered (party_of old) before old.content takes.way (kind_of m) (body_of m) ≡ turned (party_of old) before.state old.content m = answer_is takes.way ∙ ap by_way is in
-      let wrote : Writes (turned (party_of old) before.state old.content m) (Ok s) out written = subst (λ t. Writes t (Ok s) out written) turn (takes.writes honest) in
+      let wrote : Writes (turned (party_of old) before.state old.content m) (Ok s) out written = subst (λ t. Writes t (Ok s) out written) turn (takes.writes honest old.content (λ u. refl)) in
       record {
         result = result wrote;
         written = bytes wrote;
-        stands = takes.stands honest ∙ ap (standing_after before old.content (kind_of m)) turn;
+        stands = takes.stands honest old.content (λ u. refl) ∙ ap (standing_after before old.content (kind_of m)) turn;
         content = λ u. takes.content honest u ∙ ap (λ (t : Turn). t.content) turn;
         passes = subst (λ w. Passes old new (option_to_list (fault_on w))) is takes.passes;
       }

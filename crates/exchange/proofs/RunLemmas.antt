@@ -1,12 +1,10 @@
 -- One event at one archive.
-use Rattle.std.proofs.Common.{◌≡◌, ℕ, zero, suc, ◌+◌, ◌-◌, ◌^◌, ◌<◌, ◌≤◌, min, ℤ, pos, Bool, true, false, List, [], ◌∷◌, ◌++◌, take, length, get_or, Option, Some, None, Result, Ok, Err, refl, sym, ap, ◌∙◌, subst, arith, inl, inr, ◌⊎◌, option_to_list}
-use Rattle.std.specs.Prelude.{slice_get, unwrap_or, IfOk}
-use Rattle.std.proofs.lemmas.Bool.{true≢false}
+use Rattle.std.proofs.Common.{◌≡◌, ℕ, ◌+◌, ◌-◌, ◌^◌, ◌<◌, ◌≤◌, ℤ, pos, Bool, false, List, [], ◌∷◌, ◌++◌, take, length, get_or, Option, Some, None, Result, Ok, Err, refl, sym, ap, ◌∙◌, subst, arith, inl, inr, ◌⊎◌, option_to_list}
+use Rattle.std.specs.Prelude.{unwrap_or}
 use Rattle.std.proofs.lemmas.List.{take_more}
 use Rattle.std.proofs.lemmas.Option.{slice_get-get_or}
-use Rattle.std.specs.Result.{is_ok}
 use Rattle.ua_binary.specs.declared.codes.Status.{Status}
-use Rattle.ua_binary.specs.declared.codes.TheConstants.Status.{GOOD, BAD_OUT_OF_MEMORY, BAD_RESOURCE_UNAVAILABLE}
+use Rattle.ua_binary.specs.declared.codes.TheConstants.Status.{BAD_OUT_OF_MEMORY, BAD_RESOURCE_UNAVAILABLE}
 use Rattle.ua_services.specs.declared.updates.HistoryUpdateResult.{HistoryUpdateResult}
 use Rattle.ua_variant.specs.declared.update_type.HistoryUpdateType.{HistoryUpdateType}
 use Rattle.ua_variant.specs.declared.update_type.HistoryUpdateType.TheVariants.{Insert, Replace, Update, Delete}
@@ -22,8 +20,8 @@ use Rattle.archive.specs.declared.fault.StoreFault.{StoreFault}
 use Rattle.archive.specs.declared.fault.StoreFault.TheVariants as store
 use Rattle.archive.specs.declared.fault.LearnFault.{LearnFault}
 use Rattle.archive.specs.declared.fault.LearnFault.TheVariants as refused
-use Rattle.archive.specs.Store.{Store, Mark, Fine, Starved, Met, faults_in, faults_of, failed_by, fault_in, raised, Passes, Asks, Learns, HasContent, answer_to, store_fault_in}
-use Rattle.archive.specs.Steps.{Does, Acts, step}
+use Rattle.archive.specs.Store.{Store, Mark, Fine, Starved, Met, faults_of, failed_by, fault_in, raised, Passes, Asks, Learns, HasContent, answer_to, store_fault_in}
+use Rattle.archive.specs.Steps.{Does, Acts}
 use Rattle.archive.proofs.Calls.{passes-none, passes-then}
 use Rattle.archive.proofs.Acting.{acts-as, acts-learned, acts-unlearned, holds-stays}
 use Rattle.hist_update.specs.declared.request.Request.{Request}
@@ -33,7 +31,7 @@ use Rattle.hist_update.specs.Laws.{IsBad}
 use Rattle.hist_update.specs.Updates.{code_by, left_by, unless, begin, all_good, data_refusal, writes, deletes_at, update_data, delete_at}
 use Rattle.hist_update.proofs.Answered.{bad_kept}
 use Rattle.exchange.specs.declared.world.Halted.{Halted}
-use Rattle.exchange.specs.Merging.{AreLearned, Meets, IsRefusal, StopsAt}
+use Rattle.exchange.specs.Merging.{AreLearned, Meets, IsRefusal}
 use Rattle.exchange.specs.Running.{Turns, IsSame, HasFirst, EndsBy, IsClear, code_of}
 use Rattle.exchange.proofs.MergeLemmas.{are_learned_push, learned_told, refused_left, merged_stops}
 

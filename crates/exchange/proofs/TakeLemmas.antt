@@ -19,20 +19,21 @@ use Rattle.exchange.specs.declared.message.State.TheVariants as state
 use Rattle.exchange.specs.declared.dialog.Reply.{Reply}
 use Rattle.exchange.specs.declared.dialog.Progress.{Progress}
 use Rattle.exchange.specs.Frames.{frame_of, message_at}
-use Rattle.exchange.specs.Dialogs.{Turn, failing, turned, title_by, Way, Clear, Unread, Stopped, Starved, Met, IsWay, gone, fault_on, records_in, records_read, Standing, unfit, received, answered, answered_to, standing_after, taken_after, party_of, bytes_of, Tells, TellsFault, Handles, Writes, Takes, Greets, Sends, SendsHandled, AnswersTo, Concludes, capped, counted_by, added_to, carried}
+use Rattle.exchange.specs.Dialogs.{Turn, failing, turned, title_by, Way, Clear, Unread, Stopped, Starved, Met, IsWay, gone, learned_in, learned_at, fault_on, records_in, records_read, Standing, unfit, received, answered, answered_to, standing_after, taken_after, party_of, bytes_of, IsHeld, Tells, TellsFault, Handles, Writes, Takes, Greets, Sends, SendsHandled, AnswersTo, Concludes, capped, counted_by, added_to, carried}
+use Rattle.exchange.specs.Merging.{MayBeLeft}
 use Rattle.exchange.proofs.HandleLemmas.{title_in, title_is}
 
 -- ---- what was handled is written
 
 pub answers_sent : (a c : Store) (state : State) (m : Message) (handled : Result Reply ExchangeFault) (result : Result Progress ExchangeFault) (out written : List ℕ)
-    → Handles a c (records_in m) (turned (party_of a) state a.content m) handled → SendsHandled handled result out written → AnswersTo a c state (Ok m) out written result
+    → Handles a c (records_in m) (λ R. turned (party_of a) state R m) handled → SendsHandled handled result out written → AnswersTo a c state (Ok m) out written result
 answers_sent a c state m (Ok reply) (Ok done) out written handles sends = record {
   way = handles.way;
   unmoved = tt;
   untaken = tt;
   outside = handles.outside;
-  sends = λ h.
-      let told = handles.tells h in (
+  sends = λ h R held.
+      let told = handles.tells h R held in (
         told.0 ∙ ap (λ (d : Progress). Ok d.state) (sym sends.0),
         told.2 ∙ ap (λ (d : Progress). d.code) (sym sends.0),
         sends.1 ∙ ap (λ o. out ++ bytes_of o) (sym told.1),
@@ -48,9 +49,9 @@ answers_sent a c state m (Ok reply) (Err fault) out written handles sends = reco
   unmoved = tt;
   untaken = tt;
   outside = tt;
-  sends = λ h. (ap (failing _) (sym sends.0), sends.1);
+  sends = λ h R held. (ap (failing _) (sym sends.0), sends.1);
   content = λ h u. subst (λ w. c.content ≡ (gone w a.content (records_in m) (turned (party_of a) state a.content m)).content) handles.clear (handles.content h u);
-  crash = handles.crash;
+  crash = λ h left m'. subst (λ w. MayBeLeft a (records_in m) (learned_in w (records_in m) (turned (party_of a) state a.content m)) left) handles.clear (handles.crash h left m');
   passes = subst (λ w. Passes a c (option_to_list (fault_on w))) handles.clear handles.passes;
 }
 answers_sent a c state m (Err fault) (Ok done) out written handles sends = absurd sends
@@ -59,7 +60,7 @@ answers_sent a c state m (Err fault) (Err told) out written handles sends = reco
   unmoved = tt;
   untaken = tt;
   outside = handles.outside;
-  sends = λ h. (handles.tells h ∙ ap (failing _) (sym sends.0), sends.1);
+  sends = λ h R held. (handles.tells h R held ∙ ap (failing _) (sym sends.0), sends.1);
   content = handles.content;
   crash = handles.crash;
   passes = handles.passes;
@@ -140,8 +141,8 @@ module _ (a c : Store) (before counted after : Standing) (kind : FrameKind) (out
   takes_it body answered answers concludes = record {
     way = answers.way;
     outside = answers.outside;
-    writes = λ h. writes a.content _ answered (answers.sends h) concludes;
-    stands = λ h. stands a.content _ answered (answers.sends h) concludes;
+    writes = λ h R held. writes R _ answered (answers.sends h R held) concludes;
+    stands = λ h R held. stands R _ answered (answers.sends h R held) concludes;
     content = answers.content;
     crash = answers.crash;
     passes = answers.passes;
@@ -156,13 +157,13 @@ module _ (a c : Store) (before counted after : Standing) (kind : FrameKind) (out
   unread body answered answers concludes = record {
     way = Unread;
     outside = outside (received (party_of a) before kind body);
-    writes = λ h. writes a.content (Rattle.exchange.specs.Dialogs.answered (party_of a) before a.content Unread kind body) answered (same (received (party_of a) before kind body) (sends h)) concludes;
-    stands = λ h. stands a.content (Rattle.exchange.specs.Dialogs.answered (party_of a) before a.content Unread kind body) answered (same (received (party_of a) before kind body) (sends h)) concludes;
+    writes = λ h R held. writes R (Rattle.exchange.specs.Dialogs.answered (party_of a) before R Unread kind body) answered (same R (received (party_of a) before kind body) (sends h R held)) concludes;
+    stands = λ h R held. stands R (Rattle.exchange.specs.Dialogs.answered (party_of a) before R Unread kind body) answered (same R (received (party_of a) before kind body) (sends h R held)) concludes;
     content = λ h u. subst (λ w. c.content ≡ (gone w a.content [] (failing a.content exchange.OutOfMemory)).content) answers.unmoved (answers.content h u) ∙ left (received (party_of a) before kind body);
-    crash = λ h left m. elim (answers.crash h left m) [
-      | inl old ↦ inl old
-      | inr q ↦ inr (q.0, 0, q.2 ∙ none q.1)
-    ];
+    crash = λ h left m. subst (λ n. MayBeLeft a (records_read (received (party_of a) before kind body)) n left) (sym (none_in (received (party_of a) before kind body))) (elim (answers.crash h left m) [
+      | inl old ↦ inl (old.0, refl)
+      | inr q ↦ inr (q.0, 0, omega arith, omega arith, q.4 ∙ none q.1)
+    ]);
     passes = subst (λ w. Passes a c (option_to_list (fault_on w))) answers.unmoved answers.passes;
     counted = taken_is answered concludes;
     fit = failed exchange.OutOfMemory answered answers.untaken concludes;
@@ -172,16 +173,20 @@ module _ (a c : Store) (before counted after : Standing) (kind : FrameKind) (out
       outside : (r : Result Message ExchangeFault) → IsWay (records_read r) Unread
       outside r = tt
 
-      sends : c.honest → Sends a.content (failing a.content exchange.OutOfMemory) answered out mid
-      sends h = subst (λ w. Sends a.content (gone w a.content [] (failing a.content exchange.OutOfMemory)) answered out mid) answers.unmoved (answers.sends h)
+      sends : c.honest → (R : Content) → IsHeld a R → Sends R (failing R exchange.OutOfMemory) answered out mid
+      sends h R held = subst (λ w. Sends R (gone w R [] (failing R exchange.OutOfMemory)) answered out mid) answers.unmoved (answers.sends h R held)
 
-      same : (r : Result Message ExchangeFault) → Sends a.content (failing a.content exchange.OutOfMemory) answered out mid → Sends a.content (answered_to (party_of a) before.state a.content Unread r) answered out mid
-      same (Ok m) s = s
-      same (Err f) s = s
+      same : (R : Content) (r : Result Message ExchangeFault) → Sends R (failing R exchange.OutOfMemory) answered out mid → Sends R (answered_to (party_of a) before.state R Unread r) answered out mid
+      same R (Ok m) s = s
+      same R (Err f) s = s
 
       left : (r : Result Message ExchangeFault) → a.content ≡ (answered_to (party_of a) before.state a.content Unread r).content
       left (Ok m) = refl
       left (Err f) = refl
+
+      none_in : (r : Result Message ExchangeFault) → learned_at (party_of a) before.state a.content Unread r ≡ 0
+      none_in (Ok m) = refl
+      none_in (Err f) = refl
 
       none : (k : ℕ) → merged (take k []) a.content ≡ merged (take 0 (records_read (received (party_of a) before kind body))) a.content
       none zero = refl

@@ -208,7 +208,7 @@ module _ (refusal : ExchangeFault) (b c : Store) (before after : Standing) (kind
   by_way w = gone w b.content [] (failing b.content refusal)
 
   told : (result : Result State ExchangeFault) (takes : Takes b c before after kind body out written result) → Writes (by_way takes.way) result out written
-  told result takes = subst (λ t. Writes t result out written) (ap (Rattle.exchange.specs.Dialogs.answered_to (party_of b) before.state b.content takes.way) full) (takes.writes hc)
+  told result takes = subst (λ t. Writes t result out written) (ap (Rattle.exchange.specs.Dialogs.answered_to (party_of b) before.state b.content takes.way) full) (takes.writes hc b.content (λ u. refl))
 
   full_fails : (s : State) → Takes b c before after kind body out written (Ok s) → ⊥
   full_fails s takes = go takes.way (told (Ok s) takes)
@@ -247,8 +247,8 @@ module _ (refusal : ExchangeFault) (b c : Store) (before after : Standing) (kind
 
   full_holds : (result : Result State ExchangeFault) → Takes b c before after kind body out written result → (left : Content) → c.may_hold left → b.may_hold left ⊎ ((b.broken ≡ false) × (left ≡ b.content))
   full_holds result takes left m = elim (takes.crash hc left m) [
-    | inl old ↦ inl old
-    | inr q ↦ inr (q.0, q.2 ∙ (ap (λ r. merged (take q.1 (records_read r)) b.content) full ∙ none q.1))
+    | inl old ↦ inl old.0
+    | inr q ↦ inr (q.0, q.4 ∙ (ap (λ r. merged (take q.1 (records_read r)) b.content) full ∙ none q.1))
   ]
     where
       none : (k : ℕ) → merged (take k []) b.content ≡ b.content

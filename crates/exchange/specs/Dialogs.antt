@@ -23,6 +23,7 @@ use Rattle.exchange.specs.declared.message.State.{State}
 use Rattle.exchange.specs.declared.message.State.TheVariants.{Pulling, Pushing, Serving, Done, Failed}
 use Rattle.exchange.specs.Fault.{exchange_number, store_fault_told}
 use Rattle.exchange.specs.Batches.{batch_of, IsOfAnswer}
+use Rattle.exchange.specs.Merging.{learned_of, MayBeLeft}
 use Rattle.exchange.specs.declared.message.Party.{Party}
 use Rattle.exchange.specs.declared.dialog.Reply.{Reply}
 use Rattle.exchange.specs.declared.dialog.Progress.{Progress}
@@ -149,6 +150,12 @@ gone (Stopped learned fault) R rs turn = failing (merged (take learned rs) R) (L
 gone Starved R rs turn = failing turn.content OutOfMemory
 gone (Met fault) R rs turn = failing turn.content (exchange.Store fault)
 
+-- how many of the records are learned on this way
+abbrev pub learned_in : Way → List Record → Turn → ℕ
+learned_in Unread rs turn = 0
+learned_in (Stopped learned fault) rs turn = learned
+learned_in way rs turn = learned_of rs turn.result
+
 -- how many records an answer carries
 abbrev pub carried : Option Message → ℕ
 carried reply = option_map_or (λ m. length (records_in m)) reply 0
@@ -204,6 +211,11 @@ abbrev pub answered_to : Party → State → Content → Way → Result Message 
 answered_to p state R way (Ok m) = gone way R (records_in m) (turned p state R m)
 answered_to p state R way (Err fault) = gone way R [] (failing R fault)
 
+-- how many of its records are learned
+abbrev pub learned_at : Party → State → Content → Way → Result Message ExchangeFault → ℕ
+learned_at p state R way (Ok m) = learned_in way (records_in m) (turned p state R m)
+learned_at p state R way (Err fault) = 0
+
 -- what an end makes of a frame
 abbrev pub answered : Party → Standing → Content → Way → FrameKind → List ℕ → Turn
 answered p s R way kind body = answered_to p s.state R way (received p s kind body)
@@ -231,6 +243,10 @@ bytes_of message = option_map_or frame_of message []
 abbrev pub party_of : Store → Party
 party_of s = record { id = s.id; own = s.own }
 
+-- what is held, as far as it is known: of a broken store nothing is
+abbrev pub IsHeld : Store → Content → Type 0
+IsHeld s R = s.broken ≡ false → s.content ≡ R
+
 -- a message was handled where this was held: the state, the answer, the peer's number and how many records were added are those of the turn, or its fault is told
 abbrev pub Tells : Content → Turn → Result Reply ExchangeFault → Type 0
 Tells R turn (Ok reply) = (turn.result ≡ Ok reply.state) × (turn.reply ≡ reply.message) × (turn.code ≡ reply.code) × (capped (added_to R turn) ≡ reply.learned)
@@ -244,17 +260,15 @@ behind learned (Err fault) = Err fault
 abbrev pub IsSpelledReply : Reply → Type 0
 IsSpelledReply reply = IfSome reply.message IsSpelled
 
--- some records were to be learned and this turn to be made; by what came in its way it was, or wasn't
-pub record Handles (old new : Store) (rs : List Record) (turn : Turn) (result : Result Reply ExchangeFault) : Type 0 where
+-- some records were to be learned and the turn to be made that this makes of what is held; by what came in its way it was, or wasn't
+pub record Handles (old new : Store) (rs : List Record) (turn : Content → Turn) (result : Result Reply ExchangeFault) : Type 0 where
   pub way : Way
   pub outside : IsWay rs way
   pub clear : IfOk result (λ _. way ≡ Clear)
-  pub tells : new.honest → Tells old.content (gone way old.content rs turn) result
+  pub tells : new.honest → (R : Content) → IsHeld old R → Tells R (gone way R rs (turn R)) result
   pub spelled : IfOk result IsSpelledReply
-  pub content : new.honest → new.broken ≡ false → new.content ≡ (gone way old.content rs turn).content
-  -- a crash leaves what it could leave before, or the content with some first records of the batch
-  pub crash : new.honest → (left : Content) → new.may_hold left
-      → old.may_hold left ⊎ ((old.broken ≡ false) × (k : ℕ) × (left ≡ merged (take k rs) old.content))
+  pub content : new.honest → new.broken ≡ false → new.content ≡ (gone way old.content rs (turn old.content)).content
+  pub crash : new.honest → (left : Content) → new.may_hold left → MayBeLeft old rs (learned_in way rs (turn old.content)) left
   pub passes : Passes old new (option_to_list (fault_on way))
 
 -- the reply is written; where memory for what tells a fault is wanting too, that is told instead, and nothing is written
@@ -271,11 +285,11 @@ records_read (Err fault) = []
 pub record Takes (old new : Store) (before after : Standing) (kind : FrameKind) (body out written : List ℕ) (result : Result State ExchangeFault) : Type 0 where
   pub way : Way
   pub outside : IsWay (records_read (received (party_of old) before kind body)) way
-  pub writes : new.honest → Writes (answered (party_of old) before old.content way kind body) result out written
-  pub stands : new.honest → after ≡ standing_after before old.content kind (answered (party_of old) before old.content way kind body)
+  pub writes : new.honest → (R : Content) → IsHeld old R → Writes (answered (party_of old) before R way kind body) result out written
+  pub stands : new.honest → (R : Content) → IsHeld old R → after ≡ standing_after before R kind (answered (party_of old) before R way kind body)
   pub content : new.honest → new.broken ≡ false → new.content ≡ (answered (party_of old) before old.content way kind body).content
   pub crash : new.honest → (left : Content) → new.may_hold left
-      → old.may_hold left ⊎ ((old.broken ≡ false) × (k : ℕ) × (left ≡ merged (take k (records_read (received (party_of old) before kind body))) old.content))
+      → MayBeLeft old (records_read (received (party_of old) before kind body)) (learned_at (party_of old) before.state old.content way (received (party_of old) before kind body)) left
   pub passes : Passes old new (option_to_list (fault_on way))
   -- whatever the store, frames are counted
   pub counted : after.taken ≡ taken_after (unfit before kind) before.taken
@@ -323,10 +337,9 @@ pub record AnswersTo (old new : Store) (state : State) (received : Result Messag
   -- and its fault is told, whatever the store
   pub untaken : IfErr received (λ fault. result ≡ Err fault)
   pub outside : IsWay (records_read received) way
-  pub sends : new.honest → Sends old.content (answered_to (party_of old) state old.content way received) result out written
+  pub sends : new.honest → (R : Content) → IsHeld old R → Sends R (answered_to (party_of old) state R way received) result out written
   pub content : new.honest → new.broken ≡ false → new.content ≡ (answered_to (party_of old) state old.content way received).content
-  pub crash : new.honest → (left : Content) → new.may_hold left
-      → old.may_hold left ⊎ ((old.broken ≡ false) × (k : ℕ) × (left ≡ merged (take k (records_read received)) old.content))
+  pub crash : new.honest → (left : Content) → new.may_hold left → MayBeLeft old (records_read received) (learned_at (party_of old) state old.content way received) left
   pub passes : Passes old new (option_to_list (fault_on way))
 
 -- an end stands as what was answered says, and a fault is told

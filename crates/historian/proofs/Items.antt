@@ -1,5 +1,5 @@
 -- Services that answer items one after the other.
-use Rattle.std.proofs.Common.{◌≡◌, ◌∙◌, ◌⊎◌, inl, inr, ℕ, zero, suc, arith, Bool, true, false, nat_lt, ◌+◌, ◌<◌, ◌≤◌, get_or, List, [], ◌∷◌, ◌++◌, map, take, length, Option, Some, None, Ok, Err, refl, sym, ap, subst}
+use Rattle.std.proofs.Common.{◌≡◌, ◌∙◌, inl, ℕ, zero, suc, arith, Bool, true, false, nat_lt, ◌+◌, ◌<◌, ◌≤◌, get_or, List, [], ◌∷◌, ◌++◌, map, take, length, Some, None, Ok, Err, refl, sym, ap, subst}
 use Rattle.std.specs.Prelude.{Result, ◌==◌, if◌then◌else◌}
 use Rattle.std.specs.List.{AllByRecursion}
 use Rattle.std.proofs.lemmas.Bool.{ltb-false}
@@ -7,14 +7,14 @@ use Rattle.std.proofs.lemmas.List.{take_more, map-append}
 use Rattle.ua_binary.specs.declared.codes.Status.{Status}
 use Rattle.ua_binary.specs.declared.codes.TheConstants.Status.{BAD_OUT_OF_MEMORY, BAD_NOTHING_TO_DO, BAD_TOO_MANY_OPERATIONS}
 use Rattle.records.specs.Contents.{Content}
-use Rattle.archive.specs.Store.{Store, Mark, Fine, Starved, faults_of}
-use Rattle.archive.specs.Steps.{Marked, give, and_then, each, Does, Acts}
-use Rattle.archive.proofs.Acting.{moves-as, moves-none, acts-give, acts-as, acts-each}
+use Rattle.archive.specs.Store.{Store, Mark, Fine, Starved}
+use Rattle.archive.specs.Steps.{Marked, give, and_then, each, Acts}
+use Rattle.archive.proofs.Acting.{acts-give, acts-as, acts-each}
 use Rattle.archive.proofs.Calls.{passes-none}
 use Rattle.historian.specs.declared.answer.Answer.{Answer as Made}
 use Rattle.historian.specs.Answers.{Answer, Response}
 use Rattle.hist_update.specs.Codes.{list_refusal}
-use Rattle.historian.specs.Reading.{Served, unless, items}
+use Rattle.historian.specs.Reading.{Served, items}
 use Rattle.historian.specs.Telling.{answer_of, Tells, Comes}
 
 -- ---- a list of them

@@ -4,3 +4,4 @@ pub mod Values
 pub mod Items
 pub mod Variables
 pub mod Updates
+pub mod Leaving

@@ -1,14 +1,11 @@
 -- What the services do, by what the sessions' calls promise.
-use Rattle.std.proofs.Common.{◌≡◌, ◌⊎◌, inl, inr, ◌∙◌, ℕ, List, [], ◌∷◌, ◌++◌, Some, None, Ok, Err, refl, sym, ap, subst}
+use Rattle.std.proofs.Common.{◌≡◌, inl, inr, ◌∙◌, ℕ, List, [], ◌∷◌, ◌++◌, Some, None, Ok, Err, refl, sym, ap, subst}
 use Rattle.std.specs.Prelude.{Result, Option}
 use Rattle.ua_binary.specs.declared.codes.Status.{Status}
 use Rattle.ua_binary.specs.declared.codes.TheConstants.Status.{BAD_OUT_OF_MEMORY, BAD_DECODING_ERROR}
 use Rattle.ua_binary.specs.declared.values.NodeId.{NodeId}
 use Rattle.ua_binary.specs.declared.values.Ticks.{Ticks}
 use Rattle.ua_binary.specs.Format.{IsOrStarved}
-use Rattle.ua_binary.specs.Fault.{status_of}
-use Rattle.ua_binary.specs.declared.fault.BinaryFault.{BinaryFault}
-use Rattle.ua_binary.specs.declared.fault.BinaryFault.TheVariants as binary
 use Rattle.ua_session.specs.declared.fault.SessionFault.{SessionFault}
 use Rattle.ua_session.specs.declared.fault.SessionFault.TheVariants.{OutOfMemory}
 use Rattle.ua_session.specs.Fault.{code_of}
@@ -18,11 +15,10 @@ use Rattle.archive.specs.Store.{Store, Mark, Fine, Starved, faults_of, Passes}
 use Rattle.archive.proofs.Calls.{passes-none}
 use Rattle.archive.specs.Steps.{Marked, give, step, Does, Acts}
 use Rattle.historian.specs.declared.service.Service.{Service}
-use Rattle.historian.specs.declared.service.Service.TheVariants as service
 use Rattle.historian.specs.declared.answer.Answer.{Answer as Made}
 use Rattle.historian.specs.Answers.{Answer, Response}
-use Rattle.historian.specs.Requests.{Call, call_in, request_in}
-use Rattle.historian.specs.Services.{Site, Outcome, called, in_session, served, answered_call, answered_request, answered}
+use Rattle.historian.specs.Requests.{Call, call_in}
+use Rattle.historian.specs.Services.{Site, Outcome, called, in_session, served, answered_call, answered_request}
 use Rattle.historian.specs.Telling.{Asks, answer_of, Tells, Comes, Performs, PerformsHere}
 
 -- a call that was read is served

@@ -1,10 +1,9 @@
 -- The transport profiles that a client takes.
-use Rattle.std.proofs.Common.{◌≡◌, ◌||◌, ℕ, Bool, true, false, List, [], ◌∷◌, refl, ap, map}
+use Rattle.std.proofs.Common.{◌≡◌, ◌||◌, ℕ, true, false, List, [], ◌∷◌, refl, ap, map}
 use Rattle.std.specs.Prelude.{Option}
 use Rattle.std.specs.Borrow.{Bor}
 use Rattle.std.specs.List.{list_any}
 use Rattle.std.specs.Option.{option_copied}
-use Rattle.ua_services.specs.Endpoints.{EndpointFields}
 use Rattle.ua_settings.specs.Settings.{Values}
 use Rattle.historian.specs.Endpoints.{endpoint_of, endpoints_for, is_served_profile, takes_transport}
 

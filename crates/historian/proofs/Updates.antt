@@ -1,5 +1,5 @@
 -- Updates of the node that details ask.
-use Rattle.std.proofs.Common.{◌≡◌, ◌∙◌, ℕ, List, Option, Some, None, refl, sym, ap}
+use Rattle.std.proofs.Common.{◌≡◌, ◌∙◌, ℕ, List, Some, refl, ap}
 use Rattle.std.specs.Option.{unwrap_or}
 use Rattle.ua_binary.specs.declared.values.NodeId.{NodeId}
 use Rattle.ua_variant.specs.declared.value.ValueType.{ValueType}

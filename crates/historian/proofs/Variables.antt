@@ -1,11 +1,10 @@
 -- The ids of archived variables.
-use Rattle.std.proofs.Common.{◌≡◌, ◌∙◌, ◌≤◌, ◌<◌, ◌^◌, ℕ, Bool, true, false, cond, List, [], ◌∷◌, length, find, Option, Some, None, refl, sym, ap, subst, arith}
+use Rattle.std.proofs.Common.{◌≡◌, ◌∙◌, ◌≤◌, ℕ, false, cond, List, [], ◌∷◌, Some, None, refl, sym, ap, arith}
 use Rattle.std.specs.Option.{option_map}
 use Rattle.std.proofs.lemmas.Option.{none-some}
 use Rattle.ua_binary.specs.declared.values.NodeId.{NodeId}
 use Rattle.ua_binary.specs.declared.values.NodeId.TheVariants.{Numeric, Named, Global, Opaque}
 use Rattle.ua_binary.specs.Binary.{IsShortNode}
-use Rattle.ua_variant.specs.declared.value.ValueType.{ValueType}
 use Rattle.ua_space.specs.declared.layout.Layout.{Layout}
 use Rattle.ua_space.specs.declared.space.VariableInfo.{VariableInfo}
 use Rattle.ua_space.specs.Space.{Node, Root, Objects, NamespaceArray, State, OfFolder, OfVariable, FolderType, BaseDataVariableType, id_of, is_same_id, node_in, nodes, type_of_node, value_type_at, IsShortId}

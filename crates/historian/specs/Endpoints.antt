@@ -1,5 +1,5 @@
 -- What the server tells of itself: its one endpoint, without security (Part 4, 5.5.4, 7.2, 7.14 and 7.42).
-use Rattle.std.specs.Prelude.{ℕ, pos, List, [], ◌∷◌, ◌++◌, codes, nat_eq, Bool, Option, None, Some, unwrap_or, true, if◌then◌else◌}
+use Rattle.std.specs.Prelude.{ℕ, List, [], ◌∷◌, ◌++◌, codes, nat_eq, Bool, Option, None, Some, unwrap_or, true, if◌then◌else◌}
 use Rattle.std.specs.List.{list_any}
 use Rattle.std.specs.Cmp.Lexicographic.{pointwise}
 use Rattle.ua_channel.specs.Headers.{policy_none}

@@ -14,7 +14,6 @@ use Rattle.ua_services.specs.Attributes.{ReadFields, ReadAsked}
 use Rattle.ua_services.specs.History.{HistoryReadFields, HistoryAsked}
 use Rattle.ua_services.specs.declared.attributes.TimestampsToReturn.{TimestampsToReturn}
 use Rattle.ua_services.specs.declared.attributes.TimestampsToReturn.TheVariants.{Neither}
-use Rattle.ua_services.specs.declared.history.ReadRawModifiedDetails.{ReadRawModifiedDetails}
 use Rattle.ua_services.specs.declared.history.HistoryReadDetails.{HistoryReadDetails}
 use Rattle.ua_services.specs.declared.history.HistoryReadDetails.TheVariants.{ReadRawModified, Other}
 use Rattle.ua_services.specs.declared.history.HistoryReadResult.{HistoryReadResult}
@@ -30,7 +29,6 @@ use Rattle.records.specs.Spelling.{empty}
 use Rattle.archive.specs.declared.reading.Direction.TheVariants.{Backward}
 use Rattle.archive.specs.Fault.{status_told}
 use Rattle.archive.specs.Reading.{range_of}
-use Rattle.archive.specs.Store.{Mark}
 use Rattle.archive.specs.Steps.{Marked, give, step, memory, and_then, each}
 use Rattle.hist_read.specs.Asking.{first_time}
 use Rattle.hist_read.specs.Reads.{greatest_time}

@@ -5,6 +5,9 @@ use Rattle.sqlite_disk.specs.declared.Disk.{Ghosts}
 use Rattle.sqlite_disk.specs.declared.Files.{Files}
 use Rattle.sqlite_wal.specs.Recovery.{Image}
 use Rattle.sqlite_wal.specs.Files.{seen_image}
+use Rattle.sqlite_wal.specs.Reads.{AreClean}
+use Rattle.sqlite_pool.specs.Pool as pool
+use Rattle.sqlite_store.specs.Laws.{settled_at}
 use Rattle.sqlite_wal.proofs.LogLemmas.{SeenMayStay}
 use Rattle.sqlite_pool.proofs.StateLemmas.{seen_may_be_left}
 use Rattle.sqlite_store.specs.FileStore.{state, view, faults, recovers, is_shielded}
@@ -18,21 +21,28 @@ use Rattle.sqlite_trees.proofs.Doubt.{no_doubt}
 use Rattle.sqlite_schema.specs.declared.schema.Schema.{Schema}
 use Rattle.sqlite_catalog.specs.Listing.{Lists}
 use Rattle.sqlite_catalog.proofs.ReadLemmas.{lists_once}
-use Rattle.sqlite.proofs.Theorems.{next_run}
+use Rattle.sqlite.proofs.Theorems.{opens_again}
 use Rattle.sqlite.specs.Start.{FindsIn}
 use Rattle.sqlite.specs.Effect.{Database}
-use Rattle.sqlite.specs.State.{State, HasCleanDisk, IsLive, Opens}
+use Rattle.sqlite.specs.State.{State, HasCleanDisk, Survives, IsLive, Opens}
 use Rattle.sqlite.specs.Held.{Held, AreDatabases}
-use Rattle.sqlite.specs.Files.{file_state, HoldsDatabase, image_of}
-use Rattle.sqlite.specs.Closing.{IsCopied}
+use Rattle.sqlite.specs.Files.{file_state, HoldsDatabase, image_of, IsCleanLeft, LeavesFiles}
+use Rattle.sqlite.specs.Closing.{IsCopied, files_left}
+use Rattle.sqlite.specs.declared.file.Leftover.{Leftover}
+use Rattle.sqlite.specs.declared.file.Leftover.TheVariants as left
 use Rattle.records.specs.Contents.{Content}
 use Rattle.sql_archive.specs.Tables.{no_schema, archive_schema}
-use Rattle.sql_archive.specs.Rows.{content_in, IsStored, meta_cells}
+use Rattle.sql_archive.specs.Rows.{content_in, IsStored, IsStoreOf, meta_cells}
 use Rattle.sql_archive.specs.Kept.{Stands}
+use Rattle.sql_archive.specs.State.{IsNewArchive}
 use Rattle.archive.specs.declared.fault.StoreFault.{StoreFault}
-use Rattle.sql_archive.specs.Opening.{Starts, IsRefused, judged}
-use Rattle.sql_archive.specs.Files.{IsFound, Tells, Resumes, ResumesOnly, ResumesAmong, IsAnothers}
+use Rattle.sql_archive.specs.Opening.{Starts, IsMadeIn, IsRefused, judged}
+use Rattle.sql_archive.specs.Files.{IsFound, Tells, Resumes, ResumesOnly, ResumesAmong, IsAnothers, EngineLeaves, KeepsFound}
 use Rattle.sql_archive.proofs.OpenLemmas.{nothing_in}
+
+-- what was opened lists its schema
+found_lists : (old : State) → Opens old → IsLive old → Lists (old.committed.trees catalog_tree) old.now.schema
+found_lists old opens live = subst (λ (t : Trees). Lists (t catalog_tree) old.now.schema) (ap (λ (d : Database). d.trees) opens.clean) (live opens.is_open).0.lists
 
 -- what an archive that began with what an opening found goes on with
 pub resumes : (image : Image) (id : List ℕ) (own : ℕ) (old new : State) → Opens old → IsLive old → FindsIn image old → Starts id own old.now new.now → Resumes image id own (content_in new.now.trees)
@@ -42,19 +52,19 @@ resumes image id own old new opens live found starts = record { db = old.committ
     same = ap (λ (d : Database). d.trees) opens.clean
 
     lists : Lists (old.committed.trees catalog_tree) old.now.schema
-    lists = subst (λ (t : Trees). Lists (t catalog_tree) old.now.schema) same (live opens.is_open).0.lists
+    lists = found_lists old opens live
 
     go : Starts id own old.now new.now → Tells id own old.committed.trees (content_in new.now.trees)
     go (inl made) = inl (subst (Lists (old.committed.trees catalog_tree)) made.0 lists, nothing_in new.now.trees made.1.records)
     go (inr stood) =
-        inr (subst (Lists (old.committed.trees catalog_tree)) stood.0 lists, subst (IsStored id own) same stood.1, ap content_in (ap (λ (d : Database). d.trees) stood.2 ∙ same))
+        inr ((subst (Lists (old.committed.trees catalog_tree)) stood.0 lists, subst (IsStored id own) same stood.1), ap content_in (ap (λ (d : Database). d.trees) stood.2 ∙ same))
 
 -- the files of another archive, or of another replica, say so
 pub another : (image : Image) (id : List ℕ) (own : ℕ) (fault : StoreFault) (old : State) → Opens old → IsLive old → FindsIn image old → IsRefused id own old.now fault → IsAnothers image id own fault
 another image id own fault old opens live found refused = record {
   db = old.committed.trees;
   found = record { holds = found.holds; reads = found.reads };
-  lists = subst (Lists (old.committed.trees catalog_tree)) refused.schema (subst (λ (t : Trees). Lists (t catalog_tree) old.now.schema) same (live opens.is_open).0.lists);
+  lists = subst (Lists (old.committed.trees catalog_tree)) refused.schema (found_lists old opens live);
   judged = subst (λ t. judged id own (meta_cells t) ≡ Err fault) same refused.judged;
 }
   where
@@ -80,7 +90,7 @@ closed_is {D} {g} c files whose number numbers tick stands live copied id own S 
 
     go : Tells id own resumed.db S → S ≡ content_in (file_state c).now.trees
     go (inl none) = absurd (two_schemas (lists_once (resumed.db catalog_tree) no_schema archive_schema none.0 lists))
-    go (inr all) = all.2 ∙ ap content_in same
+    go (inr all) = all.1 ∙ ap content_in same
 
 -- and they hold its tables
 pub closed_holds : {D : Type 0} {g : Ghosts D} (c : Held (FileStore D g)) (files : Files D) (id : List ℕ) (own : ℕ) (numbers : List ℕ) (tick : ℤ) → (HasCleanDisk (file_state c) → Stands id own numbers tick (file_state c)) → IsLive (file_state c) → IsCopied c files
@@ -89,16 +99,67 @@ closed_holds c files id own numbers tick stands live copied =
     let s = stands copied.was_clean in
     let same : (file_state c).now.trees ≡ (file_state c).committed.trees = sym (ap (λ (d : Database). d.trees) s.idles.settled) in
     let lists = subst (λ (t : Trees). Lists (t catalog_tree) archive_schema) same (subst (Lists ((file_state c).now.trees catalog_tree)) s.idles.tables (live s.idles.is_open).0.lists) in
-    ∥∥₁_map copied.seen.both (λ held. ((file_state c).committed.trees, held, inr (lists, subst (IsStored id own) same s.stored, ap content_in same)))
+    ∥∥₁_map copied.seen.both (λ held. ((file_state c).committed.trees, held, inr ((lists, subst (IsStored id own) same s.stored), ap content_in same)))
 
--- what is opened of the files that a store gave back is what a crash could leave
-pub left_among : {D : Type 0} {g : Ghosts D} (was : Held (FileStore D g)) (it : FileStore D g) (files : Files D) → SeenMayStay g → IsQuiet view faults recovers is_shielded was.store it
+-- the files that a store gave back hold what a crash could leave
+pub left_holds : {D : Type 0} {g : Ghosts D} (was : Held (FileStore D g)) (it : FileStore D g) (files : Files D) → SeenMayStay g → IsQuiet view faults recovers is_shielded was.store it
     → (IsClean (view it) → IsTrue (view it).is_numbered) → (IsClean (view it) → AreDatabases (recovers it)) → (files.log, files.db) ≡ store.files it → IsTrue (view it).is_clean
-    → ResumesAmong (image_of g files) (file_state was).may_leave
-left_among {D} {g} was it files stays quiet numbered sound same clean id own R resumed =
+    → ∥ ((db : Trees) × (file_state was).may_leave db × HoldsDatabase (image_of g files) db) ∥₁
+left_holds {D} {g} was it files stays quiet numbered sound same clean =
     let no = no_doubt (view it).is_clean clean in
     let left = image_of g files in
     let may : (state it).may_leave left = subst (λ (x : D × D). (state it).may_leave (seen_image g x.0 x.1)) (sym same) (seen_may_be_left it.pool stays clean) in
-    let opened : State = record (file_state was) { committed = record { schema = (file_state was).committed.schema; trees = resumed.db } } in
-    let found : FindsIn left opened = record { holds = resumed.found.holds; reads = resumed.found.reads } in
-    ∥∥₁_map (next_run it (numbered no) (sound no) left may opened found) (λ may. (resumed.db, quiet.outcomes _ may, resumed.tells))
+    ∥∥₁_map (opens_again it (numbered no) (sound no) left may) (λ found. (found.0, quiet.outcomes _ found.1, found.2))
+
+-- and whatever is opened of them is that
+pub resumes_among : (image : Image) (MayLeave : Trees → Type 0) → ∥ ((db : Trees) × MayLeave db × HoldsDatabase image db) ∥₁ → ResumesAmong image MayLeave
+resumes_among image MayLeave holds id own R resumed = ∥∥₁_map holds (λ found. (resumed.db, subst MayLeave (sym (resumed.found.holds found.0 found.2)) found.1, resumed.tells))
+
+-- of an archive that is a store of its own
+pub left_store : (image : Image) (MayLeave : Trees → Type 0) (id : List ℕ) (own : ℕ) → ∥ ((db : Trees) × MayLeave db × HoldsDatabase image db) ∥₁ → ((db : Trees) → MayLeave db → IsStoreOf id own db)
+    → ∥ ((db : Trees) × MayLeave db × HoldsDatabase image db × IsStoreOf id own db) ∥₁
+left_store image MayLeave id own holds stores = ∥∥₁_map holds (λ found. (found.0, found.1, found.2, stores found.0 found.1))
+
+-- ---- an opening that was refused
+
+clean_left : {D : Type 0} {g : Ghosts D} (rest : Leftover D g) → AreClean g (files_left rest).0 (files_left rest).1 → IsCleanLeft rest
+unfolding pool.state pool.files
+clean_left (left.Files files) clean = clean
+clean_left (left.Unopened it) clean = clean
+clean_left (left.Store it) clean = clean
+
+-- by the engine
+pub engine_left : {D : Type 0} {g : Ghosts D} (files now : Files D) (rest : Leftover D g) → (now.log, now.db) ≡ files_left rest → (IsCleanLeft rest → LeavesFiles files rest) → AreClean g now.log now.db → EngineLeaves g files now
+engine_left {D} {g} files now rest same leaves clean = (rest, same, leaves (clean_left rest (subst (λ (x : D × D). AreClean g x.0 x.1) same clean)))
+
+-- by the archive
+pub archive_left : {D : Type 0} {g : Ghosts D} (image : Image) (files : Files D) (id : List ℕ) (own : ℕ) (was : Held (FileStore D g)) (new : State) → SeenMayStay g → Opens (file_state was) → IsLive (file_state was) → FindsIn image (file_state was)
+    → Survives (file_state was) new (IsMadeIn id own (file_state was).now) → HasCleanDisk new → ∥ ((db : Trees) × new.may_leave db × HoldsDatabase (image_of g files) db) ∥₁ → KeepsFound image id own (image_of g files)
+archive_left {D} {g} image files id own was new stays opens live found survives clean holds =
+    (old, record { holds = found.holds; reads = found.reads }, ∥∥₁_map holds (λ left. (left.0, left.2, by left.0 (survives.crash clean left.0 left.1))))
+  where
+    old : Trees
+    old = (file_state was).committed.trees
+
+    by : (db : Trees) → (file_state was).may_leave db ⊎ IsMadeIn id own (file_state was).now db → (db ≡ old) ⊎ (Lists (old catalog_tree) no_schema × IsNewArchive id (pos own) db)
+    by db (inl same) = inl (settled_at was.store stays db opens.is_open same)
+    by db (inr made) = inr (subst (Lists (old catalog_tree)) made.0 (found_lists (file_state was) opens live), made.1)
+
+pub still_held : (image left : Image) (id : List ℕ) (own : ℕ) → KeepsFound image id own left → (db : Trees) → HoldsDatabase image db → ¬ Lists (db catalog_tree) no_schema → ∥ HoldsDatabase left db ∥₁
+still_held image left id own (old, found, holds) db held some = ∥∥₁_map holds (λ it. by it.0 it.1 it.2)
+  where
+    is : old ≡ db
+    is = found.holds db held
+
+    by : (now : Trees) → HoldsDatabase left now → (now ≡ old) ⊎ (Lists (old catalog_tree) no_schema × IsNewArchive id (pos own) now) → HoldsDatabase left db
+    by now held (inl same) = subst (HoldsDatabase left) (same ∙ is) held
+    by now held (inr new) = absurd (some (subst (λ (t : Trees). Lists (t catalog_tree) no_schema) is new.0))
+
+pub still_resumed : (image left : Image) (id : List ℕ) (own : ℕ) → KeepsFound image id own left → (other : List ℕ) (number : ℕ) (R : Content) → Resumes left other number R → ∥ Resumes image other number R ∥₁
+still_resumed image left id own (old, found, holds) other number R resumed =
+    ∥∥₁_map holds (λ it. let r : Resumes image other number R = record { db = old; found = found; tells = by it.0 it.2 (subst (λ t. Tells other number t R) (resumed.found.holds it.0 it.1) resumed.tells) } in r)
+  where
+    by : (now : Trees) → (now ≡ old) ⊎ (Lists (old catalog_tree) no_schema × IsNewArchive id (pos own) now) → Tells other number now R → Tells other number old R
+    by now (inl same) tells = subst (λ t. Tells other number t R) same tells
+    by now (inr new) (inl none) = inl (new.0, none.1)
+    by now (inr new) (inr all) = inl (new.0, all.1 ∙ nothing_in now new.1.records)

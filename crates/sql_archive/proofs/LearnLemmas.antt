@@ -28,7 +28,7 @@ use Rattle.sql_archive.specs.Words.{cells}
 use Rattle.sql_archive.specs.Rows.{row_of, content_in, IsFilled, AreRecords}
 use Rattle.sql_archive.specs.State as state
 use Rattle.sql_archive.specs.State.{Idles, Stays, Asked}
-use Rattle.sql_archive.specs.Learning.{Stored, Follows, Learned, IsLast, beyond, reached, is_added}
+use Rattle.sql_archive.specs.Learning.{Stored, Follows, Learned, IsCommitOf, IsLast, beyond, reached, is_added}
 use Rattle.sql_archive.proofs.RowLemmas.{content_is}
 
 pub short_enough : (r : Record) → IsLawfulRecord r → IsShortRecord r
@@ -43,14 +43,23 @@ put_permutes r (x ∷ R) =
     [ true ↦ IsPermutation-trans _ _ _ (IsPermutation-cons x _ _ (put_permutes r R)) (IsPermutation-middle (x ∷ []) r R) | false ↦ IsPermutation-refl _ ]
 
 -- the row of the next record makes the tables those of the content with it
-pub filled_by : (r : Record) (old new : Trees) → IsFilled old → IsLawfulRecord r → finding (content_in old) r ≡ Adds → state.Adds (row_of r) old new → IsFilled new × (content_in new ≡ put r (content_in old))
-filled_by r old new (R, l, stand) lawful adds added =
+follows_by : (r : Record) (old new : Trees) → IsFilled old → IsLawfulRecord r → finding (content_in old) r ≡ Adds → state.Adds (row_of r) old new → Follows r old new
+follows_by r old new (R, l, stand) lawful adds added =
     let is : content_in old ≡ R = content_is R old l stand in
     let next : finding R r ≡ Adds = subst (λ S. finding S r ≡ Adds) is adds in
     let all : IsLawfulContent (put r R) = lawful_put R r l lawful next in
     let rows : AreRecords (put r R) new =
     IsPermutation-trans _ _ _ (IsPermutation-map row_of (put r R) (r ∷ R) (put_permutes r R)) (IsPermutation-trans _ _ _ (IsPermutation-cons (row_of r) (map row_of R) (cells (old 1)) stand) added.records) in
-    ((put r R, all, rows), content_is (put r R) new all rows ∙ sym (ap (put r) is))
+    record {
+      filled = (put r R, all, rows);
+      content = content_is (put r R) new all rows ∙ sym (ap (put r) is) ∙ sym (ap (λ f. unwrap_or (after_finding (content_in old) r f) (content_in old)) adds);
+      meta = added.meta;
+    }
+
+-- and so does what a crash leaves of it
+committed_by : (a b : State) (r : Record) → (HasCleanDisk b → HasCleanDisk a) → (HasCleanDisk a → IsFilled a.now.trees) → IsLawfulRecord r → (HasCleanDisk a → finding (content_in a.now.trees) r ≡ Adds)
+    → Survives a b (state.Adds (row_of r) a.now.trees) → Survives a b (IsCommitOf r a.now.trees)
+committed_by a b r early filled lawful next = survives_weaker a b _ _ (λ clean db added. let was = early clean in (next was, follows_by r a.now.trees db (filled was) lawful (next was) added, added.lists))
 
 pub kept_by : (f : Finding) (R : Content) (r : Record) → is_added (answer_to f) ≡ false → unwrap_or (after_finding R r f) R ≡ R
 kept_by Adds R r e = absurd (true≢false e)
@@ -115,19 +124,10 @@ pub stored_ok : (a b : State) (r : Record) → (HasCleanDisk b → HasCleanDisk 
 stored_ok a b r early filled lawful next stored = record {
   answered = λ clean.
       let was = early clean in
-      let both = stored.added clean in
-      let all = filled_by r a.now.trees b.now.trees (filled was) lawful (next was) both.1 in (
-        ap answer_to (sym (next was)),
-        both.0,
-        record {
-          filled = all.0;
-          content = all.1 ∙ sym (ap (λ f. unwrap_or (after_finding (content_in a.now.trees) r f) (content_in a.now.trees)) (next was));
-          meta = both.1.meta;
-        },
-      );
+      let both = stored.added clean in (ap answer_to (sym (next was)), both.0, follows_by r a.now.trees b.now.trees (filled was) lawful (next was) both.1);
   kept = λ clean ok. tt;
   met = tt;
-  crash = survives_weaker a b _ _ (λ clean db added. let was = early clean in (next was, (filled_by r a.now.trees db (filled was) lawful (next was) added).1)) stored.crash;
+  crash = committed_by a b r early filled lawful next stored.crash;
 }
 
 pub stored_err : (a b : State) (r : Record) (fault : StoreFault) → (HasCleanDisk b → HasCleanDisk a) → (HasCleanDisk a → IsFilled a.now.trees) → IsLawfulRecord r → (HasCleanDisk a → finding (content_in a.now.trees) r ≡ Adds) → Stored a b r (Err fault) → Learned a b r (Err fault)
@@ -135,7 +135,7 @@ stored_err a b r fault early filled lawful next stored = record {
   answered = λ clean. tt;
   kept = stored.kept;
   met = stored.met;
-  crash = survives_weaker a b _ _ (λ clean db added. let was = early clean in (next was, (filled_by r a.now.trees db (filled was) lawful (next was) added).1)) stored.crash;
+  crash = committed_by a b r early filled lawful next stored.crash;
 }
 
 -- what is learned behind a judgement is learned
@@ -144,7 +144,7 @@ judged_then a b c r told result early asked one = record {
   answered = λ clean. go result (same clean) (one.answered clean);
   kept = λ clean ok. kept result (λ s. record { idles = s.idles; same = s.same ∙ (asked.kept (early clean) refl).same }) (one.kept clean ok);
   met = one.met;
-  crash = survives_then a b c _ _ _ (λ clean db none. absurd none) (λ clean db p. subst (λ (t : Trees). (finding (content_in t) r ≡ Adds) × (content_in db ≡ put r (content_in t))) (same clean) p) asked.crash one.crash;
+  crash = survives_then a b c _ _ _ (λ clean db none. absurd none) (λ clean db p. subst (λ (t : Trees). IsCommitOf r t db) (same clean) p) asked.crash one.crash;
 }
   where
     same : HasCleanDisk c → b.now.trees ≡ a.now.trees

@@ -4,14 +4,14 @@ use Rattle.sqlite_trees.specs.declared.store.Store.{Ghosts}
 use Rattle.sqlite_trees.specs.Tree.{Trees}
 use Rattle.sqlite.specs.Held.{Held, state}
 use Rattle.sqlite.specs.State.{State, HasCleanDisk, Survives}
-use Rattle.sqlite.proofs.StateLemmas.{survives_then}
+use Rattle.sqlite.proofs.StateLemmas.{survives_then, survives_weaker}
 use Rattle.archive.specs.declared.fault.StoreFault.{StoreFault}
 use Rattle.archive.specs.Store.{IsOfOpening}
 use Rattle.sqlite.specs.Effect.{Database}
 use Rattle.sql_archive.specs.Tables.{no_schema, archive_schema}
 use Rattle.sql_archive.specs.Rows.{meta_cells, IsStored}
 use Rattle.sql_archive.specs.State.{IsNewArchive}
-use Rattle.sql_archive.specs.Opening.{judged, Starts, IsRefused}
+use Rattle.sql_archive.specs.Opening.{judged, Starts, IsMadeIn, IsRefused}
 use Rattle.sql_archive.specs.Kept.{Kept}
 use Rattle.sql_archive.proofs.OpenLemmas.{new_is_own}
 use Rattle.sql_archive.proofs.AskLemmas.{survives_itself}
@@ -58,6 +58,17 @@ module _ {S : Type 0} (g : Ghosts S) (old : State) where
   pub left_quiet : (P : Trees → Type 0) (r : Result (Kept S) (StoreFault × Held S)) → IfErr r (λ e. Survives old (state g e.1) (λ _. ⊥)) → IfErr r (λ e. Survives old (state g e.1) P)
   left_quiet P (Ok a) one = tt
   left_quiet P (Err e) one = widened old (state g e.1) P one
+
+  -- and so is one that makes tables where there are none
+  pub opened_new : (id : List ℕ) (own : ℕ) (r : Result (Kept S) (StoreFault × Held S)) → old.now.schema ≡ no_schema → IfOk r (λ a. Survives old (state g a.conn) (IsNewArchive id (pos own)))
+      → IfOk r (λ a. Survives old (state g a.conn) (IsMadeIn id own old.now))
+  opened_new id own (Ok a) none one = survives_weaker old (state g a.conn) _ _ (λ clean db new. (none, new)) one
+  opened_new id own (Err e) none one = tt
+
+  pub left_new : (id : List ℕ) (own : ℕ) (r : Result (Kept S) (StoreFault × Held S)) → old.now.schema ≡ no_schema → IfErr r (λ e. Survives old (state g e.1) (IsNewArchive id (pos own)))
+      → IfErr r (λ e. Survives old (state g e.1) (IsMadeIn id own old.now))
+  left_new id own (Ok a) none one = tt
+  left_new id own (Err e) none one = survives_weaker old (state g e.1) _ _ (λ clean db new. (none, new)) one
 
   -- how it begins: with new tables, or with those that stood there
   pub started_new : (id : List ℕ) (own : ℕ) (r : Result (Kept S) (StoreFault × Held S)) → old.now.schema ≡ no_schema → IfOk r (λ a. HasCleanDisk (state g a.conn) → IsNewArchive id (pos own) (state g a.conn).now.trees)

@@ -1,19 +1,21 @@
 -- An archive in a database meets the contract of archives.
-use Rattle.std.proofs.Common.{◌≡◌, ◌⊎◌, inl, inr, ℕ, is_gt, ◌||◌, List, Bool, true, false, Option, Some, None, IfSome, Result, Ok, Err, IfOk, IfErr, IsTrue, refl, sym, ap, ap₂, ◌∙◌, subst, arith, [], ◌∷◌, map, option_to_list}
+use Rattle.std.proofs.Common.{◌≡◌, ◌⊎◌, inl, inr, ℕ, is_gt, ◌||◌, List, Bool, true, false, Option, Some, None, IfSome, Result, Ok, Err, IfOk, IfErr, IsTrue, refl, sym, ap, ◌∙◌, subst, arith, [], ◌∷◌, map, option_to_list}
 use Rattle.std.proofs.lemmas.Bool.{true≢false}
 use Rattle.std.proofs.lemmas.Option.{none-some}
 use Rattle.std.proofs.Math.Logic.{∥∥₁_elim}
 use Rattle.sqlite_trees.specs.declared.store.Store.{Ghosts}
 use Rattle.sqlite_trees.specs.Tree.{Trees}
+use Rattle.sqlite_trees.specs.Objects.{catalog_tree}
+use Rattle.sqlite_catalog.specs.Listing.{Lists}
 use Rattle.sqlite_trees.specs.View.{IsClean}
 use Rattle.sqlite.specs.Held.{Held, state}
 use Rattle.sqlite.specs.Effect.{Database}
-use Rattle.sqlite.specs.State.{State, HasCleanDisk, Survives}
+use Rattle.sqlite.specs.State.{State, HasCleanDisk, Survives, IsLive}
 use Rattle.records.specs.Contents.{Content, Adds, finding, put}
 use Rattle.records.specs.declared.record.Record.{Record}
 use Rattle.archive.specs.declared.fault.LearnFault.{LearnFault}
 use Rattle.archive.specs.declared.fault.LearnFault.TheVariants as refused
-use Rattle.sql_archive.specs.Learning.{Learned, flat, IsOwn, was_added}
+use Rattle.sql_archive.specs.Learning.{Learned, Follows, IsCommitOf, flat, IsOwn, was_added}
 use Rattle.archive.specs.declared.fault.StoreFault.{StoreFault}
 use Rattle.archive.specs.declared.fault.StoreFault.TheVariants.{OutOfMemory, Refused, WrongReplica, WrongArchive, Broken}
 use Rattle.archive.specs.Store.{Store, IsLawfulContent, IsSettled, Rests, IsOfOpening, failed_by, is_break, Passes, Leaves, Stays as Rest, fault_in, Asks, Learns, store_fault_in}
@@ -31,9 +33,9 @@ use Rattle.sql_archive.proofs.LearnLemmas.{kept_by, adds_by}
 use Rattle.stamp.specs.Numbers.{number_of}
 use Rattle.records.specs.Contents.{vec, top, number_from, learned, after_finding, Finding}
 use Rattle.records.proofs.ChangeLemmas.{top_put}
-use Rattle.sql_archive.specs.Rows.{content_in, IsStored, meta_row, meta_columns}
+use Rattle.sql_archive.specs.Rows.{content_in, IsStored, IsStoreOf, meta_columns}
 use Rattle.sql_archive.specs.State.{Idles, Stays, Asked}
-use Rattle.sql_archive.specs.Kept.{Kept, Remembers, Raises, Stands, Serves, store_of}
+use Rattle.sql_archive.specs.Kept.{Kept, Remembers, Raises, Stands, Serves, LeavesStores, store_of}
 use Rattle.sql_archive.proofs.AskLemmas.{survives_itself, asked_nothing}
 use Rattle.sql_archive.proofs.RowLemmas.{content_is}
 
@@ -91,7 +93,7 @@ module _ {S : Type 0} (g : Ghosts S) (laws : Laws g) where
   -- as long as it may be used, a crash leaves its content and nothing else
   pub rests : (a : Kept S) → Serves g a → Rests (store_of g a)
   rests a serves honest used =
-      let all = serves used honest in
+      let all = serves.0 used honest in
       let stored = all.stored in
       let is = content_is stored.content (state g a.conn).now.trees stored.lawful stored.stands.records in
       let same : (state g a.conn).committed.trees ≡ (state g a.conn).now.trees = ap (λ (d : Database). d.trees) all.idles.settled in
@@ -100,6 +102,29 @@ module _ {S : Type 0} (g : Ghosts S) (laws : Laws g) where
         stays = ((state g a.conn).committed.trees, laws.stays a.conn.store all.idles.is_open, ap content_in (sym same));
         only = λ left m. m.2 ∙ ap content_in (laws.settled a.conn.store m.0 all.idles.is_open m.1 ∙ same);
       }
+
+  -- an archive begins over tables of its own
+  pub serves-begun : (a : Kept S) (old : State) → (HasCleanDisk (state g a.conn) → Stays old (state g a.conn) × IsStored a.id a.number old.now.trees × Remembers (content_in old.now.trees) a.numbers a.tick) → IsLive (state g a.conn) → Serves g a
+  serves-begun a old opened live = (λ ok. stands, λ clean db m. left clean db (stands clean) m)
+    where
+      stands : HasCleanDisk (state g a.conn) → Stands a.id a.number a.numbers a.tick (state g a.conn)
+      stands clean =
+          let all = opened clean in
+          let same : old.now.trees ≡ (state g a.conn).now.trees = sym (ap (λ (d : Database). d.trees) all.0.same) in
+          record { idles = all.0.idles; stored = subst (IsStored a.id a.number) same all.1; remembered = subst (λ t. Remembers (content_in t) a.numbers a.tick) same all.2 }
+
+      left : HasCleanDisk (state g a.conn) → (db : Trees) → Stands a.id a.number a.numbers a.tick (state g a.conn) → (state g a.conn).may_leave db → IsStoreOf a.id a.number db
+      left clean db s m =
+          let same : (state g a.conn).now.trees ≡ db = sym (laws.settled a.conn.store db s.idles.is_open m ∙ ap (λ (d : Database). d.trees) s.idles.settled) in
+          subst (IsStoreOf a.id a.number) same (subst (Lists ((state g a.conn).now.trees catalog_tree)) s.idles.tables (live s.idles.is_open).0.lists, s.stored)
+
+  -- a crash leaves stores behind a call that commits nothing else
+  stores-left : (a b : Kept S) (Commits : Trees → Type 0) → Serves g a → b.id ≡ a.id → b.number ≡ a.number → Survives (state g a.conn) (state g b.conn) Commits
+      → (HasCleanDisk (state g a.conn) → (db : Trees) → Commits db → IsStoreOf a.id a.number db) → LeavesStores g b
+  stores-left a b Commits was id own survives commits clean db m =
+      let early : HasCleanDisk (state g a.conn) = omega (arith, survives.clean, clean) in
+      let it : IsStoreOf a.id a.number db = elim (survives.crash clean db m) [ inl old ↦ was.1 early db old | inr made ↦ commits early db made ] in
+      subst (λ i. IsStoreOf i b.number db) (sym id) (subst (λ n. IsStoreOf a.id n db) (sym own) it)
 
   -- behind Broken too an opening finds something
   pub finds_some : (a : Kept S) → HasCleanDisk (state g a.conn) → ((left : Content) → (store_of g a).may_hold left → ⊥) → ⊥
@@ -137,11 +162,12 @@ module _ {S : Type 0} (g : Ghosts S) (laws : Laws g) where
       meets (Some f) m = ((m, m), tt)
 
   -- a call that changes nothing leaves it as it was, save that it may break
-  pub serves-kept-by : (a b : Kept S) → Serves g a → a.broken ≡ false → b.id ≡ a.id → b.number ≡ a.number → (Remembers (content_in (state g a.conn).now.trees) a.numbers a.tick → Remembers (content_in (state g a.conn).now.trees) b.numbers b.tick)
-      → (HasCleanDisk (state g b.conn) → HasCleanDisk (state g a.conn)) → (HasCleanDisk (state g b.conn) → b.broken ≡ false → Stays (state g a.conn) (state g b.conn)) → Serves g b
-  serves-kept-by a b was used id own remembers honest stays ok clean =
+  stands-kept-by : (a b : Kept S) → Serves g a → a.broken ≡ false → b.id ≡ a.id → b.number ≡ a.number → (Remembers (content_in (state g a.conn).now.trees) a.numbers a.tick → Remembers (content_in (state g a.conn).now.trees) b.numbers b.tick)
+      → (HasCleanDisk (state g b.conn) → HasCleanDisk (state g a.conn)) → (HasCleanDisk (state g b.conn) → b.broken ≡ false → Stays (state g a.conn) (state g b.conn))
+      → b.broken ≡ false → HasCleanDisk (state g b.conn) → Stands b.id b.number b.numbers b.tick (state g b.conn)
+  stands-kept-by a b was used id own remembers honest stays ok clean =
       let s : Stays (state g a.conn) (state g b.conn) = stays clean ok in
-      let before = was used (honest clean) in
+      let before = was.0 used (honest clean) in
       let same : (state g b.conn).now.trees ≡ (state g a.conn).now.trees = ap (λ (d : Database). d.trees) s.same in
       record {
         idles = s.idles;
@@ -167,7 +193,7 @@ module _ {S : Type 0} (g : Ghosts S) (laws : Laws g) where
 
   -- a query that asks nothing of the store
   pub tells : {A : Type 0} (a : Kept S) (v : A) (P : A → Type 0) → Serves g a → a.broken ≡ false → (HasCleanDisk (state g a.conn) → Stands a.id a.number a.numbers a.tick (state g a.conn) → P v) → Asks (store_of g a) (store_of g a) (Ok v) P
-  tells a v P was used h = asks a a (Ok v) P was was used (asked_nothing (state g a.conn) v P (λ clean. (was used clean).idles) (λ clean. h clean (was used clean))) refl refl refl used
+  tells a v P was used h = asks a a (Ok v) P was was used (asked_nothing (state g a.conn) v P (λ clean. (was.0 used clean).idles) (λ clean. h clean (was.0 used clean))) refl refl refl used
 
   -- a call that does nothing but refuse
   pub refuses : {A : Type 0} (a b : Kept S) (fault : StoreFault) (P : A → Type 0) → Serves g a → Serves g b → b.conn ≡ a.conn → b.number ≡ a.number → b.id ≡ a.id
@@ -181,6 +207,12 @@ module _ {S : Type 0} (g : Ghosts S) (laws : Laws g) where
     leaves = leaves a b (Some fault) (λ _. ⊥) was is own id (subst (λ c. Survives (state g a.conn) (state g c) (λ _. ⊥)) (sym conn) (survives_itself (state g a.conn))) count broken (λ e. ap (λ f. Some f) (ended e)) met;
   }
 
+  -- what a crash leaves holds the content that was there, or that with the record
+  crashed : (a : Kept S) (r : Record) → a.broken ≡ false → (left : Content) (db : Trees) → left ≡ content_in db → (state g a.conn).may_leave db ⊎ IsCommitOf r (state g a.conn).now.trees db
+      → (store_of g a).may_hold left ⊎ ((a.broken ≡ false) × (finding (store_of g a).content r ≡ Adds) × (left ≡ put r (store_of g a).content))
+  crashed a r used left db e (inl old) = inl (db, old, e)
+  crashed a r used left db e (inr new) = let R = content_in (state g a.conn).now.trees in inr (used, new.0, e ∙ new.1.content ∙ ap (λ f. unwrap_or (after_finding R r f) R) new.0)
+
   -- a record is learned
   pub learns : (a b : Kept S) (r : Record) (answer : Result (Result Bool LearnFault) StoreFault) → Serves g a → Serves g b → a.broken ≡ false → Learned (state g a.conn) (state g b.conn) r answer
       → b.number ≡ a.number → b.id ≡ a.id → b.faults ≡ failures a.faults (fault_in answer) → b.broken ≡ is_broken (fault_in answer)
@@ -188,25 +220,15 @@ module _ {S : Type 0} (g : Ghosts S) (laws : Laws g) where
   learns a b r (Ok told) was is used learned own id count broken result e own_told = subst (λ x. Learns (store_of g a) (store_of g b) r x) (sym e) (record {
     answered = λ h _. ((learned.answered h).0, (learned.answered h).2.content);
     kept = λ h ok. subst (λ o. IfSome o (λ _. content_in (state g b.conn).now.trees ≡ content_in (state g a.conn).now.trees)) (sym own_told) tt;
-    crash = λ h left m. crashed left m.0 m.2 (learned.crash.crash h m.0 m.1);
+    crash = λ h left m. crashed a r used left m.0 m.2 (learned.crash.crash h m.0 m.1);
     leaves = subst (λ o. Leaves (store_of g a) (store_of g b) o) (sym own_told) (leaves a b None _ was is own id learned.crash count broken (λ p. absurd (true≢false (sym p ∙ used))) tt);
   })
-    where
-      crashed : (left : Content) (db : Trees) → left ≡ content_in db → (state g a.conn).may_leave db ⊎ ((finding (content_in (state g a.conn).now.trees) r ≡ Adds) × (content_in db ≡ put r (content_in (state g a.conn).now.trees)))
-          → (store_of g a).may_hold left ⊎ ((a.broken ≡ false) × (finding (store_of g a).content r ≡ Adds) × (left ≡ put r (store_of g a).content))
-      crashed left db e (inl old) = inl (db, old, e)
-      crashed left db e (inr new) = inr (used, new.0, e ∙ new.1)
   learns a b r (Err fault) was is used learned own id count broken result e own_told = subst (λ x. Learns (store_of g a) (store_of g b) r x) (sym e) (record {
     answered = λ h none. absurd (none-some _ (sym none));
     kept = λ h ok. ap (λ (d : Database). content_in d.trees) (learned.kept h (sym broken ∙ ok)).same;
-    crash = λ h left m. crashed left m.0 m.2 (learned.crash.crash h m.0 m.1);
+    crash = λ h left m. crashed a r used left m.0 m.2 (learned.crash.crash h m.0 m.1);
     leaves = leaves a b (Some fault) _ was is own id learned.crash count broken (λ p. absurd (true≢false (sym p ∙ used))) learned.met;
   })
-    where
-      crashed : (left : Content) (db : Trees) → left ≡ content_in db → (state g a.conn).may_leave db ⊎ ((finding (content_in (state g a.conn).now.trees) r ≡ Adds) × (content_in db ≡ put r (content_in (state g a.conn).now.trees)))
-          → (store_of g a).may_hold left ⊎ ((a.broken ≡ false) × (finding (store_of g a).content r ≡ Adds) × (left ≡ put r (store_of g a).content))
-      crashed left db e (inl old) = inl (db, old, e)
-      crashed left db e (inr new) = inr (used, new.0, e ∙ new.1)
 
   -- a learning that does nothing but refuse
   pub refuses-learn : (a b : Kept S) (fault : StoreFault) (r : Record) → Serves g a → Serves g b → b.conn ≡ a.conn → b.number ≡ a.number → b.id ≡ a.id
@@ -218,19 +240,28 @@ module _ {S : Type 0} (g : Ghosts S) (laws : Laws g) where
   -- what is learned leaves tables that stand for a lawful content
   pub serves-learned : (a b : Kept S) (r : Record) (answer : Result (Result Bool LearnFault) StoreFault) → Serves g a → a.broken ≡ false → b.id ≡ a.id → b.number ≡ a.number
       → Raises r (was_added answer) a.numbers a.tick b.numbers b.tick → Learned (state g a.conn) (state g b.conn) r answer → b.broken ≡ is_broken (fault_in answer) → Serves g b
-  serves-learned a b r (Ok told) was used id own raises learned broken ok clean =
-      let all = learned.answered clean in
-      let before = was used (omega (arith, learned.crash.clean, clean)) in
-      let filled = all.2.filled in
-      record {
-        idles = all.1;
-        stored = record { content = filled.0; lawful = filled.1; stands = record { meta = ap (map meta_columns) all.2.meta ∙ (before.stored.stands.meta ∙ ap₂ (λ i n. meta_row i n ∷ []) (sym id) (sym own)); records = filled.2 } };
-        remembered = remembered_by (content_in (state g a.conn).now.trees) r told a.numbers a.tick b.numbers b.tick (content_in (state g b.conn).now.trees) before.remembered raises all.0 all.2.content;
-      }
-  serves-learned a b r (Err fault) was used id own raises learned broken ok clean =
-      serves-kept-by a b was used id own (remembered_as (content_in (state g a.conn).now.trees) r a.numbers a.tick b.numbers b.tick raises) (λ c. omega (arith, learned.crash.clean, c)) (λ c o. learned.kept c (sym broken ∙ o)) ok clean
+  serves-learned a b r answer was used id own raises learned broken = (stands answer raises learned broken, stores-left a b _ was id own learned.crash (λ clean db made. (made.2, stored (was.0 used clean).stored made.1)))
+    where
+      -- the tables that follow those of the archive are its own
+      stored : {db : Trees} → IsStored a.id a.number (state g a.conn).now.trees → Follows r (state g a.conn).now.trees db → IsStored a.id a.number db
+      stored was next = record { content = next.filled.0; lawful = next.filled.1; stands = record { meta = ap (map meta_columns) next.meta ∙ was.stands.meta; records = next.filled.2 } }
+
+      stands : (told : Result (Result Bool LearnFault) StoreFault) → Raises r (was_added told) a.numbers a.tick b.numbers b.tick → Learned (state g a.conn) (state g b.conn) r told → b.broken ≡ is_broken (fault_in told)
+          → b.broken ≡ false → HasCleanDisk (state g b.conn) → Stands b.id b.number b.numbers b.tick (state g b.conn)
+      stands (Ok told) raises learned broken ok clean =
+          let all = learned.answered clean in
+          let before = was.0 used (omega (arith, learned.crash.clean, clean)) in
+          record {
+            idles = all.1;
+            stored = subst (λ i. IsStored i b.number (state g b.conn).now.trees) (sym id) (subst (λ n. IsStored a.id n (state g b.conn).now.trees) (sym own) (stored before.stored all.2));
+            remembered = remembered_by (content_in (state g a.conn).now.trees) r told a.numbers a.tick b.numbers b.tick (content_in (state g b.conn).now.trees) before.remembered raises all.0 all.2.content;
+          }
+      stands (Err fault) raises learned broken ok clean =
+          stands-kept-by a b was used id own (remembered_as (content_in (state g a.conn).now.trees) r a.numbers a.tick b.numbers b.tick raises) (λ c. omega (arith, learned.crash.clean, c)) (λ c o. learned.kept c (sym broken ∙ o)) ok clean
 
   pub serves-asked : {A : Type 0} (a b : Kept S) (answer : Result A StoreFault) (P : A → Type 0) → Serves g a → a.broken ≡ false → b.id ≡ a.id → b.number ≡ a.number → b.numbers ≡ a.numbers → b.tick ≡ a.tick
       → Asked (state g a.conn) (state g b.conn) answer P → b.broken ≡ is_broken (fault_in answer) → Serves g b
-  serves-asked a b answer P was used id own numbers tick asked broken =
-      serves-kept-by a b was used id own (λ m. subst (λ n. Remembers (content_in (state g a.conn).now.trees) n b.tick) (sym numbers) (subst (Remembers (content_in (state g a.conn).now.trees) a.numbers) (sym tick) m)) (λ c. omega (arith, asked.crash.clean, c)) (λ c o. asked.kept c (sym broken ∙ o))
+  serves-asked a b answer P was used id own numbers tick asked broken = (
+    stands-kept-by a b was used id own (λ m. subst (λ n. Remembers (content_in (state g a.conn).now.trees) n b.tick) (sym numbers) (subst (Remembers (content_in (state g a.conn).now.trees) a.numbers) (sym tick) m)) (λ c. omega (arith, asked.crash.clean, c)) (λ c o. asked.kept c (sym broken ∙ o)),
+    stores-left a b (λ _. ⊥) was id own asked.crash (λ clean db none. absurd none),
+  )

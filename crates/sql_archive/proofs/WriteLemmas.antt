@@ -25,10 +25,12 @@ use Rattle.sqlite_catalog.specs.Change.{created, next_tree, KeepsRows}
 use Rattle.sqlite.specs.Does.{Tally, Does, lacks_sequence}
 use Rattle.sqlite.specs.Rows.{Written}
 use Rattle.sqlite_trees.specs.Tree.{Trees, rowid, put_row}
+use Rattle.sqlite_trees.specs.Objects.{catalog_tree}
+use Rattle.sqlite_catalog.specs.Listing.{Lists}
 use Rattle.sqlite_tied.specs.Compute.{everything}
 use Rattle.sqlite.specs.declared.error.Error.{Error}
 use Rattle.sqlite.specs.Listing.{understood, reads_listing}
-use Rattle.sqlite.specs.Effect.{Database}
+use Rattle.sqlite.specs.Effect.{Database, IsDatabase}
 use Rattle.sqlite.specs.State.{State, mode_of, Writes, Executes, CommitsBy, MayCommit, MayWrite, IsUnchanged, IsRolledBack, IsNotRun, ExecutesIn, RunsCommand, RunsAlone, shows_rows, ExecutesInside, Shows, KeepsCommit, FailsToQuery, FailsToShow}
 use Rattle.sqlite.specs.Clock.{timed}
 use Rattle.sqlite_resolve.specs.declared.compiled.Compiled.{Compiled}
@@ -159,10 +161,10 @@ module _ (origin number tick : ℤ) (node : List ℕ) (time pico asked : ℤ) (w
   row = cells_of origin number tick node time pico asked who value
 
   -- what the insert makes of a database
-  pub does_add : (old : State) (tally : Tally) (after : Database) → old.now.schema ≡ archive_schema
+  pub does_add : (old : State) (tally : Tally) (after : Database) → IsDatabase after → old.now.schema ≡ archive_schema
       → Does old.step_limit (mode_of old) row old.now (statement_of insert_text (understood archive_schema insert_text)) None (Insert 1 (Values terms 10)) (Ok (tally, after))
       → (after.schema ≡ archive_schema) × Adds row old.now.trees after.trees
-  does_add old tally after has changed =
+  does_add old tally after sound has changed =
       let db = old.now.trees in
       let text = statement_of insert_text (understood archive_schema insert_text) in
       let done = went (subst (λ s. Does old.step_limit (mode_of old) row (record old.now { schema = s }) text None (Insert 1 (Values terms 10)) (Ok (tally, after))) has changed) in
@@ -180,21 +182,25 @@ module _ (origin number tick : ℤ) (node : List ℕ) (time pico asked : ℤ) (w
       let apart : 0 ≢ 1 = λ e. absurd (omega (arith, e)) in
       let mixed = IsPermutation-map columns_of _ _ (shuffled_in (with_rowid Chosen (db 1) (Null ∷ row)) (db 1) (not_taken (db 1) (with_rowid Chosen (db 1) (Null ∷ row)) free)) in (
         ap (λ (d : Database). d.schema) now,
-        record { records = subst (λ rs. IsPermutation (row ∷ cells (db 1)) (cells rs)) (sym (ap (λ (t : Trees). t 1) same ∙ rows)) mixed; meta = ap (λ (t : Trees). t 0) same ∙ applied.tables.0 apart },
+        record {
+          records = subst (λ rs. IsPermutation (row ∷ cells (db 1)) (cells rs)) (sym (ap (λ (t : Trees). t 1) same ∙ rows)) mixed;
+          meta = ap (λ (t : Trees). t 0) same ∙ applied.tables.0 apart;
+          lists = subst (Lists (after.trees catalog_tree)) (ap (λ (d : Database). d.schema) now) sound.lists;
+        },
       )
 
   pub adds : (old new : State) (r : Result ℕ Error) → Idles old → Executes insert_text row old new r → OnOk r (Idles new × Adds row old.now.trees new.now.trees)
   adds old new (Err e) was h = tt
   adds old new (Ok count) was h =
       let w = runs_as insert_text row old new archive_schema was.tables (Insert 1 (Values terms 10)) insert_is insert_plain count h in
-      let all = does_add old w.tally new.now was.tables w.changed in
+      let all = does_add old w.tally new.now w.sound was.tables w.changed in
       (record { is_open = w.shown.is_open; autocommit = w.shown.mode ∙ was.autocommit; settled = rw was.autocommit at w.shown.committed_is; tables = all.0 }, all.1)
 
   -- what a crash may leave of the insert
   pub leaves_added : (s : State) (db : Trees) → s.now.schema ≡ archive_schema → CommitsBy insert_text row s db → Adds row s.now.trees db
   leaves_added s db has h =
       let it = commits_as insert_text row s db archive_schema has (Insert 1 (Values terms 10)) insert_is insert_plain (λ e. let no = e in cc) (λ name e. let no = e in cc) h in
-      let all = does_add s it.1 it.2 has it.3 in rw it.5 all.1
+      let all = does_add s it.1 it.2 it.4 has it.3 in rw it.5 all.1
 
 abbrev meta_terms : List Term
 meta_terms = lit (Int (pos 1)) ∷ lit Null ∷ lit (Int (pos 2)) ∷ col 0 0 ∷ col 0 1 ∷ []
@@ -229,7 +235,7 @@ fills_meta name replica old new (Ok count) was empty none h =
     let same : new.now.trees ≡ written.0 = ap (λ (d : Database). d.trees) now ∙ trees in
     let apart : 1 ≢ 0 = λ e. absurd (omega (arith, e)) in (
       record { inside = h.1.mode; has = ap (λ (d : Database). d.schema) now },
-      record { meta = ap (λ (t : Trees). t 0) same ∙ rows; records = ap (λ (t : Trees). t 1) same ∙ applied.tables.1.0 apart ∙ none },
+      record { meta = ap (λ (t : Trees). t 0) same ∙ rows; records = ap (λ (t : Trees). t 1) same ∙ applied.tables.1.0 apart ∙ none; lists = subst (Lists (new.now.trees catalog_tree)) (ap (λ (d : Database). d.schema) now) w.sound.lists },
       h.1.committed_is,
     )
 

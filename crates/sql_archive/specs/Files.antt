@@ -1,24 +1,29 @@
 -- What the files of an archive hold.
-use Rattle.std.specs.Prelude.{◌≡◌, ◌⊎◌, ℕ, List, [], Err}
+use Rattle.std.specs.Prelude.{◌≡◌, ◌⊎◌, ℕ, pos, List, [], Err}
+use Rattle.sqlite_disk.specs.declared.Disk.{Ghosts}
+use Rattle.sqlite_disk.specs.declared.Files.{Files}
 use Rattle.sqlite_wal.specs.Recovery.{Image}
 use Rattle.sqlite_trees.specs.Tree.{Trees}
 use Rattle.sqlite_trees.specs.Objects.{catalog_tree}
 use Rattle.sqlite_catalog.specs.Listing.{Lists}
-use Rattle.sqlite.specs.Files.{HoldsDatabase, AreFoundIn}
+use Rattle.sqlite.specs.Files.{HoldsDatabase, AreFoundIn, LeavesFiles, image_of}
+use Rattle.sqlite.specs.Closing.{files_left}
+use Rattle.sqlite.specs.declared.file.Leftover.{Leftover}
 use Rattle.records.specs.Contents.{Content}
 use Rattle.sql_archive.specs.Tables.{no_schema, archive_schema}
+use Rattle.sql_archive.specs.State.{IsNewArchive}
 use Rattle.archive.specs.declared.fault.StoreFault.{StoreFault}
 use Rattle.sql_archive.specs.Opening.{judged}
-use Rattle.sql_archive.specs.Rows.{content_in, IsStored, meta_cells}
+use Rattle.sql_archive.specs.Rows.{content_in, IsStoreOf, meta_cells}
 
 -- an opening finds these trees in the two files: the database that they hold, or none
 pub record IsFound (image : Image) (db : Trees) : Type 0 where
   pub holds : (held : Trees) → HoldsDatabase image held → db ≡ held
   pub reads : AreFoundIn image db
 
--- the content of a store: nothing where it has no tables; else its tables, and nothing else, are those of a lawful content of this archive and replica, and that is it
+-- the content of a store: nothing where it has no tables; else it is one of this archive and replica, and its content is what its tables hold
 abbrev pub Tells : List ℕ → ℕ → Trees → Content → Type 0
-Tells id own db R = (Lists (db catalog_tree) no_schema × (R ≡ [])) ⊎ (Lists (db catalog_tree) archive_schema × IsStored id own db × (R ≡ content_in db))
+Tells id own db R = (Lists (db catalog_tree) no_schema × (R ≡ [])) ⊎ (IsStoreOf id own db × (R ≡ content_in db))
 
 -- the content that an archive of this id and replica goes on with where the two files hold this
 pub record Resumes (image : Image) (id : List ℕ) (own : ℕ) (R : Content) : Type 0 where
@@ -40,3 +45,12 @@ pub record IsAnothers (image : Image) (id : List ℕ) (own : ℕ) (fault : Store
   pub found : IsFound image db
   pub lists : Lists (db catalog_tree) archive_schema
   pub judged : judged id own (meta_cells db) ≡ Err fault
+
+-- what the engine leaves of files that it can't open
+abbrev pub EngineLeaves : {D : Type 0} → (g : Ghosts D) → Files D → Files D → Type 0
+EngineLeaves {D} g files left = (rest : Leftover D g) × ((left.log, left.db) ≡ files_left rest) × LeavesFiles files rest
+
+-- the files hold the database that was found there; or, where that had no table, a new archive
+abbrev pub KeepsFound : Image → List ℕ → ℕ → Image → Type 0
+KeepsFound image id own left =
+    (found : Trees) × IsFound image found × ∥ ((db : Trees) × HoldsDatabase left db × ((db ≡ found) ⊎ (Lists (found catalog_tree) no_schema × IsNewArchive id (pos own) db))) ∥₁

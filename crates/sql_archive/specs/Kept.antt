@@ -10,7 +10,7 @@ use Rattle.stamp.specs.Numbers.{number_of}
 use Rattle.records.specs.Contents.{Content, number_from, vec, top}
 use Rattle.records.specs.declared.record.Record.{Record}
 use Rattle.archive.specs.Store.{Store, IsOfOpening}
-use Rattle.sql_archive.specs.Rows.{content_in, IsStored}
+use Rattle.sql_archive.specs.Rows.{content_in, IsStored, IsStoreOf}
 use Rattle.sql_archive.specs.State.{Idles}
 
 pub record Kept (S : Type 0) : Type 0 where
@@ -47,9 +47,13 @@ pub record Stands (id : List ℕ) (own : ℕ) (numbers : List ℕ) (tick : ℤ) 
   pub remembered : Remembers (content_in s.now.trees) numbers tick
 
 module _ {S : Type 0} (g : Ghosts S) where
-  -- while it may be used, its tables stand for a lawful content
+  -- whatever a crash leaves at this moment is a store of its archive and replica, also where it is broken
+  abbrev pub LeavesStores : Kept S → Type 0
+  LeavesStores a = HasCleanDisk (state g a.conn) → (db : Trees) → (state g a.conn).may_leave db → IsStoreOf a.id a.number db
+
+  -- while it may be used, its tables stand for a lawful content; and a crash leaves stores of its own
   abbrev pub Serves : Kept S → Type 0
-  Serves a = a.broken ≡ false → HasCleanDisk (state g a.conn) → Stands a.id a.number a.numbers a.tick (state g a.conn)
+  Serves a = (a.broken ≡ false → HasCleanDisk (state g a.conn) → Stands a.id a.number a.numbers a.tick (state g a.conn)) × LeavesStores a
 
   -- its content is what its tables hold, and a crash leaves what the tables then hold
   abbrev pub store_of : Kept S → Store

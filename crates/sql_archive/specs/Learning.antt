@@ -1,15 +1,18 @@
 -- What learning a record does to a connection.
 use Rattle.std.specs.Prelude.{◌≡◌, ℕ, ◌+◌, nat_lt, ℤ, int_lt, int_le, if◌then◌else◌, List, [], ◌∷◌, pos, false, Bool, Option, Some, None, Result, Ok, Err, IfOk, IfErr, OnOk, unwrap_or}
 use Rattle.sqlite_trees.specs.Tree.{Trees}
+use Rattle.sqlite_trees.specs.Objects.{catalog_tree}
+use Rattle.sqlite_catalog.specs.Listing.{Lists}
 use Rattle.sqlite.specs.State.{State, HasCleanDisk, Survives}
 use Rattle.stamp.specs.Limits.{greatest}
-use Rattle.records.specs.Contents.{Content, Finding, vec, last_tick, finding, learned, put, Adds, Holds, Clash, Gap, TickTooFar, TickNotRising}
+use Rattle.records.specs.Contents.{Content, Finding, vec, last_tick, finding, learned, Adds, Holds, Clash, Gap, TickTooFar, TickNotRising}
 use Rattle.records.specs.declared.record.Record.{Record}
 use Rattle.archive.specs.Store.{answer_to, store_fault_in, fault_in, IsOfOpening}
 use Rattle.archive.specs.Listed.{is_broken}
 use Rattle.archive.specs.declared.fault.StoreFault.{StoreFault}
 use Rattle.archive.specs.declared.fault.LearnFault.{LearnFault}
 use Rattle.archive.specs.declared.fault.LearnFault.TheVariants as refused
+use Rattle.sql_archive.specs.Tables.{archive_schema}
 use Rattle.sql_archive.specs.Rows.{row_of, content_in, IsFilled}
 use Rattle.sql_archive.specs.State as state
 
@@ -52,12 +55,16 @@ pub record Follows (r : Record) (old new : Trees) : Type 0 where
   pub content : content_in new ≡ unwrap_or (learned (content_in old) r) (content_in old)
   pub meta : new 0 ≡ old 0
 
+-- a commit of the record, which may be added, leaves the old tables with it
+abbrev pub IsCommitOf : Record → Trees → Trees → Type 0
+IsCommitOf r old db = (finding (content_in old) r ≡ Adds) × Follows r old db × Lists (db catalog_tree) archive_schema
+
 -- the record meets what it meets, and is stored where it is added
 pub record Learned (old new : State) (r : Record) (result : Result (Result Bool LearnFault) StoreFault) : Type 0 where
   pub answered : HasCleanDisk new → IfOk result (λ told. (told ≡ answer_to (finding (content_in old.now.trees) r)) × state.Idles new × Follows r old.now.trees new.now.trees)
   pub kept : HasCleanDisk new → is_broken (fault_in result) ≡ false → IfErr result (λ _. state.Stays old new)
   pub met : IfErr result (λ fault. IsOfOpening fault → ⊥)
-  pub crash : Survives old new (λ db. (finding (content_in old.now.trees) r ≡ Adds) × (content_in db ≡ put r (content_in old.now.trees)))
+  pub crash : Survives old new (IsCommitOf r old.now.trees)
 
 -- a fault of the store as one of learning
 abbrev pub flat : Result (Result Bool LearnFault) StoreFault → Result Bool LearnFault

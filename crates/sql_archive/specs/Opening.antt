@@ -92,9 +92,13 @@ pub record Opens {A : Type 0} (id : List ℕ) (own : ℕ) (old new : State) (IsA
   pub wrong : HasCleanDisk new → IfErr result (λ fault. IsOfOpening fault → judged id own (meta_cells old.now.trees) ≡ Err fault)
   pub crash : Survives old new (λ _. ⊥)
 
+-- new tables are made where there are none
+abbrev pub IsMadeIn : List ℕ → ℕ → Database → Trees → Type 0
+IsMadeIn id own old db = (old.schema ≡ no_schema) × IsNewArchive id (pos own) db
+
 -- an archive begins with new tables in a store that had none, or with those that stood there, which are those of a lawful content of this archive and replica
 abbrev pub Starts : List ℕ → ℕ → Database → Database → Type 0
-Starts id own old new = ((old.schema ≡ no_schema) × IsNewArchive id (pos own) new.trees) ⊎ ((old.schema ≡ archive_schema) × IsStored id own old.trees × (new ≡ old))
+Starts id own old new = IsMadeIn id own old new.trees ⊎ ((old.schema ≡ archive_schema) × IsStored id own old.trees × (new ≡ old))
 
 -- meta says that this is another archive's store, or another replica's
 pub record IsRefused (id : List ℕ) (own : ℕ) (old : Database) (fault : StoreFault) : Type 0 where

@@ -7,8 +7,9 @@ use Rattle.ua_variant.specs.DataValue.{data_value}
 use Rattle.sqlite_value.specs.declared.value.Value.{Value}
 use Rattle.sqlite_value.specs.declared.value.Value.TheVariants.{Null, Int, Real, Text, Blob as Bytes}
 use Rattle.sqlite_value.specs.Order.{Row, column, bytes}
-use Rattle.sqlite_trees.specs.Objects.{number_in}
+use Rattle.sqlite_trees.specs.Objects.{number_in, catalog_tree}
 use Rattle.sqlite_trees.specs.Tree.{Trees}
+use Rattle.sqlite_catalog.specs.Listing.{Lists}
 use Rattle.records.specs.Lists.{sort_by}
 use Rattle.records.specs.Records.{name_cmp}
 use Rattle.records.specs.Contents.{Content}
@@ -19,6 +20,7 @@ use Rattle.records.specs.declared.record.Record.{Record}
 use Rattle.records.specs.declared.fault.RecordFault.{RecordFault}
 use Rattle.archive.specs.Store.{IsLawfulContent}
 use Rattle.sql_archive.specs.Words.{cells, cells_of}
+use Rattle.sql_archive.specs.Tables.{archive_schema}
 
 abbrev pub int_in : Value → ℤ
 int_in Null = pos 0
@@ -78,6 +80,10 @@ pub record IsStored (id : List ℕ) (own : ℕ) (db : Trees) : Type 0 where
   pub content : Content
   pub lawful : IsLawfulContent content
   pub stands : StandFor id own content db
+
+-- a store of this archive and replica, as an opening takes it: the tables of an archive, and nothing else, stand for a lawful content
+abbrev pub IsStoreOf : List ℕ → ℕ → Trees → Type 0
+IsStoreOf id own db = Lists (db catalog_tree) archive_schema × IsStored id own db
 
 -- records holds the rows of some lawful content
 abbrev pub IsFilled : Trees → Type 0

@@ -2,6 +2,8 @@
 use Rattle.std.specs.Prelude.{◌≡◌, ◌++◌, true, false, pos, List, ℕ, ℤ, [], ◌∷◌, filter, take, IsPermutation, IsSorted, IsTrue, Result, IfOk, IfErr}
 use Rattle.sqlite_value.specs.Order.{Row, column, value_cmp}
 use Rattle.sqlite_trees.specs.Tree.{Trees}
+use Rattle.sqlite_trees.specs.Objects.{catalog_tree}
+use Rattle.sqlite_catalog.specs.Listing.{Lists}
 use Rattle.sqlite.specs.State.{State, HasCleanDisk, Survives}
 use Rattle.archive.specs.declared.fault.StoreFault.{StoreFault}
 use Rattle.archive.specs.Store.{fault_in, IsOfOpening}
@@ -27,10 +29,11 @@ pub record Stays (old new : State) : Type 0 where
   pub idles : Idles new
   pub same : new.now ≡ old.now
 
--- the trees are the old ones with one row more in records
+-- the trees are the old ones with one row more in records, and list the tables of an archive
 pub record Adds (row : Row) (old new : Trees) : Type 0 where
   pub records : IsPermutation (row ∷ cells (old 1)) (cells (new 1))
   pub meta : new 0 ≡ old 0
+  pub lists : Lists (new catalog_tree) archive_schema
 
 -- of all rows those of one node, time and picoseconds, by stamp
 pub record IsStory (node : List ℕ) (time pico : ℤ) (all rows : List Row) : Type 0 where
@@ -51,10 +54,11 @@ pub record Makes (old new : State) (schema : Schema) (table : ℕ) : Type 0 wher
   pub empty : new.now.trees table ≡ []
   pub committed : new.committed ≡ old.committed
 
--- a new archive of this id and replica
+-- a new archive of this id and replica: the tables of an archive, with the one row of meta
 pub record IsNewArchive (id : List ℕ) (own : ℤ) (db : Trees) : Type 0 where
   pub meta : db 0 ≡ (Int (pos 1) ∷ Null ∷ Int (pos 2) ∷ Bytes id ∷ Int own ∷ []) ∷ []
   pub records : db 1 ≡ []
+  pub lists : Lists (db catalog_tree) archive_schema
 
 -- the first nine columns of what a query shows
 abbrev pub shown_of : Row → Row

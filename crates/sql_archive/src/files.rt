@@ -1,14 +1,15 @@
 //! Archives in files: a database file and its log.
 
-ghost use Rattle.std.specs.Prelude.{◌≡◌, false, IfOk, IfErr, IsTrue};
+ghost use Rattle.std.specs.Prelude.{◌≡◌, ◌⊎◌, true, false, IfOk, IfErr, IfSome, IsSomeAnd, IsTrue};
 ghost use Rattle.sqlite.specs.State.{HasCleanDisk};
 ghost use Rattle.sqlite_trees.specs.Tree.{Trees};
 ghost use Rattle.sqlite.specs.Files.{file_state, image_of, HoldsDatabase};
 ghost use Rattle.sqlite_wal.specs.Files.{image_at};
+ghost use Rattle.sqlite_std_file.specs.File.{IsFresh};
 ghost use Rattle.sqlite_wal.specs.Reads.{AreClean};
 ghost use Rattle.archive.specs.Store.{IsOfOpening};
-ghost use Rattle.sql_archive.specs.Rows.{content_in};
-ghost use Rattle.sql_archive.specs.Files.{Tells, Resumes, ResumesOnly, ResumesAmong, IsAnothers};
+ghost use Rattle.sql_archive.specs.Rows.{content_in, IsStoreOf};
+ghost use Rattle.sql_archive.specs.Files.{Tells, Resumes, ResumesOnly, ResumesAmong, IsAnothers, EngineLeaves, KeepsFound};
 
 use crate::starting::start;
 use crate::statements::refusal_of;
@@ -27,7 +28,7 @@ pub type FileArchive = SqlArchive<FileStore<File>>;
 /// The files of a connection, as they are.
 fn files_of<D: Disk + Drop>(conn: Connection<FileStore<D>>) -> Files<D>
     ensures clean { AreClean D.Disk result.log result.db → HasCleanDisk (file_state conn) }
-    ensures among { AreClean D.Disk result.log result.db → ResumesAmong (image_of D.Disk result) (file_state conn).may_leave }
+    ensures holds { AreClean D.Disk result.log result.db → ∥ ((db : Trees) × (file_state conn).may_leave db × HoldsDatabase (image_of D.Disk result) db) ∥₁ }
 {
     conn.into_store().close()
 }
@@ -52,6 +53,7 @@ impl<D: Disk + Drop> SqlArchive<FileStore<D>> {
         ensures own { IfOk result (λ a. (a.id ≡ id) × (a.number ≡ number) × (a.faults ≡ 0) × (a.broken ≡ false)) }
         ensures resumed { IfOk result (λ a. HasCleanDisk (file_state a.conn) → Resumes (image_of D.Disk files) id number (content_in (file_state a.conn).now.trees)) }
         ensures wrong { IfErr result (λ e. AreClean D.Disk e.1.log e.1.db → IsOfOpening e.0 → IsAnothers (image_of D.Disk files) id number e.0) }
+        ensures left { IfErr result (λ e. AreClean D.Disk e.1.log e.1.db → EngineLeaves D.Disk files e.1 ⊎ KeepsFound (image_of D.Disk files) id number (image_of D.Disk e.1)) }
     {
         match Connection::open_files(alloc, files, options) {
             Ok(conn) => match start(alloc, conn, id, number) {
@@ -78,11 +80,13 @@ impl<D: Disk + Drop> SqlArchive<FileStore<D>> {
         }
     }
 
-    /// Gives the files back as they are, also those of an archive that is broken: what an opening finds there
-    /// is what a crash could leave.
+    /// Gives the files back as they are, also those of an archive that is broken: they hold what a crash
+    /// could leave, which is a store of this archive and replica, and that is what an opening finds.
     pub fn into_files(self) -> Files<D>
-        ensures { AreClean D.Disk result.log result.db → ResumesAmong (image_of D.Disk result) (file_state self.conn).may_leave }
+        ensures held { AreClean D.Disk result.log result.db → ∥ ((db : Trees) × (file_state self.conn).may_leave db × HoldsDatabase (image_of D.Disk result) db × IsStoreOf self.id self.number db) ∥₁ }
+        ensures among { AreClean D.Disk result.log result.db → ResumesAmong (image_of D.Disk result) (file_state self.conn).may_leave }
     {
+        self.tables_stand();
         files_of(self.into_connection())
     }
 }
@@ -90,23 +94,30 @@ impl<D: Disk + Drop> SqlArchive<FileStore<D>> {
 impl<T: Start> SqlArchive<FileStore<FileFrom<T>>> {
     /// Opens the archive of this id and replica in the file at a path, with its log beside it, as
     /// `open_files` does; `start` stands for what the two files hold. No file there is an empty one. One
-    /// process at a time opens it: another one is refused.
+    /// process at a time opens it: another one is refused. A refusal gives the files back, where they were
+    /// opened.
     pub fn open_from(
         rt: &HostRuntime,
         path: &str,
         start_of: T,
         id: Uuid,
         number: ReplicaNo,
-    ) -> Result<SqlArchive<FileStore<FileFrom<T>>>, StoreFault>
+    ) -> Result<SqlArchive<FileStore<FileFrom<T>>>, (StoreFault, Option<Files<FileFrom<T>>>)>
         ensures own { IfOk result (λ a. (a.id ≡ id) × (a.number ≡ number) × (a.faults ≡ 0) × (a.broken ≡ false)) }
         ensures resumed { IfOk result (λ a. HasCleanDisk (file_state a.conn) → Resumes (image_at T.Start) id number (content_in (file_state a.conn).now.trees)) }
+        ensures wrong { IfErr result (λ e. IsOfOpening e.0 → IsSomeAnd e.1 (λ files. AreClean ⟦<FileFrom<T> as Disk>⟧ files.log files.db → IsAnothers (image_at T.Start) id number e.0)) }
+        ensures left { IfErr result (λ e. IfSome e.1 (λ left. AreClean ⟦<FileFrom<T> as Disk>⟧ left.log left.db
+            → ((files : _) × IsFresh true files.log × IsFresh false files.db × EngineLeaves ⟦<FileFrom<T> as Disk>⟧ files left) ⊎ KeepsFound (image_at T.Start) id number (image_of ⟦<FileFrom<T> as Disk>⟧ left))) }
     {
         match Connection::open_from(rt, path, false, start_of) {
             Ok(conn) => match start(rt.alloc(), conn, id, number) {
                 Ok(archive) => Ok(archive),
-                Err((fault, _)) => Err(fault),
+                Err((fault, conn)) => Err((fault, Some(files_of(conn)))),
             },
-            Err((error, _)) => Err(refusal_of(error)),
+            Err((error, left)) => match left {
+                Some(left) => Err((refusal_of(error), Some(left.into_files()))),
+                None => Err((refusal_of(error), None)),
+            },
         }
     }
 }
@@ -121,6 +132,9 @@ impl SqlArchive<FileStore<File>> {
     ) -> Result<FileArchive, StoreFault>
         ensures own { IfOk result (λ a. (a.id ≡ id) × (a.number ≡ number) × (a.faults ≡ 0) × (a.broken ≡ false)) }
     {
-        SqlArchive::open_from(rt, path, Unknown, id, number)
+        match SqlArchive::open_from(rt, path, Unknown, id, number) {
+            Ok(archive) => Ok(archive),
+            Err((fault, _)) => Err(fault),
+        }
     }
 }

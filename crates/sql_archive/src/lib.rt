@@ -23,5 +23,5 @@ mod walking;
 mod writes;
 
 pub use files::FileArchive;
-pub use laws::memory_is_honest;
+pub use laws::{memory_is_honest, refused_openings_lose_nothing};
 pub use store::SqlArchive;

@@ -6,7 +6,7 @@ ghost use Rattle.sqlite.specs.Held.{state};
 ghost use Rattle.archive.specs.Store.{IsOfOpening};
 ghost use Rattle.sql_archive.specs.Tables.{no_schema};
 ghost use Rattle.sql_archive.specs.State.{IsNewArchive};
-ghost use Rattle.sql_archive.specs.Opening.{Starts, IsRefused};
+ghost use Rattle.sql_archive.specs.Opening.{Starts, IsMadeIn, IsRefused};
 
 use crate::layout::first_open;
 use crate::standing::{Standing, standing_in};
@@ -63,8 +63,8 @@ pub(crate) fn start<S: Alter>(
     ensures own { IfOk result (λ a. (a.id ≡ id) × (a.number ≡ number) × (a.faults ≡ 0) × (a.broken ≡ false)) }
     ensures started { IfOk result (λ a. HasCleanDisk (state S.Store a.conn) → Starts id number (state S.Store conn).now (state S.Store a.conn).now) }
     ensures wrong { IfErr result (λ e. HasCleanDisk (state S.Store e.1) → IsOfOpening e.0 → IsRefused id number (state S.Store conn).now e.0) }
-    ensures opened { IfOk result (λ a. Survives (state S.Store conn) (state S.Store a.conn) (IsNewArchive id (pos number))) }
-    ensures left { IfErr result (λ e. Survives (state S.Store conn) (state S.Store e.1) (IsNewArchive id (pos number))) }
+    ensures opened { IfOk result (λ a. Survives (state S.Store conn) (state S.Store a.conn) (IsMadeIn id number (state S.Store conn).now)) }
+    ensures left { IfErr result (λ e. Survives (state S.Store conn) (state S.Store e.1) (IsMadeIn id number (state S.Store conn).now)) }
 {
     match standing_in(alloc, conn.schema()) {
         Ok(Standing::Empty) => make(alloc, conn, id, number),

@@ -218,7 +218,7 @@ impl<S: Alter> SqlArchive<S> {
     ghost use Rattle.sql_archive.specs.State.{Idles};
     ghost use Rattle.archive.specs.Store.{IsOfOpening};
     ghost use Rattle.archive.specs.Listed.{failures, is_broken};
-    ghost use Rattle.sql_archive.specs.Kept.{Serves};
+    ghost use Rattle.sql_archive.specs.Kept.{Serves, LeavesStores};
     ghost use Rattle.archive.specs.declared.fault.StoreFault.TheVariants as store;
     ghost use Rattle.std.specs.Prelude.{IfErr, Err};
     ghost use Rattle.sqlite.specs.State.{Survives};
@@ -242,15 +242,18 @@ impl<S: Alter> SqlArchive<S> {
         ensures left { IfErr result (λ e. Survives (state S.Store conn) (state S.Store e.1) (λ _. ⊥)) }
     {
         match open_tables(alloc, &mut conn, &id, number) {
-            Ok(latest) => Ok(SqlArchive {
-                alloc,
-                conn,
-                id,
-                number,
-                latest,
-                faults: 0,
-                broken: false,
-            }),
+            Ok(latest) => {
+                let _schema = conn.schema();
+                Ok(SqlArchive {
+                    alloc,
+                    conn,
+                    id,
+                    number,
+                    latest,
+                    faults: 0,
+                    broken: false,
+                })
+            }
             Err(fault) => Err((fault, conn)),
         }
     }
@@ -262,9 +265,11 @@ impl<S: Alter> SqlArchive<S> {
         self.conn
     }
 
-    /// Between any two calls its tables stand for its content. This call says so and does nothing.
+    /// Between any two calls its tables stand for its content, and what a crash leaves is a store that an
+    /// opening takes, also where it is broken. This call says so and does nothing.
     pub fn tables_stand(&self)
-        ensures { Serves S.Store self.now }
+        ensures stand { Serves S.Store self.now }
+        ensures left { LeavesStores S.Store self.now }
     {
         let _faults = self.faults;
     }

@@ -131,12 +131,12 @@ from-none n m is = omega (arith, is)
 talk-adds : (a b : Store) (came out rest : List ℕ) (last : Standing) → Talks calling a b came out rest (Some (Ok parted.Done)) last → b.honest → a.broken ≡ false → last.learned ≡ capped (length b.content - length a.content)
 talk-adds a b came out rest last talks h u =
     let fine = done-fine talks.taken last.code rest talks.beside talks.ends in
-    let answered = talks.answered h u in
-    let quiet : Passes a b [] = subst (λ (faults : List StoreFault). Passes a b faults) (no-faults (party_of a) (side_of calling a) talks.taken answered fine) talks.passes in
+    let answered = talks.answered h a.content (λ x. refl) in
+    let quiet : Passes a b [] = subst (λ (faults : List StoreFault). Passes a b faults) (no-faults (party_of a) (side_of calling a.content) talks.taken answered fine) talks.passes in
     let used : b.broken ≡ false = quiet.broken ∙ (or-false a.broken ∙ u) in
-    let more = grows (party_of a) (side_of calling a) talks.taken (omega arith) answered fine in
-    let counts : (after_all (party_of a) (side_of calling a) talks.taken).standing.learned ≡ capped (length (after_all (party_of a) (side_of calling a) talks.taken).content - length a.content) = from-none _ _ more.1 in
-    ap (λ (s : Standing). s.learned) (talks.stands h u) ∙ (counts ∙ ap (λ (R : Content). capped (length R - length a.content)) (sym (talks.content h u used)))
+    let more = grows (party_of a) (side_of calling a.content) talks.taken (omega arith) answered fine in
+    let counts : (after_all (party_of a) (side_of calling a.content) talks.taken).standing.learned ≡ capped (length (after_all (party_of a) (side_of calling a.content) talks.taken).content - length a.content) = from-none _ _ more.1 in
+    ap (λ (s : Standing). s.learned) (talks.stands h a.content (λ x. refl)) ∙ (counts ∙ ap (λ (R : Content). capped (length R - length a.content)) (sym (talks.content h a.content (λ x. refl) used)))
 
 pub adds-so : (a b : Store) (unread left before written : Option (List ℕ)) (result : Result Synced SyncFault) → Syncs a b unread left before written result → Adds a b result
 adds-so a b unread left before written result syncs h u = elim syncs [

@@ -13,6 +13,9 @@ pub mod DumpLemmas
 pub mod Opened
 pub mod Firsts
 pub mod Talks
+pub mod Delivered
+pub mod Updated
+pub mod Joined
 pub mod Talking
 pub mod Syncing
 pub mod Counts

@@ -6,6 +6,7 @@ use Rattle.std.proofs.KnownBytes.{Consumes-nil, Appends-nil}
 use Rattle.archive.specs.Store.{Store, Passes, Stays}
 use Rattle.exchange.specs.declared.fault.ExchangeFault.{ExchangeFault}
 use Rattle.exchange.specs.Dialogs.{Standing, Greets}
+use Rattle.exchange.proofs.HandleLemmas.{unbroken_before}
 use Rattle.ua_server.specs.declared.outcome.ServeFault.{ServeFault}
 use Rattle.ua_server.specs.declared.outcome.ServeFault.TheVariants.{Read, Write, TooLong, OutOfMemory}
 use Rattle.ua_server.specs.declared.peers.Parted.{Parted}
@@ -27,11 +28,11 @@ talks-quiet start a b rest stays passes = record {
   wrote = refl;
   ends = (tt, refl);
   passes = passes;
-  answered = λ h u. tt;
-  stands = λ h u. refl;
-  content = λ h u v. stays.content h v;
+  answered = λ h R held. tt;
+  stands = λ h R held. refl;
+  content = λ h R held u. stays.content h u ∙ held (unbroken_before a b [] passes u);
   used = λ h u o. passes.broken ∙ (or-false a.broken ∙ u);
-  crash = λ h u left m. inl (stays.crash h left m);
+  crash = λ h R held left m. inl (stays.crash h left m, λ u. refl);
 }
 
 speaks-behind : (start last : Standing) (a b c : Store) (came out : List ℕ) (ending : Result Parted ServeFault) → Stays a b → Passes a b [] → Speaks start b c came out ending last → Speaks start a c came out ending last

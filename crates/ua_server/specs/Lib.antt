@@ -14,6 +14,8 @@ pub mod Either
 pub mod Network
 pub mod Dumping
 pub mod Peers
+pub mod Events
+pub mod Wires
 pub mod Talking
 pub mod Calling
 pub mod Program

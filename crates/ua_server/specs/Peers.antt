@@ -1,8 +1,10 @@
 -- A dialog with a peer over a connection: which frames came, what an end made of them, and what went out.
-use Rattle.std.specs.Prelude.{◌≡◌, ◌⊎◌, ⊤, ℕ, ◌==◌, Bool, true, false, not, List, [], ◌∷◌, ◌++◌, take, map, length, Option, None, Some, unwrap_or, Result, Ok, Err, option_to_list}
+use Rattle.std.specs.Prelude.{◌≡◌, ◌⊎◌, ⊤, ℕ, ◌==◌, Bool, true, false, not, List, [], ◌∷◌, ◌++◌, map, length, Option, None, Some, unwrap_or, Result, Ok, Err, option_to_list}
 use Rattle.std.specs.List.{AllByRecursion, flat_map}
 use Rattle.std.specs.Io.KnownBytes.{Appends, Consumes, IsAtEnd}
-use Rattle.records.specs.Contents.{Content, merged}
+use Rattle.records.specs.Lists.{Has}
+use Rattle.records.specs.Contents.{Content, Adds, finding, put}
+use Rattle.records.specs.declared.record.Record.{Record}
 use Rattle.archive.specs.declared.fault.StoreFault.{StoreFault}
 use Rattle.archive.specs.Store.{Store, Passes}
 use Rattle.exchange.specs.declared.fault.ExchangeFault.{ExchangeFault}
@@ -12,7 +14,7 @@ use Rattle.exchange.specs.declared.message.State.TheVariants.{Done, Failed}
 use Rattle.exchange.specs.Named.{Party, end_frame}
 use Rattle.exchange.specs.Frames.{cut}
 use Rattle.exchange.specs.Streams.{Piece, AreFrames}
-use Rattle.exchange.specs.Dialogs.{Turn, Way, IsWay, Standing, fault_on, is_over, received, records_read, answered, standing_after, party_of, Writes, TellsFault}
+use Rattle.exchange.specs.Dialogs.{Turn, Way, IsWay, Standing, fault_on, is_over, received, records_read, answered, standing_after, party_of, IsHeld, Writes, TellsFault}
 use Rattle.ua_server.specs.declared.outcome.ServeFault.{ServeFault}
 use Rattle.ua_server.specs.declared.outcome.ServeFault.TheVariants.{Read, Write, OutOfMemory}
 use Rattle.ua_server.specs.declared.peers.Parted.{Parted}
@@ -32,8 +34,8 @@ pub record Side : Type 0 where
   pub standing : Standing
   pub content : Content
 
-abbrev pub side_of : Standing → Store → Side
-side_of standing s = record { standing = standing; content = s.content }
+abbrev pub side_of : Standing → Content → Side
+side_of standing R = record { standing = standing; content = R }
 
 -- what the side makes of the frame
 abbrev pub turn_of : Party → Side → Taken → Turn
@@ -53,12 +55,14 @@ AreAnswered p side [] = ⊤
 AreAnswered p side (t ∷ later) =
     (IsWay (records_read (received p side.standing t.frame.kind t.frame.body)) t.way × Writes (turn_of p side t) t.result [] t.said) × AreAnswered p (after p side t) later
 
--- what was held before one of the frames, and some first records of it
-abbrev pub MayLeave : Party → Side → List Taken → Content → Type 0
-MayLeave p side [] left = ⊥
-MayLeave p side (t ∷ later) left =
-    ((k : ℕ) × (left ≡ merged (take k (records_read (received p side.standing t.frame.kind t.frame.body))) side.content))
-    ⊎ MayLeave p (after p side t) later left
+-- the records that came in them
+abbrev pub records_of : Party → Side → List Taken → List Record
+records_of p side [] = []
+records_of p side (t ∷ later) = records_read (received p side.standing t.frame.kind t.frame.body) ++ records_of p (after p side t) later
+
+-- this content, or it with one of these records more, which may be added to it
+abbrev pub HasAtMostOneMore : Content → List Record → Content → Type 0
+HasAtMostOneMore R rs left = (left ≡ R) ⊎ ((r : Record) × Has rs r × (finding R r ≡ Adds) × (left ≡ put r R))
 
 abbrev pub faults_met : List Taken → List StoreFault
 faults_met taken = flat_map (λ t. option_to_list (fault_on t.way)) taken
@@ -125,12 +129,16 @@ pub record Talks (start : Standing) (old new : Store) (came out rest : List ℕ)
   pub wrote : out ≡ flat_map (λ t. t.said) taken ++ beside
   pub ends : IsEnd taken last.code rest beside ending
   pub passes : Passes old new (faults_met taken)
-  -- over a store that is honest, and in use at the start
-  pub answered : new.honest → old.broken ≡ false → AreAnswered (party_of old) (side_of start old) taken
-  pub stands : new.honest → old.broken ≡ false → last ≡ (after_all (party_of old) (side_of start old) taken).standing
-  pub content : new.honest → old.broken ≡ false → new.broken ≡ false → new.content ≡ (after_all (party_of old) (side_of start old) taken).content
+  -- over a store that is honest; over a broken one it is so whatever it held, since no answer tells what nobody knows
+  pub answered : new.honest → (R : Content) → IsHeld old R → AreAnswered (party_of old) (side_of start R) taken
+  pub stands : new.honest → (R : Content) → IsHeld old R → last ≡ (after_all (party_of old) (side_of start R) taken).standing
+  pub content : new.honest → (R : Content) → IsHeld old R → IsHeld new (after_all (party_of old) (side_of start R) taken).content
+  -- while it goes on the store stays in use
   pub used : new.honest → old.broken ≡ false → ending ≡ None → new.broken ≡ false
-  pub crash : new.honest → old.broken ≡ false → (left : Content) → new.may_hold left → old.may_hold left ⊎ MayLeave (party_of old) (side_of start old) taken left
+  -- a crash leaves what is held then, or that with one record more; where nothing was added, what it could leave before
+  pub crash : new.honest → (R : Content) → IsHeld old R → (left : Content) → new.may_hold left
+      → (old.may_hold left × (old.broken ≡ false → (after_all (party_of old) (side_of start R) taken).content ≡ R))
+      ⊎ ((old.broken ≡ false) × HasAtMostOneMore (after_all (party_of old) (side_of start R) taken).content (records_of (party_of old) (side_of start R) taken) left)
 
 -- the dialog is open, and no whole frame is left
 abbrev pub Waits : Standing → Store → Store → List ℕ → List ℕ → Standing → Type 0

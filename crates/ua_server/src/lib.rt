@@ -33,7 +33,10 @@ pub use dumps::{DumpFault, dump};
 pub use either::{Ended, serve_either};
 pub use files::SettingsFiles;
 pub use hexed::{HexFault, answer_hex};
-pub use laws::{answers_go_item_by_item, chunks_are_counted};
+pub use laws::{
+    a_call_that_ends_joins, answers_go_item_by_item, chunks_are_counted, connections_are_updates,
+    dialogs_are_deliveries,
+};
 pub use line::{Line, LineFault, read_line};
 pub use network::{Listener, Network};
 pub use outcome::{ServeFault, Served};

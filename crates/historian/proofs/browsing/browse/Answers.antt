@@ -1,10 +1,9 @@
-use Rattle.std.proofs.Common.{◌≡◌, ◌∙◌, List, [], map, Err, refl, sym, ap, subst}
+use Rattle.std.proofs.Common.{◌∙◌, List, [], map, Err, refl, sym, ap, subst}
 use Rattle.std.proofs.lemmas.Result.{err_from_is_err_and}
 use Rattle.ua_binary.specs.Binary.{node_of}
 use Rattle.ua_services.specs.declared.browsing.BrowseRequest.{BrowseRequest}
 use Rattle.ua_services.specs.declared.browsing.BrowseDescription.{BrowseDescription}
 use Rattle.ua_services.specs.Browsing.{browse_fields}
-use Rattle.records.specs.Contents.{Content}
 use Rattle.archive.specs.Steps.{give}
 use Rattle.ua_space.specs.declared.layout.Layout.{Layout}
 use Rattle.historian.specs.declared.service.Service.TheVariants as service

@@ -1,8 +1,8 @@
-use Rattle.std.proofs.Common.{◌≡◌, ◌∙◌, sym, ap, subst, Ok, Err, IfOk, IfSome}
+use Rattle.std.proofs.Common.{◌∙◌, sym, ap, subst, Ok, Err, IfOk, IfSome}
 use Rattle.std.specs.Prelude.{Result, Option}
 use Rattle.std.specs.Option.{option_map}
 use Rattle.ua_binary.specs.declared.codes.Status.{Status}
-use Rattle.ua_binary.specs.Binary.{node_of, IsShortNode}
+use Rattle.ua_binary.specs.Binary.{node_of}
 use Rattle.ua_space.specs.declared.space.VariableInfo.{VariableInfo}
 use Rattle.ua_space.specs.Space.{IsShortId}
 use Rattle.historian.proofs.Variables.{archived_short}

@@ -1,4 +1,4 @@
-use Rattle.std.proofs.Common.{rules, ◌≡◌, ◌∙◌, List, map, length, Ok, Err, Some, None, refl, sym, ap, subst, arith}
+use Rattle.std.proofs.Common.{◌≡◌, ◌∙◌, List, map, length, Err, Some, None, refl, sym, ap, subst}
 use Rattle.std.specs.Prelude.{Option, Result}
 use Rattle.std.proofs.lemmas.List.{length-map}
 use Rattle.ua_binary.specs.declared.codes.Status.{Status}
@@ -11,7 +11,7 @@ use Rattle.historian.specs.declared.answer.Answer.TheVariants as made
 use Rattle.historian.specs.Answers.{Histories}
 use Rattle.hist_update.specs.Codes.{list_refusal}
 use Rattle.historian.specs.Reading.{unless, read_history_of, query_of, histories_by, read_history}
-use Rattle.historian.proofs.Items.{comes-refused, comes-starved, comes-items, few_taken}
+use Rattle.historian.proofs.Items.{comes-refused, comes-starved, comes-items}
 use Rattle.historian.proofs.histories.read_all.Goals as goal
 
 pub returns-in-Some-clause-comes : goal.returns-in-Some-clause-comes

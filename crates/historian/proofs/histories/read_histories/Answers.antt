@@ -1,9 +1,7 @@
-use Rattle.std.proofs.Common.{rules, ◌≡◌, ◌∙◌, ◌∷◌, ◌++◌, ◌+◌, [], List, ℕ, get_or, vec_len, sym, ap, subst, arith, refl}
+use Rattle.std.proofs.Common.{◌∙◌, ◌∷◌, ◌++◌, ◌+◌, [], vec_len, sym, ap, subst, arith, refl}
 use Rattle.std.specs.Prelude.{All}
 use Rattle.std.proofs.lemmas.List.Elements.{All-nil, All-cons, All-append}
 use Rattle.ua_services.specs.History.{history_read_fields, IsShortHistoryRead}
-use Rattle.archive.specs.Store.{Mark}
-use Rattle.archive.specs.Steps.{Acts}
 use Rattle.hist_update.proofs.Updating.{pushed}
 use Rattle.historian.specs.Reading.{read_history_of}
 use Rattle.historian.proofs.Items.{each-next-by}

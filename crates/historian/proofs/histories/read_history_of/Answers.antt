@@ -1,15 +1,10 @@
-use Rattle.std.proofs.Common.{◌≡◌, ◌∙◌, List, ◌∷◌, Ok, Err, Option, None, Some, refl, sym, ap, subst}
-use Rattle.std.specs.Prelude.{Result}
-use Rattle.ua_binary.specs.declared.codes.Status.{Status}
-use Rattle.ua_binary.specs.declared.codes.TheConstants.Status.{BAD_OUT_OF_MEMORY}
+use Rattle.std.proofs.Common.{◌∙◌, List, ◌∷◌, refl, sym, ap, subst}
 use Rattle.ua_binary.specs.declared.values.NodeId.{NodeId}
-use Rattle.ua_binary.specs.Binary.{node_of}
-use Rattle.ua_binary.specs.Rules.{checked}
 use Rattle.ua_services.specs.History.{history_read_fields}
 use Rattle.archive.specs.Steps.{Acts, and_then, give}
 use Rattle.archive.specs.Store.{Mark, Fine, Starved}
 use Rattle.hist_read.specs.Node.{read_node}
-use Rattle.historian.specs.Reading.{history_rules, history_by, node_read, read_history_of, released}
+use Rattle.historian.specs.Reading.{history_by, read_history_of, released}
 use Rattle.historian.proofs.Items.{acts-none, acts-starved, acts-past, acts-made}
 use Rattle.historian.proofs.histories.read_history_of.Goals as goal
 

@@ -1,12 +1,7 @@
-use Rattle.std.proofs.Common.{◌≡◌, ℕ, List, None, refl, sym, subst}
-use Rattle.std.specs.Prelude.{Result}
-use Rattle.ua_binary.specs.declared.codes.Status.{Status}
+use Rattle.std.proofs.Common.{refl, sym, subst}
 use Rattle.ua_binary.specs.Binary.{node_of}
-use Rattle.ua_session.specs.Sessions.{State}
-use Rattle.archive.specs.Store.{Store}
 use Rattle.historian.specs.declared.service.Service.{Service}
 use Rattle.historian.specs.declared.service.Service.TheVariants as service
-use Rattle.historian.specs.declared.answer.Answer.{Answer as Made}
 use Rattle.historian.specs.Requests.{call_in}
 use Rattle.historian.specs.Services.{site_of, answered_call}
 use Rattle.historian.specs.Telling.{Performs}

@@ -1,5 +1,4 @@
-use Rattle.std.proofs.Common.{◌≡◌, ◌∙◌, List, [], ◌∷◌, take, Ok, Err, refl, sym, ap, subst}
-use Rattle.ua_binary.specs.Binary.{node_of}
+use Rattle.std.proofs.Common.{◌≡◌, [], ◌∷◌, take, Err, ap, subst}
 use Rattle.ua_binary.specs.declared.values.NodeId.{NodeId}
 use Rattle.archive.specs.declared.reading.Direction.TheVariants.{Backward}
 use Rattle.archive.specs.Reading.{range_of}

@@ -1,18 +1,14 @@
-use Rattle.std.proofs.Common.{rules, ◌≡◌, ◌∙◌, List, [], ◌∷◌, map, length, Ok, Err, Some, None, refl, sym, ap, subst, arith}
+use Rattle.std.proofs.Common.{◌≡◌, ◌∙◌, map, length, Err, Some, None, refl, sym, ap, arith}
 use Rattle.std.specs.Prelude.{Option}
 use Rattle.std.proofs.lemmas.List.{length-map}
 use Rattle.ua_binary.specs.declared.codes.Status.{Status}
 use Rattle.ua_binary.specs.declared.codes.TheConstants.Status.{BAD_TIMESTAMPS_TO_RETURN_INVALID}
 use Rattle.ua_services.specs.Attributes.{ReadAsked, read_fields}
 use Rattle.ua_services.specs.declared.attributes.TimestampsToReturn.{TimestampsToReturn}
-use Rattle.ua_services.specs.declared.attributes.ReadValueId.{ReadValueId}
-use Rattle.archive.specs.Store.{Mark}
-use Rattle.archive.specs.Steps.{Acts, each}
-use Rattle.records.specs.Contents.{Content}
 use Rattle.historian.specs.declared.answer.Answer.TheVariants as made
 use Rattle.historian.specs.Answers.{Values}
 use Rattle.hist_update.specs.Codes.{list_refusal}
-use Rattle.historian.specs.Reading.{unless, items, read_item, read_by, read}
+use Rattle.historian.specs.Reading.{unless, read_item, read_by, read}
 use Rattle.historian.proofs.Items.{comes-refused, comes-starved, comes-items, few_taken}
 use Rattle.historian.proofs.reading.read_all.Goals as goal
 

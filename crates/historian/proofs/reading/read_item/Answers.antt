@@ -1,10 +1,5 @@
-use Rattle.std.proofs.Common.{◌≡◌, ◌∙◌, List, [], ◌∷◌, Ok, Err, refl, sym, ap, subst}
-use Rattle.std.specs.Prelude.{Result}
-use Rattle.ua_binary.specs.declared.codes.Status.{Status}
-use Rattle.ua_variant.specs.declared.data.DataValue.{DataValue}
+use Rattle.std.proofs.Common.{Ok, Err}
 use Rattle.ua_services.specs.Attributes.{read_fields}
-use Rattle.archive.specs.Steps.{Acts}
-use Rattle.archive.specs.Store.{Mark}
 use Rattle.historian.specs.Reading.{item_at, item_value, telling}
 use Rattle.historian.proofs.Values.{item-told}
 use Rattle.historian.proofs.reading.read_item.Goals as goal

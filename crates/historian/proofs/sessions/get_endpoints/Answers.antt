@@ -1,10 +1,10 @@
-use Rattle.std.proofs.Common.{◌≡◌, ◌∙◌, Ok, Err, List, [], ◌∷◌, map, true, false, refl, sym, ap, subst}
+use Rattle.std.proofs.Common.{◌∙◌, Ok, Err, List, [], ◌∷◌, map, refl, sym, ap}
 use Rattle.std.proofs.lemmas.Result.{err_from_is_err_and}
 use Rattle.ua_services.specs.Endpoints.{EndpointFields, endpoint_fields, endpoints_asked}
 use Rattle.historian.specs.declared.service.Service.TheVariants as service
 use Rattle.historian.specs.declared.answer.Answer.TheVariants as made
 use Rattle.std.specs.Option.{option_copied}
-use Rattle.historian.specs.Answers.{Answer, Response, Endpoints}
+use Rattle.historian.specs.Answers.{Response, Endpoints}
 use Rattle.historian.specs.Requests.{GetEndpoints}
 use Rattle.historian.specs.Endpoints.{endpoint_of, endpoints_for, takes_transport}
 use Rattle.historian.proofs.Profiles.{endpoints-none, endpoints-one}

@@ -1,4 +1,4 @@
-use Rattle.std.proofs.Common.{◌≡◌, ◌∙◌, sym, ap, subst, IfSome}
+use Rattle.std.proofs.Common.{◌∙◌, sym, ap, subst, IfSome}
 use Rattle.std.specs.Prelude.{Option}
 use Rattle.std.specs.Option.{option_map}
 use Rattle.ua_binary.specs.Binary.{node_of}

@@ -1,14 +1,9 @@
-use Rattle.std.proofs.Common.{◌≡◌, ◌∙◌, List, ◌∷◌, Option, Some, None, Ok, Err, refl, sym, ap, subst}
-use Rattle.std.specs.Prelude.{Result}
+use Rattle.std.proofs.Common.{◌≡◌, ◌∙◌, ◌∷◌, Some, None, sym, ap}
 use Rattle.std.specs.Option.{option_map}
-use Rattle.ua_binary.specs.declared.codes.Status.{Status}
-use Rattle.ua_binary.specs.declared.values.NodeId.{NodeId}
 use Rattle.ua_binary.specs.Binary.{node_of}
-use Rattle.ua_variant.specs.declared.value.ValueType.{ValueType}
-use Rattle.ua_services.specs.Updates.{Details, details_of}
+use Rattle.ua_services.specs.Updates.{details_of}
 use Rattle.archive.specs.Steps.{give}
 use Rattle.archive.specs.Store.{Fine, Starved}
-use Rattle.hist_update.specs.declared.request.Request.{Request}
 use Rattle.historian.specs.Updating.{node_asked, type_asked, update_of, update_by, asked_for, update_item}
 use Rattle.historian.proofs.Items.{acts-none, acts-starved, acts-past}
 use Rattle.historian.proofs.Updates.{update-for}

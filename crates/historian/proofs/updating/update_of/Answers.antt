@@ -1,9 +1,9 @@
-use Rattle.std.proofs.Common.{◌≡◌, ◌∙◌, ℤ, List, FitsSigned, refl, sym, ap, subst, arith}
+use Rattle.std.proofs.Common.{◌∙◌, ℤ, List, FitsSigned, sym, ap, subst, arith}
 use Rattle.std.specs.Int.{w32}
 use Rattle.std.proofs.lemmas.Int.{to_z-of_z, ints}
 use Rattle.archive.specs.Store.{Mark}
 use Rattle.archive.specs.Steps.{Acts}
-use Rattle.ua_services.specs.Updates.{Details, details_of}
+use Rattle.ua_services.specs.Updates.{details_of}
 use Rattle.historian.specs.Updating.{update_of}
 use Rattle.hist_update.specs.Updates.{update_data}
 use Rattle.archive.specs.Steps.{give}

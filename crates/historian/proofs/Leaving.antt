@@ -1,0 +1,192 @@
+-- What a message leaves, as operations one after the other.
+use Rattle.std.proofs.Common.{◌≡◌, ℕ, Bool, List, [], ◌∷◌, ◌++◌, map, length, Option, Some, None, Result, Ok, Err, refl, sym, ap, ◌∙◌}
+use Rattle.ua_binary.specs.declared.codes.Status.{Status}
+use Rattle.ua_binary.specs.declared.values.NodeId.{NodeId}
+use Rattle.ua_binary.specs.declared.values.Ticks.{Ticks}
+use Rattle.ua_variant.specs.declared.value.ValueType.{ValueType}
+use Rattle.records.specs.Contents.{Content}
+use Rattle.archive.specs.Fault.{status_told}
+use Rattle.archive.specs.Store.{Mark, Fine, Starved, Met}
+use Rattle.archive.specs.Steps.{Marked, give, step, memory, and_then, each}
+use Rattle.ua_services.specs.Attributes.{ReadAsked}
+use Rattle.ua_services.specs.declared.attributes.TimestampsToReturn.{TimestampsToReturn}
+use Rattle.ua_services.specs.History.{HistoryAsked, HistoryReadFields}
+use Rattle.ua_services.specs.Updates.{Details, UpdateData, DeleteRawModified, DeleteAtTime, Other}
+use Rattle.ua_session.specs.Sessions as session
+use Rattle.ua_session.specs.declared.fault.SessionFault.{SessionFault}
+use Rattle.ua_space.specs.declared.layout.Layout.{Layout}
+use Rattle.hist_update.specs.declared.request.Request.{Request}
+use Rattle.hist_update.specs.Codes.{asked_by, list_refusal, first_other}
+use Rattle.hist_update.specs.Outcome.{Operation, DeleteAt, outcome, after}
+use Rattle.hist_update.specs.Updates as update
+use Rattle.hist_read.specs.declared.query.Query.{Query}
+use Rattle.hist_read.specs.Node.{Behind}
+use Rattle.hist_read.specs.Node as node
+use Rattle.ua_binary.specs.Rules.{checked}
+use Rattle.historian.specs.Updating as updating
+use Rattle.historian.specs.Reading as reading
+use Rattle.historian.specs.Answers.{Answer, Response, Values, Histories, Updated}
+use Rattle.historian.specs.Services as service
+use Rattle.historian.specs.Requests as request
+
+-- ---- operations, one after the other
+
+abbrev pub done_all : ℕ → List (Request × Operation) → Content → Content
+done_all own [] R = R
+done_all own (d ∷ ds) R = done_all own ds (after R (outcome R own d.0 d.1))
+
+done-append : (own : ℕ) (xs ys : List (Request × Operation)) (R : Content) → done_all own (xs ++ ys) R ≡ done_all own ys (done_all own xs R)
+done-append own [] ys R = refl
+done-append own (x ∷ xs) ys R = done-append own xs ys (after R (outcome R own x.0 x.1))
+
+-- some operations make the second content of the first
+abbrev pub By : ℕ → Content → Content → Type 0
+By own R S = (ds : List (Request × Operation)) × (S ≡ done_all own ds R)
+
+pub by_none : (own : ℕ) (R : Content) → By own R R
+by_none own R = ([], refl)
+
+pub by_then : (own : ℕ) (R S T : Content) → By own R S → By own S T → By own R T
+by_then own R S T a b = (a.0 ++ b.0, b.1 ∙ (ap (done_all own b.0) a.1 ∙ sym (done-append own a.0 b.0 R)))
+
+-- ---- steps
+
+pub record Leaves {X : Type 0} (own : ℕ) (R : Content) (m : Marked (X × Content)) : Type 0 where
+  pub by : (marks : List Mark) → By own R (m marks).0.1
+
+-- the content stays
+stays : {X : Type 0} (own : ℕ) (R : Content) (x : X) → Leaves own R (give (x, R))
+stays own R x = record { by = λ marks. by_none own R }
+
+leaves_then : {A X : Type 0} (own : ℕ) (R : Content) (first : Marked A) (more : A → Marked (X × Content)) → ((a : A) → Leaves own R (more a)) → Leaves own R (and_then first more)
+leaves_then own R first more rest = record { by = λ marks. (rest (first marks).0).by (first marks).1 }
+
+leaves_after : {X Y : Type 0} (own : ℕ) (R : Content) (first : Marked (X × Content)) (more : X × Content → Marked (Y × Content)) → Leaves own R first → ((p : X × Content) → Leaves own p.1 (more p)) → Leaves own R (and_then first more)
+leaves_after own R first more one rest = record { by = λ marks. by_then own R (first marks).0.1 (more (first marks).0 (first marks).1).0.1 (one.by marks) ((rest (first marks).0).by (first marks).1) }
+
+leaves_each : {X Y : Type 0} (own : ℕ) (f : X → Content → Marked (Y × Content)) → ((x : X) (S : Content) → Leaves own S (f x S)) → (xs : List X) (R : Content) → Leaves own R (each f xs R)
+leaves_each own f one [] R = record { by = λ marks. by_none own R }
+leaves_each own f one (x ∷ xs) R = record { by = λ marks. by_then own R (f x R marks).0.1 (each f xs (f x R marks).0.1 (f x R marks).1).0.1 ((one x R).by marks) ((leaves_each own f one xs (f x R marks).0.1).by (f x R marks).1) }
+
+leaves_step : {X : Type 0} (own : ℕ) (R : Content) (f : Mark → X × Content) → ((m : Mark) → By own R (f m).1) → Leaves own R (step f)
+leaves_step own R f one = record { by = at }
+  where
+    at : (marks : List Mark) → By own R (step f marks).0.1
+    at [] = one Fine
+    at (m ∷ marks) = one m
+
+-- ---- updates
+
+leaves_one : (own : ℕ) (r : Request) (op : Operation) (R : Content) → Leaves own R (update.update_one own r op R)
+leaves_one own r op R = leaves_step own R (λ m. (update.code_by (outcome R own r op) m, update.left_by R (outcome R own r op) m)) by
+  where
+    by : (m : Mark) → By own R (update.left_by R (outcome R own r op) m)
+    by Fine = ((r, op) ∷ [], refl)
+    by Starved = by_none own R
+    by (Met fault) = by_none own R
+
+leaves_unless : (own : ℕ) (R : Content) (reason : Option Status) (more : Marked update.Updated) → Leaves own R more → Leaves own R (update.unless reason R more)
+leaves_unless own R (Some code) more rest = stays own R (update.refused code)
+leaves_unless own R None more rest = rest
+
+leaves_past : (own : ℕ) (R : Content) (first : Marked (Option Status)) (more : Marked update.Updated) → Leaves own R more → Leaves own R (update.past first R more)
+leaves_past own R first more rest = leaves_then own R first _ (λ reason. leaves_unless own R reason more rest)
+
+leaves_begin : (own : ℕ) (r : Request) (status : List Status → Status) (ops : List Operation) (R : Content) → Leaves own R (update.begin own r status ops R)
+leaves_begin own r status ops R =
+    leaves_past own R memory _ (leaves_after own R (update.update_all own r ops R) _ (leaves_each own (update.update_one own r) (λ op S. leaves_one own r op S) ops R) (λ p. stays own p.1 (update.told status p.0)))
+
+leaves_delete : (own : ℕ) (r : Request) (modified : Bool) (start end_ : Ticks) (R : Content) → Leaves own R (update.delete_raw own r modified start end_ R)
+leaves_delete own r modified start end_ R =
+    let listed : Leaves own R (update.delete_listed own r (update.doomed R r.node start.0 end_.0) R) =
+    leaves_unless own R (update.listing_refusal (update.doomed R r.node start.0 end_.0)) (update.begin own r first_other (map DeleteAt (update.doomed R r.node start.0 end_.0)) R)
+    (leaves_begin own r first_other (map DeleteAt (update.doomed R r.node start.0 end_.0)) R) in
+    leaves_unless own R (update.stretch_refusal modified start.0 end_.0) (update.past (step status_told) R (update.delete_listed own r (update.doomed R r.node start.0 end_.0) R))
+    (leaves_past own R (step status_told) (update.delete_listed own r (update.doomed R r.node start.0 end_.0) R) listed)
+
+leaves_update : (own : ℕ) (asked : NodeId → Request) (type : ValueType) (details : Details) (R : Content) → Leaves own R (updating.update_of own asked type details R)
+leaves_update own asked type (UpdateData d) R =
+    leaves_unless own R (update.data_refusal (asked_by d.1.0) (length d.1.1)) (update.begin own (asked d.0) update.all_good (update.writes (asked_by d.1.0) type d.1.1) R)
+    (leaves_begin own (asked d.0) update.all_good (update.writes (asked_by d.1.0) type d.1.1) R)
+leaves_update own asked type (DeleteRawModified d) R = leaves_delete own (asked d.0) d.1.0 d.1.1.0 d.1.1.1 R
+leaves_update own asked type (DeleteAtTime d) R =
+    leaves_unless own R (list_refusal 1000 (length d.1)) (update.begin own (asked d.0) update.all_good (update.deletes_at d.1) R) (leaves_begin own (asked d.0) update.all_good (update.deletes_at d.1) R)
+leaves_update own asked type Other R = stays own R _
+
+leaves_update_by : (own : ℕ) (asked : NodeId → Request) (details : Details) (R : Content) (type : Result ValueType Status) → Leaves own R (updating.update_by own asked details R type)
+leaves_update_by own asked details R (Err status) = stays own R (update.refused status)
+leaves_update_by own asked details R (Ok type) = leaves_then own R memory _ unless
+  where
+    unless : (reason : Option Status) → Leaves own R (updating.updated_unless own asked type details R reason)
+    unless (Some status) = stays own R (update.refused status)
+    unless None = leaves_update own asked type details R
+
+-- ---- services
+
+leaves_served : (own : ℕ) (R : Content) (reason : Option Status) (more : reading.Served) → Leaves own R more → Leaves own R (reading.unless reason R more)
+leaves_served own R (Some status) more rest = stays own R (Err status)
+leaves_served own R None more rest = rest
+
+leaves_items : {X Y : Type 0} (own : ℕ) (answer : List Y → Answer) (item : X → Content → Marked (Y × Content)) → ((x : X) (S : Content) → Leaves own S (item x S)) → (xs : List X) (R : Content) → Leaves own R (reading.items answer item xs R)
+leaves_items own answer item one xs R =
+    leaves_then own R memory _ (λ reason. leaves_served own R reason _ (leaves_after own R (each item xs R) _ (leaves_each own item one xs R) (λ p. stays own p.1 (Ok (answer p.0)))))
+
+leaves_history : (own : ℕ) (id : List ℕ) (space : Layout) (asked : HistoryAsked) (R : Content) → Leaves own R (reading.read_history id space asked R)
+leaves_history own id space asked R =
+    leaves_served own R (list_refusal 100 (length asked.1.1.1)) (reading.histories_by id space asked.1.1.0 asked.1.1.1 R (reading.query_of asked.0 asked.1.0)) (by (reading.query_of asked.0 asked.1.0))
+  where
+    page : (query : Query) (item : HistoryReadFields) (S : Content) (behind : Result (Option Behind) Status) → Leaves own S (node.read_from id item.0 query S behind)
+    page query item S (Err status) = stays own S (node.refused status)
+    page query item S (Ok behind) = leaves_step own S (λ m. (node.told (node.page_from S id item.0 query behind) m, S)) (λ m. by_none own S)
+
+    unless : (query : Query) (item : HistoryReadFields) (S : Content) (reason : Option Status) → Leaves own S (reading.node_read id query asked.1.1.0 item S reason)
+    unless query item S (Some status) = stays own S (node.refused status)
+    unless query item S None = leaves_after own S (node.read_node id item.0 query item.1.1.1 S) (λ p. give (reading.released asked.1.1.0 p.0, p.1)) (page query item S (node.judged id item.0 query.details item.1.1.1)) (λ p. stays own p.1 (reading.released asked.1.1.0 p.0))
+
+    one : (query : Query) (item : HistoryReadFields) (S : Content) (r : Result (Unit {0}) Status) → Leaves own S (reading.history_by id query asked.1.1.0 item S r)
+    one query item S (Err status) = stays own S (node.refused status)
+    one query item S (Ok u) = leaves_then own S memory _ (unless query item S)
+
+    by : (query : Result Query Status) → Leaves own R (reading.histories_by id space asked.1.1.0 asked.1.1.1 R query)
+    by (Err status) = stays own R (Err status)
+    by (Ok query) = leaves_items own Histories (reading.read_history_of id space query asked.1.1.0) (λ item S. one query item S (checked (reading.history_rules space item))) asked.1.1.1 R
+
+leaves_read : (own : ℕ) (space : Layout) (now : Ticks) (asked : ReadAsked) (R : Content) → Leaves own R (reading.read space now asked R)
+leaves_read own space now asked R = leaves_served own R (list_refusal 1000 (length asked.1)) (reading.read_by space now asked.0 asked.1 R) (by asked.0)
+  where
+    by : (stamps : Option TimestampsToReturn) → Leaves own R (reading.read_by space now stamps asked.1 R)
+    by None = stays own R _
+    by (Some stamps) = leaves_items own Values (reading.read_item space now stamps) (λ item S. leaves_then own S (reading.telling (reading.item_at space item)) (λ reason. give (reading.item_told stamps now (reading.unless_met reason (reading.item_value now space item S)), S))
+        (λ reason. stays own S (reading.item_told stamps now (reading.unless_met reason (reading.item_value now space item S))))) asked.1 R
+
+module _ (site : service.Site) where
+  leaves_in_session : (sessions : session.State) (user : Result (List ℕ) SessionFault) (work : List ℕ → Marked (Response × Content)) (R : Content) → ((u : List ℕ) → Leaves site.own R (work u))
+      → Leaves site.own R (service.in_session sessions user work R)
+  leaves_in_session sessions (Err fault) work R one = stays site.own R _
+  leaves_in_session sessions (Ok user) work R one = leaves_after site.own R (work user) _ (one user) (λ p. stays site.own p.1 (p.0, sessions))
+
+  leaves_call : (now : Ticks) (token : NodeId) (call : request.Call) (sessions : session.State) (R : Content) → Leaves site.own R (service.served site now token call sessions R)
+  leaves_call now token (request.GetEndpoints profiles) sessions R = stays site.own R _
+  leaves_call now token (request.CreateSession timeout) sessions R = leaves_step site.own R (λ m. (service.create site.settings timeout sessions m, R)) (λ m. by_none site.own R)
+  leaves_call now token (request.ActivateSession claim) sessions R = leaves_step site.own R (λ m. (service.activate site.settings token claim sessions m, R)) (λ m. by_none site.own R)
+  leaves_call now token request.CloseSession sessions R = stays site.own R _
+  leaves_call now token (request.Browse nodes) sessions R = leaves_in_session sessions (session.user_at sessions token) _ R (λ u. stays site.own R _)
+  leaves_call now token (request.Read asked) sessions R = leaves_in_session sessions (session.user_at sessions token) _ R (λ u. leaves_read site.own site.settings.space now asked R)
+  leaves_call now token (request.HistoryRead asked) sessions R = leaves_in_session sessions (session.user_at sessions token) _ R (λ u. leaves_history site.own site.id site.settings.space asked R)
+  leaves_call now token (request.HistoryUpdate details) sessions R =
+      leaves_in_session sessions (session.user_at sessions token) _ R
+      (λ u.
+      leaves_served site.own R (list_refusal 100 (length details)) (reading.items Updated (updating.update_item site.own site.settings.space u now) details R)
+      (leaves_items site.own Updated (updating.update_item site.own site.settings.space u now)
+      (λ item S. leaves_update_by site.own (updating.asked_for u now) item S (updating.type_asked site.settings.space (updating.node_asked item))) details R))
+
+  pub leaves_message : (now : Ticks) (message : List ℕ) (sessions : session.State) (R : Content) → Leaves site.own R (service.answered site now message sessions R)
+  leaves_message now message sessions R = by_request (request.request_in message)
+    where
+      by_asked : (token : NodeId) (call : Result request.Call Status) → Leaves site.own R (service.asked site now token call sessions R)
+      by_asked token (Err status) = stays site.own R _
+      by_asked token (Ok call) = leaves_call now token call sessions R
+
+      by_request : (r : Result request.Request Status) → Leaves site.own R (service.answered_request site now r sessions R)
+      by_request (Err status) = stays site.own R _
+      by_request (Ok r) = leaves_then site.own R _ _ (λ call. by_asked r.0 call)

@@ -1,0 +1,8 @@
+use Rattle.sql_archive.proofs.FileLemmas.{still_held, still_resumed}
+use Rattle.sql_archive.proofs.laws.refused_openings_lose_nothing.Goals as goal
+
+pub returns-clause-held : goal.returns-clause-held
+returns-clause-held c = still_held
+
+pub returns-clause-resumed : goal.returns-clause-resumed
+returns-clause-resumed c = still_resumed
