@@ -231,7 +231,7 @@ pub fn put_guid(out: &mut Vec<u8>, v: &Guid) -> Result<(), BinaryFault>
     or_undone(put, out, len)
 }
 
-#[tactic(auto, using(crate::proofs::Kept::kept), unfolding(crate::specs::Binary::node_id))]
+#[tactic(auto, using(crate::proofs::Kept::kept), unfolding(crate::specs::Binary::node_id, crate::specs::Binary::unsigned))]
 fn put_node_id_parts(out: &mut Vec<u8>, v: NodeIdRef<'_>) -> Result<(), BinaryFault>
     requires { IsShortNode (node_of v) }
     ensures puts { PutsPart BinaryFault.OutOfMemory result out.old.items out.new.items (node_id.canon (node_of v.entry)) }
@@ -239,12 +239,10 @@ fn put_node_id_parts(out: &mut Vec<u8>, v: NodeIdRef<'_>) -> Result<(), BinaryFa
     match v {
         NodeIdRef::Numeric(namespace, id) => {
             if namespace == 0 && id < 256 {
-                put_u8(out, 0)?;
-                put_u8(out, id as u8)?;
+                put_block(out, &[0, id as u8])?;
             } else if namespace < 256 && id < 65536 {
-                put_u8(out, 1)?;
-                put_u8(out, namespace as u8)?;
-                put_u16(out, id as u16)?;
+                let n = (id as u16).to_le_bytes();
+                put_block(out, &[1, namespace as u8, n[0], n[1]])?;
             } else {
                 put_u8(out, 2)?;
                 put_u16(out, namespace)?;
