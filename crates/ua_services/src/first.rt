@@ -25,6 +25,16 @@ fn count_as<E: Fault>(cursor: &mut Cursor) -> Result<usize, E>
     }
 }
 
+/// An empty list with room for so many items; want of memory is told in another way.
+fn with_room<E: Fault, T: Drop>(alloc: Global, room: usize) -> Result<Vec<T>, E>
+    ensures { MatchResult result (λ v. v.items ≡ []) (λ e. e ≡ E.told BinaryFault.OutOfMemory) }
+{
+    match Vec::with_capacity(alloc, room) {
+        Ok(items) => Ok(items),
+        Err(_) => Err(E::tell(BinaryFault::OutOfMemory)),
+    }
+}
+
 /// Adds an item behind the kept ones where there are fewer than `most`, and drops it where there are as
 /// many; want of memory is told in another way.
 fn keep<E: Fault, T: Drop>(items: &mut Vec<T>, item: T, most: usize) -> Result<(), E>
@@ -50,7 +60,8 @@ fn read_items<'a, T: Decode<'a> + Drop>(
 ) -> Result<Vec<T>, T::Fault>
     ensures { ReadsPart (T.Fault.told BinaryFault.OutOfMemory) (λ v. map T.view v.items) result cursor.old cursor.new (λ bytes. first_items most (items_at T.format.read count bytes)) }
 {
-    let mut items = Vec::new(alloc);
+    let room = count.min(most).min(cursor.rest().len());
+    let mut items = with_room::<T::Fault, T>(alloc, room)?;
     for _ in 0..count {
         let item = T::decode(alloc, cursor)?;
         keep::<T::Fault, T>(&mut items, item, most)?;

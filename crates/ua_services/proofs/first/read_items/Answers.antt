@@ -6,7 +6,7 @@ use Rattle.ua_services.proofs.first.read_items.Goals as goal
 
 pub returns-in_err-item : goal.returns-in_err-item
 returns-in_err-item g c =
-    let p = err_from_is_err_and c.from_residual.result c.from_residual.ensures.1 in
+    let p = err_from_is_err_and c.from_residual-in_err-item.result c.from_residual-in_err-item.ensures.1 in
     rw (p.1, p.2) (λ h. ends g.T.Decode.format.read c.args.most (map g.T.Decode.view c.loop.items.items) c.args.count c.loop.counter c.loop.cursor _ (firsts c.args.most [] (items_at g.T.Decode.format.read c.args.count c.args.cursor.now)) c.loop-test.true (c.in_err-item.ensures.0 h) c.loop.invariant.reads)
 
 pub loop-preserved : goal.loop-preserved
