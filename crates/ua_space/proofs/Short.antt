@@ -1,15 +1,14 @@
 -- What is told of a space's nodes can be written.
-use Rattle.std.proofs.Common.{◌≡◌, ◌≤◌, ◌<◌, ◌+◌, ◌^◌, ℕ, Bool, true, false, ◌&&◌, List, [], ◌∷◌, ◌++◌, map, filter, length, None, Some, find, nat_lt, Ok, Err, refl, sym, ap, ◌∙◌, cond, subst, arith}
+use Rattle.std.proofs.Common.{◌≡◌, ◌≤◌, ◌<◌, ◌+◌, ◌^◌, ℕ, Bool, true, false, List, [], ◌∷◌, ◌++◌, map, filter, length, None, Some, find, nat_lt, Ok, Err, refl, sym, cond, subst, arith}
 use Rattle.std.specs.Prelude.{Option, Result, All, IfSome, IfOk, MatchResult, ◌==◌, codes, if◌then◌else◌}
-use Rattle.std.specs.Option.{option_map, option_to_list, unwrap_or, ok_or}
+use Rattle.std.specs.Option.{option_map, option_to_list, ok_or}
 use Rattle.std.specs.List.{AllByRecursion}
 use Rattle.std.proofs.lemmas.Bool.{ltb-false}
 use Rattle.std.proofs.lemmas.List.{length-map, length-append}
-use Rattle.std.proofs.lemmas.List.Elements.{All-nil, All-cons, All-map, All-filter, All-append}
-use Rattle.ua_binary.specs.declared.codes.Status.{Status}
+use Rattle.std.proofs.lemmas.List.Elements.{All-nil, All-cons, All-map}
 use Rattle.ua_binary.specs.declared.values.NodeId.{NodeId}
 use Rattle.ua_binary.specs.Binary.{IsShortNode, IsCounted, IsShortLocalized}
-use Rattle.ua_binary.specs.declared.codes.TheConstants.Status.{BAD_ATTRIBUTE_ID_INVALID, BAD_REFERENCE_TYPE_ID_INVALID}
+use Rattle.ua_binary.specs.declared.codes.TheConstants.Status.{BAD_ATTRIBUTE_ID_INVALID}
 use Rattle.ua_binary.specs.Format.{IsOrStarved}
 use Rattle.ua_variant.specs.DataValue.{has}
 use Rattle.ua_services.specs.Browsing.{BrowseFields, IsShortReference}
@@ -18,15 +17,13 @@ use Rattle.ua_services.specs.declared.browsing.ReferenceDescription.{ReferenceDe
 use Rattle.ua_space.specs.declared.attributes.Answered.{Answered}
 use Rattle.ua_space.specs.declared.layout.Layout.{Layout}
 use Rattle.ua_space.specs.declared.node.Folder.{Folder}
-use Rattle.ua_space.specs.declared.node.Variable.{Variable}
-use Rattle.ua_space.specs.declared.link.ReferenceType.TheVariants.{Organizes, HasTypeDefinition}
 use Rattle.ua_space.specs.declared.plan.Plan.{Plan}
 use Rattle.ua_space.specs.declared.fault.BuildFault.{BuildFault}
 use Rattle.ua_space.specs.declared.plan.VariablePlan.{VariablePlan}
 use Rattle.ua_space.specs.Plan.{HasShortPlan, HasPlannedId, folder_of, variable_of, layout_of, planned, is_too_large}
-use Rattle.ua_space.specs.Space.{Node, Root, Objects, NamespaceArray, State, OfFolder, OfVariable, FolderType, BaseDataVariableType, id_of, name_of, node_in, node_at, nodes, planned_nodes, standard_nodes, is_same_id, HasShortId, HasShortTexts, HasShortName, IsShortLayout, browse_name_of, display_name_of, has_folder_id}
-use Rattle.ua_space.specs.Attributes.{Table, common_attributes, own_attributes, attributes, entry_at, attribute_at, IsShortAnswered}
-use Rattle.ua_space.specs.References.{Link, objects_below, holds, children, type_definition, folder_node, parent, organizes, is_defined_by, references, is_followed, told, browsed, browse_at, is_reference_type, type_id, no_node, no_name, no_text, definition_id}
+use Rattle.ua_space.specs.Space.{Node, Root, Objects, NamespaceArray, State, OfFolder, OfVariable, FolderType, BaseDataVariableType, id_of, name_of, node_at, nodes, is_same_id, HasShortId, HasShortTexts, HasShortName, IsShortLayout, browse_name_of, display_name_of, has_folder_id}
+use Rattle.ua_space.specs.Attributes.{Table, common_attributes, own_attributes, attributes, entry_at, IsShortAnswered}
+use Rattle.ua_space.specs.References.{Link, objects_below, holds, children, type_definition, folder_node, parent, organizes, is_defined_by, references, is_followed, told, type_id, no_node, no_name, no_text, definition_id}
 
 -- its texts can be counted
 abbrev pub IsShort : Node → Type 0

@@ -4,6 +4,7 @@ ghost use Rattle.std.specs.Prelude.{◌≡◌, find, nat_eq, option_map, option_
 ghost use Rattle.std.specs.Cmp.Lexicographic.{pointwise};
 ghost use Rattle.ua_binary.specs.Binary.{node_of as id_of_lent};
 
+use crate::index::{Place, Places};
 use crate::node::{Folder, NAMESPACE, Node, STANDARD, Variable};
 use ua_binary::{Listing, NodeIdRef, Text};
 
@@ -17,11 +18,13 @@ pub(crate) struct Layout {
 
 impl Layout {
     ghost use Rattle.ua_binary.specs.declared.values.NodeId.TheVariants.{Named};
-    ghost use Rattle.ua_space.specs.Space.{node_at, node_in, planned_nodes, node_of, has_folder_id, has_variable_id};
+    ghost use Rattle.ua_space.specs.Space.{node_at, node_in, planned_nodes, node_of, has_folder_id};
+    ghost use Rattle.ua_space.specs.Index.{at_place, IsIndexOf};
 
     /// The node of this id.
     #[tactic(auto, using(crate::proofs::Nodes::anywhere))]
-    pub fn find(&self, id: NodeIdRef<'_>) -> Option<Node<'_>>
+    pub fn find(&self, places: &Places, id: NodeIdRef<'_>) -> Option<Node<'_>>
+        requires { IsIndexOf self.now places.now }
         ensures { option_map node_of result ≡ node_at self.now (id_of_lent id.entry) }
     {
         match id {
@@ -34,7 +37,7 @@ impl Layout {
             }
             NodeIdRef::Named(namespace, id) => {
                 if namespace == NAMESPACE {
-                    self.find_planned(id)
+                    self.find_planned(places, id)
                 } else {
                     None
                 }
@@ -44,13 +47,26 @@ impl Layout {
     }
 
     /// The folder or variable of this id.
-    #[tactic(auto, using(crate::proofs::Nodes::planned))]
-    fn find_planned(&self, id: &str) -> Option<Node<'_>>
+    fn find_planned(&self, places: &Places, id: &str) -> Option<Node<'_>>
+        requires { IsIndexOf self.now places.now }
         ensures { option_map node_of result ≡ node_in (planned_nodes self.now) (Named 1 id.now) }
     {
-        match self.find_folder(id) {
-            Some(folder) => Some(Node::Folder(folder)),
-            None => match self.find_variable(id) {
+        match places.get(id) {
+            Some(place) => self.at(*place),
+            None => None,
+        }
+    }
+
+    /// What stands at a place.
+    fn at(&self, place: Place) -> Option<Node<'_>>
+        ensures { option_map node_of result ≡ at_place self.now place }
+    {
+        match place {
+            Place::Folder(i) => match self.folders.as_slice().get(i) {
+                Some(folder) => Some(Node::Folder(folder)),
+                None => None,
+            },
+            Place::Variable(i) => match self.variables.as_slice().get(i) {
                 Some(variable) => Some(Node::Variable(variable)),
                 None => None,
             },
@@ -62,14 +78,5 @@ impl Layout {
         ensures { option_copied result ≡ find (has_folder_id id.now) self.now.folders }
     {
         self.folders.iter().find(|folder| folder.id.as_str() == id)
-    }
-
-    /// The variable of this id.
-    fn find_variable(&self, id: &str) -> Option<&Variable>
-        ensures { option_copied result ≡ find (has_variable_id id.now) self.now.variables }
-    {
-        self.variables
-            .iter()
-            .find(|variable| variable.id.as_str() == id)
     }
 }

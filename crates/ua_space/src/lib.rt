@@ -6,6 +6,7 @@ mod asked_types;
 mod attributes;
 mod browsing;
 mod fault;
+mod index;
 mod judging;
 mod laws;
 mod layout;

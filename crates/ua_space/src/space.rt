@@ -14,6 +14,7 @@ use crate::asked_types::is_reference_type;
 use crate::attributes::Answered;
 use crate::browsing::tell;
 use crate::fault::BuildFault;
+use crate::index::{Places, index_of};
 use crate::judging::{judge, type_number};
 use crate::layout::Layout;
 use crate::node::{Folder, Node, Variable};
@@ -30,17 +31,20 @@ use ua_variant::ValueType;
 pub struct Space {
     alloc: Global,
     layout: Layout,
+    /// Where its folders and variables stand.
+    places: Places,
 }
 
 impl Model for Space {
     ghost use Rattle.ua_space.specs.declared.layout.Layout.{Layout};
     ghost use Rattle.ua_space.specs.Space.{IsShortLayout};
+    ghost use Rattle.ua_space.specs.Index.{IsIndexOf};
 
     ghost Value = { Layout };
 
     ghost view = { λ s. s.layout };
 
-    ghost invariant = { λ s. IsShortLayout s.layout };
+    ghost invariant = { λ s. IsShortLayout s.layout × IsIndexOf s.layout s.places };
 }
 
 /// What is known of a variable.
@@ -68,14 +72,19 @@ impl Space {
             folders,
             variables,
         };
-        Ok(Space { alloc, layout })
+        let places = index_of(alloc, &layout)?;
+        Ok(Space {
+            alloc,
+            layout,
+            places,
+        })
     }
 
     /// Whether the id is of a node. It takes no memory.
     pub fn has_node(&self, node: NodeIdRef<'_>) -> bool
         ensures { result ≡ is_some (node_at self.now (id_of_lent node.entry)) }
     {
-        self.layout.find(node).is_some()
+        self.layout.find(&self.places, node).is_some()
     }
 
     /// What is known of a variable of the plan; none where the id is of no such variable. Such an id has at
@@ -84,7 +93,7 @@ impl Space {
         ensures known { option_map (λ info. info.value_type) result ≡ value_type_at self.now (id_of_lent node.entry) }
         ensures short { IfSome result (λ _. IsShortId (id_of_lent node.entry)) }
     {
-        match self.layout.find(node) {
+        match self.layout.find(&self.places, node) {
             Some(Node::Variable(variable)) => Some(VariableInfo {
                 value_type: variable.value_type,
             }),
@@ -99,7 +108,7 @@ impl Space {
         ensures told { IsOrStarved Status.BAD_OUT_OF_MEMORY (attribute_at self.now (id_of_lent node.entry) attribute) result }
         ensures short { IfOk result IsShortAnswered }
     {
-        let Some(node) = self.layout.find(node) else {
+        let Some(node) = self.layout.find(&self.places, node) else {
             return Err(Status::BAD_NODE_ID_UNKNOWN);
         };
         self.layout.attribute(self.alloc, node, attribute)
@@ -117,7 +126,7 @@ impl Space {
         ensures told { IsOrStarved Status.BAD_OUT_OF_MEMORY (browse_at self.now (browse_fields description.now)) result }
         ensures short { IfOk result (λ references. (length references < 2 ^ 31) × All IsShortReference references) }
     {
-        let Some(node) = self.layout.find(description.node_id) else {
+        let Some(node) = self.layout.find(&self.places, description.node_id) else {
             return Err(Status::BAD_NODE_ID_UNKNOWN);
         };
         let Some(direction) = description.direction else {

@@ -15,4 +15,4 @@ returns-clause-short c =
     let links = ap (map link_of) c.deref.ensures.value ∙ c.in_ok-links.ensures in
     let P : List Link → Type 0 = λ links. AreShort (map (told d.1.1.1.1.1) (filter (is_followed direction d) links)) in
     starved_short BAD_OUT_OF_MEMORY AreShort (Ok (map (told d.1.1.1.1.1) (filter (is_followed direction d) (map link_of c.deref.result.now)))) c.tell.result
-    (subst P (sym links) (told_all space d c.self.invariant direction node)) c.tell.ensures
+    (subst P (sym links) (told_all space d c.self.invariant.0 direction node)) c.tell.ensures

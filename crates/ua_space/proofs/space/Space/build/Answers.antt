@@ -1,4 +1,4 @@
-use Rattle.std.proofs.Common.{sym, ap, ◌∙◌, subst, length, arith}
+use Rattle.std.proofs.Common.{sym, ap, subst, length, arith}
 use Rattle.std.specs.List.{AllByRecursion}
 use Rattle.ua_space.specs.Space.{IsCountable, HasShortId, HasShortTexts, HasShortName}
 use Rattle.ua_space.proofs.Short.{judged_short}
@@ -8,11 +8,13 @@ pub invariant_of-result : goal.invariant_of-result
 invariant_of-result c =
     let base = judged_short c.args.plan.now c.judge.result c.in_ok-judge.field-0 c.requires.texts c.requires.ids c.judge.ensures c.in_ok-judge.was in
     let folders = c.in_ok-folders.ensures in
-    let variables = c.in_ok-variables.ensures.made in
-    record {
-      namespace = subst IsCountable (sym c.in_ok-namespace.ensures) base.namespace;
-      folders = subst (AllByRecursion HasShortTexts) (sym folders) base.folders;
-      ids = subst (AllByRecursion HasShortId) (sym variables) base.ids;
-      names = subst (AllByRecursion HasShortName) (sym variables) base.names;
-      few = omega (arith, base.few, ap length folders, ap length variables);
-    }
+    let variables = c.in_ok-variables.ensures.made in (
+      record {
+        namespace = subst IsCountable (sym c.in_ok-namespace.ensures) base.namespace;
+        folders = subst (AllByRecursion HasShortTexts) (sym folders) base.folders;
+        ids = subst (AllByRecursion HasShortId) (sym variables) base.ids;
+        names = subst (AllByRecursion HasShortName) (sym variables) base.names;
+        few = omega (arith, base.few, ap length folders, ap length variables);
+      },
+      c.in_ok-places.ensures,
+    )

@@ -1,0 +1,31 @@
+-- Where the folders and variables of a layout stand, by their ids.
+use Rattle.std.specs.Prelude.{◌≡◌, ℕ, List, map, Option, option_map, String}
+use Rattle.std.specs.List.{slice_get}
+use Rattle.std.specs.Option.{option_and_then}
+use Rattle.std.specs.HashMap.{HashMap, get_by_text}
+use Rattle.ua_binary.specs.declared.values.NodeId.TheVariants.{Named}
+use Rattle.ua_space.specs.declared.index.Place.{Place}
+use Rattle.ua_space.specs.declared.index.Place.TheVariants as place
+use Rattle.ua_space.specs.declared.layout.Layout.{Layout}
+use Rattle.ua_space.specs.Space.{Node, OfFolder, OfVariable, node_in, planned_nodes}
+
+-- what stands at a place
+abbrev pub at_place : Layout → Place → Option Node
+at_place space (place.Folder i) = option_map OfFolder (slice_get space.folders i)
+at_place space (place.Variable i) = option_map OfVariable (slice_get space.variables i)
+
+-- what stands at the place that is kept for an id
+abbrev pub kept_at : {A S : Type 0} → Layout → HashMap (String A) Place S → List ℕ → Option Node
+kept_at space places id = option_and_then (at_place space) (get_by_text places id)
+
+-- it is the node of that id among these, whatever the id
+abbrev pub Lists : {A S : Type 0} → Layout → List Node → HashMap (String A) Place S → Type 0
+Lists space some places = (id : List ℕ) → kept_at space places id ≡ node_in some (Named 1 id)
+
+-- among the variables
+abbrev pub ListsVariables : {A S : Type 0} → Layout → HashMap (String A) Place S → Type 0
+ListsVariables space = Lists space (map OfVariable space.variables)
+
+-- among the folders and variables
+abbrev pub IsIndexOf : {A S : Type 0} → Layout → HashMap (String A) Place S → Type 0
+IsIndexOf space = Lists space (planned_nodes space)
