@@ -1,5 +1,7 @@
 -- What a channel writes: the answer to an opening, and messages in chunks (Part 6, 6.7.2).
-use Rattle.std.specs.Prelude.{◌≡◌, ◌<◌, ◌≤◌, ◌⊎◌, ◌+◌, ◌-◌, ◌*◌, ◌%◌, ℕ, List, [], ◌∷◌, ◌++◌, length, take, Some, Result, Ok, Err, Bool, nat_le, ◌&&◌, ◌||◌, if◌then◌else◌, ◌==◌}
+use Rattle.std.specs.Prelude.{◌≡◌, ◌<◌, ◌≤◌, ◌+◌, ◌-◌, ◌*◌, ◌%◌, ℕ, List, [], ◌∷◌, ◌++◌, length, take, Some, Result, Ok, Err, Bool, nat_le, ◌&&◌, ◌||◌, if◌then◌else◌, ◌==◌}
+use Rattle.std.specs.Int.{w32}
+use Rattle.ua_binary.specs.Binary.{unsigned}
 use Rattle.ua_binary.specs.declared.values.Ticks.{Ticks}
 use Rattle.ua_binary.specs.declared.fault.BinaryFault.{BinaryFault}
 use Rattle.ua_binary.specs.declared.fault.BinaryFault.TheVariants as binary
@@ -9,7 +11,7 @@ use Rattle.uacp.specs.declared.types.Kind.TheVariants.{Open, Message}
 use Rattle.uacp.specs.declared.types.Letter.{Letter}
 use Rattle.uacp.specs.declared.types.Letter.TheVariants.{Final, More}
 use Rattle.uacp.specs.Split.{pieces_of}
-use Rattle.uacp.specs.Stream.{Piece}
+use Rattle.uacp.specs.Stream.{Piece, letters}
 use Rattle.ua_channel.specs.declared.taken.OpenRequest.{OpenRequest}
 use Rattle.ua_channel.specs.Headers.{policy_none, security_header, sequence_header, message_header, open_response, chunk_of}
 use Rattle.ua_channel.specs.Taking.{State}
@@ -33,6 +35,11 @@ opened_chunk number request now =
     ++ open_response.canon ((now, (request.handle, record { 0 = 0 })), (request.token, (now, lifetime_of request.lifetime))))
 
 -- ---- messages
+
+-- what stands before a piece in a MSG chunk of this size, of channel 1
+abbrev pub message_head : Letter → ℕ → ℕ → ℕ → ℕ → List ℕ
+message_head letter size token number request =
+    letters Message letter ++ (unsigned w32).canon size ++ message_header.canon (record { channel_id = 1; token = token; number = number; request_id = request })
 
 -- a MSG chunk of channel 1
 unfoldable pub message_chunk : Letter → ℕ → ℕ → ℕ → List ℕ → List ℕ

@@ -8,8 +8,8 @@ ghost use Rattle.ua_binary.specs.Binary.{node_of};
 ghost use Rattle.ua_channel.specs.Headers.{security_header, sequence_header, message_header, request_header, request_fields, response_header, open_request, open_response, is_opening, policy_none};
 
 use ua_binary::{
-    BinaryFault, Cursor, ExtensionRef, NodeId, NodeIdRef, Status, Ticks, or_undone, put_block,
-    put_bytes, put_node_id, put_status, put_text, put_ticks, put_u8, put_u32,
+    BinaryFault, Cursor, ExtensionRef, NodeId, NodeIdRef, Status, Ticks, put_block, put_bytes,
+    put_node_id, put_text, put_ticks, put_u32,
 };
 
 /// The URI of the security policy None (Part 7).
@@ -170,23 +170,19 @@ pub(crate) fn read_open_request(cursor: &mut Cursor<'_>) -> Result<Asked, Binary
     })
 }
 
-/// An error leaves a part.
-#[tactic(auto, using(ua_binary::proofs::Kept::kept), unfolding(crate::specs::Headers::response_header))]
-fn put_response_header_parts(
-    now: Ticks,
-    handle: u32,
-    status: Status,
-    out: &mut Vec<u8>,
-) -> Result<(), BinaryFault>
-    ensures { PutsPart BinaryFault.OutOfMemory result out.old.items out.new.items (response_header.canon (now, (handle, status))) }
+/// The header of a response: its moment, the request's handle and a status, no diagnostics, a null array of texts and no
+/// additional header.
+#[tactic(auto, unfolding(crate::specs::Headers::response_header, ua_binary::specs::Binary::ticks, ua_binary::specs::Binary::status, ua_binary::specs::Binary::signed, ua_binary::specs::Binary::unsigned))]
+fn response_head(now: Ticks, handle: u32, status: Status) -> [u8; 24]
+    ensures { result ≡ response_header.canon (now, (handle, status)) }
 {
-    put_ticks(out, now)?;
-    put_u32(out, handle)?;
-    put_status(out, status)?;
-    put_u8(out, 0)?;
-    put_u32(out, u32::MAX)?;
-    put_block(out, &[0, 0, 0])?;
-    Ok(())
+    let n = now.0.to_le_bytes();
+    let h = handle.to_le_bytes();
+    let s = status.0.to_le_bytes();
+    [
+        n[0], n[1], n[2], n[3], n[4], n[5], n[6], n[7], h[0], h[1], h[2], h[3], s[0], s[1], s[2],
+        s[3], 0, 0xFF, 0xFF, 0xFF, 0xFF, 0, 0, 0,
+    ]
 }
 
 /// Appends the header of a response (Part 4, 7.34) that was made at this moment: 24 bytes, without
@@ -200,9 +196,7 @@ pub fn put_response_header(
 ) -> Result<(), BinaryFault>
     ensures { Puts BinaryFault.OutOfMemory result out.old.items out.new.items (response_header.canon (now, (handle, status))) }
 {
-    let len = out.len();
-    let put = put_response_header_parts(now, handle, status, out);
-    or_undone(put, out, len)
+    put_block(out, &response_head(now, handle, status))
 }
 
 /// The security header of the server's OPN chunks: channel 1, policy None, no certificate and no

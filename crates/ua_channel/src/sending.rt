@@ -1,9 +1,9 @@
 //! Chunks that are written.
 
-ghost use Rattle.std.specs.Prelude.{◌≡◌, ◌≤◌, length};
-ghost use Rattle.ua_binary.specs.Format.{Puts, PutsPart};
-ghost use Rattle.uacp.specs.Stream.{letters};
-ghost use Rattle.ua_channel.specs.Sending.{number_after, lifetime_of, opened_chunk, message_chunk, letter_before, AreShort, IsNumber, PutsChunks};
+ghost use Rattle.std.specs.Prelude.{◌≡◌, ◌≤◌, ◌∷◌, [], length};
+ghost use Rattle.ua_binary.specs.Format.{PutsPart};
+ghost use Rattle.uacp.specs.Stream.{mark_of};
+ghost use Rattle.ua_channel.specs.Sending.{number_after, lifetime_of, opened_chunk, message_head, message_chunk, letter_before, AreShort, IsNumber, PutsChunks};
 
 use crate::headers::{Opened, put_open_response_parts, put_security_header_parts};
 use crate::taken::OpenRequest;
@@ -65,14 +65,32 @@ fn letter_of(pieces: &Pieces<'_>) -> Letter
     }
 }
 
-fn put_letters(letter: Letter, out: &mut Vec<u8>) -> Result<(), BinaryFault>
-    ensures { Puts BinaryFault.OutOfMemory result out.old.items out.new.items (letters Kind.Message letter) }
+/// The letter that a chunk has behind MSG.
+fn mark_of(letter: Letter) -> u8
+    ensures { result ∷ [] ≡ mark_of letter }
 {
     match letter {
-        Letter::Final => put_block(out, b"MSGF"),
-        Letter::More => put_block(out, b"MSGC"),
-        Letter::Abort => put_block(out, b"MSGA"),
+        Letter::Final => b'F',
+        Letter::More => b'C',
+        Letter::Abort => b'A',
     }
+}
+
+/// What stands before a piece in its MSG chunk: the letters, the chunk's size, channel 1, token, sequence number and
+/// request id.
+#[tactic(auto, unfolding(crate::specs::Headers::message_header, ua_binary::specs::Binary::unsigned))]
+fn message_head(letter: Letter, size: u32, token: u32, number: u32, request_id: u32) -> [u8; 24]
+    ensures { result ≡ message_head letter size token number request_id }
+{
+    let s = size.to_le_bytes();
+    let t = token.to_le_bytes();
+    let n = number.to_le_bytes();
+    let r = request_id.to_le_bytes();
+    let mark = mark_of(letter);
+    [
+        b'M', b'S', b'G', mark, s[0], s[1], s[2], s[3], 1, 0, 0, 0, t[0], t[1], t[2], t[3], n[0],
+        n[1], n[2], n[3], r[0], r[1], r[2], r[3],
+    ]
 }
 
 /// A MSG chunk. An error leaves a part.
@@ -88,12 +106,8 @@ fn put_message_parts(
     requires { length piece.now ≤ 4294967271 }
     ensures { PutsPart BinaryFault.OutOfMemory result out.old.items out.new.items (message_chunk letter token number request_id piece.now) }
 {
-    put_letters(letter, out)?;
-    put_u32(out, 24 + piece.len() as u32)?;
-    put_u32(out, 1)?;
-    put_u32(out, token)?;
-    put_u32(out, number)?;
-    put_u32(out, request_id)?;
+    let head = message_head(letter, 24 + piece.len() as u32, token, number, request_id);
+    put_block(out, &head)?;
     put_block(out, piece)?;
     Ok(())
 }
