@@ -1,10 +1,14 @@
+//! Records, their bytes, and what a list of them says of a node and a moment.
+
 ghost use Rattle.std.specs.Prelude.{◌≡◌, ◌<◌, false, IfOk, IsTrue};
 ghost use Rattle.std.specs.Ordering.{is_eq};
 ghost use Rattle.records.specs.Lists.{IsApart};
 ghost use Rattle.records.specs.Records.{stamp_cmp, name_cmp};
 ghost use Rattle.records.specs.Spelling.{IsRecord};
 
-use super::*;
+use records::{
+    Entry, Held, HistoryUpdateType, Moment, Record, RecordFault, current_of, entries_of, missing_of, put_record, read_record, story_of,
+};
 use stamp::{ReplicaNo, Vector};
 use std::alloc::{AllocError, Global};
 use std::test::Fail;
@@ -116,7 +120,7 @@ fn shows_entries(
 }
 
 /// Whether two records have two ticks.
-#[tactic(auto, using(crate::proofs::Orders::apart_by_test))]
+#[tactic(auto, using(records::proofs::Orders::apart_by_test))]
 fn have_two_ticks(a: &Record, b: &Record) -> bool
     ensures { IsTrue result → is_eq (stamp_cmp a.now b.now) ≡ false }
 {
@@ -124,7 +128,7 @@ fn have_two_ticks(a: &Record, b: &Record) -> bool
 }
 
 /// Whether two records have two origins.
-#[tactic(auto, using(crate::proofs::Orders::apart_by_origin))]
+#[tactic(auto, using(records::proofs::Orders::apart_by_origin))]
 fn have_two_origins(a: &Record, b: &Record) -> bool
     ensures { IsTrue result → is_eq (stamp_cmp a.now b.now) ≡ false }
 {
@@ -230,7 +234,7 @@ fn two_updates_in_both_orders(rt: HostRuntime) -> Result<(), Fail> {
 }
 
 /// The first records of these replicas, in the other order.
-#[tactic(auto, using(crate::proofs::Orders::names_apart))]
+#[tactic(auto, using(records::proofs::Orders::names_apart))]
 fn firsts_of(alloc: Global, one: ReplicaNo, two: ReplicaNo) -> Result<Vec<Record>, AllocError>
     requires { one ≡ two → ⊥ }
     ensures { IfOk result (λ v. IsApart name_cmp v.items) }
