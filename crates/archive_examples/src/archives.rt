@@ -20,7 +20,7 @@ pub(crate) fn node(alloc: Global) -> Result<NodeId, AllocError> {
     Ok(NodeId::Named(1, Text::from_str(alloc, "T")?))
 }
 
-fn value(written: Option<i32>) -> DataValue {
+pub(crate) fn value(written: Option<i32>) -> DataValue {
     DataValue {
         value: written.map(|n| Variant::Scalar(Scalar::Int32(n))),
         status: None,
@@ -71,7 +71,7 @@ pub(crate) fn list_archive(alloc: Global) -> Result<ListArchive, StoreFault> {
     }
 }
 
-fn scripted_archive(
+pub(crate) fn scripted_archive(
     alloc: Global,
     call: u64,
     failure: Failure,
@@ -145,8 +145,6 @@ pub(crate) fn learns_in_order<A: Archive>(alloc: Global, archive: &mut A) -> Res
 fn records_are_learned(rt: HostRuntime) -> Result<(), Fail> {
     let mut list = list_archive(rt.alloc())?;
     assert!(rt; learns_in_order(rt.alloc(), &mut list)?);
-    let mut scripted = scripted_archive(rt.alloc(), 0, Failure::Refused)?;
-    assert!(rt; learns_in_order(rt.alloc(), &mut scripted)?);
     Ok(())
 }
 
@@ -191,7 +189,7 @@ fn fill<A: Archive>(alloc: Global, archive: &mut A) -> Result<(), LearnFault> {
 }
 
 /// Whether a value is this Int32.
-fn is_int(v: &DataValue, n: i32) -> bool {
+pub(crate) fn is_int(v: &DataValue, n: i32) -> bool {
     match &v.value {
         Some(Variant::Scalar(Scalar::Int32(m))) => *m == n,
         _ => false,
@@ -276,7 +274,7 @@ fn gives_next<A: Archive>(alloc: Global, archive: &mut A) -> Result<bool, StoreF
 /// What a modification did, the number that it shows, and its tick.
 type Shown = (HistoryUpdateType, Option<i32>, i64);
 
-fn shows(value: &Option<DataValue>, n: Option<i32>) -> bool {
+pub(crate) fn shows(value: &Option<DataValue>, n: Option<i32>) -> bool {
     match (value, n) {
         (Some(v), Some(n)) => is_int(v, n),
         (None, None) => true,
@@ -512,9 +510,6 @@ pub(crate) fn answers<A: Archive>(alloc: Global, archive: &mut A) -> Result<bool
 fn queries_are_answered(rt: HostRuntime) -> Result<(), Fail> {
     let mut list = list_archive(rt.alloc())?;
     assert!(rt; answers(rt.alloc(), &mut list)?);
-    let mut scripted = scripted_archive(rt.alloc(), 0, Failure::Refused)?;
-    assert!(rt; answers(rt.alloc(), &mut scripted)?);
-    assert!(rt; scripted.greatest_limit() == 99);
     Ok(())
 }
 
@@ -569,18 +564,4 @@ fn numbers_of_faults(rt: HostRuntime) {
         assert!(rt; store[i].number() as usize == i + 1);
         assert!(rt; learn[i].number() as usize == i + 1);
     }
-}
-
-#[test]
-fn directions(rt: HostRuntime) {
-    assert!(rt; Forward.opposite() == Backward && Backward.opposite() == Forward);
-    let (one, two) = (Moment::at(1), Moment::at(2));
-    assert!(rt;
-        Forward.is_past(one, two) && !Forward.is_past(two, two) && Backward.is_past(two, one)
-    );
-    let close = Moment { ticks: 1, pico: 5 };
-    assert!(rt;
-        Forward.is_past(one, close) && Forward.is_past(close, two) && !Backward.is_past(close, two)
-    );
-    assert!(rt; close.ticks == 1 && close.pico == 5);
 }

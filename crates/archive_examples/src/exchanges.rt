@@ -1,30 +1,24 @@
 ghost use Rattle.std.specs.Prelude.{IsTrue};
 ghost use Rattle.std.specs.List.{AllByRecursion};
-ghost use Rattle.ua_variant.specs.DataValue.{IsShortData};
 ghost use Rattle.records.specs.Spelling.{IsLawfulRecord};
-ghost use Rattle.hist_update.specs.Outcome.{IsRequest};
 ghost use Rattle.exchange.specs.Running.{IsAsked, IsEvent};
 
+use crate::archives::{is_int, node, scripted_archive};
+use crate::updates::{is_request, is_short};
 use HistoryUpdateType::{Insert, Replace};
 use archive::{Archive, Direction, Failure, LearnFault, ListArchive, ScriptedArchive, StoreFault};
-use exchange::{
-    Batch, Dialog, Event, ExchangeFault, Frames, Operation, Replica, State, converse, run_world,
-};
+use exchange::{Batch, Event, ExchangeFault, Operation, Replica, converse, run_world};
 use hist_update::Request;
 use records::{Entry, Held, HistoryUpdateType, Moment, Record};
 use stamp::{ReplicaNo, Vector};
 use std::alloc::{AllocError, Global};
 use std::test::Fail;
-use ua_binary::{Bytes, Listing, NodeId, Text, Ticks};
+use ua_binary::{Bytes, Listing, Text, Ticks};
 use ua_variant::{DataValue, Scalar, ValueType, Variant};
 use uuid::Uuid;
 
 /// An insert at node ns=1;s=T and source time 10: origin, number, tick, and the value.
 type Row = (u8, u64, i64, i32);
-
-fn node(alloc: Global) -> Result<NodeId, AllocError> {
-    Ok(NodeId::Named(1, Text::from_str(alloc, "T")?))
-}
 
 fn value(written: Variant) -> DataValue {
     DataValue {
@@ -136,13 +130,6 @@ fn send(
     let theirs = to.archive.vector()?;
     let batch = from.answer(alloc, &theirs)?;
     merge(to, &batch)
-}
-
-fn is_int(shown: &DataValue, written: i32) -> bool {
-    match &shown.value {
-        Some(Variant::Scalar(Scalar::Int32(found))) => *found == written,
-        _ => false,
-    }
 }
 
 fn is_entry(entry: &Entry, kind: HistoryUpdateType, written: i32) -> bool {
@@ -287,29 +274,6 @@ fn events(alloc: Global) -> Result<Vec<Event>, AllocError> {
     Ok(events)
 }
 
-/// Whether the node's id and the user's name are within their limits.
-fn is_request(request: &Request) -> bool
-    ensures { IsTrue result → IsRequest request.now }
-{
-    let short = match &request.node {
-        NodeId::Named(_, name) => name.len() <= 256,
-        NodeId::Opaque(_, id) => id.as_slice().len() <= 256,
-        _ => true,
-    };
-    short && request.user.len() <= 256
-}
-
-/// Whether a value may be written.
-fn is_short(value: &DataValue) -> bool
-    ensures { IsTrue result → IsShortData value.now }
-{
-    let close = match value.source_pico {
-        Some(pico) => pico <= 9999,
-        None => true,
-    };
-    close && value.server_pico.is_none() && value.size() < 0x8000_0000
-}
-
 fn is_asked(operation: &Operation) -> bool
     ensures { IsTrue result → IsAsked operation.now }
 {
@@ -376,6 +340,42 @@ fn two_inserts_meet_in_a_world(rt: HostRuntime) -> Result<(), Fail> {
     Ok(())
 }
 
+/// Replica 1, which meets no fault, and replica 2, whose first call fails so.
+fn breaking(alloc: Global, failure: Failure) -> Result<Vec<ScriptedArchive>, StoreFault> {
+    let mut archives = Vec::new(alloc);
+    for (number, call) in [(1, 0), (2, 1)] {
+        let number = replica_number(number)?;
+        match archives.push(ScriptedArchive::new(alloc, Uuid::nil(), number, call, failure)) {
+            Ok(()) => {}
+            Err(_) => return Err(StoreFault::OutOfMemory),
+        }
+    }
+    Ok(archives)
+}
+
+/// Replica 1 inserts, and what it holds is brought to replica 2.
+fn events_of_one(alloc: Global) -> Result<Vec<Event>, AllocError> {
+    let mut events = Vec::new(alloc);
+    add(&mut events, insert(alloc, 0, 100, 7)?)?;
+    add(&mut events, send_all(0))?;
+    add(&mut events, deliver_all(1, 0))?;
+    Ok(events)
+}
+
+/// A store that breaks at the third event ends a world there, and leaves the other replica as it was.
+#[test]
+fn a_break_ends_a_world(rt: HostRuntime) -> Result<(), Fail> {
+    for failure in [Failure::BrokenBefore, Failure::BrokenAfter] {
+        let mut replicas = breaking(rt.alloc(), failure)?;
+        let events = events_of_one(rt.alloc())?;
+        assert!(rt; run(rt.alloc(), &mut replicas, &events) == Err(2));
+        for (archive, held) in replicas.iter_mut().zip([Ok(1), Err(StoreFault::Broken)]) {
+            assert!(rt; held_of(archive, 1) == held, "{failure:?}");
+        }
+    }
+    Ok(())
+}
+
 /// Batches one after the other, each with its answer and how many records of replica 2 are then held.
 static MERGES: [(&[Row], Result<u32, ExchangeFault>, u64); 7] = [
     (&[], Ok(0), 0),
@@ -401,11 +401,11 @@ static MERGES: [(&[Row], Result<u32, ExchangeFault>, u64); 7] = [
     (&[(2, 3, 102, 9), (2, 4, 103, 10)], Ok(0), 4),
 ];
 
-/// How many records of replica 2 are held.
-fn held_of_two<A: Archive>(replica: &mut Replica<A>) -> Result<u64, StoreFault> {
-    let two = replica_number(2)?;
-    let vector = replica.archive.vector()?;
-    Ok(vector.get(two))
+/// How many records of a replica an archive holds.
+fn held_of<A: Archive>(archive: &mut A, number: u8) -> Result<u64, StoreFault> {
+    let number = replica_number(number)?;
+    let vector = archive.vector()?;
+    Ok(vector.get(number))
 }
 
 #[test]
@@ -414,18 +414,9 @@ fn batches_are_merged(rt: HostRuntime) -> Result<(), Fail> {
     let mut replica = list_replica(alloc, 1)?;
     for (rows, told, held) in &MERGES {
         assert!(rt; merge_rows(alloc, &mut replica, rows) == *told);
-        assert!(rt; held_of_two(&mut replica)? == *held);
+        assert!(rt; held_of(&mut replica.archive, 2)? == *held);
     }
     Ok(())
-}
-
-fn scripted_replica(
-    alloc: Global,
-    call: u64,
-    failure: Failure,
-) -> Result<Replica<ScriptedArchive>, StoreFault> {
-    let number = replica_number(1)?;
-    Ok(Replica::new(ScriptedArchive::new(alloc, Uuid::nil(), number, call, failure)))
 }
 
 /// How a call fails, the fault that is told, and what is answered to how many records are held then.
@@ -457,32 +448,10 @@ fn faults_of_the_store_end_a_merge(rt: HostRuntime) -> Result<(), Fail> {
     let alloc = rt.alloc();
     let rows = [(2, 1, 100, 7), (2, 2, 101, 8), (2, 3, 102, 9)];
     for (failure, fault, held) in &SCRIPTS {
-        let mut replica = scripted_replica(alloc, 2, *failure)?;
+        let mut replica = Replica::new(scripted_archive(alloc, 2, *failure)?);
         assert!(rt; merge_rows(alloc, &mut replica, &rows) == stopped(*fault));
         assert!(rt; replica.archive.faults() == 1);
-        assert!(rt; held_of_two(&mut replica) == *held);
-    }
-    Ok(())
-}
-
-/// The fault that answering an empty vector meets.
-fn answer_fault<A: Archive>(alloc: Global, replica: &mut Replica<A>) -> Option<ExchangeFault> {
-    match replica.answer(alloc, &Vector::new()) {
-        Ok(_) => None,
-        Err(fault) => Some(fault),
-    }
-}
-
-#[test]
-fn faults_of_the_store_end_an_answer(rt: HostRuntime) -> Result<(), Fail> {
-    let alloc = rt.alloc();
-    for (failure, fault, _) in &SCRIPTS {
-        for call in [1, 2] {
-            let mut replica = scripted_replica(alloc, call, *failure)?;
-            assert!(rt; answer_fault(alloc, &mut replica) == Some(ExchangeFault::Store(*fault)));
-        }
-        let mut replica = scripted_replica(alloc, 3, *failure)?;
-        assert!(rt; answer_fault(alloc, &mut replica) == None);
+        assert!(rt; held_of(&mut replica.archive, 2) == *held);
     }
     Ok(())
 }
@@ -572,63 +541,5 @@ fn frames_of_one_each(alloc: Global) -> Result<u32, ExchangeFault> {
 #[test]
 fn a_dialog_of_two(rt: HostRuntime) -> Result<(), Fail> {
     assert!(rt; frames_of_one_each(rt.alloc()) == Ok(7));
-    Ok(())
-}
-
-/// What replica 1 of an empty archive answers to the first frame in some bytes.
-fn answered_bytes(alloc: Global, bytes: &[u8], out: &mut Vec<u8>) -> Result<State, ExchangeFault> {
-    let mut one = list_replica(alloc, 1)?;
-    let mut dialog = Dialog::responder();
-    let mut frames = Frames::new(alloc);
-    frames.feed(bytes)?;
-    match frames.next_frame() {
-        Ok(Some(frame)) => dialog.take(alloc, &mut one, frame, out),
-        Ok(None) => Err(ExchangeFault::Frame),
-        Err(fault) => Err(fault),
-    }
-}
-
-static ASKED: &[u8] = b"RXVF\x1b\0\0\0\x02\0\0\0\0\0\0\0\0\0\0\0\0\0\0\0\0\x02\0";
-
-static ASKED_ITSELF: &[u8] = b"RXVF\x1b\0\0\0\x02\0\0\0\0\0\0\0\0\0\0\0\0\0\0\0\0\x01\0";
-
-static ASKED_BY_AN_OLDER: &[u8] = b"RXVF\x1b\0\0\0\x01\0\0\0\0\0\0\0\0\0\0\0\0\0\0\0\0\x02\0";
-
-static NOTHING: &[u8] = b"RXDF\x1f\0\0\0\x02\0\0\0\0\0\0\0\0\0\0\0\0\0\0\0\0\x01\0\0\0\0\0";
-
-#[test]
-fn vectors_are_answered(rt: HostRuntime) -> Result<(), Fail> {
-    let mut out = Vec::new(rt.alloc());
-    assert!(rt; answered_bytes(rt.alloc(), ASKED, &mut out) == Ok(State::Serving));
-    assert!(rt; out.as_slice() == NOTHING);
-    out.clear();
-    assert!(rt; answered_bytes(rt.alloc(), ASKED_ITSELF, &mut out) == Err(ExchangeFault::SelfPeer));
-    assert!(rt; out.as_slice() == b"RXEF\x0c\0\0\0\x05\0\0\0".as_slice());
-    out.clear();
-    let older = answered_bytes(rt.alloc(), ASKED_BY_AN_OLDER, &mut out);
-    assert!(rt; older == Err(ExchangeFault::PeerFormat));
-    assert!(rt; out.as_slice() == b"RXEF\x0c\0\0\0\x08\0\0\0".as_slice());
-    Ok(())
-}
-
-/// How many records a responder learned and sent, which has one and was asked by these bytes.
-fn moved(alloc: Global, bytes: &[u8]) -> Result<(u32, u32), ExchangeFault> {
-    let mut one = list_replica(alloc, 1)?;
-    merge_rows(alloc, &mut one, &[(1, 1, 100, 7)])?;
-    let mut dialog = Dialog::responder();
-    let mut frames = Frames::new(alloc);
-    frames.feed(bytes)?;
-    let Ok(Some(frame)) = frames.next_frame() else {
-        return Err(ExchangeFault::Frame);
-    };
-    let mut out = Vec::new(alloc);
-    dialog.take(alloc, &mut one, frame, &mut out)?;
-    Ok((dialog.learned(), dialog.sent()))
-}
-
-#[test]
-fn records_are_counted(rt: HostRuntime) -> Result<(), Fail> {
-    assert!(rt; moved(rt.alloc(), ASKED) == Ok((0, 1)));
-    assert!(rt; moved(rt.alloc(), ASKED_ITSELF) == Err(ExchangeFault::SelfPeer));
     Ok(())
 }

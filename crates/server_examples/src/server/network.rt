@@ -123,13 +123,6 @@ impl<'a> Network for Machine<'a> {
     }
 }
 
-/// An insert of 7 as the fourth message of a connection, and its answer.
-const INSERT: &str =
-    "4D53474666000000010000000100000004000000070000000100BC020101030000000000000000000700000000000000FFFFFFFF00000000000000010000000100AA02011E000000030100010000005401000000010000000506070000000A00000000000000";
-
-const INSERTED: &str =
-    "4D5347464C000000010000000100000004000000070000000100BF0200803ED5DEB19D01070000000000000000FFFFFFFF0000000100000000000000010000000000A200FFFFFFFFFFFFFFFF";
-
 /// A Read of the value as the fourth message of a connection, and its answer.
 const READ: &str =
     "4D5347466100000001000000010000000400000009000000010077020101030000000000000000000900000000000000FFFFFFFF000000000000000000000000000000020000000100000003010001000000540D000000FFFFFFFF0000FFFFFFFF";
@@ -168,21 +161,6 @@ fn well(bytes: &[u8]) -> Option<Client<'_>> {
         breaks: false,
         room: 10_000,
     })
-}
-
-/// What one client wrote another one reads.
-#[test]
-fn serves_over_one_archive(rt: HostRuntime) -> Result<(), Fail> {
-    let alloc = rt.alloc();
-    let writes = bytes_of(alloc, &[HELLO, OPEN, BEGIN[0], BEGIN[1], INSERT])?;
-    let reads = bytes_of(alloc, &[HELLO, OPEN, BEGIN[0], BEGIN[1], READ])?;
-    let mut want = Vec::new(alloc);
-    for last in [INSERTED, VALUE] {
-        want.push(bytes_of(alloc, &[ACK, OPENED, BEGUN[0], BEGUN[1], last])?)?;
-    }
-    let clients = [well(writes.as_slice()), well(reads.as_slice())];
-    assert!(rt; is_served(alloc, &clients, 2, want.as_slice(), "")?);
-    Ok(())
 }
 
 /// One that breaks off inside a message, one that takes no answer, and one that can't be had are told, and the next one is

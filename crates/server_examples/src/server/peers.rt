@@ -19,6 +19,9 @@ const ASKED: &[u8] = b"RXVF\x1b\0\0\0\x02\0\0\0\0\0\0\0\0\0\0\0\0\0\0\0\0\x02\0"
 /// The same frame as if of replica 1.
 const ASKED_ITSELF: &[u8] = b"RXVF\x1b\0\0\0\x02\0\0\0\0\0\0\0\0\0\0\0\0\0\0\0\0\x01\0";
 
+/// The same frame in an older format.
+const ASKED_BY_AN_OLDER: &[u8] = b"RXVF\x1b\0\0\0\x01\0\0\0\0\0\0\0\0\0\0\0\0\0\0\0\0\x02\0";
+
 /// What replica 1 answers, which holds nothing either.
 const NOTHING: &[u8] = b"RXDF\x1f\0\0\0\x02\0\0\0\0\0\0\0\0\0\0\0\0\0\0\0\0\x01\0\0\0\0\0";
 
@@ -40,8 +43,10 @@ const ILL: &[u8] = b"RXEF\x0c\0\0\0\x01\0\0\0";
 
 const SELF_PEER: &[u8] = b"RXEF\x0c\0\0\0\x05\0\0\0";
 
+const PEER_FORMAT: &[u8] = b"RXEF\x0c\0\0\0\x08\0\0\0";
+
 /// What a peer sends to replica 1 in pieces, what it is answered, and how that ends.
-static DIALOGS: [(&[&[u8]], &[&[u8]], Parted); 9] = [
+static DIALOGS: [(&[&[u8]], &[&[u8]], Parted); 10] = [
     (&[], &[], Parted::EndOfInput),
     (&[ASKED], &[NOTHING], Parted::EndOfInput),
     (&[ASKED, ASKED], &[NOTHING, NOTHING], Parted::EndOfInput),
@@ -51,6 +56,11 @@ static DIALOGS: [(&[&[u8]], &[&[u8]], Parted); 9] = [
         &[ASKED_ITSELF, ASKED],
         &[SELF_PEER],
         Parted::Failed(ExchangeFault::SelfPeer),
+    ),
+    (
+        &[ASKED_BY_AN_OLDER, ASKED],
+        &[PEER_FORMAT],
+        Parted::Failed(ExchangeFault::PeerFormat),
     ),
     (
         &[ASKED, NO_FRAME, ASKED],
@@ -291,19 +301,6 @@ fn replicas_meet(rt: HostRuntime) -> Result<(), Fail> {
         }
         back = answer;
     }
-    Ok(())
-}
-
-#[test]
-fn calls_may_move_nothing(rt: HostRuntime) -> Result<(), Fail> {
-    let mut one = replica(rt.alloc(), 1)?;
-    let told = moved(rt.alloc(), &mut one, QUIET);
-    assert!(rt;
-        told == Ok(Synced {
-            learned: 0,
-            sent: 0
-        })
-    );
     Ok(())
 }
 
