@@ -64,15 +64,23 @@ fn push(records: &mut Vec<Record>, record: Record) -> Result<(), AllocError> {
     Ok(())
 }
 
+/// The record of a row.
+fn insert_of(alloc: Global, row: &Row) -> Result<Record, StoreFault> {
+    let (origin, number, tick, written) = *row;
+    let origin = replica_number(origin)?;
+    Ok(record(
+        alloc,
+        origin,
+        number,
+        tick,
+        Variant::Scalar(Scalar::Int32(written)),
+    )?)
+}
+
 fn batch(alloc: Global, rows: &[Row]) -> Result<Batch, StoreFault> {
     let mut records = Vec::new(alloc);
-    for (origin, number, tick, written) in rows {
-        let written = Variant::Scalar(Scalar::Int32(*written));
-        let origin = replica_number(*origin)?;
-        push(
-            &mut records,
-            record(alloc, origin, *number, *tick, written)?,
-        )?;
+    for row in rows {
+        push(&mut records, insert_of(alloc, row)?)?;
     }
     Ok(Batch {
         records: Listing::of(records),
@@ -159,26 +167,12 @@ fn is_live_alone(lives: &[Held], written: i32) -> bool {
 fn shows_both(alloc: Global, archive: &mut ListArchive) -> Result<bool, StoreFault> {
     let node = node(alloc)?;
     let all = archive.vector()?;
-    let log = archive.log(
-        alloc,
-        &node,
-        Moment::at(1),
-        Moment::at(100),
-        None,
-        Direction::Forward,
-        9,
-        &all,
-    )?;
-    let lives = archive.range(
-        alloc,
-        &node,
-        Moment::at(1),
-        Moment::at(100),
-        Direction::Forward,
-        9,
-        &all,
-    )?;
-    Ok(are_entries(&log, &[(Replace, 7), (Insert, 7)]) && is_live_alone(&lives, 8))
+    let (from, to) = (Moment::at(1), Moment::at(100));
+    let log = archive.log(alloc, &node, from, to, None, Direction::Forward, 9, &all)?;
+    let logged = are_entries(&log, &[(Replace, 7), (Insert, 7)]);
+    drop(log);
+    let lives = archive.range(alloc, &node, from, to, Direction::Forward, 9, &all)?;
+    Ok(logged && is_live_alone(&lives, 8))
 }
 
 /// Whether two replicas hold the same records.
@@ -192,18 +186,29 @@ fn are_equal(
     Ok(ones.len() == 2 && ones.as_slice() == twos.as_slice())
 }
 
+/// Whether two replicas that hold nothing insert a value each, are sent what they lack, and then show both.
+fn meet(
+    alloc: Global,
+    one: &mut Replica<ListArchive>,
+    two: &mut Replica<ListArchive>,
+) -> Result<bool, StoreFault> {
+    let met = merge_rows(alloc, one, &[(1, 1, 100, 7)]) == Ok(1)
+        && merge_rows(alloc, two, &[(2, 1, 100, 8)]) == Ok(1)
+        && send(alloc, one, two) == Ok(1)
+        && send(alloc, two, one) == Ok(1)
+        && send(alloc, one, two) == Ok(0);
+    Ok(
+        met && shows_both(alloc, &mut one.archive)?
+            && shows_both(alloc, &mut two.archive)?
+            && are_equal(alloc, one, two)?,
+    )
+}
+
 #[test]
 fn two_inserts_meet(rt: HostRuntime) -> Result<(), Fail> {
-    let alloc = rt.alloc();
-    let mut one = list_replica(alloc, 1)?;
-    let mut two = list_replica(alloc, 2)?;
-    assert!(rt; merge_rows(alloc, &mut one, &[(1, 1, 100, 7)]) == Ok(1));
-    assert!(rt; merge_rows(alloc, &mut two, &[(2, 1, 100, 8)]) == Ok(1));
-    assert!(rt; send(alloc, &mut one, &mut two) == Ok(1));
-    assert!(rt; send(alloc, &mut two, &mut one) == Ok(1));
-    assert!(rt; send(alloc, &mut one, &mut two) == Ok(0));
-    assert!(rt; shows_both(alloc, &mut one.archive)? && shows_both(alloc, &mut two.archive)?);
-    assert!(rt; are_equal(alloc, &mut one, &mut two)?);
+    let mut one = list_replica(rt.alloc(), 1)?;
+    let mut two = list_replica(rt.alloc(), 2)?;
+    assert!(rt; meet(rt.alloc(), &mut one, &mut two)?);
     Ok(())
 }
 
@@ -259,19 +264,17 @@ fn deliver_all(replica: usize, batch: usize) -> Event {
 
 /// Both replicas insert, and each is sent what the other one holds; a delivery comes twice, one to a replica
 /// that isn't there, one of a batch that isn't there.
-fn events(alloc: Global) -> Result<Vec<Event>, AllocError> {
-    let mut events = Vec::new(alloc);
+fn add_events(alloc: Global, events: &mut Vec<Event>) -> Result<(), AllocError> {
     for (replica, written) in [(0, 7), (1, 8)] {
-        add(&mut events, insert(alloc, replica, 100, written)?)?;
+        add(events, insert(alloc, replica, 100, written)?)?;
     }
     for replica in [0, 1] {
-        add(&mut events, send_all(replica))?;
+        add(events, send_all(replica))?;
     }
     for (replica, batch) in [(1, 0), (0, 1), (0, 1), (2, 0), (0, 2)] {
-        add(&mut events, deliver_all(replica, batch))?;
+        add(events, deliver_all(replica, batch))?;
     }
-    add(&mut events, Event::Restart { replica: 1 })?;
-    Ok(events)
+    add(events, Event::Restart { replica: 1 })
 }
 
 fn is_asked(operation: &Operation) -> bool
@@ -328,15 +331,25 @@ fn archives(alloc: Global) -> Result<Vec<ListArchive>, StoreFault> {
     Ok(archives)
 }
 
+/// Whether both inserts are shown by all of them, once these events happened.
+fn meet_in_a_world(alloc: Global, replicas: &mut [ListArchive]) -> Result<bool, StoreFault> {
+    let mut events = Vec::new(alloc);
+    add_events(alloc, &mut events)?;
+    if run(alloc, replicas, &events) != Ok(()) {
+        return Ok(false);
+    }
+    drop(events);
+    let mut same = true;
+    for archive in replicas.iter_mut() {
+        same = same && shows_both(alloc, archive)?;
+    }
+    Ok(same)
+}
+
 #[test]
 fn two_inserts_meet_in_a_world(rt: HostRuntime) -> Result<(), Fail> {
-    let alloc = rt.alloc();
-    let mut replicas = archives(alloc)?;
-    let events = events(alloc)?;
-    assert!(rt; run(alloc, &mut replicas, &events) == Ok(()));
-    for archive in replicas.iter_mut() {
-        assert!(rt; shows_both(alloc, archive)?);
-    }
+    let mut replicas = archives(rt.alloc())?;
+    assert!(rt; meet_in_a_world(rt.alloc(), &mut replicas)?);
     Ok(())
 }
 
@@ -354,12 +367,24 @@ fn breaking(alloc: Global, failure: Failure) -> Result<Vec<ScriptedArchive>, Sto
 }
 
 /// Replica 1 inserts, and what it holds is brought to replica 2.
-fn events_of_one(alloc: Global) -> Result<Vec<Event>, AllocError> {
+fn add_delivery(alloc: Global, events: &mut Vec<Event>) -> Result<(), AllocError> {
+    add(events, insert(alloc, 0, 100, 7)?)?;
+    add(events, send_all(0))?;
+    add(events, deliver_all(1, 0))
+}
+
+/// Whether the third event ends these replicas' world, and the first of them holds its record.
+fn breaks_at_the_third(
+    alloc: Global,
+    replicas: &mut [ScriptedArchive],
+) -> Result<bool, StoreFault> {
     let mut events = Vec::new(alloc);
-    add(&mut events, insert(alloc, 0, 100, 7)?)?;
-    add(&mut events, send_all(0))?;
-    add(&mut events, deliver_all(1, 0))?;
-    Ok(events)
+    add_delivery(alloc, &mut events)?;
+    let mut same = run(alloc, replicas, &events) == Err(2);
+    for (archive, held) in replicas.iter_mut().zip([Ok(1), Err(StoreFault::Broken)]) {
+        same = same && held_of(archive, 1) == held;
+    }
+    Ok(same)
 }
 
 /// A store that breaks at the third event ends a world there, and leaves the other replica as it was.
@@ -367,11 +392,10 @@ fn events_of_one(alloc: Global) -> Result<Vec<Event>, AllocError> {
 fn a_break_ends_a_world(rt: HostRuntime) -> Result<(), Fail> {
     for failure in [Failure::BrokenBefore, Failure::BrokenAfter] {
         let mut replicas = breaking(rt.alloc(), failure)?;
-        let events = events_of_one(rt.alloc())?;
-        assert!(rt; run(rt.alloc(), &mut replicas, &events) == Err(2));
-        for (archive, held) in replicas.iter_mut().zip([Ok(1), Err(StoreFault::Broken)]) {
-            assert!(rt; held_of(archive, 1) == held, "{failure:?}");
-        }
+        assert!(rt;
+            breaks_at_the_third(rt.alloc(), &mut replicas)?,
+            "{failure:?}"
+        );
     }
     Ok(())
 }
@@ -408,14 +432,22 @@ fn held_of<A: Archive>(archive: &mut A, number: u8) -> Result<u64, StoreFault> {
     Ok(vector.get(number))
 }
 
+/// The first of the batches that is answered otherwise, or leaves other records.
+fn first_other<A: Archive>(alloc: Global, replica: &mut Replica<A>) -> Option<usize> {
+    for (i, (rows, told, held)) in MERGES.iter().enumerate() {
+        if merge_rows(alloc, replica, rows) != *told
+            || held_of(&mut replica.archive, 2) != Ok(*held)
+        {
+            return Some(i);
+        }
+    }
+    None
+}
+
 #[test]
 fn batches_are_merged(rt: HostRuntime) -> Result<(), Fail> {
-    let alloc = rt.alloc();
-    let mut replica = list_replica(alloc, 1)?;
-    for (rows, told, held) in &MERGES {
-        assert!(rt; merge_rows(alloc, &mut replica, rows) == *told);
-        assert!(rt; held_of(&mut replica.archive, 2)? == *held);
-    }
+    let mut replica = list_replica(rt.alloc(), 1)?;
+    assert!(rt; first_other(rt.alloc(), &mut replica) == None);
     Ok(())
 }
 
@@ -443,30 +475,42 @@ fn stopped(fault: StoreFault) -> Result<u32, ExchangeFault> {
     })
 }
 
+/// Whether a merge of three records, whose second one meets this fault, is told so, and what is held then.
+fn ends_so<A: Archive>(
+    alloc: Global,
+    replica: &mut Replica<A>,
+    fault: StoreFault,
+    held: Result<u64, StoreFault>,
+) -> bool {
+    let rows = [(2, 1, 100, 7), (2, 2, 101, 8), (2, 3, 102, 9)];
+    merge_rows(alloc, replica, &rows) == stopped(fault)
+        && replica.archive.faults() == 1
+        && held_of(&mut replica.archive, 2) == held
+}
+
 #[test]
 fn faults_of_the_store_end_a_merge(rt: HostRuntime) -> Result<(), Fail> {
-    let alloc = rt.alloc();
-    let rows = [(2, 1, 100, 7), (2, 2, 101, 8), (2, 3, 102, 9)];
     for (failure, fault, held) in &SCRIPTS {
-        let mut replica = Replica::new(scripted_archive(alloc, 2, *failure)?);
-        assert!(rt; merge_rows(alloc, &mut replica, &rows) == stopped(*fault));
-        assert!(rt; replica.archive.faults() == 1);
-        assert!(rt; held_of(&mut replica.archive, 2) == *held);
+        let mut replica = Replica::new(scripted_archive(rt.alloc(), 2, *failure)?);
+        let ended = ends_so(rt.alloc(), &mut replica, *fault, *held);
+        assert!(rt; ended, "{failure:?}");
     }
     Ok(())
 }
 
+/// A record of replica 2, of a value of so many bytes.
+fn large_record(alloc: Global, number: u32, size: usize) -> Result<Record, StoreFault> {
+    let two = replica_number(2)?;
+    let bytes = Bytes::new(vec![in alloc; 0; size]?);
+    let written = Variant::Scalar(Scalar::ByteString(Some(bytes)));
+    Ok(record(alloc, two, u64::from(number), i64::from(number), written)?)
+}
+
 /// Some first records of replica 2, each of a value of so many bytes.
 fn large_batch(alloc: Global, count: u32, size: usize) -> Result<Batch, StoreFault> {
-    let two = replica_number(2)?;
     let mut records = Vec::new(alloc);
     for number in 1..=count {
-        let bytes = Bytes::new(vec![in alloc; 0; size]?);
-        let written = Variant::Scalar(Scalar::ByteString(Some(bytes)));
-        push(
-            &mut records,
-            record(alloc, two, u64::from(number), i64::from(number), written)?,
-        )?;
+        push(&mut records, large_record(alloc, number, size)?)?;
     }
     Ok(Batch {
         records: Listing::of(records),
@@ -484,11 +528,16 @@ static SIZES: [(u32, usize, usize); 6] = [
     (1001, 5, 1000),
 ];
 
-/// How many records the batch for an empty vector has.
-fn answered(alloc: Global, count: u32, size: usize) -> Result<usize, ExchangeFault> {
-    let mut replica = list_replica(alloc, 1)?;
+/// How many records the batch for an empty vector has, of a replica that merged so many.
+fn answered(
+    alloc: Global,
+    replica: &mut Replica<ListArchive>,
+    count: u32,
+    size: usize,
+) -> Result<usize, ExchangeFault> {
     let held = large_batch(alloc, count, size)?;
-    merge(&mut replica, &held)?;
+    merge(replica, &held)?;
+    drop(held);
     let batch = replica.answer(alloc, &Vector::new())?;
     Ok(batch.records.len())
 }
@@ -496,10 +545,9 @@ fn answered(alloc: Global, count: u32, size: usize) -> Result<usize, ExchangeFau
 #[test]
 fn batches_fit_a_frame(rt: HostRuntime) -> Result<(), Fail> {
     for (count, size, wanted) in &SIZES {
-        assert!(rt;
-            answered(rt.alloc(), *count, *size) == Ok(*wanted),
-            "{size}"
-        );
+        let mut replica = list_replica(rt.alloc(), 1)?;
+        let told = answered(rt.alloc(), &mut replica, *count, *size);
+        assert!(rt; told == Ok(*wanted), "{size}");
     }
     Ok(())
 }
@@ -526,13 +574,15 @@ fn numbers_of_faults(rt: HostRuntime) {
 }
 
 /// How many frames a dialog of replicas 1 and 2 has, each with one record of its own.
-fn frames_of_one_each(alloc: Global) -> Result<u32, ExchangeFault> {
-    let mut one = list_replica(alloc, 1)?;
-    let mut two = list_replica(alloc, 2)?;
-    merge_rows(alloc, &mut one, &[(1, 1, 100, 7)])?;
-    merge_rows(alloc, &mut two, &[(2, 1, 100, 8)])?;
-    let frames = converse(alloc, &mut one, &mut two)?;
-    if !are_equal(alloc, &mut one, &mut two)? {
+fn frames_of_one_each(
+    alloc: Global,
+    one: &mut Replica<ListArchive>,
+    two: &mut Replica<ListArchive>,
+) -> Result<u32, ExchangeFault> {
+    merge_rows(alloc, one, &[(1, 1, 100, 7)])?;
+    merge_rows(alloc, two, &[(2, 1, 100, 8)])?;
+    let frames = converse(alloc, one, two)?;
+    if !are_equal(alloc, one, two)? {
         return Err(ExchangeFault::Frame);
     }
     Ok(frames)
@@ -540,6 +590,8 @@ fn frames_of_one_each(alloc: Global) -> Result<u32, ExchangeFault> {
 
 #[test]
 fn a_dialog_of_two(rt: HostRuntime) -> Result<(), Fail> {
-    assert!(rt; frames_of_one_each(rt.alloc()) == Ok(7));
+    let mut one = list_replica(rt.alloc(), 1)?;
+    let mut two = list_replica(rt.alloc(), 2)?;
+    assert!(rt; frames_of_one_each(rt.alloc(), &mut one, &mut two) == Ok(7));
     Ok(())
 }

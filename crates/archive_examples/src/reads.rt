@@ -458,7 +458,7 @@ static RAW_READS: [RawRead; 16] = [
 ];
 
 /// Backward from the only value.
-static BEFORE_ONE: RawRead = (0, 10, 2, true, &[&[(10, false), (-9_999_990, true)]]);
+static BEFORE_ONE: [RawRead; 1] = [(0, 10, 2, true, &[&[(10, false), (-9_999_990, true)]])];
 
 /// The point that a page ends with, in case it has these items.
 fn point_behind<A: Archive>(
@@ -494,12 +494,15 @@ fn has_pages<A: Archive>(alloc: Global, archive: &mut A, row: &RawRead) -> bool 
 
 #[test]
 fn raw_reads_have_their_pages(rt: HostRuntime) -> Result<(), Fail> {
-    let mut archive = archive_of(rt.alloc(), &VALUES)?;
-    for row in &RAW_READS {
-        assert!(rt; has_pages(rt.alloc(), &mut archive, row), "{row:?}");
+    for (values, reads) in [
+        (VALUES.as_slice(), RAW_READS.as_slice()),
+        (&ONE_VALUE, &BEFORE_ONE),
+    ] {
+        let mut archive = archive_of(rt.alloc(), values)?;
+        for row in reads {
+            assert!(rt; has_pages(rt.alloc(), &mut archive, row), "{row:?}");
+        }
     }
-    let mut one = archive_of(rt.alloc(), &ONE_VALUE)?;
-    assert!(rt; has_pages(rt.alloc(), &mut one, &BEFORE_ONE));
     Ok(())
 }
 
@@ -846,14 +849,17 @@ fn goes_on_as_before<A: Archive>(alloc: Global, archive: &mut A) -> bool {
         && point_behind(alloc, archive, details, &second.continuation_point, REST[1]) == Some(None)
 }
 
+/// Whether later pages are of what was held at the first, also behind what is done between.
+fn are_of_what_was_held<A: Archive>(alloc: Global, archive: &mut A) -> Result<bool, LearnFault> {
+    let before = goes_on_as_before(alloc, archive);
+    learn_all(alloc, archive, &LATER)?;
+    Ok(before && goes_on_as_before(alloc, archive))
+}
+
 #[test]
 fn later_pages_are_of_what_was_held(rt: HostRuntime) -> Result<(), Fail> {
     let mut archive = archive_of(rt.alloc(), &VALUES)?;
-    assert!(rt; goes_on_as_before(rt.alloc(), &mut archive));
-    for row in &LATER {
-        learn(rt.alloc(), &mut archive, row)?;
-    }
-    assert!(rt; goes_on_as_before(rt.alloc(), &mut archive));
+    assert!(rt; are_of_what_was_held(rt.alloc(), &mut archive)?);
     Ok(())
 }
 
@@ -978,17 +984,19 @@ static FAULTS: [(u64, Failure, Status, Status); 5] = [
     (0, Failure::Refused, Status::GOOD, Status::GOOD),
 ];
 
+/// Whether a read of the first page is answered so, and then so.
+fn are_told<A: Archive>(alloc: Global, archive: &mut A, first: Status, second: Status) -> bool {
+    let details = asked(false, AT_5_00, AT_5_07, 2, false);
+    status_of(alloc, archive, details, None) == Some(first)
+        && status_of(alloc, archive, details, None) == Some(second)
+}
+
 #[test]
 fn faults_are_told(rt: HostRuntime) -> Result<(), Fail> {
-    let details = asked(false, AT_5_00, AT_5_07, 2, false);
     for (call, failure, first, second) in &FAULTS {
         let mut archive = failing(rt.alloc(), *call, *failure)?;
         assert!(rt;
-            status_of(rt.alloc(), &mut archive, details, None) == Some(*first),
-            "{call} {failure:?}"
-        );
-        assert!(rt;
-            status_of(rt.alloc(), &mut archive, details, None) == Some(*second),
+            are_told(rt.alloc(), &mut archive, *first, *second),
             "{call} {failure:?}"
         );
     }

@@ -223,11 +223,11 @@ fn is_story(records: &[Record], wanted: &[(HistoryUpdateType, i64)]) -> bool {
 fn has_story<A: Archive>(
     alloc: Global,
     archive: &mut A,
+    node: &NodeId,
     time: i64,
     wanted: &[(HistoryUpdateType, i64)],
 ) -> Result<bool, StoreFault> {
-    let request = request(alloc, 0)?;
-    let story = archive.at(alloc, &request.node, Moment::at(time))?;
+    let story = archive.at(alloc, node, Moment::at(time))?;
     Ok(is_story(&story, wanted))
 }
 
@@ -257,40 +257,42 @@ fn is_live_alone(lives: &[Held], written: i32) -> bool {
 static SHOWN: [(HistoryUpdateType, i32); 4] = [(Insert, 9), (Delete, 8), (Update, 7), (Insert, 7)];
 
 /// Whether the modifications and the live values from 1 to 100 are those of the two lists of operations.
-fn shows_all<A: Archive>(alloc: Global, archive: &mut A) -> Result<bool, StoreFault> {
-    let request = request(alloc, 0)?;
+fn shows_all<A: Archive>(
+    alloc: Global,
+    archive: &mut A,
+    node: &NodeId,
+) -> Result<bool, StoreFault> {
     let all = archive.vector()?;
-    let log = archive.log(
-        alloc,
-        &request.node,
-        Moment::at(1),
-        Moment::at(100),
-        None,
-        Direction::Forward,
-        9,
-        &all,
-    )?;
-    let lives = archive.range(
-        alloc,
-        &request.node,
-        Moment::at(1),
-        Moment::at(100),
-        Direction::Forward,
-        9,
-        &all,
-    )?;
-    Ok(are_entries(&log, &SHOWN) && is_live_alone(&lives, 9))
+    let (from, to) = (Moment::at(1), Moment::at(100));
+    let log = archive.log(alloc, node, from, to, None, Direction::Forward, 9, &all)?;
+    let logged = are_entries(&log, &SHOWN);
+    drop(log);
+    let lives = archive.range(alloc, node, from, to, Direction::Forward, 9, &all)?;
+    Ok(logged && is_live_alone(&lives, 9))
+}
+
+static STORY: [(HistoryUpdateType, i64); 4] = [
+    (Insert, 100),
+    (Update, 101),
+    (Delete, 102),
+    (Insert, 103),
+];
+
+/// Whether the two lists of operations have their codes, and the records and entries of them are there then.
+fn operates_all<A: Archive>(alloc: Global, archive: &mut A) -> Result<bool, StoreFault> {
+    let operated = operates(alloc, archive, &FIRST)? && operates(alloc, archive, &NEXT)?;
+    let request = request(alloc, 0)?;
+    Ok(
+        operated
+            && has_story(alloc, archive, &request.node, 10, &STORY)?
+            && shows_all(alloc, archive, &request.node)?,
+    )
 }
 
 #[test]
 fn operations_have_their_codes(rt: HostRuntime) -> Result<(), Fail> {
-    let alloc = rt.alloc();
-    let mut archive = list_archive(alloc)?;
-    assert!(rt; operates(alloc, &mut archive, &FIRST)?);
-    assert!(rt; operates(alloc, &mut archive, &NEXT)?);
-    let wanted = [(Insert, 100), (Update, 101), (Delete, 102), (Insert, 103)];
-    assert!(rt; has_story(alloc, &mut archive, 10, &wanted)?);
-    assert!(rt; shows_all(alloc, &mut archive)?);
+    let mut archive = list_archive(rt.alloc())?;
+    assert!(rt; operates_all(rt.alloc(), &mut archive)?);
     Ok(())
 }
 
@@ -318,24 +320,41 @@ fn learns_last<A: Archive>(alloc: Global, archive: &mut A) -> Result<bool, Store
     Ok(record.is_lawful() && archive.learn(&record) == Ok(true))
 }
 
+static LATER: [Row; 1] = [(864_000_000_100, 1, 20, 1, INSERTED)];
+
+static LATEST: [Row; 1] = [(100, 3, 20, 2, REPLACED)];
+
+static RISEN: [(HistoryUpdateType, i64); 2] = [
+    (Insert, 864_000_000_100),
+    (Update, 864_000_000_101),
+];
+
+/// Behind the greatest tick there is none left.
+static NONE_LEFT: [Row; 3] = [
+    (100, 3, 20, 3, UNAVAILABLE),
+    (100, 4, 20, 0, UNAVAILABLE),
+    (100, 1, 20, 3, EXISTS),
+];
+
+/// Whether a tick rises above a greater one that is held, and none is given above the greatest.
+fn rises<A: Archive>(alloc: Global, archive: &mut A) -> Result<bool, StoreFault> {
+    let operated = operates(alloc, archive, &LATER)?;
+    archive.reload()?;
+    let operated = operated && operates(alloc, archive, &LATEST)?;
+    let request = request(alloc, 0)?;
+    Ok(
+        operated
+            && has_story(alloc, archive, &request.node, 20, &RISEN)?
+            && learns_last(alloc, archive)?
+            && operates(alloc, archive, &NONE_LEFT)?
+            && holds(archive, 2, 4_611_686_018_427_387_903)?,
+    )
+}
+
 #[test]
 fn ticks_rise(rt: HostRuntime) -> Result<(), Fail> {
-    let alloc = rt.alloc();
-    let mut archive = list_archive(alloc)?;
-    let later = [(864_000_000_100, 1, 20, 1, INSERTED)];
-    assert!(rt; operates(alloc, &mut archive, &later)?);
-    archive.reload()?;
-    assert!(rt; operates(alloc, &mut archive, &[(100, 3, 20, 2, REPLACED)])?);
-    let wanted = [(Insert, 864_000_000_100), (Update, 864_000_000_101)];
-    assert!(rt; has_story(alloc, &mut archive, 20, &wanted)?);
-    assert!(rt; learns_last(alloc, &mut archive)?);
-    let none_left = [
-        (100, 3, 20, 3, UNAVAILABLE),
-        (100, 4, 20, 0, UNAVAILABLE),
-        (100, 1, 20, 3, EXISTS),
-    ];
-    assert!(rt; operates(alloc, &mut archive, &none_left)?);
-    assert!(rt; holds(&mut archive, 2, 4_611_686_018_427_387_903)?);
+    let mut archive = list_archive(rt.alloc())?;
+    assert!(rt; rises(rt.alloc(), &mut archive)?);
     Ok(())
 }
 

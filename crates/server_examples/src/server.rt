@@ -378,14 +378,11 @@ fn stops_where_the_writer_does(rt: HostRuntime) -> Result<(), Fail> {
     Ok(())
 }
 
-/// A call that was interrupted is tried again, and counts as no failed one.
-#[test]
-fn goes_on_where_it_was_interrupted(rt: HostRuntime) -> Result<(), Fail> {
-    let input = bytes_of(rt.alloc(), &[HELLO, OPEN, REQUEST])?;
-    let want = bytes_of(rt.alloc(), &[ACK, OPENED, ANSWER])?;
+/// Whether such a connection is served so where each call is interrupted before.
+fn is_served_halting(alloc: Global, bytes: &[u8], want: &[u8]) -> bool {
     let mut reader = Counted::new(Halting {
         inner: Slow {
-            bytes: input.as_slice(),
+            bytes,
             size: 1,
             fails: false,
         },
@@ -393,15 +390,24 @@ fn goes_on_where_it_was_interrupted(rt: HostRuntime) -> Result<(), Fail> {
     });
     let mut writer = Counted::new(Halting {
         inner: Narrow {
-            bytes: Vec::new(rt.alloc()),
+            bytes: Vec::new(alloc),
             room: 1000,
         },
         halts: false,
     });
-    let result = serve_bare(rt.alloc(), &mut reader, &mut writer);
-    assert!(rt; result == Ok(Served::EndOfInput));
-    assert!(rt; reader.faults() == 0 && writer.faults() == 0);
-    assert!(rt; writer.into_inner().inner.bytes.as_slice() == want.as_slice());
+    let result = serve_bare(alloc, &mut reader, &mut writer);
+    result == Ok(Served::EndOfInput)
+        && reader.faults() == 0
+        && writer.faults() == 0
+        && writer.into_inner().inner.bytes.as_slice() == want
+}
+
+/// A call that was interrupted is tried again, and counts as no failed one.
+#[test]
+fn goes_on_where_it_was_interrupted(rt: HostRuntime) -> Result<(), Fail> {
+    let input = bytes_of(rt.alloc(), &[HELLO, OPEN, REQUEST])?;
+    let want = bytes_of(rt.alloc(), &[ACK, OPENED, ANSWER])?;
+    assert!(rt; is_served_halting(rt.alloc(), input.as_slice(), want.as_slice()));
     Ok(())
 }
 
@@ -439,24 +445,28 @@ fn bounds_a_message(rt: HostRuntime) -> Result<(), Fail> {
     Ok(())
 }
 
+/// The requests or the answers of a session, one behind the other.
+fn session_of(alloc: Global, begin: &[&str], answers: bool) -> Result<String, Fail> {
+    let mut text = joined(alloc, begin)?;
+    for (_, request, response) in SESSION {
+        text.push_str(if answers { response } else { request })?;
+    }
+    Ok(text)
+}
+
 /// Each request of a session is answered so, behind those before it.
 #[test]
 fn serves_a_session(rt: HostRuntime) -> Result<(), Fail> {
-    let mut text = joined(rt.alloc(), &[HELLO, OPEN])?;
-    let mut want = joined(rt.alloc(), &[ACK, OPENED])?;
-    for (what, request, response) in SESSION {
-        text.push_str(request)?;
-        want.push_str(response)?;
-        assert!(rt;
-            is_answered(
-                rt.alloc(),
-                text.as_str(),
-                &[want.as_str()],
-                Served::EndOfInput
-            )?,
-            "{what}"
-        );
-    }
+    let text = session_of(rt.alloc(), &[HELLO, OPEN], false)?;
+    let want = session_of(rt.alloc(), &[ACK, OPENED], true)?;
+    assert!(rt;
+        is_answered(
+            rt.alloc(),
+            text.as_str(),
+            &[want.as_str()],
+            Served::EndOfInput
+        )?
+    );
     Ok(())
 }
 
