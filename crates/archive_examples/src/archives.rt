@@ -450,9 +450,9 @@ fn gives_snapshots<A: Archive>(
             live,
         );
         let outside = archive.next_outside(alloc, node, Moment::at(0), Forward, &within)?;
-        let is_next = is_next(outside, next);
+        let nearest = is_next(outside, next);
         let log = archive.log(alloc, node, from, to, None, Forward, 9, &within)?;
-        if !(lives && is_next && log.len() == *count) {
+        if !(lives && nearest && log.len() == *count) {
             return Ok(false);
         }
     }

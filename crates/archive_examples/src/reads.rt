@@ -875,6 +875,30 @@ fn status_of<A: Archive>(
     }
 }
 
+/// The bytes that make the point one of another archive, and one within a vector that isn't covered.
+static FOREIGN: [Patch; 2] = [(1, 17, 9), (73, 74, 6)];
+
+/// Whether the next page from the point with these bytes is refused.
+fn is_refused<A: Archive>(
+    alloc: Global,
+    archive: &mut A,
+    patch: Patch,
+) -> Result<bool, AllocError> {
+    let point = patched(alloc, patch, NONE)?;
+    let details = asked(false, AT_5_00, AT_5_07, 2, false);
+    let told = status_of(alloc, archive, details, Some(&point));
+    Ok(told == Some(Status::BAD_CONTINUATION_POINT_INVALID))
+}
+
+#[test]
+fn foreign_points_are_refused(rt: HostRuntime) -> Result<(), Fail> {
+    let mut archive = archive_of(rt.alloc(), &VALUES)?;
+    for patch in &FOREIGN {
+        assert!(rt; is_refused(rt.alloc(), &mut archive, *patch)?);
+    }
+    Ok(())
+}
+
 // ---- long reads
 
 /// An archive with so many values, at 1 and each time behind it.

@@ -174,7 +174,7 @@ fn all_of(alloc: Global, answers: &[&[&str]]) -> Result<Vec<Vec<u8>>, Fail> {
 
 /// Whether those of five clients are told that break off or take no answer, or can't be had, and the next one is served: a whole
 /// stream, and its first bytes.
-fn goes_on(alloc: Global, bytes: &[u8], begun: &[u8]) -> Result<bool, Fail> {
+fn goes_on<'a>(alloc: Global, bytes: &'a [u8], begun: &'a [u8]) -> Result<bool, Fail> {
     let breaks = Some(Client {
         bytes: begun,
         breaks: true,
