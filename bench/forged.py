@@ -5,14 +5,15 @@
 
 Parts: `cuts` cuts each stream at each byte; `bytes` replaces each byte by 00, 7F, 80 and FF; `hex` forges the digits of `--hex`;
 `counts` replaces each four bytes by 7FFFFFFF; `points` replaces each byte of continuation points by each other one; `frames` does
-what `cuts` and `bytes` do to what a peer sends to `serve`; `large` sends the largest messages, with items as short as they can be.
+what `cuts` and `bytes` do to what a peer sends to `serve`; `large` sends the largest messages, with items as short as they can be;
+`long` sends a chunk and a frame more than a connection and a dialog may have.
 Each run has to end in one of the ways that README states, soon, and with hardly more memory than the whole stream takes, and its
 answer has to be whole chunks; a cut stream is answered as its whole chunks are. Behind each run `dump` has to show the records that
 bench/reading.py, made from docs/FORMATS.md alone, finds in the bytes, and no others. Whatever is otherwise is told with the smallest
 bytes that show it; the exit status is 1 then. With --every N each N-th of the forged
 streams is tried. Needs gcc and GNU time.
 """
-import os, socket, struct, sys, tempfile
+import os, socket, struct, sys, tempfile, threading, time
 from concurrent.futures import ThreadPoolExecutor
 import model, reading, running
 from opcua import *
@@ -319,6 +320,15 @@ def large():
                 fault("large", f"{name}: {run.kilobytes} kB", sent[:400])
 
 
+def send_all(line, sent):
+    """Sends these bytes, while others read, and no more behind them."""
+    try:
+        line.sendall(sent)
+        line.shutdown(socket.SHUT_WR)
+    except OSError:
+        pass
+
+
 class Peer:
     """A serving replica with an empty archive in memory, for a few connections."""
 
@@ -330,19 +340,20 @@ class Peer:
         self.process = running.subprocess.Popen(words, stdin=running.subprocess.DEVNULL, stdout=self.out, stderr=self.said)
         assert running.listens(self.port, self.process), "nobody listens"
 
-    def exchange(self, sent):
-        """What comes back until the connection is over."""
+    def exchange(self, sent, most=20):
+        """What comes back until the connection is over, where each call takes so many seconds at most."""
         with socket.create_connection(("127.0.0.1", self.port)) as line:
-            line.settimeout(20)
-            came = b""
+            line.settimeout(most)
+            sending = threading.Thread(target=send_all, args=(line, sent))
+            sending.start()
+            came = []
             try:
-                line.sendall(sent)
-                line.shutdown(socket.SHUT_WR)
                 while more := line.recv(65536):
-                    came += more
+                    came.append(more)
             except ConnectionError:
                 pass
-            return came
+            sending.join()
+            return b"".join(came)
 
     def end(self):
         return running.ended(self.process, self.out, self.said, 0, 20)
@@ -387,7 +398,23 @@ def frames():
         print(f"frames: {name}: {len(forged)} runs, at most {seen[0]} kB", flush=True)
 
 
-PARTS = {"cuts": cuts, "bytes": forged_bytes, "hex": hexed, "counts": counts, "points": points, "frames": frames, "large": large}
+def long():
+    """A connection has 1,000,000 chunks, and a dialog 1,000,000 frames: the next one ends it."""
+    client = Client()
+    sent = client.hello() + client.open() + b"".join(struct.pack("<4sIIIII", b"MSGA", 24, 1, 1, n, n) for n in range(2, 1_000_001))
+    for given, due in [(sent[:-24], (0, "")), (sent, (1, "uahist: connection ended (3)\n"))]:
+        run = running.run([program, "answer", "--now", str(NOW)], given)
+        print(f"long: {len(given)} bytes of chunks: status {run.status}, {run.said!r}, {run.seconds:.1f} s", flush=True)
+        if (run.status, run.said) != due or [letters for letters, chunk in cut(run.out)] != ["ACKF", "OPNF"]:
+            fault("long", f"chunks ended by {run.status} {run.said!r}", given[:400])
+    id_, peer, begin = bytes(16), Peer("long", 1), time.monotonic()
+    came, run = peer.exchange(reading.asks(id_, 2, {}) * 1_000_001, 120), peer.end()
+    print(f"long: 1,000,001 frames: {len(came)} bytes came, status {run.status}, {run.said!r}, {time.monotonic() - begin:.1f} s", flush=True)
+    if came != reading.carries(id_, 1, {}, []) * 1_000_000 + reading.frame(b"RXE", u32(7)) or (run.status, run.said) != (0, ""):
+        fault("long", f"frames ended by {run.status} {run.said!r}", came[-100:])
+
+
+PARTS = {"cuts": cuts, "bytes": forged_bytes, "hex": hexed, "counts": counts, "points": points, "frames": frames, "large": large, "long": long}
 
 if __name__ == "__main__":
     for part in words or PARTS:

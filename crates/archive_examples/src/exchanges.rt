@@ -1,30 +1,24 @@
 ghost use Rattle.std.specs.Prelude.{IsTrue};
 ghost use Rattle.std.specs.List.{AllByRecursion};
-ghost use Rattle.ua_variant.specs.DataValue.{IsShortData};
 ghost use Rattle.records.specs.Spelling.{IsLawfulRecord};
-ghost use Rattle.hist_update.specs.Outcome.{IsRequest};
 ghost use Rattle.exchange.specs.Running.{IsAsked, IsEvent};
 
+use crate::archives::{is_int, node, scripted_archive};
+use crate::updates::{is_request, is_short};
 use HistoryUpdateType::{Insert, Replace};
 use archive::{Archive, Direction, Failure, LearnFault, ListArchive, ScriptedArchive, StoreFault};
-use exchange::{
-    Batch, Dialog, Event, ExchangeFault, Frames, Operation, Replica, State, converse, run_world,
-};
+use exchange::{Batch, Event, ExchangeFault, Operation, Replica, converse, run_world};
 use hist_update::Request;
 use records::{Entry, Held, HistoryUpdateType, Moment, Record};
 use stamp::{ReplicaNo, Vector};
 use std::alloc::{AllocError, Global};
 use std::test::Fail;
-use ua_binary::{Bytes, Listing, NodeId, Text, Ticks};
+use ua_binary::{Bytes, Listing, Text, Ticks};
 use ua_variant::{DataValue, Scalar, ValueType, Variant};
 use uuid::Uuid;
 
 /// An insert at node ns=1;s=T and source time 10: origin, number, tick, and the value.
 type Row = (u8, u64, i64, i32);
-
-fn node(alloc: Global) -> Result<NodeId, AllocError> {
-    Ok(NodeId::Named(1, Text::from_str(alloc, "T")?))
-}
 
 fn value(written: Variant) -> DataValue {
     DataValue {
@@ -70,15 +64,23 @@ fn push(records: &mut Vec<Record>, record: Record) -> Result<(), AllocError> {
     Ok(())
 }
 
+/// The record of a row.
+fn insert_of(alloc: Global, row: &Row) -> Result<Record, StoreFault> {
+    let (origin, number, tick, written) = *row;
+    let origin = replica_number(origin)?;
+    Ok(record(
+        alloc,
+        origin,
+        number,
+        tick,
+        Variant::Scalar(Scalar::Int32(written)),
+    )?)
+}
+
 fn batch(alloc: Global, rows: &[Row]) -> Result<Batch, StoreFault> {
     let mut records = Vec::new(alloc);
-    for (origin, number, tick, written) in rows {
-        let written = Variant::Scalar(Scalar::Int32(*written));
-        let origin = replica_number(*origin)?;
-        push(
-            &mut records,
-            record(alloc, origin, *number, *tick, written)?,
-        )?;
+    for row in rows {
+        push(&mut records, insert_of(alloc, row)?)?;
     }
     Ok(Batch {
         records: Listing::of(records),
@@ -138,13 +140,6 @@ fn send(
     merge(to, &batch)
 }
 
-fn is_int(shown: &DataValue, written: i32) -> bool {
-    match &shown.value {
-        Some(Variant::Scalar(Scalar::Int32(found))) => *found == written,
-        _ => false,
-    }
-}
-
 fn is_entry(entry: &Entry, kind: HistoryUpdateType, written: i32) -> bool {
     match &entry.value {
         Some(shown) => entry.kind == kind && entry.tick == 100 && is_int(shown, written),
@@ -172,26 +167,12 @@ fn is_live_alone(lives: &[Held], written: i32) -> bool {
 fn shows_both(alloc: Global, archive: &mut ListArchive) -> Result<bool, StoreFault> {
     let node = node(alloc)?;
     let all = archive.vector()?;
-    let log = archive.log(
-        alloc,
-        &node,
-        Moment::at(1),
-        Moment::at(100),
-        None,
-        Direction::Forward,
-        9,
-        &all,
-    )?;
-    let lives = archive.range(
-        alloc,
-        &node,
-        Moment::at(1),
-        Moment::at(100),
-        Direction::Forward,
-        9,
-        &all,
-    )?;
-    Ok(are_entries(&log, &[(Replace, 7), (Insert, 7)]) && is_live_alone(&lives, 8))
+    let (from, to) = (Moment::at(1), Moment::at(100));
+    let log = archive.log(alloc, &node, from, to, None, Direction::Forward, 9, &all)?;
+    let logged = are_entries(&log, &[(Replace, 7), (Insert, 7)]);
+    drop(log);
+    let lives = archive.range(alloc, &node, from, to, Direction::Forward, 9, &all)?;
+    Ok(logged && is_live_alone(&lives, 8))
 }
 
 /// Whether two replicas hold the same records.
@@ -205,18 +186,29 @@ fn are_equal(
     Ok(ones.len() == 2 && ones.as_slice() == twos.as_slice())
 }
 
+/// Whether two replicas that hold nothing insert a value each, are sent what they lack, and then show both.
+fn meet(
+    alloc: Global,
+    one: &mut Replica<ListArchive>,
+    two: &mut Replica<ListArchive>,
+) -> Result<bool, StoreFault> {
+    let met = merge_rows(alloc, one, &[(1, 1, 100, 7)]) == Ok(1)
+        && merge_rows(alloc, two, &[(2, 1, 100, 8)]) == Ok(1)
+        && send(alloc, one, two) == Ok(1)
+        && send(alloc, two, one) == Ok(1)
+        && send(alloc, one, two) == Ok(0);
+    Ok(
+        met && shows_both(alloc, &mut one.archive)?
+            && shows_both(alloc, &mut two.archive)?
+            && are_equal(alloc, one, two)?,
+    )
+}
+
 #[test]
 fn two_inserts_meet(rt: HostRuntime) -> Result<(), Fail> {
-    let alloc = rt.alloc();
-    let mut one = list_replica(alloc, 1)?;
-    let mut two = list_replica(alloc, 2)?;
-    assert!(rt; merge_rows(alloc, &mut one, &[(1, 1, 100, 7)]) == Ok(1));
-    assert!(rt; merge_rows(alloc, &mut two, &[(2, 1, 100, 8)]) == Ok(1));
-    assert!(rt; send(alloc, &mut one, &mut two) == Ok(1));
-    assert!(rt; send(alloc, &mut two, &mut one) == Ok(1));
-    assert!(rt; send(alloc, &mut one, &mut two) == Ok(0));
-    assert!(rt; shows_both(alloc, &mut one.archive)? && shows_both(alloc, &mut two.archive)?);
-    assert!(rt; are_equal(alloc, &mut one, &mut two)?);
+    let mut one = list_replica(rt.alloc(), 1)?;
+    let mut two = list_replica(rt.alloc(), 2)?;
+    assert!(rt; meet(rt.alloc(), &mut one, &mut two)?);
     Ok(())
 }
 
@@ -272,42 +264,17 @@ fn deliver_all(replica: usize, batch: usize) -> Event {
 
 /// Both replicas insert, and each is sent what the other one holds; a delivery comes twice, one to a replica
 /// that isn't there, one of a batch that isn't there.
-fn events(alloc: Global) -> Result<Vec<Event>, AllocError> {
-    let mut events = Vec::new(alloc);
+fn add_events(alloc: Global, events: &mut Vec<Event>) -> Result<(), AllocError> {
     for (replica, written) in [(0, 7), (1, 8)] {
-        add(&mut events, insert(alloc, replica, 100, written)?)?;
+        add(events, insert(alloc, replica, 100, written)?)?;
     }
     for replica in [0, 1] {
-        add(&mut events, send_all(replica))?;
+        add(events, send_all(replica))?;
     }
     for (replica, batch) in [(1, 0), (0, 1), (0, 1), (2, 0), (0, 2)] {
-        add(&mut events, deliver_all(replica, batch))?;
+        add(events, deliver_all(replica, batch))?;
     }
-    add(&mut events, Event::Restart { replica: 1 })?;
-    Ok(events)
-}
-
-/// Whether the node's id and the user's name are within their limits.
-fn is_request(request: &Request) -> bool
-    ensures { IsTrue result → IsRequest request.now }
-{
-    let short = match &request.node {
-        NodeId::Named(_, name) => name.len() <= 256,
-        NodeId::Opaque(_, id) => id.as_slice().len() <= 256,
-        _ => true,
-    };
-    short && request.user.len() <= 256
-}
-
-/// Whether a value may be written.
-fn is_short(value: &DataValue) -> bool
-    ensures { IsTrue result → IsShortData value.now }
-{
-    let close = match value.source_pico {
-        Some(pico) => pico <= 9999,
-        None => true,
-    };
-    close && value.server_pico.is_none() && value.size() < 0x8000_0000
+    add(events, Event::Restart { replica: 1 })
 }
 
 fn is_asked(operation: &Operation) -> bool
@@ -364,14 +331,71 @@ fn archives(alloc: Global) -> Result<Vec<ListArchive>, StoreFault> {
     Ok(archives)
 }
 
+/// Whether both inserts are shown by all of them, once these events happened.
+fn meet_in_a_world(alloc: Global, replicas: &mut [ListArchive]) -> Result<bool, StoreFault> {
+    let mut events = Vec::new(alloc);
+    add_events(alloc, &mut events)?;
+    if run(alloc, replicas, &events) != Ok(()) {
+        return Ok(false);
+    }
+    drop(events);
+    let mut same = true;
+    for archive in replicas.iter_mut() {
+        same = same && shows_both(alloc, archive)?;
+    }
+    Ok(same)
+}
+
 #[test]
 fn two_inserts_meet_in_a_world(rt: HostRuntime) -> Result<(), Fail> {
-    let alloc = rt.alloc();
-    let mut replicas = archives(alloc)?;
-    let events = events(alloc)?;
-    assert!(rt; run(alloc, &mut replicas, &events) == Ok(()));
-    for archive in replicas.iter_mut() {
-        assert!(rt; shows_both(alloc, archive)?);
+    let mut replicas = archives(rt.alloc())?;
+    assert!(rt; meet_in_a_world(rt.alloc(), &mut replicas)?);
+    Ok(())
+}
+
+/// Replica 1, which meets no fault, and replica 2, whose first call fails so.
+fn breaking(alloc: Global, failure: Failure) -> Result<Vec<ScriptedArchive>, StoreFault> {
+    let mut archives = Vec::new(alloc);
+    for (number, call) in [(1, 0), (2, 1)] {
+        let number = replica_number(number)?;
+        match archives.push(ScriptedArchive::new(alloc, Uuid::nil(), number, call, failure)) {
+            Ok(()) => {}
+            Err(_) => return Err(StoreFault::OutOfMemory),
+        }
+    }
+    Ok(archives)
+}
+
+/// Replica 1 inserts, and what it holds is brought to replica 2.
+fn add_delivery(alloc: Global, events: &mut Vec<Event>) -> Result<(), AllocError> {
+    add(events, insert(alloc, 0, 100, 7)?)?;
+    add(events, send_all(0))?;
+    add(events, deliver_all(1, 0))
+}
+
+/// Whether the third event ends these replicas' world, and the first of them holds its record.
+fn breaks_at_the_third(
+    alloc: Global,
+    replicas: &mut [ScriptedArchive],
+) -> Result<bool, StoreFault> {
+    let mut events = Vec::new(alloc);
+    add_delivery(alloc, &mut events)?;
+    let mut same = run(alloc, replicas, &events) == Err(2);
+    for (archive, held) in replicas.iter_mut().zip([Ok(1), Err(StoreFault::Broken)]) {
+        same = same && held_of(archive, 1) == held;
+    }
+    Ok(same)
+}
+
+/// A store that breaks at the third event ends a world there, and leaves the other replica as it was.
+#[test]
+fn a_break_ends_a_world(rt: HostRuntime) -> Result<(), Fail> {
+    for failure in [Failure::BrokenBefore, Failure::BrokenAfter] {
+        let mut replicas = breaking(rt.alloc(), failure)?;
+        assert!(rt;
+            breaks_at_the_third(rt.alloc(), &mut replicas)?,
+            "{failure:?}"
+        );
     }
     Ok(())
 }
@@ -401,31 +425,30 @@ static MERGES: [(&[Row], Result<u32, ExchangeFault>, u64); 7] = [
     (&[(2, 3, 102, 9), (2, 4, 103, 10)], Ok(0), 4),
 ];
 
-/// How many records of replica 2 are held.
-fn held_of_two<A: Archive>(replica: &mut Replica<A>) -> Result<u64, StoreFault> {
-    let two = replica_number(2)?;
-    let vector = replica.archive.vector()?;
-    Ok(vector.get(two))
+/// How many records of a replica an archive holds.
+fn held_of<A: Archive>(archive: &mut A, number: u8) -> Result<u64, StoreFault> {
+    let number = replica_number(number)?;
+    let vector = archive.vector()?;
+    Ok(vector.get(number))
+}
+
+/// The first of the batches that is answered otherwise, or leaves other records.
+fn first_other<A: Archive>(alloc: Global, replica: &mut Replica<A>) -> Option<usize> {
+    for (i, (rows, told, held)) in MERGES.iter().enumerate() {
+        if merge_rows(alloc, replica, rows) != *told
+            || held_of(&mut replica.archive, 2) != Ok(*held)
+        {
+            return Some(i);
+        }
+    }
+    None
 }
 
 #[test]
 fn batches_are_merged(rt: HostRuntime) -> Result<(), Fail> {
-    let alloc = rt.alloc();
-    let mut replica = list_replica(alloc, 1)?;
-    for (rows, told, held) in &MERGES {
-        assert!(rt; merge_rows(alloc, &mut replica, rows) == *told);
-        assert!(rt; held_of_two(&mut replica)? == *held);
-    }
+    let mut replica = list_replica(rt.alloc(), 1)?;
+    assert!(rt; first_other(rt.alloc(), &mut replica) == None);
     Ok(())
-}
-
-fn scripted_replica(
-    alloc: Global,
-    call: u64,
-    failure: Failure,
-) -> Result<Replica<ScriptedArchive>, StoreFault> {
-    let number = replica_number(1)?;
-    Ok(Replica::new(ScriptedArchive::new(alloc, Uuid::nil(), number, call, failure)))
 }
 
 /// How a call fails, the fault that is told, and what is answered to how many records are held then.
@@ -452,52 +475,42 @@ fn stopped(fault: StoreFault) -> Result<u32, ExchangeFault> {
     })
 }
 
+/// Whether a merge of three records, whose second one meets this fault, is told so, and what is held then.
+fn ends_so<A: Archive>(
+    alloc: Global,
+    replica: &mut Replica<A>,
+    fault: StoreFault,
+    held: Result<u64, StoreFault>,
+) -> bool {
+    let rows = [(2, 1, 100, 7), (2, 2, 101, 8), (2, 3, 102, 9)];
+    merge_rows(alloc, replica, &rows) == stopped(fault)
+        && replica.archive.faults() == 1
+        && held_of(&mut replica.archive, 2) == held
+}
+
 #[test]
 fn faults_of_the_store_end_a_merge(rt: HostRuntime) -> Result<(), Fail> {
-    let alloc = rt.alloc();
-    let rows = [(2, 1, 100, 7), (2, 2, 101, 8), (2, 3, 102, 9)];
     for (failure, fault, held) in &SCRIPTS {
-        let mut replica = scripted_replica(alloc, 2, *failure)?;
-        assert!(rt; merge_rows(alloc, &mut replica, &rows) == stopped(*fault));
-        assert!(rt; replica.archive.faults() == 1);
-        assert!(rt; held_of_two(&mut replica) == *held);
+        let mut replica = Replica::new(scripted_archive(rt.alloc(), 2, *failure)?);
+        let ended = ends_so(rt.alloc(), &mut replica, *fault, *held);
+        assert!(rt; ended, "{failure:?}");
     }
     Ok(())
 }
 
-/// The fault that answering an empty vector meets.
-fn answer_fault<A: Archive>(alloc: Global, replica: &mut Replica<A>) -> Option<ExchangeFault> {
-    match replica.answer(alloc, &Vector::new()) {
-        Ok(_) => None,
-        Err(fault) => Some(fault),
-    }
-}
-
-#[test]
-fn faults_of_the_store_end_an_answer(rt: HostRuntime) -> Result<(), Fail> {
-    let alloc = rt.alloc();
-    for (failure, fault, _) in &SCRIPTS {
-        for call in [1, 2] {
-            let mut replica = scripted_replica(alloc, call, *failure)?;
-            assert!(rt; answer_fault(alloc, &mut replica) == Some(ExchangeFault::Store(*fault)));
-        }
-        let mut replica = scripted_replica(alloc, 3, *failure)?;
-        assert!(rt; answer_fault(alloc, &mut replica) == None);
-    }
-    Ok(())
+/// A record of replica 2, of a value of so many bytes.
+fn large_record(alloc: Global, number: u32, size: usize) -> Result<Record, StoreFault> {
+    let two = replica_number(2)?;
+    let bytes = Bytes::new(vec![in alloc; 0; size]?);
+    let written = Variant::Scalar(Scalar::ByteString(Some(bytes)));
+    Ok(record(alloc, two, u64::from(number), i64::from(number), written)?)
 }
 
 /// Some first records of replica 2, each of a value of so many bytes.
 fn large_batch(alloc: Global, count: u32, size: usize) -> Result<Batch, StoreFault> {
-    let two = replica_number(2)?;
     let mut records = Vec::new(alloc);
     for number in 1..=count {
-        let bytes = Bytes::new(vec![in alloc; 0; size]?);
-        let written = Variant::Scalar(Scalar::ByteString(Some(bytes)));
-        push(
-            &mut records,
-            record(alloc, two, u64::from(number), i64::from(number), written)?,
-        )?;
+        push(&mut records, large_record(alloc, number, size)?)?;
     }
     Ok(Batch {
         records: Listing::of(records),
@@ -515,11 +528,16 @@ static SIZES: [(u32, usize, usize); 6] = [
     (1001, 5, 1000),
 ];
 
-/// How many records the batch for an empty vector has.
-fn answered(alloc: Global, count: u32, size: usize) -> Result<usize, ExchangeFault> {
-    let mut replica = list_replica(alloc, 1)?;
+/// How many records the batch for an empty vector has, of a replica that merged so many.
+fn answered(
+    alloc: Global,
+    replica: &mut Replica<ListArchive>,
+    count: u32,
+    size: usize,
+) -> Result<usize, ExchangeFault> {
     let held = large_batch(alloc, count, size)?;
-    merge(&mut replica, &held)?;
+    merge(replica, &held)?;
+    drop(held);
     let batch = replica.answer(alloc, &Vector::new())?;
     Ok(batch.records.len())
 }
@@ -527,10 +545,9 @@ fn answered(alloc: Global, count: u32, size: usize) -> Result<usize, ExchangeFau
 #[test]
 fn batches_fit_a_frame(rt: HostRuntime) -> Result<(), Fail> {
     for (count, size, wanted) in &SIZES {
-        assert!(rt;
-            answered(rt.alloc(), *count, *size) == Ok(*wanted),
-            "{size}"
-        );
+        let mut replica = list_replica(rt.alloc(), 1)?;
+        let told = answered(rt.alloc(), &mut replica, *count, *size);
+        assert!(rt; told == Ok(*wanted), "{size}");
     }
     Ok(())
 }
@@ -557,13 +574,15 @@ fn numbers_of_faults(rt: HostRuntime) {
 }
 
 /// How many frames a dialog of replicas 1 and 2 has, each with one record of its own.
-fn frames_of_one_each(alloc: Global) -> Result<u32, ExchangeFault> {
-    let mut one = list_replica(alloc, 1)?;
-    let mut two = list_replica(alloc, 2)?;
-    merge_rows(alloc, &mut one, &[(1, 1, 100, 7)])?;
-    merge_rows(alloc, &mut two, &[(2, 1, 100, 8)])?;
-    let frames = converse(alloc, &mut one, &mut two)?;
-    if !are_equal(alloc, &mut one, &mut two)? {
+fn frames_of_one_each(
+    alloc: Global,
+    one: &mut Replica<ListArchive>,
+    two: &mut Replica<ListArchive>,
+) -> Result<u32, ExchangeFault> {
+    merge_rows(alloc, one, &[(1, 1, 100, 7)])?;
+    merge_rows(alloc, two, &[(2, 1, 100, 8)])?;
+    let frames = converse(alloc, one, two)?;
+    if !are_equal(alloc, one, two)? {
         return Err(ExchangeFault::Frame);
     }
     Ok(frames)
@@ -571,64 +590,8 @@ fn frames_of_one_each(alloc: Global) -> Result<u32, ExchangeFault> {
 
 #[test]
 fn a_dialog_of_two(rt: HostRuntime) -> Result<(), Fail> {
-    assert!(rt; frames_of_one_each(rt.alloc()) == Ok(7));
-    Ok(())
-}
-
-/// What replica 1 of an empty archive answers to the first frame in some bytes.
-fn answered_bytes(alloc: Global, bytes: &[u8], out: &mut Vec<u8>) -> Result<State, ExchangeFault> {
-    let mut one = list_replica(alloc, 1)?;
-    let mut dialog = Dialog::responder();
-    let mut frames = Frames::new(alloc);
-    frames.feed(bytes)?;
-    match frames.next_frame() {
-        Ok(Some(frame)) => dialog.take(alloc, &mut one, frame, out),
-        Ok(None) => Err(ExchangeFault::Frame),
-        Err(fault) => Err(fault),
-    }
-}
-
-static ASKED: &[u8] = b"RXVF\x1b\0\0\0\x02\0\0\0\0\0\0\0\0\0\0\0\0\0\0\0\0\x02\0";
-
-static ASKED_ITSELF: &[u8] = b"RXVF\x1b\0\0\0\x02\0\0\0\0\0\0\0\0\0\0\0\0\0\0\0\0\x01\0";
-
-static ASKED_BY_AN_OLDER: &[u8] = b"RXVF\x1b\0\0\0\x01\0\0\0\0\0\0\0\0\0\0\0\0\0\0\0\0\x02\0";
-
-static NOTHING: &[u8] = b"RXDF\x1f\0\0\0\x02\0\0\0\0\0\0\0\0\0\0\0\0\0\0\0\0\x01\0\0\0\0\0";
-
-#[test]
-fn vectors_are_answered(rt: HostRuntime) -> Result<(), Fail> {
-    let mut out = Vec::new(rt.alloc());
-    assert!(rt; answered_bytes(rt.alloc(), ASKED, &mut out) == Ok(State::Serving));
-    assert!(rt; out.as_slice() == NOTHING);
-    out.clear();
-    assert!(rt; answered_bytes(rt.alloc(), ASKED_ITSELF, &mut out) == Err(ExchangeFault::SelfPeer));
-    assert!(rt; out.as_slice() == b"RXEF\x0c\0\0\0\x05\0\0\0".as_slice());
-    out.clear();
-    let older = answered_bytes(rt.alloc(), ASKED_BY_AN_OLDER, &mut out);
-    assert!(rt; older == Err(ExchangeFault::PeerFormat));
-    assert!(rt; out.as_slice() == b"RXEF\x0c\0\0\0\x08\0\0\0".as_slice());
-    Ok(())
-}
-
-/// How many records a responder learned and sent, which has one and was asked by these bytes.
-fn moved(alloc: Global, bytes: &[u8]) -> Result<(u32, u32), ExchangeFault> {
-    let mut one = list_replica(alloc, 1)?;
-    merge_rows(alloc, &mut one, &[(1, 1, 100, 7)])?;
-    let mut dialog = Dialog::responder();
-    let mut frames = Frames::new(alloc);
-    frames.feed(bytes)?;
-    let Ok(Some(frame)) = frames.next_frame() else {
-        return Err(ExchangeFault::Frame);
-    };
-    let mut out = Vec::new(alloc);
-    dialog.take(alloc, &mut one, frame, &mut out)?;
-    Ok((dialog.learned(), dialog.sent()))
-}
-
-#[test]
-fn records_are_counted(rt: HostRuntime) -> Result<(), Fail> {
-    assert!(rt; moved(rt.alloc(), ASKED) == Ok((0, 1)));
-    assert!(rt; moved(rt.alloc(), ASKED_ITSELF) == Err(ExchangeFault::SelfPeer));
+    let mut one = list_replica(rt.alloc(), 1)?;
+    let mut two = list_replica(rt.alloc(), 2)?;
+    assert!(rt; frames_of_one_each(rt.alloc(), &mut one, &mut two) == Ok(7));
     Ok(())
 }

@@ -1,4 +1,4 @@
-//! Examples: archives, updates, reads and exchanges in rows, run over lists in memory and over SQLite. Nothing
+//! Examples: records, archives, updates, reads and exchanges in rows, run over lists in memory and over SQLite. Nothing
 //! stands on this crate. Its tests are in one program, so that the crates that they are about are proved once.
 #![tactic(auto)]
 
@@ -16,3 +16,5 @@ mod stores;
 mod updates;
 #[cfg(test)]
 mod vectors;
+#[cfg(test)]
+mod written_records;

@@ -1,6 +1,7 @@
 ghost use Rattle.std.specs.Prelude.{IsTrue};
 ghost use Rattle.ua_binary.specs.Binary.{IsShortNode};
 
+use crate::archives::{is_int, list_archive, node, scripted_archive, value};
 use HistoryUpdateType::{Delete, Insert, Update};
 use archive::{Archive, Failure, LearnFault, ListArchive, ScriptedArchive, StoreFault};
 use hist_read::{Query, put_continuation, read_continuation, read_node};
@@ -12,8 +13,7 @@ use ua_binary::{Bytes, NodeId, Status, Text, Ticks};
 use ua_services::{
     HistoryData, HistoryReadResult, ModificationInfo, ReadRawModifiedDetails, TimestampsToReturn,
 };
-use ua_variant::{DataValue, HistoryUpdateType, Scalar, Variant};
-use uuid::Uuid;
+use ua_variant::{DataValue, HistoryUpdateType};
 
 // ---- continuation points
 
@@ -147,36 +147,16 @@ fn nodes_have_one_spelling(rt: HostRuntime) -> Result<(), Fail> {
 }
 
 #[test]
-fn points_are_whole(rt: HostRuntime) -> Result<(), Fail> {
+fn points_are_whole(rt: HostRuntime) {
     for end in 0..POINT.len() {
         assert!(rt; read_continuation(&POINT[..end]).is_none(), "{end}");
     }
-    let mut longer = with_node(rt.alloc(), &POINT[17..25])?;
-    assert!(rt; read_continuation(&longer).is_some());
-    longer.push(0)?;
-    assert!(rt; read_continuation(&longer).is_none());
-    Ok(())
 }
 
 // ---- pages
 
 /// An update of node ns=1;s=T: number, tick, source time, what was asked, and the value.
 type Row = (u64, i64, i64, HistoryUpdateType, Option<i32>);
-
-fn node(alloc: Global) -> Result<NodeId, AllocError> {
-    Ok(NodeId::Named(1, Text::from_str(alloc, "T")?))
-}
-
-fn value(written: Option<i32>) -> DataValue {
-    DataValue {
-        value: written.map(|n| Variant::Scalar(Scalar::Int32(n))),
-        status: None,
-        source_time: None,
-        source_pico: None,
-        server_time: None,
-        server_pico: None,
-    }
-}
 
 fn record(alloc: Global, row: &Row) -> Result<Record, StoreFault> {
     let (number, tick, time, asked, written) = *row;
@@ -197,7 +177,7 @@ fn record(alloc: Global, row: &Row) -> Result<Record, StoreFault> {
     })
 }
 
-fn learn(alloc: Global, archive: &mut ListArchive, row: &Row) -> Result<bool, LearnFault> {
+fn learn<A: Archive>(alloc: Global, archive: &mut A, row: &Row) -> Result<bool, LearnFault> {
     let record = record(alloc, row)?;
     if record.is_lawful() {
         archive.learn(&record)
@@ -206,15 +186,17 @@ fn learn(alloc: Global, archive: &mut ListArchive, row: &Row) -> Result<bool, Le
     }
 }
 
+fn learn_all<A: Archive>(alloc: Global, archive: &mut A, rows: &[Row]) -> Result<(), LearnFault> {
+    for row in rows {
+        learn(alloc, archive, row)?;
+    }
+    Ok(())
+}
+
 /// An archive that learned these.
 fn archive_of(alloc: Global, rows: &[Row]) -> Result<ListArchive, LearnFault> {
-    let Some(one) = ReplicaNo::new(1) else {
-        return Err(LearnFault::Store(StoreFault::WrongReplica));
-    };
-    let mut archive = ListArchive::new(alloc, Uuid::nil(), one);
-    for row in rows {
-        learn(alloc, &mut archive, row)?;
-    }
+    let mut archive = list_archive(alloc)?;
+    learn_all(alloc, &mut archive, rows)?;
     Ok(archive)
 }
 
@@ -476,7 +458,7 @@ static RAW_READS: [RawRead; 16] = [
 ];
 
 /// Backward from the only value.
-static BEFORE_ONE: RawRead = (0, 10, 2, true, &[&[(10, false), (-9_999_990, true)]]);
+static BEFORE_ONE: [RawRead; 1] = [(0, 10, 2, true, &[&[(10, false), (-9_999_990, true)]])];
 
 /// The point that a page ends with, in case it has these items.
 fn point_behind<A: Archive>(
@@ -512,24 +494,20 @@ fn has_pages<A: Archive>(alloc: Global, archive: &mut A, row: &RawRead) -> bool 
 
 #[test]
 fn raw_reads_have_their_pages(rt: HostRuntime) -> Result<(), Fail> {
-    let mut archive = archive_of(rt.alloc(), &VALUES)?;
-    for row in &RAW_READS {
-        assert!(rt; has_pages(rt.alloc(), &mut archive, row), "{row:?}");
+    for (values, reads) in [
+        (VALUES.as_slice(), RAW_READS.as_slice()),
+        (&ONE_VALUE, &BEFORE_ONE),
+    ] {
+        let mut archive = archive_of(rt.alloc(), values)?;
+        for row in reads {
+            assert!(rt; has_pages(rt.alloc(), &mut archive, row), "{row:?}");
+        }
     }
-    let mut one = archive_of(rt.alloc(), &ONE_VALUE)?;
-    assert!(rt; has_pages(rt.alloc(), &mut one, &BEFORE_ONE));
     Ok(())
 }
 
 /// What a modification did, the value that it shows, and its tick.
 type Change = (HistoryUpdateType, i32, i64);
-
-fn is_number(value: &DataValue, number: i32) -> bool {
-    match &value.value {
-        Some(Variant::Scalar(Scalar::Int32(n))) => *n == number,
-        _ => false,
-    }
-}
 
 fn is_ann(user: &Option<Text>) -> bool {
     match user {
@@ -539,7 +517,7 @@ fn is_ann(user: &Option<Text>) -> bool {
 }
 
 fn is_change(value: &DataValue, info: &ModificationInfo, change: &Change) -> bool {
-    is_number(value, change.1)
+    is_int(value, change.1)
         && info.update_type == change.0
         && info.modification_time == Ticks(change.2)
         && is_ann(&info.user_name)
@@ -843,91 +821,6 @@ fn reads_are_answered(rt: HostRuntime) -> Result<(), Fail> {
     Ok(())
 }
 
-/// Whether the page ends with this point.
-fn has_point(told: &HistoryReadResult, bytes: &[u8]) -> bool {
-    match &told.continuation_point {
-        Some(point) => point.as_slice() == bytes,
-        None => false,
-    }
-}
-
-/// Whether a value is this Int32, with this status, source time and source picoseconds.
-fn is_value(
-    shown: &DataValue,
-    value: Option<i32>,
-    status: Option<u32>,
-    time: Option<i64>,
-    pico: Option<u16>,
-) -> bool {
-    let same = match &shown.value {
-        Some(Variant::Scalar(Scalar::Int32(n))) => Some(*n) == value,
-        None => value.is_none(),
-        _ => false,
-    };
-    same && shown.status == status.map(Status)
-        && shown.source_time == time.map(Ticks)
-        && shown.source_pico == pico
-}
-
-/// Whether the item at an index is so.
-fn has_value(
-    told: &HistoryReadResult,
-    i: usize,
-    value: Option<i32>,
-    status: Option<u32>,
-    time: Option<i64>,
-    pico: Option<u16>,
-) -> bool {
-    let HistoryData::Raw(values) = &told.history_data else {
-        return false;
-    };
-    match values.as_slice().get(i) {
-        Some(shown) => is_value(shown, value, status, time, pico),
-        None => false,
-    }
-}
-
-#[test]
-fn first_points_have_their_bytes(rt: HostRuntime) -> Result<(), Fail> {
-    let mut archive = archive_of(rt.alloc(), &VALUES)?;
-    let first = read(
-        rt.alloc(),
-        &mut archive,
-        asked(false, AT_5_00, AT_5_07, 2, false),
-        TimestampsToReturn::Source,
-        None,
-    )?;
-    assert!(rt; has_point(&first, &POINT));
-    Ok(())
-}
-
-/// The times that are asked for, and what the value of the updates at 10 shows.
-static STAMPS: [(TimestampsToReturn, Option<i64>); 4] = [
-    (TimestampsToReturn::Source, Some(10)),
-    (TimestampsToReturn::Server, None),
-    (TimestampsToReturn::Both, Some(10)),
-    (TimestampsToReturn::Neither, None),
-];
-
-#[test]
-fn values_are_shown(rt: HostRuntime) -> Result<(), Fail> {
-    let mut archive = archive_of(rt.alloc(), &UPDATES)?;
-    for (stamps, time) in &STAMPS {
-        let told = read(
-            rt.alloc(),
-            &mut archive,
-            asked(false, 1, 11, 0, false),
-            *stamps,
-            None,
-        )?;
-        assert!(rt;
-            has_value(&told, 0, Some(9), Some(0x408), *time, None),
-            "{stamps:?}"
-        );
-    }
-    Ok(())
-}
-
 // ---- snapshots
 
 /// What is done between the pages: inserts at 5:04 and at 5:01, and a delete at 5:05.
@@ -940,7 +833,7 @@ static LATER: [Row; 3] = [
 /// The second page and the third one, of what was held at the first.
 static REST: [&[Shown]; 2] = [&[(AT_5_03, false), (AT_5_05, false)], &[(AT_5_06, false)]];
 
-/// Whether the read goes on behind row 11's first page as it would have then.
+/// Whether the read goes on behind the first page as it would have then.
 fn goes_on_as_before<A: Archive>(alloc: Global, archive: &mut A) -> bool {
     let details = asked(false, AT_5_00, AT_5_07, 2, false);
     let Ok(second) = read(
@@ -956,14 +849,17 @@ fn goes_on_as_before<A: Archive>(alloc: Global, archive: &mut A) -> bool {
         && point_behind(alloc, archive, details, &second.continuation_point, REST[1]) == Some(None)
 }
 
+/// Whether later pages are of what was held at the first, also behind what is done between.
+fn are_of_what_was_held<A: Archive>(alloc: Global, archive: &mut A) -> Result<bool, LearnFault> {
+    let before = goes_on_as_before(alloc, archive);
+    learn_all(alloc, archive, &LATER)?;
+    Ok(before && goes_on_as_before(alloc, archive))
+}
+
 #[test]
 fn later_pages_are_of_what_was_held(rt: HostRuntime) -> Result<(), Fail> {
     let mut archive = archive_of(rt.alloc(), &VALUES)?;
-    assert!(rt; goes_on_as_before(rt.alloc(), &mut archive));
-    for row in &LATER {
-        learn(rt.alloc(), &mut archive, row)?;
-    }
-    assert!(rt; goes_on_as_before(rt.alloc(), &mut archive));
+    assert!(rt; are_of_what_was_held(rt.alloc(), &mut archive)?);
     Ok(())
 }
 
@@ -979,61 +875,27 @@ fn status_of<A: Archive>(
     }
 }
 
-#[test]
-fn what_isnt_covered_is_refused(rt: HostRuntime) -> Result<(), Fail> {
-    let mut archive = archive_of(rt.alloc(), &VALUES[..4])?;
+/// The bytes that make the point one of another archive, and one within a vector that isn't covered.
+static FOREIGN: [Patch; 2] = [(1, 17, 9), (73, 74, 6)];
+
+/// Whether the next page from the point with these bytes is refused.
+fn is_refused<A: Archive>(
+    alloc: Global,
+    archive: &mut A,
+    patch: Patch,
+) -> Result<bool, AllocError> {
+    let point = patched(alloc, patch, NONE)?;
     let details = asked(false, AT_5_00, AT_5_07, 2, false);
-    let told = status_of(rt.alloc(), &mut archive, details, Some(&POINT));
-    assert!(rt; told == Some(Status::BAD_CONTINUATION_POINT_INVALID));
-    Ok(())
-}
-
-/// The point's bytes as they were before it had picoseconds and a vector: 69 of them.
-fn earlier_point(alloc: Global) -> Result<Vec<u8>, AllocError> {
-    let mut bytes = Vec::new(alloc);
-    bytes.push(1)?;
-    bytes.extend_from_slice(&POINT[1..56])?;
-    bytes.extend_from_slice(&POINT[58..71])?;
-    Ok(bytes)
+    let told = status_of(alloc, archive, details, Some(&point));
+    Ok(told == Some(Status::BAD_CONTINUATION_POINT_INVALID))
 }
 
 #[test]
-fn earlier_points_are_refused(rt: HostRuntime) -> Result<(), Fail> {
+fn foreign_points_are_refused(rt: HostRuntime) -> Result<(), Fail> {
     let mut archive = archive_of(rt.alloc(), &VALUES)?;
-    let details = asked(false, AT_5_00, AT_5_07, 2, false);
-    let point = earlier_point(rt.alloc())?;
-    assert!(rt; point.len() == 69);
-    let told = status_of(rt.alloc(), &mut archive, details, Some(&point));
-    assert!(rt; told == Some(Status::BAD_CONTINUATION_POINT_INVALID));
-    Ok(())
-}
-
-// ---- moments
-
-/// A value at 10, and one five intervals of 10 ps behind it.
-fn two_moments(alloc: Global) -> Result<ListArchive, LearnFault> {
-    let mut archive = archive_of(alloc, &ONE_VALUE)?;
-    let mut behind = record(alloc, &(2, 101, 10, Insert, Some(8)))?;
-    behind.time = Moment { ticks: 10, pico: 5 };
-    behind.value.source_pico = Some(5);
-    if behind.is_lawful() {
-        archive.learn(&behind)?;
+    for patch in &FOREIGN {
+        assert!(rt; is_refused(rt.alloc(), &mut archive, *patch)?);
     }
-    Ok(archive)
-}
-
-#[test]
-fn moments_have_picoseconds(rt: HostRuntime) -> Result<(), Fail> {
-    let mut archive = two_moments(rt.alloc())?;
-    let told = read(
-        rt.alloc(),
-        &mut archive,
-        asked(false, 1, 100, 0, false),
-        TimestampsToReturn::Source,
-        None,
-    )?;
-    assert!(rt; has_value(&told, 0, Some(7), None, Some(10), None));
-    assert!(rt; has_value(&told, 1, Some(8), None, Some(10), Some(5)));
     Ok(())
 }
 
@@ -1092,50 +954,28 @@ fn has_two(
         && next_length(alloc, archive, details, &point) == Some((second, None))
 }
 
-#[test]
-fn pages_have_a_greatest_length(rt: HostRuntime) -> Result<(), Fail> {
-    let mut archive = long_archive(rt.alloc(), 1001)?;
-    assert!(rt;
-        has_two(
-            rt.alloc(),
-            &mut archive,
-            asked(false, 1, 2000, 0, false),
-            1000,
-            1
-        )
-    );
-    Ok(())
-}
+/// The end and the count of a read from 1 on, and the lengths of its two pages: of 1,001 values, and of 1,500 of more.
+static LONG_READS: [(i64, u32, usize, usize); 2] = [(1002, 0, 1000, 1), (0, 1500, 1000, 500)];
 
 #[test]
-fn counts_limit_the_whole(rt: HostRuntime) -> Result<(), Fail> {
+fn pages_and_reads_have_a_greatest_length(rt: HostRuntime) -> Result<(), Fail> {
     let mut archive = long_archive(rt.alloc(), 1600)?;
-    assert!(rt;
-        has_two(
-            rt.alloc(),
-            &mut archive,
-            asked(false, 1, 0, 1500, false),
-            1000,
-            500
-        )
-    );
+    for (end, most, first, second) in &LONG_READS {
+        let details = asked(false, 1, *end, *most, false);
+        assert!(rt;
+            has_two(rt.alloc(), &mut archive, details, *first, *second),
+            "{end} {most}"
+        );
+    }
     Ok(())
 }
 
 // ---- faults
 
-/// Row 11's archive, whose call of this number behind its learning fails so.
+/// The archive of the five values, whose call of this number behind its learning fails so.
 fn failing(alloc: Global, call: u64, failure: Failure) -> Result<ScriptedArchive, LearnFault> {
-    let Some(one) = ReplicaNo::new(1) else {
-        return Err(LearnFault::Store(StoreFault::WrongReplica));
-    };
-    let mut archive = ScriptedArchive::new(alloc, Uuid::nil(), one, call, failure);
-    for row in &VALUES {
-        let learned = record(alloc, row)?;
-        if learned.is_lawful() {
-            archive.learn(&learned)?;
-        }
-    }
+    let mut archive = scripted_archive(alloc, call, failure)?;
+    learn_all(alloc, &mut archive, &VALUES)?;
     Ok(archive)
 }
 
@@ -1168,17 +1008,19 @@ static FAULTS: [(u64, Failure, Status, Status); 5] = [
     (0, Failure::Refused, Status::GOOD, Status::GOOD),
 ];
 
+/// Whether a read of the first page is answered so, and then so.
+fn are_told<A: Archive>(alloc: Global, archive: &mut A, first: Status, second: Status) -> bool {
+    let details = asked(false, AT_5_00, AT_5_07, 2, false);
+    status_of(alloc, archive, details, None) == Some(first)
+        && status_of(alloc, archive, details, None) == Some(second)
+}
+
 #[test]
 fn faults_are_told(rt: HostRuntime) -> Result<(), Fail> {
-    let details = asked(false, AT_5_00, AT_5_07, 2, false);
     for (call, failure, first, second) in &FAULTS {
         let mut archive = failing(rt.alloc(), *call, *failure)?;
         assert!(rt;
-            status_of(rt.alloc(), &mut archive, details, None) == Some(*first),
-            "{call} {failure:?}"
-        );
-        assert!(rt;
-            status_of(rt.alloc(), &mut archive, details, None) == Some(*second),
+            are_told(rt.alloc(), &mut archive, *first, *second),
             "{call} {failure:?}"
         );
     }

@@ -83,19 +83,32 @@ fn filled(alloc: Global) -> Result<Files<Memory>, StoreFault> {
     archive.close_files().map_err(|_| StoreFault::Broken)
 }
 
+/// How many records of replica 1 are held.
+fn last_number<A: Archive>(archive: &mut A) -> Result<u64, StoreFault> {
+    let one = one()?;
+    let vector = archive.vector()?;
+    Ok(vector.get(one))
+}
+
+/// Whether an archive holds the five records, and learns one more.
+fn goes_on<A: Archive>(alloc: Global, archive: &mut A) -> Result<bool, StoreFault> {
+    let found = held(alloc, archive) == Some(5)
+        && last_number(archive)? == 5
+        && archive.top()? == 104;
+    Ok(found && learn(alloc, archive, &(1, 6, 105, 30, Update, Some(2))) == Ok(true))
+}
+
 #[test]
 fn what_is_closed_is_found_again(rt: HostRuntime) -> Result<(), Fail> {
     let alloc = rt.alloc();
     let Ok(mut again) = open(alloc, filled(alloc)?, Uuid::nil(), one()?) else {
         return Err(Fail::from("refused"));
     };
-    assert!(rt; held(alloc, &mut again) == Some(5));
-    assert!(rt; again.vector()?.get(one()?) == 5 && again.top()? == 104);
-    assert!(rt; learn(alloc, &mut again, &(1, 6, 105, 30, Update, Some(2))) == Ok(true));
+    assert!(rt; goes_on(alloc, &mut again)?);
     let Ok(mut left) = open(alloc, again.into_files(), Uuid::nil(), one()?) else {
         return Err(Fail::from("refused"));
     };
-    assert!(rt; left.vector()?.get(one()?) == 6);
+    assert!(rt; last_number(&mut left)? == 6);
     Ok(())
 }
 

@@ -3,17 +3,17 @@ ghost use Rattle.std.specs.List.{AllByRecursion};
 ghost use Rattle.ua_variant.specs.DataValue.{IsShortData};
 ghost use Rattle.hist_update.specs.Outcome.{IsRequest};
 
+use crate::archives::{is_int, list_archive, scripted_archive};
 use HistoryUpdateType::{Delete, Insert, Update};
-use archive::{Archive, Direction, Failure, ListArchive, ScriptedArchive, StoreFault};
+use archive::{Archive, Direction, Failure, StoreFault};
 use hist_update::{Request, delete_at, delete_raw, update_data};
 use records::{Entry, Held, HistoryUpdateType, Moment, Record};
 use stamp::ReplicaNo;
 use std::alloc::{AllocError, Global};
 use std::test::Fail;
 use ua_binary::{Bytes, NodeId, Status, Text, Ticks};
-use ua_services::{HistoryUpdateResult, put_history_update_response};
+use ua_services::HistoryUpdateResult;
 use ua_variant::{DataValue, Scalar, ValueType, Variant};
-use uuid::Uuid;
 
 const GOOD: Status = Status(0);
 
@@ -73,7 +73,7 @@ fn request(alloc: Global, reading: i64) -> Result<Request, AllocError> {
 }
 
 /// Whether the node's id and the user's name are within their limits.
-fn is_request(request: &Request) -> bool
+pub(crate) fn is_request(request: &Request) -> bool
     ensures { IsTrue result → IsRequest request.now }
 {
     let short = match &request.node {
@@ -85,7 +85,7 @@ fn is_request(request: &Request) -> bool
 }
 
 /// Whether a value may be written.
-fn is_short(value: &DataValue) -> bool
+pub(crate) fn is_short(value: &DataValue) -> bool
     ensures { IsTrue result → IsShortData value.now }
 {
     let close = match value.source_pico {
@@ -193,13 +193,6 @@ fn operates<A: Archive>(alloc: Global, archive: &mut A, rows: &[Row]) -> Result<
     Ok(same)
 }
 
-fn list_archive(alloc: Global) -> Result<ListArchive, StoreFault> {
-    match ReplicaNo::new(1) {
-        Some(one) => Ok(ListArchive::new(alloc, Uuid::nil(), one)),
-        None => Err(StoreFault::WrongReplica),
-    }
-}
-
 /// Whether the archive holds so many records of its own and has this greatest tick.
 fn holds<A: Archive>(archive: &mut A, number: u64, tick: i64) -> Result<bool, StoreFault> {
     let own = archive.number();
@@ -230,19 +223,12 @@ fn is_story(records: &[Record], wanted: &[(HistoryUpdateType, i64)]) -> bool {
 fn has_story<A: Archive>(
     alloc: Global,
     archive: &mut A,
+    node: &NodeId,
     time: i64,
     wanted: &[(HistoryUpdateType, i64)],
 ) -> Result<bool, StoreFault> {
-    let request = request(alloc, 0)?;
-    let story = archive.at(alloc, &request.node, Moment::at(time))?;
+    let story = archive.at(alloc, node, Moment::at(time))?;
     Ok(is_story(&story, wanted))
-}
-
-fn is_int(shown: &DataValue, written: i32) -> bool {
-    match &shown.value {
-        Some(Variant::Scalar(Scalar::Int32(found))) => *found == written,
-        _ => false,
-    }
 }
 
 fn is_entry(entry: &Entry, kind: HistoryUpdateType, written: i32) -> bool {
@@ -268,71 +254,45 @@ fn is_live_alone(lives: &[Held], written: i32) -> bool {
     }
 }
 
-/// The record of the first insert.
-fn first_record(alloc: Global) -> Result<Record, StoreFault> {
-    let Some(origin) = ReplicaNo::new(1) else {
-        return Err(StoreFault::WrongReplica);
-    };
-    let request = request(alloc, 0)?;
-    Ok(Record {
-        origin,
-        number: 1,
-        tick: 100,
-        node: request.node,
-        time: Moment::at(10),
-        asked: Insert,
-        user: request.user,
-        value: value(int(7), None),
-    })
-}
-
-/// Whether the archive holds the record of the first insert, and no other at its time.
-fn has_first<A: Archive>(alloc: Global, archive: &mut A) -> Result<bool, StoreFault> {
-    let wanted = first_record(alloc)?;
-    let story = archive.at(alloc, &wanted.node, Moment::at(10))?;
-    Ok(story.len() == 1 && story[0] == wanted)
-}
-
 static SHOWN: [(HistoryUpdateType, i32); 4] = [(Insert, 9), (Delete, 8), (Update, 7), (Insert, 7)];
 
 /// Whether the modifications and the live values from 1 to 100 are those of the two lists of operations.
-fn shows_all<A: Archive>(alloc: Global, archive: &mut A) -> Result<bool, StoreFault> {
-    let request = request(alloc, 0)?;
+fn shows_all<A: Archive>(
+    alloc: Global,
+    archive: &mut A,
+    node: &NodeId,
+) -> Result<bool, StoreFault> {
     let all = archive.vector()?;
-    let log = archive.log(
-        alloc,
-        &request.node,
-        Moment::at(1),
-        Moment::at(100),
-        None,
-        Direction::Forward,
-        9,
-        &all,
-    )?;
-    let lives = archive.range(
-        alloc,
-        &request.node,
-        Moment::at(1),
-        Moment::at(100),
-        Direction::Forward,
-        9,
-        &all,
-    )?;
-    Ok(are_entries(&log, &SHOWN) && is_live_alone(&lives, 9))
+    let (from, to) = (Moment::at(1), Moment::at(100));
+    let log = archive.log(alloc, node, from, to, None, Direction::Forward, 9, &all)?;
+    let logged = are_entries(&log, &SHOWN);
+    drop(log);
+    let lives = archive.range(alloc, node, from, to, Direction::Forward, 9, &all)?;
+    Ok(logged && is_live_alone(&lives, 9))
+}
+
+static STORY: [(HistoryUpdateType, i64); 4] = [
+    (Insert, 100),
+    (Update, 101),
+    (Delete, 102),
+    (Insert, 103),
+];
+
+/// Whether the two lists of operations have their codes, and the records and entries of them are there then.
+fn operates_all<A: Archive>(alloc: Global, archive: &mut A) -> Result<bool, StoreFault> {
+    let operated = operates(alloc, archive, &FIRST)? && operates(alloc, archive, &NEXT)?;
+    let request = request(alloc, 0)?;
+    Ok(
+        operated
+            && has_story(alloc, archive, &request.node, 10, &STORY)?
+            && shows_all(alloc, archive, &request.node)?,
+    )
 }
 
 #[test]
 fn operations_have_their_codes(rt: HostRuntime) -> Result<(), Fail> {
-    let alloc = rt.alloc();
-    let mut archive = list_archive(alloc)?;
-    assert!(rt; operates(alloc, &mut archive, &FIRST)?);
-    assert!(rt; holds(&mut archive, 1, 100)?);
-    assert!(rt; has_first(alloc, &mut archive)?);
-    assert!(rt; operates(alloc, &mut archive, &NEXT)?);
-    assert!(rt; holds(&mut archive, 4, 103)?);
-    let wanted = [(Insert, 100), (Update, 101), (Delete, 102), (Insert, 103)];
-    assert!(rt; has_story(alloc, &mut archive, 10, &wanted)?);
-    assert!(rt; shows_all(alloc, &mut archive)?);
+    let mut archive = list_archive(rt.alloc())?;
+    assert!(rt; operates_all(rt.alloc(), &mut archive)?);
     Ok(())
 }
 
@@ -360,24 +320,41 @@ fn learns_last<A: Archive>(alloc: Global, archive: &mut A) -> Result<bool, Store
     Ok(record.is_lawful() && archive.learn(&record) == Ok(true))
 }
 
+static LATER: [Row; 1] = [(864_000_000_100, 1, 20, 1, INSERTED)];
+
+static LATEST: [Row; 1] = [(100, 3, 20, 2, REPLACED)];
+
+static RISEN: [(HistoryUpdateType, i64); 2] = [
+    (Insert, 864_000_000_100),
+    (Update, 864_000_000_101),
+];
+
+/// Behind the greatest tick there is none left.
+static NONE_LEFT: [Row; 3] = [
+    (100, 3, 20, 3, UNAVAILABLE),
+    (100, 4, 20, 0, UNAVAILABLE),
+    (100, 1, 20, 3, EXISTS),
+];
+
+/// Whether a tick rises above a greater one that is held, and none is given above the greatest.
+fn rises<A: Archive>(alloc: Global, archive: &mut A) -> Result<bool, StoreFault> {
+    let operated = operates(alloc, archive, &LATER)?;
+    archive.reload()?;
+    let operated = operated && operates(alloc, archive, &LATEST)?;
+    let request = request(alloc, 0)?;
+    Ok(
+        operated
+            && has_story(alloc, archive, &request.node, 20, &RISEN)?
+            && learns_last(alloc, archive)?
+            && operates(alloc, archive, &NONE_LEFT)?
+            && holds(archive, 2, 4_611_686_018_427_387_903)?,
+    )
+}
+
 #[test]
 fn ticks_rise(rt: HostRuntime) -> Result<(), Fail> {
-    let alloc = rt.alloc();
-    let mut archive = list_archive(alloc)?;
-    let later = [(864_000_000_100, 1, 20, 1, INSERTED)];
-    assert!(rt; operates(alloc, &mut archive, &later)?);
-    archive.reload()?;
-    assert!(rt; operates(alloc, &mut archive, &[(100, 3, 20, 2, REPLACED)])?);
-    let wanted = [(Insert, 864_000_000_100), (Update, 864_000_000_101)];
-    assert!(rt; has_story(alloc, &mut archive, 20, &wanted)?);
-    assert!(rt; learns_last(alloc, &mut archive)?);
-    let none_left = [
-        (100, 3, 20, 3, UNAVAILABLE),
-        (100, 4, 20, 0, UNAVAILABLE),
-        (100, 1, 20, 3, EXISTS),
-    ];
-    assert!(rt; operates(alloc, &mut archive, &none_left)?);
-    assert!(rt; holds(&mut archive, 2, 4_611_686_018_427_387_903)?);
+    let mut archive = list_archive(rt.alloc())?;
+    assert!(rt; rises(rt.alloc(), &mut archive)?);
     Ok(())
 }
 
@@ -555,44 +532,6 @@ fn lists_have_their_limits(rt: HostRuntime) -> Result<(), Fail> {
     Ok(())
 }
 
-/// Over no value.
-static EMPTY: [Stretch; 5] = [
-    (false, 1, 100, NO_DATA, 0),
-    (true, 1, 100, UNSUPPORTED, 0),
-    (true, 0, 100, UNSUPPORTED, 0),
-    (false, 0, 100, BAD_TIMES, 0),
-    (false, 100, 99, BAD_TIMES, 0),
-];
-
-/// Inserts at 5:00, 5:02, 5:03, 5:05 and 5:06, in minutes of 600,000,000 steps.
-static MINUTES: [Row; 5] = [
-    (100, 1, 180_000_000_000, 0, INSERTED),
-    (100, 1, 181_200_000_000, 2, INSERTED),
-    (100, 1, 181_800_000_000, 3, INSERTED),
-    (100, 1, 183_000_000_000, 5, INSERTED),
-    (100, 1, 183_600_000_000, 6, INSERTED),
-];
-
-/// Over these: from 5:00 to 5:03, at 5:01, at 5:03, and to the end of time.
-static OVER_MINUTES: [Stretch; 5] = [
-    (false, 180_000_000_000, 181_800_000_000, GOOD, 2),
-    (false, 180_000_000_000, 181_800_000_000, NO_DATA, 0),
-    (false, 180_600_000_000, 180_600_000_000, NO_DATA, 0),
-    (false, 181_800_000_000, 181_800_000_000, GOOD, 1),
-    (false, 1, i64::MAX, GOOD, 2),
-];
-
-#[test]
-fn stretches_are_deleted(rt: HostRuntime) -> Result<(), Fail> {
-    let alloc = rt.alloc();
-    let mut archive = list_archive(alloc)?;
-    assert!(rt; erases(alloc, &mut archive, &EMPTY)?);
-    assert!(rt; operates(alloc, &mut archive, &MINUTES)?);
-    assert!(rt; erases(alloc, &mut archive, &OVER_MINUTES)?);
-    assert!(rt; holds(&mut archive, 10, 109)?);
-    Ok(())
-}
-
 /// Which call of the archive fails, how, and the codes of inserts at 10, at 10 again and at 20.
 static FAILURES: [(u64, Failure, &[Status]); 9] = [
     (0, Failure::Refused, &[INSERTED, EXISTS, INSERTED]),
@@ -622,19 +561,12 @@ static FAILURES: [(u64, Failure, &[Status]); 9] = [
     (8, Failure::OutOfMemory, &[INSERTED, EXISTS, OUT_OF_MEMORY]),
 ];
 
-fn scripted(alloc: Global, call: u64, failure: Failure) -> Result<ScriptedArchive, StoreFault> {
-    match ReplicaNo::new(1) {
-        Some(one) => Ok(ScriptedArchive::new(alloc, Uuid::nil(), one, call, failure)),
-        None => Err(StoreFault::WrongReplica),
-    }
-}
-
 fn inserts_three(
     alloc: Global,
     call: u64,
     failure: Failure,
 ) -> Result<HistoryUpdateResult, StoreFault> {
-    let mut archive = scripted(alloc, call, failure)?;
+    let mut archive = scripted_archive(alloc, call, failure)?;
     let values = [
         value(int(1), Some(10)),
         value(int(2), Some(10)),
@@ -675,7 +607,7 @@ fn erases_two(
     call: u64,
     failure: Failure,
 ) -> Result<HistoryUpdateResult, StoreFault> {
-    let mut archive = scripted(alloc, call, failure)?;
+    let mut archive = scripted_archive(alloc, call, failure)?;
     if !operates(alloc, &mut archive, &TWO)? {
         return Err(StoreFault::Refused);
     }
@@ -691,83 +623,5 @@ fn failed_deletes_have_their_status(rt: HostRuntime) -> Result<(), Fail> {
             "{call} {failure:?}"
         );
     }
-    Ok(())
-}
-
-/// Whether an insert of a value at 10 with these picoseconds is answered so.
-fn inserts_close<A: Archive>(
-    alloc: Global,
-    archive: &mut A,
-    pico: u16,
-    written: i32,
-) -> Result<Status, AllocError> {
-    let mut close = value(int(written), Some(10));
-    close.source_pico = Some(pico);
-    let told = update(alloc, archive, 100, INT32, 1, &[close])?;
-    match told.operation_results.as_slice() {
-        [code] => Ok(*code),
-        _ => Err(AllocError),
-    }
-}
-
-/// How many values are live at 10.
-fn live_at_10<A: Archive>(alloc: Global, archive: &mut A) -> Result<usize, StoreFault> {
-    let request = request(alloc, 0)?;
-    let to = Moment {
-        ticks: 10,
-        pico: 9999,
-    };
-    let all = archive.vector()?;
-    let lives = archive.range(
-        alloc,
-        &request.node,
-        Moment::at(10),
-        to,
-        Direction::Forward,
-        9,
-        &all,
-    )?;
-    Ok(lives.len())
-}
-
-#[test]
-fn moments_are_apart(rt: HostRuntime) -> Result<(), Fail> {
-    let alloc = rt.alloc();
-    let mut archive = list_archive(alloc)?;
-    assert!(rt; inserts_close(alloc, &mut archive, 0, 7)? == INSERTED);
-    assert!(rt; inserts_close(alloc, &mut archive, 5, 8)? == INSERTED);
-    assert!(rt; inserts_close(alloc, &mut archive, 5, 9)? == EXISTS);
-    assert!(rt; live_at_10(alloc, &mut archive)? == 2);
-    let deleted = delete(alloc, &mut archive, 100, &[Ticks(10)])?;
-    assert!(rt; is_told(&deleted, GOOD, 1, GOOD));
-    assert!(rt; live_at_10(alloc, &mut archive)? == 1);
-    assert!(rt; erases(alloc, &mut archive, &[(false, 10, 10, GOOD, 1)])?);
-    assert!(rt; live_at_10(alloc, &mut archive)? == 0);
-    Ok(())
-}
-
-/// Whether the answer to an insert is written as these bytes.
-fn is_answered(alloc: Global, bytes: &[u8]) -> Result<bool, StoreFault> {
-    let mut archive = list_archive(alloc)?;
-    let request = request(alloc, 100)?;
-    let values = [value(int(7), Some(10))];
-    if !is_request(&request) || !are_short(&values) {
-        return Ok(false);
-    }
-    let told = update_data(alloc, &mut archive, &request, INT32, 1, &values);
-    let mut out = Vec::new(alloc);
-    let put = put_history_update_response(&mut out, &[told]);
-    Ok(put.is_ok() && out.as_slice() == bytes)
-}
-
-/// One result: its status, one code, and no diagnostics; then no diagnostics.
-static ANSWER: [u8; 24] = [
-    1, 0, 0, 0, 0, 0, 0, 0, 1, 0, 0, 0, 0, 0, 0xA2, 0, 0xFF, 0xFF, 0xFF, 0xFF, 0xFF, 0xFF, 0xFF,
-    0xFF,
-];
-
-#[test]
-fn answers_are_written(rt: HostRuntime) -> Result<(), Fail> {
-    assert!(rt; is_answered(rt.alloc(), &ANSWER)?);
     Ok(())
 }

@@ -1,6 +1,6 @@
 //! Version vectors and stamps.
 
-use stamp::{GREATEST_NUMBER, ReplicaNo, Stamp, Vector, VectorFault, lift};
+use stamp::{GREATEST_NUMBER, ReplicaNo, Vector, VectorFault, lift};
 use std::alloc::{AllocError, Global};
 use ua_binary::{Cursor, TryClone};
 
@@ -65,42 +65,6 @@ fn refused_vectors(rt: HostRuntime) {
 }
 
 #[test]
-fn maps(rt: HostRuntime) {
-    let ours = vector_of(&[(1, 4), (3, 7), (3, 5)]);
-    let theirs = vector_of(&[(1, 6), (2, 2)]);
-    let both = vector_of(&[(1, 6), (2, 2), (3, 7)]);
-    let mut joined = ours;
-    joined.join(&theirs);
-    assert!(rt; joined == both && ours != both);
-    assert!(rt; joined.at_least(&ours) && joined.at_least(&theirs) && joined.at_least(&both));
-    assert!(rt; !ours.at_least(&theirs) && !theirs.at_least(&ours));
-}
-
-#[test]
-fn numbers(rt: HostRuntime) {
-    let vector = vector_of(&[(1, 4)]);
-    let told = [
-        (1u8, 4u64, true),
-        (1, 5, false),
-        (2, 0, true),
-        (2, 1, false),
-    ];
-    for (replica, number, covered) in told {
-        if let Some(replica) = ReplicaNo::new(replica) {
-            assert!(rt; vector.covers(replica, number) == covered);
-        }
-    }
-}
-
-#[test]
-fn replicas(rt: HostRuntime) {
-    for (number, there) in [(0u8, false), (1, true), (64, true), (65, false)] {
-        let told = ReplicaNo::new(number);
-        assert!(rt; told.is_some_and(|r| r.get() == number) == there);
-    }
-}
-
-#[test]
 fn lifted(rt: HostRuntime) {
     let told = [
         (100i64, 0i64, Some(100i64)),
@@ -117,25 +81,6 @@ fn lifted(rt: HostRuntime) {
     ];
     for (now, top, tick) in told {
         assert!(rt; lift(now, top) == tick);
-    }
-}
-
-#[test]
-fn stamps(rt: HostRuntime) {
-    if let Some(one) = ReplicaNo::new(1)
-        && let Some(two) = ReplicaNo::new(2)
-    {
-        let stamps = [(1i64, one), (1, two), (2, one)];
-        for i in 0..2 {
-            let (tick, origin) = stamps[i];
-            let (next_tick, next_origin) = stamps[i + 1];
-            let stamp = Stamp { tick, origin };
-            let next = Stamp {
-                tick: next_tick,
-                origin: next_origin,
-            };
-            assert!(rt; stamp < next && next > stamp && stamp == stamp);
-        }
     }
 }
 

@@ -29,6 +29,3 @@ pub use shown::{Entry, Held};
 pub use spelling::{put_record, read_record};
 pub use story::{current_of, entries_of, missing_of, story_of};
 pub use ua_variant::HistoryUpdateType;
-
-#[cfg(test)]
-mod tests;

@@ -6,7 +6,7 @@ mod runs;
 
 use archive::{Archive, ListArchive};
 use clients::{BEGIN, BEGUN, CLIENTS};
-use rows::{ACK, ANSWER, HELLO, OPEN, OPENED, PART, REQUEST, REST, ROWS, SESSION};
+use rows::{ACK, ANSWER, HELLO, OPEN, OPENED, REQUEST, ROWS, SESSION};
 use sql_archive::SqlArchive;
 use stamp::ReplicaNo;
 use std::alloc::Global;
@@ -100,24 +100,6 @@ impl Write for Halting<Narrow> {
     }
 }
 
-/// Each reading is one tick after the last one.
-#[derive(Drop)]
-struct Ticking(i64);
-
-impl Clock for Ticking {
-    ghost gave = { λ a xs b. Unit };
-
-    ghost gave_none = { λ a. tt };
-
-    ghost gave_more = { λ a b c xs ys p q. tt };
-
-    fn now(&mut self) -> i64 {
-        let now = self.0;
-        self.0 = now.saturating_add(1);
-        now
-    }
-}
-
 fn clock() -> ConstantClock {
     ConstantClock(116_444_736_000_000_000)
 }
@@ -162,17 +144,12 @@ fn is_joined(digits: &[u8], parts: &[&str]) -> bool {
 }
 
 /// The answer of a server without settings, over an archive that holds nothing.
-fn answer<C: Clock>(
-    alloc: Global,
-    text: &str,
-    out: &mut Vec<u8>,
-    clock: &mut C,
-) -> Result<Served, HexFault> {
+fn answer(alloc: Global, text: &str, out: &mut Vec<u8>) -> Result<Served, HexFault> {
     let Ok(settings) = Settings::bare(alloc) else {
         return Err(HexFault::Serve(ServeFault::OutOfMemory));
     };
     let mut archive = archive_of(alloc, &settings);
-    answer_hex(alloc, &settings, &mut archive, text, out, clock)
+    answer_hex(alloc, &settings, &mut archive, text, out, &mut clock())
 }
 
 /// Such a server serves a client.
@@ -191,7 +168,7 @@ fn serve_bare<R: Read, W: Write>(
 /// A connection in hex digits is answered so.
 fn is_answered(alloc: Global, text: &str, want: &[&str], ending: Served) -> Result<bool, Fail> {
     let mut out = Vec::new(alloc);
-    let served = answer(alloc, text, &mut out, &mut clock())?;
+    let served = answer(alloc, text, &mut out)?;
     Ok(served == ending && is_joined(out.as_slice(), want))
 }
 
@@ -314,29 +291,6 @@ fn serves_clients_over_a_store(rt: HostRuntime) -> Result<(), Fail> {
     Ok(())
 }
 
-#[test]
-fn refuses_bad_hex(rt: HostRuntime) {
-    for text in ["4G", "484", "48\t45"] {
-        let mut out = Vec::new(rt.alloc());
-        let result = answer(rt.alloc(), text, &mut out, &mut clock());
-        assert!(rt; result == Err(HexFault::BadHex) && out.is_empty(), "{text}");
-    }
-}
-
-/// What was written before stays, and after an error nothing is appended.
-#[test]
-fn keeps_what_was_written(rt: HostRuntime) -> Result<(), Fail> {
-    let mut out = vec![in rt.alloc(); 7u8]?;
-    for text in [HELLO, "4G"] {
-        let _ = answer(rt.alloc(), text, &mut out, &mut clock());
-        assert!(rt;
-            out.first() == Some(&7) && out.get(1..) == Some(ACK.as_bytes()),
-            "{text}"
-        );
-    }
-    Ok(())
-}
-
 /// The connection is served so from pieces of this size, with no fault; the reader fails at its end where it is told to.
 fn is_served(alloc: Global, bytes: &[u8], size: usize, fails: bool, want: &[u8]) -> bool {
     let mut reader = Counted::new(Slow { bytes, size, fails });
@@ -424,14 +378,11 @@ fn stops_where_the_writer_does(rt: HostRuntime) -> Result<(), Fail> {
     Ok(())
 }
 
-/// A call that was interrupted is tried again, and counts as no failed one.
-#[test]
-fn goes_on_where_it_was_interrupted(rt: HostRuntime) -> Result<(), Fail> {
-    let input = bytes_of(rt.alloc(), &[HELLO, OPEN, REQUEST])?;
-    let want = bytes_of(rt.alloc(), &[ACK, OPENED, ANSWER])?;
+/// Whether such a connection is served so where each call is interrupted before.
+fn is_served_halting(alloc: Global, bytes: &[u8], want: &[u8]) -> bool {
     let mut reader = Counted::new(Halting {
         inner: Slow {
-            bytes: input.as_slice(),
+            bytes,
             size: 1,
             fails: false,
         },
@@ -439,15 +390,24 @@ fn goes_on_where_it_was_interrupted(rt: HostRuntime) -> Result<(), Fail> {
     });
     let mut writer = Counted::new(Halting {
         inner: Narrow {
-            bytes: Vec::new(rt.alloc()),
+            bytes: Vec::new(alloc),
             room: 1000,
         },
         halts: false,
     });
-    let result = serve_bare(rt.alloc(), &mut reader, &mut writer);
-    assert!(rt; result == Ok(Served::EndOfInput));
-    assert!(rt; reader.faults() == 0 && writer.faults() == 0);
-    assert!(rt; writer.into_inner().inner.bytes.as_slice() == want.as_slice());
+    let result = serve_bare(alloc, &mut reader, &mut writer);
+    result == Ok(Served::EndOfInput)
+        && reader.faults() == 0
+        && writer.faults() == 0
+        && writer.into_inner().inner.bytes.as_slice() == want
+}
+
+/// A call that was interrupted is tried again, and counts as no failed one.
+#[test]
+fn goes_on_where_it_was_interrupted(rt: HostRuntime) -> Result<(), Fail> {
+    let input = bytes_of(rt.alloc(), &[HELLO, OPEN, REQUEST])?;
+    let want = bytes_of(rt.alloc(), &[ACK, OPENED, ANSWER])?;
+    assert!(rt; is_served_halting(rt.alloc(), input.as_slice(), want.as_slice()));
     Ok(())
 }
 
@@ -485,38 +445,28 @@ fn bounds_a_message(rt: HostRuntime) -> Result<(), Fail> {
     Ok(())
 }
 
-/// The clock is read once for the opening and once for the message, and for nothing else.
-#[test]
-fn reads_the_clock(rt: HostRuntime) -> Result<(), Fail> {
-    let text = joined(rt.alloc(), &[HELLO, OPEN, PART, REST, PART])?;
-    let mut clock = Ticking(0x0102_0304_0506_0708);
-    let mut out = Vec::new(rt.alloc());
-    let result = answer(rt.alloc(), text.as_str(), &mut out, &mut clock);
-    assert!(rt; result == Ok(Served::Refused(Status(0x8088_0000))));
-    assert_eq!(rt; clock.0, 0x0102_0304_0506_070A);
-    // the opening's answer has 270 digits after the Acknowledge's 56, the message's timestamp comes 28 bytes into its own
-    assert!(rt; out.get(382..398) == Some(b"0907060504030201".as_slice()));
-    Ok(())
+/// The requests or the answers of a session, one behind the other.
+fn session_of(alloc: Global, begin: &[&str], answers: bool) -> Result<String, Fail> {
+    let mut text = joined(alloc, begin)?;
+    for (_, request, response) in SESSION {
+        text.push_str(if answers { response } else { request })?;
+    }
+    Ok(text)
 }
 
 /// Each request of a session is answered so, behind those before it.
 #[test]
 fn serves_a_session(rt: HostRuntime) -> Result<(), Fail> {
-    let mut text = joined(rt.alloc(), &[HELLO, OPEN])?;
-    let mut want = joined(rt.alloc(), &[ACK, OPENED])?;
-    for (what, request, response) in SESSION {
-        text.push_str(request)?;
-        want.push_str(response)?;
-        assert!(rt;
-            is_answered(
-                rt.alloc(),
-                text.as_str(),
-                &[want.as_str()],
-                Served::EndOfInput
-            )?,
-            "{what}"
-        );
-    }
+    let text = session_of(rt.alloc(), &[HELLO, OPEN], false)?;
+    let want = session_of(rt.alloc(), &[ACK, OPENED], true)?;
+    assert!(rt;
+        is_answered(
+            rt.alloc(),
+            text.as_str(),
+            &[want.as_str()],
+            Served::EndOfInput
+        )?
+    );
     Ok(())
 }
 

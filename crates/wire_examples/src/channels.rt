@@ -1,18 +1,13 @@
 //! Channels: openings, and messages out of chunks.
 
 use std::alloc::Global;
-use std::test::Fail;
-use ua_binary::{Cursor, NodeId, Status, Ticks, put_node_id};
-use ua_channel::{Channel, ChannelFault, Message, Taken, put_response_header, read_request_header};
+use ua_channel::{Channel, ChannelFault, Taken};
 use uacp::{Ack, Chunk, Hello, Kind, Letter};
 
 /// A first OPN, after its eight bytes: the sequence number, the request id and the handle are 1; Issue,
 /// an hour.
 const OPENING: [u8; 124] =
     *b"\0\0\0\0\x2f\0\0\0http://opcfoundation.org/UA/SecurityPolicy#None\xff\xff\xff\xff\xff\xff\xff\xff\x01\0\0\0\x01\0\0\0\x01\0\xbe\x01\0\0\0\0\0\0\0\0\0\0\x01\0\0\0\0\0\0\0\xff\xff\xff\xff\0\0\0\0\0\0\0\0\0\0\0\0\0\0\0\x01\0\0\0\xff\xff\xff\xff\x80\xee\x36\0";
-
-/// The Unix epoch.
-const EPOCH: Ticks = Ticks(116_444_736_000_000_000);
 
 /// A channel between two that take 8,192 bytes a chunk.
 fn channel_of(alloc: Global, max_message: u32, max_chunks: u32) -> Channel {
@@ -90,36 +85,7 @@ fn take(
 }
 
 #[test]
-fn opens_and_answers(rt: HostRuntime) -> Result<(), Fail> {
-    let mut channel = channel_of(rt.alloc(), 0, 0);
-    let taken = channel.take(Chunk {
-        kind: Kind::Open,
-        letter: Letter::Final,
-        body: &OPENING,
-    });
-    let Ok(Taken::Opening(request)) = taken else {
-        return Err(Fail::from("an opening"));
-    };
-    let mut out = Vec::new(rt.alloc());
-    assert!(rt; channel.put_opened(&request, EPOCH, &mut out).is_ok());
-    assert_eq!(rt;
-        out.as_slice(),
-        b"OPNF\x87\0\0\0\x01\0\0\0\x2f\0\0\0http://opcfoundation.org/UA/SecurityPolicy#None\xff\xff\xff\xff\xff\xff\xff\xff\x01\0\0\0\x01\0\0\0\x01\0\xc1\x01\0\x80\x3e\xd5\xde\xb1\x9d\x01\x01\0\0\0\0\0\0\0\0\xff\xff\xff\xff\0\0\0\0\0\0\0\x01\0\0\0\x01\0\0\0\0\x80\x3e\xd5\xde\xb1\x9d\x01\x80\xee\x36\0\xff\xff\xff\xff".as_slice()
-    );
-    out.clear();
-    let mut fault = Vec::new(rt.alloc());
-    assert!(rt; put_node_id(&mut fault, &NodeId::Numeric(0, 397)).is_ok());
-    assert!(rt; put_response_header(EPOCH, 2, Status(0x800B_0000), &mut fault).is_ok());
-    assert!(rt; channel.wrap(2, fault.as_slice(), &mut out).is_ok());
-    assert_eq!(rt;
-        out.as_slice(),
-        b"MSGF\x34\0\0\0\x01\0\0\0\x01\0\0\0\x02\0\0\0\x02\0\0\0\x01\0\x8d\x01\0\x80\x3e\xd5\xde\xb1\x9d\x01\x02\0\0\0\0\0\x0b\x80\0\xff\xff\xff\xff\0\0\0".as_slice()
-    );
-    Ok(())
-}
-
-#[test]
-fn judges_openings(rt: HostRuntime) -> Result<(), Fail> {
+fn judges_openings(rt: HostRuntime) {
     for (what, bytes, want) in [
         ("as it is", [(0, 0), (0, 0)].as_slice(), Ok((1, 1, 0, 0))),
         (
@@ -165,11 +131,10 @@ fn judges_openings(rt: HostRuntime) -> Result<(), Fail> {
         let again = open(&mut channel, [(63, 2), (108, 1)].as_slice());
         assert_eq!(rt; again, Err(ChannelFault::ChannelId), "after {what}");
     }
-    Ok(())
 }
 
 #[test]
-fn takes_messages(rt: HostRuntime) -> Result<(), Fail> {
+fn takes_messages(rt: HostRuntime) {
     let mut channel = channel_of(rt.alloc(), 0, 0);
     let before = (Kind::Message, Letter::Final, 1, 1, 1, 1);
     assert_eq!(rt;
@@ -226,11 +191,10 @@ fn takes_messages(rt: HostRuntime) -> Result<(), Fail> {
     ] {
         assert_eq!(rt; take(rt.alloc(), &mut channel, step, bytes), want);
     }
-    Ok(())
 }
 
 #[test]
-fn judges_messages(rt: HostRuntime) -> Result<(), Fail> {
+fn judges_messages(rt: HostRuntime) {
     for (first, second, want) in [
         (
             None,
@@ -280,77 +244,6 @@ fn judges_messages(rt: HostRuntime) -> Result<(), Fail> {
         }
         assert_eq!(rt; take(rt.alloc(), &mut channel, second, b"a"), Err(want));
     }
-    Ok(())
-}
-
-#[test]
-fn renews_tokens(rt: HostRuntime) -> Result<(), Fail> {
-    let mut channel = channel_of(rt.alloc(), 0, 0);
-    assert!(rt; open(&mut channel, [].as_slice()).is_ok());
-    for (number, token, want) in [(2, 2, true), (4, 3, false)] {
-        let renewal = [(0, 1), (63, number), (108, 1)];
-        assert_eq!(rt;
-            open(&mut channel, renewal.as_slice()),
-            Ok((1, token, 0, 0))
-        );
-        let step = (Kind::Message, Letter::Final, 1, 1, number as u32 + 1, 2);
-        let taken = take(rt.alloc(), &mut channel, step, b"a");
-        assert_eq!(rt; taken.is_ok(), want);
-        assert_eq!(rt; taken == Err(ChannelFault::Token), !want);
-    }
-    Ok(())
-}
-
-#[test]
-fn numbers_begin_anew(rt: HostRuntime) -> Result<(), Fail> {
-    for (last, number, want) in [
-        (0, 0, Ok((2, 2, 1, b'a'))),
-        (0, 1023, Ok((2, 2, 1, b'a'))),
-        (0, 1024, Err(ChannelFault::Sequence)),
-        (0, 4_294_966_273, Ok((2, 2, 1, b'a'))),
-        (255, 0, Err(ChannelFault::Sequence)),
-    ] {
-        let mut channel = channel_of(rt.alloc(), 0, 0);
-        // 4,294,966,272 is FFFFFC00, and 4,294,966,271 is FFFFFBFF
-        let high = if last == 0 { 0xfc } else { 0xfb };
-        let edits = [(63, last), (64, high), (65, 0xff), (66, 0xff)];
-        assert!(rt; open(&mut channel, edits.as_slice()).is_ok());
-        let step = (Kind::Message, Letter::Final, 1, 1, number, 2);
-        assert_eq!(rt;
-            take(rt.alloc(), &mut channel, step, b"a"),
-            want,
-            "{number}"
-        );
-    }
-    Ok(())
-}
-
-#[test]
-fn bounds_messages(rt: HostRuntime) -> Result<(), Fail> {
-    let mut channel = channel_of(rt.alloc(), 0, 0);
-    assert!(rt; open(&mut channel, [].as_slice()).is_ok());
-    for number in 2..66 {
-        let step = (Kind::Message, Letter::More, 1, 1, number, 2);
-        assert!(rt; take(rt.alloc(), &mut channel, step, b"a").is_ok());
-    }
-    let step = (Kind::Message, Letter::Final, 1, 1, 66, 2);
-    assert_eq!(rt;
-        take(rt.alloc(), &mut channel, step, b"a"),
-        Err(ChannelFault::TooManyChunks)
-    );
-    let large = vec![in rt.alloc(); 0; 4_194_304]?;
-    for (bytes, want) in [
-        (b"".as_slice(), Ok((2, 2, 4_194_304, 0))),
-        (b"a".as_slice(), Err(ChannelFault::TooLarge)),
-    ] {
-        let mut channel = channel_of(rt.alloc(), 0, 0);
-        assert!(rt; open(&mut channel, [].as_slice()).is_ok());
-        let first = (Kind::Message, Letter::More, 1, 1, 2, 2);
-        assert!(rt; take(rt.alloc(), &mut channel, first, large.as_slice()).is_ok());
-        let last = (Kind::Message, Letter::Final, 1, 1, 3, 2);
-        assert_eq!(rt; take(rt.alloc(), &mut channel, last, bytes), want);
-    }
-    Ok(())
 }
 
 #[test]
@@ -372,18 +265,6 @@ fn tells_what_fits(rt: HostRuntime) {
             "{n} at {max_message} and {max_chunks}"
         );
     }
-}
-
-#[test]
-fn reads_request_headers(rt: HostRuntime) {
-    let bytes = b"\0\x55\0\0\0\0\0\0\0\0\x07\0\0\0\0\0\0\0\xff\xff\xff\xff\x09\0\0\0\0\0\0z";
-    let mut cursor = Cursor::new(bytes.as_slice());
-    let handle = read_request_header(&mut cursor).map(|header| header.handle);
-    assert_eq!(rt; handle, Ok(7));
-    assert_eq!(rt; cursor.rest(), b"z".as_slice());
-    let mut short = Cursor::new(&bytes[..25]);
-    assert!(rt; read_request_header(&mut short).is_err());
-    assert_eq!(rt; short.rest().len(), 25);
 }
 
 #[test]

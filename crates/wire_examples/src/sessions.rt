@@ -1,7 +1,5 @@
 //! Sessions and their users.
 
-ghost use Rattle.std.specs.Prelude.{◌<◌, ◌+◌};
-
 use std::alloc::Global;
 use std::test::Fail;
 use ua_binary::{NodeId, NodeIdRef};
@@ -107,51 +105,19 @@ static TWO_SESSIONS: [Call; 12] = [
     UserOf(NodeIdRef::Numeric(1, 7), Err(NotActivated)),
 ];
 
-/// What is no token of the first session.
-static OTHERS: [NodeIdRef<'static>; 7] = [
-    NodeIdRef::Numeric(0, 3),
-    NodeIdRef::Numeric(2, 3),
-    NodeIdRef::Numeric(1, 0),
-    NodeIdRef::Numeric(1, 1),
-    NodeIdRef::Numeric(1, 2),
-    NodeIdRef::Named(1, "3"),
-    NodeIdRef::Opaque(1, &[3]),
-];
-
 #[test]
 fn sessions_in_order(rt: HostRuntime) -> Result<(), Fail> {
     let users = users_of(rt.alloc(), true).ok().ok_or("memory")?;
-    let mut one = Sessions::new(rt.alloc());
-    for (i, call) in ONE_SESSION.iter().enumerate() {
-        assert!(rt;
-            is_answered(&mut one, &users, call),
-            "one session, call {i}"
-        );
+    for calls in [ONE_SESSION.as_slice(), &TWO_SESSIONS] {
+        let mut sessions = Sessions::new(rt.alloc());
+        for (i, call) in calls.iter().enumerate() {
+            assert!(rt;
+                is_answered(&mut sessions, &users, call),
+                "{}, call {i}",
+                calls.len()
+            );
+        }
     }
-    let mut two = Sessions::new(rt.alloc());
-    for (i, call) in TWO_SESSIONS.iter().enumerate() {
-        assert!(rt;
-            is_answered(&mut two, &users, call),
-            "two sessions, call {i}"
-        );
-    }
-    Ok(())
-}
-
-#[test]
-fn other_tokens(rt: HostRuntime) -> Result<(), Fail> {
-    let users = users_of(rt.alloc(), true).ok().ok_or("memory")?;
-    let mut sessions = Sessions::new(rt.alloc());
-    assert!(rt; is_created(&mut sessions, Ok((2, 3))));
-    for token in &OTHERS {
-        assert!(rt;
-            sessions.activate(*token, NOBODY, &users) == Err(IdInvalid),
-            "at {token:?}"
-        );
-        assert!(rt; sessions.close(*token) == Err(IdInvalid), "at {token:?}");
-        assert!(rt; sessions.user_of(*token) == Err(IdInvalid), "at {token:?}");
-    }
-    assert!(rt; sessions.user_of(FIRST) == Err(NotActivated));
     Ok(())
 }
 
@@ -215,51 +181,6 @@ fn identities(rt: HostRuntime) -> Result<(), Fail> {
         );
     }
     Ok(())
-}
-
-/// Whether this many sessions are made, the first of them with this number.
-fn are_created(sessions: &mut Sessions, first: u32, count: u32) -> bool
-    requires { first + count < 1000000 }
-{
-    for k in first..first + count {
-        if !is_created(sessions, Ok((2 * k, 2 * k + 1))) {
-            return false;
-        }
-    }
-    true
-}
-
-#[test]
-fn sixteen_at_a_time(rt: HostRuntime) {
-    let mut sessions = Sessions::new(rt.alloc());
-    assert!(rt; are_created(&mut sessions, 1, 16));
-    assert!(rt; is_created(&mut sessions, Err(TooMany)));
-    assert!(rt; sessions.close(SECOND) == Ok(()));
-    assert!(rt; is_created(&mut sessions, Ok((34, 35))));
-    assert!(rt; is_created(&mut sessions, Err(TooMany)));
-    assert!(rt; sessions.user_of(SECOND) == Err(IdInvalid));
-}
-
-/// Whether so many sessions are made and closed, one after the other.
-fn are_in_turn(sessions: &mut Sessions, count: u32) -> bool
-    requires { count < 1000001 }
-{
-    for k in 1..=count {
-        if !is_created(sessions, Ok((2 * k, 2 * k + 1))) {
-            return false;
-        }
-        if sessions.close(NodeIdRef::Numeric(1, 2 * k + 1)) != Ok(()) {
-            return false;
-        }
-    }
-    true
-}
-
-#[test]
-fn a_million_in_turn(rt: HostRuntime) {
-    let mut sessions = Sessions::new(rt.alloc());
-    assert!(rt; are_in_turn(&mut sessions, 1_000_000));
-    assert!(rt; is_created(&mut sessions, Err(TooMany)));
 }
 
 #[test]

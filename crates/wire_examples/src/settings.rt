@@ -187,32 +187,6 @@ fn sample_is_read(rt: HostRuntime) -> Result<(), Fail> {
     Ok(())
 }
 
-/// The path of a store is a text.
-#[test]
-fn a_store_is_a_path(rt: HostRuntime) {
-    let text =
-        "[archive]\nid = '00000000000000000000000000000000'\nreplica = 1\nstore = 1\n[server]\nlisten = ''\nurl = ''\napplication = ''\nnamespace = ''\nanonymous = true\n";
-    assert_eq!(rt; refusal(rt.alloc(), text), Some(SettingsFault::BadValue));
-}
-
-/// Without settings, these texts and users.
-fn is_bare(settings: &Settings) -> bool {
-    settings.replica().get() == 1
-        && settings.store().is_none()
-        && settings.listen() == "127.0.0.1:4840"
-        && settings.url() == "opc.tcp://localhost:4840"
-        && settings.application() == "urn:uahist"
-        && settings.users().allows_anonymous()
-        && !settings.users().has_named()
-}
-
-#[test]
-fn bare_settings(rt: HostRuntime) -> Result<(), Fail> {
-    let settings = Settings::bare(rt.alloc())?;
-    assert!(rt; is_bare(&settings));
-    Ok(())
-}
-
 /// The faults and their numbers.
 static NUMBERS: [(SettingsFault, u8); 6] = [
     (SettingsFault::NotToml, 1),

@@ -3,7 +3,7 @@
 use std::alloc::Global;
 use std::test::Fail;
 use ua_binary::{NodeIdRef, Status};
-use ua_services::{BrowseDescription, BrowseDirection, NodeClass, ReferenceDescription};
+use ua_services::{BrowseDescription, BrowseDirection};
 use ua_space::{Answered, BuildFault, Plan, Space, VariablePlan};
 use ua_variant::{Scalar, Variant};
 
@@ -28,83 +28,49 @@ fn space_of_one(alloc: Global) -> Result<Space, BuildFault> {
     )
 }
 
-/// A browse of a node forward along a type and its subtypes, with all fields.
-fn forward(node: u32, reference_type: u32) -> BrowseDescription<'static> {
-    BrowseDescription {
+type Direction = Option<BrowseDirection>;
+
+const FORWARD: Direction = Some(BrowseDirection::Forward);
+
+/// What a browse with all fields is refused by, along a type of references and its subtypes.
+fn refusal(space: &Space, node: u32, reference_type: u32, direction: Direction) -> Option<Status> {
+    let asked = BrowseDescription {
         node_id: NodeIdRef::Numeric(0, node),
-        direction: Some(BrowseDirection::Forward),
+        direction,
         reference_type_id: NodeIdRef::Numeric(0, reference_type),
         include_subtypes: true,
         node_class_mask: 0,
         result_mask: 63,
-    }
+    };
+    space.browse(&asked).err()
 }
 
-fn is_variable_t(reference: &ReferenceDescription) -> bool {
-    reference.is_forward && reference.node_class == NodeClass::Variable
-}
-
-#[test]
-fn objects_organizes_the_variable(rt: HostRuntime) -> Result<(), Fail> {
-    let space = space_of_one(rt.alloc())?;
-    let found = space.browse(&forward(85, 33))?;
-    assert!(rt; found.as_slice().len() == 1);
-    assert!(rt; is_variable_t(&found.as_slice()[0]));
-    let none = space.browse(&forward(85, 44))?;
-    assert!(rt; none.as_slice().is_empty());
-    Ok(())
-}
+/// A node, a type of references, a direction, and what a browse is refused by.
+static REFUSED: [(u32, u32, Direction, Status); 3] = [
+    (86, 33, FORWARD, Status::BAD_NODE_ID_UNKNOWN),
+    (85, 36, FORWARD, Status::BAD_REFERENCE_TYPE_ID_INVALID),
+    (85, 33, None, Status::BAD_BROWSE_DIRECTION_INVALID),
+];
 
 #[test]
 fn browses_are_refused(rt: HostRuntime) -> Result<(), Fail> {
     let space = space_of_one(rt.alloc())?;
-    assert!(rt; space.browse(&forward(86, 33)) == Err(Status::BAD_NODE_ID_UNKNOWN));
-    assert!(rt; space.browse(&forward(85, 36)) == Err(Status::BAD_REFERENCE_TYPE_ID_INVALID));
-    let nowhere = BrowseDescription {
-        direction: None,
-        ..forward(85, 33)
-    };
-    assert!(rt; space.browse(&nowhere) == Err(Status::BAD_BROWSE_DIRECTION_INVALID));
+    for (node, reference_type, direction, status) in &REFUSED {
+        let told = refusal(&space, *node, *reference_type, *direction);
+        assert!(rt; told == Some(*status), "{node}");
+    }
     Ok(())
+}
+
+/// Whether the value's attribute 17 says that it may be read and written, in history too.
+fn is_writable(space: &Space) -> bool {
+    let told = space.read_attribute(NodeIdRef::Named(1, "T"), 17);
+    told == Ok(Answered::Value(Variant::Scalar(Scalar::Byte(13))))
 }
 
 #[test]
 fn attributes_are_told(rt: HostRuntime) -> Result<(), Fail> {
     let space = space_of_one(rt.alloc())?;
-    let t = NodeIdRef::Named(1, "T");
-    assert!(rt; space.read_attribute(t, 13) == Ok(Answered::Archived));
-    assert!(rt;
-        space.read_attribute(t, 17) == Ok(Answered::Value(Variant::Scalar(Scalar::Byte(13))))
-    );
-    assert!(rt; space.read_attribute(t, 23) == Err(Status::BAD_ATTRIBUTE_ID_INVALID));
-    let state = NodeIdRef::Numeric(0, 2259);
-    assert!(rt;
-        space.read_attribute(state, 13) == Ok(Answered::Value(Variant::Scalar(Scalar::Int32(0))))
-    );
-    assert!(rt;
-        space.read_attribute(NodeIdRef::Named(0, "T"), 13) == Err(Status::BAD_NODE_ID_UNKNOWN)
-    );
+    assert!(rt; is_writable(&space));
     Ok(())
-}
-
-#[test]
-fn plans_are_refused(rt: HostRuntime) {
-    let odd = Plan {
-        namespace: "urn:uahist:archive",
-        folders: &[],
-        variables: &[VariablePlan {
-            id: "T",
-            name: "T",
-            type_name: "Int33",
-            array: false,
-            folder: None,
-        }],
-    };
-    assert!(rt; Space::build(rt.alloc(), &odd).err() == Some(BuildFault::BadType));
-    let twice = Plan {
-        namespace: "urn:uahist:archive",
-        folders: &[],
-        variables: &[T, T],
-    };
-    assert!(rt; Space::build(rt.alloc(), &twice).err() == Some(BuildFault::DuplicateNode));
 }

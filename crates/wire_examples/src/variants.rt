@@ -4,10 +4,10 @@ ghost use Rattle.ua_variant.specs.Variant.{IsShortVariant};
 ghost use Rattle.ua_variant.specs.DataValue.{IsShortData};
 
 use std::alloc::Global;
-use ua_binary::{Cursor, Listing, TryClone};
+use ua_binary::{Cursor, TryClone};
 use ua_variant::{
-    Array, DataValue, Scalar, ValueType, Variant, VariantFault, put_data_value, put_variant,
-    read_data_value, read_variant, same_type,
+    DataValue, ValueType, Variant, VariantFault, put_data_value, put_variant, read_data_value,
+    read_variant, same_type,
 };
 
 /// One value of each type, with the number of the type and what `{:?}` shows of it. The texts, the Guid
@@ -425,39 +425,6 @@ fn refused_data_values(rt: HostRuntime) {
     for (bytes, fault) in refused {
         let refusal = data_refusal(rt.alloc(), bytes);
         assert!(rt; refusal == Some((fault, bytes.len())), "at {bytes:?}");
-    }
-}
-
-/// Whether a number is of this type.
-fn is_number_of(value_type: ValueType) -> bool {
-    let number = Variant::Scalar(Scalar::Int32(7));
-    same_type(&number, value_type)
-}
-
-/// Whether an array of numbers is of this type.
-fn is_array_of(alloc: Global, value_type: ValueType) -> bool {
-    let array = Variant::Array(Array::Int32(Listing::new(alloc)));
-    same_type(&array, value_type)
-}
-
-/// Whether a number, an array of numbers and a null value are of this type.
-fn are_of(alloc: Global, value_type: ValueType) -> (bool, bool, bool) {
-    (
-        is_number_of(value_type),
-        is_array_of(alloc, value_type),
-        same_type(&Variant::Null, value_type),
-    )
-}
-
-#[test]
-fn types(rt: HostRuntime) {
-    for (number, array, fits) in [
-        (6u8, false, (true, false, true)),
-        (6, true, (false, true, true)),
-        (7, false, (false, false, true)),
-        (7, true, (false, false, true)),
-    ] {
-        assert!(rt; are_of(rt.alloc(), ValueType { number, array }) == fits);
     }
 }
 

@@ -123,13 +123,6 @@ impl<'a> Network for Machine<'a> {
     }
 }
 
-/// An insert of 7 as the fourth message of a connection, and its answer.
-const INSERT: &str =
-    "4D53474666000000010000000100000004000000070000000100BC020101030000000000000000000700000000000000FFFFFFFF00000000000000010000000100AA02011E000000030100010000005401000000010000000506070000000A00000000000000";
-
-const INSERTED: &str =
-    "4D5347464C000000010000000100000004000000070000000100BF0200803ED5DEB19D01070000000000000000FFFFFFFF0000000100000000000000010000000000A200FFFFFFFFFFFFFFFF";
-
 /// A Read of the value as the fourth message of a connection, and its answer.
 const READ: &str =
     "4D5347466100000001000000010000000400000009000000010077020101030000000000000000000900000000000000FFFFFFFF000000000000000000000000000000020000000100000003010001000000540D000000FFFFFFFF0000FFFFFFFF";
@@ -170,46 +163,42 @@ fn well(bytes: &[u8]) -> Option<Client<'_>> {
     })
 }
 
-/// What one client wrote another one reads.
-#[test]
-fn serves_over_one_archive(rt: HostRuntime) -> Result<(), Fail> {
-    let alloc = rt.alloc();
-    let writes = bytes_of(alloc, &[HELLO, OPEN, BEGIN[0], BEGIN[1], INSERT])?;
-    let reads = bytes_of(alloc, &[HELLO, OPEN, BEGIN[0], BEGIN[1], READ])?;
-    let mut want = Vec::new(alloc);
-    for last in [INSERTED, VALUE] {
-        want.push(bytes_of(alloc, &[ACK, OPENED, BEGUN[0], BEGUN[1], last])?)?;
+/// The bytes of each of these answers.
+fn all_of(alloc: Global, answers: &[&[&str]]) -> Result<Vec<Vec<u8>>, Fail> {
+    let mut all = Vec::new(alloc);
+    for parts in answers {
+        all.push(bytes_of(alloc, parts)?)?;
     }
-    let clients = [well(writes.as_slice()), well(reads.as_slice())];
-    assert!(rt; is_served(alloc, &clients, 2, want.as_slice(), "")?);
-    Ok(())
+    Ok(all)
 }
 
-/// One that breaks off inside a message, one that takes no answer, and one that can't be had are told, and the next one is
-/// served; behind so many none is.
-#[test]
-fn goes_on_behind_a_fault(rt: HostRuntime) -> Result<(), Fail> {
-    let alloc = rt.alloc();
-    let bytes = bytes_of(alloc, &[HELLO, OPEN, REQUEST])?;
-    let begun = bytes.get(..200).ok_or("a front")?;
+/// Whether those of five clients are told that break off or take no answer, or can't be had, and the next one is served: a whole
+/// stream, and its first bytes.
+fn goes_on<'a>(alloc: Global, bytes: &'a [u8], begun: &'a [u8]) -> Result<bool, Fail> {
     let breaks = Some(Client {
         bytes: begun,
         breaks: true,
         room: 10_000,
     });
     let deaf = Some(Client {
-        bytes: bytes.as_slice(),
+        bytes,
         breaks: false,
         room: 28,
     });
-    let clients = [breaks, deaf, None, well(bytes.as_slice()), well(begun)];
-    let mut want = Vec::new(alloc);
-    want.push(bytes_of(alloc, &[ACK, OPENED])?)?;
-    want.push(bytes_of(alloc, &[ACK])?)?;
-    want.push(bytes_of(alloc, &[ACK, OPENED, ANSWER])?)?;
+    let clients = [breaks, deaf, None, well(bytes), well(begun)];
+    let want = all_of(alloc, &[&[ACK, OPENED], &[ACK], &[ACK, OPENED, ANSWER]])?;
     let told =
         "uahist: connection ended (1)\nuahist: connection ended (2)\nuahist: connection ended (1)\n";
-    assert!(rt; is_served(alloc, &clients, 4, want.as_slice(), told)?);
+    is_served(alloc, &clients, 4, want.as_slice(), told)
+}
+
+/// One that breaks off inside a message, one that takes no answer, and one that can't be had are told, and the next one is
+/// served; behind so many none is.
+#[test]
+fn goes_on_behind_a_fault(rt: HostRuntime) -> Result<(), Fail> {
+    let bytes = bytes_of(rt.alloc(), &[HELLO, OPEN, REQUEST])?;
+    let begun = bytes.get(..200).ok_or("a front")?;
+    assert!(rt; goes_on(rt.alloc(), bytes.as_slice(), begun)?);
     Ok(())
 }
 
@@ -227,24 +216,27 @@ fn brought(alloc: Global) -> Result<(Vec<u8>, Vec<u8>), Fail> {
     Ok((there, answer))
 }
 
+/// Whether a client is greeted, a peer is answered so to what it brings, and the next client reads that.
+fn reads_what_came(alloc: Global, brings: &[u8], answer: Vec<u8>) -> Result<bool, Fail> {
+    let mut want = all_of(alloc, &[&[ACK, OPENED, ANSWER]])?;
+    want.push(answer)?;
+    want.push(bytes_of(alloc, &[ACK, OPENED, BEGUN[0], BEGUN[1], VALUE])?)?;
+    let greets = bytes_of(alloc, &[HELLO, OPEN, REQUEST])?;
+    let reads = bytes_of(alloc, &[HELLO, OPEN, BEGIN[0], BEGIN[1], READ])?;
+    let clients = [
+        well(greets.as_slice()),
+        well(brings),
+        well(reads.as_slice()),
+    ];
+    is_served(alloc, &clients, 3, want.as_slice(), "")
+}
+
 /// A client reads what a peer brought between it and the client before.
 #[test]
 fn serves_clients_and_peers(rt: HostRuntime) -> Result<(), Fail> {
-    let alloc = rt.alloc();
-    let greets = bytes_of(alloc, &[HELLO, OPEN, REQUEST])?;
-    let (brings, answer) = brought(alloc)?;
-    let reads = bytes_of(alloc, &[HELLO, OPEN, BEGIN[0], BEGIN[1], READ])?;
+    let (brings, answer) = brought(rt.alloc())?;
     assert!(rt; brings.as_slice().starts_with(b"RXVF") && answer.as_slice().starts_with(b"RXDF"));
-    let mut want = Vec::new(alloc);
-    want.push(bytes_of(alloc, &[ACK, OPENED, ANSWER])?)?;
-    want.push(answer)?;
-    want.push(bytes_of(alloc, &[ACK, OPENED, BEGUN[0], BEGUN[1], VALUE])?)?;
-    let clients = [
-        well(greets.as_slice()),
-        well(brings.as_slice()),
-        well(reads.as_slice()),
-    ];
-    assert!(rt; is_served(alloc, &clients, 3, want.as_slice(), "")?);
+    assert!(rt; reads_what_came(rt.alloc(), brings.as_slice(), answer)?);
     Ok(())
 }
 

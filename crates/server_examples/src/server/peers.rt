@@ -19,6 +19,9 @@ const ASKED: &[u8] = b"RXVF\x1b\0\0\0\x02\0\0\0\0\0\0\0\0\0\0\0\0\0\0\0\0\x02\0"
 /// The same frame as if of replica 1.
 const ASKED_ITSELF: &[u8] = b"RXVF\x1b\0\0\0\x02\0\0\0\0\0\0\0\0\0\0\0\0\0\0\0\0\x01\0";
 
+/// The same frame in an older format.
+const ASKED_BY_AN_OLDER: &[u8] = b"RXVF\x1b\0\0\0\x01\0\0\0\0\0\0\0\0\0\0\0\0\0\0\0\0\x02\0";
+
 /// What replica 1 answers, which holds nothing either.
 const NOTHING: &[u8] = b"RXDF\x1f\0\0\0\x02\0\0\0\0\0\0\0\0\0\0\0\0\0\0\0\0\x01\0\0\0\0\0";
 
@@ -36,12 +39,20 @@ const HEAD: &[u8] = b"RX";
 /// A frame that is one byte too short for its vector.
 const SHORT: &[u8] = b"RXVF\x1a\0\0\0\x02\0\0\0\0\0\0\0\0\0\0\0\0\0\0\0\0\x02";
 
+/// Records, 1,001 of them by their count, and one by its length longer than the frame.
+const TOO_MANY: &[u8] = b"RXDF\x1f\0\0\0\x02\0\0\0\0\0\0\0\0\0\0\0\0\0\0\0\0\x02\0\xe9\x03\0\0";
+
+const TOO_LONG: &[u8] =
+    b"RXDF\x23\0\0\0\x02\0\0\0\0\0\0\0\0\0\0\0\0\0\0\0\0\x02\0\x01\0\0\0\x64\0\0\0";
+
 const ILL: &[u8] = b"RXEF\x0c\0\0\0\x01\0\0\0";
 
 const SELF_PEER: &[u8] = b"RXEF\x0c\0\0\0\x05\0\0\0";
 
+const PEER_FORMAT: &[u8] = b"RXEF\x0c\0\0\0\x08\0\0\0";
+
 /// What a peer sends to replica 1 in pieces, what it is answered, and how that ends.
-static DIALOGS: [(&[&[u8]], &[&[u8]], Parted); 9] = [
+static DIALOGS: [(&[&[u8]], &[&[u8]], Parted); 12] = [
     (&[], &[], Parted::EndOfInput),
     (&[ASKED], &[NOTHING], Parted::EndOfInput),
     (&[ASKED, ASKED], &[NOTHING, NOTHING], Parted::EndOfInput),
@@ -53,12 +64,27 @@ static DIALOGS: [(&[&[u8]], &[&[u8]], Parted); 9] = [
         Parted::Failed(ExchangeFault::SelfPeer),
     ),
     (
+        &[ASKED_BY_AN_OLDER, ASKED],
+        &[PEER_FORMAT],
+        Parted::Failed(ExchangeFault::PeerFormat),
+    ),
+    (
         &[ASKED, NO_FRAME, ASKED],
         &[NOTHING, ILL],
         Parted::Failed(ExchangeFault::Frame),
     ),
     (
         &[SHORT, ASKED],
+        &[ILL],
+        Parted::Failed(ExchangeFault::Frame),
+    ),
+    (
+        &[TOO_MANY, ASKED],
+        &[ILL],
+        Parted::Failed(ExchangeFault::Frame),
+    ),
+    (
+        &[TOO_LONG, ASKED],
         &[ILL],
         Parted::Failed(ExchangeFault::Frame),
     ),
@@ -115,64 +141,6 @@ fn answers_peers(rt: HostRuntime) -> Result<(), Fail> {
                 "{parted:?} in pieces of {size}"
             );
         }
-    }
-    Ok(())
-}
-
-/// A writer that takes so many bytes has just these of the answer.
-fn is_written(alloc: Global, bytes: &[u8], room: usize, want: &[u8]) -> Result<bool, Fail> {
-    let mut one = replica(alloc, 1)?;
-    let mut reader = Counted::new(bytes);
-    let mut writer = Counted::new(Narrow {
-        bytes: Vec::new(alloc),
-        room,
-    });
-    let result = serve_peer(alloc, &mut one, &mut reader, &mut writer);
-    let (ending, faults) = if room < want.len() {
-        (Err(ServeFault::Write), 1)
-    } else {
-        (Ok(Parted::Done), 0)
-    };
-    Ok(
-        result == ending
-            && writer.faults() == faults
-            && Some(writer.into_inner().bytes.as_slice()) == want.get(..room.min(want.len())),
-    )
-}
-
-#[test]
-fn peers_are_answered_as_far_as_the_writer_goes(rt: HostRuntime) -> Result<(), Fail> {
-    let bytes = joined(rt.alloc(), &[ASKED, ASKED, END])?;
-    let want = joined(rt.alloc(), &[NOTHING, NOTHING])?;
-    for room in 0..64 {
-        assert!(rt;
-            is_written(rt.alloc(), bytes.as_slice(), room, want.as_slice())?,
-            "{room}"
-        );
-    }
-    Ok(())
-}
-
-/// Of each first part of a peer's bytes the whole frames are answered, and a reader that fails there is told.
-#[test]
-fn peers_are_answered_as_far_as_the_reader_goes(rt: HostRuntime) -> Result<(), Fail> {
-    let bytes = joined(rt.alloc(), &[ASKED, ASKED])?;
-    let want = joined(rt.alloc(), &[NOTHING, NOTHING])?;
-    for count in 0..54 {
-        let mut one = replica(rt.alloc(), 1)?;
-        let mut reader = Counted::new(Slow {
-            bytes: bytes.get(..count).ok_or("a front")?,
-            size: 4,
-            fails: true,
-        });
-        let mut writer = Counted::new(Vec::new(rt.alloc()));
-        let result = serve_peer(rt.alloc(), &mut one, &mut reader, &mut writer);
-        assert!(rt;
-            result == Err(ServeFault::Read) && reader.faults() == 1,
-            "{count}"
-        );
-        let out = want.get(..count / 27 * 31).ok_or("a front")?;
-        assert!(rt; writer.into_inner().as_slice() == out, "{count}");
     }
     Ok(())
 }
@@ -251,59 +219,133 @@ fn letters(alloc: Global, bytes: &[u8]) -> Result<Vec<u8>, Fail> {
     Ok(letters)
 }
 
-/// Two replicas, each with a record of its own, meet: each answers what the other one wrote before. Where the same bytes come
-/// once more the record in them is held already.
-#[test]
-fn replicas_meet(rt: HostRuntime) -> Result<(), Fail> {
-    let alloc = rt.alloc();
+/// What replica 2 answers to the frames that replica 1 writes where these bytes come back, each with a record of its own, and
+/// how the call ends.
+fn round(alloc: Global, back: &[u8]) -> Result<(Vec<u8>, Result<Synced, SyncFault>), Fail> {
+    let mut two = filled_replica(alloc, 2)?;
+    let mut one = filled_replica(alloc, 1)?;
+    let (there, result) = called(alloc, &mut one, back);
+    Ok((answered(alloc, &mut two, there.as_slice()), result))
+}
+
+/// What comes back to replica 1 in the whole dialog: each answers what the other one wrote before. Nothing where a call ends
+/// otherwise before.
+fn brought_back(alloc: Global) -> Result<Vec<u8>, Fail> {
     let mut back = Vec::new(alloc);
-    for round in 0..4 {
-        let mut one = filled_replica(alloc, 1)?;
-        let mut two = filled_replica(alloc, 2)?;
-        let (there, result) = called(alloc, &mut one, back.as_slice());
-        let answer = answered(alloc, &mut two, there.as_slice());
-        if round == 3 {
-            assert!(rt;
-                result
-                    == Ok(Synced {
-                        learned: 1,
-                        sent: 1
-                    })
-            );
-            assert!(rt; letters(alloc, there.as_slice())?.as_slice() == b"VVDE".as_slice());
-            assert!(rt; letters(alloc, answer.as_slice())?.as_slice() == b"DDV".as_slice());
-            let ones = one.archive.since(alloc, &Vector::new(), 99)?;
-            let twos = two.archive.since(alloc, &Vector::new(), 99)?;
-            assert!(rt; ones.len() == 2 && ones.as_slice() == twos.as_slice());
-            let again = moved(alloc, &mut one, back.as_slice());
-            assert!(rt;
-                again
-                    == Ok(Synced {
-                        learned: 0,
-                        sent: 1
-                    })
-            );
-        } else {
-            assert!(rt;
-                result == Err(SyncFault::Exchange(ExchangeFault::Frame)),
-                "{round}"
-            );
+    for _ in 0..3 {
+        let (answer, result) = round(alloc, back.as_slice())?;
+        if result != Err(SyncFault::Exchange(ExchangeFault::Frame)) {
+            return Ok(Vec::new(alloc));
         }
         back = answer;
+    }
+    Ok(back)
+}
+
+/// Whether the frames there and back are those of a whole dialog.
+fn is_whole(alloc: Global, there: &[u8], back: &[u8]) -> Result<bool, Fail> {
+    let there = letters(alloc, there)?.as_slice() == b"VVDE".as_slice();
+    Ok(there && letters(alloc, back)?.as_slice() == b"DDV".as_slice())
+}
+
+/// Whether replica 1 learns one record and sends one where these bytes come back; and where they come once more the record in
+/// them is held already.
+fn moves_one(alloc: Global, one: &mut Replica<ListArchive>, back: &[u8]) -> Result<bool, Fail> {
+    let (there, result) = called(alloc, one, back);
+    let whole = is_whole(alloc, there.as_slice(), back)?;
+    let once = result
+        == Ok(Synced {
+            learned: 1,
+            sent: 1,
+        });
+    let again = moved(alloc, one, back)
+        == Ok(Synced {
+            learned: 0,
+            sent: 1,
+        });
+    Ok(whole && once && again)
+}
+
+/// Two replicas, each with a record of its own, meet.
+#[test]
+fn replicas_meet(rt: HostRuntime) -> Result<(), Fail> {
+    let back = brought_back(rt.alloc())?;
+    let mut one = filled_replica(rt.alloc(), 1)?;
+    assert!(rt; moves_one(rt.alloc(), &mut one, back.as_slice())?);
+    let held = one.archive.since(rt.alloc(), &Vector::new(), 99)?;
+    assert!(rt; held.len() == 2);
+    Ok(())
+}
+
+/// What replica 1 writes in that dialog where these bytes come back.
+fn brought_there(alloc: Global, back: &[u8]) -> Result<Vec<u8>, Fail> {
+    let mut one = filled_replica(alloc, 1)?;
+    let (there, _) = called(alloc, &mut one, back);
+    Ok(there)
+}
+
+/// A writer that takes so many bytes has just these of what replica 2 answers.
+fn is_written(alloc: Global, bytes: &[u8], room: usize, want: &[u8]) -> Result<bool, Fail> {
+    let mut two = filled_replica(alloc, 2)?;
+    let mut reader = Counted::new(bytes);
+    let mut writer = Counted::new(Narrow {
+        bytes: Vec::new(alloc),
+        room,
+    });
+    let result = serve_peer(alloc, &mut two, &mut reader, &mut writer);
+    let (ending, faults) = if room < want.len() {
+        (Err(ServeFault::Write), 1)
+    } else {
+        (Ok(Parted::Done), 0)
+    };
+    Ok(
+        result == ending
+            && writer.faults() == faults
+            && Some(writer.into_inner().bytes.as_slice()) == want.get(..room.min(want.len())),
+    )
+}
+
+/// A reader that fails behind these bytes is told, and a first part of the answer is out.
+fn is_read(alloc: Global, bytes: &[u8], want: &[u8]) -> Result<bool, Fail> {
+    let mut two = filled_replica(alloc, 2)?;
+    let mut reader = Counted::new(Slow {
+        bytes,
+        size: 4,
+        fails: true,
+    });
+    let mut writer = Counted::new(Vec::new(alloc));
+    let result = serve_peer(alloc, &mut two, &mut reader, &mut writer);
+    Ok(
+        result == Err(ServeFault::Read)
+            && reader.faults() == 1
+            && want.starts_with(writer.into_inner().as_slice()),
+    )
+}
+
+#[test]
+fn peers_are_answered_as_far_as_the_writer_goes(rt: HostRuntime) -> Result<(), Fail> {
+    let back = brought_back(rt.alloc())?;
+    let there = brought_there(rt.alloc(), back.as_slice())?;
+    assert!(rt; back.len() > 62);
+    for room in 0..=back.len() {
+        assert!(rt;
+            is_written(rt.alloc(), there.as_slice(), room, back.as_slice())?,
+            "{room}"
+        );
     }
     Ok(())
 }
 
 #[test]
-fn calls_may_move_nothing(rt: HostRuntime) -> Result<(), Fail> {
-    let mut one = replica(rt.alloc(), 1)?;
-    let told = moved(rt.alloc(), &mut one, QUIET);
-    assert!(rt;
-        told == Ok(Synced {
-            learned: 0,
-            sent: 0
-        })
-    );
+fn peers_are_answered_as_far_as_the_reader_goes(rt: HostRuntime) -> Result<(), Fail> {
+    let back = brought_back(rt.alloc())?;
+    let there = brought_there(rt.alloc(), back.as_slice())?;
+    for count in 0..there.len() {
+        assert!(rt;
+            is_read(rt.alloc(), &there[..count], back.as_slice())?,
+            "{count}"
+        );
+    }
     Ok(())
 }
 

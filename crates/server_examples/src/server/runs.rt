@@ -1,8 +1,7 @@
 //! Command lines, settings files and what runs print.
 
+use super::Narrow;
 use super::network::{Client, Machine};
-use super::rows::{ACK, ANSWER, HELLO, OPEN, OPENED, REQUEST};
-use super::{Narrow, Ticking, is_joined, joined};
 use archive::{ListArchive, StoreFault};
 use stamp::ReplicaNo;
 use std::alloc::Global;
@@ -558,32 +557,6 @@ fn runs_and_reports(rt: HostRuntime) {
             "{said}"
         );
     }
-}
-
-/// The clock that is given stands in the answer, and more than one piece of input is read.
-#[test]
-fn runs_at_a_moment(rt: HostRuntime) -> Result<(), Fail> {
-    let mut text = joined(rt.alloc(), &[HELLO, OPEN, REQUEST])?;
-    for _ in 0..5000 {
-        text.push_str(" ")?;
-    }
-    let words = ["uahist", "answer", "--hex", "--now", "116444736000000000"];
-    let mut reader = Counted::new(text.as_bytes());
-    let mut writer = Counted::new(Vec::new(rt.alloc()));
-    let ending = run(
-        rt.alloc(),
-        &words,
-        &mut Kept(rt.alloc()),
-        &mut Memories(rt.alloc()),
-        &mut machine(rt.alloc()),
-        &mut reader,
-        &mut writer,
-        &mut Counted::new(Vec::new(rt.alloc())),
-        &mut Ticking(7),
-    );
-    assert!(rt; ending.is_ok());
-    assert!(rt; is_joined(writer.into_inner().as_slice(), &[ACK, OPENED, ANSWER, "\n"]));
-    Ok(())
 }
 
 /// What is said of this ending, and the exit status.

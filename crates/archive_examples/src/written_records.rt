@@ -1,25 +1,26 @@
-ghost use Rattle.std.specs.Prelude.{◌≡◌, ◌<◌, false, IfOk, IsTrue};
+//! Records, their bytes, and what a list of them says of a node and a moment.
+
+ghost use Rattle.std.specs.Prelude.{◌≡◌, ◌<◌, false, IsTrue};
 ghost use Rattle.std.specs.Ordering.{is_eq};
 ghost use Rattle.records.specs.Lists.{IsApart};
-ghost use Rattle.records.specs.Records.{stamp_cmp, name_cmp};
+ghost use Rattle.records.specs.Records.{stamp_cmp};
 ghost use Rattle.records.specs.Spelling.{IsRecord};
 
-use super::*;
-use stamp::{ReplicaNo, Vector};
+use crate::archives::{is_int, node, shows, value};
+use records::{
+    Entry, Held, HistoryUpdateType, Moment, Record, RecordFault, current_of, entries_of,
+    put_record, read_record,
+};
+use stamp::ReplicaNo;
 use std::alloc::{AllocError, Global};
 use std::test::Fail;
-use ua_binary::{NodeId, Text, TryClone};
-use ua_variant::{DataValue, Scalar, Variant};
+use ua_binary::{Text, TryClone};
 
 /// Insert 7 at source time 10 of node ns=1;s=T, the first record of replica 1, with tick 100.
 const INSERT_7: [u8; 50] = [
     2, 1, 1, 0, 0, 0, 0, 0, 0, 0, 100, 0, 0, 0, 0, 0, 0, 0, 3, 1, 0, 1, 0, 0, 0, b'T', 10, 0, 0, 0,
     0, 0, 0, 0, 0, 0, 1, 3, 0, 0, 0, b'a', b'n', b'n', 1, 6, 7, 0, 0, 0,
 ];
-
-fn node(alloc: Global) -> Result<NodeId, AllocError> {
-    Ok(NodeId::Named(1, Text::from_str(alloc, "T")?))
-}
 
 /// A record of one update at this node and source time 10; of an Int32, or a delete.
 fn record(
@@ -28,15 +29,9 @@ fn record(
     tick: i64,
     asked: HistoryUpdateType,
     written: Option<i32>,
-) -> Result<Record, AllocError>
-    ensures { IfOk result (λ r. r.origin ≡ origin) }
-{
+) -> Result<Record, AllocError> {
     let node = node(alloc)?;
     let user = Text::from_str(alloc, "ann")?;
-    let value = match written {
-        Some(n) => Some(Variant::Scalar(Scalar::Int32(n))),
-        None => None,
-    };
     Ok(Record {
         origin,
         number: 1,
@@ -45,39 +40,15 @@ fn record(
         time: Moment::at(10),
         asked,
         user,
-        value: DataValue {
-            value,
-            status: None,
-            source_time: None,
-            source_pico: None,
-            server_time: None,
-            server_pico: None,
-        },
+        value: value(written),
     })
-}
-
-/// Whether a value is this Int32.
-fn is_int(v: &DataValue, n: i32) -> bool {
-    match &v.value {
-        Some(Variant::Scalar(Scalar::Int32(m))) => *m == n,
-        _ => false,
-    }
-}
-
-/// Whether a value is there exactly where this Int32 is, and is it.
-fn is_shown(value: &Option<DataValue>, n: Option<i32>) -> bool {
-    match (value, n) {
-        (Some(v), Some(n)) => is_int(v, n),
-        (None, None) => true,
-        _ => false,
-    }
 }
 
 /// Whether these entries have these kinds and show these values.
 fn are_shown(entries: &[Entry], shown: &[(HistoryUpdateType, Option<i32>)]) -> bool {
     let mut same = entries.len() == shown.len();
     for (entry, (kind, n)) in entries.iter().zip(shown) {
-        same = same && is_shown(&entry.value, *n) && entry.kind == *kind;
+        same = same && shows(&entry.value, *n) && entry.kind == *kind;
     }
     same
 }
@@ -116,7 +87,7 @@ fn shows_entries(
 }
 
 /// Whether two records have two ticks.
-#[tactic(auto, using(crate::proofs::Orders::apart_by_test))]
+#[tactic(auto, using(records::proofs::Orders::apart_by_test))]
 fn have_two_ticks(a: &Record, b: &Record) -> bool
     ensures { IsTrue result → is_eq (stamp_cmp a.now b.now) ≡ false }
 {
@@ -124,7 +95,7 @@ fn have_two_ticks(a: &Record, b: &Record) -> bool
 }
 
 /// Whether two records have two origins.
-#[tactic(auto, using(crate::proofs::Orders::apart_by_origin))]
+#[tactic(auto, using(records::proofs::Orders::apart_by_origin))]
 fn have_two_origins(a: &Record, b: &Record) -> bool
     ensures { IsTrue result → is_eq (stamp_cmp a.now b.now) ≡ false }
 {
@@ -225,47 +196,6 @@ fn two_updates_in_both_orders(rt: HostRuntime) -> Result<(), Fail> {
         for first in 0..2 {
             assert!(rt; holds(rt.alloc(), case, first)?);
         }
-    }
-    Ok(())
-}
-
-/// The first records of these replicas, in the other order.
-#[tactic(auto, using(crate::proofs::Orders::names_apart))]
-fn firsts_of(alloc: Global, one: ReplicaNo, two: ReplicaNo) -> Result<Vec<Record>, AllocError>
-    requires { one ≡ two → ⊥ }
-    ensures { IfOk result (λ v. IsApart name_cmp v.items) }
-{
-    let eight = record(alloc, two, 100, HistoryUpdateType::Insert, Some(8))?;
-    let seven = record(alloc, one, 100, HistoryUpdateType::Insert, Some(7))?;
-    Ok(vec![in alloc; eight, seven]?)
-}
-
-/// Whether records are this replica's.
-fn are_of(records: &[Record], origin: ReplicaNo) -> bool {
-    let mut theirs = true;
-    for r in records {
-        theirs = theirs && r.origin == origin;
-    }
-    theirs
-}
-
-/// How many records beyond the vector of the first record of replica 1 are told, at this limit, of
-/// the first records of replicas 1 and 2; and whether they are replica 2's.
-fn told_of_two(alloc: Global, limit: usize) -> Result<(usize, bool), Fail> {
-    let (Some(one), Some(two)) = (ReplicaNo::new(1), ReplicaNo::new(2)) else {
-        return Ok((0, false));
-    };
-    let mut vector = Vector::new();
-    vector.raise(one, 1);
-    let records = firsts_of(alloc, one, two)?;
-    let told = missing_of(alloc, &records, &vector, limit)?;
-    Ok((told.len(), are_of(&told, two)))
-}
-
-#[test]
-fn missing_records(rt: HostRuntime) -> Result<(), Fail> {
-    for (limit, told) in [(10usize, 1usize), (1, 1), (0, 0)] {
-        assert!(rt; told_of_two(rt.alloc(), limit)? == (told, true));
     }
     Ok(())
 }
@@ -448,40 +378,6 @@ fn fault_of_both(
     let mut bytes = Vec::from_slice(alloc, front)?;
     bytes.extend_from_slice(rest)?;
     Ok(fault_of(alloc, &bytes))
-}
-
-/// Whether the moments of replica 1's and replica 2's records at one tick are told apart, each with a
-/// live value of its own.
-fn are_apart(alloc: Global, one: ReplicaNo, two: ReplicaNo) -> Result<bool, Fail> {
-    let insert_7 = record(alloc, one, 100, HistoryUpdateType::Insert, Some(7))?;
-    let insert_8 = record(alloc, two, 100, HistoryUpdateType::Insert, Some(8))?;
-    let node = node(alloc)?;
-    let close = Moment { ticks: 10, pico: 5 };
-    let later = Record {
-        time: close,
-        ..insert_8
-    };
-    let first = story_of(alloc, &[insert_7], &node, close)?;
-    let second = story_of(alloc, &[later], &node, close)?;
-    Ok(first.is_empty() && second.len() == 1)
-}
-
-#[test]
-fn moments(rt: HostRuntime) -> Result<(), Fail> {
-    let (Some(one), Some(two)) = (ReplicaNo::new(1), ReplicaNo::new(2)) else {
-        return Ok(());
-    };
-    assert!(rt; are_apart(rt.alloc(), one, two)?);
-    assert!(rt; Moment::new(10, 10_000).is_none());
-    assert!(rt; Moment::new(10, 5) == Some(Moment { ticks: 10, pico: 5 }));
-    assert!(rt; Moment::at(-1) < Moment { ticks: -1, pico: 1 });
-    assert!(rt;
-        Moment {
-            ticks: -1,
-            pico: 9999
-        } < Moment::at(0)
-    );
-    Ok(())
 }
 
 #[test]
