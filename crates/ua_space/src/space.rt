@@ -4,7 +4,7 @@ ghost use Rattle.std.specs.Prelude.{◌≡◌, ◌<◌, ◌^◌, length, All, ma
 ghost use Rattle.std.specs.List.{AllByRecursion};
 ghost use Rattle.ua_binary.specs.Binary.{node_of as id_of_lent};
 ghost use Rattle.ua_space.specs.Plan.{planned, HasPlannedId, HasFolder, HasShortPlan, folder_of, variable_of, has_type};
-ghost use Rattle.ua_space.specs.Space.{node_at, value_type_at, IsShortId, HasShortId};
+ghost use Rattle.ua_space.specs.Space.{node_at, value_type_at, IsShortId, HasShortId, IsShortLayout};
 ghost use Rattle.ua_space.specs.Attributes.{attribute_at, IsShortAnswered};
 ghost use Rattle.ua_services.specs.Browsing.{browse_fields, IsShortReference};
 ghost use Rattle.ua_space.specs.References.{browse_at};
@@ -78,6 +78,14 @@ impl Space {
             layout,
             places,
         })
+    }
+
+    /// Its layout, in which each id is short.
+    pub(crate) fn layout(&self) -> &Layout
+        ensures laid { result.now ≡ self.now }
+        ensures short { IsShortLayout result.now }
+    {
+        &self.layout
     }
 
     /// Whether the id is of a node. It takes no memory.
