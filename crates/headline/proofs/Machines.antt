@@ -75,7 +75,7 @@ run_append (e ∷ es) fs w = run_append es fs (step w e)
 
 updates_lawful : (i : ℕ) (events : List Event) → AreUpdates i events → AllByRecursion IsLawfulEvent events
 updates_lawful i [] are = tt
-updates_lawful i (e ∷ es) are = (subst IsLawfulEvent (sym are.0.2) are.0.3, updates_lawful i es are.1)
+updates_lawful i (e ∷ es) are = (subst IsLawfulEvent (sym are.0.2) (are.0.3, are.0.4, are.0.5), updates_lawful i es are.1)
 
 exchange_lawful : (i : ℕ) (e : Event) → IsExchange i e → IsLawfulEvent e
 exchange_lawful i e (inl sends) = subst IsLawfulEvent (sym sends.2) tt

@@ -263,7 +263,7 @@ goes_then x xs beside (inr none) = subst (λ (l : List Taken). GoesOn l beside) 
 on_way : (p : Party) (A : Content) (x : Taken) (xs : List Taken) (beside : List ℕ) → GoesOn (x ∷ xs) beside → IsWord p A x.result x.said → IsOnWay p A x.said xs beside
 on_way p A x xs beside goes (inr told) = inr told
 on_way p A x xs beside (inl on) (inl none) = absurd (true≢false (sym on.0 ∙ none.1))
-on_way p A x xs beside (inr last) (inl none) = inl (none.0, last)
+on_way p A x xs beside (inr last) (inl none) = inl (none.0, last.0, last.1)
 
 -- one end takes what is on its way, and then the other what it said; each frame is less to come
 trade : (n : ℕ) (p q : Party) (R S : Content) (w : World) (i j : ℕ) (s t : Site) (a b : Side) (xs ys : List Taken) (word came rest later came' rest' later' beside beside' : List ℕ) → p.id ≡ q.id → (p.own ≡ q.own → ⊥) → IsParty p → IsParty q
@@ -284,25 +284,24 @@ trade (suc n) p q R S w i j s t a b [] ys word came rest later came' rest' later
     )
 trade (suc n) p q R S w i j s t a b (x ∷ xs) ys word came rest later came' rest' later' beside beside' id apart party party' other less one two at same at' same' answered answered' goes goes' way frames out frames' out' = elim way [
   | inl none ↦ absurd (no_frame x.frame (map (λ t. t.frame) xs) came rest later frames (sym (nothing none.0 none.1 none.2) ∙ out))
-  | inr told ↦ by told.0 told.2 (ap (λ (l : List ℕ). l ++ (flat_map (λ t. t.said) ys ++ beside')) (sym told.1) ∙ out)
+  | inr told ↦
+      let m : Message = told.0 in
+      let whole : frame_of m ++ (flat_map (λ t. t.said) ys ++ beside') ≡ came ++ later = ap (λ (l : List ℕ). l ++ (flat_map (λ t. t.said) ys ++ beside')) (sym told.1) ∙ out in
+      let spelled = from_spelled q b.content m party' two.lawful told.2 in
+      let f = first_frame m x.frame (map (λ t. t.frame) xs) came rest later (flat_map (λ t. t.said) ys ++ beside') spelled frames whole in
+      let got = took p a x m f.0 f.1 spelled (from_checked q p b.content m (sym id) (λ e. apart (sym e)) told.2) in
+      let here = received_in w i j s t p q a b x m (λ e. other (sym e)) at same at' same' told.2 got in
+      let between = between_then p q R S a b x m one two told.2 got in
+      let said = word_of p (turn_of p a x) x.result x.said answered.0.1 (answers_to p a.standing.state a.content x.way (received p a.standing x.frame.kind x.frame.body) one.lawful) in
+      let more = trade n q p S R (run here.0 w) j i (record t { content = b.content }) (record s { content = (after p a x).content }) b (after p a x) ys xs x.said came' rest' later' f.2 rest later beside' beside (sym id)
+      (λ e. apart (sym e)) party' party (λ e. other (sym e)) (omega (arith, less)) two between here.2.there refl here.2.here refl answered' answered.1 goes' (goes_then x xs beside goes)
+      (on_way p (after p a x).content x xs beside goes said) frames' (sym (append_assoc x.said (flat_map (λ t. t.said) xs) beside) ∙ out') f.3 f.4 in
+      trades_then w i j s t (after p a x).content b.content (after_all p a (x ∷ xs)).content (after_all q b ys).content here
+      (swapped (run here.0 w) j i (record t { content = b.content }) (record s { content = (after p a x).content }) (after_all q b ys).content (after_all p a (x ∷ xs)).content more)
 ]
   where
     nothing : word ≡ [] → ys ≡ [] → beside' ≡ [] → word ++ (flat_map (λ t. t.said) ys ++ beside') ≡ []
     nothing e f g = ap (λ (l : List ℕ). l ++ (flat_map (λ t. t.said) ys ++ beside')) e ∙ (ap (λ (l : List Taken). flat_map (λ t. t.said) l ++ beside') f ∙ g)
-
-    by : (m : Message) → IsFrom q b.content m → frame_of m ++ (flat_map (λ t. t.said) ys ++ beside') ≡ came ++ later → Trades w i j s t (after_all p a (x ∷ xs)).content (after_all q b ys).content
-    by m from whole =
-        let spelled = from_spelled q b.content m party' two.lawful from in
-        let f = first_frame m x.frame (map (λ t. t.frame) xs) came rest later (flat_map (λ t. t.said) ys ++ beside') spelled frames whole in
-        let got = took p a x m f.0 f.1 spelled (from_checked q p b.content m (sym id) (λ e. apart (sym e)) from) in
-        let here = received_in w i j s t p q a b x m (λ e. other (sym e)) at same at' same' from got in
-        let between = between_then p q R S a b x m one two from got in
-        let word' = word_of p (turn_of p a x) x.result x.said answered.0.1 (answers_to p a.standing.state a.content x.way (received p a.standing x.frame.kind x.frame.body) one.lawful) in
-        let more = trade n q p S R (run here.0 w) j i (record t { content = b.content }) (record s { content = (after p a x).content }) b (after p a x) ys xs x.said came' rest' later' f.2 rest later beside' beside (sym id)
-        (λ e. apart (sym e)) party' party (λ e. other (sym e)) (omega (arith, less)) two between here.2.there refl here.2.here refl answered' answered.1 goes' (goes_then x xs beside goes)
-        (on_way p (after p a x).content x xs beside goes word') frames' (sym (append_assoc x.said (flat_map (λ t. t.said) xs) beside) ∙ out') f.3 f.4 in
-        trades_then w i j s t (after p a x).content b.content (after_all p a (x ∷ xs)).content (after_all q b ys).content here
-        (swapped (run here.0 w) j i (record t { content = b.content }) (record s { content = (after p a x).content }) (after_all q b ys).content (after_all p a (x ∷ xs)).content more)
 
 -- ---- two archives
 

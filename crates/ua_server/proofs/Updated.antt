@@ -185,17 +185,18 @@ done_within own (d ∷ ds) R r h = done_within own ds (after R (outcome R own d.
 lawful_done : (own : ℕ) (ds : List (Request × Operation)) (R : Content) → AllByRecursion IsAskedShort ds → ((r : Record) → Has (done_all own ds R) r → IsLawfulRecord r)
     → (es : List (Request × Operation)) × AllByRecursion IsLawfulUpdate es × (done_all own es R ≡ done_all own ds R)
 lawful_done own [] R asked lawful = ([], tt, refl)
-lawful_done own (d ∷ ds) R asked lawful = go (outcome R own d.0 d.1) refl
+lawful_done own (d ∷ ds) R asked lawful = go (λ S asks. lawful_done own ds S asked.1 asks) (outcome R own d.0 d.1) refl
   where
-    go : (o : Outcome) → outcome R own d.0 d.1 ≡ o → (es : List (Request × Operation)) × AllByRecursion IsLawfulUpdate es × (done_all own es R ≡ done_all own (d ∷ ds) R)
-    go (Refused code) e =
+    go : ((S : Content) → ((r : Record) → Has (done_all own ds S) r → IsLawfulRecord r) → (es : List (Request × Operation)) × AllByRecursion IsLawfulUpdate es × (done_all own es S ≡ done_all own ds S)) → (o : Outcome) → outcome R own d.0 d.1 ≡ o
+        → (es : List (Request × Operation)) × AllByRecursion IsLawfulUpdate es × (done_all own es R ≡ done_all own (d ∷ ds) R)
+    go rest (Refused code) e =
         let same : after R (outcome R own d.0 d.1) ≡ R = ap (after R) e in
-        let more = lawful_done own ds R asked.1 (λ r h. lawful r (subst (λ (S : Content). Has (done_all own ds S) r) (sym same) h)) in
+        let more = rest R (λ r h. lawful r (subst (λ (S : Content). Has (done_all own ds S) r) (sym same) h)) in
         (more.0, more.1, more.2 ∙ ap (done_all own ds) (sym same))
-    go (Added code new) e =
+    go rest (Added code new) e =
         let put_there : after R (outcome R own d.0 d.1) ≡ put new R = ap (after R) e in
         let held : Has (done_all own (d ∷ ds) R) new = done_within own ds (after R (outcome R own d.0 d.1)) new (subst (λ (S : Content). Has S new) (sym put_there) (has-put new R new (inl refl))) in
-        let more = lawful_done own ds (after R (outcome R own d.0 d.1)) asked.1 lawful in
+        let more = rest (after R (outcome R own d.0 d.1)) lawful in
         (d ∷ more.0, (asked_lawfully R own d.0 d.1 code new asked.0.0 asked.0.1 e (lawful new held), more.1), more.2)
 
 -- ---- as events
@@ -209,7 +210,7 @@ run_done (d ∷ ds) w i s at =
 
 are_updates : (i : ℕ) (ds : List (Request × Operation)) → AllByRecursion IsLawfulUpdate ds → AreUpdates i (map (λ d. Operates i d.0 d.1) ds)
 are_updates i [] lawful = tt
-are_updates i (d ∷ ds) lawful = ((d.0, d.1, refl, lawful.0), are_updates i ds lawful.1)
+are_updates i (d ∷ ds) lawful = ((d.0, d.1, refl, lawful.0.0, lawful.0.1, lawful.0.2), are_updates i ds lawful.1)
 
 pub updates_made : (site : service.Site) (start last : Standing) (came : List ℕ) (used : Outside) (out : List ℕ) (ending : Ending) (w : World) (i : ℕ) (s : Replica) → AllByRecursion HasShortId site.settings.space.variables
     → IsServed (chunks site) start came used out ending last → ((r : Record) → Has last.content r → IsLawfulRecord r) → IsSite w i s → s.number ≡ site.own → s.content ≡ start.content

@@ -93,7 +93,7 @@ pub fn a_call_that_ends_joins<A: Archive, B: Archive>(caller: &A, peer: &B)
 pub fn calls_are_exchanges<A: Archive, B: Archive>(caller: &A, peer: &B)
     ensures { (a : A) (b : B) (w : World) (i j : ℕ) (s t : Replica) → CanMeet (A.state caller.now) (B.state peer.now) → (A.state a).honest → (B.state b).honest
         → AreEnds (A.state caller.now) (A.state a) (B.state peer.now) (B.state b) → (i ≡ j → ⊥) → IsSite w i s → s.content ≡ (A.state caller.now).content → IsSite w j t → t.content ≡ (B.state peer.now).content
-        → (R S : Content) × IsHeld (A.state a) R × IsHeld (B.state b) S × (events : List Event) × AreExchanges i j events × AreUpdated w (run events w) i j s t R S }
+        → (R S : Content) × IsHeld (A.state a) R × IsHeld (B.state b) S × ((events : List Event) × AreExchanges i j events × AreUpdated w (run events w) i j s t R S) }
 {
     is_party(caller);
     is_party(peer);
