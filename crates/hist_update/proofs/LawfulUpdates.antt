@@ -1,7 +1,10 @@
 -- A content of lawful records has no others behind some operations.
-use Rattle.std.proofs.Common.{◌≡◌, ℕ, ◌+◌, ◌≤◌, unwrap_or, ℤ, pos, ◌≤ℤ◌, Bool, true, false, List, [], ◌∷◌, ◌++◌, Option, Some, None, IfSome, Result, Ok, Err, refl, sym, subst, arith}
-use Rattle.std.specs.Prelude.{if◌then◌else◌, int_lt}
+use Rattle.std.proofs.Common.{◌≡◌, ℕ, ◌+◌, ◌≤◌, length, unwrap_or, ℤ, pos, ◌≤ℤ◌, Bool, true, false, List, [], ◌∷◌, ◌++◌, Option, Some, None, IfSome, Result, Ok, Err, refl, sym, ap, subst, arith}
+use Rattle.std.specs.Prelude.{⊤, if◌then◌else◌, int_lt}
 use Rattle.std.specs.Int.{w64}
+use Rattle.std.specs.Str.{is_utf8}
+use Rattle.ua_binary.specs.Binary.{IsNodeId}
+use Rattle.records.specs.Records.{is_delete}
 use Rattle.std.specs.Int.RustNames.{FitsSigned}
 use Rattle.std.specs.List.{AllByRecursion}
 use Rattle.std.specs.Option.{option_and_then}
@@ -23,7 +26,7 @@ use Rattle.ua_binary.specs.Format.{◌>>=◌}
 use Rattle.ua_binary.specs.declared.codes.Status.{Status}
 use Rattle.ua_binary.specs.declared.codes.TheConstants.Status.{BAD_ENCODING_LIMITS_EXCEEDED, BAD_INVALID_TIMESTAMP, BAD_TYPE_MISMATCH}
 use Rattle.hist_update.specs.declared.request.Request.{Request}
-use Rattle.hist_update.specs.Outcome.{Operation, Write, DeleteAt, Change, Outcome, Refused, Added, IsRequest, change_by, sized, fits, source_time, source_pico, is_too_long, writing, deletion, outcome, record_by}
+use Rattle.hist_update.specs.Outcome.{Operation, Write, DeleteAt, Change, Outcome, Refused, Added, IsRequest, id_length, change_by, sized, fits, source_time, source_pico, is_too_long, writing, deletion, outcome, record_by}
 use Rattle.archive.specs.Steps.{Does}
 use Rattle.archive.specs.Store.{Mark, Fine, Starved, Met}
 use Rattle.hist_update.specs.Updates.{left_by, update_all}
@@ -113,19 +116,19 @@ IsWritten (Write asked type v) = is_delete asked ≡ false
 IsWritten (DeleteAt time) = ⊤
 
 operation_by : (request : Request) (own : ℕ) (op : Operation) (change : Change) → IsWritten op → change_by request own op ≡ Ok change → FitsSigned w64 (ticks_of change.time) → IsDataValue change.value → IsOperation op
-operation_by request own (DeleteAt time) change written e fits value = go (int_lt (ticks_of time) (pos 1)) e
+operation_by request own (DeleteAt time) change written e within value = go (int_lt (ticks_of time) (pos 1)) e
   where
     go : (x : Bool) → (if x then Err BAD_INVALID_TIMESTAMP else Ok (deletion time)) ≡ Ok change → FitsSigned w64 (ticks_of time)
     go true h = no_change _ _ h
-    go false h = subst (λ (c : Change). FitsSigned w64 (ticks_of c.time)) (sym (same_change _ _ h)) fits
-operation_by request own (Write asked type v) change written e fits value = (written, by_time (source_time v) refl e)
+    go false h = subst (λ (c : Change). FitsSigned w64 (ticks_of c.time)) (sym (same_change _ _ h)) within
+operation_by request own (Write asked type v) change written e within value = (written, by_time (source_time v) refl e)
   where
     by_size : (t : ℤ) → source_time v ≡ Some t → (x : Bool) → (if x then Err BAD_ENCODING_LIMITS_EXCEEDED else Ok (writing asked v t)) ≡ Ok change → IsDataValue v
     by_size t at true h = no_change _ _ h
     by_size t at false h =
         let same : writing asked v t ≡ change = same_change _ _ h in
         let is : IsDataValue (record v { source_time = None }) = subst (λ (c : Change). IsDataValue c.value) (sym same) value in
-        let there : FitsSigned w64 (ticks_of t) = subst (λ (c : Change). FitsSigned w64 (ticks_of c.time)) (sym same) fits in
+        let there : FitsSigned w64 (ticks_of t) = subst (λ (c : Change). FitsSigned w64 (ticks_of c.time)) (sym same) within in
         (is.0, is.1, stamp_fits v.source_time (source_pico v) t (few_by v.source_pico is.3) at there, is.3, is.4, is.5)
 
     by_type : (t : ℤ) → source_time v ≡ Some t → (x : Bool) → ((if x then Ok t else Err BAD_TYPE_MISMATCH) >>= λ time. sized request own (writing asked v time)) ≡ Ok change → IsDataValue v

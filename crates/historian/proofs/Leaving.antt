@@ -1,9 +1,18 @@
 -- What a message leaves, as operations one after the other.
-use Rattle.std.proofs.Common.{◌≡◌, ℕ, Bool, List, [], ◌∷◌, ◌++◌, map, length, Option, Some, None, Result, Ok, Err, refl, sym, ap, ◌∙◌}
+use Rattle.std.proofs.Common.{◌≡◌, ◌≤◌, ℕ, ℤ, pos, int_eq, Bool, true, false, List, [], ◌∷◌, ◌++◌, map, length, Option, Some, None, IfSome, Result, Ok, Err, IfOk, refl, sym, ap, ◌∙◌}
+use Rattle.std.specs.Prelude.{if◌then◌else◌}
+use Rattle.std.specs.List.{AllByRecursion}
+use Rattle.std.specs.Option.{ok_or}
+use Rattle.ua_binary.specs.Format.{◌>>=◌}
+use Rattle.ua_binary.specs.declared.codes.TheConstants.Status.{BAD_HISTORY_OPERATION_UNSUPPORTED, BAD_NODE_ID_UNKNOWN}
 use Rattle.ua_binary.specs.declared.codes.Status.{Status}
 use Rattle.ua_binary.specs.declared.values.NodeId.{NodeId}
 use Rattle.ua_binary.specs.declared.values.Ticks.{Ticks}
+use Rattle.ua_variant.specs.declared.data.DataValue.{DataValue}
+use Rattle.ua_variant.specs.declared.update_type.HistoryUpdateType.{HistoryUpdateType}
+use Rattle.ua_variant.specs.declared.update_type.HistoryUpdateType.TheVariants.{Insert, Replace, Update}
 use Rattle.ua_variant.specs.declared.value.ValueType.{ValueType}
+use Rattle.records.specs.Records.{is_delete}
 use Rattle.records.specs.Contents.{Content}
 use Rattle.archive.specs.Fault.{status_told}
 use Rattle.archive.specs.Store.{Mark, Fine, Starved, Met}
@@ -15,9 +24,12 @@ use Rattle.ua_services.specs.Updates.{Details, UpdateData, DeleteRawModified, De
 use Rattle.ua_session.specs.Sessions as session
 use Rattle.ua_session.specs.declared.fault.SessionFault.{SessionFault}
 use Rattle.ua_space.specs.declared.layout.Layout.{Layout}
+use Rattle.ua_space.specs.Space.{Node, Root, Objects, NamespaceArray, State, OfFolder, OfVariable, FolderType, BaseDataVariableType, node_at, type_of_node, HasShortId}
+use Rattle.ua_space.proofs.Found.{short_found}
 use Rattle.hist_update.specs.declared.request.Request.{Request}
 use Rattle.hist_update.specs.Codes.{asked_by, list_refusal, first_other}
-use Rattle.hist_update.specs.Outcome.{Operation, DeleteAt, outcome, after}
+use Rattle.hist_update.specs.Outcome.{Operation, Write, DeleteAt, id_length, outcome, after}
+use Rattle.hist_update.proofs.LawfulUpdates.{IsWritten}
 use Rattle.hist_update.specs.Updates as update
 use Rattle.hist_read.specs.declared.query.Query.{Query}
 use Rattle.hist_read.specs.Node.{Behind}
@@ -28,6 +40,7 @@ use Rattle.historian.specs.Reading as reading
 use Rattle.historian.specs.Answers.{Answer, Response, Values, Histories, Updated}
 use Rattle.historian.specs.Services as service
 use Rattle.historian.specs.Requests as request
+use Rattle.historian.proofs.Variables.{archived_length}
 
 -- ---- operations, one after the other
 

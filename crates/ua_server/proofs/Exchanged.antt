@@ -10,6 +10,7 @@ use Rattle.records.specs.Lists.{Has}
 use Rattle.records.specs.Records.{missing}
 use Rattle.records.specs.Contents.{Content, merged}
 use Rattle.records.specs.declared.record.Record.{Record}
+use Rattle.archive.specs.declared.fault.LearnFault.TheVariants as refused
 use Rattle.archive.specs.Store.{Store, IsLawfulContent}
 use Rattle.exchange.specs.declared.fault.ExchangeFault.{ExchangeFault}
 use Rattle.exchange.specs.declared.fault.ExchangeFault.TheVariants as exchange
@@ -96,7 +97,7 @@ turns p Failed R m lawful = fails p R exchange.Frame
 answers : (p : Party) (way : Way) (R : Content) (rs : List Record) (turn : Turn) → IsAnswer p turn → IsAnswer p (gone way R rs turn)
 answers p Clear R rs turn is = is
 answers p Unread R rs turn is = fails p R exchange.OutOfMemory
-answers p (Stopped k f) R rs turn is = fails p (merged (take k rs) R) _
+answers p (Stopped k f) R rs turn is = fails p (merged (take k rs) R) (exchange.Learn k (refused.Store f))
 answers p Starved R rs turn is = fails p turn.content exchange.OutOfMemory
 answers p (Met f) R rs turn is = fails p turn.content (exchange.Store f)
 

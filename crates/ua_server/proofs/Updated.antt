@@ -1,15 +1,23 @@
 -- What a client's connection leaves, as updates one after the other.
-use Rattle.std.proofs.Common.{◌≡◌, ℕ, zero, suc, Bool, true, false, List, [], ◌∷◌, ◌++◌, map, Option, Some, None, Result, Ok, Err, refl, sym, ap, ◌∙◌, subst}
+use Rattle.std.proofs.Common.{◌≡◌, ℕ, zero, suc, Bool, true, false, List, [], ◌∷◌, ◌++◌, map, Option, Some, None, Result, Ok, Err, refl, sym, ap, ◌∙◌, subst, inl, inr}
+use Rattle.std.specs.List.{AllByRecursion}
 use Rattle.std.specs.Prelude.{drop, if◌then◌else◌}
 use Rattle.ua_binary.specs.declared.codes.Status.{Status}
 use Rattle.ua_binary.specs.declared.values.Ticks.{Ticks}
-use Rattle.records.specs.Contents.{Content}
+use Rattle.records.specs.Lists.{Has}
+use Rattle.records.specs.Contents.{Content, IsWithin, put}
+use Rattle.records.specs.Spelling.{IsLawfulRecord}
+use Rattle.records.specs.declared.record.Record.{Record}
+use Rattle.records.proofs.PutLemmas.{has-put}
 use Rattle.archive.specs.Store.{Starved}
 use Rattle.archive.specs.Steps.{step}
 use Rattle.hist_update.specs.declared.request.Request.{Request}
-use Rattle.hist_update.specs.Outcome.{Operation, outcome, after}
+use Rattle.hist_update.specs.Outcome.{Operation, Outcome, Refused, Added, IsRequest, outcome, after}
+use Rattle.hist_update.specs.Laws.{IsSpelled, IsOperation}
+use Rattle.hist_update.proofs.LawfulUpdates.{asked_lawfully}
+use Rattle.ua_space.specs.Space.{HasShortId}
 use Rattle.historian.specs.Services as service
-use Rattle.historian.proofs.Leaving.{done_all, By, by_none, by_then, leaves_message}
+use Rattle.historian.proofs.Leaving.{done_all, IsAskedShort, By, by_none, by_then, leaves_message}
 use Rattle.uacp.specs.Stream.{Piece}
 use Rattle.uacp.specs.declared.types.Kind.{Kind}
 use Rattle.uacp.specs.declared.types.Kind.TheVariants as kind
