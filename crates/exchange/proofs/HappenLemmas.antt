@@ -112,7 +112,7 @@ sends_by a b pool later i v limit (Err end) gives = record {
 
 -- ---- an event in a world
 
-set_same : {X : Type 0} (xs : List X) (i : ℕ) (x : X) → slice_get xs i ≡ Some x → slice_set xs i x ≡ xs
+pub set_same : {X : Type 0} (xs : List X) (i : ℕ) (x : X) → slice_get xs i ≡ Some x → slice_set xs i x ≡ xs
 set_same [] i x e = refl
 set_same (y ∷ ys) zero x e = ap (λ z. z ∷ ys) (sym (same_Some _ _ e))
 set_same (y ∷ ys) (suc i) x e = ap (λ l. y ∷ l) (set_same ys i x e)
@@ -156,7 +156,7 @@ module _ (sites : List Site) (pool : List (List Record)) where
   step_half (Restarts i) s S some is = ap (now_there sites i s) is ∙ set_same sites i s some
 
 module _ {A : Type 0} (state : A → Store) where
-  site_there : (archives : List A) (sites : List Site) (i : ℕ) (a : A) → AreSites state archives sites → slice_get archives i ≡ Some a → (s : Site) × (slice_get sites i ≡ Some s) × IsSiteOf (state a) s
+  pub site_there : (archives : List A) (sites : List Site) (i : ℕ) (a : A) → AreSites state archives sites → slice_get archives i ≡ Some a → (s : Site) × (slice_get sites i ≡ Some s) × IsSiteOf (state a) s
   site_there [] [] i a are e = absurd (none-some _ e)
   site_there [] (s ∷ sites) i a are e = absurd are
   site_there (x ∷ archives) [] i a are e = absurd are
@@ -170,7 +170,7 @@ module _ {A : Type 0} (state : A → Store) where
   site_none (x ∷ archives) (s ∷ sites) zero are e = absurd (none-some _ (sym e))
   site_none (x ∷ archives) (s ∷ sites) (suc i) are e = site_none archives sites i are.1 e
 
-  sites_set : (archives : List A) (sites : List Site) (i : ℕ) (b : A) (s : Site) → AreSites state archives sites → IsSiteOf (state b) s → AreSites state (slice_set archives i b) (slice_set sites i s)
+  pub sites_set : (archives : List A) (sites : List Site) (i : ℕ) (b : A) (s : Site) → AreSites state archives sites → IsSiteOf (state b) s → AreSites state (slice_set archives i b) (slice_set sites i s)
   sites_set [] [] i b s are is = tt
   sites_set [] (x ∷ sites) i b s are is = absurd are
   sites_set (x ∷ archives) [] i b s are is = absurd are

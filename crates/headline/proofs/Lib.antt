@@ -4,3 +4,4 @@ pub mod Updates
 pub mod Shown
 pub mod Paging
 pub mod Merging
+pub mod Machines

@@ -9,7 +9,7 @@ use Rattle.records.proofs.ContentLemmas.{above_left, has-join_right, join_least}
 use Rattle.records.proofs.LackLemmas.{missing_first}
 use Rattle.records.proofs.MissingLemmas.{merged_missing}
 use Rattle.exchange.specs.Worlds.{Site, World, Sends, Delivers, IsSite, run}
-use Rattle.exchange.proofs.WorldLemmas.{get-set_same}
+use Rattle.exchange.proofs.WorldLemmas.{get-set_same, get_last}
 use Rattle.headline.specs.Pasts.{Past, IsPast, IsAt, Was, world_at}
 use Rattle.headline.specs.Joins.{IsLeastAbove}
 use Rattle.headline.proofs.Times.{lawful_was, together}
@@ -27,10 +27,6 @@ pub learns_join : (p : Past) (s t : Site) (count : ℕ) → IsPast p → Was p s
     → merged (missing t.content (vec s.content) count) s.content ≡ join s.content t.content
 learns_join p s t count past a b few =
     merged_missing s.content t.content count (lawful_was p s past a).closed (lawful_was p t past b).closed (together p s t past a b).compatible few
-
-get_last : {X : Type 0} (xs : List X) (x : X) → slice_get (xs ++ (x ∷ [])) (length xs) ≡ Some x
-get_last [] x = refl
-get_last (y ∷ xs) x = get_last xs x
 
 -- what was sent is delivered whole
 exchanged : (w : World) (i j count : ℕ) (s t : Site) → IsSite w i s → IsSite w j t

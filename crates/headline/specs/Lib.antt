@@ -2,3 +2,4 @@ pub mod Pasts
 pub mod Answers
 pub mod Readings
 pub mod Joins
+pub mod Machines

@@ -29,6 +29,7 @@ ghost use Rattle.exchange.specs.Worlds.{Site, World, IsSite, Sends, Delivers, ru
 ghost use Rattle.headline.specs.Pasts.{Past, IsPast, IsAt, Was, world_at, HaveLearnedSame, AreEven, Covers, WasAnswered, WasRecorded};
 ghost use Rattle.headline.specs.Answers.{Asked, answer_of, results_of, bytes_of, AreFromEither, IsReplicaOf, IsAnswered, IsFree};
 ghost use Rattle.headline.specs.Joins.{IsLeastAbove};
+ghost use Rattle.headline.specs.Machines.{IsMachine, AreNew, AreOf, GoOn, Serves, Meet, Restarts};
 ghost use Rattle.headline.specs.Readings.{IsReading, Reaches, at_one_time, IsOfRaw, ShowsModification, IsOwn, ShowsAsLive, ShowsNoneAt, HasLater, ShowWhole, HavePages};
 
 use archive::Archive;
@@ -137,3 +138,20 @@ pub fn pages_stay(details: ReadRawModifiedDetails)
 {
     whole_reads(details);
 }
+
+/// The headline of machines: archives in use, in whatever stores. Those that begin with nothing hold what the replicas of a past do, and go on to, in pasts
+/// that go on behind it, whatever is done to them over a network: one serves a client, whatever that sends and however its connection ends; one calls another,
+/// and their call is cut off anywhere or comes to its end; one stops between its connections, and its store is opened anew. So the laws of replicas are laws of
+/// machines: two whose vectors are equal, where neither answer reports want of memory or a fault of the store, answer a read of a node's history alike.
+pub fn machines_are_replicas_of_a_past<A: Archive>()
+    ensures begin { (machines : List A) → AreNew A.state machines → (p : Past) × (p.events ≡ []) × AreOf A.state p machines }
+    ensures serve { (p : Past) (old new : List A) → AreOf A.state p old → Serves A.state old new → GoOn A.state p new }
+    ensures meet { (p : Past) (old new : List A) → AreOf A.state p old → Meet A.state old new → GoOn A.state p new }
+    ensures restart { (p : Past) (old new : List A) → AreOf A.state p old → Restarts A.state old new → GoOn A.state p new }
+    ensures replicas { (p : Past) (machines : List A) (place : ℕ) (a : A) → AreOf A.state p machines → IsMachine A.state machines place a
+        → (s : Site) × IsAt p (length p.events) place s × IsReplicaOf (A.state a) s × ((A.state a).own ≡ s.number) × ((A.state a).content ≡ s.content) }
+    ensures alike { (p : Past) (machines : List A) (i j : ℕ) (a b c d : A) (node : NodeId) (query : Query) (point : Option (List ℕ)) (one other : HistoryReadResult)
+        → AreOf A.state p machines → IsMachine A.state machines i a → IsMachine A.state machines j b → ((origin : ℕ) → vec (A.state a).content origin ≡ vec (A.state b).content origin)
+        → (A.state c).honest → (A.state d).honest → IsAnswered (A.state a) (A.state c) node query point one → IsAnswered (A.state b) (A.state d) node query point other
+        → IsFree one → IsFree other → one ≡ other }
+{}

@@ -11,11 +11,13 @@
 //! - `every_update_stands`: an update that was answered Good is shown by the reads of every replica that has
 //!   learned it, as the live value or among the modifications, with its user and its tick; the greatest stamp is live.
 //! - `pages_stay`: pages show what the first one's replica held then, whatever happens in between.
+//! - `machines_are_replicas_of_a_past`: archives that clients' connections, calls between them and restarts change hold
+//!   what the replicas of a past do.
 #![tactic(auto)]
 
 mod laws;
 
 pub use laws::{
-    archives_answer_alike, every_update_stands, merging_is_a_join, pages_stay,
+    archives_answer_alike, every_update_stands, machines_are_replicas_of_a_past, merging_is_a_join, pages_stay,
     replicas_answer_alike,
 };

@@ -1,7 +1,10 @@
 -- A content of lawful records has no others behind some operations.
-use Rattle.std.proofs.Common.{◌≡◌, ℕ, ◌+◌, ◌≤◌, unwrap_or, ℤ, pos, ◌≤ℤ◌, Bool, true, false, List, [], ◌∷◌, ◌++◌, Option, Some, None, IfSome, Result, Ok, Err, refl, sym, subst, arith}
-use Rattle.std.specs.Prelude.{if◌then◌else◌, int_lt}
+use Rattle.std.proofs.Common.{◌≡◌, ℕ, ◌+◌, ◌≤◌, length, unwrap_or, ℤ, pos, ◌≤ℤ◌, Bool, true, false, List, [], ◌∷◌, ◌++◌, Option, Some, None, IfSome, Result, Ok, Err, refl, sym, ap, subst, arith}
+use Rattle.std.specs.Prelude.{⊤, if◌then◌else◌, int_lt}
 use Rattle.std.specs.Int.{w64}
+use Rattle.std.specs.Str.{is_utf8}
+use Rattle.ua_binary.specs.Binary.{IsNodeId}
+use Rattle.records.specs.Records.{is_delete}
 use Rattle.std.specs.Int.RustNames.{FitsSigned}
 use Rattle.std.specs.List.{AllByRecursion}
 use Rattle.std.specs.Option.{option_and_then}
@@ -23,7 +26,7 @@ use Rattle.ua_binary.specs.Format.{◌>>=◌}
 use Rattle.ua_binary.specs.declared.codes.Status.{Status}
 use Rattle.ua_binary.specs.declared.codes.TheConstants.Status.{BAD_ENCODING_LIMITS_EXCEEDED, BAD_INVALID_TIMESTAMP, BAD_TYPE_MISMATCH}
 use Rattle.hist_update.specs.declared.request.Request.{Request}
-use Rattle.hist_update.specs.Outcome.{Operation, Write, DeleteAt, Change, Outcome, Refused, Added, IsRequest, change_by, sized, fits, source_time, source_pico, is_too_long, writing, deletion, outcome, record_by}
+use Rattle.hist_update.specs.Outcome.{Operation, Write, DeleteAt, Change, Outcome, Refused, Added, IsRequest, id_length, change_by, sized, fits, source_time, source_pico, is_too_long, writing, deletion, outcome, record_by}
 use Rattle.archive.specs.Steps.{Does}
 use Rattle.archive.specs.Store.{Mark, Fine, Starved, Met}
 use Rattle.hist_update.specs.Updates.{left_by, update_all}
@@ -95,6 +98,62 @@ is_change request own (Write asked type v) change lawful spelled is e = by_time 
     by_time : (o : Option ℤ) → source_time v ≡ o → ((ok_or o BAD_INVALID_TIMESTAMP >>= λ time. if fits type v.value then Ok time else Err BAD_TYPE_MISMATCH) >>= λ time. sized request own (writing asked v time)) ≡ Ok change → IsChange request own change
     by_time None p h = no_change _ _ h
     by_time (Some t) p h = by_type t (sourced v.source_time (source_pico v) t (few_by v.source_pico is.1.3) is.1.2 p) (fits type v.value) h
+
+-- ---- what is asked where the record is lawful
+
+-- the time of a moment that may be written may be written
+stamp_fits : (o : Option Ticks) (p : ℕ) (t : ℤ) → p ≤ 9999 → option_and_then (λ (s : Ticks). if int_lt s.0 (pos 1) then None else Some (moment s.0 p)) o ≡ Some t → FitsSigned w64 (ticks_of t) → IfSome o (λ s. FitsSigned w64 s.0)
+stamp_fits None p t few e fits = tt
+stamp_fits (Some s) p t few e fits = go (int_lt s.0 (pos 1)) e
+  where
+    go : (x : Bool) → (if x then None else Some (moment s.0 p)) ≡ Some t → FitsSigned w64 s.0
+    go true h = absurd (none-some _ h)
+    go false h = subst (λ u. FitsSigned w64 u) (ticks_again s.0 p few) (subst (λ u. FitsSigned w64 (ticks_of u)) (sym (same_Some _ _ h)) fits)
+
+-- a write that is no delete
+abbrev pub IsWritten : Operation → Type 0
+IsWritten (Write asked type v) = is_delete asked ≡ false
+IsWritten (DeleteAt time) = ⊤
+
+operation_by : (request : Request) (own : ℕ) (op : Operation) (change : Change) → IsWritten op → change_by request own op ≡ Ok change → FitsSigned w64 (ticks_of change.time) → IsDataValue change.value → IsOperation op
+operation_by request own (DeleteAt time) change written e within value = go (int_lt (ticks_of time) (pos 1)) e
+  where
+    go : (x : Bool) → (if x then Err BAD_INVALID_TIMESTAMP else Ok (deletion time)) ≡ Ok change → FitsSigned w64 (ticks_of time)
+    go true h = no_change _ _ h
+    go false h = subst (λ (c : Change). FitsSigned w64 (ticks_of c.time)) (sym (same_change _ _ h)) within
+operation_by request own (Write asked type v) change written e within value = (written, by_time (source_time v) refl e)
+  where
+    by_size : (t : ℤ) → source_time v ≡ Some t → (x : Bool) → (if x then Err BAD_ENCODING_LIMITS_EXCEEDED else Ok (writing asked v t)) ≡ Ok change → IsDataValue v
+    by_size t at true h = no_change _ _ h
+    by_size t at false h =
+        let same : writing asked v t ≡ change = same_change _ _ h in
+        let is : IsDataValue (record v { source_time = None }) = subst (λ (c : Change). IsDataValue c.value) (sym same) value in
+        let there : FitsSigned w64 (ticks_of t) = subst (λ (c : Change). FitsSigned w64 (ticks_of c.time)) (sym same) within in
+        (is.0, is.1, stamp_fits v.source_time (source_pico v) t (few_by v.source_pico is.3) at there, is.3, is.4, is.5)
+
+    by_type : (t : ℤ) → source_time v ≡ Some t → (x : Bool) → ((if x then Ok t else Err BAD_TYPE_MISMATCH) >>= λ time. sized request own (writing asked v time)) ≡ Ok change → IsDataValue v
+    by_type t at true h = by_size t at (is_too_long request own (writing asked v t)) h
+    by_type t at false h = no_change _ _ h
+
+    by_time : (o : Option ℤ) → source_time v ≡ o → ((ok_or o BAD_INVALID_TIMESTAMP >>= λ time. if fits type v.value then Ok time else Err BAD_TYPE_MISMATCH) >>= λ time. sized request own (writing asked v time)) ≡ Ok change → IsDataValue v
+    by_time None at h = no_change _ _ h
+    by_time (Some t) at h = by_type t at (fits type v.value) h
+
+-- what adds a lawful record is a lawful request
+pub asked_lawfully : (R : Content) (own : ℕ) (request : Request) (op : Operation) (code : Status) (r : Record) → id_length request.node ≤ 256 → IsWritten op → outcome R own request op ≡ Added code r → IsLawfulRecord r
+    → IsRequest request × IsSpelled request × IsOperation op
+asked_lawfully R own request op code r short written e lawful =
+    let m = made R own request op code r e in
+    let node : r.node ≡ request.node = ap (λ (z : Record). z.node) m.is in
+    let user : r.user ≡ request.user = ap (λ (z : Record). z.user) m.is in
+    let time : r.time ≡ m.change.time = ap (λ (z : Record). z.time) m.is in
+    let value : r.value ≡ m.change.value = ap (λ (z : Record). z.value) m.is in (
+      record { node = short; user = subst (λ (u : List ℕ). length u ≤ 256) user lawful.user.0 },
+      record { node = subst IsNodeId node lawful.node; user = subst (λ (u : List ℕ). is_utf8 u ≡ true) user lawful.user.1 },
+      operation_by request own op m.change written m.asked (subst (λ (t : ℤ). FitsSigned w64 (ticks_of t)) time lawful.time.1) (subst IsDataValue value lawful.value),
+    )
+
+-- ---- new records are lawful
 
 lawful_new : (R : Content) (own : ℕ) (request : Request) (op : Operation) (code : Status) (r : Record) → IsReplica own → IsRequest request → IsSpelled request → IsOperation op → IsLawfulContent R
     → outcome R own request op ≡ Added code r → IsLawfulRecord r

@@ -17,7 +17,7 @@ use Rattle.archive.specs.declared.reading.Direction.TheVariants.{Forward}
 use Rattle.archive.specs.Fault.{status_told}
 use Rattle.archive.specs.Reading.{range_of}
 use Rattle.archive.specs.Steps.{Marked, give, step, memory, and_then, each}
-use Rattle.archive.specs.Store.{Mark, Fine, Starved, Met, is_break, faults_in}
+use Rattle.archive.specs.Store.{Mark, Fine, is_break, faults_in}
 use Rattle.hist_update.specs.declared.request.Request.{Request}
 use Rattle.hist_update.specs.Codes.{asked_by, list_refusal, first_other}
 use Rattle.hist_update.specs.Outcome.{Operation, Write, DeleteAt, Outcome, change_by, outcome, code_in, after}

@@ -13,7 +13,7 @@ use Rattle.exchange.proofs.LeftLemmas.{merged_none, answered_left}
 use Rattle.ua_server.specs.Peers.{Taken, Side, after, after_all}
 use Rattle.ua_server.specs.Events.{IsSent, WereSent, AreDeliveries}
 
-delivered_here : (w : World) (i : ℕ) (s : Site) (batch count : ℕ) (rs : List Record) → IsSite w i s → slice_get w.pool batch ≡ Some rs → IsUpdated w (step w (Delivers i batch count)) i s (merged (take count rs) s.content)
+pub delivered_here : (w : World) (i : ℕ) (s : Site) (batch count : ℕ) (rs : List Record) → IsSite w i s → slice_get w.pool batch ≡ Some rs → IsUpdated w (step w (Delivers i batch count)) i s (merged (take count rs) s.content)
 delivered_here w i s batch count rs at sent =
     let there : Site = record s { content = merged (take count rs) s.content } in
     let all : option_map_or (delivered i count w.sites) (slice_get w.pool batch) w.sites ≡ delivered i count w.sites rs = ap (λ (o : Option (List Record)). option_map_or (delivered i count w.sites) o w.sites) sent in

@@ -59,7 +59,7 @@ whole_in : (bytes more : List ℕ) (h : Header) → cut bytes ≡ Ok (Some h) �
 whole_in bytes more h e = cut_append bytes more (settled bytes h e) ∙ e
 
 -- a message that went out, and what came at the other end
-first_frame : (m : Message) (piece : Piece) (pieces : List Piece) (came rest later more : List ℕ) → IsSpelled m → AreFrames came (piece ∷ pieces) rest → frame_of m ++ more ≡ came ++ later
+pub first_frame : (m : Message) (piece : Piece) (pieces : List Piece) (came rest later more : List ℕ) → IsSpelled m → AreFrames came (piece ∷ pieces) rest → frame_of m ++ more ≡ came ++ later
     → (piece.kind ≡ kind_of m) × (piece.body ≡ body_of m) × (came' : List ℕ) × AreFrames came' pieces rest × (more ≡ came' ++ later)
 first_frame m piece pieces came rest later more is frames e =
     let chunk : List ℕ = frames.0 in
@@ -81,7 +81,7 @@ first_frame m piece pieces came rest later more is frames e =
     )
 
 -- where nothing went out no frame came
-no_frame : (piece : Piece) (pieces : List Piece) (came rest later : List ℕ) → AreFrames came (piece ∷ pieces) rest → [] ≡ came ++ later → ⊥
+pub no_frame : (piece : Piece) (pieces : List Piece) (came rest later : List ℕ) → AreFrames came (piece ∷ pieces) rest → [] ≡ came ++ later → ⊥
 unfolding cut
 no_frame piece pieces came rest later frames e = go frames.0 frames.3.whole (e ∙ (ap (λ (l : List ℕ). l ++ later) frames.2 ∙ append_assoc frames.0 frames.1 later))
   where
@@ -95,7 +95,7 @@ no_frame piece pieces came rest later frames e = go frames.0 frames.3.whole (e �
 abbrev IsFaulty : Result State ExchangeFault → List ℕ → Type 0
 IsFaulty result said = (fault : ExchangeFault) × (result ≡ Err fault) × ((said ≡ []) ⊎ ((number : ℕ) × (suc number < 2 ^ 32) × (said ≡ end_frame (suc number))))
 
-numbered : (fault : ExchangeFault) → (number : ℕ) × (suc number < 2 ^ 32) × (exchange_number fault ≡ suc number)
+pub numbered : (fault : ExchangeFault) → (number : ℕ) × (suc number < 2 ^ 32) × (exchange_number fault ≡ suc number)
 numbered exchange.Frame = (0, omega arith, refl)
 numbered exchange.WrongArchive = (1, omega arith, refl)
 numbered (exchange.Learn learned cause) = (2, omega arith, refl)
@@ -117,7 +117,7 @@ fit_or s k over due = go (nat_le 1000000 s.taken) refl
     go false e = inl (rw (over, e, due) refl)
 
 module _ (p : Party) (side : Side) (t : Taken) (m : Message) (kind : t.frame.kind ≡ kind_of m) (body : t.frame.body ≡ body_of m) where
-  got_by : received p side.standing t.frame.kind t.frame.body ≡ received p side.standing (kind_of m) (body_of m)
+  pub got_by : received p side.standing t.frame.kind t.frame.body ≡ received p side.standing (kind_of m) (body_of m)
   got_by = ap (λ k. received p side.standing k t.frame.body) kind ∙ ap (received p side.standing (kind_of m)) body
 
   turn_by : (r : Result Message ExchangeFault) → received p side.standing (kind_of m) (body_of m) ≡ r → turn_of p side t ≡ answered_to p side.standing.state side.content t.way r
@@ -195,10 +195,10 @@ no_end_told p side t number small kind body over writes fine =
 -- ---- how the other end's dialog ends
 
 -- nothing more was written, or one frame that tells a fault
-abbrev IsLastWord : List ℕ → Type 0
+abbrev pub IsLastWord : List ℕ → Type 0
 IsLastWord beside = (beside ≡ []) ⊎ ((number : ℕ) × (suc number < 2 ^ 32) × (beside ≡ end_frame (suc number)))
 
-abbrev GoesOn : List Taken → List ℕ → Type 0
+abbrev pub GoesOn : List Taken → List ℕ → Type 0
 GoesOn [] beside = IsLastWord beside
 GoesOn (y ∷ ys) beside = ((is_open y.result ≡ true) × GoesOn ys beside) ⊎ ((ys ≡ []) × (beside ≡ []))
 

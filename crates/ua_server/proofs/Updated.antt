@@ -1,15 +1,23 @@
 -- What a client's connection leaves, as updates one after the other.
-use Rattle.std.proofs.Common.{◌≡◌, ℕ, zero, suc, Bool, true, false, List, [], ◌∷◌, ◌++◌, map, Option, Some, None, Result, Ok, Err, refl, sym, ap, ◌∙◌, subst}
+use Rattle.std.proofs.Common.{◌≡◌, ℕ, zero, suc, Bool, true, false, List, [], ◌∷◌, ◌++◌, map, Option, Some, None, Result, Ok, Err, refl, sym, ap, ◌∙◌, subst, inl, inr}
+use Rattle.std.specs.List.{AllByRecursion}
 use Rattle.std.specs.Prelude.{drop, if◌then◌else◌}
 use Rattle.ua_binary.specs.declared.codes.Status.{Status}
 use Rattle.ua_binary.specs.declared.values.Ticks.{Ticks}
-use Rattle.records.specs.Contents.{Content}
+use Rattle.records.specs.Lists.{Has}
+use Rattle.records.specs.Contents.{Content, IsWithin, put}
+use Rattle.records.specs.Spelling.{IsLawfulRecord}
+use Rattle.records.specs.declared.record.Record.{Record}
+use Rattle.records.proofs.PutLemmas.{has-put}
 use Rattle.archive.specs.Store.{Starved}
 use Rattle.archive.specs.Steps.{step}
 use Rattle.hist_update.specs.declared.request.Request.{Request}
-use Rattle.hist_update.specs.Outcome.{Operation, outcome, after}
+use Rattle.hist_update.specs.Outcome.{Operation, Outcome, Refused, Added, IsRequest, outcome, after}
+use Rattle.hist_update.specs.Laws.{IsSpelled, IsOperation}
+use Rattle.hist_update.proofs.LawfulUpdates.{asked_lawfully}
+use Rattle.ua_space.specs.Space.{HasShortId}
 use Rattle.historian.specs.Services as service
-use Rattle.historian.proofs.Leaving.{done_all, By, by_none, by_then, leaves_message}
+use Rattle.historian.proofs.Leaving.{done_all, IsAskedShort, By, by_none, by_then, leaves_message}
 use Rattle.uacp.specs.Stream.{Piece}
 use Rattle.uacp.specs.declared.types.Kind.{Kind}
 use Rattle.uacp.specs.declared.types.Kind.TheVariants as kind
@@ -52,7 +60,7 @@ replies_made own R went starved one other = record { by = λ outside. by (given.
     by true left = other.by left
     by false left = one.by left
 
-module _ (site : service.Site) where
+module _ (site : service.Site) (ids : AllByRecursion HasShortId site.settings.space.variables) where
   replies_refuse : (standing : Standing) (code : Status) → Replies site.own standing.content (client.refuse standing code)
   replies_refuse standing code = replies_made site.own standing.content _ _ (replies_at site.own standing.content _ (by_none site.own standing.content)) (replies_at site.own standing.content _ (by_none site.own standing.content))
 
@@ -76,7 +84,7 @@ module _ (site : service.Site) where
   replies_come standing state (taken.Message number message) = record {
     by = λ o.
         let done = given.by_marks (service.answered site (given.clock o).0 message standing.client.sessions standing.content) (given.clock o).1 in
-        (replies_told standing state number message (given.clock o).0 done.0 ((leaves_message site (given.clock o).0 message standing.client.sessions standing.content).by (given.clock o).1.marks)).by done.1;
+        (replies_told standing state number message (given.clock o).0 done.0 ((leaves_message site ids (given.clock o).0 message standing.client.sessions standing.content).by (given.clock o).1.marks)).by done.1;
   }
   replies_come standing state (taken.Aborted number) = replies_at site.own standing.content _ (by_none site.own standing.content)
   replies_come standing state taken.Closed = replies_at site.own standing.content _ (by_none site.own standing.content)
@@ -168,6 +176,37 @@ module _ (site : service.Site) where
   served_by start last came used out (Err TooLong) served = by_answers start came served.0 used _ served.1
   served_by start last came used out (Err OutOfMemory) served = by_answers start came served.0 used _ served.1
 
+-- ---- those that add a record are lawful
+
+abbrev IsLawfulUpdate : Request × Operation → Type 0
+IsLawfulUpdate d = IsRequest d.0 × IsSpelled d.0 × IsOperation d.1
+
+one_within : (R : Content) (o : Outcome) → IsWithin R (after R o)
+one_within R (Refused code) r h = h
+one_within R (Added code new) r h = has-put new R r (inr h)
+
+done_within : (own : ℕ) (ds : List (Request × Operation)) (R : Content) → IsWithin R (done_all own ds R)
+done_within own [] R r h = h
+done_within own (d ∷ ds) R r h = done_within own ds (after R (outcome R own d.0 d.1)) r (one_within R (outcome R own d.0 d.1) r h)
+
+-- where all records that are held then are lawful, lawful updates do the same
+lawful_done : (own : ℕ) (ds : List (Request × Operation)) (R : Content) → AllByRecursion IsAskedShort ds → ((r : Record) → Has (done_all own ds R) r → IsLawfulRecord r)
+    → (es : List (Request × Operation)) × AllByRecursion IsLawfulUpdate es × (done_all own es R ≡ done_all own ds R)
+lawful_done own [] R asked lawful = ([], tt, refl)
+lawful_done own (d ∷ ds) R asked lawful = go (λ S asks. lawful_done own ds S asked.1 asks) (outcome R own d.0 d.1) refl
+  where
+    go : ((S : Content) → ((r : Record) → Has (done_all own ds S) r → IsLawfulRecord r) → (es : List (Request × Operation)) × AllByRecursion IsLawfulUpdate es × (done_all own es S ≡ done_all own ds S)) → (o : Outcome) → outcome R own d.0 d.1 ≡ o
+        → (es : List (Request × Operation)) × AllByRecursion IsLawfulUpdate es × (done_all own es R ≡ done_all own (d ∷ ds) R)
+    go rest (Refused code) e =
+        let same : after R (outcome R own d.0 d.1) ≡ R = ap (after R) e in
+        let more = rest R (λ r h. lawful r (subst (λ (S : Content). Has (done_all own ds S) r) (sym same) h)) in
+        (more.0, more.1, more.2 ∙ ap (done_all own ds) (sym same))
+    go rest (Added code new) e =
+        let put_there : after R (outcome R own d.0 d.1) ≡ put new R = ap (after R) e in
+        let held : Has (done_all own (d ∷ ds) R) new = done_within own ds (after R (outcome R own d.0 d.1)) new (subst (λ (S : Content). Has S new) (sym put_there) (has-put new R new (inl refl))) in
+        let more = rest (after R (outcome R own d.0 d.1)) lawful in
+        (d ∷ more.0, (asked_lawfully R own d.0 d.1 code new asked.0.0 asked.0.1 e (lawful new held), more.1), more.2)
+
 -- ---- as events
 
 run_done : (ds : List (Request × Operation)) (w : World) (i : ℕ) (s : Replica) → IsSite w i s → IsUpdated w (run (map (λ d. Operates i d.0 d.1) ds) w) i s (done_all s.number ds s.content)
@@ -177,13 +216,15 @@ run_done (d ∷ ds) w i s at =
     let later = run_done ds (run (map (Operates i d.0) (d.1 ∷ [])) w) i (record s { content = after s.content (outcome s.content s.number d.0 d.1) }) first.here in
     record { here = later.here; others = λ j other. later.others j other ∙ first.others j other; pool = later.pool ∙ first.pool }
 
-are_updates : (i : ℕ) (ds : List (Request × Operation)) → AreUpdates i (map (λ d. Operates i d.0 d.1) ds)
-are_updates i [] = tt
-are_updates i (d ∷ ds) = ((d.0, d.1, refl), are_updates i ds)
+are_updates : (i : ℕ) (ds : List (Request × Operation)) → AllByRecursion IsLawfulUpdate ds → AreUpdates i (map (λ d. Operates i d.0 d.1) ds)
+are_updates i [] lawful = tt
+are_updates i (d ∷ ds) lawful = ((d.0, d.1, refl, lawful.0.0, lawful.0.1, lawful.0.2), are_updates i ds lawful.1)
 
-pub updates_made : (site : service.Site) (start last : Standing) (came : List ℕ) (used : Outside) (out : List ℕ) (ending : Ending) (w : World) (i : ℕ) (s : Replica) → IsServed (chunks site) start came used out ending last
-    → IsSite w i s → s.number ≡ site.own → s.content ≡ start.content → (events : List Event) × AreUpdates i events × IsUpdated w (run events w) i s last.content
-updates_made site start last came used out ending w i s served at number content =
-    let by = served_by site start last came used out ending served in
-    let left : done_all s.number by.0 s.content ≡ last.content = ap (λ (own : ℕ). done_all own by.0 s.content) number ∙ (ap (done_all site.own by.0) content ∙ sym by.1) in
-    (map (λ d. Operates i d.0 d.1) by.0, are_updates i by.0, subst (λ (R : Content). IsUpdated w (run (map (λ d. Operates i d.0 d.1) by.0) w) i s R) left (run_done by.0 w i s at))
+pub updates_made : (site : service.Site) (start last : Standing) (came : List ℕ) (used : Outside) (out : List ℕ) (ending : Ending) (w : World) (i : ℕ) (s : Replica) → AllByRecursion HasShortId site.settings.space.variables
+    → IsServed (chunks site) start came used out ending last → ((r : Record) → Has last.content r → IsLawfulRecord r) → IsSite w i s → s.number ≡ site.own → s.content ≡ start.content
+    → (events : List Event) × AreUpdates i events × IsUpdated w (run events w) i s last.content
+updates_made site start last came used out ending w i s ids served lawful at number content =
+    let by = served_by site ids start last came used out ending served in
+    let left : done_all s.number by.0 s.content ≡ last.content = ap (λ (own : ℕ). done_all own by.0 s.content) number ∙ (ap (done_all site.own by.0) content ∙ sym by.2) in
+    let done = lawful_done s.number by.0 s.content by.1 (λ r h. lawful r (subst (λ (R : Content). Has R r) left h)) in
+    (map (λ d. Operates i d.0 d.1) done.0, are_updates i done.0 done.1, subst (λ (R : Content). IsUpdated w (run (map (λ d. Operates i d.0 d.1) done.0) w) i s R) (done.2 ∙ left) (run_done done.0 w i s at))

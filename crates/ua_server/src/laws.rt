@@ -1,17 +1,22 @@
 //! What holds of every connection.
 
+ghost use Rattle.std.specs.List.{AllByRecursion};
 ghost use Rattle.std.specs.Prelude.{◌≡◌, ◌+◌, ◌++◌, ℕ, List, [], length, Option, None, Some, Result, Ok, Err};
 ghost use Rattle.stamp.specs.Limits.{IsReplica};
-ghost use Rattle.records.specs.Contents.{join};
+ghost use Rattle.records.specs.Lists.{Has};
+ghost use Rattle.records.specs.Contents.{Content, join};
+ghost use Rattle.records.specs.Spelling.{IsLawfulRecord};
+ghost use Rattle.records.specs.declared.record.Record.{Record};
 ghost use Rattle.exchange.specs.Named.{Party, asking_frame};
 ghost use Rattle.exchange.specs.Dialogs.{Standing as Stand, party_of, IsHeld};
 ghost use Rattle.exchange.specs.Meetings.{CanMeet};
 ghost use Rattle.exchange.specs.Worlds.{World, Site as Replica, Event, IsSite, IsUpdated, run};
 ghost use Rattle.uacp.specs.Stream.{Piece};
+ghost use Rattle.ua_space.specs.Space.{HasShortId};
 ghost use Rattle.historian.specs.Services.{Site};
 ghost use Rattle.ua_server.specs.Given.{Outside};
 ghost use Rattle.ua_server.specs.Run.{answered, stepped};
-ghost use Rattle.ua_server.specs.Events.{WereSent, AreDeliveries, AreUpdates};
+ghost use Rattle.ua_server.specs.Events.{WereSent, AreDeliveries, AreUpdates, AreExchanges, AreUpdated, AreEnds};
 ghost use Rattle.ua_server.specs.Serving.{IsServed};
 ghost use Rattle.ua_server.specs.Wires.{IsFirstPart};
 ghost use Rattle.ua_server.specs.Calling.{calling};
@@ -41,12 +46,14 @@ pub fn answers_go_item_by_item()
         → answered (chunks site) standing bytes outside ≡ stepped (answered (chunks site)) (chunks site) standing bytes outside (next standing bytes) }
 {}
 
-/// What a client's connection leaves is what events of a world leave: however it ended, updates at this replica, one after the other,
-/// make of the world one in which it holds what the connection left it, and all else is as it was.
+/// What a client's connection leaves is what events of a world leave: however it ended, updates at this replica, one after the other, each as its
+/// conditions ask, make of the world one in which it holds what the connection left it, and all else is as it was. The ids of the settings' variables have
+/// at most 256 bytes, as in all settings, and each record that is held then is lawful, as in each archive in use.
 #[tactic(auto, using(crate::proofs::Updated::updates_made))]
 pub fn connections_are_updates()
-    ensures { (site : Site) (start last : Standing) (came : List ℕ) (used : Outside) (out : List ℕ) (ending : Ending) (w : World) (i : ℕ) (s : Replica) → IsServed (chunks site) start came used out ending last
-        → IsSite w i s → s.number ≡ site.own → s.content ≡ start.content → (events : List Event) × AreUpdates i events × IsUpdated w (run events w) i s last.content }
+    ensures { (site : Site) (start last : Standing) (came : List ℕ) (used : Outside) (out : List ℕ) (ending : Ending) (w : World) (i : ℕ) (s : Replica) → AllByRecursion HasShortId site.settings.space.variables
+        → IsServed (chunks site) start came used out ending last → ((r : Record) → Has last.content r → IsLawfulRecord r) → IsSite w i s → s.number ≡ site.own → s.content ≡ start.content
+        → (events : List Event) × AreUpdates i events × IsUpdated w (run events w) i s last.content }
 {}
 
 /// What a dialog with a peer leaves is what events of a world leave: where the records of each frame were sent by some replica as
@@ -76,6 +83,17 @@ pub fn a_call_that_ends_joins<A: Archive, B: Archive>(caller: &A, peer: &B)
         → Talks calling (A.state caller.now) (A.state a) came out rest (Some (Ok Parted.Done)) last → Talks responding (B.state peer.now) (B.state b) came' out' rest' ending last'
         → IsFirstPart came out' → IsFirstPart came' (asking_frame (party_of (A.state caller.now)) (A.state caller.now).content ++ out)
         → IsHeld (A.state a) (join (A.state caller.now).content (B.state peer.now).content) × IsHeld (B.state b) (join (A.state caller.now).content (B.state peer.now).content) }
+{
+    is_party(caller);
+    is_party(peer);
+}
+
+/// What a call of one replica by another leaves is what events of a world leave: however it ended at either, as long as what came at each is a first part of
+/// what went out at the other, sends and deliveries at the two make of the world one in which each holds what its dialog left it, and all else is as it was.
+pub fn calls_are_exchanges<A: Archive, B: Archive>(caller: &A, peer: &B)
+    ensures { (a : A) (b : B) (w : World) (i j : ℕ) (s t : Replica) → CanMeet (A.state caller.now) (B.state peer.now) → (A.state a).honest → (B.state b).honest
+        → AreEnds (A.state caller.now) (A.state a) (B.state peer.now) (B.state b) → (i ≡ j → ⊥) → IsSite w i s → s.content ≡ (A.state caller.now).content → IsSite w j t → t.content ≡ (B.state peer.now).content
+        → (R S : Content) × IsHeld (A.state a) R × IsHeld (B.state b) S × ((events : List Event) × AreExchanges i j events × AreUpdated w (run events w) i j s t R S) }
 {
     is_party(caller);
     is_party(peer);
