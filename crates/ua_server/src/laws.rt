@@ -26,6 +26,8 @@ ghost use Rattle.ua_server.specs.Client.{Standing, Ending, Item, whole, ends, an
 use crate::outcome::ServeFault;
 use crate::peers::Parted;
 use archive::Archive;
+use ua_settings::Settings;
+use ua_space::ids_are_short;
 
 /// A connection has 1,000,000 chunks at most: the next one ends it by `TooLong` and nothing is written, no chunk before it
 /// does, and each chunk that is answered and doesn't end the connection is counted.
@@ -45,6 +47,13 @@ pub fn answers_go_item_by_item()
     ensures { (site : Site) (standing : Standing) (bytes : List ℕ) (outside : Outside)
         → answered (chunks site) standing bytes outside ≡ stepped (answered (chunks site)) (chunks site) standing bytes outside (next standing bytes) }
 {}
+
+/// The ids of the variables of any settings have at most 256 bytes.
+pub fn ids_of_settings_are_short(settings: &Settings)
+    ensures { AllByRecursion HasShortId settings.now.space.variables }
+{
+    ids_are_short(settings.space());
+}
 
 /// What a client's connection leaves is what events of a world leave: however it ended, updates at this replica, one after the other, each as its
 /// conditions ask, make of the world one in which it holds what the connection left it, and all else is as it was. The ids of the settings' variables have

@@ -35,7 +35,7 @@ pub use files::SettingsFiles;
 pub use hexed::{HexFault, answer_hex};
 pub use laws::{
     a_call_that_ends_joins, answers_go_item_by_item, calls_are_exchanges, chunks_are_counted,
-    connections_are_updates, dialogs_are_deliveries,
+    connections_are_updates, dialogs_are_deliveries, ids_of_settings_are_short,
 };
 pub use line::{Line, LineFault, read_line};
 pub use network::{Listener, Network};
