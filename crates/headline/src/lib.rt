@@ -18,6 +18,6 @@
 mod laws;
 
 pub use laws::{
-    archives_answer_alike, every_update_stands, machines_are_replicas_of_a_past, merging_is_a_join, pages_stay,
-    replicas_answer_alike,
+    archives_answer_alike, every_update_stands, machines_are_replicas_of_a_past, merging_is_a_join,
+    pages_stay, replicas_answer_alike,
 };

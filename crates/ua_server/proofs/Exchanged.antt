@@ -198,7 +198,7 @@ trades_then w i j s t A B C D first more = (
   first.0 ++ more.0,
   each_append i j first.0 more.0 first.1 more.1,
   subst (λ (v : World). AreUpdated w v i j s t C D) (sym (run_append first.0 more.0 w))
-  (record { here = more.2.here; there = more.2.there; others = λ k a b. more.2.others k a b ∙ first.2.others k a b }),
+      (record { here = more.2.here; there = more.2.there; others = λ k a b. more.2.others k a b ∙ first.2.others k a b }),
 )
 
 -- what came to one end, and what that made of it
@@ -232,8 +232,8 @@ received_in w i j s t p q a b x m other one same two same' is got = by m is got
           Sends j is.1 batch.count ∷ Delivers i (length w.pool) left.0 ∷ [],
           (inr (inl (is.1, batch.count, refl)), (inl (inr (length w.pool, left.0, refl)), tt)),
           subst (λ (R : Content). AreUpdated w (run (Sends j is.1 batch.count ∷ Delivers i (length w.pool) left.0 ∷ []) w) i j s t R b.content) now
-          (subst (λ (R : Content). AreUpdated w (run (Sends j is.1 batch.count ∷ Delivers i (length w.pool) left.0 ∷ []) w) i j s t (merged (take left.0 (missing t.content is.1 batch.count)) s.content) R) same'
-          (sent_over w i j batch.count left.0 is.1 s t other one two)),
+              (subst (λ (R : Content). AreUpdated w (run (Sends j is.1 batch.count ∷ Delivers i (length w.pool) left.0 ∷ []) w) i j s t (merged (take left.0 (missing t.content is.1 batch.count)) s.content) R) same'
+              (sent_over w i j batch.count left.0 is.1 s t other one two)),
         )
 
 between_then : (p q : Party) (R S : Content) (a b : Side) (x : Taken) (m : Message) → IsBetween R S a.content → IsBetween S R b.content → IsFrom q b.content m
