@@ -104,14 +104,14 @@ ends_at p = ap (λ (l : List Event). run l p.start) (take_all (length p.events) 
 module _ {A : Type 0} (state : A → Store) where
   -- ---- the beginning
 
-  first_site : A → Site
+  abbrev first_site : A → Site
   first_site a = record { id = (state a).id; number = (state a).own; content = [] }
 
   first_sites : (machines : List A) → AreInUse state machines → AllByRecursion (λ a. (state a).content ≡ []) machines → AreSites state machines (map first_site machines)
   first_sites [] used empty = tt
   first_sites (a ∷ machines) used empty = (record { id = refl; number = refl; content = held_by (state a) [] used.0 (λ u. empty.0) }, first_sites machines used.1 empty.1)
 
-  first_world : List A → World
+  abbrev first_world : List A → World
   first_world machines = record { sites = map first_site machines; pool = [] }
 
   pub begun : (machines : List A) → AreNew state machines → (p : Past) × (p.events ≡ []) × AreOf state p machines
