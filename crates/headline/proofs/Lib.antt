@@ -5,3 +5,4 @@ pub mod Shown
 pub mod Paging
 pub mod Merging
 pub mod Machines
+pub mod Told

@@ -3,3 +3,4 @@ pub mod Answers
 pub mod Readings
 pub mod Joins
 pub mod Machines
+pub mod Told

@@ -1,6 +1,6 @@
 //! The laws. Each function's contract is a law.
 
-ghost use Rattle.std.specs.Prelude.{◌≡◌, ◌⊎◌, ◌↔◌, ◌||◌, ℕ, ◌+◌, ◌≤◌, ◌<◌, max, Bool, true, false, List, [], ◌∷◌, length, filter, map, Option, Some, None, Ok};
+ghost use Rattle.std.specs.Prelude.{◌≡◌, ◌⊎◌, ◌↔◌, ◌||◌, ℕ, ◌+◌, ◌≤◌, ◌<◌, max, Bool, true, false, List, [], ◌∷◌, length, filter, map, slice_get, Option, Some, None, Ok};
 ghost use Rattle.stamp.specs.Limits.{lift};
 ghost use Rattle.stamp.specs.Numbers.{number_of};
 ghost use Rattle.ua_binary.specs.Binary.{IsNodeId};
@@ -12,10 +12,17 @@ ghost use Rattle.ua_services.specs.declared.history.HistoryReadResult.{HistoryRe
 ghost use Rattle.records.specs.Lists.{Has};
 ghost use Rattle.records.specs.Moments.{ticks_of};
 ghost use Rattle.records.specs.Records.{missing, is_beyond, is_delete};
-ghost use Rattle.records.specs.Contents.{IsLatest, numbers_of, vec, top, join, merged};
+ghost use Rattle.records.specs.Contents.{Content, IsWithin, IsLatest, numbers_of, vec, top, join, merged};
 ghost use Rattle.records.specs.declared.record.Record.{Record};
 ghost use Rattle.records.specs.declared.shown.Entry.{Entry};
-ghost use Rattle.archive.specs.Store.{HasContent};
+ghost use Rattle.archive.specs.Store.{Mark, HasContent};
+ghost use Rattle.ua_binary.specs.declared.values.Ticks.{Ticks as Time};
+ghost use Rattle.ua_services.specs.Updates.{Details};
+ghost use Rattle.ua_services.specs.declared.updates.HistoryUpdateResult.{HistoryUpdateResult};
+ghost use Rattle.ua_session.specs.Sessions.{State as Sessions, user_at};
+ghost use Rattle.historian.specs.Answers.{Updated};
+ghost use Rattle.historian.specs.Requests.{HistoryUpdate, request_in};
+ghost use Rattle.historian.specs.Services.{Site as Server, answered};
 ghost use Rattle.hist_update.specs.declared.request.Request.{Request};
 ghost use Rattle.hist_update.specs.Outcome.{Operation};
 ghost use Rattle.hist_update.specs.Laws.{IsGood, IsRecordOf};
@@ -29,6 +36,7 @@ ghost use Rattle.exchange.specs.Worlds.{Site, World, IsSite, Sends, Delivers, ru
 ghost use Rattle.headline.specs.Pasts.{Past, IsPast, IsAt, Was, world_at, HaveLearnedSame, AreEven, Covers, WasAnswered, WasRecorded};
 ghost use Rattle.headline.specs.Answers.{Asked, answer_of, results_of, bytes_of, AreFromEither, IsReplicaOf, IsAnswered, IsFree};
 ghost use Rattle.headline.specs.Joins.{IsLeastAbove};
+ghost use Rattle.headline.specs.Told.{IsHeldFor};
 ghost use Rattle.headline.specs.Machines.{IsMachine, AreNew, AreOf, GoOn, Serves, Meet, Restarts};
 ghost use Rattle.headline.specs.Readings.{IsReading, Reaches, at_one_time, IsOfRaw, ShowsModification, IsOwn, ShowsAsLive, ShowsNoneAt, HasLater, ShowWhole, HavePages};
 
@@ -154,4 +162,15 @@ pub fn machines_are_replicas_of_a_past<A: Archive>()
         → AreOf A.state p machines → IsMachine A.state machines i a → IsMachine A.state machines j b → ((origin : ℕ) → vec (A.state a).content origin ≡ vec (A.state b).content origin)
         → (A.state c).honest → (A.state d).honest → IsAnswered (A.state a) (A.state c) node query point one → IsAnswered (A.state b) (A.state d) node query point other
         → IsFree one → IsFree other → one ≡ other }
+{}
+
+/// What a client is told is Good is held: where the message of an activated session is a HistoryUpdate and is answered by results, each operation whose code is
+/// Good has its record in what is held behind it, asked for by the session's user at the message's moment. The operations are those that the details ask
+/// where something is held that has all that was held before the message, for the details before them were done.
+#[tactic(auto, using(crate::proofs::Told::good_held))]
+pub fn what_is_told_as_good_is_held()
+    ensures { (site : Server) (now : Time) (message : List ℕ) (token : NodeId) (details : List Details) (sessions : Sessions) (R : Content) (marks : List Mark) (results : List HistoryUpdateResult)
+        → request_in message ≡ Ok (token, Some (HistoryUpdate details)) → (answered site now message sessions R marks).0.0.0 ≡ Ok (Updated results)
+        → (user : List ℕ) × (user_at sessions token ≡ Ok user) × ((i : ℕ) (d : Details) (result : HistoryUpdateResult) → slice_get details i ≡ Some d → slice_get results i ≡ Some result
+        → (S : Content) × IsWithin R S × IsHeldFor site.own site.settings.space user now S d result (answered site now message sessions R marks).0.1) }
 {}

@@ -13,11 +13,12 @@
 //! - `pages_stay`: pages show what the first one's replica held then, whatever happens in between.
 //! - `machines_are_replicas_of_a_past`: archives that clients' connections, calls between them and restarts change hold
 //!   what the replicas of a past do.
+//! - `what_is_told_as_good_is_held`: behind a message each operation that its response tells as Good has its record.
 #![tactic(auto)]
 
 mod laws;
 
 pub use laws::{
     archives_answer_alike, every_update_stands, machines_are_replicas_of_a_past, merging_is_a_join,
-    pages_stay, replicas_answer_alike,
+    pages_stay, replicas_answer_alike, what_is_told_as_good_is_held,
 };

@@ -1,0 +1,28 @@
+-- What the response to a HistoryUpdate tells, and what is held for it (Part 4, 5.11.5).
+use Rattle.std.specs.Prelude.{◌≡◌, ℕ, List, [], map, slice_get, Some, Ok}
+use Rattle.ua_binary.specs.declared.codes.Status.{Status}
+use Rattle.ua_binary.specs.declared.values.NodeId.{NodeId}
+use Rattle.ua_binary.specs.declared.values.Ticks.{Ticks}
+use Rattle.ua_variant.specs.declared.value.ValueType.{ValueType}
+use Rattle.ua_services.specs.Updates.{Details, UpdateData, DeleteRawModified, DeleteAtTime, Other}
+use Rattle.ua_services.specs.declared.updates.HistoryUpdateResult.{HistoryUpdateResult}
+use Rattle.ua_space.specs.declared.layout.Layout.{Layout}
+use Rattle.records.specs.Contents.{Content}
+use Rattle.hist_update.specs.Codes.{asked_by}
+use Rattle.hist_update.specs.Outcome.{Operation, DeleteAt}
+use Rattle.hist_update.specs.Updates.{writes, deletes_at, doomed}
+use Rattle.hist_update.specs.Laws.{IsGood, HasRecordOf}
+use Rattle.historian.specs.Updating.{node_asked, type_asked, asked_for}
+
+-- the operations that details ask of a variable of this type where this is held: its values, the times to delete at, or those of the live values in the stretch to delete
+abbrev pub operations_of : ValueType → Content → Details → List Operation
+operations_of type R (UpdateData d) = writes (asked_by d.1.0) type d.1.1
+operations_of type R (DeleteRawModified d) = map DeleteAt (doomed R d.0 d.1.1.0.0 d.1.1.1.0)
+operations_of type R (DeleteAtTime d) = deletes_at d.1
+operations_of type R Other = []
+
+-- where a user asked at this moment for the details, over R, each operation whose code is Good in the result has its record in S
+pub record IsHeldFor (own : ℕ) (space : Layout) (user : List ℕ) (now : Ticks) (R : Content) (details : Details) (result : HistoryUpdateResult) (S : Content) : Type 0 where
+  pub held : (k : ℕ) (code : Status) → slice_get result.operation_results k ≡ Some code → IsGood code
+      → (node : NodeId) × (type : ValueType) × (operation : Operation) × (node_asked details ≡ Some node) × (type_asked space (Some node) ≡ Ok type) × (slice_get (operations_of type R details) k ≡ Some operation)
+      × HasRecordOf S (asked_for user now node) own operation
