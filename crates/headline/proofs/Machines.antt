@@ -1,5 +1,5 @@
 -- Machines hold what the replicas of a past do.
-use Rattle.std.proofs.Common.{◌≡◌, ℕ, zero, suc, false, List, [], ◌∷◌, ◌++◌, map, take, length, Option, Some, None, refl, sym, ap, ◌∙◌, subst, arith, inl, inr, ◌⊎◌}
+use Rattle.std.proofs.Common.{◌≡◌, ℕ, zero, suc, List, [], ◌∷◌, ◌++◌, map, length, Option, Some, refl, sym, ap, ◌∙◌, subst, arith, inl, inr}
 use Rattle.std.specs.Prelude.{slice_get, slice_set}
 use Rattle.std.specs.List.{AllByRecursion}
 use Rattle.std.proofs.lemmas.Bool.{cases_eq}
@@ -16,7 +16,7 @@ use Rattle.archive.specs.Store.{Store, IsSettled, HasContent}
 use Rattle.hist_read.specs.declared.query.Query.{Query}
 use Rattle.exchange.specs.Dialogs.{party_of, IsHeld}
 use Rattle.exchange.specs.Meetings.{CanMeet}
-use Rattle.exchange.specs.Running.{IsSiteOf, AreSites}
+use Rattle.exchange.specs.Running.{AreSites}
 use Rattle.exchange.specs.Worlds as worlds
 use Rattle.exchange.specs.Worlds.{Site, World, Event, Operates, Sends, Delivers, IsSite, IsSound, IsUpdated, step, run}
 use Rattle.exchange.proofs.WorldLemmas.{get-set_same, get-set_other}
@@ -24,12 +24,12 @@ use Rattle.exchange.proofs.HappenLemmas.{site_there, sites_set, set_same}
 use Rattle.exchange.proofs.ConverseLemmas.{IsParty}
 use Rattle.historian.specs.Services.{site_of}
 use Rattle.ua_server.specs.Client.{new_client}
-use Rattle.ua_server.specs.Events.{AreUpdates, IsExchange, AreExchanges, AreUpdated}
+use Rattle.ua_server.specs.Events.{AreUpdates, IsExchange, AreExchanges}
 use Rattle.ua_server.proofs.Updated.{updates_made}
 use Rattle.ua_server.proofs.Exchanged.{exchanged, ends_kept}
-use Rattle.headline.specs.Pasts.{IsLawfulEvent, Past, IsPast, IsBeginning, world_at, IsAt, Was, HaveLearnedSame}
+use Rattle.headline.specs.Pasts.{IsLawfulEvent, Past, IsPast, world_at, IsAt, Was, HaveLearnedSame}
 use Rattle.headline.specs.Answers.{IsReplicaOf, IsAnswered, IsFree}
-use Rattle.headline.specs.Machines.{IsInUse, GoesOn, IsMachine, AreInUse, AreNew, AreOf, GoOn, Serves, Meet, Restarts}
+use Rattle.headline.specs.Machines.{IsInUse, IsMachine, AreInUse, AreNew, AreOf, GoOn, Serves, Meet, Restarts}
 use Rattle.headline.proofs.Times.{sound_at, replica_at, learned_even}
 use Rattle.headline.proofs.Alike.{answered_alike}
 

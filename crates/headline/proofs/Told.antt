@@ -1,10 +1,8 @@
 -- What a response tells as Good is held.
 use Rattle.std.proofs.Common.{◌≡◌, ℕ, zero, suc, List, [], ◌∷◌, map, length, Option, Some, None, Result, Ok, Err, refl, sym, ap, ◌∙◌, subst}
 use Rattle.std.specs.Prelude.{slice_get}
-use Rattle.std.specs.Option.{ok_or}
 use Rattle.std.proofs.lemmas.Option.{none-some, same_Some}
 use Rattle.ua_binary.specs.declared.codes.Status.{Status}
-use Rattle.ua_binary.specs.declared.codes.TheConstants.Status.{BAD_DECODING_ERROR}
 use Rattle.ua_binary.specs.declared.values.NodeId.{NodeId}
 use Rattle.ua_binary.specs.declared.values.Ticks.{Ticks}
 use Rattle.ua_variant.specs.declared.value.ValueType.{ValueType}
@@ -13,9 +11,7 @@ use Rattle.ua_services.specs.declared.updates.HistoryUpdateResult.{HistoryUpdate
 use Rattle.ua_session.specs.Sessions.{State, user_at}
 use Rattle.ua_session.specs.declared.fault.SessionFault.{SessionFault}
 use Rattle.ua_space.specs.declared.layout.Layout.{Layout}
-use Rattle.records.specs.Lists.{Has}
 use Rattle.records.specs.Contents.{Content, IsWithin}
-use Rattle.records.specs.declared.record.Record.{Record}
 use Rattle.archive.specs.Fault.{status_told}
 use Rattle.archive.specs.Store.{Mark, Fine, Starved, Met}
 use Rattle.archive.specs.Steps.{Marked, step, memory, and_then, each}
