@@ -47,10 +47,11 @@ fn refused_nodes(rt: HostRuntime) {
     }
 }
 
-/// Whether a node's id is written as these bytes.
-fn is_node_written(alloc: Global, node: &NodeId, bytes: &[u8]) -> bool {
+/// Whether a numeric node id is written as these bytes.
+fn is_node_written(alloc: Global, namespace: u16, id: u32, bytes: &[u8]) -> bool {
+    let node = NodeId::Numeric(namespace, id);
     let mut out = Vec::new(alloc);
-    put_node_id(&mut out, node).is_ok() && out.as_slice() == bytes
+    put_node_id(&mut out, &node).is_ok() && out.as_slice() == bytes
 }
 
 #[test]
@@ -63,8 +64,7 @@ fn shortest_nodes(rt: HostRuntime) {
         (256, 85, &[2, 0, 1, 85, 0, 0, 0]),
     ];
     for (namespace, id, bytes) in nodes {
-        let node = NodeId::Numeric(namespace, id);
-        assert!(rt; is_node_written(rt.alloc(), &node, bytes), "{id}");
+        assert!(rt; is_node_written(rt.alloc(), namespace, id, bytes), "{id}");
     }
 }
 
