@@ -5,7 +5,7 @@
 
 In each round a client inserts value after value, and the program is killed (SIGKILL) while it answers. Then `dump` has to
 show each insert that was answered Good, in order, and at most one more; and Debian's sqlite3, on a copy of the files, has to
-say that the database is whole. Needs sqlite3. Prints a line a round; the first that fails ends the script by an error.
+say that the database is whole, with a current value for each record, each at a time of its own, and the last number. Needs sqlite3. Prints a line a round; the first that fails ends the script by an error.
 """
 import os, random, shutil, socket, struct, subprocess, sys, tempfile, threading, time
 from opcua import EPOCH, Client, int32, node, value_at
@@ -92,7 +92,8 @@ def whole():
     for end in ("", "-wal"):
         if os.path.exists(store + end):
             shutil.copyfile(store + end, copy + end)
-    said = subprocess.run(["sqlite3", copy, "PRAGMA integrity_check; SELECT count(*) FROM records2"], stdout=subprocess.PIPE, text=True, check=True)
+    asked = "PRAGMA integrity_check; SELECT count(*) FROM records2; SELECT count(*) FROM currents2 JOIN records2 USING (node, time, pico, tick, origin, value) WHERE live AND NOT extra; SELECT max(number) FROM vectors"
+    said = subprocess.run(["sqlite3", copy, asked], stdout=subprocess.PIPE, text=True, check=True)
     for end in ("", "-wal", "-shm"):
         if os.path.exists(copy + end):
             os.remove(copy + end)
@@ -112,7 +113,7 @@ def rounds_of_kills():
         found = dumped()
         assert [r[:2] for r in found] == [["1", str(n + 1)] for n in range(len(found))], "numbers have gaps"
         assert before + good <= len(found) <= before + good + 1, (before, good, len(found))
-        assert whole() == ["ok", str(len(found))]
+        assert whole() == ["ok"] + [str(len(found))] * 3
         print(f"round {k + 1}: {good} inserts answered Good, {len(found) - before} found again, {len(found)} in all", flush=True)
         before = len(found)
     print("nothing that was answered Good is missing")

@@ -45,7 +45,7 @@ fn long_row(replica: u8, n: u16) -> Row {
         1 if n % 10 == 5 => (1, number, 10 * k, 1 + k / 2, Delete, None),
         1 => (1, number, 10 * k, 1 + k / 2, Update, written),
         2 => (2, number, 140 * k - 15, 7 * k, Update, written),
-        _ => (3, number, 10 * k + 3, 50, Update, written),
+        _ => (3, number, 10 * k + 3, 20, Update, written),
     }
 }
 
@@ -62,9 +62,9 @@ fn fill_long<A: Archive>(
 }
 
 fn fill_all<A: Archive>(alloc: Global, archive: &mut A) -> Result<(), LearnFault> {
-    fill_long(alloc, archive, 1, 800)?;
-    fill_long(alloc, archive, 2, 50)?;
-    fill_long(alloc, archive, 3, 40)
+    fill_long(alloc, archive, 1, 80)?;
+    fill_long(alloc, archive, 2, 5)?;
+    fill_long(alloc, archive, 3, 25)
 }
 
 /// How many records of each replica are looked at.
@@ -72,7 +72,7 @@ fn within(numbers: [u64; 3]) -> Vector {
     let mut vector = Vector::new();
     for (replica, number) in [1u8, 2, 3].iter().zip(&numbers) {
         if let Some(replica) = ReplicaNo::new(*replica)
-            && *number <= 800
+            && *number <= 80
         {
             vector.raise(replica, *number);
         }
@@ -131,22 +131,22 @@ fn same_next<A: Archive, B: Archive>(
 /// All, the first values alone, some that end in mid-query, the time with many records, and what older
 /// vectors show.
 static READINGS: [Reading; 16] = [
-    (1, 500, 1000, [800, 50, 40]),
-    (1, 500, 0, [800, 50, 40]),
-    (1, 500, 1, [800, 50, 40]),
-    (1, 500, 15, [800, 50, 40]),
-    (1, 500, 16, [800, 50, 40]),
-    (2, 500, 17, [800, 50, 40]),
-    (3, 401, 300, [800, 50, 40]),
-    (40, 60, 1000, [800, 50, 40]),
-    (50, 50, 1000, [800, 50, 40]),
-    (49, 400, 33, [800, 50, 40]),
-    (400, 401, 5, [800, 50, 40]),
-    (60, 40, 1000, [800, 50, 40]),
-    (1, 500, 1000, [301, 20, 7]),
-    (1, 500, 1000, [0, 50, 0]),
-    (45, 55, 1000, [90, 3, 39]),
-    (1, 500, 1000, [0, 0, 0]),
+    (1, 50, 1000, [80, 5, 25]),
+    (1, 50, 0, [80, 5, 25]),
+    (1, 50, 1, [80, 5, 25]),
+    (1, 50, 15, [80, 5, 25]),
+    (1, 50, 16, [80, 5, 25]),
+    (2, 50, 17, [80, 5, 25]),
+    (3, 41, 30, [80, 5, 25]),
+    (16, 24, 1000, [80, 5, 25]),
+    (20, 20, 1000, [80, 5, 25]),
+    (19, 40, 12, [80, 5, 25]),
+    (40, 41, 5, [80, 5, 25]),
+    (24, 16, 1000, [80, 5, 25]),
+    (1, 50, 1000, [31, 2, 7]),
+    (1, 50, 1000, [0, 5, 0]),
+    (18, 22, 1000, [36, 1, 24]),
+    (1, 50, 1000, [0, 0, 0]),
 ];
 
 fn shows_same<A: Archive, B: Archive>(
@@ -170,7 +170,7 @@ fn shows_same<A: Archive, B: Archive>(
 /// How many values are live in all.
 fn count_values<A: Archive>(alloc: Global, archive: &mut A) -> Result<usize, StoreFault> {
     let node = node(alloc)?;
-    let (from, to, within) = (Moment::at(1), Moment::at(500), within([800, 50, 40]));
+    let (from, to, within) = (Moment::at(1), Moment::at(50), within([80, 5, 25]));
     let values = archive.range(alloc, &node, from, to, Forward, 1000, &within)?;
     Ok(values.len())
 }
@@ -178,12 +178,12 @@ fn count_values<A: Archive>(alloc: Global, archive: &mut A) -> Result<usize, Sto
 /// How many modifications there are.
 fn count_entries<A: Archive>(alloc: Global, archive: &mut A) -> Result<usize, StoreFault> {
     let node = node(alloc)?;
-    let (from, to, within) = (Moment::at(1), Moment::at(500), within([800, 50, 40]));
+    let (from, to, within) = (Moment::at(1), Moment::at(50), within([80, 5, 25]));
     let entries = archive.log(alloc, &node, from, to, None, Backward, 1000, &within)?;
     Ok(entries.len())
 }
 
-/// Whether both show the same of the long history: of 401 times each fifth ends with a delete.
+/// Whether both show the same of the long history: of 41 times each fifth ends with a delete.
 fn read_same<A: Archive, B: Archive>(
     alloc: Global,
     one: &mut A,
@@ -192,8 +192,8 @@ fn read_same<A: Archive, B: Archive>(
     let filled = fill_all(alloc, one) == Ok(()) && fill_all(alloc, two) == Ok(());
     Ok(
         filled
-            && count_values(alloc, two)? == 321
-            && count_entries(alloc, two)? == 890
+            && count_values(alloc, two)? == 33
+            && count_entries(alloc, two)? == 110
             && shows_same(alloc, one, two, Forward)?
             && shows_same(alloc, one, two, Backward)?,
     )

@@ -1,5 +1,5 @@
 -- Records that are read ahead.
-use Rattle.std.proofs.Common.{◌≡◌, ℕ, zero, suc, ◌+◌, ◌<◌, ◌≤◌, nat_lt, ℤ, Bool, true, false, not, ◌&&◌, cond, List, [], ◌∷◌, ◌++◌, filter, take, drop, length, reverse, Option, Some, None, IfSome, refl, sym, ap, ap₂, subst, ◌∙◌, inl, inr, arith, Ordering, Less, Equal, append_assoc}
+use Rattle.std.proofs.Common.{◌≡◌, ℕ, zero, suc, ◌+◌, ◌<◌, ◌≤◌, nat_lt, ℤ, Bool, true, false, not, List, [], ◌∷◌, ◌++◌, filter, take, drop, length, Some, None, IfSome, refl, sym, ap, ap₂, subst, ◌∙◌, inl, inr, arith, Less, append_assoc}
 use Rattle.std.specs.List.{AllByRecursion}
 use Rattle.std.specs.Cmp.{IsTotalOrder}
 use Rattle.std.specs.Ordering.{int_cmp, ordering_then}
@@ -9,7 +9,7 @@ use Rattle.std.proofs.lemmas.Cmp.{tied_itself, int_cmp_total}
 use Rattle.std.proofs.lemmas.List.{take-append-drop, reverse-reverse}
 use Rattle.ua_binary.specs.declared.values.NodeId.{NodeId}
 use Rattle.sqlite_trees.specs.Tree.{Trees}
-use Rattle.records.specs.Lists.{Has, Rises, IsApart, sort_by}
+use Rattle.records.specs.Lists.{Has, Rises, IsApart}
 use Rattle.records.specs.Same.{same_node, node_code}
 use Rattle.records.specs.Records.{stamp_cmp, story}
 use Rattle.records.specs.Contents.{Content}

@@ -1,13 +1,11 @@
 -- Calls over a connection that change nothing, one behind the other.
-use Rattle.std.proofs.Common.{◌≡◌, false, Result, Ok, Err, refl, sym, ap, ◌∙◌, subst, arith, inl}
-use Rattle.sqlite_trees.specs.Tree.{Trees}
+use Rattle.std.proofs.Common.{◌≡◌, Result, Ok, Err, refl, ap, ◌∙◌, arith, inl}
 use Rattle.sqlite.specs.Effect.{Database}
 use Rattle.sqlite.specs.State.{State, HasCleanDisk, Survives}
 use Rattle.sqlite.proofs.StateLemmas.{survives_then}
 use Rattle.archive.specs.declared.fault.StoreFault.{StoreFault}
-use Rattle.archive.specs.Store.{IsOfOpening, fault_in}
-use Rattle.archive.specs.Listed.{is_broken}
-use Rattle.sql_archive.specs.State.{Idles, Stays, Asked}
+use Rattle.archive.specs.Store.{IsOfOpening}
+use Rattle.sql_archive.specs.State.{Idles, Stays, Asked, Rests, Holds, Found, IsKnown}
 
 pub survives_itself : (s : State) → Survives s s (λ _. ⊥)
 survives_itself s = record { clean = omega arith; shield = λ x. x; counts = omega arith; limit = refl; closes = λ _ o. inl o; crash = λ _ db m. inl m }
@@ -70,3 +68,23 @@ passed_told a b v P p h = record { answer = h; kept = λ clean _. p.kept clean; 
 -- a fault that isn't the store's
 pub passed_fault : {A : Type 0} (a b : State) (fault : StoreFault) (P : A → Type 0) → Passed a b → (IsOfOpening fault → ⊥) → Asked {A = A} a b (Err fault) P
 passed_fault a b fault P p own = record { answer = λ clean. tt; kept = λ clean _. p.kept clean; met = own; crash = p.crash }
+
+-- ---- whatever the tables
+
+pub rests_of : (s : State) → Idles s → Rests s
+rests_of s was = record { is_open = was.is_open; autocommit = was.autocommit; settled = was.settled }
+
+pub known_of : (s : State) → Idles s → IsKnown s.now.schema
+known_of s was = inl was.tables
+
+pub stays_of : (a b : State) → Idles a → Holds a b → Stays a b
+stays_of a b was h = record { idles = record { is_open = h.rests.is_open; autocommit = h.rests.autocommit; settled = h.rests.settled; tables = ap (λ (d : Database). d.schema) h.same ∙ was.tables }; same = h.same }
+
+-- over the tables of an archive
+pub asked_of : {A : Type 0} (a b : State) (r : Result A StoreFault) (P : A → Type 0) → (HasCleanDisk a → Idles a) → Found a b r P → Asked a b r P
+asked_of a b r P idles h = record { answer = h.answer; kept = λ clean ok. stays_of a b (idles (omega (arith, h.crash.clean, clean))) (h.kept clean ok); met = h.met; crash = h.crash }
+
+-- what was found, in other words
+pub found_as : {A : Type 0} (a b : State) (r : Result A StoreFault) (P Q : A → Type 0) → (HasCleanDisk b → (v : A) → P v → Q v) → Found a b r P → Found a b r Q
+found_as a b (Ok v) P Q f h = record { answer = λ clean. f clean v (h.answer clean); kept = h.kept; met = tt; crash = h.crash }
+found_as a b (Err e) P Q f h = record { answer = λ clean. tt; kept = h.kept; met = h.met; crash = h.crash }

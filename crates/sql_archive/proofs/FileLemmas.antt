@@ -1,5 +1,5 @@
 -- How an archive begins, and what its files hold.
-use Rattle.std.proofs.Common.{◌≡◌, ◌⊎◌, inl, inr, ℕ, ℤ, pos, List, [], ◌∷◌, map, length, Ok, Err, IsTrue, refl, sym, ap, subst, ◌∙◌, arith}
+use Rattle.std.proofs.Common.{◌≡◌, ◌⊎◌, inl, inr, ℕ, ℤ, List, map, length, Err, IsTrue, sym, ap, subst, ◌∙◌, arith, IsPermutation}
 use Rattle.std.proofs.Math.Logic.{∥∥₁_elim, ∥∥₁_map}
 use Rattle.sqlite_disk.specs.declared.Disk.{Ghosts}
 use Rattle.sqlite_disk.specs.declared.Files.{Files}
@@ -31,14 +31,23 @@ use Rattle.sqlite.specs.Closing.{IsCopied, files_left}
 use Rattle.sqlite.specs.declared.file.Leftover.{Leftover}
 use Rattle.sqlite.specs.declared.file.Leftover.TheVariants as left
 use Rattle.records.specs.Contents.{Content}
-use Rattle.sql_archive.specs.Tables.{no_schema, archive_schema}
-use Rattle.sql_archive.specs.Rows.{content_in, IsStored, IsStoreOf, meta_cells}
+use Rattle.sql_archive.specs.Tables.{no_schema, older_schema, archive_schema}
+use Rattle.sql_archive.specs.Rows.{content_in, records_in, row_of, meta_columns, IsStored, IsStoreOf, IsOlderStoreOf, meta_cells}
+use Rattle.sql_archive.specs.Derived.{AreKept}
+use Rattle.sql_archive.specs.Words.{cells}
+use Rattle.records.specs.Lists.{sort_by}
+use Rattle.records.specs.Records.{name_cmp}
+use Rattle.std.specs.List.{flat_map}
 use Rattle.sql_archive.specs.Kept.{Stands}
-use Rattle.sql_archive.specs.State.{IsNewArchive}
+use Rattle.sql_archive.specs.State.{IsMigrated}
 use Rattle.archive.specs.declared.fault.StoreFault.{StoreFault}
-use Rattle.sql_archive.specs.Opening.{Starts, IsMadeIn, IsRefused, judged}
-use Rattle.sql_archive.specs.Files.{IsFound, Tells, Resumes, ResumesOnly, ResumesAmong, IsAnothers, EngineLeaves, KeepsFound}
+use Rattle.sql_archive.specs.Opening.{Starts, IsBegunIn, IsRefused, judged}
+use Rattle.sql_archive.specs.Files.{Tells, Resumes, ResumesOnly, ResumesAmong, IsAnothers, EngineLeaves, KeepsFound, IsLeftOf}
 use Rattle.sql_archive.proofs.OpenLemmas.{nothing_in}
+
+-- the content is that of the rows of records2
+same_content : (a b : Trees) → a 1 ≡ b 1 → content_in a ≡ content_in b
+same_content a b same = ap (λ rows. sort_by name_cmp (flat_map records_in (cells rows))) same
 
 -- what was opened lists its schema
 found_lists : (old : State) → Opens old → IsLive old → Lists (old.committed.trees catalog_tree) old.now.schema
@@ -55,24 +64,31 @@ resumes image id own old new opens live found starts = record { db = old.committ
     lists = found_lists old opens live
 
     go : Starts id own old.now new.now → Tells id own old.committed.trees (content_in new.now.trees)
-    go (inl made) = inl (subst (Lists (old.committed.trees catalog_tree)) made.0 lists, nothing_in new.now.trees made.1.records)
+    go (inl (inl made)) = inl (subst (Lists (old.committed.trees catalog_tree)) made.0 lists, nothing_in new.now.trees made.1.records)
+    go (inl (inr moved)) = inr (inr (subst (Lists (old.committed.trees catalog_tree)) moved.0 lists, subst (IsStored id own) same moved.1), same_content new.now.trees old.now.trees moved.2.records ∙ ap content_in same)
     go (inr stood) =
-        inr ((subst (Lists (old.committed.trees catalog_tree)) stood.0 lists, subst (IsStored id own) same stood.1), ap content_in (ap (λ (d : Database). d.trees) stood.2 ∙ same))
+        inr (inl (subst (Lists (old.committed.trees catalog_tree)) stood.0 lists, subst (IsStored id own) same stood.1, subst AreKept same stood.2), ap content_in (ap (λ (d : Database). d.trees) stood.3 ∙ same))
 
 -- the files of another archive, or of another replica, say so
 pub another : (image : Image) (id : List ℕ) (own : ℕ) (fault : StoreFault) (old : State) → Opens old → IsLive old → FindsIn image old → IsRefused id own old.now fault → IsAnothers image id own fault
 another image id own fault old opens live found refused = record {
   db = old.committed.trees;
   found = record { holds = found.holds; reads = found.reads };
-  lists = subst (Lists (old.committed.trees catalog_tree)) refused.schema (found_lists old opens live);
+  lists = elim refused.schema [
+    | inl is ↦ inl (subst (Lists (old.committed.trees catalog_tree)) is (found_lists old opens live))
+    | inr was ↦ inr (subst (Lists (old.committed.trees catalog_tree)) was (found_lists old opens live))
+  ];
   judged = subst (λ t. judged id own (meta_cells t) ≡ Err fault) same refused.judged;
 }
   where
     same : old.now.trees ≡ old.committed.trees
     same = ap (λ (d : Database). d.trees) opens.clean
 
+no_older : no_schema ≡ older_schema → ⊥
+no_older e = let n : 0 ≡ 2 = ap (λ (s : Schema). length s.tables) e in absurd (omega (arith, n))
+
 two_schemas : no_schema ≡ archive_schema → ⊥
-two_schemas e = let n : 0 ≡ 2 = ap (λ (s : Schema). length s.tables) e in absurd (omega (arith, n))
+two_schemas e = let n : 0 ≡ 4 = ap (λ (s : Schema). length s.tables) e in absurd (omega (arith, n))
 
 -- what is opened of the files of an archive that was closed is its content
 pub closed_is : {D : Type 0} {g : Ghosts D} (c : Held (FileStore D g)) (files : Files D) (whose : List ℕ) (number : ℕ) (numbers : List ℕ) (tick : ℤ) → (HasCleanDisk (file_state c) → Stands whose number numbers tick (file_state c)) → IsLive (file_state c)
@@ -99,7 +115,7 @@ closed_holds c files id own numbers tick stands live copied =
     let s = stands copied.was_clean in
     let same : (file_state c).now.trees ≡ (file_state c).committed.trees = sym (ap (λ (d : Database). d.trees) s.idles.settled) in
     let lists = subst (λ (t : Trees). Lists (t catalog_tree) archive_schema) same (subst (Lists ((file_state c).now.trees catalog_tree)) s.idles.tables (live s.idles.is_open).0.lists) in
-    ∥∥₁_map copied.seen.both (λ held. ((file_state c).committed.trees, held, inr ((lists, subst (IsStored id own) same s.stored), ap content_in same)))
+    ∥∥₁_map copied.seen.both (λ held. ((file_state c).committed.trees, held, inr (inl (lists, subst (IsStored id own) same s.stored, subst AreKept same s.kept), ap content_in same)))
 
 -- the files that a store gave back hold what a crash could leave
 pub left_holds : {D : Type 0} {g : Ghosts D} (was : Held (FileStore D g)) (it : FileStore D g) (files : Files D) → SeenMayStay g → IsQuiet view faults recovers is_shielded was.store it
@@ -134,32 +150,65 @@ engine_left {D} {g} files now rest same leaves clean = (rest, same, leaves (clea
 
 -- by the archive
 pub archive_left : {D : Type 0} {g : Ghosts D} (image : Image) (files : Files D) (id : List ℕ) (own : ℕ) (was : Held (FileStore D g)) (new : State) → SeenMayStay g → Opens (file_state was) → IsLive (file_state was) → FindsIn image (file_state was)
-    → Survives (file_state was) new (IsMadeIn id own (file_state was).now) → HasCleanDisk new → ∥ ((db : Trees) × new.may_leave db × HoldsDatabase (image_of g files) db) ∥₁ → KeepsFound image id own (image_of g files)
+    → Survives (file_state was) new (IsBegunIn id own (file_state was).now) → HasCleanDisk new → ∥ ((db : Trees) × new.may_leave db × HoldsDatabase (image_of g files) db) ∥₁ → KeepsFound image id own (image_of g files)
 archive_left {D} {g} image files id own was new stays opens live found survives clean holds =
     (old, record { holds = found.holds; reads = found.reads }, ∥∥₁_map holds (λ left. (left.0, left.2, by left.0 (survives.crash clean left.0 left.1))))
   where
     old : Trees
     old = (file_state was).committed.trees
 
-    by : (db : Trees) → (file_state was).may_leave db ⊎ IsMadeIn id own (file_state was).now db → (db ≡ old) ⊎ (Lists (old catalog_tree) no_schema × IsNewArchive id (pos own) db)
-    by db (inl same) = inl (settled_at was.store stays db opens.is_open same)
-    by db (inr made) = inr (subst (Lists (old catalog_tree)) made.0 (found_lists (file_state was) opens live), made.1)
+    trees : (file_state was).now.trees ≡ old
+    trees = ap (λ (d : Database). d.trees) opens.clean
 
-pub still_held : (image left : Image) (id : List ℕ) (own : ℕ) → KeepsFound image id own left → (db : Trees) → HoldsDatabase image db → ¬ Lists (db catalog_tree) no_schema → ∥ HoldsDatabase left db ∥₁
-still_held image left id own (old, found, holds) db held some = ∥∥₁_map holds (λ it. by it.0 it.1 it.2)
+    by : (db : Trees) → (file_state was).may_leave db ⊎ IsBegunIn id own (file_state was).now db → IsLeftOf id own old db
+    by db (inl same) = inl (settled_at was.store stays db opens.is_open same)
+    by db (inr (inl made)) = inr (inl (subst (Lists (old catalog_tree)) made.0 (found_lists (file_state was) opens live), made.1))
+    by db (inr (inr moved)) = inr (inr ((subst (Lists (old catalog_tree)) moved.0 (found_lists (file_state was) opens live), subst (IsStored id own) trees moved.1), subst (λ t. IsMigrated t db) trees moved.2))
+
+-- files that held a database with tables hold it still, save where that was a store that was migrated
+pub still_held : (image left : Image) (id : List ℕ) (own : ℕ) → KeepsFound image id own left → (db : Trees) → HoldsDatabase image db → ¬ Lists (db catalog_tree) no_schema → ¬ IsOlderStoreOf id own db → ∥ HoldsDatabase left db ∥₁
+still_held image left id own (old, found, holds) db held some newer = ∥∥₁_map holds (λ it. by it.0 it.1 it.2)
   where
     is : old ≡ db
     is = found.holds db held
 
-    by : (now : Trees) → HoldsDatabase left now → (now ≡ old) ⊎ (Lists (old catalog_tree) no_schema × IsNewArchive id (pos own) now) → HoldsDatabase left db
+    by : (now : Trees) → HoldsDatabase left now → IsLeftOf id own old now → HoldsDatabase left db
     by now held (inl same) = subst (HoldsDatabase left) (same ∙ is) held
-    by now held (inr new) = absurd (some (subst (λ (t : Trees). Lists (t catalog_tree) no_schema) is new.0))
+    by now held (inr (inl new)) = absurd (some (subst (λ (t : Trees). Lists (t catalog_tree) no_schema) is new.0))
+    by now held (inr (inr moved)) = absurd (newer (subst (IsOlderStoreOf id own) is moved.0))
+
+-- and that one holds what it held, in the tables of an archive
+pub still_stored : (image left : Image) (id : List ℕ) (own : ℕ) → KeepsFound image id own left → (db : Trees) → HoldsDatabase image db → IsOlderStoreOf id own db
+    → ∥ ((now : Trees) × HoldsDatabase left now × ((now ≡ db) ⊎ IsMigrated db now)) ∥₁
+still_stored image left id own (old, found, holds) db held older = ∥∥₁_map holds (λ it. (it.0, it.1, by it.0 it.2))
+  where
+    is : old ≡ db
+    is = found.holds db held
+
+    by : (now : Trees) → IsLeftOf id own old now → (now ≡ db) ⊎ IsMigrated db now
+    by now (inl same) = inl (same ∙ is)
+    by now (inr (inl new)) = absurd (no_older (lists_once (db catalog_tree) no_schema older_schema (subst (λ (t : Trees). Lists (t catalog_tree) no_schema) is new.0) older.0))
+    by now (inr (inr moved)) = inr (subst (λ t. IsMigrated t now) is moved.1)
 
 pub still_resumed : (image left : Image) (id : List ℕ) (own : ℕ) → KeepsFound image id own left → (other : List ℕ) (number : ℕ) (R : Content) → Resumes left other number R → ∥ Resumes image other number R ∥₁
 still_resumed image left id own (old, found, holds) other number R resumed =
     ∥∥₁_map holds (λ it. let r : Resumes image other number R = record { db = old; found = found; tells = by it.0 it.2 (subst (λ t. Tells other number t R) (resumed.found.holds it.0 it.1) resumed.tells) } in r)
   where
-    by : (now : Trees) → (now ≡ old) ⊎ (Lists (old catalog_tree) no_schema × IsNewArchive id (pos own) now) → Tells other number now R → Tells other number old R
+    -- what meta and records2 stand for they stood for
+    stored_as : (now : Trees) → IsMigrated old now → IsStored other number now → IsStored other number old
+    stored_as now moved stored = record {
+      content = stored.content;
+      lawful = stored.lawful;
+      stands = record {
+        meta = ap (map meta_columns) (sym moved.meta) ∙ stored.stands.meta;
+        records = subst (λ rows. IsPermutation (map row_of stored.content) (cells rows)) moved.records stored.stands.records;
+      };
+    }
+
+    by : (now : Trees) → IsLeftOf id own old now → Tells other number now R → Tells other number old R
     by now (inl same) tells = subst (λ t. Tells other number t R) same tells
-    by now (inr new) (inl none) = inl (new.0, none.1)
-    by now (inr new) (inr all) = inl (new.0, all.1 ∙ nothing_in now new.1.records)
+    by now (inr (inl new)) (inl none) = inl (new.0, none.1)
+    by now (inr (inl new)) (inr all) = inl (new.0, all.1 ∙ nothing_in now new.1.records)
+    by now (inr (inr moved)) (inl none) = absurd (two_schemas (lists_once (now catalog_tree) no_schema archive_schema none.0 moved.1.lists))
+    by now (inr (inr moved)) (inr (inl store, is)) = inr (inr (moved.0.0, stored_as now moved.1 store.1), is ∙ same_content now old moved.1.records)
+    by now (inr (inr moved)) (inr (inr older, is)) = inr (inr (moved.0.0, stored_as now moved.1 older.1), is ∙ same_content now old moved.1.records)

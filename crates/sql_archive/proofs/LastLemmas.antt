@@ -1,25 +1,22 @@
 -- The last record of an origin, by the first of its rows.
-use Rattle.std.proofs.Common.{◌≡◌, ℕ, zero, suc, ◌≤◌, ◌<◌, nat_lt, ◌==◌, ℤ, pos, Bool, true, false, cond, List, [], ◌∷◌, ◌++◌, map, filter, take, length, refl, sym, ap, subst, ◌∙◌, arith, inl, inr, ◌⊎◌, is_lt, is_eq, Some, IsPermutation, IsSorted, All, Less, Equal, Greater, add-one}
+use Rattle.std.proofs.Common.{◌≡◌, ℕ, suc, ◌≤◌, nat_lt, ◌==◌, ℤ, pos, Bool, true, false, cond, List, [], ◌∷◌, ◌++◌, map, filter, take, refl, sym, ap, subst, ◌∙◌, arith, inl, inr, is_lt, is_eq, Some, IsPermutation, IsSorted, Less, Equal, Greater, add-one}
 use Rattle.std.specs.List.{flat_map, AllByRecursion}
-use Rattle.std.specs.Ordering.{nat_cmp, int_cmp, int_eq}
-use Rattle.std.proofs.lemmas.Bool.{true≢false, ltb-true, ltb-false, eqb-true, eq-eqb}
+use Rattle.std.specs.Ordering.{nat_cmp, int_eq}
+use Rattle.std.proofs.lemmas.Bool.{true≢false, ltb-false}
 use Rattle.std.proofs.lemmas.Bool.Decides.{Decides-int_eq}
-use Rattle.std.proofs.lemmas.List.Sorted.{length_permutation, IsPermutation-sym, IsPermutation-trans}
+use Rattle.std.proofs.lemmas.List.Sorted.{IsPermutation-trans}
 use Rattle.std.proofs.lemmas.List.Elements.{recursion_from_All, All-from_recursion}
 use Rattle.std.proofs.lemmas.List.Sorted.{All-permutation}
 use Rattle.sqlite_value.specs.Order.{Row, column, value_cmp}
-use Rattle.sqlite_value.specs.declared.value.Value.TheVariants.{Int}
 use Rattle.sqlite_value.proofs.OrderLemmas.{value_cmp-Int}
 use Rattle.sqlite_trees.specs.Tree.{Trees}
-use Rattle.sqlite_trees.specs.Objects.{number_in}
 use Rattle.sqlite_keyed.proofs.ListLemmas.{filter-map, IsPermutation-filter}
 use Rattle.records.specs.Lists.{Has}
-use Rattle.records.specs.Contents.{Content, vec, last_tick, IsNamed}
+use Rattle.records.specs.Contents.{Content, vec, last_tick}
 use Rattle.records.specs.declared.record.Record.{Record}
 use Rattle.records.proofs.ContentLemmas.{vec_is}
 use Rattle.records.proofs.GreatestLemmas.{last_attained, last_of_last}
 use Rattle.records.proofs.Sorting.{has-permutation, has_from_filter, has-filter}
-use Rattle.archive.specs.Store.{IsLawfulContent}
 use Rattle.sql_archive.specs.Words.{cells, is_from, descending_number, IsPage}
 use Rattle.sql_archive.specs.Rows.{row_of, records_in, content_in, AreRecords, IsFilled}
 use Rattle.sql_archive.specs.Learning.{IsLast, end_of}

@@ -1,9 +1,9 @@
 -- Learning a record.
-use Rattle.std.proofs.Common.{◌≡◌, ℕ, ℤ, pos, ◌≤◌, ◌<◌, Bool, true, false, cond, List, [], ◌∷◌, map, unwrap_or, Option, Some, None, Result, Ok, Err, IfErr, IfOk, refl, sym, ap, subst, ◌∙◌, arith, length, inl, inr, is_gt, nat_le, nat_lt, IsPermutation}
+use Rattle.std.proofs.Common.{◌≡◌, ℕ, ℤ, pos, ◌≤◌, ◌<◌, Bool, true, false, cond, [], ◌∷◌, map, unwrap_or, Some, Result, Ok, Err, IfErr, IfOk, refl, sym, ap, subst, ◌∙◌, arith, is_gt, nat_le, IsPermutation}
 use Rattle.std.specs.List.{list_any}
-use Rattle.std.proofs.lemmas.Bool.{true≢false, ltb-true, le-leb, ltb-false, lt-leb}
+use Rattle.std.proofs.lemmas.Bool.{true≢false, le-leb}
 use Rattle.std.proofs.lemmas.Int.{ints}
-use Rattle.std.proofs.lemmas.List.Sorted.{IsPermutation-refl, IsPermutation-cons, IsPermutation-middle, IsPermutation-sym, IsPermutation-trans, IsPermutation-map}
+use Rattle.std.proofs.lemmas.List.Sorted.{IsPermutation-refl, IsPermutation-cons, IsPermutation-middle, IsPermutation-trans, IsPermutation-map}
 use Rattle.sqlite_trees.specs.Tree.{Trees}
 use Rattle.sqlite.specs.Effect.{Database}
 use Rattle.sqlite.specs.State.{State, HasCleanDisk, Survives}
@@ -11,8 +11,8 @@ use Rattle.sqlite.proofs.StateLemmas.{survives_weaker, survives_then}
 use Rattle.records.specs.Lists.{insert_sorted}
 use Rattle.records.specs.Same.{same_record}
 use Rattle.records.specs.Records.{name_cmp}
-use Rattle.records.specs.Contents.{Content, Finding, Adds, Holds, Clash, Gap, TickTooFar, TickNotRising, finding, learned, after_finding, put, vec, last_tick}
-use Rattle.records.specs.Spelling.{IsRecord, IsLawfulRecord, IsShortRecord, fields}
+use Rattle.records.specs.Contents.{Content, Finding, Adds, Holds, Clash, Gap, TickTooFar, TickNotRising, finding, after_finding, put, vec}
+use Rattle.records.specs.Spelling.{IsLawfulRecord, IsShortRecord}
 use Rattle.records.specs.declared.record.Record.{Record}
 use Rattle.records.proofs.Spelled.{record_short}
 use Rattle.records.proofs.Sizes.{fields_length}
@@ -26,10 +26,12 @@ use Rattle.std.proofs.Common.{OnOk, ◌≢◌}
 use Rattle.archive.specs.declared.fault.LearnFault.{LearnFault}
 use Rattle.sql_archive.specs.Words.{cells}
 use Rattle.sql_archive.specs.Rows.{row_of, content_in, IsFilled, AreRecords}
+use Rattle.sql_archive.specs.Derived.{AreKept, IsNextRow}
 use Rattle.sql_archive.specs.State as state
 use Rattle.sql_archive.specs.State.{Idles, Stays, Asked}
 use Rattle.sql_archive.specs.Learning.{Stored, Follows, Learned, IsCommitOf, IsLast, beyond, reached, is_added}
 use Rattle.sql_archive.proofs.RowLemmas.{content_is}
+use Rattle.sql_archive.proofs.KeptLemmas.{next_row}
 
 pub short_enough : (r : Record) → IsLawfulRecord r → IsShortRecord r
 short_enough r l =
@@ -53,6 +55,7 @@ follows_by r old new (R, l, stand) lawful adds added =
     record {
       filled = (put r R, all, rows);
       content = content_is (put r R) new all rows ∙ sym (ap (put r) is) ∙ sym (ap (λ f. unwrap_or (after_finding (content_in old) r f) (content_in old)) adds);
+      kept = added.kept;
       meta = added.meta;
     }
 
@@ -84,8 +87,8 @@ same_trees : (a b : State) → Stays a b → b.now.trees ≡ a.now.trees
 same_trees a b s = ap (λ (d : Database). d.trees) s.same
 
 -- a record that isn't added changes nothing
-pub judged_only : (a b : State) (r : Record) (told : Result Bool LearnFault) → (HasCleanDisk a → IsFilled a.now.trees) → (HasCleanDisk b → HasCleanDisk a) → Asked a b (Ok told) (Judges a r) → is_added told ≡ false → Learned a b r (Ok told)
-judged_only a b r told filled early asked none = record {
+pub judged_only : (a b : State) (r : Record) (told : Result Bool LearnFault) → (HasCleanDisk a → IsFilled a.now.trees) → (HasCleanDisk a → AreKept a.now.trees) → (HasCleanDisk b → HasCleanDisk a) → Asked a b (Ok told) (Judges a r) → is_added told ≡ false → Learned a b r (Ok told)
+judged_only a b r told filled kept early asked none = record {
   answered = λ clean.
       let s = asked.kept clean refl in
       let is = asked.answer clean in
@@ -94,6 +97,7 @@ judged_only a b r told filled early asked none = record {
         s.idles,
         record {
           filled = subst IsFilled (sym same) (filled (early clean));
+          kept = subst AreKept (sym same) (kept (early clean));
           content = ap content_in same ∙ sym (kept_by (finding (content_in a.now.trees) r) (content_in a.now.trees) r (ap is_added (sym is) ∙ none));
           meta = ap (λ (t : Trees). t 0) same;
         },
@@ -173,3 +177,11 @@ pub found_reached : (R : Content) (r : Record) (last : ℕ × ℤ) (same : Bool)
 found_reached R r last same h below is =
     let near : nat_le r.number (vec R r.origin) ≡ true = le-leb r.number (vec R r.origin) (omega (arith, h.0, below)) in
     rw (near, is) refl
+
+-- the row of the next record is newer than those of its origin
+pub next_of : (r : Record) (db : Trees) → IsFilled db → finding (content_in db) r ≡ Adds → IsNextRow (row_of r) db
+next_of r db (R, l, stand) adds = next_row R r db stand (subst (λ S. finding S r ≡ Adds) (content_is R db l stand) adds)
+
+-- behind a judgement the tables are as they were
+pub kept_behind : {A : Type 0} (a b : State) (told : A) (P : A → Type 0) → (HasCleanDisk a → AreKept a.now.trees) → Asked a b (Ok told) P → (HasCleanDisk b → HasCleanDisk a) → HasCleanDisk b → AreKept b.now.trees
+kept_behind a b told P kept asked early clean = subst AreKept (sym (same_trees a b (asked.kept clean refl))) (kept (early clean))

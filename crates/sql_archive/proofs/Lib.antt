@@ -1,5 +1,14 @@
 pub mod Texts
 pub mod WriteLemmas
+pub mod ApartLemmas
+pub mod DerivedLemmas
+pub mod RemoveLemmas
+pub mod ChangeLemmas
+pub mod MadeLemmas
+pub mod KeepLemmas
+pub mod KeptLemmas
+pub mod AgreeLemmas
+pub mod AgreedLemmas
 pub mod QueryLemmas
 pub mod RowLemmas
 pub mod StoreLemmas
@@ -11,6 +20,7 @@ pub mod AskLemmas
 pub mod WalkLemmas
 pub mod PageLemmas
 pub mod RangeLemmas
+pub mod CurrentLemmas
 pub mod AheadLemmas
 pub mod LoopLemmas
 pub mod SinceLemmas

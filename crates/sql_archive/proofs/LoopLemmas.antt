@@ -1,6 +1,5 @@
 -- A loop over the stories of a node.
-use Rattle.std.proofs.Common.{◌≡◌, ℕ, ◌≤◌, ℤ, pos, ◌++◌, List, [], take, length, Bool, true, false, Option, Some, None, Result, Ok, Err, refl, sym, ap, ap₂, subst, ◌∙◌, arith, inl, inr, Vec}
-use Rattle.std.specs.declared.alloc.Global.{Global}
+use Rattle.std.proofs.Common.{◌≡◌, ℕ, ◌≤◌, ℤ, pos, ◌++◌, List, [], take, length, Bool, false, Option, Some, None, Ok, sym, ap, ap₂, subst, ◌∙◌, arith, inl, inr}
 use Rattle.std.specs.List.{flat_map}
 use Rattle.std.proofs.lemmas.Int.{ints}
 use Rattle.sqlite_trees.specs.Tree.{Trees}
@@ -20,7 +19,7 @@ use Rattle.sql_archive.specs.declared.reads.Story.{Story}
 use Rattle.sql_archive.specs.Rows.{content_in, IsFilled}
 use Rattle.sql_archive.specs.State.{Idles, Asked}
 use Rattle.sql_archive.specs.Walking.{moment_at, IsPlace, IsTold, IsAhead, is_used_up, records_beyond, stretch}
-use Rattle.sql_archive.proofs.AskLemmas.{Passed, passed_none, passed_ok, passed_then, passed_told, passed_err, passed_fault, early, same_trees}
+use Rattle.sql_archive.proofs.AskLemmas.{Passed, passed_none, passed_ok, passed_then, passed_told, early, same_trees}
 use Rattle.sql_archive.proofs.AheadLemmas.{nothing_held}
 use Rattle.sql_archive.proofs.WalkLemmas.{still, whole, enough}
 

@@ -40,7 +40,7 @@ use Rattle.archive.specs.declared.fault.StoreFault.TheVariants.{WrongArchive, Wr
 use Rattle.archive.specs.Store.{IsOfOpening, fault_in}
 use Rattle.archive.specs.Listed.{is_broken}
 use Rattle.sql_archive.specs.Rows.{IsStored, meta_row, meta_columns, meta_cells}
-use Rattle.sql_archive.specs.State.{Asked, Stays, IsNewArchive}
+use Rattle.sql_archive.specs.State.{Found, Holds, IsNewArchive}
 use Rattle.std.proofs.Common.{max, ap₂}
 use Rattle.std.specs.Int.{int_max}
 use Rattle.std.proofs.lemmas.List.{map-append}
@@ -234,20 +234,20 @@ meta_passed id own [] e = absurd cc
 meta_passed id own (r ∷ []) e = ap (λ x. x ∷ []) (row_passed id own (column r 0) (column r 2) (column r 3) (column r 4) e)
 meta_passed id own (r ∷ s ∷ rows) e = absurd cc
 
-pub opened_by : {A : Type 0} (id : List ℕ) (own : ℕ) (a b c : State) (P : Trees → A → Type 0) (result : Result A StoreFault) → Asked a b (Ok (Ok tt)) (λ told. told ≡ judged id own (meta_cells a.now.trees))
-    → Asked b c result (λ l. IsFilled b.now.trees × P b.now.trees l) → (HasCleanDisk c → HasCleanDisk b) → Opens id own a c (P a.now.trees) result
+pub opened_by : {A : Type 0} (id : List ℕ) (own : ℕ) (a b c : State) (P : Trees → A → Type 0) (result : Result A StoreFault) → Found a b (Ok (Ok tt)) (λ told. told ≡ judged id own (meta_cells a.now.trees))
+    → Found b c result (λ l. IsFilled b.now.trees × P b.now.trees l) → (HasCleanDisk c → HasCleanDisk b) → Opens id own a c (P a.now.trees) result
 opened_by {A} id own a b c P result one two early = record {
   opened = λ clean. go result (one.kept (early clean) refl) (one.answer (early clean)) (two.kept clean) (two.answer clean);
   wrong = λ clean. never result two.met;
   crash = survives_then a b c _ _ _ (λ clean db none. none) (λ clean db none. none) one.crash two.crash;
 }
   where
-    go : (r : Result A StoreFault) → Stays a b → Ok tt ≡ judged id own (meta_cells a.now.trees) → (is_broken (fault_in r) ≡ false → Stays b c) → IfOk r (λ l. IsFilled b.now.trees × P b.now.trees l) → IfOk r (λ l. Stays a c × IsStored id own a.now.trees × P a.now.trees l)
+    go : (r : Result A StoreFault) → Holds a b → Ok tt ≡ judged id own (meta_cells a.now.trees) → (is_broken (fault_in r) ≡ false → Holds b c) → IfOk r (λ l. IsFilled b.now.trees × P b.now.trees l) → IfOk r (λ l. Holds a c × IsStored id own a.now.trees × P a.now.trees l)
     go (Ok l) s is more filled =
         let t = more refl in
         let same = ap (λ (d : Database). d.trees) s.same in
         let all = subst (λ d. IsFilled d × P d l) same filled in
-        (record { idles = t.idles; same = t.same ∙ s.same }, record { content = all.0.0; lawful = all.0.1; stands = record { meta = meta_passed id own (a.now.trees 0) (sym is); records = all.0.2 } }, all.1)
+        (record { rests = t.rests; same = t.same ∙ s.same }, record { content = all.0.0; lawful = all.0.1; stands = record { meta = meta_passed id own (a.now.trees 0) (sym is); records = all.0.2 } }, all.1)
     go (Err f) s is more filled = tt
 
     never : (r : Result A StoreFault) → IfErr r (λ f. IsOfOpening f → ⊥) → IfErr r (λ f. IsOfOpening f → judged id own (meta_cells a.now.trees) ≡ Err f)
@@ -261,7 +261,7 @@ nothing_in db none = ap (λ rows. sort_by name_cmp (flat_map records_in (cells r
 same_number : (n : ℕ) → (n == n) ≡ true
 same_number n = eq-eqb n n refl
 
-own_row : (id : List ℕ) (own : ℕ) → judged id own (meta_row id own ∷ []) ≡ Ok tt
+pub own_row : (id : List ℕ) (own : ℕ) → judged id own (meta_row id own ∷ []) ≡ Ok tt
 own_row id own = rw ((bytes_eq-Decides id id).1 refl, same_number own) refl
 
 -- new tables are those of their archive and replica

@@ -1,37 +1,36 @@
 -- What the first rows in an order stand for.
-use Rattle.std.proofs.Common.{◌≡◌, ℕ, ◌≤◌, ℤ, pos, negsuc, ◌≤ℤ◌, Bool, true, false, not, ◌&&◌, ◌||◌, cond, List, [], ◌∷◌, ◌++◌, map, filter, take, Option, Some, None, refl, sym, ap, ap₂, subst, ◌∙◌, inl, inr, arith, Ordering, Less, Equal, Greater, is_eq, is_gt, is_lt, IsPermutation, append-nil, zero, suc}
+use Rattle.std.proofs.Common.{◌≡◌, ℕ, ℤ, pos, ◌≤ℤ◌, Bool, true, false, ◌&&◌, ◌||◌, List, [], ◌∷◌, map, filter, take, Option, Some, None, refl, sym, ap, ap₂, subst, ◌∙◌, inl, inr, arith, Ordering, Less, Equal, Greater, is_eq, is_gt, is_lt, IsPermutation, zero, suc}
 use Rattle.std.specs.List.{flat_map, AllByRecursion}
 use Rattle.std.specs.Cmp.{IsTotalOrder}
 use Rattle.std.specs.Ordering.{int_cmp, nat_cmp, on, then_cmp, ordering_then, is_ge, is_le}
 use Rattle.std.proofs.lemmas.Cmp.{on_total, then_total, int_cmp_total}
-use Rattle.std.proofs.lemmas.Bool.{true≢false, and_parts, and_from}
+use Rattle.std.proofs.lemmas.Bool.{and_parts, and_from}
 use Rattle.std.proofs.lemmas.Bool.Decides.{nat_tests}
 use Rattle.std.proofs.lemmas.Int.{ints}
 use Rattle.std.proofs.lemmas.List.Sorted.{IsPermutation-trans, IsPermutation-map}
 use Rattle.ua_binary.specs.Binary.{node_id, IsNodeId}
 use Rattle.ua_binary.specs.declared.values.NodeId.{NodeId}
 use Rattle.sqlite_value.specs.Order.{Row, column, value_cmp}
-use Rattle.sqlite_value.specs.declared.value.Value.TheVariants.{Int, Blob as Bytes}
+use Rattle.sqlite_value.specs.declared.value.Value.TheVariants.{Int}
 use Rattle.sqlite_value.specs.declared.keys.Collation.TheVariants.{Binary}
 use Rattle.sqlite_value.proofs.OrderLemmas.{value_cmp_total, value_cmp-Int}
 use Rattle.sqlite_sql.specs.Query.{limited}
 use Rattle.sqlite_sql.specs.Ops.{binary, is_true, from_truth, test}
 use Rattle.sqlite_sql.specs.declared.ops.BinaryOp.TheVariants.{Compare, Or}
 use Rattle.sqlite_sql.specs.declared.ops.CompareOp.{CompareOp}
-use Rattle.sqlite_sql.specs.declared.ops.CompareOp.TheVariants.{Eq, Gt, Ge, Lt, Le}
+use Rattle.sqlite_sql.specs.declared.ops.CompareOp.TheVariants.{Gt, Ge, Lt, Le}
 use Rattle.sqlite_trees.specs.Tree.{Trees, IsAscending}
 use Rattle.sqlite_keyed.proofs.SortLemmas.{IsPermutation-sort_by, sorted_unique}
 use Rattle.sqlite_keyed.proofs.ListLemmas.{filter-map, IsPermutation-filter, ascending-map, ascending_weaker}
 use Rattle.records.specs.Lists.{Has, Rises, IsApart, sort_by}
-use Rattle.records.specs.Same.{same_node, node_code}
-use Rattle.records.specs.Records.{name_cmp, stamp_cmp}
-use Rattle.records.specs.Moments.{moment, ticks_of, pico_of, whole_again, pico_within}
+use Rattle.records.specs.Same.{same_node}
+use Rattle.records.specs.Records.{stamp_cmp}
+use Rattle.records.specs.Moments.{ticks_of, pico_of, whole_again, pico_within}
 use Rattle.records.specs.declared.record.Record.{Record}
 use Rattle.records.specs.Contents.{Content}
 use Rattle.records.proofs.Orders.{stamp_total}
 use Rattle.records.proofs.CloseLemmas.{closed_stamps}
 use Rattle.records.proofs.Moments.{in_order}
-use Rattle.records.proofs.Same.{Decides-is_same}
 use Rattle.records.proofs.ContentLemmas.{pairwise_weaker}
 use Rattle.records.proofs.Sorting.{all-has, has-filter, has_from_filter, has-sort_by, has_from_sort_by, rises-sort_by, pairwise-filter}
 use Rattle.archive.specs.Reading.{times, is_of, is_past}
@@ -47,40 +46,48 @@ use Rattle.sql_archive.proofs.RowLemmas.{each_record, records_back, content_is}
 use Rattle.sql_archive.proofs.StoryLemmas.{sort_same, ascends, row_stamp_total, numbers_cmp, stamps_as, nodes_as, filter_as}
 use Rattle.sql_archive.proofs.WalkLemmas.{turned_total}
 
--- the first rows that pass, in an order, are those of the first records that pass, in theirs
+-- the first rows that pass, in an order, are those of the first elements that pass, in theirs
+module _ {X : Type 0} (row : X → Row) where
+  take_rows : (n : ℕ) (xs : List X) → take n (map row xs) ≡ map row (take n xs)
+  take_rows zero xs = refl
+  take_rows (suc n) [] = refl
+  take_rows (suc n) (x ∷ xs) = ap (λ l. row x ∷ l) (take_rows n xs)
+
+  some_rows : (o : Option ℕ) (xs : List X) → limited o (map row xs) ≡ map row (limited o xs)
+  some_rows None xs = refl
+  some_rows (Some n) xs = take_rows n xs
+
+  pub page_of : (pass : Row → Bool) (row_cmp : Row → Row → Ordering) (row_total : IsTotalOrder row_cmp) (p : X → Bool) (cmp : X → X → Ordering) (total : IsTotalOrder cmp) (limit : Option ℕ) (xs : List X) (all rows : List Row) → IsPermutation (map row xs) all → ((x : X) → Has xs x → pass (row x) ≡ p x)
+      → ((a b : X) → row_cmp (row a) (row b) ≡ cmp a b) → IsApart cmp (filter p xs) → IsPage pass row_cmp limit all rows → rows ≡ map row (limited limit (sort_by cmp (filter p xs)))
+  page_of pass row_cmp row_total p cmp total limit xs all rows stand tests orders apart page =
+      let here = filter p xs in
+      let sorted = sort_by cmp here in
+      let here_rows : filter pass (map row xs) ≡ map row here = filter-map pass row xs ∙ ap (map row) (filter_as _ p xs tests) in
+      let some : IsPermutation (map row here) page.ordered = IsPermutation-trans _ _ _ (subst (λ ys. IsPermutation ys (filter pass all)) here_rows (IsPermutation-filter pass (map row xs) all stand)) page.same in
+      let again : IsPermutation sorted here = subst (λ ys. IsPermutation ys here) (sort_same cmp here) (IsPermutation-sort_by cmp total here) in
+      let same : IsPermutation (map row sorted) page.ordered = IsPermutation-trans _ _ _ (IsPermutation-map row sorted here again) some in
+      let up : IsAscending (λ a b. row_cmp a b ≡ Less) (map row sorted) =
+      ascending-map (λ a b. row_cmp a b ≡ Less) row sorted (ascending_weaker (λ a b. cmp a b ≡ Less) (λ a b. row_cmp (row a) (row b) ≡ Less) (λ a b h. orders a b ∙ h) sorted (ascends _ sorted (rises-sort_by cmp total here apart))) in
+      let is : page.ordered ≡ map row sorted = sorted_unique row_cmp row_total (map row sorted) page.ordered up same page.sorted in
+      page.front ∙ (ap (limited limit) is ∙ some_rows limit sorted)
+
+from_take : {X : Type 0} (n : ℕ) (xs : List X) (z : X) → Has (take n xs) z → Has xs z
+from_take zero xs z h = absurd h
+from_take (suc n) [] z h = h
+from_take (suc n) (x ∷ xs) z h = elim h [ inl e ↦ inl e | inr k ↦ inr (from_take n xs z k) ]
+
+pub from_some : {X : Type 0} (o : Option ℕ) (xs : List X) (z : X) → Has (limited o xs) z → Has xs z
+from_some None xs z h = h
+from_some (Some n) xs z h = from_take n xs z h
+
+-- and so the first records
 pub page_found : (pass : Row → Bool) (row_cmp : Row → Row → Ordering) (row_total : IsTotalOrder row_cmp) (p : Record → Bool) (cmp : Record → Record → Ordering) (total : IsTotalOrder cmp) (limit : Option ℕ)
     (R : Content) (db : Trees) (rows : List Row) → IsLawfulContent R → AreRecords R db → ((r : Record) → Has R r → pass (row_of r) ≡ p r) → ((a b : Record) → row_cmp (row_of a) (row_of b) ≡ cmp a b) → IsApart cmp (filter p R)
     → IsPage pass row_cmp limit (cells (db 1)) rows → flat_map records_in rows ≡ limited limit (sort_by cmp (filter p R))
 page_found pass row_cmp row_total p cmp total limit R db rows l stand tests orders apart page =
-    let here = filter p R in
-    let sorted = sort_by cmp here in
-    let here_rows : filter pass (map row_of R) ≡ map row_of here = filter-map pass row_of R ∙ ap (map row_of) (filter_as _ p R tests) in
-    let some : IsPermutation (map row_of here) page.ordered = IsPermutation-trans _ _ _ (subst (λ xs. IsPermutation xs (filter pass (cells (db 1)))) here_rows (IsPermutation-filter pass (map row_of R) (cells (db 1)) stand)) page.same in
-    let again : IsPermutation sorted here = subst (λ xs. IsPermutation xs here) (sort_same cmp here) (IsPermutation-sort_by cmp total here) in
-    let same : IsPermutation (map row_of sorted) page.ordered = IsPermutation-trans _ _ _ (IsPermutation-map row_of sorted here again) some in
-    let up : IsAscending (λ a b. row_cmp a b ≡ Less) (map row_of sorted) =
-    ascending-map (λ a b. row_cmp a b ≡ Less) row_of sorted (ascending_weaker (λ a b. cmp a b ≡ Less) (λ a b. row_cmp (row_of a) (row_of b) ≡ Less) (λ a b h. orders a b ∙ h) sorted (ascends _ sorted (rises-sort_by cmp total here apart))) in
-    let is : page.ordered ≡ map row_of sorted = sorted_unique row_cmp row_total (map row_of sorted) page.ordered up same page.sorted in
-    let front : rows ≡ map row_of (limited limit sorted) = page.front ∙ (ap (limited limit) is ∙ some_rows limit sorted) in
-    ap (flat_map records_in) front ∙ records_back (limited limit sorted) (λ r h. each_record R l r (has_from_filter p R r (has_from_sort_by cmp total here r (from_some limit sorted r h))).0)
-  where
-    take_rows : (n : ℕ) (rs : List Record) → take n (map row_of rs) ≡ map row_of (take n rs)
-    take_rows zero rs = refl
-    take_rows (suc n) [] = refl
-    take_rows (suc n) (r ∷ rs) = ap (λ l. row_of r ∷ l) (take_rows n rs)
-
-    from_take : (n : ℕ) (rs : List Record) (z : Record) → Has (take n rs) z → Has rs z
-    from_take zero rs z h = absurd h
-    from_take (suc n) [] z h = h
-    from_take (suc n) (r ∷ rs) z h = elim h [ inl e ↦ inl e | inr k ↦ inr (from_take n rs z k) ]
-
-    some_rows : (o : Option ℕ) (rs : List Record) → limited o (map row_of rs) ≡ map row_of (limited o rs)
-    some_rows None rs = refl
-    some_rows (Some n) rs = take_rows n rs
-
-    from_some : (o : Option ℕ) (rs : List Record) (z : Record) → Has (limited o rs) z → Has rs z
-    from_some None rs z h = h
-    from_some (Some n) rs z h = from_take n rs z h
+    let sorted = sort_by cmp (filter p R) in
+    ap (flat_map records_in) (page_of row_of pass row_cmp row_total p cmp total limit R (cells (db 1)) rows stand tests orders apart page)
+    ∙ records_back (limited limit sorted) (λ r h. each_record R l r (has_from_filter p R r (has_from_sort_by cmp total (filter p R) r (from_some limit sorted r h))).0)
 
 -- ---- the order by moment
 
@@ -123,7 +130,7 @@ pub truly : (b : Bool) → is_true (from_truth (Some b)) ≡ b
 truly true = refl
 truly false = refl
 
-either_of : (a b : Bool) → is_true (binary Or (from_truth (Some a)) (from_truth (Some b))) ≡ (a || b)
+pub either_of : (a b : Bool) → is_true (binary Or (from_truth (Some a)) (from_truth (Some b))) ≡ (a || b)
 unfolding binary
 either_of true true = refl
 either_of true false = refl
@@ -134,10 +141,10 @@ pub compared : (op : CompareOp) (m n : ℤ) → binary (Compare op Binary) (Int 
 unfolding binary
 compared op m n = ap (λ o. from_truth (Some (test op o))) (value_cmp-Int m n)
 
-after_by : (a t p q : ℤ) → pos 0 ≤ℤ p → p ≤ℤ pos 9999 → IsPlace Forward q → (is_ge (int_cmp a t) && (is_gt (int_cmp a t) || is_gt (int_cmp p q))) ≡ is_past Forward (moment_at t q) (moment_at a p)
+pub after_by : (a t p q : ℤ) → pos 0 ≤ℤ p → p ≤ℤ pos 9999 → IsPlace Forward q → (is_ge (int_cmp a t) && (is_gt (int_cmp a t) || is_gt (int_cmp p q))) ≡ is_past Forward (moment_at t q) (moment_at a p)
 after_by a t p q low high place = grind (arith, nat_tests, ints)
 
-before_by : (a t p q : ℤ) → pos 0 ≤ℤ p → p ≤ℤ pos 9999 → IsPlace Backward q → (is_le (int_cmp a t) && (is_lt (int_cmp a t) || is_lt (int_cmp p q))) ≡ is_past Backward (moment_at t q) (moment_at a p)
+pub before_by : (a t p q : ℤ) → pos 0 ≤ℤ p → p ≤ℤ pos 9999 → IsPlace Backward q → (is_le (int_cmp a t) && (is_lt (int_cmp a t) || is_lt (int_cmp p q))) ≡ is_past Backward (moment_at t q) (moment_at a p)
 before_by a t p q low high place = grind (arith, nat_tests, ints)
 
 abbrev pub beyond_place : Direction → NodeId → ℤ → Record → Bool

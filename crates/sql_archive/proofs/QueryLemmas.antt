@@ -1,7 +1,7 @@
 -- What the queries answer.
-use Rattle.std.proofs.Common.{◌≡◌, ◌≢◌, ◌⊎◌, inl, inr, ℕ, ℤ, pos, negsuc, List, [], ◌∷◌, ◌++◌, map, filter, flat_map, codes, cond, Bool, true, false, ◌&&◌, Some, None, Ok, Err, Result, IfOk, refl, sym, ap, ap₂, subst, ◌∙◌, All, IsPermutation, IsSorted, Ordering, Equal, is_eq, is_lt}
+use Rattle.std.proofs.Common.{◌≡◌, inl, inr, ℕ, ℤ, pos, negsuc, List, [], ◌∷◌, ◌++◌, map, filter, flat_map, codes, cond, Bool, true, false, ◌&&◌, Some, None, refl, sym, ap, ap₂, subst, ◌∙◌, IsPermutation, IsSorted, Ordering, is_eq, is_lt}
 use Rattle.std.specs.List.{list_all, AllByRecursion}
-use Rattle.std.specs.Ordering.{on, then_cmp, ordering_then}
+use Rattle.std.specs.Ordering.{ordering_then}
 use Rattle.std.proofs.lemmas.List.Elements.{recursion_from_All, All-from_recursion}
 use Rattle.std.proofs.lemmas.List.Sorted.{All-permutation, IsPermutation-map}
 use Rattle.sqlite_value.specs.declared.value.Value.{Value}
@@ -12,10 +12,10 @@ use Rattle.sqlite_value.specs.Keys.{ascending}
 use Rattle.sqlite_value.specs.Order.{Row, column, value_cmp}
 use Rattle.sqlite_value.proofs.OrderLemmas.{value_cmp-Null, then-Equal}
 use Rattle.sqlite_sql.specs.Ops.{binary, is_true, from_truth, is_null}
-use Rattle.sqlite_sql.specs.Term.{Term, Env, lit, col, op2, holds}
+use Rattle.sqlite_sql.specs.Term.{Term, lit, col, op2, holds}
 use Rattle.sqlite_sql.specs.declared.ops.BinaryOp.TheVariants.{Compare, Or}
 use Rattle.sqlite_sql.specs.declared.ops.CompareOp.TheVariants.{Eq, Gt, Ge, Lt, Le}
-use Rattle.sqlite_sql.specs.Query.{Query, inner, end, Output, output, output_cmp, key_cmp, page, as_count, IsAnswer, matches}
+use Rattle.sqlite_sql.specs.Query.{Query, inner, end, Output, output, output_cmp, key_cmp, page, as_count, IsAnswer}
 use Rattle.sqlite_sql.specs.Program.{overlay}
 use Rattle.sqlite_trees.specs.Tree.{Trees}
 use Rattle.sqlite_trees.proofs.ListLemmas.{filter-map}
@@ -23,16 +23,19 @@ use Rattle.sqlite_keyed.proofs.ListLemmas.{filter_all, all_of}
 use Rattle.sqlite_exec.proofs.RowsLemmas.{IsSorted-map}
 use Rattle.sqlite_exec.proofs.PartitionLemmas.{IsSorted-from_map}
 use Rattle.sqlite_schema.specs.declared.command.Command.TheVariants.{Select}
+use Rattle.sqlite_schema.specs.declared.schema.Schema.{Schema}
 use Rattle.sqlite_tied.specs.Compute.{everything}
 use Rattle.sqlite.specs.Listing.{understood, reads_listing}
 use Rattle.sqlite.specs.State.{State, Shown, ShowsRows, IsUnchanged}
 use Rattle.sqlite.specs.Clock.{timed}
 use Rattle.sqlite.proofs.Callers.{IsPlain, command_of, reads_as}
-use Rattle.sql_archive.specs.Tables.{archive_schema}
+use Rattle.sql_archive.specs.Tables.{older_schema, archive_schema}
 use Rattle.sql_archive.specs.Words.{columns_of, cells, is_at, is_named, is_from, is_behind, is_after, is_before, IsPage, name_order, descending_number, moment_order, stamp_cmp}
-use Rattle.sql_archive.specs.State.{AreAt, shown_of}
+use Rattle.sql_archive.specs.State.{AreAt, IsKnown, shown_of}
 use Rattle.sql_archive.specs.Rows.{meta_columns, meta_cells}
-use Rattle.sql_archive.proofs.Texts.{at_text, since_text, after_text, before_text, all_text, whose_text, named_text, last_text}
+use Rattle.sql_archive.specs.Derived.{current_columns}
+use Rattle.sql_archive.specs.Currents.{is_live_after, is_live_before, current_order}
+use Rattle.sql_archive.proofs.Texts.{lives_after_text, lives_before_text, at_text, since_text, after_text, before_text, all_text, whose_text, named_text, last_text}
 
 -- a query on one table
 abbrev pub simple : ℕ → List Term → List Term → List (Term × Key) → Term → Query
@@ -193,20 +196,30 @@ shown_whole pass rows all same =
 abbrev by_name : List (Term × Key)
 by_name = (col 1 1, ascending Binary) ∷ (col 1 2, ascending Binary) ∷ []
 
-all_is : (command_of (understood archive_schema all_text) ≡ Select (record { lets = []; body = simple 1 [] each by_name all_rows }) names) × (reads_listing archive_schema all_text ≡ false)
-unfolding understood everything
-all_is = (refl, refl)
+abbrev IsAllIn : Schema → Type 0
+IsAllIn schema = (command_of (understood schema all_text) ≡ Select (record { lets = []; body = simple 1 [] each by_name all_rows }) names) × (reads_listing schema all_text ≡ false) × IsPlain (understood schema all_text)
 
-pub all_plain : IsPlain (understood archive_schema all_text)
+all_is : IsAllIn archive_schema
 unfolding understood everything
-all_plain = (refl, refl)
+all_is = (refl, refl, (refl, refl))
+
+all_was : IsAllIn older_schema
+unfolding understood everything
+all_was = (refl, refl, (refl, refl))
+
+all_in : (schema : Schema) → IsKnown schema → IsAllIn schema
+all_in schema (inl is) = subst IsAllIn (sym is) all_is
+all_in schema (inr was) = subst IsAllIn (sym was) all_was
+
+pub all_plain : (schema : Schema) → IsKnown schema → IsPlain (understood schema all_text)
+all_plain schema known = (all_in schema known).2
 
 every : (rows : List Row) → filter (λ _. true) rows ≡ rows
 every rows = filter_all (λ _. true) rows (all_of (λ _. true ≡ true) (λ _. refl) rows)
 
-pub finds_all : (old new : State) (rows : List Row) → old.now.schema ≡ archive_schema → Shown all_text [] old new rows → IsPermutation (cells (old.now.trees 1)) rows
+pub finds_all : (old new : State) (rows : List Row) → IsKnown old.now.schema → Shown all_text [] old new rows → IsPermutation (cells (old.now.trees 1)) rows
 finds_all old new rows has h =
-    let got = reads_as all_text [] old new archive_schema has _ all_is.0 all_plain all_is.1 rows h in
+    let got = reads_as all_text [] old new old.now.schema refl _ (all_in old.now.schema has).0 (all_in old.now.schema has).2 (all_in old.now.schema has).1 rows h in
     let all = answered 1 [] each by_name all_rows [] columns_of (λ _. true) (λ c. column c 0 ∷ column c 1 ∷ []) (λ r. refl) (λ r. refl) old.now.trees rows (got.answer Null) in
     let same : rows ≡ all.0 = all.3 in
     subst (λ xs. IsPermutation xs rows) (every (cells (old.now.trees 1))) (subst (IsPermutation (filter (λ _. true) (cells (old.now.trees 1)))) (sym same) all.1)
@@ -219,17 +232,27 @@ shown_all rows all same = shown_whole (λ _. true) rows all (subst (λ xs. IsPer
 abbrev whose : List Term
 whose = col 1 0 ∷ col 1 2 ∷ col 1 3 ∷ col 1 4 ∷ []
 
-whose_is : (command_of (understood archive_schema whose_text) ≡ Select (record { lets = []; body = simple 0 [] whose [] all_rows }) (codes "one" ∷ codes "format" ∷ codes "archive" ∷ codes "replica" ∷ [])) × (reads_listing archive_schema whose_text ≡ false)
-unfolding understood everything
-whose_is = (refl, refl)
+abbrev IsWhoseIn : Schema → Type 0
+IsWhoseIn schema = (command_of (understood schema whose_text) ≡ Select (record { lets = []; body = simple 0 [] whose [] all_rows }) (codes "one" ∷ codes "format" ∷ codes "archive" ∷ codes "replica" ∷ [])) × (reads_listing schema whose_text ≡ false) × IsPlain (understood schema whose_text)
 
-pub whose_plain : IsPlain (understood archive_schema whose_text)
+whose_is : IsWhoseIn archive_schema
 unfolding understood everything
-whose_plain = (refl, refl)
+whose_is = (refl, refl, (refl, refl))
 
-pub finds_whose : (old new : State) (rows : List Row) → old.now.schema ≡ archive_schema → Shown whose_text [] old new rows → IsPermutation (meta_cells old.now.trees) rows
+whose_was : IsWhoseIn older_schema
+unfolding understood everything
+whose_was = (refl, refl, (refl, refl))
+
+whose_in : (schema : Schema) → IsKnown schema → IsWhoseIn schema
+whose_in schema (inl is) = subst IsWhoseIn (sym is) whose_is
+whose_in schema (inr was) = subst IsWhoseIn (sym was) whose_was
+
+pub whose_plain : (schema : Schema) → IsKnown schema → IsPlain (understood schema whose_text)
+whose_plain schema known = (whose_in schema known).2
+
+pub finds_whose : (old new : State) (rows : List Row) → IsKnown old.now.schema → Shown whose_text [] old new rows → IsPermutation (meta_cells old.now.trees) rows
 finds_whose old new rows has h =
-    let got = reads_as whose_text [] old new archive_schema has _ whose_is.0 whose_plain whose_is.1 rows h in
+    let got = reads_as whose_text [] old new old.now.schema refl _ (whose_in old.now.schema has).0 (whose_in old.now.schema has).2 (whose_in old.now.schema has).1 rows h in
     let all = answered 0 [] whose [] all_rows [] meta_columns (λ _. true) (λ c. []) (λ r. refl) (λ r. refl) old.now.trees rows (got.answer Null) in
     let same : rows ≡ all.0 = all.3 in
     subst (λ xs. IsPermutation xs rows) (every (meta_cells old.now.trees)) (subst (IsPermutation (filter (λ _. true) (meta_cells old.now.trees))) (sym same) all.1)
@@ -373,5 +396,82 @@ finds_before old new node time pico count rows has h =
       ordered = all.0;
       same = all.1;
       sorted = sorted_alike (λ a b. key_cmp 0 (map (λ (k : Term × Key). k.1) down_moment) (by_moment a) (by_moment b)) (λ a b. moment_order b a) (λ a b. last_of_four (value_cmp (column b 4) (column a 4)) (value_cmp (column b 5) (column a 5)) (value_cmp (column b 2) (column a 2)) (value_cmp (column b 0) (column a 0))) all.0 all.2;
+      front = all.3;
+    }
+
+-- ---- the next live values of a node
+
+abbrev each_current : List Term
+each_current = col 1 1 ∷ col 1 2 ∷ col 1 3 ∷ col 1 4 ∷ col 1 5 ∷ col 1 6 ∷ col 1 7 ∷ col 1 8 ∷ []
+
+abbrev current_names : List (List ℕ)
+current_names = codes "node" ∷ codes "time" ∷ codes "pico" ∷ codes "tick" ∷ codes "origin" ∷ codes "live" ∷ codes "extra" ∷ codes "value" ∷ []
+
+abbrev live_test : Term
+live_test = eq (col 1 6) (lit (Int (pos 1)))
+
+abbrev lives_after_tests : List Term
+lives_after_tests =
+    eq (col 1 1) (col 0 0) ∷ op2 (Compare Ge Binary) (col 1 2) (col 0 1) ∷ op2 Or (op2 (Compare Gt Binary) (col 1 2) (col 0 1)) (op2 (Compare Gt Binary) (col 1 3) (col 0 2))
+    ∷ op2 (Compare Le Binary) (col 1 2) (col 0 3) ∷ op2 Or (op2 (Compare Lt Binary) (col 1 2) (col 0 3)) (op2 (Compare Le Binary) (col 1 3) (col 0 4)) ∷ live_test ∷ []
+
+abbrev lives_before_tests : List Term
+lives_before_tests =
+    eq (col 1 1) (col 0 0) ∷ op2 (Compare Le Binary) (col 1 2) (col 0 1) ∷ op2 Or (op2 (Compare Lt Binary) (col 1 2) (col 0 1)) (op2 (Compare Lt Binary) (col 1 3) (col 0 2))
+    ∷ op2 (Compare Ge Binary) (col 1 2) (col 0 3) ∷ op2 Or (op2 (Compare Gt Binary) (col 1 2) (col 0 3)) (op2 (Compare Ge Binary) (col 1 3) (col 0 4)) ∷ live_test ∷ []
+
+abbrev up_time : List (Term × Key)
+up_time = (col 1 2, ascending Binary) ∷ (col 1 3, ascending Binary) ∷ []
+
+abbrev down_time : List (Term × Key)
+down_time = (col 1 2, down) ∷ (col 1 3, down) ∷ []
+
+lives_after_is : (command_of (understood archive_schema lives_after_text) ≡ Select (record { lets = []; body = simple 4 lives_after_tests each_current up_time (col 0 5) }) current_names) × (reads_listing archive_schema lives_after_text ≡ false)
+unfolding understood everything
+lives_after_is = (refl, refl)
+
+pub lives_after_plain : IsPlain (understood archive_schema lives_after_text)
+unfolding understood everything
+lives_after_plain = (refl, refl)
+
+lives_before_is : (command_of (understood archive_schema lives_before_text) ≡ Select (record { lets = []; body = simple 4 lives_before_tests each_current down_time (col 0 5) }) current_names) × (reads_listing archive_schema lives_before_text ≡ false)
+unfolding understood everything
+lives_before_is = (refl, refl)
+
+pub lives_before_plain : IsPlain (understood archive_schema lives_before_text)
+unfolding understood everything
+lives_before_plain = (refl, refl)
+
+abbrev by_time : Row → Row
+by_time c = column c 1 ∷ column c 2 ∷ []
+
+last_of_two : (a b : Ordering) → ordering_then a (ordering_then b Ordering.Equal) ≡ ordering_then a b
+last_of_two a b = ap (ordering_then a) (then-Equal b)
+
+pub finds_lives_after : (old new : State) (node : List ℕ) (time pico far far_pico count : ℤ) (rows : List Row) → old.now.schema ≡ archive_schema → Shown lives_after_text (Blob node ∷ Int time ∷ Int pico ∷ Int far ∷ Int far_pico ∷ Int count ∷ []) old new rows
+    → IsPage (is_live_after node time pico far far_pico) current_order (as_count (Int count)) (map current_columns (old.now.trees 4)) rows
+finds_lives_after old new node time pico far far_pico count rows has h =
+    let params = Blob node ∷ Int time ∷ Int pico ∷ Int far ∷ Int far_pico ∷ Int count ∷ [] in
+    let got = reads_as lives_after_text params old new archive_schema has _ lives_after_is.0 lives_after_plain lives_after_is.1 rows h in
+    let all = answered 4 lives_after_tests each_current up_time (col 0 5) params current_columns (is_live_after node time pico far far_pico) by_time (λ r. refl)
+    (λ r. rw (equals (column r 1) (Blob node) refl, equals (column r 6) (Int (pos 1)) refl, one_true (is_eq (value_cmp (column r 6) (Int (pos 1))))) refl) old.now.trees rows (got.answer Null) in
+    record {
+      ordered = all.0;
+      same = all.1;
+      sorted = sorted_alike (λ a b. key_cmp 0 (map (λ (k : Term × Key). k.1) up_time) (by_time a) (by_time b)) current_order (λ a b. last_of_two (value_cmp (column a 1) (column b 1)) (value_cmp (column a 2) (column b 2))) all.0 all.2;
+      front = all.3;
+    }
+
+pub finds_lives_before : (old new : State) (node : List ℕ) (time pico far far_pico count : ℤ) (rows : List Row) → old.now.schema ≡ archive_schema → Shown lives_before_text (Blob node ∷ Int time ∷ Int pico ∷ Int far ∷ Int far_pico ∷ Int count ∷ []) old new rows
+    → IsPage (is_live_before node time pico far far_pico) (λ a b. current_order b a) (as_count (Int count)) (map current_columns (old.now.trees 4)) rows
+finds_lives_before old new node time pico far far_pico count rows has h =
+    let params = Blob node ∷ Int time ∷ Int pico ∷ Int far ∷ Int far_pico ∷ Int count ∷ [] in
+    let got = reads_as lives_before_text params old new archive_schema has _ lives_before_is.0 lives_before_plain lives_before_is.1 rows h in
+    let all = answered 4 lives_before_tests each_current down_time (col 0 5) params current_columns (is_live_before node time pico far far_pico) by_time (λ r. refl)
+    (λ r. rw (equals (column r 1) (Blob node) refl, equals (column r 6) (Int (pos 1)) refl, one_true (is_eq (value_cmp (column r 6) (Int (pos 1))))) refl) old.now.trees rows (got.answer Null) in
+    record {
+      ordered = all.0;
+      same = all.1;
+      sorted = sorted_alike (λ a b. key_cmp 0 (map (λ (k : Term × Key). k.1) down_time) (by_time a) (by_time b)) (λ a b. current_order b a) (λ a b. last_of_two (value_cmp (column b 1) (column a 1)) (value_cmp (column b 2) (column a 2))) all.0 all.2;
       front = all.3;
     }

@@ -1,5 +1,5 @@
 -- What is shown of a node, by the times at which an archive has records of it.
-use Rattle.std.proofs.Common.{◌≡◌, ℕ, zero, suc, ◌<◌, ◌≤◌, ◌+◌, ℤ, pos, negsuc, ◌≤ℤ◌, ◌+ℤ◌, Bool, true, false, not, ◌&&◌, cond, List, [], ◌∷◌, ◌++◌, filter, map, take, length, reverse, slice_get, Option, Some, None, refl, sym, ap, ap₂, subst, ◌∙◌, inl, inr, ◌⊎◌, arith, append_assoc, append-nil, Less}
+use Rattle.std.proofs.Common.{◌≡◌, ℕ, zero, suc, ◌<◌, ℤ, pos, negsuc, ◌≤ℤ◌, ◌+ℤ◌, Bool, true, false, not, ◌&&◌, cond, List, [], ◌∷◌, ◌++◌, filter, take, length, reverse, slice_get, Option, Some, None, refl, sym, ap, ap₂, subst, ◌∙◌, inl, inr, arith, append-nil, Less}
 use Rattle.std.specs.List.{flat_map, cons_option, filter_map}
 use Rattle.std.specs.Int.{w64}
 use Rattle.std.specs.Int.RustNames.{FitsSigned}
@@ -12,24 +12,24 @@ use Rattle.std.proofs.lemmas.List.{reverse-append}
 use Rattle.std.proofs.lemmas.List.Elements.{filter-append}
 use Rattle.std.proofs.lemmas.Grind.{flat_map-append}
 use Rattle.ua_binary.specs.declared.values.NodeId.{NodeId}
-use Rattle.records.specs.Lists.{Has, Rises, IsApart}
-use Rattle.records.specs.Same.{same_node, node_code}
-use Rattle.records.specs.Contents.{Content, IsClosed, cut}
-use Rattle.records.specs.Records.{stamp_cmp, is_beyond, held, story, current, entries, entries_after}
-use Rattle.records.specs.Moments.{moment, ticks_of, pico_of, whole_again, pico_within}
+use Rattle.records.specs.Lists.{Has}
+use Rattle.records.specs.Same.{node_code}
+use Rattle.records.specs.Contents.{Content, cut}
+use Rattle.records.specs.Records.{is_beyond, held, story, current, entries, entries_after}
+use Rattle.records.specs.Moments.{ticks_of, whole_again, pico_within}
 use Rattle.records.specs.declared.record.Record.{Record}
 use Rattle.records.specs.declared.shown.Held.{Held}
 use Rattle.records.specs.declared.shown.Entry.{Entry}
 use Rattle.records.proofs.Same.{Decides-is_same}
 use Rattle.records.proofs.LatestLemmas.{story_has}
 use Rattle.records.proofs.Sorting.{same_members, has-filter, has_from_filter, pairwise-filter}
-use Rattle.archive.specs.Reading.{times, lives, log, in_direction, is_of, is_past, is_between, follows, range_of, log_of, outside_of}
+use Rattle.archive.specs.Reading.{times, lives, log, in_direction, is_past, is_between, follows, range_of, log_of, outside_of}
 use Rattle.archive.specs.declared.reading.Direction.{Direction}
 use Rattle.archive.specs.declared.reading.Direction.TheVariants.{Forward, Backward}
 use Rattle.archive.specs.declared.reading.LogPlace.{LogPlace}
-use Rattle.archive.proofs.Turning.{has-reverse, has_from_reverse, has-in_direction}
+use Rattle.archive.proofs.Turning.{has_from_reverse, has-in_direction}
 use Rattle.archive.proofs.Timing.{times_rise, current_time, entry_time}
-use Rattle.sql_archive.specs.Walking.{ShowSame, moment_at, stretch, IsSpan, values_at, entries_at}
+use Rattle.sql_archive.specs.Walking.{ShowSame, stretch, IsSpan, values_at, entries_at}
 use Rattle.ua_binary.specs.Binary.{node_id}
 use Rattle.sqlite_trees.specs.Tree.{Trees}
 use Rattle.records.specs.Spelling.{longest}
@@ -47,7 +47,7 @@ module _ {X Y : Type 0} where
   flat_map-same f g (x ∷ xs) same = ap₂ ◌++◌ (same x (inl refl)) (flat_map-same f g xs (λ z h. same z (inr h)))
 
   -- those of which nothing is shown may be left out
-  flat_map-filter : (f : X → List Y) (p : X → Bool) (xs : List X) → ((x : X) → p x ≡ false → f x ≡ []) → flat_map f (filter p xs) ≡ flat_map f xs
+  pub flat_map-filter : (f : X → List Y) (p : X → Bool) (xs : List X) → ((x : X) → p x ≡ false → f x ≡ []) → flat_map f (filter p xs) ≡ flat_map f xs
   flat_map-filter f p [] none = refl
   flat_map-filter f p (x ∷ xs) none = go (p x) refl (flat_map-filter f p xs none)
     where

@@ -1,12 +1,12 @@
 -- A content and the rows that stand for it.
-use Rattle.std.proofs.Common.{◌≡◌, ℕ, ℤ, pos, Bool, true, false, List, [], ◌∷◌, map, filter, Result, Ok, refl, sym, ap, subst, ◌∙◌, inl, inr, Ordering, Less, Equal, Greater, is_eq, is_gt, IsPermutation}
+use Rattle.std.proofs.Common.{◌≡◌, false, List, [], ◌∷◌, map, refl, ap, subst, ◌∙◌, inl, inr, Ordering, Less, Equal, Greater, is_eq, IsPermutation}
 use Rattle.std.specs.List.{flat_map, AllByRecursion}
 use Rattle.std.specs.Ordering.{ordering_reverse}
 use Rattle.std.specs.Cmp.{IsTotalOrder}
-use Rattle.std.proofs.lemmas.List.Sorted.{IsPermutation-refl, IsPermutation-cons, IsPermutation-middle, IsPermutation-sym, IsPermutation-trans, IsPermutation-map}
+use Rattle.std.proofs.lemmas.List.Sorted.{IsPermutation-refl, IsPermutation-cons, IsPermutation-middle, IsPermutation-sym, IsPermutation-trans}
 use Rattle.sqlite_trees.specs.Tree.{Trees}
 use Rattle.sqlite_keyed.proofs.ListLemmas.{along_permutation, IsPermutation-flat_map}
-use Rattle.records.specs.Lists.{Has, IsPairwise, IsApart, Rises, sort_by}
+use Rattle.records.specs.Lists.{Has, IsApart, sort_by}
 use Rattle.records.specs.Records.{name_cmp}
 use Rattle.records.specs.Contents.{Content}
 use Rattle.records.specs.Spelling.{IsRecord, record_form, record_at, fields, time}

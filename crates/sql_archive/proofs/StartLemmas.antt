@@ -1,5 +1,5 @@
 -- How an archive begins over a connection.
-use Rattle.std.proofs.Common.{◌≡◌, inl, inr, ℕ, pos, List, Result, Ok, Err, IfOk, IfErr, sym, ◌∙◌, arith}
+use Rattle.std.proofs.Common.{◌≡◌, inl, inr, ℕ, pos, List, Result, Ok, Err, IfOk, IfErr, map, ap, subst, sym, ◌∙◌, arith}
 use Rattle.sqlite_trees.specs.declared.store.Store.{Ghosts}
 use Rattle.sqlite_trees.specs.Tree.{Trees}
 use Rattle.sqlite.specs.Held.{Held, state}
@@ -7,21 +7,21 @@ use Rattle.sqlite.specs.State.{State, HasCleanDisk, Survives}
 use Rattle.sqlite.proofs.StateLemmas.{survives_then, survives_weaker}
 use Rattle.archive.specs.declared.fault.StoreFault.{StoreFault}
 use Rattle.archive.specs.Store.{IsOfOpening}
-use Rattle.sqlite.specs.Effect.{Database}
-use Rattle.sql_archive.specs.Tables.{no_schema, archive_schema}
-use Rattle.sql_archive.specs.Rows.{meta_cells, IsStored}
-use Rattle.sql_archive.specs.State.{IsNewArchive}
-use Rattle.sql_archive.specs.Opening.{judged, Starts, IsMadeIn, IsRefused}
+use Rattle.sql_archive.specs.Tables.{no_schema, older_schema, archive_schema}
+use Rattle.sql_archive.specs.Rows.{meta_cells, meta_columns, IsStored}
+use Rattle.sql_archive.specs.Derived.{AreKept}
+use Rattle.sql_archive.specs.State.{IsNewArchive, IsMigrated, IsKnown}
+use Rattle.sql_archive.specs.Opening.{judged, Starts, IsBegunIn, IsMigratedIn, IsRefused}
 use Rattle.sql_archive.specs.Kept.{Kept}
-use Rattle.sql_archive.proofs.OpenLemmas.{new_is_own}
+use Rattle.sql_archive.proofs.OpenLemmas.{new_is_own, own_row}
 use Rattle.sql_archive.proofs.AskLemmas.{survives_itself}
 
 module _ {S : Type 0} (g : Ghosts S) (old mid : State) (result : Result (Kept S) (StoreFault × Held S)) where
-  -- with tables that were just made no opening is wrong
-  pub never_wrong : (id : List ℕ) (own : ℕ) → (HasCleanDisk mid → IsNewArchive id (pos own) mid.now.trees)
+  -- with tables that are its own no opening is wrong
+  pub never_another : (id : List ℕ) (own : ℕ) → (HasCleanDisk mid → judged id own (meta_cells mid.now.trees) ≡ Ok tt)
       → IfErr result (λ e. HasCleanDisk (state g e.1) → IsOfOpening e.0 → judged id own (meta_cells mid.now.trees) ≡ Err e.0) → IfErr result (λ e. Survives mid (state g e.1) (λ _. ⊥))
       → IfErr result (λ e. HasCleanDisk (state g e.1) → IsOfOpening e.0 → ⊥)
-  never_wrong id own new = go result
+  never_another id own owns = go result
     where
       other : (f : StoreFault) → ◌≡◌ {A = Result Unit StoreFault} (Ok tt) (Err f) → ⊥
       other f e = let no = e in cc
@@ -29,7 +29,19 @@ module _ {S : Type 0} (g : Ghosts S) (old mid : State) (result : Result (Kept S)
       go : (r : Result (Kept S) (StoreFault × Held S)) → IfErr r (λ e. HasCleanDisk (state g e.1) → IsOfOpening e.0 → judged id own (meta_cells mid.now.trees) ≡ Err e.0) → IfErr r (λ e. Survives mid (state g e.1) (λ _. ⊥))
           → IfErr r (λ e. HasCleanDisk (state g e.1) → IsOfOpening e.0 → ⊥)
       go (Ok a) wrong left = tt
-      go (Err e) wrong left = λ clean of. other e.0 (sym (new_is_own id own mid.now.trees (new (omega (arith, left.clean, clean)))) ∙ wrong clean of)
+      go (Err e) wrong left = λ clean of. other e.0 (sym (owns (omega (arith, left.clean, clean))) ∙ wrong clean of)
+
+  -- as with those that were just made
+  pub never_wrong : (id : List ℕ) (own : ℕ) → (HasCleanDisk mid → IsNewArchive id (pos own) mid.now.trees)
+      → IfErr result (λ e. HasCleanDisk (state g e.1) → IsOfOpening e.0 → judged id own (meta_cells mid.now.trees) ≡ Err e.0) → IfErr result (λ e. Survives mid (state g e.1) (λ _. ⊥))
+      → IfErr result (λ e. HasCleanDisk (state g e.1) → IsOfOpening e.0 → ⊥)
+  never_wrong id own new = never_another id own (λ clean. new_is_own id own mid.now.trees (new clean))
+
+  -- and with those of a store that was migrated
+  pub never_moved : (id : List ℕ) (own : ℕ) → (HasCleanDisk mid → IsStored id own old.now.trees × IsMigrated old.now.trees mid.now.trees)
+      → IfErr result (λ e. HasCleanDisk (state g e.1) → IsOfOpening e.0 → judged id own (meta_cells mid.now.trees) ≡ Err e.0) → IfErr result (λ e. Survives mid (state g e.1) (λ _. ⊥))
+      → IfErr result (λ e. HasCleanDisk (state g e.1) → IsOfOpening e.0 → ⊥)
+  never_moved id own moved = never_another id own (λ clean. let m = moved clean in ap (λ rows. judged id own (map meta_columns rows)) m.1.meta ∙ (ap (judged id own) m.0.stands.meta ∙ own_row id own))
 
   -- what a crash leaves behind a step and a quiet one is what it leaves behind the step
   pub opened_then : (P : Trees → Type 0) → Survives old mid P → IfOk result (λ a. Survives mid (state g a.conn) (λ _. ⊥)) → IfOk result (λ a. Survives old (state g a.conn) P)
@@ -46,6 +58,24 @@ module _ {S : Type 0} (g : Ghosts S) (old mid : State) (result : Result (Kept S)
       go (Ok a) two = tt
       go (Err e) two = survives_then old mid (state g e.1) _ _ _ (λ clean db p. p) (λ clean db none. absurd none) one two
 
+module _ {S : Type 0} (g : Ghosts S) (old mid : State) (id : List ℕ) (own : ℕ) (facts : HasCleanDisk mid → (old.now.schema ≡ older_schema) × IsStored id own old.now.trees × (mid.now.trees ≡ old.now.trees)) where
+  -- what is migrated behind a quiet step is migrated
+  as_moved : (clean : HasCleanDisk mid) (db : Trees) → IsMigrated mid.now.trees db → IsMigratedIn id own old.now db
+  as_moved clean db moved = let f = facts clean in (f.0, f.1, subst (λ t. IsMigrated t db) f.2 moved)
+
+  pub opened_moved : (r : Result (Kept S) (StoreFault × Held S)) → Survives old mid (λ _. ⊥) → IfOk r (λ a. Survives mid (state g a.conn) (IsMigrated mid.now.trees)) → IfOk r (λ a. Survives old (state g a.conn) (IsMigratedIn id own old.now))
+  opened_moved (Ok a) one two = survives_then old mid (state g a.conn) _ _ _ (λ clean db none. absurd none) (λ clean db moved. as_moved (omega (arith, two.clean, clean)) db moved) one two
+  opened_moved (Err e) one two = tt
+
+  pub left_moved : (r : Result (Kept S) (StoreFault × Held S)) → Survives old mid (λ _. ⊥) → IfErr r (λ e. Survives mid (state g e.1) (IsMigrated mid.now.trees)) → IfErr r (λ e. Survives old (state g e.1) (IsMigratedIn id own old.now))
+  left_moved (Ok a) one two = tt
+  left_moved (Err e) one two = survives_then old mid (state g e.1) _ _ _ (λ clean db none. absurd none) (λ clean db moved. as_moved (omega (arith, two.clean, clean)) db moved) one two
+
+-- what never comes comes as meta says
+pub never_comes : {S : Type 0} (g : Ghosts S) (told : Result Unit StoreFault) (r : Result (Kept S) (StoreFault × Held S)) → IfErr r (λ e. HasCleanDisk (state g e.1) → IsOfOpening e.0 → ⊥) → IfErr r (λ e. HasCleanDisk (state g e.1) → IsOfOpening e.0 → told ≡ Err e.0)
+never_comes g told (Ok a) none = tt
+never_comes g told (Err e) none = λ clean of. absurd (none clean of)
+
 -- a quiet step is one that may commit
 widened : (a b : State) (P : Trees → Type 0) → Survives a b (λ _. ⊥) → Survives a b P
 widened a b P one = survives_then a a b (λ _. ⊥) (λ _. ⊥) P (λ clean db none. absurd none) (λ clean db none. absurd none) (survives_itself a) one
@@ -61,27 +91,40 @@ module _ {S : Type 0} (g : Ghosts S) (old : State) where
 
   -- and so is one that makes tables where there are none
   pub opened_new : (id : List ℕ) (own : ℕ) (r : Result (Kept S) (StoreFault × Held S)) → old.now.schema ≡ no_schema → IfOk r (λ a. Survives old (state g a.conn) (IsNewArchive id (pos own)))
-      → IfOk r (λ a. Survives old (state g a.conn) (IsMadeIn id own old.now))
-  opened_new id own (Ok a) none one = survives_weaker old (state g a.conn) _ _ (λ clean db new. (none, new)) one
+      → IfOk r (λ a. Survives old (state g a.conn) (IsBegunIn id own old.now))
+  opened_new id own (Ok a) none one = survives_weaker old (state g a.conn) _ _ (λ clean db new. inl (none, new)) one
   opened_new id own (Err e) none one = tt
 
   pub left_new : (id : List ℕ) (own : ℕ) (r : Result (Kept S) (StoreFault × Held S)) → old.now.schema ≡ no_schema → IfErr r (λ e. Survives old (state g e.1) (IsNewArchive id (pos own)))
-      → IfErr r (λ e. Survives old (state g e.1) (IsMadeIn id own old.now))
+      → IfErr r (λ e. Survives old (state g e.1) (IsBegunIn id own old.now))
   left_new id own (Ok a) none one = tt
-  left_new id own (Err e) none one = survives_weaker old (state g e.1) _ _ (λ clean db new. (none, new)) one
+  left_new id own (Err e) none one = survives_weaker old (state g e.1) _ _ (λ clean db new. inl (none, new)) one
 
   -- how it begins: with new tables, or with those that stood there
   pub started_new : (id : List ℕ) (own : ℕ) (r : Result (Kept S) (StoreFault × Held S)) → old.now.schema ≡ no_schema → IfOk r (λ a. HasCleanDisk (state g a.conn) → IsNewArchive id (pos own) (state g a.conn).now.trees)
       → IfOk r (λ a. HasCleanDisk (state g a.conn) → Starts id own old.now (state g a.conn).now)
-  started_new id own (Ok a) none made = λ clean. inl (none, made clean)
+  started_new id own (Ok a) none made = λ clean. inl (inl (none, made clean))
   started_new id own (Err e) none made = tt
 
   pub started_old : (id : List ℕ) (own : ℕ) (r : Result (Kept S) (StoreFault × Held S)) → old.now.schema ≡ archive_schema → IfOk r (λ a. HasCleanDisk (state g a.conn) → IsStored id own old.now.trees)
-      → IfOk r (λ a. HasCleanDisk (state g a.conn) → (state g a.conn).now ≡ old.now) → IfOk r (λ a. HasCleanDisk (state g a.conn) → Starts id own old.now (state g a.conn).now)
-  started_old id own (Ok a) has stored same = λ clean. inr (has, stored clean, same clean)
-  started_old id own (Err e) has stored same = tt
+      → IfOk r (λ a. HasCleanDisk (state g a.conn) → AreKept old.now.trees) → IfOk r (λ a. HasCleanDisk (state g a.conn) → (state g a.conn).now ≡ old.now) → IfOk r (λ a. HasCleanDisk (state g a.conn) → Starts id own old.now (state g a.conn).now)
+  started_old id own (Ok a) has stored kept same = λ clean. inr (has, stored clean, kept clean, same clean)
+  started_old id own (Err e) has stored kept same = tt
 
-  pub refused_by : (id : List ℕ) (own : ℕ) (r : Result (Kept S) (StoreFault × Held S)) → old.now.schema ≡ archive_schema
+  pub refused_by : (id : List ℕ) (own : ℕ) (r : Result (Kept S) (StoreFault × Held S)) → IsKnown old.now.schema
       → IfErr r (λ e. HasCleanDisk (state g e.1) → IsOfOpening e.0 → judged id own (meta_cells old.now.trees) ≡ Err e.0) → IfErr r (λ e. HasCleanDisk (state g e.1) → IsOfOpening e.0 → IsRefused id own old.now e.0)
   refused_by id own (Ok a) has wrong = tt
   refused_by id own (Err e) has wrong = λ clean of. record { schema = has; judged = wrong clean of }
+
+  -- and with those of a store as it was
+  pub started_migrated : (id : List ℕ) (own : ℕ) (r : Result (Kept S) (StoreFault × Held S)) → IfOk r (λ a. HasCleanDisk (state g a.conn) → IsMigratedIn id own old.now (state g a.conn).now.trees) → IfOk r (λ a. HasCleanDisk (state g a.conn) → Starts id own old.now (state g a.conn).now)
+  started_migrated id own (Ok a) made = λ clean. inl (inr (made clean))
+  started_migrated id own (Err e) made = tt
+
+  pub opened_migrated : (id : List ℕ) (own : ℕ) (r : Result (Kept S) (StoreFault × Held S)) → IfOk r (λ a. Survives old (state g a.conn) (IsMigratedIn id own old.now)) → IfOk r (λ a. Survives old (state g a.conn) (IsBegunIn id own old.now))
+  opened_migrated id own (Ok a) one = survives_weaker old (state g a.conn) _ _ (λ clean db made. inr made) one
+  opened_migrated id own (Err e) one = tt
+
+  pub left_migrated : (id : List ℕ) (own : ℕ) (r : Result (Kept S) (StoreFault × Held S)) → IfErr r (λ e. Survives old (state g e.1) (IsMigratedIn id own old.now)) → IfErr r (λ e. Survives old (state g e.1) (IsBegunIn id own old.now))
+  left_migrated id own (Ok a) one = tt
+  left_migrated id own (Err e) one = survives_weaker old (state g e.1) _ _ (λ clean db made. inr made) one

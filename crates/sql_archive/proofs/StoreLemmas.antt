@@ -1,5 +1,5 @@
 -- An archive in a database meets the contract of archives.
-use Rattle.std.proofs.Common.{◌≡◌, ◌⊎◌, inl, inr, ℕ, is_gt, ◌||◌, List, Bool, true, false, Option, Some, None, IfSome, Result, Ok, Err, IfOk, IfErr, IsTrue, refl, sym, ap, ◌∙◌, subst, arith, [], ◌∷◌, map, option_to_list}
+use Rattle.std.proofs.Common.{◌≡◌, ◌⊎◌, inl, inr, ℕ, is_gt, ◌||◌, List, Bool, true, false, Option, Some, None, IfSome, Result, Ok, Err, IfErr, IsTrue, refl, sym, ap, ◌∙◌, subst, arith, [], ◌∷◌, map, option_to_list}
 use Rattle.std.proofs.lemmas.Bool.{true≢false}
 use Rattle.std.proofs.lemmas.Option.{none-some}
 use Rattle.std.proofs.Math.Logic.{∥∥₁_elim}
@@ -8,7 +8,7 @@ use Rattle.sqlite_trees.specs.Tree.{Trees}
 use Rattle.sqlite_trees.specs.Objects.{catalog_tree}
 use Rattle.sqlite_catalog.specs.Listing.{Lists}
 use Rattle.sqlite_trees.specs.View.{IsClean}
-use Rattle.sqlite.specs.Held.{Held, state}
+use Rattle.sqlite.specs.Held.{state}
 use Rattle.sqlite.specs.Effect.{Database}
 use Rattle.sqlite.specs.State.{State, HasCleanDisk, Survives, IsLive}
 use Rattle.records.specs.Contents.{Content, Adds, finding, put}
@@ -17,8 +17,8 @@ use Rattle.archive.specs.declared.fault.LearnFault.{LearnFault}
 use Rattle.archive.specs.declared.fault.LearnFault.TheVariants as refused
 use Rattle.sql_archive.specs.Learning.{Learned, Follows, IsCommitOf, flat, IsOwn, was_added}
 use Rattle.archive.specs.declared.fault.StoreFault.{StoreFault}
-use Rattle.archive.specs.declared.fault.StoreFault.TheVariants.{OutOfMemory, Refused, WrongReplica, WrongArchive, Broken}
-use Rattle.archive.specs.Store.{Store, IsLawfulContent, IsSettled, Rests, IsOfOpening, failed_by, is_break, Passes, Leaves, Stays as Rest, fault_in, Asks, Learns, store_fault_in}
+use Rattle.archive.specs.declared.fault.StoreFault.TheVariants.{Broken}
+use Rattle.archive.specs.Store.{IsLawfulContent, Rests, IsOfOpening, failed_by, is_break, Leaves, fault_in, Asks, Learns}
 use Rattle.archive.specs.Listed.{is_broken, failures}
 use Rattle.std.specs.List.{list_any, AllByRecursion}
 use Rattle.std.proofs.Math.Bool.{or-false}
@@ -30,11 +30,11 @@ use Rattle.records.specs.Records.{name_cmp}
 use Rattle.archive.specs.Store.{answer_to}
 use Rattle.sql_archive.specs.Learning.{is_added}
 use Rattle.sql_archive.proofs.LearnLemmas.{kept_by, adds_by}
-use Rattle.stamp.specs.Numbers.{number_of}
-use Rattle.records.specs.Contents.{vec, top, number_from, learned, after_finding, Finding}
+use Rattle.records.specs.Contents.{vec, top, number_from, learned, after_finding}
 use Rattle.records.proofs.ChangeLemmas.{top_put}
 use Rattle.sql_archive.specs.Rows.{content_in, IsStored, IsStoreOf, meta_columns}
-use Rattle.sql_archive.specs.State.{Idles, Stays, Asked}
+use Rattle.sql_archive.specs.Derived.{AreKept}
+use Rattle.sql_archive.specs.State.{Stays, Asked}
 use Rattle.sql_archive.specs.Kept.{Kept, Remembers, Raises, Stands, Serves, LeavesStores, store_of}
 use Rattle.sql_archive.proofs.AskLemmas.{survives_itself, asked_nothing}
 use Rattle.sql_archive.proofs.RowLemmas.{content_is}
@@ -104,19 +104,19 @@ module _ {S : Type 0} (g : Ghosts S) (laws : Laws g) where
       }
 
   -- an archive begins over tables of its own
-  pub serves-begun : (a : Kept S) (old : State) → (HasCleanDisk (state g a.conn) → Stays old (state g a.conn) × IsStored a.id a.number old.now.trees × Remembers (content_in old.now.trees) a.numbers a.tick) → IsLive (state g a.conn) → Serves g a
+  pub serves-begun : (a : Kept S) (old : State) → (HasCleanDisk (state g a.conn) → Stays old (state g a.conn) × IsStored a.id a.number old.now.trees × AreKept old.now.trees × Remembers (content_in old.now.trees) a.numbers a.tick) → IsLive (state g a.conn) → Serves g a
   serves-begun a old opened live = (λ ok. stands, λ clean db m. left clean db (stands clean) m)
     where
       stands : HasCleanDisk (state g a.conn) → Stands a.id a.number a.numbers a.tick (state g a.conn)
       stands clean =
           let all = opened clean in
           let same : old.now.trees ≡ (state g a.conn).now.trees = sym (ap (λ (d : Database). d.trees) all.0.same) in
-          record { idles = all.0.idles; stored = subst (IsStored a.id a.number) same all.1; remembered = subst (λ t. Remembers (content_in t) a.numbers a.tick) same all.2 }
+          record { idles = all.0.idles; stored = subst (IsStored a.id a.number) same all.1; kept = subst AreKept same all.2; remembered = subst (λ t. Remembers (content_in t) a.numbers a.tick) same all.3 }
 
       left : HasCleanDisk (state g a.conn) → (db : Trees) → Stands a.id a.number a.numbers a.tick (state g a.conn) → (state g a.conn).may_leave db → IsStoreOf a.id a.number db
       left clean db s m =
           let same : (state g a.conn).now.trees ≡ db = sym (laws.settled a.conn.store db s.idles.is_open m ∙ ap (λ (d : Database). d.trees) s.idles.settled) in
-          subst (IsStoreOf a.id a.number) same (subst (Lists ((state g a.conn).now.trees catalog_tree)) s.idles.tables (live s.idles.is_open).0.lists, s.stored)
+          subst (IsStoreOf a.id a.number) same (subst (Lists ((state g a.conn).now.trees catalog_tree)) s.idles.tables (live s.idles.is_open).0.lists, s.stored, s.kept)
 
   -- a crash leaves stores behind a call that commits nothing else
   stores-left : (a b : Kept S) (Commits : Trees → Type 0) → Serves g a → b.id ≡ a.id → b.number ≡ a.number → Survives (state g a.conn) (state g b.conn) Commits
@@ -172,6 +172,7 @@ module _ {S : Type 0} (g : Ghosts S) (laws : Laws g) where
       record {
         idles = s.idles;
         stored = subst (λ i. IsStored i b.number (state g b.conn).now.trees) (sym id) (subst (λ n. IsStored a.id n (state g b.conn).now.trees) (sym own) (subst (IsStored a.id a.number) (sym same) before.stored));
+        kept = subst AreKept (sym same) before.kept;
         remembered = subst (λ t. Remembers (content_in t) b.numbers b.tick) (sym same) (remembers before.remembered);
       }
 
@@ -240,7 +241,7 @@ module _ {S : Type 0} (g : Ghosts S) (laws : Laws g) where
   -- what is learned leaves tables that stand for a lawful content
   pub serves-learned : (a b : Kept S) (r : Record) (answer : Result (Result Bool LearnFault) StoreFault) → Serves g a → a.broken ≡ false → b.id ≡ a.id → b.number ≡ a.number
       → Raises r (was_added answer) a.numbers a.tick b.numbers b.tick → Learned (state g a.conn) (state g b.conn) r answer → b.broken ≡ is_broken (fault_in answer) → Serves g b
-  serves-learned a b r answer was used id own raises learned broken = (stands answer raises learned broken, stores-left a b _ was id own learned.crash (λ clean db made. (made.2, stored (was.0 used clean).stored made.1)))
+  serves-learned a b r answer was used id own raises learned broken = (stands answer raises learned broken, stores-left a b _ was id own learned.crash (λ clean db made. (made.2, stored (was.0 used clean).stored made.1, made.1.kept)))
     where
       -- the tables that follow those of the archive are its own
       stored : {db : Trees} → IsStored a.id a.number (state g a.conn).now.trees → Follows r (state g a.conn).now.trees db → IsStored a.id a.number db
@@ -254,6 +255,7 @@ module _ {S : Type 0} (g : Ghosts S) (laws : Laws g) where
           record {
             idles = all.1;
             stored = subst (λ i. IsStored i b.number (state g b.conn).now.trees) (sym id) (subst (λ n. IsStored a.id n (state g b.conn).now.trees) (sym own) (stored before.stored all.2));
+            kept = all.2.kept;
             remembered = remembered_by (content_in (state g a.conn).now.trees) r told a.numbers a.tick b.numbers b.tick (content_in (state g b.conn).now.trees) before.remembered raises all.0 all.2.content;
           }
       stands (Err fault) raises learned broken ok clean =

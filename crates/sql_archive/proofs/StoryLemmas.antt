@@ -1,10 +1,10 @@
 -- What the rows of one node and time stand for.
-use Rattle.std.proofs.Common.{◌≡◌, ℕ, ◌+◌, ◌<◌, ◌≤◌, length, arith, ℤ, pos, Bool, true, false, ◌&&◌, cond, List, [], ◌∷◌, map, filter, refl, sym, ap, ap₂, subst, ◌∙◌, inl, inr, Ordering, Less, is_eq, is_gt, IsPermutation, IsSorted, Ok, append-nil, nat_lt, ◌==◌, Greater, Equal}
-use Rattle.std.specs.List.{flat_map, AllByRecursion, list_any}
+use Rattle.std.proofs.Common.{◌≡◌, ℕ, ◌<◌, ◌≤◌, length, arith, ℤ, pos, Bool, true, false, ◌&&◌, cond, List, [], ◌∷◌, map, filter, refl, sym, ap, ap₂, subst, ◌∙◌, inl, inr, Ordering, Less, is_eq, is_gt, IsPermutation, Ok, append-nil, nat_lt, ◌==◌, Greater, Equal}
+use Rattle.std.specs.List.{flat_map, list_any}
 use Rattle.std.proofs.Common.{◌||◌}
 use Rattle.std.proofs.lemmas.Cmp.{tied_itself, int_cmp_total}
 use Rattle.std.proofs.lemmas.List.Sorted.{list_any-IsPermutation}
-use Rattle.std.specs.Ordering.{int_cmp, nat_cmp, int_eq, on, then_cmp, ordering_then}
+use Rattle.std.specs.Ordering.{int_cmp, nat_cmp, int_eq, ordering_then}
 use Rattle.std.specs.Bool.{Decides, one_answer}
 use Rattle.std.specs.Cmp.{IsTotalOrder}
 use Rattle.std.specs.Str.{bytes_eq}
@@ -16,23 +16,22 @@ use Rattle.records.proofs.Sizes.{fields_length}
 use Rattle.sql_archive.proofs.WriteLemmas.{same_value}
 use Rattle.std.proofs.lemmas.Slice.Eq.{bytes_eq-Decides}
 use Rattle.std.proofs.lemmas.Map.Text.{is_eq-slice_cmp}
-use Rattle.std.proofs.lemmas.List.Sorted.{IsPermutation-sym, IsPermutation-trans, IsPermutation-map}
+use Rattle.std.proofs.lemmas.List.Sorted.{IsPermutation-trans, IsPermutation-map}
 use Rattle.ua_binary.specs.Binary.{node_id, IsNodeId}
-use Rattle.ua_binary.specs.Format.{IsLawful}
 use Rattle.ua_binary.specs.declared.values.NodeId.{NodeId}
 use Rattle.ua_binary.proofs.Lawful.{node_id_lawful}
 use Rattle.sqlite_value.specs.Order.{Row, column, value_cmp}
-use Rattle.sqlite_value.specs.declared.value.Value.TheVariants.{Int, Blob as Bytes}
+use Rattle.sqlite_value.specs.declared.value.Value.TheVariants.{Blob as Bytes}
 use Rattle.sqlite_value.proofs.OrderLemmas.{value_cmp_total, value_cmp-Int, value_cmp-Blob}
 use Rattle.sqlite_trees.specs.Tree.{Trees, IsAscending}
 use Rattle.sqlite_keyed.specs.Lists as keyed
 use Rattle.sqlite_keyed.proofs.SortLemmas.{IsPermutation-sort_by, sorted_unique}
 use Rattle.sqlite_keyed.proofs.ListLemmas.{filter-map, IsPermutation-flat_map, IsPermutation-filter, ascending-map, ascending_weaker}
-use Rattle.records.specs.Lists.{Has, IsPairwise, Rises, sort_by, insert_sorted}
+use Rattle.records.specs.Lists.{Has, IsPairwise, sort_by, insert_sorted}
 use Rattle.records.specs.Same.{same_node, node_code, same_record, record_code}
 use Rattle.records.specs.Records as told
 use Rattle.records.specs.Contents.{Content}
-use Rattle.records.specs.Spelling.{IsRecord, fields, longest}
+use Rattle.records.specs.Spelling.{fields, longest}
 use Rattle.records.specs.declared.record.Record.{Record}
 use Rattle.records.proofs.Same.{Decides-is_same}
 use Rattle.records.proofs.CloseLemmas.{closed_stamps}
@@ -85,7 +84,7 @@ same_spelled : (a b : NodeId) → IsNodeId a → IsNodeId b → node_id.canon a 
 same_spelled a b p q e = sym (ap (λ (x : NodeId × List ℕ). x.0) (same_value (sym (read_node b q) ∙ (ap node_id.read (sym e) ∙ read_node a p))))
 
 -- two moments are one where their ticks and their picoseconds are
-same_moment : (s t : ℤ) → (int_eq (ticks_of s) (ticks_of t) && int_eq (pos (pico_of s)) (pos (pico_of t))) ≡ int_eq s t
+pub same_moment : (s t : ℤ) → (int_eq (ticks_of s) (ticks_of t) && int_eq (pos (pico_of s)) (pos (pico_of t))) ≡ int_eq s t
 same_moment s t = one_answer (int_eq (ticks_of s) (ticks_of t) && int_eq (pos (pico_of s)) (pos (pico_of t))) (int_eq s t) parts (Decides-int_eq s t)
   where
     parts : Decides (int_eq (ticks_of s) (ticks_of t) && int_eq (pos (pico_of s)) (pos (pico_of t))) (s ≡ t)

@@ -1,6 +1,6 @@
 -- Going over times.
-use Rattle.std.proofs.Common.{◌≡◌, ℕ, ℤ, pos, negsuc, ◌≤ℤ◌, ◌<ℤ◌, ◌+ℤ◌, ◌*ℤ◌, Bool, true, false, not, ◌&&◌, cond, List, [], ◌∷◌, ◌++◌, filter, map, take, length, reverse, Option, Some, None, refl, sym, ap, ap₂, subst, ◌∙◌, inl, inr, ◌⊎◌, arith, Ordering, Less, Equal, Greater}
-use Rattle.std.specs.List.{flat_map, cons_option, filter_map}
+use Rattle.std.proofs.Common.{◌≡◌, ℕ, ℤ, Bool, true, false, not, List, [], ◌∷◌, ◌++◌, filter, take, length, Some, None, refl, sym, ap, subst, ◌∙◌, inl, inr, ◌⊎◌, arith, Ordering, Less, Equal, Greater}
+use Rattle.std.specs.List.{flat_map}
 use Rattle.std.specs.Cmp.{IsTotalOrder}
 use Rattle.std.specs.Ordering.{int_cmp, ordering_reverse}
 use Rattle.std.proofs.lemmas.Cmp.{int_cmp_total}
@@ -9,19 +9,16 @@ use Rattle.std.proofs.lemmas.Bool.Decides.{nat_tests}
 use Rattle.std.proofs.lemmas.Int.{ints}
 use Rattle.std.proofs.lemmas.List.{append_assoc, append-nil, take-append-le}
 use Rattle.ua_binary.specs.declared.values.NodeId.{NodeId}
-use Rattle.records.specs.Lists.{Has, IsPairwise, Rises, IsApart, sort_by}
-use Rattle.records.specs.Contents.{Content, IsClosed, cut}
-use Rattle.records.specs.Records.{stamp_cmp, is_at, is_beyond, story, current, entries}
+use Rattle.records.specs.Lists.{Has, Rises, IsApart}
+use Rattle.records.specs.Contents.{Content, cut}
+use Rattle.records.specs.Records.{stamp_cmp, is_beyond, story}
 use Rattle.records.specs.declared.record.Record.{Record}
-use Rattle.records.specs.declared.shown.Held.{Held}
-use Rattle.records.specs.declared.shown.Entry.{Entry}
 use Rattle.records.proofs.Orders.{stamp_total}
 use Rattle.records.proofs.LatestLemmas.{story_rises, story_has}
-use Rattle.records.proofs.Sorting.{same_members, all-has, all_from_has, has-filter, has_from_filter, pairwise-filter, has-sort_by, has_from_sort_by, rises-sort_by}
-use Rattle.archive.specs.Reading.{times, in_direction, is_past, is_between, follows}
+use Rattle.records.proofs.Sorting.{same_members, all_from_has, has-filter, has_from_filter, pairwise-filter}
+use Rattle.archive.specs.Reading.{times, in_direction, is_past}
 use Rattle.archive.specs.declared.reading.Direction.{Direction}
 use Rattle.archive.specs.declared.reading.Direction.TheVariants.{Forward, Backward}
-use Rattle.archive.specs.declared.reading.LogPlace.{LogPlace}
 use Rattle.archive.proofs.Turning.{has-in_direction, pairwise-reverse}
 use Rattle.archive.proofs.Timing.{times_rise}
 use Rattle.archive.proofs.Cutting.{apart_cut}
@@ -30,7 +27,7 @@ use Rattle.sqlite_trees.specs.Tree.{Trees}
 use Rattle.records.proofs.CloseLemmas.{closed_stamps}
 use Rattle.sql_archive.specs.Rows.{content_in, IsFilled}
 use Rattle.sql_archive.proofs.RowLemmas.{content_is}
-use Rattle.sql_archive.specs.Walking.{moment_at, IsPlace, IsNextTime, stretch, first_time, values_at, entries_at, IsStoryAt}
+use Rattle.sql_archive.specs.Walking.{IsNextTime, stretch, IsStoryAt}
 
 -- ---- integers in a direction
 
@@ -55,15 +52,15 @@ turned_total cmp total = record {
   congr = λ x y z e. total.antisymm z x ∙ (ap ordering_reverse (total.congr x y z (total.antisymm x y ∙ ap ordering_reverse e)) ∙ sym (total.antisymm z y));
 }
 
-abbrev along : Direction → ℤ → ℤ → Ordering
+abbrev pub along : Direction → ℤ → ℤ → Ordering
 along Forward s t = int_cmp s t
 along Backward s t = int_cmp t s
 
-along_total : (d : Direction) → IsTotalOrder (along d)
+pub along_total : (d : Direction) → IsTotalOrder (along d)
 along_total Forward = int_cmp_total
 along_total Backward = turned_total int_cmp int_cmp_total
 
-less_past : (d : Direction) (s t : ℤ) → along d s t ≡ Less → is_past d s t ≡ true
+pub less_past : (d : Direction) (s t : ℤ) → along d s t ≡ Less → is_past d s t ≡ true
 less_past Forward s t e = grind (arith, nat_tests, ints)
 less_past Backward s t e = grind (arith, nat_tests, ints)
 
@@ -85,7 +82,7 @@ past_or_same Backward s t p = go (int_cmp s t) refl
     go Equal e = inl (grind (arith, nat_tests, ints))
     go Greater e = absurd (true≢false (sym (less_past Backward s t (int_cmp_total.antisymm t s ∙ ap ordering_reverse e)) ∙ p))
 
-turned_rise : (d : Direction) (ts : List ℤ) → Rises int_cmp ts → Rises (along d) (in_direction d ts)
+pub turned_rise : (d : Direction) (ts : List ℤ) → Rises int_cmp ts → Rises (along d) (in_direction d ts)
 turned_rise Forward ts up = up
 turned_rise Backward ts up = pairwise-reverse (λ s t. int_cmp s t ≡ Less) ts up
 

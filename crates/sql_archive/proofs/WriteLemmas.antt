@@ -1,12 +1,12 @@
 -- What the writes do.
-use Rattle.std.proofs.Common.{◌≡◌, ◌≢◌, arith, ◌⊎◌, inl, inr, ℕ, ℤ, pos, negsuc, drop, not, ◌&&◌, List, [], ◌∷◌, map, codes, slice_get, Bool, true, false, cond, Some, None, Ok, Err, Result, IfOk, IfErr, OnOk, IsTrue, refl, sym, ap, subst, subst₂, append-nil, ◌∙◌, nat_eq}
+use Rattle.std.proofs.Common.{◌≡◌, ◌≢◌, arith, ◌⊎◌, inl, inr, ℕ, ℤ, pos, drop, not, ◌&&◌, List, [], ◌∷◌, map, Bool, true, false, cond, None, Ok, Err, Result, OnOk, IsTrue, refl, sym, ap, subst, ◌∙◌, nat_eq}
 use Rattle.std.specs.List.Sorted.{IsPermutation}
 use Rattle.std.proofs.lemmas.List.Sorted.{IsPermutation-refl, IsPermutation-sym, IsPermutation-trans, IsPermutation-cons, IsPermutation-middle, IsPermutation-map}
 use Rattle.std.specs.declared.cmp.Ordering.{Ordering}
 use Rattle.std.specs.declared.cmp.Ordering.TheVariants.{Less, Equal, Greater}
-use Rattle.std.specs.Ordering.{is_eq, match_ordering}
+use Rattle.std.specs.Ordering.{match_ordering}
 use Rattle.sqlite_value.specs.declared.value.Value.{Value}
-use Rattle.sqlite_value.specs.declared.value.Value.TheVariants.{Null, Int, Text, Blob}
+use Rattle.sqlite_value.specs.declared.value.Value.TheVariants.{Null, Int, Blob}
 use Rattle.sqlite_value.specs.Order.{Row, value_cmp}
 use Rattle.sqlite_sql.specs.Term.{Term, lit, col}
 use Rattle.sqlite_sql.specs.Ops.{unary}
@@ -14,11 +14,11 @@ use Rattle.sqlite_schema.specs.declared.schema.Table.{Table}
 use Rattle.sqlite_schema.specs.declared.schema.Schema.{Schema}
 use Rattle.sqlite_schema.specs.declared.schema.Kind.TheVariants.{Integer}
 use Rattle.sqlite_schema.specs.declared.command.Source.TheVariants.{Values}
-use Rattle.sqlite_schema.specs.declared.command.Command.TheVariants.{Insert, Select, CreateTable, Commit, Release}
-use Rattle.sqlite_schema.specs.declared.command.Command.{Command}
-use Rattle.sql_archive.specs.State.{Adds, Idles, Stays, Making, Makes, IsNewArchive}
+use Rattle.sqlite_schema.specs.declared.command.Command.TheVariants.{Insert, CreateTable}
+use Rattle.sql_archive.specs.Keeping.{AddsRecord}
+use Rattle.sql_archive.specs.State.{KeepsOlder, AreEmpty, Rests, Holds, Idles, Stays, Making, Makes, IsNewArchive}
 use Rattle.sqlite_resolve.specs.Compile.{table_defined_by}
-use Rattle.sqlite_rules.specs.Edit.{Edit, edit_of, edited, is_taken, are_fresh, numbered, with_rowid, put_all}
+use Rattle.sqlite_rules.specs.Edit.{edit_of, is_taken, are_fresh, numbered, with_rowid, put_all}
 use Rattle.sqlite_rules.specs.Cast.{cast, cast_row}
 use Rattle.sqlite_rules.specs.declared.error.Rowids.TheVariants.{Chosen}
 use Rattle.sqlite_catalog.specs.Change.{created, next_tree, KeepsRows}
@@ -29,16 +29,15 @@ use Rattle.sqlite_trees.specs.Objects.{catalog_tree}
 use Rattle.sqlite_catalog.specs.Listing.{Lists}
 use Rattle.sqlite_tied.specs.Compute.{everything}
 use Rattle.sqlite.specs.declared.error.Error.{Error}
-use Rattle.sqlite.specs.Listing.{understood, reads_listing}
-use Rattle.sqlite.specs.Effect.{Database, IsDatabase}
-use Rattle.sqlite.specs.State.{State, mode_of, Writes, Executes, CommitsBy, MayCommit, MayWrite, IsUnchanged, IsRolledBack, IsNotRun, ExecutesIn, RunsCommand, RunsAlone, shows_rows, ExecutesInside, Shows, KeepsCommit, FailsToQuery, FailsToShow}
+use Rattle.sqlite.specs.Listing.{understood}
+use Rattle.sqlite.specs.Effect.{Database}
+use Rattle.sqlite.specs.State.{State, mode_of, Writes, Executes, IsUnchanged, IsRolledBack, IsNotRun, ExecutesInside, Shows, KeepsCommit, FailsToQuery, FailsToShow}
 use Rattle.sqlite.specs.Clock.{timed}
-use Rattle.sqlite_resolve.specs.declared.compiled.Compiled.{Compiled}
-use Rattle.std.proofs.lemmas.Bool.{cases_Bool, true≢false, eq-eqb}
-use Rattle.sqlite.proofs.Callers.{IsPlain, command_of, statement_of, runs_as, first_as, one_step, one_permutation}
-use Rattle.sql_archive.specs.Tables.{meta, records2, no_schema, with_meta, archive_schema}
+use Rattle.std.proofs.lemmas.Bool.{true≢false, eq-eqb}
+use Rattle.sqlite.proofs.Callers.{IsPlain, command_of, statement_of, runs_as, one_step}
+use Rattle.sql_archive.specs.Tables.{meta, records2, currents2, vectors, no_schema, with_meta, older_schema, with_currents, archive_schema}
 use Rattle.sql_archive.specs.Words.{columns_of, cells, cells_of}
-use Rattle.sql_archive.proofs.Texts.{insert_text, fill_text, meta_text, records_text, meta_is, records_is}
+use Rattle.sql_archive.proofs.Texts.{insert_text, fill_text, meta_text, records_text, currents_text, vectors_text, meta_is, records_is, currents_is, vectors_is}
 
 -- a part that gave a value did not stop on the way
 pub went : {B E R : Type 0} {b : B} {Stops : E → Type 0} → ((stop : E) × Stops stop × (Ok b ≡ Err stop)) ⊎ R → R
@@ -87,11 +86,31 @@ makes_meta old new (Err e) was h = tt
 makes_meta old new (Ok count) was h =
     let all = creates no_schema meta_text meta create_meta.0 create_meta.1 create_meta.2 meta_is refl old new count was.has h.0 in inside_says no_schema with_meta 0 old new was.inside all.0 all.1 h.1
 
-pub makes_records : (old new : State) (r : Result ℕ Error) → Making with_meta old → ExecutesInside 0 records_text [] old new r → OnOk r (Makes old new archive_schema 1 × (new.now.trees 0 ≡ old.now.trees 0))
+pub makes_records : (old new : State) (r : Result ℕ Error) → Making with_meta old → ExecutesInside 0 records_text [] old new r → OnOk r (Makes old new older_schema 1 × (new.now.trees 0 ≡ old.now.trees 0))
 makes_records old new (Err e) was h = tt
 makes_records old new (Ok count) was h =
     let all = creates with_meta records_text records2 create_records.0 create_records.1 create_records.2 records_is refl old new count was.has h.0 in
-    (inside_says with_meta archive_schema 1 old new was.inside all.0 all.1 h.1, all.2.0)
+    (inside_says with_meta older_schema 1 old new was.inside all.0 all.1 h.1, all.2.0)
+
+create_currents : (command_of (understood older_schema currents_text) ≡ CreateTable) × (statement_of currents_text (understood older_schema currents_text) ≡ currents_text) × IsPlain (understood older_schema currents_text)
+unfolding understood everything
+create_currents = (refl, refl, (refl, refl))
+
+create_vectors : (command_of (understood with_currents vectors_text) ≡ CreateTable) × (statement_of vectors_text (understood with_currents vectors_text) ≡ vectors_text) × IsPlain (understood with_currents vectors_text)
+unfolding understood everything
+create_vectors = (refl, refl, (refl, refl))
+
+pub makes_currents : (old new : State) (r : Result ℕ Error) → Making older_schema old → ExecutesInside 0 currents_text [] old new r → OnOk r (Makes old new with_currents 4 × KeepsOlder old.now.trees new.now.trees)
+makes_currents old new (Err e) was h = tt
+makes_currents old new (Ok count) was h =
+    let all = creates older_schema currents_text currents2 create_currents.0 create_currents.1 create_currents.2 currents_is refl old new count was.has h.0 in
+    (inside_says older_schema with_currents 4 old new was.inside all.0 all.1 h.1, record { meta = all.2.0; records = all.2.1.0 })
+
+pub makes_vectors : (old new : State) (r : Result ℕ Error) → Making with_currents old → ExecutesInside 0 vectors_text [] old new r → OnOk r (Makes old new archive_schema 6 × KeepsOlder old.now.trees new.now.trees × (new.now.trees 4 ≡ old.now.trees 4))
+makes_vectors old new (Err e) was h = tt
+makes_vectors old new (Ok count) was h =
+    let all = creates with_currents vectors_text vectors create_vectors.0 create_vectors.1 create_vectors.2 vectors_is refl old new count was.has h.0 in
+    (inside_says with_currents archive_schema 6 old new was.inside all.0 all.1 h.1, record { meta = all.2.0; records = all.2.1.0 }, all.2.1.1.0)
 
 abbrev pub terms : List Term
 terms = lit Null ∷ col 0 0 ∷ col 0 1 ∷ col 0 2 ∷ col 0 3 ∷ col 0 4 ∷ col 0 5 ∷ col 0 6 ∷ col 0 7 ∷ col 0 8 ∷ []
@@ -142,29 +161,15 @@ not_taken rows new fresh = go (is_taken rows new) fresh
     go false is = refl
     go true is = absurd (let e = is in cc)
 
-commits_as : (sql : List ℕ) (params : Row) (s : State) (db : Trees) (schema : Schema) → s.now.schema ≡ schema → (command : Command) → command_of (understood schema sql) ≡ command → IsPlain (understood schema sql)
-    → ¬ (command ≡ Commit) → ((name : List ℕ) → ¬ (command ≡ Release name)) → CommitsBy sql params s db → MayWrite s None command (statement_of sql (understood schema sql)) params db
-unfolding CommitsBy
-commits_as sql params s db schema has command is plain no_commit no_release h =
-    let known = sym h.1.is ∙ ap (λ d. understood d sql) has in
-    let bare = subst IsPlain (sym known) plain in
-    let full = subst₂ (λ k t. MayCommit s None k t params db) (ap command_of known ∙ is) (ap (statement_of sql) known) (rw (bare.0, bare.1, append-nil params) at h.2) in
-    may full
-  where
-    may : MayCommit s None command (statement_of sql (understood schema sql)) params db → MayWrite s None command (statement_of sql (understood schema sql)) params db
-    may (inl (inl e, _)) = absurd (no_commit e)
-    may (inl (inr r, _)) = absurd (no_release r.0 r.2)
-    may (inr w) = w
-
 module _ (origin number tick : ℤ) (node : List ℕ) (time pico asked : ℤ) (who value : List ℕ) where
   abbrev row : Row
   row = cells_of origin number tick node time pico asked who value
 
   -- what the insert makes of a database
-  pub does_add : (old : State) (tally : Tally) (after : Database) → IsDatabase after → old.now.schema ≡ archive_schema
+  pub does_add : (old : State) (tally : Tally) (after : Database) → old.now.schema ≡ archive_schema
       → Does old.step_limit (mode_of old) row old.now (statement_of insert_text (understood archive_schema insert_text)) None (Insert 1 (Values terms 10)) (Ok (tally, after))
-      → (after.schema ≡ archive_schema) × Adds row old.now.trees after.trees
-  does_add old tally after sound has changed =
+      → (after.schema ≡ archive_schema) × AddsRecord row old.now.trees after.trees
+  does_add old tally after has changed =
       let db = old.now.trees in
       let text = statement_of insert_text (understood archive_schema insert_text) in
       let done = went (subst (λ s. Does old.step_limit (mode_of old) row (record old.now { schema = s }) text None (Insert 1 (Values terms 10)) (Ok (tally, after))) has changed) in
@@ -185,22 +190,17 @@ module _ (origin number tick : ℤ) (node : List ℕ) (time pico asked : ℤ) (w
         record {
           records = subst (λ rs. IsPermutation (row ∷ cells (db 1)) (cells rs)) (sym (ap (λ (t : Trees). t 1) same ∙ rows)) mixed;
           meta = ap (λ (t : Trees). t 0) same ∙ applied.tables.0 apart;
-          lists = subst (Lists (after.trees catalog_tree)) (ap (λ (d : Database). d.schema) now) sound.lists;
+          currents = ap (λ (t : Trees). t 4) same ∙ applied.tables.1.1.0 (apart_by 4 1 refl);
+          vectors = ap (λ (t : Trees). t 6) same ∙ applied.tables.1.1.1.0 (apart_by 6 1 refl);
         },
       )
 
-  pub adds : (old new : State) (r : Result ℕ Error) → Idles old → Executes insert_text row old new r → OnOk r (Idles new × Adds row old.now.trees new.now.trees)
+  pub adds : (old new : State) (r : Result ℕ Error) → Making archive_schema old → ExecutesInside 0 insert_text row old new r → OnOk r (Making archive_schema new × (new.committed ≡ old.committed) × AddsRecord row old.now.trees new.now.trees)
   adds old new (Err e) was h = tt
   adds old new (Ok count) was h =
-      let w = runs_as insert_text row old new archive_schema was.tables (Insert 1 (Values terms 10)) insert_is insert_plain count h in
-      let all = does_add old w.tally new.now w.sound was.tables w.changed in
-      (record { is_open = w.shown.is_open; autocommit = w.shown.mode ∙ was.autocommit; settled = rw was.autocommit at w.shown.committed_is; tables = all.0 }, all.1)
-
-  -- what a crash may leave of the insert
-  pub leaves_added : (s : State) (db : Trees) → s.now.schema ≡ archive_schema → CommitsBy insert_text row s db → Adds row s.now.trees db
-  leaves_added s db has h =
-      let it = commits_as insert_text row s db archive_schema has (Insert 1 (Values terms 10)) insert_is insert_plain (λ e. let no = e in cc) (λ name e. let no = e in cc) h in
-      let all = does_add s it.1 it.2 it.4 has it.3 in rw it.5 all.1
+      let w = runs_as insert_text row old new archive_schema was.has (Insert 1 (Values terms 10)) insert_is insert_plain count h.0 in
+      let all = does_add old w.tally new.now was.has w.changed in
+      (record { inside = h.1.mode; has = all.0 }, h.1.committed_is, all.1)
 
 abbrev meta_terms : List Term
 meta_terms = lit (Int (pos 1)) ∷ lit Null ∷ lit (Int (pos 2)) ∷ col 0 0 ∷ col 0 1 ∷ []
@@ -213,10 +213,10 @@ fill_plain : IsPlain (understood archive_schema fill_text)
 unfolding understood everything
 fill_plain = (refl, refl)
 
-pub fills_meta : (name : List ℕ) (replica : ℤ) (old new : State) (r : Result ℕ Error) → Making archive_schema old → old.now.trees 0 ≡ [] → old.now.trees 1 ≡ [] → ExecutesInside 0 fill_text (Blob name ∷ Int replica ∷ []) old new r
+pub fills_meta : (name : List ℕ) (replica : ℤ) (old new : State) (r : Result ℕ Error) → Making archive_schema old → AreEmpty old.now.trees → ExecutesInside 0 fill_text (Blob name ∷ Int replica ∷ []) old new r
     → OnOk r (Making archive_schema new × IsNewArchive name replica new.now.trees × (new.committed ≡ old.committed))
-fills_meta name replica old new (Err e) was empty none h = tt
-fills_meta name replica old new (Ok count) was empty none h =
+fills_meta name replica old new (Err e) was empty h = tt
+fills_meta name replica old new (Ok count) was empty h =
     let params = Blob name ∷ Int replica ∷ [] in
     let db = old.now.trees in
     let command = Insert 0 (Values meta_terms 5) in
@@ -231,69 +231,35 @@ fills_meta name replica old new (Ok count) was empty none h =
     let applied = one_step archive_schema _ db written.0 (edit_of db meta [] Chosen 0 given.0) refl written.1 in
     let news : numbered Chosen (db 0) (map (λ s. cast_row meta (drop 0 s)) given.0) ≡ (Int (pos 1) ∷ Null ∷ Int (pos 2) ∷ Blob name ∷ Int replica ∷ []) ∷ [] =
     ap (λ all. numbered Chosen (db 0) (map (λ s. cast_row meta (drop 0 s)) all)) given.1.1 ∙ rw (cast_null, cast_int (pos 1), cast_int (pos 2), cast_int replica) in
-    let rows : written.0 0 ≡ (Int (pos 1) ∷ Null ∷ Int (pos 2) ∷ Blob name ∷ Int replica ∷ []) ∷ [] = applied.rows ∙ ap (put_all (db 0)) news ∙ rw empty in
-    let same : new.now.trees ≡ written.0 = ap (λ (d : Database). d.trees) now ∙ trees in
-    let apart : 1 ≢ 0 = λ e. absurd (omega (arith, e)) in (
+    let rows : written.0 0 ≡ (Int (pos 1) ∷ Null ∷ Int (pos 2) ∷ Blob name ∷ Int replica ∷ []) ∷ [] = applied.rows ∙ ap (put_all (db 0)) news ∙ rw empty.meta in
+    let same : new.now.trees ≡ written.0 = ap (λ (d : Database). d.trees) now ∙ trees in (
       record { inside = h.1.mode; has = ap (λ (d : Database). d.schema) now },
-      record { meta = ap (λ (t : Trees). t 0) same ∙ rows; records = ap (λ (t : Trees). t 1) same ∙ applied.tables.1.0 apart ∙ none; lists = subst (Lists (new.now.trees catalog_tree)) (ap (λ (d : Database). d.schema) now) w.sound.lists },
+      record { meta = ap (λ (t : Trees). t 0) same ∙ rows; records = ap (λ (t : Trees). t 1) same ∙ applied.tables.1.0 (apart_by 1 0 refl) ∙ empty.records; currents = ap (λ (t : Trees). t 4) same ∙ applied.tables.1.1.0 (apart_by 4 0 refl) ∙ empty.currents; vectors = ap (λ (t : Trees). t 6) same ∙ applied.tables.1.1.1.0 (apart_by 6 0 refl) ∙ empty.vectors; lists = subst (Lists (new.now.trees catalog_tree)) (ap (λ (d : Database). d.schema) now) w.sound.lists },
       h.1.committed_is,
     )
 
-pub stays_as : (old new : State) → Idles old → IsUnchanged old new → Stays old new
-stays_as old new was (shown, counts, marks) =
-    record {
-      idles = record { is_open = shown.is_open; autocommit = shown.mode ∙ was.autocommit; settled = shown.committed_is ∙ was.settled ∙ sym shown.now_is; tables = ap (λ (d : Database). d.schema) shown.now_is ∙ was.tables };
-      same = shown.now_is;
-    }
+pub holds_as : (old new : State) → Rests old → IsUnchanged old new → Holds old new
+holds_as old new was (shown, counts, marks) = record { rests = record { is_open = shown.is_open; autocommit = shown.mode ∙ was.autocommit; settled = shown.committed_is ∙ was.settled ∙ sym shown.now_is }; same = shown.now_is }
 
-pub stays_after : (old new : State) → Idles old → IsTrue new.is_open → IsRolledBack old new → Stays old new
-stays_after old new was is_open back =
-    let both = back.undone is_open in
-    let same = both.0 ∙ was.settled in
-    record { idles = record { is_open = is_open; autocommit = back.autocommit; settled = both.1 ∙ sym both.0; tables = ap (λ (d : Database). d.schema) same ∙ was.tables }; same = same }
+holds_after : (old new : State) → Rests old → IsTrue new.is_open → IsRolledBack old new → Holds old new
+holds_after old new was is_open back =
+    let both = back.undone is_open in record { rests = record { is_open = is_open; autocommit = back.autocommit; settled = both.1 ∙ sym both.0 }; same = both.0 ∙ was.settled }
 
 -- what a query that fails leaves
-pub fails_query : (sql : List ℕ) (params : Row) (old new : State) (e : Error) → IsPlain (understood old.now.schema sql) → Idles old → IsTrue new.is_open → FailsToQuery sql params old new e → Stays old new
+pub fails_query : (sql : List ℕ) (params : Row) (old new : State) (e : Error) → IsPlain (understood old.now.schema sql) → Rests old → IsTrue new.is_open → FailsToQuery sql params old new e → Holds old new
 unfolding FailsToQuery IsNotRun
-fails_query sql params old new e plain was is_open (inl (inl kept)) = stays_as old new was kept.1
-fails_query sql params old new e plain was is_open (inl (inr failed)) = stays_after old new was is_open failed.3
+fails_query sql params old new e plain was is_open (inl (inl kept)) = holds_as old new was kept.1
+fails_query sql params old new e plain was is_open (inl (inr failed)) = holds_after old new was is_open failed.3
 fails_query sql params old new e plain was is_open (inr h) =
     let none = (subst IsPlain h.1.is plain).0 in
-    let shown = subst (FailsToShow old new sql h.0 (timed params h.0.formats h.1.now) e) none h.2 in stays_as old new was shown.3
+    let shown = subst (FailsToShow old new sql h.0 (timed params h.0.formats h.1.now) e) none h.2 in holds_as old new was shown.3
 
--- what a statement that fails leaves, outside a transaction
-pub fails : (sql : List ℕ) (params : Row) (old new : State) (r : Result ℕ Error) → Idles old → Executes sql params old new r → IfErr r (λ _. IsTrue new.is_open → Stays old new)
-unfolding ExecutesIn IsNotRun
-fails sql params old new (Ok count) was h = tt
-fails sql params old new (Err e) was h = λ is_open. go is_open h
-  where
-    stays : IsUnchanged old new → Stays old new
-    stays (shown, counts, marks) =
-        record {
-          idles = record { is_open = shown.is_open; autocommit = shown.mode ∙ was.autocommit; settled = shown.committed_is ∙ was.settled ∙ sym shown.now_is; tables = ap (λ (d : Database). d.schema) shown.now_is ∙ was.tables };
-          same = shown.now_is;
-        }
-
-    undone : IsTrue new.is_open → IsRolledBack old new → Stays old new
-    undone is_open back =
-        let both = back.undone is_open in
-        let same = both.0 ∙ was.settled in
-        record { idles = record { is_open = is_open; autocommit = back.autocommit; settled = both.1 ∙ sym both.0; tables = ap (λ (d : Database). d.schema) same ∙ was.tables }; same = same }
-
-    command : IsTrue new.is_open → (c : Compiled) (full : Row) → RunsCommand old new sql c full (Err e) → Stays old new
-    command is_open c full (inl kept) = stays kept.1
-    command is_open c full (inr failed) = undone is_open failed.3
-
-    alone : IsTrue new.is_open → (c : Compiled) (full : Row) → RunsAlone false old new sql c full (Err e) → Stays old new
-    alone is_open c full h = elim (cases_Bool (shows_rows false c)) [
-      | inl shows ↦ stays (rw shows at h).1
-      | inr runs ↦ command is_open c full (rw runs at h)
-    ]
-
-    go : IsTrue new.is_open → Executes sql params old new (Err e) → Stays old new
-    go is_open (inl (inl kept)) = stays kept.1
-    go is_open (inl (inr failed)) = undone is_open failed.3
-    go is_open (inr ran) = alone is_open ran.0 _ ran.2
+-- what a transaction that failed leaves
+pub stays_behind : (a b c : State) → Idles a → Rests b → b.now ≡ a.committed → IsUnchanged b c → Stays a c
+stays_behind a b c was rests back same =
+    let h = holds_as b c rests same in
+    let all : c.now ≡ a.now = h.same ∙ back ∙ was.settled in
+    record { idles = record { is_open = h.rests.is_open; autocommit = h.rests.autocommit; settled = h.rests.settled; tables = ap (λ (d : Database). d.schema) all ∙ was.tables }; same = all }
 
 -- inside a transaction the last commit stays
 pub keeps_commit : (sql : List ℕ) (params : Row) (old new : State) (r : Result ℕ Error) → ExecutesInside 0 sql params old new r → KeepsCommit old new

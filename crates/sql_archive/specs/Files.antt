@@ -6,24 +6,24 @@ use Rattle.sqlite_wal.specs.Recovery.{Image}
 use Rattle.sqlite_trees.specs.Tree.{Trees}
 use Rattle.sqlite_trees.specs.Objects.{catalog_tree}
 use Rattle.sqlite_catalog.specs.Listing.{Lists}
-use Rattle.sqlite.specs.Files.{HoldsDatabase, AreFoundIn, LeavesFiles, image_of}
+use Rattle.sqlite.specs.Files.{HoldsDatabase, AreFoundIn, LeavesFiles}
 use Rattle.sqlite.specs.Closing.{files_left}
 use Rattle.sqlite.specs.declared.file.Leftover.{Leftover}
 use Rattle.records.specs.Contents.{Content}
-use Rattle.sql_archive.specs.Tables.{no_schema, archive_schema}
-use Rattle.sql_archive.specs.State.{IsNewArchive}
+use Rattle.sql_archive.specs.Tables.{no_schema, older_schema, archive_schema}
+use Rattle.sql_archive.specs.State.{IsNewArchive, IsMigrated}
 use Rattle.archive.specs.declared.fault.StoreFault.{StoreFault}
 use Rattle.sql_archive.specs.Opening.{judged}
-use Rattle.sql_archive.specs.Rows.{content_in, IsStoreOf, meta_cells}
+use Rattle.sql_archive.specs.Rows.{content_in, IsStoreOf, IsOlderStoreOf, meta_cells}
 
 -- an opening finds these trees in the two files: the database that they hold, or none
 pub record IsFound (image : Image) (db : Trees) : Type 0 where
   pub holds : (held : Trees) → HoldsDatabase image held → db ≡ held
   pub reads : AreFoundIn image db
 
--- the content of a store: nothing where it has no tables; else it is one of this archive and replica, and its content is what its tables hold
+-- the content of a store: nothing where it has no tables; else it is one of this archive and replica, as it is or as it was before current values and vectors had tables of their own, and its content is what its tables hold
 abbrev pub Tells : List ℕ → ℕ → Trees → Content → Type 0
-Tells id own db R = (Lists (db catalog_tree) no_schema × (R ≡ [])) ⊎ (IsStoreOf id own db × (R ≡ content_in db))
+Tells id own db R = (Lists (db catalog_tree) no_schema × (R ≡ [])) ⊎ ((IsStoreOf id own db ⊎ IsOlderStoreOf id own db) × (R ≡ content_in db))
 
 -- the content that an archive of this id and replica goes on with where the two files hold this
 pub record Resumes (image : Image) (id : List ℕ) (own : ℕ) (R : Content) : Type 0 where
@@ -43,14 +43,17 @@ ResumesAmong image Among = (id : List ℕ) (own : ℕ) (R : Content) → Resumes
 pub record IsAnothers (image : Image) (id : List ℕ) (own : ℕ) (fault : StoreFault) : Type 0 where
   pub db : Trees
   pub found : IsFound image db
-  pub lists : Lists (db catalog_tree) archive_schema
+  pub lists : Lists (db catalog_tree) archive_schema ⊎ Lists (db catalog_tree) older_schema
   pub judged : judged id own (meta_cells db) ≡ Err fault
 
 -- what the engine leaves of files that it can't open
 abbrev pub EngineLeaves : {D : Type 0} → (g : Ghosts D) → Files D → Files D → Type 0
 EngineLeaves {D} g files left = (rest : Leftover D g) × ((left.log, left.db) ≡ files_left rest) × LeavesFiles files rest
 
--- the files hold the database that was found there; or, where that had no table, a new archive
+-- what an opening that was refused leaves of what it found
+abbrev pub IsLeftOf : List ℕ → ℕ → Trees → Trees → Type 0
+IsLeftOf id own found db = (db ≡ found) ⊎ ((Lists (found catalog_tree) no_schema × IsNewArchive id (pos own) db) ⊎ (IsOlderStoreOf id own found × IsMigrated found db))
+
+-- the files hold the database that was found there; or, where that had no table, a new archive; or, where it was a store of this archive and replica without tables of current values and vectors, that store with them
 abbrev pub KeepsFound : Image → List ℕ → ℕ → Image → Type 0
-KeepsFound image id own left =
-    (found : Trees) × IsFound image found × ∥ ((db : Trees) × HoldsDatabase left db × ((db ≡ found) ⊎ (Lists (found catalog_tree) no_schema × IsNewArchive id (pos own) db))) ∥₁
+KeepsFound image id own left = (found : Trees) × IsFound image found × ∥ ((db : Trees) × HoldsDatabase left db × IsLeftOf id own found db) ∥₁

@@ -11,6 +11,7 @@ use Rattle.records.specs.Contents.{Content, number_from, vec, top}
 use Rattle.records.specs.declared.record.Record.{Record}
 use Rattle.archive.specs.Store.{Store, IsOfOpening}
 use Rattle.sql_archive.specs.Rows.{content_in, IsStored, IsStoreOf}
+use Rattle.sql_archive.specs.Derived.{AreKept}
 use Rattle.sql_archive.specs.State.{Idles}
 
 pub record Kept (S : Type 0) : Type 0 where
@@ -44,6 +45,7 @@ pub record Raises (r : Record) (added : Bool) (numbers : List ℕ) (tick : ℤ) 
 pub record Stands (id : List ℕ) (own : ℕ) (numbers : List ℕ) (tick : ℤ) (s : State) : Type 0 where
   pub idles : Idles s
   pub stored : IsStored id own s.now.trees
+  pub kept : AreKept s.now.trees
   pub remembered : Remembers (content_in s.now.trees) numbers tick
 
 module _ {S : Type 0} (g : Ghosts S) where

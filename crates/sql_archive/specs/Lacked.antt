@@ -1,5 +1,5 @@
 -- The records of one origin.
-use Rattle.std.specs.Prelude.{◌≡◌, ℕ, ◌==◌, nat_lt, ◌&&◌, List, filter}
+use Rattle.std.specs.Prelude.{ℕ, ◌==◌, nat_lt, ◌&&◌, List, filter}
 use Rattle.records.specs.Contents.{Content}
 use Rattle.records.specs.Records.{is_beyond}
 use Rattle.records.specs.declared.record.Record.{Record}

@@ -1,5 +1,5 @@
 -- What learning a record does to a connection.
-use Rattle.std.specs.Prelude.{◌≡◌, ℕ, ◌+◌, nat_lt, ℤ, int_lt, int_le, if◌then◌else◌, List, [], ◌∷◌, pos, false, Bool, Option, Some, None, Result, Ok, Err, IfOk, IfErr, OnOk, unwrap_or}
+use Rattle.std.specs.Prelude.{◌≡◌, ℕ, ◌+◌, nat_lt, ℤ, int_lt, int_le, if◌then◌else◌, List, [], ◌∷◌, pos, false, Bool, None, Result, Ok, Err, IfOk, IfErr, OnOk, unwrap_or}
 use Rattle.sqlite_trees.specs.Tree.{Trees}
 use Rattle.sqlite_trees.specs.Objects.{catalog_tree}
 use Rattle.sqlite_catalog.specs.Listing.{Lists}
@@ -14,6 +14,7 @@ use Rattle.archive.specs.declared.fault.LearnFault.{LearnFault}
 use Rattle.archive.specs.declared.fault.LearnFault.TheVariants as refused
 use Rattle.sql_archive.specs.Tables.{archive_schema}
 use Rattle.sql_archive.specs.Rows.{row_of, content_in, IsFilled}
+use Rattle.sql_archive.specs.Derived.{AreKept}
 use Rattle.sql_archive.specs.State as state
 
 -- the last record of an origin tells its number and its tick
@@ -42,7 +43,7 @@ was_added (Err fault) = false
 abbrev pub beyond : ℕ → ℤ → Record → Finding
 beyond held last r = if nat_lt (held + 1) r.number then Gap held r.number else if int_lt (pos greatest) r.tick then TickTooFar else if int_le r.tick last then TickNotRising else Adds
 
--- the rows of the record are written, in one commit
+-- the row of the record is written, and the rows that follow, in one commit
 pub record Stored (old new : State) (r : Record) (result : Result Unit StoreFault) : Type 0 where
   pub added : HasCleanDisk new → OnOk result (state.Idles new × state.Adds (row_of r) old.now.trees new.now.trees)
   pub kept : HasCleanDisk new → is_broken (fault_in result) ≡ false → IfErr result (λ _. state.Stays old new)
@@ -52,6 +53,7 @@ pub record Stored (old new : State) (r : Record) (result : Result Unit StoreFaul
 -- these are the old tables, with the record where it is added
 pub record Follows (r : Record) (old new : Trees) : Type 0 where
   pub filled : IsFilled new
+  pub kept : AreKept new
   pub content : content_in new ≡ unwrap_or (learned (content_in old) r) (content_in old)
   pub meta : new 0 ≡ old 0
 

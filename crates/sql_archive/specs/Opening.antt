@@ -17,10 +17,11 @@ use Rattle.sql_archive.specs.declared.checking.Mark.{Mark}
 use Rattle.sql_archive.specs.declared.checking.Walk.{Walk}
 use Rattle.sql_archive.specs.Words.{cells}
 use Rattle.sql_archive.specs.Kept.{Remembers}
+use Rattle.sql_archive.specs.Derived.{AreKept}
 use Rattle.sql_archive.specs.Rows.{IsStored, meta_cells, row_of}
 use Rattle.sqlite.specs.Effect.{Database}
-use Rattle.sql_archive.specs.Tables.{no_schema, archive_schema}
-use Rattle.sql_archive.specs.State.{Stays, IsNewArchive, shown_of}
+use Rattle.sql_archive.specs.Tables.{no_schema, older_schema, archive_schema}
+use Rattle.sql_archive.specs.State.{Holds, Stays, IsKnown, IsNewArchive, IsMigrated, shown_of}
 
 abbrev pub mark_of : Record → Mark
 mark_of r = record { origin = r.origin; number = r.number; tick = r.tick }
@@ -85,10 +86,16 @@ judged id own [] = Err Refused
 judged id own (r ∷ []) = judged_row id own r
 judged id own (r ∷ s ∷ rs) = Err Refused
 
--- what an opening makes of the tables that are there: Ok only where they stand for a lawful content of this archive and replica;
+-- what an opening makes of meta and records2: Ok only where they stand for a lawful content of this archive and replica;
 -- WrongArchive and WrongReplica only as meta says
 pub record Opens {A : Type 0} (id : List ℕ) (own : ℕ) (old new : State) (IsAnswer : A → Type 0) (result : Result A StoreFault) : Type 0 where
-  pub opened : HasCleanDisk new → IfOk result (λ a. Stays old new × IsStored id own old.now.trees × IsAnswer a)
+  pub opened : HasCleanDisk new → IfOk result (λ a. Holds old new × IsStored id own old.now.trees × IsAnswer a)
+  pub wrong : HasCleanDisk new → IfErr result (λ fault. IsOfOpening fault → judged id own (meta_cells old.now.trees) ≡ Err fault)
+  pub crash : Survives old new (λ _. ⊥)
+
+-- what an opening makes of all tables of an archive
+pub record OpensAll {A : Type 0} (id : List ℕ) (own : ℕ) (old new : State) (IsAnswer : A → Type 0) (result : Result A StoreFault) : Type 0 where
+  pub opened : HasCleanDisk new → IfOk result (λ a. Stays old new × IsStored id own old.now.trees × AreKept old.now.trees × IsAnswer a)
   pub wrong : HasCleanDisk new → IfErr result (λ fault. IsOfOpening fault → judged id own (meta_cells old.now.trees) ≡ Err fault)
   pub crash : Survives old new (λ _. ⊥)
 
@@ -96,11 +103,19 @@ pub record Opens {A : Type 0} (id : List ℕ) (own : ℕ) (old new : State) (IsA
 abbrev pub IsMadeIn : List ℕ → ℕ → Database → Trees → Type 0
 IsMadeIn id own old db = (old.schema ≡ no_schema) × IsNewArchive id (pos own) db
 
--- an archive begins with new tables in a store that had none, or with those that stood there, which are those of a lawful content of this archive and replica
+-- tables of current values and of vectors are made beside those of a lawful content of this archive and replica that had none
+abbrev pub IsMigratedIn : List ℕ → ℕ → Database → Trees → Type 0
+IsMigratedIn id own old db = (old.schema ≡ older_schema) × IsStored id own old.trees × IsMigrated old.trees db
+
+-- what an opening commits
+abbrev pub IsBegunIn : List ℕ → ℕ → Database → Trees → Type 0
+IsBegunIn id own old db = IsMadeIn id own old db ⊎ IsMigratedIn id own old db
+
+-- an archive begins with what the opening made, or with the tables that stood there, which are those of a lawful content of this archive and replica
 abbrev pub Starts : List ℕ → ℕ → Database → Database → Type 0
-Starts id own old new = IsMadeIn id own old new.trees ⊎ ((old.schema ≡ archive_schema) × IsStored id own old.trees × (new ≡ old))
+Starts id own old new = IsBegunIn id own old new.trees ⊎ ((old.schema ≡ archive_schema) × IsStored id own old.trees × AreKept old.trees × (new ≡ old))
 
 -- meta says that this is another archive's store, or another replica's
 pub record IsRefused (id : List ℕ) (own : ℕ) (old : Database) (fault : StoreFault) : Type 0 where
-  pub schema : old.schema ≡ archive_schema
+  pub schema : IsKnown old.schema
   pub judged : judged id own (meta_cells old.trees) ≡ Err fault

@@ -1,11 +1,10 @@
 -- The rows that stand for a content.
-use Rattle.std.specs.Prelude.{◌≡◌, ℕ, ℤ, pos, List, [], ◌∷◌, ◌++◌, map, Some, Result, Ok, Err, IsPermutation}
+use Rattle.std.specs.Prelude.{◌≡◌, ℕ, pos, List, [], ◌∷◌, ◌++◌, map, Some, Result, Ok, Err, IsPermutation}
 use Rattle.std.specs.List.{flat_map}
 use Rattle.std.specs.Int.{w16, w64}
 use Rattle.ua_binary.specs.Binary.{unsigned, signed, text, node_id}
 use Rattle.ua_variant.specs.DataValue.{data_value}
-use Rattle.sqlite_value.specs.declared.value.Value.{Value}
-use Rattle.sqlite_value.specs.declared.value.Value.TheVariants.{Null, Int, Real, Text, Blob as Bytes}
+use Rattle.sqlite_value.specs.declared.value.Value.TheVariants.{Int, Blob as Bytes}
 use Rattle.sqlite_value.specs.Order.{Row, column, bytes}
 use Rattle.sqlite_trees.specs.Objects.{number_in, catalog_tree}
 use Rattle.sqlite_trees.specs.Tree.{Trees}
@@ -20,14 +19,9 @@ use Rattle.records.specs.declared.record.Record.{Record}
 use Rattle.records.specs.declared.fault.RecordFault.{RecordFault}
 use Rattle.archive.specs.Store.{IsLawfulContent}
 use Rattle.sql_archive.specs.Words.{cells, cells_of}
-use Rattle.sql_archive.specs.Tables.{archive_schema}
-
-abbrev pub int_in : Value → ℤ
-int_in Null = pos 0
-int_in (Int n) = n
-int_in (Real x) = pos 0
-int_in (Text t) = pos 0
-int_in (Bytes b) = pos 0
+pub use Rattle.sql_archive.specs.Derived.{int_in}
+use Rattle.sql_archive.specs.Tables.{archive_schema, older_schema}
+use Rattle.sql_archive.specs.Derived.{AreKept}
 
 -- ---- records
 
@@ -70,12 +64,12 @@ meta_cells db = map meta_columns (db 0)
 abbrev pub AreRecords : Content → Trees → Type 0
 AreRecords R db = IsPermutation (map row_of R) (cells (db 1))
 
--- the tables stand for a content
+-- meta and records2 stand for a content
 pub record StandFor (id : List ℕ) (own : ℕ) (R : Content) (db : Trees) : Type 0 where
   pub meta : meta_cells db ≡ meta_row id own ∷ []
   pub records : AreRecords R db
 
--- the tables stand for a lawful content
+-- meta and records2 stand for a lawful content
 pub record IsStored (id : List ℕ) (own : ℕ) (db : Trees) : Type 0 where
   pub content : Content
   pub lawful : IsLawfulContent content
@@ -83,7 +77,11 @@ pub record IsStored (id : List ℕ) (own : ℕ) (db : Trees) : Type 0 where
 
 -- a store of this archive and replica, as an opening takes it: the tables of an archive, and nothing else, stand for a lawful content
 abbrev pub IsStoreOf : List ℕ → ℕ → Trees → Type 0
-IsStoreOf id own db = Lists (db catalog_tree) archive_schema × IsStored id own db
+IsStoreOf id own db = Lists (db catalog_tree) archive_schema × IsStored id own db × AreKept db
+
+-- the same as it was before current values and vectors had tables of their own
+abbrev pub IsOlderStoreOf : List ℕ → ℕ → Trees → Type 0
+IsOlderStoreOf id own db = Lists (db catalog_tree) older_schema × IsStored id own db
 
 -- records holds the rows of some lawful content
 abbrev pub IsFilled : Trees → Type 0

@@ -1,7 +1,7 @@
 -- The tables of the archive.
 use Rattle.std.specs.Prelude.{true, false, [], ◌∷◌, Some, None, codes, List, ℕ, pos, Bool}
 use Rattle.sqlite_value.specs.declared.keys.Collation.TheVariants.{Binary}
-use Rattle.sqlite_value.specs.declared.value.Value.TheVariants.{Null, Int, Blob as Bytes}
+use Rattle.sqlite_value.specs.declared.value.Value.TheVariants.{Null, Int}
 use Rattle.sqlite_value.specs.Keys.{plain}
 use Rattle.sqlite_schema.specs.declared.schema.Column.{Column}
 use Rattle.sqlite_schema.specs.declared.schema.Table.{Table}
@@ -11,7 +11,7 @@ use Rattle.sqlite_schema.specs.declared.schema.Kind.{Kind}
 use Rattle.sqlite_schema.specs.declared.schema.Kind.TheVariants.{Integer, Blob}
 use Rattle.sqlite_sql.specs.declared.ops.BinaryOp.TheVariants.{Compare}
 use Rattle.sqlite_sql.specs.declared.ops.CompareOp.TheVariants.{Eq}
-use Rattle.sqlite_sql.specs.Term.{Term, lit, col, op2}
+use Rattle.sqlite_sql.specs.Term.{lit, col, op2}
 use Rattle.sqlite_catalog.specs.Change.{created}
 
 abbrev pub strict : List ℕ → Kind → Bool → Column
@@ -48,24 +48,63 @@ records2 = record (bare (codes "records2") (strict (codes "origin") Integer true
       orders = plain ∷ plain ∷ [];
     }
 
+abbrev pub currents2 : Table
+currents2 = record (bare (codes "currents2") (strict (codes "node") Blob true ∷ strict (codes "time") Integer true ∷ strict (codes "pico") Integer true ∷ strict (codes "tick") Integer true
+    ∷ strict (codes "origin") Integer true ∷ strict (codes "live") Integer true ∷ strict (codes "extra") Integer true ∷ strict (codes "value") Blob true ∷ [])) {
+      primary = 1 ∷ 2 ∷ 3 ∷ [];
+      uniques = (1 ∷ 2 ∷ 3 ∷ []) ∷ [];
+      orders = plain ∷ [];
+    }
+
+abbrev pub vectors : Table
+vectors = record (bare (codes "vectors") (strict (codes "origin") Integer false ∷ strict (codes "number") Integer true ∷ strict (codes "tick") Integer true ∷ [])) {
+  key = Some 0;
+  primary = 0 ∷ [];
+}
+
 abbrev pub no_schema : Schema
 no_schema = record { tables = []; indexes = []; views = [] }
 
 abbrev pub with_meta : Schema
 with_meta = created no_schema meta
 
-abbrev pub archive_schema : Schema
-archive_schema = created with_meta records2
+-- the tables of a store as they were before current values and vectors had tables of their own
+abbrev pub older_schema : Schema
+older_schema = created with_meta records2
 
--- the tables with the trees that they get, and the index of a key of records2
+abbrev pub with_currents : Schema
+with_currents = created older_schema currents2
+
+abbrev pub archive_schema : Schema
+archive_schema = created with_currents vectors
+
+-- the tables with the trees that they get, and the indexes of their keys
 abbrev pub first_table : Table
 first_table = record meta { tree = 0 }
 
 abbrev pub second_table : Table
 second_table = record records2 { tree = 1 }
 
-abbrev pub index_of : List ℕ → ℕ → List ℕ → Index
-index_of name tree columns = record { name = name; tree = tree; table = 1; columns = columns; order = plain; is_unique = true }
+abbrev pub third_table : Table
+third_table = record currents2 { tree = 4 }
+
+abbrev pub fourth_table : Table
+fourth_table = record vectors { tree = 6 }
+
+abbrev pub index_of : List ℕ → ℕ → ℕ → List ℕ → Index
+index_of name tree table columns = record { name = name; tree = tree; table = table; columns = columns; order = plain; is_unique = true }
+
+abbrev pub first_index : Index
+first_index = index_of (codes "sqlite_autoindex_records2_1") 2 1 (1 ∷ 2 ∷ [])
+
+abbrev pub second_index : Index
+second_index = index_of (codes "sqlite_autoindex_records2_2") 3 1 (4 ∷ 5 ∷ 6 ∷ 3 ∷ 1 ∷ [])
+
+abbrev pub third_index : Index
+third_index = index_of (codes "sqlite_autoindex_currents2_1") 5 4 (1 ∷ 2 ∷ 3 ∷ [])
+
+abbrev pub older_indexes : List Index
+older_indexes = first_index ∷ second_index ∷ []
 
 abbrev pub key_indexes : List Index
-key_indexes = index_of (codes "sqlite_autoindex_records2_1") 2 (1 ∷ 2 ∷ []) ∷ index_of (codes "sqlite_autoindex_records2_2") 3 (4 ∷ 5 ∷ 6 ∷ 3 ∷ 1 ∷ []) ∷ []
+key_indexes = first_index ∷ second_index ∷ third_index ∷ []

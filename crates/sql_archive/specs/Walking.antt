@@ -1,6 +1,6 @@
 -- Going over the times of a node in a direction.
 use Rattle.std.specs.Prelude.{◌≡◌, ◌-◌, ◌^◌, true, false, not, ◌&&◌, Bool, ℕ, ℤ, pos, negsuc, ◌≤ℤ◌, ◌+ℤ◌, ◌*ℤ◌, List, [], ◌∷◌, ◌++◌, filter, reverse, Option, Some, None, IfSome}
-use Rattle.std.specs.List.{flat_map, cons_option, AllByRecursion}
+use Rattle.std.specs.List.{cons_option, AllByRecursion}
 use Rattle.std.specs.declared.cmp.Ordering.{Ordering}
 use Rattle.std.specs.Ordering.{int_cmp, on, then_cmp}
 use Rattle.ua_binary.specs.declared.values.NodeId.{NodeId}

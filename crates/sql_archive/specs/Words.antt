@@ -1,5 +1,5 @@
 -- What the tables hold.
-use Rattle.std.specs.Prelude.{◌≡◌, ℕ, ℤ, List, [], ◌∷◌, map, filter, IsPermutation, IsSorted, Bool, ◌&&◌, Option, Some}
+use Rattle.std.specs.Prelude.{◌≡◌, ℕ, ℤ, List, [], ◌∷◌, map, filter, IsPermutation, IsSorted, Bool, ◌&&◌, Option}
 use Rattle.std.specs.declared.cmp.Ordering.{Ordering}
 use Rattle.std.specs.Ordering.{is_eq, ordering_then}
 use Rattle.sqlite_value.specs.declared.value.Value.TheVariants.{Int, Blob as Bytes}

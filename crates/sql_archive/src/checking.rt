@@ -9,7 +9,7 @@ ghost use Rattle.archive.specs.Store.{IsOfOpening};
 ghost use Rattle.records.specs.Spelling.{IsRecord};
 ghost use Rattle.sql_archive.specs.Words.{cells_of};
 ghost use Rattle.sql_archive.specs.Rows.{row_of};
-ghost use Rattle.sql_archive.specs.State.{Idles, Stays, shown_of};
+ghost use Rattle.sql_archive.specs.State.{Holds, IsKnown, Rests, shown_of};
 ghost use Rattle.sql_archive.specs.Opening.{comes_next, HasWalked, HasChecked};
 
 use crate::decode::{bytes_at, decode, int_at};
@@ -135,16 +135,17 @@ fn go_on(alloc: Global, walk: Walk, row: &Row) -> Result<Walk, StoreFault>
     })
 }
 
-/// Goes over all rows of records, by origin and number, as long as they are those of records in turn.
+/// Goes over all rows of records, in an archive's tables as they are or as they were, by origin and number, as long as they are those of records in turn.
 pub(crate) fn check_rows<S: Alter>(
     alloc: Global,
     conn: &mut Connection<S>,
 ) -> Result<Result<Walk, StoreFault>, Error>
-    requires { HasCleanDisk (state S.Store conn.old) → Idles (state S.Store conn.old) }
+    requires rests { HasCleanDisk (state S.Store conn.old) → Rests (state S.Store conn.old) }
+    requires known { HasCleanDisk (state S.Store conn.old) → IsKnown (state S.Store conn.old).now.schema }
     ensures checked { HasCleanDisk (state S.Store conn.new) → IfOk result (λ told. IfOk told (HasChecked (state S.Store conn.old).now.trees)) }
     ensures met { IfOk result (λ told. IfErr told (λ fault. IsOfOpening fault → ⊥)) }
     ensures same { HasCleanDisk (state S.Store conn.new) → OnOk result (IsUnchanged (state S.Store conn.old) (state S.Store conn.new)) }
-    ensures refused { HasCleanDisk (state S.Store conn.new) → IfErr result (λ _. IsTrue (state S.Store conn.new).is_open → Stays (state S.Store conn.old) (state S.Store conn.new)) }
+    ensures refused { HasCleanDisk (state S.Store conn.new) → IfErr result (λ _. IsTrue (state S.Store conn.new).is_open → Holds (state S.Store conn.old) (state S.Store conn.new)) }
     ensures crash { Survives (state S.Store conn.old) (state S.Store conn.new) (λ _. ⊥) }
 {
     let mut walk = start();

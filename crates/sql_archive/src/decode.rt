@@ -54,7 +54,7 @@ fn byte_at(row: &Row, at: usize) -> Result<u8, RecordFault>
     }
 }
 
-fn short_at(row: &Row, at: usize) -> Result<u16, RecordFault>
+pub(crate) fn short_at(row: &Row, at: usize) -> Result<u16, RecordFault>
     ensures { IfOk result (λ n. number_in (column row.now at) ≡ n) }
 {
     match u16::try_from(number_at(row, at)?) {

@@ -3,8 +3,8 @@
 ghost use Rattle.std.specs.Prelude.{◌≡◌, false, [], OnOk, OnErr, IsTrue};
 ghost use Rattle.sqlite.specs.State.{HasCleanDisk, Survives, KeepsCommit};
 ghost use Rattle.sqlite.specs.Held.{state};
-ghost use Rattle.sql_archive.specs.Tables.{no_schema, with_meta, archive_schema};
-ghost use Rattle.sql_archive.specs.State.{Making, Makes, IsNewArchive, Idles};
+ghost use Rattle.sql_archive.specs.Tables.{no_schema, with_meta, older_schema, with_currents, archive_schema};
+ghost use Rattle.sql_archive.specs.State.{Making, Makes, MakesOlder, MakesBeside, KeepsOlder, AreEmpty, IsNewArchive, Idles};
 
 use sqlite::{Alter, Connection, Error, Transaction, params};
 
@@ -23,7 +23,7 @@ fn make_meta<S: Alter>(tx: &mut Transaction<'_, S>) -> Result<usize, Error>
 
 fn make_records<S: Alter>(tx: &mut Transaction<'_, S>) -> Result<usize, Error>
     requires { HasCleanDisk (state S.Store tx.old.conn.now) → Making with_meta (state S.Store tx.old.conn.now) }
-    ensures made { HasCleanDisk (state S.Store tx.new.conn.now) → OnOk result (Makes (state S.Store tx.old.conn.now) (state S.Store tx.new.conn.now) archive_schema 1 × ((state S.Store tx.new.conn.now).now.trees 0 ≡ (state S.Store tx.old.conn.now).now.trees 0)) }
+    ensures made { HasCleanDisk (state S.Store tx.new.conn.now) → OnOk result (Makes (state S.Store tx.old.conn.now) (state S.Store tx.new.conn.now) older_schema 1 × ((state S.Store tx.new.conn.now).now.trees 0 ≡ (state S.Store tx.old.conn.now).now.trees 0)) }
     ensures kept { HasCleanDisk (state S.Store tx.new.conn.now) → KeepsCommit (state S.Store tx.old.conn.now) (state S.Store tx.new.conn.now) }
     ensures same { tx.new.conn.ghost_name ≡ tx.old.conn.ghost_name }
     ensures crash { Survives (state S.Store tx.old.conn.now) (state S.Store tx.new.conn.now) (λ _. ⊥) }
@@ -34,13 +34,65 @@ fn make_records<S: Alter>(tx: &mut Transaction<'_, S>) -> Result<usize, Error>
     )
 }
 
+fn make_currents<S: Alter>(tx: &mut Transaction<'_, S>) -> Result<usize, Error>
+    requires { HasCleanDisk (state S.Store tx.old.conn.now) → Making older_schema (state S.Store tx.old.conn.now) }
+    ensures made { HasCleanDisk (state S.Store tx.new.conn.now) → OnOk result (Makes (state S.Store tx.old.conn.now) (state S.Store tx.new.conn.now) with_currents 4 × KeepsOlder (state S.Store tx.old.conn.now).now.trees (state S.Store tx.new.conn.now).now.trees) }
+    ensures kept { HasCleanDisk (state S.Store tx.new.conn.now) → KeepsCommit (state S.Store tx.old.conn.now) (state S.Store tx.new.conn.now) }
+    ensures same { tx.new.conn.ghost_name ≡ tx.old.conn.ghost_name }
+    ensures crash { Survives (state S.Store tx.old.conn.now) (state S.Store tx.new.conn.now) (λ _. ⊥) }
+{
+    tx.execute(
+        "CREATE TABLE currents2 (node BLOB NOT NULL, time INTEGER NOT NULL, pico INTEGER NOT NULL, tick INTEGER NOT NULL, origin INTEGER NOT NULL, live INTEGER NOT NULL, extra INTEGER NOT NULL, value BLOB NOT NULL, PRIMARY KEY (node, time, pico)) STRICT",
+        &[],
+    )
+}
+
+fn make_vectors<S: Alter>(tx: &mut Transaction<'_, S>) -> Result<usize, Error>
+    requires { HasCleanDisk (state S.Store tx.old.conn.now) → Making with_currents (state S.Store tx.old.conn.now) }
+    ensures made { HasCleanDisk (state S.Store tx.new.conn.now) → OnOk result (Makes (state S.Store tx.old.conn.now) (state S.Store tx.new.conn.now) archive_schema 6 × KeepsOlder (state S.Store tx.old.conn.now).now.trees (state S.Store tx.new.conn.now).now.trees × ((state S.Store tx.new.conn.now).now.trees 4 ≡ (state S.Store tx.old.conn.now).now.trees 4)) }
+    ensures kept { HasCleanDisk (state S.Store tx.new.conn.now) → KeepsCommit (state S.Store tx.old.conn.now) (state S.Store tx.new.conn.now) }
+    ensures same { tx.new.conn.ghost_name ≡ tx.old.conn.ghost_name }
+    ensures crash { Survives (state S.Store tx.old.conn.now) (state S.Store tx.new.conn.now) (λ _. ⊥) }
+{
+    tx.execute(
+        "CREATE TABLE vectors (origin INTEGER PRIMARY KEY, number INTEGER NOT NULL, tick INTEGER NOT NULL) STRICT",
+        &[],
+    )
+}
+
+/// Makes the tables of current values and of vectors, in a transaction.
+pub(crate) fn make_beside<S: Alter>(tx: &mut Transaction<'_, S>) -> Result<(), Error>
+    requires { HasCleanDisk (state S.Store tx.old.conn.now) → Making older_schema (state S.Store tx.old.conn.now) }
+    ensures made { HasCleanDisk (state S.Store tx.new.conn.now) → OnOk result (MakesBeside (state S.Store tx.old.conn.now) (state S.Store tx.new.conn.now)) }
+    ensures kept { HasCleanDisk (state S.Store tx.new.conn.now) → KeepsCommit (state S.Store tx.old.conn.now) (state S.Store tx.new.conn.now) }
+    ensures same { tx.new.conn.ghost_name ≡ tx.old.conn.ghost_name }
+    ensures crash { Survives (state S.Store tx.old.conn.now) (state S.Store tx.new.conn.now) (λ _. ⊥) }
+{
+    make_currents(tx)?;
+    make_vectors(tx)?;
+    Ok(())
+}
+
+/// Makes the tables of meta and of records, in a transaction.
+fn make_older<S: Alter>(tx: &mut Transaction<'_, S>) -> Result<(), Error>
+    requires { HasCleanDisk (state S.Store tx.old.conn.now) → Making no_schema (state S.Store tx.old.conn.now) }
+    ensures made { HasCleanDisk (state S.Store tx.new.conn.now) → OnOk result (MakesOlder (state S.Store tx.old.conn.now) (state S.Store tx.new.conn.now)) }
+    ensures kept { HasCleanDisk (state S.Store tx.new.conn.now) → KeepsCommit (state S.Store tx.old.conn.now) (state S.Store tx.new.conn.now) }
+    ensures same { tx.new.conn.ghost_name ≡ tx.old.conn.ghost_name }
+    ensures crash { Survives (state S.Store tx.old.conn.now) (state S.Store tx.new.conn.now) (λ _. ⊥) }
+{
+    make_meta(tx)?;
+    make_records(tx)?;
+    Ok(())
+}
+
 fn fill_meta<S: Alter>(
     tx: &mut Transaction<'_, S>,
     archive: &[u8],
     replica: &i64,
 ) -> Result<usize, Error>
     requires making { HasCleanDisk (state S.Store tx.old.conn.now) → Making archive_schema (state S.Store tx.old.conn.now) }
-    requires empty { HasCleanDisk (state S.Store tx.old.conn.now) → ((state S.Store tx.old.conn.now).now.trees 0 ≡ []) × ((state S.Store tx.old.conn.now).now.trees 1 ≡ []) }
+    requires empty { HasCleanDisk (state S.Store tx.old.conn.now) → AreEmpty (state S.Store tx.old.conn.now).now.trees }
     ensures made { HasCleanDisk (state S.Store tx.new.conn.now) → OnOk result (Making archive_schema (state S.Store tx.new.conn.now) × IsNewArchive archive.now replica.now (state S.Store tx.new.conn.now).now.trees × ((state S.Store tx.new.conn.now).committed ≡ (state S.Store tx.old.conn.now).committed)) }
     ensures kept { HasCleanDisk (state S.Store tx.new.conn.now) → KeepsCommit (state S.Store tx.old.conn.now) (state S.Store tx.new.conn.now) }
     ensures same { tx.new.conn.ghost_name ≡ tx.old.conn.ghost_name }
@@ -64,8 +116,8 @@ fn make_tables<S: Alter>(
     ensures same { tx.new.conn.ghost_name ≡ tx.old.conn.ghost_name }
     ensures crash { Survives (state S.Store tx.old.conn.now) (state S.Store tx.new.conn.now) (λ _. ⊥) }
 {
-    make_meta(tx)?;
-    make_records(tx)?;
+    make_older(tx)?;
+    make_beside(tx)?;
     fill_meta(tx, archive, replica)?;
     Ok(())
 }

@@ -9,6 +9,7 @@ ghost use Rattle.records.specs.Contents.{vec, last_tick, finding, Adds};
 ghost use Rattle.records.specs.Spelling.{IsLawfulRecord};
 ghost use Rattle.archive.specs.Store.{answer_to, store_fault_in};
 ghost use Rattle.sql_archive.specs.Rows.{content_in, IsFilled};
+ghost use Rattle.sql_archive.specs.Derived.{AreKept};
 ghost use Rattle.sql_archive.specs.State.{Idles, Asked};
 ghost use Rattle.sql_archive.specs.Learning.{IsLast, Learned, beyond, reached, is_added, flat, IsOwn, end_of};
 
@@ -172,6 +173,7 @@ fn add<S: Alter>(
 ) -> Result<Result<bool, LearnFault>, StoreFault>
     requires idles { HasCleanDisk (state S.Store conn.old) → Idles (state S.Store conn.old) }
     requires filled { HasCleanDisk (state S.Store conn.old) → IsFilled (state S.Store conn.old).now.trees }
+    requires kept { HasCleanDisk (state S.Store conn.old) → AreKept (state S.Store conn.old).now.trees }
     requires lawful { IsLawfulRecord candidate.now }
     requires next { HasCleanDisk (state S.Store conn.old) → finding (content_in (state S.Store conn.old).now.trees) candidate.now ≡ Adds }
     ensures own { IsOwn result }
@@ -191,6 +193,7 @@ pub(crate) fn learn_in<S: Alter>(
 ) -> Result<Result<bool, LearnFault>, StoreFault>
     requires idles { HasCleanDisk (state S.Store conn.old) → Idles (state S.Store conn.old) }
     requires filled { HasCleanDisk (state S.Store conn.old) → IsFilled (state S.Store conn.old).now.trees }
+    requires kept { HasCleanDisk (state S.Store conn.old) → AreKept (state S.Store conn.old).now.trees }
     requires lawful { IsLawfulRecord candidate.now }
     ensures own { IsOwn result }
     ensures learned { Learned (state S.Store conn.old) (state S.Store conn.new) candidate.now result }

@@ -1,14 +1,18 @@
 //! An archive over SQLite, in memory or in a file: one row for each record, in the tables of store format 2.
 #![tactic(auto)]
 
+mod agreeing;
 mod ahead;
 mod checking;
+mod currents;
 mod decode;
 mod files;
+mod keeping;
 mod latest;
 mod laws;
 mod layout;
 mod learning;
+mod migrating;
 mod opening;
 mod queries;
 mod ranges;

@@ -1,4 +1,4 @@
-//! An opening of tables that anybody may have written: whose they are, and what they hold.
+//! An opening of tables that anybody may have written: whose they are, and what their records are.
 
 ghost use Rattle.std.specs.Prelude.{◌≡◌, ◌<◌, length};
 ghost use Rattle.std.specs.List.{AllByRecursion};
@@ -7,9 +7,10 @@ ghost use Rattle.sqlite.specs.Held.{state};
 ghost use Rattle.sqlite_value.specs.Order.{column};
 ghost use Rattle.sql_archive.specs.Rows.{content_in, IsFilled, meta_cells};
 ghost use Rattle.sql_archive.specs.Kept.{Remembers};
-ghost use Rattle.sql_archive.specs.State.{Idles, Asked};
-ghost use Rattle.sql_archive.specs.Opening.{has_number, has_bytes, judged_row, judged, Opens};
+ghost use Rattle.sql_archive.specs.State.{Found, Idles, IsKnown, Rests};
+ghost use Rattle.sql_archive.specs.Opening.{has_number, has_bytes, judged_row, judged, Opens, OpensAll};
 
+use crate::agreeing::check_kept;
 use crate::checking::check_rows;
 use crate::latest::Latest;
 use crate::queries::rows_of_meta;
@@ -24,8 +25,9 @@ use uuid::Uuid;
 /// The last numbers and the greatest tick of the records, where they are the rows of a lawful content;
 /// else it is refused. It goes over them one at a time.
 fn walk<S: Alter>(alloc: Global, conn: &mut Connection<S>) -> Result<Latest, StoreFault>
-    requires { HasCleanDisk (state S.Store conn.old) → Idles (state S.Store conn.old) }
-    ensures { Asked (state S.Store conn.old) (state S.Store conn.new) result (λ l. IsFilled (state S.Store conn.old).now.trees × Remembers (content_in (state S.Store conn.old).now.trees) l.numbers l.tick) }
+    requires rests { HasCleanDisk (state S.Store conn.old) → Rests (state S.Store conn.old) }
+    requires known { HasCleanDisk (state S.Store conn.old) → IsKnown (state S.Store conn.old).now.schema }
+    ensures { Found (state S.Store conn.old) (state S.Store conn.new) result (λ l. IsFilled (state S.Store conn.old).now.trees × Remembers (content_in (state S.Store conn.old).now.trees) l.numbers l.tick) }
 {
     match check_rows(alloc, conn) {
         Ok(Ok(walk)) => Ok(walk.latest),
@@ -96,21 +98,23 @@ fn judge<S: Alter>(
     id: &Uuid,
     number: ReplicaNo,
 ) -> Result<Result<(), StoreFault>, StoreFault>
-    requires { HasCleanDisk (state S.Store conn.old) → Idles (state S.Store conn.old) }
-    ensures { Asked (state S.Store conn.old) (state S.Store conn.new) result (λ told. told ≡ judged id.now number (meta_cells (state S.Store conn.old).now.trees)) }
+    requires rests { HasCleanDisk (state S.Store conn.old) → Rests (state S.Store conn.old) }
+    requires known { HasCleanDisk (state S.Store conn.old) → IsKnown (state S.Store conn.old).now.schema }
+    ensures { Found (state S.Store conn.old) (state S.Store conn.new) result (λ told. told ≡ judged id.now number (meta_cells (state S.Store conn.old).now.trees)) }
 {
     let rows = rows_of_meta(conn)?;
     Ok(judge_meta(&rows, id, number))
 }
 
-/// Opens the tables that are there, and tells the last numbers and the greatest tick of the records.
+/// Opens meta and records as they stand there, and tells the last numbers and the greatest tick of the records.
 pub(crate) fn open_tables<S: Alter>(
     alloc: Global,
     conn: &mut Connection<S>,
     id: &Uuid,
     number: ReplicaNo,
 ) -> Result<Latest, StoreFault>
-    requires { HasCleanDisk (state S.Store conn.old) → Idles (state S.Store conn.old) }
+    requires rests { HasCleanDisk (state S.Store conn.old) → Rests (state S.Store conn.old) }
+    requires known { HasCleanDisk (state S.Store conn.old) → IsKnown (state S.Store conn.old).now.schema }
     ensures { Opens id.now number (state S.Store conn.old) (state S.Store conn.new) (λ l. Remembers (content_in (state S.Store conn.old).now.trees) l.numbers l.tick) result }
 {
     let told = judge(conn, id, number)?;
@@ -118,4 +122,19 @@ pub(crate) fn open_tables<S: Alter>(
         Ok(()) => walk(alloc, conn),
         Err(fault) => Err(fault),
     }
+}
+
+/// Opens all tables of an archive, and tells the last numbers and the greatest tick of the records.
+pub(crate) fn open_all<S: Alter>(
+    alloc: Global,
+    conn: &mut Connection<S>,
+    id: &Uuid,
+    number: ReplicaNo,
+) -> Result<Latest, StoreFault>
+    requires { HasCleanDisk (state S.Store conn.old) → Idles (state S.Store conn.old) }
+    ensures { OpensAll id.now number (state S.Store conn.old) (state S.Store conn.new) (λ l. Remembers (content_in (state S.Store conn.old).now.trees) l.numbers l.tick) result }
+{
+    let latest = open_tables(alloc, conn, id, number)?;
+    check_kept(conn)?;
+    Ok(latest)
 }

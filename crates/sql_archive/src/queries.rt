@@ -8,9 +8,9 @@ ghost use Rattle.sqlite_value.specs.declared.value.Value.TheVariants.{Int};
 ghost use Rattle.sqlite_sql.specs.Query.{as_count};
 ghost use Rattle.sql_archive.specs.Words.{cells, is_named, is_from, is_behind, name_order, descending_number, is_after, is_before, moment_order, IsPage, AreNextRows};
 ghost use Rattle.sql_archive.specs.Rows.{meta_cells};
-ghost use Rattle.sql_archive.specs.State.{AreAt, Asked, Idles};
+ghost use Rattle.sql_archive.specs.State.{AreAt, Asked, Found, Idles, IsKnown, Rests};
 
-use crate::statements::select;
+use crate::statements::{ask, select};
 use archive::{Direction, StoreFault};
 use records::Moment;
 use sqlite::{Alter, Connection, Row, params};
@@ -164,10 +164,11 @@ pub(crate) fn rows_behind<S: Alter>(
     )
 }
 
-/// The rows of meta.
+/// The rows of meta, in an archive's tables as they are or as they were.
 pub(crate) fn rows_of_meta<S: Alter>(conn: &mut Connection<S>) -> Result<Vec<Row>, StoreFault>
-    requires { HasCleanDisk (state S.Store conn.old) → Idles (state S.Store conn.old) }
-    ensures { Asked (state S.Store conn.old) (state S.Store conn.new) result (λ rows. IsPermutation (meta_cells (state S.Store conn.old).now.trees) rows.items) }
+    requires rests { HasCleanDisk (state S.Store conn.old) → Rests (state S.Store conn.old) }
+    requires known { HasCleanDisk (state S.Store conn.old) → IsKnown (state S.Store conn.old).now.schema }
+    ensures { Found (state S.Store conn.old) (state S.Store conn.new) result (λ rows. IsPermutation (meta_cells (state S.Store conn.old).now.trees) rows.items) }
 {
-    select(conn, "SELECT one, format, archive, replica FROM meta", &[])
+    ask(conn, "SELECT one, format, archive, replica FROM meta", &[])
 }

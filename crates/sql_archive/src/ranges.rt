@@ -1,16 +1,19 @@
 //! What an archive shows of a node: values in a range and nearest outside it, and modifications.
 
-ghost use Rattle.std.specs.Prelude.{◌≡◌, take, slice_get};
+ghost use Rattle.std.specs.Prelude.{◌≡◌, ℕ, take, slice_get};
+ghost use Rattle.std.specs.List.{flat_map};
 ghost use Rattle.sqlite.specs.State.{HasCleanDisk};
 ghost use Rattle.sqlite.specs.Held.{state};
 ghost use Rattle.stamp.specs.Numbers.{number_of};
-ghost use Rattle.records.specs.Contents.{cut};
-ghost use Rattle.archive.specs.Reading.{range_of, log_of, outside_of};
+ghost use Rattle.records.specs.Contents.{cut, vec};
+ghost use Rattle.archive.specs.Reading.{range_of, log_of, outside_of, times};
 ghost use Rattle.sql_archive.specs.Rows.{content_in, IsFilled};
+ghost use Rattle.sql_archive.specs.Derived.{AreKept};
 ghost use Rattle.sql_archive.specs.State.{Idles, Asked};
-ghost use Rattle.sql_archive.specs.Walking.{moment_at, IsPlace, IsSpan, ShowSame, end_of_time};
+ghost use Rattle.sql_archive.specs.Walking.{moment_at, IsPlace, IsSpan, ShowSame, end_of_time, stretch, values_at};
 ghost use Rattle.ua_binary.specs.Binary.{node_id, IsNodeId};
 
+use crate::currents::current_values;
 use crate::queries::{Place, place_of};
 use crate::reads::spelled_node;
 use crate::walking::{entries, values};
@@ -97,6 +100,38 @@ fn first_of(mut found: Vec<Held>) -> Option<Held>
     found.pop()
 }
 
+/// The first `limit` of a node's live values beyond a place, up to a far time, of what a vector covers: by
+/// the current values where it covers all that there is, whose last numbers are `latest`, and else by the
+/// records of each time.
+fn live_values<S: Alter>(
+    alloc: Global,
+    conn: &mut Connection<S>,
+    node: &NodeId,
+    bytes: &[u8],
+    start: Place,
+    far: Moment,
+    direction: Direction,
+    limit: usize,
+    latest: &Vector,
+    within: &Vector,
+) -> Result<Vec<Held>, StoreFault>
+    requires idles { HasCleanDisk (state S.Store conn.old) → Idles (state S.Store conn.old) }
+    requires filled { HasCleanDisk (state S.Store conn.old) → IsFilled (state S.Store conn.old).now.trees }
+    requires kept { HasCleanDisk (state S.Store conn.old) → AreKept (state S.Store conn.old).now.trees }
+    requires latest { HasCleanDisk (state S.Store conn.old) → (replica : ℕ) → number_of latest.now replica ≡ vec (content_in (state S.Store conn.old).now.trees) replica }
+    requires spelled { bytes.now ≡ node_id.canon node.now }
+    requires lawful { IsNodeId node.now }
+    requires place { IsPlace direction start.pico }
+    ensures { Asked (state S.Store conn.old) (state S.Store conn.new) result (λ v. v.items ≡ take limit (flat_map (values_at (cut (content_in (state S.Store conn.old).now.trees) (number_of within.now)) node.now) (stretch direction (moment_at start.ticks start.pico) far (times (content_in (state S.Store conn.old).now.trees) node.now)))) }
+{
+    if within.at_least(latest) {
+        return current_values(alloc, conn, node, bytes, start, far, direction, limit);
+    }
+    values(
+        alloc, conn, node, bytes, start, far, direction, limit, within,
+    )
+}
+
 /// The first `limit` of a node's live values from one source time to another, both included.
 pub(crate) fn range_in<S: Alter>(
     alloc: Global,
@@ -106,17 +141,20 @@ pub(crate) fn range_in<S: Alter>(
     to: Moment,
     direction: Direction,
     limit: usize,
+    latest: &Vector,
     within: &Vector,
 ) -> Result<Vec<Held>, StoreFault>
     requires idles { HasCleanDisk (state S.Store conn.old) → Idles (state S.Store conn.old) }
     requires filled { HasCleanDisk (state S.Store conn.old) → IsFilled (state S.Store conn.old).now.trees }
+    requires kept { HasCleanDisk (state S.Store conn.old) → AreKept (state S.Store conn.old).now.trees }
+    requires latest { HasCleanDisk (state S.Store conn.old) → (replica : ℕ) → number_of latest.now replica ≡ vec (content_in (state S.Store conn.old).now.trees) replica }
     ensures { Asked (state S.Store conn.old) (state S.Store conn.new) result (λ v. v.items ≡ take limit (range_of (cut (content_in (state S.Store conn.old).now.trees) (number_of within.now)) node.now from to direction)) }
 {
     match spelled_node(alloc, node)? {
         Some(bytes) => {
             let span = span_of(from, to, direction);
-            values(
-                alloc, conn, node, &bytes, span.start, span.far, direction, limit, within,
+            live_values(
+                alloc, conn, node, &bytes, span.start, span.far, direction, limit, latest, within,
             )
         }
         None => Ok(Vec::new(alloc)),
@@ -160,17 +198,22 @@ fn outside_of<S: Alter>(
     bytes: &[u8],
     time: Moment,
     direction: Direction,
+    latest: &Vector,
     within: &Vector,
 ) -> Result<Option<Held>, StoreFault>
     requires idles { HasCleanDisk (state S.Store conn.old) → Idles (state S.Store conn.old) }
     requires filled { HasCleanDisk (state S.Store conn.old) → IsFilled (state S.Store conn.old).now.trees }
+    requires kept { HasCleanDisk (state S.Store conn.old) → AreKept (state S.Store conn.old).now.trees }
+    requires latest { HasCleanDisk (state S.Store conn.old) → (replica : ℕ) → number_of latest.now replica ≡ vec (content_in (state S.Store conn.old).now.trees) replica }
     requires spelled { bytes.now ≡ node_id.canon node.now }
     requires lawful { IsNodeId node.now }
     ensures { Asked (state S.Store conn.old) (state S.Store conn.new) result (λ h. h ≡ outside_of (cut (content_in (state S.Store conn.old).now.trees) (number_of within.now)) node.now time direction) }
 {
     let place = place_of(time);
     let far = end_of_time(direction);
-    let found = values(alloc, conn, node, bytes, place, far, direction, 1, within)?;
+    let found = live_values(
+        alloc, conn, node, bytes, place, far, direction, 1, latest, within,
+    )?;
     Ok(first_of(found))
 }
 
@@ -181,14 +224,17 @@ pub(crate) fn outside_in<S: Alter>(
     node: &NodeId,
     time: Moment,
     direction: Direction,
+    latest: &Vector,
     within: &Vector,
 ) -> Result<Option<Held>, StoreFault>
     requires idles { HasCleanDisk (state S.Store conn.old) → Idles (state S.Store conn.old) }
     requires filled { HasCleanDisk (state S.Store conn.old) → IsFilled (state S.Store conn.old).now.trees }
+    requires kept { HasCleanDisk (state S.Store conn.old) → AreKept (state S.Store conn.old).now.trees }
+    requires latest { HasCleanDisk (state S.Store conn.old) → (replica : ℕ) → number_of latest.now replica ≡ vec (content_in (state S.Store conn.old).now.trees) replica }
     ensures { Asked (state S.Store conn.old) (state S.Store conn.new) result (λ h. h ≡ outside_of (cut (content_in (state S.Store conn.old).now.trees) (number_of within.now)) node.now time direction) }
 {
     match spelled_node(alloc, node)? {
-        Some(bytes) => outside_of(alloc, conn, node, &bytes, time, direction, within),
+        Some(bytes) => outside_of(alloc, conn, node, &bytes, time, direction, latest, within),
         None => Ok(None),
     }
 }

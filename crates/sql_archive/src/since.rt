@@ -13,6 +13,7 @@ ghost use Rattle.sql_archive.specs.Rows.{content_in, IsFilled};
 ghost use Rattle.sql_archive.specs.Lacked.{behind, lacked_of};
 ghost use Rattle.sql_archive.specs.State.{Idles, Asked};
 
+use crate::currents::count_of;
 use crate::decode::decode_all;
 use crate::queries::{Behind, rows_behind};
 use archive::StoreFault;
@@ -28,14 +29,10 @@ fn behind(origin: ReplicaNo, number: u64, wanted: usize) -> Behind
     ensures number { result.number ≡ pos number }
     ensures count { (as_count (value.Int result.count) ≡ None) ⊎ (as_count (value.Int result.count) ≡ Some wanted) }
 {
-    let count = match i64::try_from(wanted) {
-        Ok(count) => count,
-        Err(_) => -1,
-    };
     Behind {
         origin: i64::from(origin.get()),
         number: number as i64,
-        count,
+        count: count_of(wanted),
     }
 }
 

@@ -1,7 +1,7 @@
 //! Which tables a store has.
 
 ghost use Rattle.std.specs.Prelude.{◌≡◌, false, true, [], ◌∷◌, codes, IfOk, IsTrue};
-ghost use Rattle.sql_archive.specs.Tables.{strict, meta, records2, no_schema, archive_schema, first_table, second_table, index_of, key_indexes};
+ghost use Rattle.sql_archive.specs.Tables.{strict, meta, records2, currents2, vectors, no_schema, older_schema, archive_schema, first_table, second_table, third_table, fourth_table, index_of, first_index, second_index, older_indexes, key_indexes};
 
 use sqlite_items::Items;
 use sqlite_schema::code::Terms;
@@ -19,6 +19,8 @@ pub(crate) enum Standing {
     Empty,
     /// Those of an archive, and nothing else.
     Archive,
+    /// Those that it had before current values and vectors had tables of their own, and nothing else.
+    Older,
     /// Others.
     Foreign,
 }
@@ -99,6 +101,51 @@ fn are_columns_of_records(columns: &[Column]) -> bool
     match columns {
         [origin, number, tick, node, time, pico, asked, who, value] => {
             are_named(origin, number, tick) && are_behind(node, time, pico, asked, who, value)
+        }
+        _ => false,
+    }
+}
+
+/// Whether these are the columns of a current value's node, time and stamp.
+fn are_current(node: &Column, time: &Column, pico: &Column, tick: &Column, origin: &Column) -> bool
+    ensures placed { IsTrue result → (node.now ≡ strict (codes "node") Kind.Blob true) × (time.now ≡ strict (codes "time") Kind.Integer true) × (pico.now ≡ strict (codes "pico") Kind.Integer true) }
+    ensures stamped { IsTrue result → (tick.now ≡ strict (codes "tick") Kind.Integer true) × (origin.now ≡ strict (codes "origin") Kind.Integer true) }
+{
+    are_placed(node, time, pico)
+        && is_strict(tick, b"tick", Kind::Integer, true)
+        && is_strict(origin, b"origin", Kind::Integer, true)
+}
+
+/// Whether these are the columns that tell whether it is live and whether other records stand beside it, and the value.
+fn are_shown(live: &Column, extra: &Column, value: &Column) -> bool
+    ensures { IsTrue result → (live.now ≡ strict (codes "live") Kind.Integer true) × (extra.now ≡ strict (codes "extra") Kind.Integer true) × (value.now ≡ strict (codes "value") Kind.Blob true) }
+{
+    is_strict(live, b"live", Kind::Integer, true)
+        && is_strict(extra, b"extra", Kind::Integer, true)
+        && is_strict(value, b"value", Kind::Blob, true)
+}
+
+/// Whether the columns are those of `currents2`.
+fn are_columns_of_currents(columns: &[Column]) -> bool
+    ensures { IsTrue result → columns.now ≡ currents2.columns }
+{
+    match columns {
+        [node, time, pico, tick, origin, live, extra, value] => {
+            are_current(node, time, pico, tick, origin) && are_shown(live, extra, value)
+        }
+        _ => false,
+    }
+}
+
+/// Whether the columns are those of `vectors`.
+fn are_columns_of_vectors(columns: &[Column]) -> bool
+    ensures { IsTrue result → columns.now ≡ vectors.columns }
+{
+    match columns {
+        [origin, number, tick] => {
+            is_strict(origin, b"origin", Kind::Integer, false)
+                && is_strict(number, b"number", Kind::Integer, true)
+                && is_strict(tick, b"tick", Kind::Integer, true)
         }
         _ => false,
     }
@@ -213,16 +260,81 @@ fn is_records(alloc: Global, table: &Table) -> Result<bool, AllocError>
     )
 }
 
-/// Whether it is the index of a key of `records2`.
-fn is_index(index: &Index, name: &[u8], tree: u32, columns: &[usize]) -> bool
-    ensures { IsTrue result → index.now ≡ index_of name.now tree columns.now }
+/// Whether there is one key, and it is this one.
+fn is_only_key(keys: &[Items<usize>], columns: &[usize]) -> bool
+    ensures { IsTrue result → keys.now ≡ columns.now ∷ [] }
+{
+    match keys {
+        [one] => is_key(one, columns),
+        _ => false,
+    }
+}
+
+fn is_plain(orders: &[Order]) -> bool
+    ensures { IsTrue result → orders.now ≡ currents2.orders }
+{
+    match orders {
+        [one] => one.digits == 0,
+        _ => false,
+    }
+}
+
+/// Whether it is the table `currents2`.
+fn is_currents(alloc: Global, table: &Table) -> Result<bool, AllocError>
+    ensures { IfOk result (λ same. IsTrue same → table.now ≡ third_table) }
+{
+    let unchecked = are_none(alloc, &table.checks)?;
+    let unstamped = are_no_stamps(alloc, &table.stamps)?;
+    Ok(
+        unchecked
+            && unstamped
+            && is_named(table, b"currents2", 4)
+            && are_columns_of_currents(table.columns.as_slice())
+            && table.key.is_none()
+            && table.primary.as_slice() == [1, 2, 3].as_slice()
+            && is_only_key(table.uniques.as_slice(), &[1, 2, 3])
+            && is_plain(table.orders.as_slice()),
+    )
+}
+
+/// Whether it is the table `vectors`.
+fn is_vectors(alloc: Global, table: &Table) -> Result<bool, AllocError>
+    ensures { IfOk result (λ same. IsTrue same → table.now ≡ fourth_table) }
+{
+    let unchecked = are_none(alloc, &table.checks)?;
+    let unstamped = are_no_stamps(alloc, &table.stamps)?;
+    Ok(
+        unchecked
+            && unstamped
+            && is_named(table, b"vectors", 6)
+            && are_columns_of_vectors(table.columns.as_slice())
+            && table.key == Some(0)
+            && table.primary.as_slice() == [0].as_slice()
+            && table.uniques.is_empty()
+            && table.orders.is_empty(),
+    )
+}
+
+/// Whether it is the index of a key of the table with this tree.
+fn is_index(index: &Index, name: &[u8], tree: u32, table: u32, columns: &[usize]) -> bool
+    ensures { IsTrue result → index.now ≡ index_of name.now tree table columns.now }
 {
     index.name.as_slice() == name
         && index.tree == tree
-        && index.table == 1
+        && index.table == table
         && index.columns.as_slice() == columns
         && index.order.digits == 0
         && index.is_unique
+}
+
+/// Whether these are the tables `meta` and `records2`.
+fn are_older_tables(alloc: Global, tables: &[Table]) -> Result<bool, AllocError>
+    ensures { IfOk result (λ same. IsTrue same → tables.now ≡ older_schema.tables) }
+{
+    match tables {
+        [meta, records] => Ok(is_meta(alloc, meta)? && is_records(alloc, records)?),
+        _ => Ok(false),
+    }
 }
 
 /// Whether these are the tables of an archive.
@@ -230,8 +342,36 @@ fn are_tables(alloc: Global, tables: &[Table]) -> Result<bool, AllocError>
     ensures { IfOk result (λ same. IsTrue same → tables.now ≡ archive_schema.tables) }
 {
     match tables {
-        [meta, records] => Ok(is_meta(alloc, meta)? && is_records(alloc, records)?),
+        [meta, records, currents, vectors] => Ok(
+            is_meta(alloc, meta)?
+                && is_records(alloc, records)?
+                && is_currents(alloc, currents)?
+                && is_vectors(alloc, vectors)?,
+        ),
         _ => Ok(false),
+    }
+}
+
+/// Whether these are the indexes of the keys of `records2`.
+fn are_of_records(names: &Index, moments: &Index) -> bool
+    ensures { IsTrue result → (names.now ≡ first_index) × (moments.now ≡ second_index) }
+{
+    is_index(names, b"sqlite_autoindex_records2_1", 2, 1, &[1, 2])
+        && is_index(
+            moments,
+            b"sqlite_autoindex_records2_2",
+            3,
+            1,
+            &[4, 5, 6, 3, 1],
+        )
+}
+
+fn are_older_indexes(indexes: &[Index]) -> bool
+    ensures { IsTrue result → indexes.now ≡ older_indexes }
+{
+    match indexes {
+        [names, moments] => are_of_records(names, moments),
+        _ => false,
     }
 }
 
@@ -240,12 +380,23 @@ fn are_indexes(indexes: &[Index]) -> bool
     ensures { IsTrue result → indexes.now ≡ key_indexes }
 {
     match indexes {
-        [names, moments] => {
-            is_index(names, b"sqlite_autoindex_records2_1", 2, &[1, 2])
-                && is_index(moments, b"sqlite_autoindex_records2_2", 3, &[4, 5, 6, 3, 1])
+        [names, moments, currents] => {
+            are_of_records(names, moments)
+                && is_index(currents, b"sqlite_autoindex_currents2_1", 5, 4, &[1, 2, 3])
         }
         _ => false,
     }
+}
+
+/// Whether the tables are `meta` and `records2`, and nothing else is there.
+#[tactic(auto, using(crate::proofs::StandingLemmas::is_older))]
+fn is_older(alloc: Global, schema: &Schema) -> Result<bool, AllocError>
+    ensures { IfOk result (λ same. IsTrue same → schema.now ≡ older_schema) }
+{
+    if !are_older_tables(alloc, schema.tables.as_slice())? {
+        return Ok(false);
+    }
+    Ok(are_older_indexes(schema.indexes.as_slice()) && schema.views.is_empty())
 }
 
 /// Whether the tables are those of an archive, and nothing else is there.
@@ -269,12 +420,16 @@ fn is_empty(schema: &Schema) -> bool
 pub(crate) fn standing_in(alloc: Global, schema: &Schema) -> Result<Standing, AllocError>
     ensures empty { IfOk result (λ s. s ≡ Standing.Empty → schema.now ≡ no_schema) }
     ensures archive { IfOk result (λ s. s ≡ Standing.Archive → schema.now ≡ archive_schema) }
+    ensures older { IfOk result (λ s. s ≡ Standing.Older → schema.now ≡ older_schema) }
 {
     if is_empty(schema) {
         return Ok(Standing::Empty);
     }
     if is_archive(alloc, schema)? {
         return Ok(Standing::Archive);
+    }
+    if is_older(alloc, schema)? {
+        return Ok(Standing::Older);
     }
     Ok(Standing::Foreign)
 }

@@ -6,9 +6,10 @@ ghost use Rattle.sqlite.specs.Held.{state};
 ghost use Rattle.archive.specs.Store.{IsOfOpening};
 ghost use Rattle.sql_archive.specs.Tables.{no_schema};
 ghost use Rattle.sql_archive.specs.State.{IsNewArchive};
-ghost use Rattle.sql_archive.specs.Opening.{Starts, IsMadeIn, IsRefused};
+ghost use Rattle.sql_archive.specs.Opening.{Starts, IsBegunIn, IsRefused};
 
 use crate::layout::first_open;
+use crate::migrating::take_over;
 use crate::standing::{Standing, standing_in};
 use crate::statements::fault_of;
 use crate::store::SqlArchive;
@@ -51,7 +52,8 @@ pub(crate) fn make<S: Alter>(
 }
 
 /// Begins over a connection: in a store without tables they are made; else those that are there have to be
-/// the tables of a lawful content of this archive and replica, and nothing else.
+/// the tables of a lawful content of this archive and replica, and nothing else. Where these are those that an
+/// archive had before current values and vectors had tables of their own, it is migrated.
 pub(crate) fn start<S: Alter>(
     alloc: Global,
     conn: Connection<S>,
@@ -63,12 +65,13 @@ pub(crate) fn start<S: Alter>(
     ensures own { IfOk result (λ a. (a.id ≡ id) × (a.number ≡ number) × (a.faults ≡ 0) × (a.broken ≡ false)) }
     ensures started { IfOk result (λ a. HasCleanDisk (state S.Store a.conn) → Starts id number (state S.Store conn).now (state S.Store a.conn).now) }
     ensures wrong { IfErr result (λ e. HasCleanDisk (state S.Store e.1) → IsOfOpening e.0 → IsRefused id number (state S.Store conn).now e.0) }
-    ensures opened { IfOk result (λ a. Survives (state S.Store conn) (state S.Store a.conn) (IsMadeIn id number (state S.Store conn).now)) }
-    ensures left { IfErr result (λ e. Survives (state S.Store conn) (state S.Store e.1) (IsMadeIn id number (state S.Store conn).now)) }
+    ensures opened { IfOk result (λ a. Survives (state S.Store conn) (state S.Store a.conn) (IsBegunIn id number (state S.Store conn).now)) }
+    ensures left { IfErr result (λ e. Survives (state S.Store conn) (state S.Store e.1) (IsBegunIn id number (state S.Store conn).now)) }
 {
     match standing_in(alloc, conn.schema()) {
         Ok(Standing::Empty) => make(alloc, conn, id, number),
         Ok(Standing::Archive) => SqlArchive::over(alloc, conn, id, number),
+        Ok(Standing::Older) => take_over(alloc, conn, id, number),
         Ok(Standing::Foreign) => Err((StoreFault::Refused, conn)),
         Err(_) => Err((StoreFault::OutOfMemory, conn)),
     }

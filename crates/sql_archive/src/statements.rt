@@ -8,7 +8,7 @@ ghost use Rattle.sqlite.specs.Given.{IsPlain};
 ghost use Rattle.sqlite.specs.Listing.{understood};
 ghost use Rattle.archive.specs.Store.{IsOfOpening};
 ghost use Rattle.sql_archive.specs.Tables.{archive_schema};
-ghost use Rattle.sql_archive.specs.State.{Asked, Idles, Stays};
+ghost use Rattle.sql_archive.specs.State.{Asked, Found, Holds, Idles, Rests, Stays};
 
 use archive::StoreFault;
 use sqlite::{Alter, Connection, Error, ErrorCode, Row};
@@ -63,17 +63,34 @@ fn rows_of<S: Alter>(
     sql: &str,
     params: &[ValueRef<'_>],
 ) -> Result<Vec<Row>, Error>
-    requires idles { HasCleanDisk (state S.Store conn.old) → Idles (state S.Store conn.old) }
-    requires plain { IsPlain (understood archive_schema sql.now) }
+    requires rests { HasCleanDisk (state S.Store conn.old) → Rests (state S.Store conn.old) }
+    requires plain { HasCleanDisk (state S.Store conn.old) → IsPlain (understood (state S.Store conn.old).now.schema sql.now) }
     ensures rows { HasCleanDisk (state S.Store conn.new) → IfOk result (λ rows. Shown sql.now (bound params.now) (state S.Store conn.old) (state S.Store conn.new) rows.items) }
     ensures same { HasCleanDisk (state S.Store conn.new) → OnOk result (IsUnchanged (state S.Store conn.old) (state S.Store conn.new)) }
-    ensures refused { HasCleanDisk (state S.Store conn.new) → IfErr result (λ _. IsTrue (state S.Store conn.new).is_open → Stays (state S.Store conn.old) (state S.Store conn.new)) }
+    ensures refused { HasCleanDisk (state S.Store conn.new) → IfErr result (λ _. IsTrue (state S.Store conn.new).is_open → Holds (state S.Store conn.old) (state S.Store conn.new)) }
     ensures crash { Survives (state S.Store conn.old) (state S.Store conn.new) (λ _. ⊥) }
 {
     conn.query_all(sql, params)
 }
 
-/// The rows that a query shows; a fault tells whether the store may still be used.
+/// The rows that a query shows, whatever the tables; a fault tells whether the store may still be used.
+#[tactic(auto, using(crate::proofs::WriteLemmas::holds_as))]
+pub(crate) fn ask<S: Alter>(
+    conn: &mut Connection<S>,
+    sql: &str,
+    params: &[ValueRef<'_>],
+) -> Result<Vec<Row>, StoreFault>
+    requires rests { HasCleanDisk (state S.Store conn.old) → Rests (state S.Store conn.old) }
+    requires plain { HasCleanDisk (state S.Store conn.old) → IsPlain (understood (state S.Store conn.old).now.schema sql.now) }
+    ensures { Found (state S.Store conn.old) (state S.Store conn.new) result (λ rows. Shown sql.now (bound params.now) (state S.Store conn.old) (state S.Store conn.new) rows.items) }
+{
+    match rows_of(conn, sql, params) {
+        Ok(rows) => Ok(rows),
+        Err(error) => Err(fault_of(conn, error)),
+    }
+}
+
+/// The same over the tables of an archive.
 pub(crate) fn select<S: Alter>(
     conn: &mut Connection<S>,
     sql: &str,
@@ -83,8 +100,5 @@ pub(crate) fn select<S: Alter>(
     requires plain { IsPlain (understood archive_schema sql.now) }
     ensures { Asked (state S.Store conn.old) (state S.Store conn.new) result (λ rows. Shown sql.now (bound params.now) (state S.Store conn.old) (state S.Store conn.new) rows.items) }
 {
-    match rows_of(conn, sql, params) {
-        Ok(rows) => Ok(rows),
-        Err(error) => Err(fault_of(conn, error)),
-    }
+    ask(conn, sql, params)
 }

@@ -9,7 +9,7 @@ ghost use Rattle.sql_archive.specs.State.{Asked, Idles};
 
 use crate::latest::{Latest, latest_after};
 use crate::learning::{flat, learn_in};
-use crate::opening::open_tables;
+use crate::opening::open_all;
 use crate::ranges::{log_in, outside_in, range_in};
 use crate::reads::records_at;
 use crate::since::records_since;
@@ -132,6 +132,7 @@ impl<S: Alter> Archive for SqlArchive<S> {
             to,
             direction,
             limit,
+            &self.latest.numbers,
             within,
         );
         tell(&mut self.faults, &mut self.broken, answer)
@@ -176,7 +177,15 @@ impl<S: Alter> Archive for SqlArchive<S> {
         if self.broken {
             return Err(self.refuse());
         }
-        let answer = outside_in(alloc, &mut self.conn, node, time, direction, within);
+        let answer = outside_in(
+            alloc,
+            &mut self.conn,
+            node,
+            time,
+            direction,
+            &self.latest.numbers,
+            within,
+        );
         tell(&mut self.faults, &mut self.broken, answer)
     }
 
@@ -224,6 +233,7 @@ impl<S: Alter> SqlArchive<S> {
     ghost use Rattle.sqlite.specs.State.{Survives};
     ghost use Rattle.sql_archive.specs.Opening.{judged};
     ghost use Rattle.sql_archive.specs.Rows.{meta_cells, IsStored};
+    ghost use Rattle.sql_archive.specs.Derived.{AreKept};
 
     /// An archive over a connection whose tables are there: Ok only where they stand for a lawful content
     /// of this archive and replica.
@@ -237,11 +247,12 @@ impl<S: Alter> SqlArchive<S> {
         ensures own { IfOk result (λ a. (a.id ≡ id) × (a.number ≡ number) × (a.faults ≡ 0) × (a.broken ≡ false)) }
         ensures same { IfOk result (λ a. HasCleanDisk (state S.Store a.conn) → (state S.Store a.conn).now ≡ (state S.Store conn).now) }
         ensures stored { IfOk result (λ a. HasCleanDisk (state S.Store a.conn) → IsStored id number (state S.Store conn).now.trees) }
+        ensures kept { IfOk result (λ a. HasCleanDisk (state S.Store a.conn) → AreKept (state S.Store conn).now.trees) }
         ensures wrong { IfErr result (λ e. HasCleanDisk (state S.Store e.1) → IsOfOpening e.0 → judged id number (meta_cells (state S.Store conn).now.trees) ≡ Err e.0) }
         ensures opened { IfOk result (λ a. Survives (state S.Store conn) (state S.Store a.conn) (λ _. ⊥)) }
         ensures left { IfErr result (λ e. Survives (state S.Store conn) (state S.Store e.1) (λ _. ⊥)) }
     {
-        match open_tables(alloc, &mut conn, &id, number) {
+        match open_all(alloc, &mut conn, &id, number) {
             Ok(latest) => {
                 let _schema = conn.schema();
                 Ok(SqlArchive {

@@ -1,10 +1,11 @@
 //! The writes of a record.
 
-ghost use Rattle.std.specs.Prelude.{◌≡◌, ◌≢◌, IsTrue, IfOk, IfErr, OnOk};
+ghost use Rattle.std.specs.Prelude.{◌≡◌, ◌≢◌, IfOk, IfErr, OnOk};
 ghost use Rattle.sqlite.specs.State.{HasCleanDisk, Survives};
 ghost use Rattle.sqlite.specs.Held.{state};
 ghost use Rattle.archive.specs.Store.{IsOfOpening};
 ghost use Rattle.sql_archive.specs.Words.{cells_of};
+ghost use Rattle.sql_archive.specs.Derived.{AreKept, IsNextRow};
 ghost use Rattle.sql_archive.specs.State.{Adds, Idles, Stays};
 ghost use Rattle.ua_binary.specs.Binary.{node_id, IsShortNode};
 ghost use Rattle.ua_variant.specs.DataValue.{data_value, IsShortData};
@@ -12,10 +13,11 @@ ghost use Rattle.records.specs.Spelling.{IsLawfulRecord};
 ghost use Rattle.sql_archive.specs.Rows.{row_of};
 ghost use Rattle.sql_archive.specs.Learning.{Stored};
 
+use crate::keeping::keep;
 use crate::statements::fault_of;
 use archive::StoreFault;
 use records::Record;
-use sqlite::{Alter, Connection, Error, params};
+use sqlite::{Alter, Connection};
 use std::alloc::Global;
 use ua_binary::{NodeId, put_node_id};
 use ua_variant::{DataValue, put_data_value};
@@ -34,31 +36,22 @@ pub(crate) struct Cells {
     pub(crate) value: Vec<u8>,
 }
 
-/// Adds one row.
-fn insert<S: Alter>(conn: &mut Connection<S>, r: &Cells) -> Result<usize, Error>
-    requires { HasCleanDisk (state S.Store conn.old) → Idles (state S.Store conn.old) }
-    ensures added { HasCleanDisk (state S.Store conn.new) → OnOk result (Idles (state S.Store conn.new) × Adds (cells_of r.now.origin r.now.number r.now.tick r.now.node.items r.now.time r.now.pico r.now.asked r.now.who.items r.now.value.items) (state S.Store conn.old).now.trees (state S.Store conn.new).now.trees) }
-    ensures refused { HasCleanDisk (state S.Store conn.new) → IfErr result (λ _. IsTrue (state S.Store conn.new).is_open → Stays (state S.Store conn.old) (state S.Store conn.new)) }
-    ensures crash { Survives (state S.Store conn.old) (state S.Store conn.new) (Adds (cells_of r.now.origin r.now.number r.now.tick r.now.node.items r.now.time r.now.pico r.now.asked r.now.who.items r.now.value.items) (state S.Store conn.old).now.trees) }
-{
-    conn.execute(
-        "INSERT INTO records2 VALUES (?1, ?2, ?3, ?4, ?5, ?6, ?7, ?8, ?9)",
-        params![
-            &r.origin, &r.number, &r.tick, &r.node, &r.time, &r.pico, &r.asked, &r.who, &r.value
-        ],
-    )
-}
-
-/// Adds a record, in one commit.
+/// Adds a record with the rows that follow, in one commit. A connection that is inside a transaction is
+/// refused: none is where the disk is honest.
 pub(crate) fn store_cells<S: Alter>(conn: &mut Connection<S>, r: &Cells) -> Result<(), StoreFault>
-    requires { HasCleanDisk (state S.Store conn.old) → Idles (state S.Store conn.old) }
+    requires idles { HasCleanDisk (state S.Store conn.old) → Idles (state S.Store conn.old) }
+    requires kept { HasCleanDisk (state S.Store conn.old) → AreKept (state S.Store conn.old).now.trees }
+    requires next { HasCleanDisk (state S.Store conn.old) → IsNextRow (cells_of r.now.origin r.now.number r.now.tick r.now.node.items r.now.time r.now.pico r.now.asked r.now.who.items r.now.value.items) (state S.Store conn.old).now.trees }
     ensures added { HasCleanDisk (state S.Store conn.new) → OnOk result (Idles (state S.Store conn.new) × Adds (cells_of r.now.origin r.now.number r.now.tick r.now.node.items r.now.time r.now.pico r.now.asked r.now.who.items r.now.value.items) (state S.Store conn.old).now.trees (state S.Store conn.new).now.trees) }
     ensures refused { HasCleanDisk (state S.Store conn.new) → IfErr result (λ fault. fault ≢ StoreFault.Broken → Stays (state S.Store conn.old) (state S.Store conn.new)) }
     ensures met { IfErr result (λ fault. IsOfOpening fault → ⊥) }
     ensures crash { Survives (state S.Store conn.old) (state S.Store conn.new) (Adds (cells_of r.now.origin r.now.number r.now.tick r.now.node.items r.now.time r.now.pico r.now.asked r.now.who.items r.now.value.items) (state S.Store conn.old).now.trees) }
 {
-    match insert(conn, r) {
-        Ok(_) => Ok(()),
+    if !conn.is_autocommit() {
+        return Err(StoreFault::Refused);
+    }
+    match keep(conn, r) {
+        Ok(()) => Ok(()),
         Err(error) => Err(fault_of(conn, error)),
     }
 }
@@ -120,14 +113,16 @@ pub(crate) fn make_cells(alloc: Global, r: &Record) -> Result<Cells, StoreFault>
     })
 }
 
-/// Adds a record, in one commit.
+/// Adds a record with the rows that follow, in one commit.
 pub(crate) fn store_record<S: Alter>(
     alloc: Global,
     conn: &mut Connection<S>,
     r: &Record,
 ) -> Result<(), StoreFault>
     requires idles { HasCleanDisk (state S.Store conn.old) → Idles (state S.Store conn.old) }
+    requires kept { HasCleanDisk (state S.Store conn.old) → AreKept (state S.Store conn.old).now.trees }
     requires lawful { IsLawfulRecord r.now }
+    requires next { HasCleanDisk (state S.Store conn.old) → IsNextRow (row_of r.now) (state S.Store conn.old).now.trees }
     ensures { Stored (state S.Store conn.old) (state S.Store conn.new) r.now result }
 {
     let row = make_cells(alloc, r)?;

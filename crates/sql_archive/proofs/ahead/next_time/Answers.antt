@@ -1,4 +1,4 @@
-use Rattle.std.proofs.Common.{◌≡◌, arith, subst, sym, refl, IfSome}
+use Rattle.std.proofs.Common.{arith, subst, sym, refl, IfSome}
 use Rattle.sqlite.specs.Held.{state}
 use Rattle.archive.specs.Reading.{times}
 use Rattle.sql_archive.specs.Rows.{content_in}

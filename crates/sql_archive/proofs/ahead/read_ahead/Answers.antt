@@ -1,4 +1,4 @@
-use Rattle.std.proofs.Common.{◌≡◌, ◌∙◌, arith, ap, ap₂, subst, sym, refl, length, nat_lt, pos, Some}
+use Rattle.std.proofs.Common.{◌∙◌, arith, ap, ap₂, sym, refl, length, nat_lt, pos, Some}
 use Rattle.std.specs.List.{flat_map}
 use Rattle.sqlite.specs.Held.{state}
 use Rattle.sqlite_value.specs.declared.value.Value.TheVariants.{Int}

@@ -1,4 +1,4 @@
-use Rattle.std.proofs.Common.{◌≡◌, ◌∙◌, ap, sym}
+use Rattle.std.proofs.Common.{◌∙◌, ap, sym}
 use Rattle.sqlite.specs.Held.{state}
 use Rattle.records.specs.Records.{story}
 use Rattle.archive.specs.Reading.{in_direction}

@@ -1,4 +1,4 @@
-use Rattle.std.proofs.Common.{◌≡◌, ◌≤◌, length, arith, rules, subst, Some, None}
+use Rattle.std.proofs.Common.{◌≤◌, length, arith, rules, subst}
 use Rattle.sql_archive.specs.Walking.{IsTaken}
 use Rattle.sql_archive.proofs.AheadLemmas.{taking_starts, taking_goes, taking_stops, taking_ends}
 use Rattle.sql_archive.proofs.ahead.take_time.Goals as goal

@@ -1,5 +1,4 @@
-use Rattle.std.proofs.Common.{◌≡◌, ap, subst, arith}
-use Rattle.sqlite.specs.Files.{file_state, image_of}
+use Rattle.std.proofs.Common.{subst, arith}
 use Rattle.sqlite_wal.specs.Reads.{AreClean}
 use Rattle.sqlite_pool.specs.Pool.{state, files}
 use Rattle.sqlite_store.specs.FileStore.{view}

@@ -1,5 +1,4 @@
-use Rattle.std.proofs.Common.{◌≡◌, arith}
-use Rattle.sqlite.specs.State.{HasCleanDisk}
+use Rattle.std.proofs.Common.{arith}
 use Rattle.sqlite.specs.Held.{state}
 use Rattle.sql_archive.proofs.AskLemmas.{asked_as}
 use Rattle.sql_archive.proofs.QueryLemmas.{finds_at, at_plain}

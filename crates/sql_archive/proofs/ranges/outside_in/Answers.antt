@@ -1,9 +1,8 @@
-use Rattle.std.proofs.Common.{◌≡◌, ◌∙◌, ap, sym, take, arith, refl, None}
+use Rattle.std.proofs.Common.{sym, None}
 use Rattle.sqlite.specs.Held.{state}
 use Rattle.stamp.specs.Numbers.{number_of}
 use Rattle.sql_archive.specs.Rows.{content_in}
-use Rattle.sql_archive.specs.Walking.{moment_at}
-use Rattle.sql_archive.proofs.AskLemmas.{asked_as, asked_nothing}
+use Rattle.sql_archive.proofs.AskLemmas.{asked_nothing}
 use Rattle.sql_archive.proofs.RangeLemmas.{no_outside, no_times}
 use Rattle.sql_archive.proofs.ranges.outside_in.Goals as goal
 

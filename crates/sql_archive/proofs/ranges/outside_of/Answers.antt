@@ -1,4 +1,4 @@
-use Rattle.std.proofs.Common.{◌≡◌, ◌∙◌, ap, sym, take, arith, refl, None, slice_get}
+use Rattle.std.proofs.Common.{◌∙◌, ap, sym, arith, refl, slice_get}
 use Rattle.sqlite.specs.Held.{state}
 use Rattle.stamp.specs.Numbers.{number_of}
 use Rattle.sql_archive.specs.Rows.{content_in}
@@ -8,13 +8,12 @@ use Rattle.archive.specs.Reading.{times}
 use Rattle.std.specs.List.{flat_map}
 use Rattle.records.specs.Contents.{cut}
 use Rattle.sql_archive.specs.Walking.{moment_at, stretch, values_at, end_of_time}
-use Rattle.sql_archive.proofs.AskLemmas.{asked_as, asked_nothing}
 use Rattle.sql_archive.proofs.RangeLemmas.{outside_found, none_beyond, first_taken}
 use Rattle.sql_archive.proofs.LoopLemmas.{moment_of_place, is_place}
 use Rattle.sql_archive.proofs.ranges.outside_of.Goals as goal
 
-pub values-requires-clause-place : goal.values-requires-clause-place
-values-requires-clause-place g c = is_place c.args.direction c.args.time c.place_of-place.result.pico c.place_of-place.ensures.1
+pub live_values-requires-clause-place : goal.live_values-requires-clause-place
+live_values-requires-clause-place g c = is_place c.args.direction c.args.time c.place_of-place.result.pico c.place_of-place.ensures.1
 
 pub returns : goal.returns
 returns g c =

@@ -1,4 +1,4 @@
-use Rattle.std.proofs.Common.{◌≡◌, ◌∙◌, ap, sym, take, arith, refl, None}
+use Rattle.std.proofs.Common.{◌∙◌, ap, sym, take}
 use Rattle.sqlite.specs.Held.{state}
 use Rattle.stamp.specs.Numbers.{number_of}
 use Rattle.sql_archive.specs.Rows.{content_in}
@@ -10,10 +10,10 @@ use Rattle.sql_archive.proofs.ranges.range_in.Goals as goal
 pub returns-in-Some : goal.returns-in-Some
 returns-in-Some g c =
     let a = state g.S.Store c.args.conn.now in
-    let b = state g.S.Store c.values.new.conn in
+    let b = state g.S.Store c.live_values.new.conn in
     let s = c.span_of-span.result in
-    asked_as a b c.values.result _ _
-    (λ clean v is. is ∙ ap (take c.args.limit) (sym (range_found (content_in a.now.trees) c.args.node.now (number_of c.args.within.now) c.args.direction c.args.from c.args.to (moment_at s.start.ticks s.start.pico) s.far c.span_of-span.ensures.span))) c.values.ensures
+    asked_as a b c.live_values.result _ _
+    (λ clean v is. is ∙ ap (take c.args.limit) (sym (range_found (content_in a.now.trees) c.args.node.now (number_of c.args.within.now) c.args.direction c.args.from c.args.to (moment_at s.start.ticks s.start.pico) s.far c.span_of-span.ensures.span))) c.live_values.ensures
 
 pub returns-in-None : goal.returns-in-None
 returns-in-None g c =

@@ -1,4 +1,4 @@
-use Rattle.std.proofs.Common.{◌≡◌, ◌∙◌}
+use Rattle.std.proofs.Common.{◌∙◌}
 use Rattle.sqlite.specs.Held.{state}
 use Rattle.sql_archive.proofs.StoryLemmas.{none_found}
 use Rattle.sql_archive.proofs.AskLemmas.{asked_nothing}

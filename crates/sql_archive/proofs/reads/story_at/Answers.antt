@@ -1,4 +1,4 @@
-use Rattle.std.proofs.Common.{◌≡◌, ◌∙◌, arith, ap, refl}
+use Rattle.std.proofs.Common.{◌∙◌, arith, ap, refl}
 use Rattle.std.specs.List.{flat_map}
 use Rattle.sqlite.specs.Held.{state}
 use Rattle.sql_archive.specs.Rows.{records_in}

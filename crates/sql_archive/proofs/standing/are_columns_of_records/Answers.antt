@@ -1,4 +1,4 @@
-use Rattle.std.proofs.Common.{◌≡◌, ◌∙◌, sym, arith, ap, refl, rules}
+use Rattle.std.proofs.Common.{◌∙◌, arith, refl}
 use Rattle.sql_archive.proofs.StandingLemmas.{nine}
 use Rattle.sql_archive.proofs.standing.are_columns_of_records.Goals as goal
 

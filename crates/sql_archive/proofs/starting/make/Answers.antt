@@ -1,6 +1,6 @@
-use Rattle.std.proofs.Common.{◌≡◌, pos, w64, SFits, arith}
+use Rattle.std.proofs.Common.{pos, w64, SFits, arith}
 use Rattle.std.proofs.lemmas.Int.{to_z-of_z}
-use Rattle.sqlite.specs.State.{HasCleanDisk, Survives}
+use Rattle.sqlite.specs.State.{HasCleanDisk}
 use Rattle.sqlite.specs.Held.{state}
 use Rattle.sql_archive.specs.State.{IsNewArchive}
 use Rattle.sql_archive.proofs.StartLemmas.{never_wrong, opened_then, left_then}

@@ -1,7 +1,6 @@
-use Rattle.std.proofs.Common.{List, None}
+use Rattle.std.proofs.Common.{None}
 use Rattle.sqlite.specs.Held.{state}
 use Rattle.stamp.specs.Numbers.{number_of}
-use Rattle.records.specs.declared.record.Record.{Record}
 use Rattle.std.proofs.Common.{filter, reverse}
 use Rattle.records.specs.Records.{entries_after}
 use Rattle.archive.specs.Reading.{in_direction, follows}

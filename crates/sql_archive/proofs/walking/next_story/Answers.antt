@@ -4,7 +4,6 @@ use Rattle.stamp.specs.Numbers.{number_of}
 use Rattle.records.specs.Contents.{cut}
 use Rattle.records.specs.Records.{story}
 use Rattle.archive.specs.Reading.{times}
-use Rattle.archive.proofs.Timing.{times_rise}
 use Rattle.sql_archive.specs.Rows.{content_in}
 use Rattle.sql_archive.specs.Walking.{moment_at, IsNextTime, IsAhead, StandsFirst}
 use Rattle.sql_archive.proofs.AskLemmas.{passed_ok, passed_then, passed_told, early, same_trees}

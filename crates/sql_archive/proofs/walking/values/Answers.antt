@@ -1,15 +1,12 @@
-use Rattle.std.proofs.Common.{rules, take, ◌≡◌, ◌∙◌, ◌≤◌, arith, refl, sym, ap, subst, Some, None, Ok, Err, Vec, List, length}
+use Rattle.std.proofs.Common.{rules, take, ◌≡◌, ◌≤◌, arith, refl, sym, subst, Some, Ok, Err, Vec, List, length}
 use Rattle.std.specs.declared.alloc.Global.{Global}
-use Rattle.sqlite.specs.State.{State}
 use Rattle.sqlite.specs.Held.{state}
 use Rattle.stamp.specs.Numbers.{number_of}
 use Rattle.archive.specs.declared.fault.StoreFault.TheVariants.{Refused}
-use Rattle.records.specs.declared.record.Record.{Record}
 use Rattle.records.specs.declared.shown.Held.{Held}
 use Rattle.std.proofs.Common.{[]}
 use Rattle.std.specs.List.{cons_option}
 use Rattle.records.specs.Records.{held}
-use Rattle.sql_archive.specs.Rows.{content_in}
 use Rattle.sql_archive.specs.State.{Asked}
 use Rattle.sql_archive.specs.Walking.{moment_at}
 use Rattle.sql_archive.proofs.AskLemmas.{passed_ok, passed_then, passed_err, passed_fault}

@@ -1,7 +1,5 @@
-use Rattle.std.proofs.Common.{List}
 use Rattle.sqlite.specs.Held.{state}
 use Rattle.stamp.specs.Numbers.{number_of}
-use Rattle.records.specs.declared.record.Record.{Record}
 use Rattle.std.proofs.Common.{[]}
 use Rattle.std.specs.List.{cons_option}
 use Rattle.records.specs.Records.{held}

@@ -1,4 +1,4 @@
-use Rattle.std.proofs.Common.{◌≡◌, subst}
+use Rattle.std.proofs.Common.{subst}
 use Rattle.sqlite.specs.State.{IsLive}
 use Rattle.sqlite.specs.Files.{file_state}
 use Rattle.sqlite.specs.Closing.{IsCopied}

@@ -1,6 +1,4 @@
-use Rattle.std.proofs.Common.{◌≡◌, subst}
 use Rattle.sqlite.specs.Files.{file_state, image_of}
-use Rattle.sql_archive.specs.Files.{ResumesAmong}
 use Rattle.sql_archive.proofs.FileLemmas.{resumes_among, left_store}
 use Rattle.sql_archive.proofs.files.SqlArchive+FileStore+D.into_files.Goals as goal
 

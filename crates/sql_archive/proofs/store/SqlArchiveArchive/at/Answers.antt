@@ -1,4 +1,4 @@
-use Rattle.std.proofs.Common.{◌≡◌, subst, sym, refl, Vec, ℤ, List, ℕ}
+use Rattle.std.proofs.Common.{◌≡◌, subst, sym, refl, Vec}
 use Rattle.std.specs.declared.alloc.Global.{Global}
 use Rattle.sqlite.specs.Held.{state}
 use Rattle.records.specs.Records.{story}

@@ -1,4 +1,4 @@
-use Rattle.std.proofs.Common.{◌≡◌, subst, ap, ◌∙◌, refl}
+use Rattle.std.proofs.Common.{subst, ap, ◌∙◌, refl}
 use Rattle.sql_archive.specs.Kept.{Kept, Serves, store_of}
 use Rattle.archive.specs.Store.{Learns}
 use Rattle.sql_archive.specs.Learning.{flat}

@@ -1,4 +1,4 @@
-use Rattle.std.proofs.Common.{◌≡◌, subst, sym, refl, take, Vec, Option}
+use Rattle.std.proofs.Common.{◌≡◌, subst, sym, refl, take, Vec}
 use Rattle.std.specs.declared.alloc.Global.{Global}
 use Rattle.sqlite.specs.Held.{state}
 use Rattle.stamp.specs.Numbers.{number_of}

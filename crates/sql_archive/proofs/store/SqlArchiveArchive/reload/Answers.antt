@@ -1,8 +1,5 @@
 use Rattle.std.specs.Prelude.{⊤}
-use Rattle.std.proofs.Common.{◌≡◌, subst, sym, refl, Vec, ℤ, List, ℕ}
-use Rattle.std.specs.declared.alloc.Global.{Global}
-use Rattle.sqlite.specs.Held.{state}
-use Rattle.sql_archive.specs.Rows.{content_in}
+use Rattle.std.proofs.Common.{subst, sym, refl}
 use Rattle.archive.specs.Store.{Asks}
 use Rattle.sql_archive.specs.Kept.{Kept, Serves, store_of}
 use Rattle.sql_archive.proofs.StoreLemmas.{Laws, refuses, asks, serves-asked}

@@ -1,10 +1,10 @@
-use Rattle.std.proofs.Common.{◌≡◌, arith, w64, FitsSigned, subst, refl, ℤ, List, ℕ, Ok}
+use Rattle.std.proofs.Common.{◌≡◌, arith, w64, FitsSigned, subst, ℤ, Ok}
 use Rattle.sqlite.specs.Held.{state}
 use Rattle.std.proofs.lemmas.Int.{to_z-of_z, ints, clamps}
 use Rattle.records.specs.Contents.{top}
 use Rattle.sql_archive.specs.Rows.{content_in}
 use Rattle.archive.specs.Store.{Asks}
-use Rattle.sql_archive.specs.Kept.{Kept, Serves, store_of}
+use Rattle.sql_archive.specs.Kept.{Kept, store_of}
 use Rattle.sql_archive.proofs.StoreLemmas.{Laws, refuses, tells}
 use Rattle.sql_archive.proofs.store.SqlArchiveArchive.top.Goals as goal
 

@@ -1,10 +1,10 @@
-use Rattle.std.proofs.Common.{◌≡◌, subst, refl, ℤ, List, ℕ, Ok}
+use Rattle.std.proofs.Common.{◌≡◌, subst, List, ℕ, Ok}
 use Rattle.sqlite.specs.Held.{state}
 use Rattle.stamp.specs.Numbers.{number_of}
 use Rattle.records.specs.Contents.{vec}
 use Rattle.sql_archive.specs.Rows.{content_in}
 use Rattle.archive.specs.Store.{Asks}
-use Rattle.sql_archive.specs.Kept.{Kept, Serves, store_of}
+use Rattle.sql_archive.specs.Kept.{Kept, store_of}
 use Rattle.sql_archive.proofs.StoreLemmas.{Laws, refuses, tells}
 use Rattle.sql_archive.proofs.store.SqlArchiveArchive.vector.Goals as goal
 

@@ -1,0 +1,264 @@
+-- What the statements of a record's transaction do.
+use Rattle.std.proofs.Common.{◌≡◌, ℕ, ℤ, not, ◌&&◌, Bool, true, false, List, [], ◌∷◌, ◌++◌, drop, map, filter, Ok, Err, Result, OnOk, refl, sym, ap, subst, ◌∙◌, IsPermutation}
+use Rattle.std.specs.List.{list_all, AllByRecursion}
+use Rattle.std.proofs.lemmas.List.{map-append}
+use Rattle.std.proofs.lemmas.List.Sorted.{IsPermutation-trans, IsPermutation-map, IsPermutation-append, IsPermutation-refl}
+use Rattle.sqlite_value.specs.declared.value.Value.{Value}
+use Rattle.sqlite_value.specs.declared.value.Value.TheVariants.{Null, Int, Blob}
+use Rattle.sqlite_value.specs.declared.keys.Collation.{Collation}
+use Rattle.sqlite_value.specs.declared.keys.Collation.TheVariants.{Binary}
+use Rattle.sqlite_value.specs.Order.{Row, column}
+use Rattle.sqlite_sql.specs.Ops.{is_null, is_true, unary}
+use Rattle.sqlite_sql.specs.Term.{Term, lit, col, op1, holds}
+use Rattle.sqlite_sql.specs.declared.ops.UnaryOp.TheVariants.{Not}
+use Rattle.sqlite_sql.specs.Query.{inner, end, IsAnswer}
+use Rattle.sqlite_sql.specs.Program.{overlay}
+use Rattle.sqlite_schema.specs.declared.program.Program.{Program}
+use Rattle.sqlite_schema.specs.declared.command.Source.{Source}
+use Rattle.sqlite_schema.specs.declared.command.Source.TheVariants.{Values, Query as Asks}
+use Rattle.sqlite_schema.specs.declared.command.Command.TheVariants.{Insert, Delete}
+use Rattle.sqlite_schema.specs.declared.schema.Kind.TheVariants.{Integer}
+use Rattle.sqlite_rules.specs.declared.error.Rowids.TheVariants.{Chosen}
+use Rattle.sqlite_rules.specs.Cast.{cast, cast_row}
+use Rattle.sqlite_rules.specs.Calls.{ids_of}
+use Rattle.sqlite_rules.specs.Edit.{numbered, without_all, id_in}
+use Rattle.sqlite_trees.specs.Tree.{Trees, rowid}
+use Rattle.sqlite_trees.specs.Objects.{catalog_tree}
+use Rattle.sqlite_catalog.specs.Listing.{Lists}
+use Rattle.sqlite_keyed.proofs.ListLemmas.{filter_same, map-map}
+use Rattle.sqlite_tied.specs.Compute.{everything}
+use Rattle.sqlite.specs.Listing.{understood}
+use Rattle.sqlite.specs.Effect.{Database}
+use Rattle.sqlite.specs.State.{State, ExecutesInside}
+use Rattle.sqlite.specs.declared.error.Error.{Error}
+use Rattle.sqlite.proofs.Callers.{IsPlain, command_of, statement_of, runs_as}
+use Rattle.sql_archive.specs.Tables.{archive_schema, third_table, fourth_table}
+use Rattle.sql_archive.specs.Words.{cells, columns_of}
+use Rattle.sql_archive.specs.State.{Making}
+use Rattle.sql_archive.specs.Derived.{AreNumbered, IsCells, is_of, is_current_of, current_columns, same, vectors_of, vector_columns}
+use Rattle.sql_archive.specs.Keeping.{DropsCurrent, PutsCurrents, currents_where, is_vector_of, DropsVector, PutsVectors, vector_cells}
+use Rattle.sql_archive.proofs.Texts.{drop_current_text, add_current_text, fill_currents_text, drop_vector_text, add_vector_text, fill_vectors_text}
+use Rattle.sql_archive.proofs.WriteLemmas.{apart_by, cast_int}
+use Rattle.sql_archive.proofs.RemoveLemmas.{ids_where, left_without, same_taken}
+use Rattle.sql_archive.proofs.ChangeLemmas.{PutsIn, into_currents, from_currents, into_vectors, from_vectors, put_in, unnumbered, given}
+use Rattle.sql_archive.proofs.MadeLemmas.{asking, asked_all, currents_from, currents_project, currents_put, none_later, laters, vectors_from, vectors_project, vectors_put, as_vector, eq, regrouped, one_true}
+
+-- ---- rows are taken out
+
+-- what is left of a table without the rows that pass
+removed : (t : ℕ) (tests : List Term) (params : Row) (db : Trees) (keep : Row → Bool) → ((r : Row) → list_all (holds (params ∷ r ∷ [])) tests ≡ keep r) → AreNumbered (db t)
+    → (rows : List Row) → IsAnswer (asking (inner t end) tests (col 1 0 ∷ []) []) db params rows → without_all (db t) (ids_of rows) ≡ filter (λ r. not (keep r)) (db t)
+removed t tests params db keep alike was rows a =
+    let passes = λ (r : Row). list_all (holds (params ∷ r ∷ [])) tests in
+    let asked : IsPermutation (map (λ r. column r 0 ∷ []) (filter passes (db t))) rows = asked_all (inner t end) tests (col 1 0 ∷ []) [] params db (db t) passes (λ r. params ∷ r ∷ []) refl rows a in
+    let ids : IsPermutation (ids_where passes (db t)) (ids_of rows) = subst (λ l. IsPermutation l (ids_of rows)) (map-map (λ r. id_in (rowid r)) (λ r. column r 0 ∷ []) (filter passes (db t))) (IsPermutation-map (λ r. id_in (rowid r)) _ _ asked) in
+    same_taken (ids_where passes (db t)) (ids_of rows) (db t) ids ∙ left_without passes (db t) was.apart was.keyed ∙ filter_same (λ r. not (passes r)) (λ r. not (keep r)) (λ r. ap not (alike r)) (db t)
+
+three_true : (a b c : Bool) → (a && (b && (c && true))) ≡ (a && (b && c))
+three_true a b c = ap (λ x. a && (b && x)) (one_true c)
+
+abbrev current_tests : List Term
+current_tests = eq (col 1 1) (col 0 0) ∷ eq (col 1 2) (col 0 1) ∷ eq (col 1 3) (col 0 2) ∷ []
+
+abbrev drop_current : Program
+drop_current = record { lets = []; body = asking (inner 4 end) current_tests (col 1 0 ∷ []) [] }
+
+drop_current_is : command_of (understood archive_schema drop_current_text) ≡ Delete 2 drop_current
+unfolding understood everything
+drop_current_is = refl
+
+drop_current_plain : IsPlain (understood archive_schema drop_current_text)
+unfolding understood everything
+drop_current_plain = (refl, refl)
+
+pub drops_current : (node : List ℕ) (time pico : ℤ) (old new : State) (r : Result ℕ Error) → Making archive_schema old → ExecutesInside 0 drop_current_text (Blob node ∷ Int time ∷ Int pico ∷ []) old new r
+    → OnOk r (Making archive_schema new × (new.committed ≡ old.committed) × DropsCurrent node time pico old.now.trees new.now.trees)
+drops_current node time pico old new (Err e) was h = tt
+drops_current node time pico old new (Ok count) was h =
+    let params = Blob node ∷ Int time ∷ Int pico ∷ [] in
+    let w = runs_as drop_current_text params old new archive_schema was.has (Delete 2 drop_current) drop_current_is drop_current_plain count h.0 in
+    let out = from_currents old w.tally new.now (statement_of drop_current_text (understood archive_schema drop_current_text)) params was.has drop_current w.changed in
+    let others = out.applied.tables in (
+      record { inside = h.1.mode; has = out.schema },
+      h.1.committed_is,
+      record {
+        rest = record { meta = others.0 (apart_by 0 4 refl); records = others.1.0 (apart_by 1 4 refl); vectors = others.1.1.1.0 (apart_by 6 4 refl) };
+        left = λ numbered_rows. out.applied.rows ∙ removed 4 current_tests params (overlay old.now.trees []) (λ r. is_current_of node time pico (current_columns r))
+            (λ r. three_true (same (column r 1) (Blob node)) (same (column r 2) (Int time)) (same (column r 3) (Int pico))) numbered_rows out.rows (out.are.answer Null);
+      },
+    )
+
+abbrev vector_tests : List Term
+vector_tests = eq (col 1 0) (col 0 0) ∷ []
+
+abbrev drop_vector : Program
+drop_vector = record { lets = []; body = asking (inner 6 end) vector_tests (col 1 0 ∷ []) [] }
+
+drop_vector_is : command_of (understood archive_schema drop_vector_text) ≡ Delete 3 drop_vector
+unfolding understood everything
+drop_vector_is = refl
+
+drop_vector_plain : IsPlain (understood archive_schema drop_vector_text)
+unfolding understood everything
+drop_vector_plain = (refl, refl)
+
+pub drops_vector : (origin : ℤ) (old new : State) (r : Result ℕ Error) → Making archive_schema old → ExecutesInside 0 drop_vector_text (Int origin ∷ []) old new r
+    → OnOk r (Making archive_schema new × (new.committed ≡ old.committed) × DropsVector origin old.now.trees new.now.trees)
+drops_vector origin old new (Err e) was h = tt
+drops_vector origin old new (Ok count) was h =
+    let params = Int origin ∷ [] in
+    let w = runs_as drop_vector_text params old new archive_schema was.has (Delete 3 drop_vector) drop_vector_is drop_vector_plain count h.0 in
+    let out = from_vectors old w.tally new.now (statement_of drop_vector_text (understood archive_schema drop_vector_text)) params was.has drop_vector w.changed in
+    let others = out.applied.tables in (
+      record { inside = h.1.mode; has = out.schema },
+      h.1.committed_is,
+      record {
+        rest = record { meta = others.0 (apart_by 0 6 refl); records = others.1.0 (apart_by 1 6 refl); currents = others.1.1.0 (apart_by 4 6 refl) };
+        left = λ numbered_rows. out.applied.rows ∙ removed 6 vector_tests params (overlay old.now.trees []) (λ r. is_vector_of origin (vector_columns r)) (λ r. one_true (same (column r 0) (Int origin))) numbered_rows out.rows (out.are.answer Null);
+      },
+    )
+
+-- ---- rows are put in
+
+-- the rowids of rows of currents2 don't show
+unnumbered_currents : (v : Value) (r : Row) → current_columns (v ∷ drop 1 r) ≡ current_columns r
+unnumbered_currents v [] = refl
+unnumbered_currents v (x ∷ r) = refl
+
+abbrev nine : List Collation
+nine = Binary ∷ Binary ∷ Binary ∷ Binary ∷ Binary ∷ Binary ∷ Binary ∷ Binary ∷ Binary ∷ []
+
+abbrev key_tests : List Term
+key_tests = eq (col 1 4) (col 0 0) ∷ eq (col 1 5) (col 0 1) ∷ eq (col 1 6) (col 0 2) ∷ op1 Not (col 3 0) ∷ []
+
+abbrev add_current : Program
+add_current = record { lets = []; body = asking currents_from key_tests currents_project nine }
+
+add_current_is : command_of (understood archive_schema add_current_text) ≡ Insert 2 (Asks add_current)
+unfolding understood everything
+add_current_is = refl
+
+add_current_plain : IsPlain (understood archive_schema add_current_text)
+unfolding understood everything
+add_current_plain = (refl, refl)
+
+abbrev fill_currents : Program
+fill_currents = record { lets = []; body = asking currents_from (op1 Not (col 3 0) ∷ []) currents_project nine }
+
+fill_currents_is : command_of (understood archive_schema fill_currents_text) ≡ Insert 2 (Asks fill_currents)
+unfolding understood everything
+fill_currents_is = refl
+
+fill_currents_plain : IsPlain (understood archive_schema fill_currents_text)
+unfolding understood everything
+fill_currents_plain = (refl, refl)
+
+-- what rows that were put into currents2 leave there
+currents_more : (q : Row → Bool) (program : Program) (params : Row) (db : Trees) (after : Database)
+    → (AllByRecursion IsCells (cells (db 1)) → (rows : List Row) → IsAnswer program.body (overlay db []) params rows → IsPermutation (currents_where q (cells (db 1))) (map current_columns (map (λ s. cast_row third_table (drop 0 s)) rows)))
+    → (it : PutsIn third_table (Asks program) params db after) → IsAnswer program.body (overlay db []) params it.rows → PutsCurrents q db after.trees
+currents_more q program params db after means it answer =
+    let put = put_in third_table db after.trees it.rows it.applied in
+    let made = map (λ s. cast_row third_table (drop 0 s)) it.rows in
+    let others = it.applied.tables in record {
+      rest = record { meta = others.0 (apart_by 0 4 refl); records = others.1.0 (apart_by 1 4 refl); vectors = others.1.1.1.0 (apart_by 6 4 refl) };
+      more = λ typed.
+          IsPermutation-trans (currents_where q (cells (db 1)) ++ map current_columns (db 4)) (map current_columns made ++ map current_columns (db 4)) (map current_columns (after.trees 4))
+          (IsPermutation-append (currents_where q (cells (db 1))) (map current_columns made) (map current_columns (db 4)) (map current_columns (db 4)) (means typed it.rows answer) (IsPermutation-refl (map current_columns (db 4))))
+          (subst (λ l. IsPermutation l (map current_columns (after.trees 4))) (map-append current_columns (numbered Chosen (db 4) made) (db 4) ∙ ap (λ l. l ++ map current_columns (db 4)) (unnumbered current_columns unnumbered_currents (db 4) made)) (IsPermutation-map current_columns _ _ put.0));
+      numbered = put.1;
+    }
+
+pub adds_current : (node : List ℕ) (time pico : ℤ) (old new : State) (r : Result ℕ Error) → Making archive_schema old → ExecutesInside 0 add_current_text (Blob node ∷ Int time ∷ Int pico ∷ []) old new r
+    → OnOk r (Making archive_schema new × (new.committed ≡ old.committed) × PutsCurrents (is_of node time pico) old.now.trees new.now.trees)
+adds_current node time pico old new (Err e) was h = tt
+adds_current node time pico old new (Ok count) was h =
+    let params = Blob node ∷ Int time ∷ Int pico ∷ [] in
+    let db = old.now.trees in
+    let w = runs_as add_current_text params old new archive_schema was.has (Insert 2 (Asks add_current)) add_current_is add_current_plain count h.0 in
+    let it = into_currents old w.tally new.now (statement_of add_current_text (understood archive_schema add_current_text)) params was.has (Asks add_current) w.changed in (
+      record { inside = h.1.mode; has = it.schema },
+      h.1.committed_is,
+      currents_more (is_of node time pico) add_current params db new.now (λ typed rows a. currents_put params db key_tests (is_of node time pico) (λ r.
+          regrouped (same (column r 4) (Blob node)) (same (column r 5) (Int time)) (same (column r 6) (Int pico)) (is_true (unary Not (laters params db r))) ∙ ap (λ b. is_of node time pico (columns_of r) && b) (none_later params db r)) typed nine rows a) it (it.are.answer Null),
+    )
+
+pub fills_currents : (old new : State) (r : Result ℕ Error) → Making archive_schema old → ExecutesInside 0 fill_currents_text [] old new r
+    → OnOk r (Making archive_schema new × (new.committed ≡ old.committed) × PutsCurrents (λ _. true) old.now.trees new.now.trees)
+fills_currents old new (Err e) was h = tt
+fills_currents old new (Ok count) was h =
+    let db = old.now.trees in
+    let w = runs_as fill_currents_text [] old new archive_schema was.has (Insert 2 (Asks fill_currents)) fill_currents_is fill_currents_plain count h.0 in
+    let it = into_currents old w.tally new.now (statement_of fill_currents_text (understood archive_schema fill_currents_text)) [] was.has (Asks fill_currents) w.changed in (
+      record { inside = h.1.mode; has = it.schema },
+      h.1.committed_is,
+      currents_more (λ _. true) fill_currents [] db new.now (λ typed rows a. currents_put [] db (op1 Not (col 3 0) ∷ []) (λ _. true) (λ r. one_true (is_true (unary Not (laters [] db r))) ∙ none_later [] db r) typed nine rows a) it (it.are.answer Null),
+    )
+
+-- what rows that were put into vectors leave there
+vectors_more : (rows_of : List Row → List Row) (from : Source) (params : Row) (db : Trees) (after : Database) (it : PutsIn fourth_table from params db after)
+    → (AllByRecursion IsCells (cells (db 1)) → IsPermutation (rows_of (cells (db 1))) (map vector_columns (map as_vector it.rows))) → (AllByRecursion IsCells (cells (db 1)) → AllByRecursion (λ r. is_null (rowid r) ≡ false) (map as_vector it.rows)) → PutsVectors rows_of db after.trees
+vectors_more rows_of from params db after it means ids =
+    let put = put_in fourth_table db after.trees it.rows it.applied in
+    let made = map as_vector it.rows in
+    let others = it.applied.tables in record {
+      rest = record { meta = others.0 (apart_by 0 6 refl); records = others.1.0 (apart_by 1 6 refl); currents = others.1.1.0 (apart_by 4 6 refl) };
+      more = λ typed.
+          IsPermutation-trans (rows_of (cells (db 1)) ++ map vector_columns (db 6)) (map vector_columns made ++ map vector_columns (db 6)) (map vector_columns (after.trees 6))
+          (IsPermutation-append (rows_of (cells (db 1))) (map vector_columns made) (map vector_columns (db 6)) (map vector_columns (db 6)) (means typed) (IsPermutation-refl (map vector_columns (db 6))))
+          (subst (λ l. IsPermutation l (map vector_columns (after.trees 6))) (map-append vector_columns (numbered Chosen (db 6) made) (db 6) ∙ ap (λ l. map vector_columns l ++ map vector_columns (db 6)) (given (db 6) made (ids typed))) (IsPermutation-map vector_columns _ _ put.0));
+      numbered = put.1;
+    }
+
+abbrev vector_terms : List Term
+vector_terms = col 0 0 ∷ lit Null ∷ col 0 1 ∷ col 0 2 ∷ []
+
+add_vector_is : command_of (understood archive_schema add_vector_text) ≡ Insert 3 (Values vector_terms 4)
+unfolding understood everything
+add_vector_is = refl
+
+add_vector_plain : IsPlain (understood archive_schema add_vector_text)
+unfolding understood everything
+add_vector_plain = (refl, refl)
+
+pub adds_vector : (origin number tick : ℤ) (old new : State) (r : Result ℕ Error) → Making archive_schema old → ExecutesInside 0 add_vector_text (Int origin ∷ Int number ∷ Int tick ∷ []) old new r
+    → OnOk r (Making archive_schema new × (new.committed ≡ old.committed) × PutsVectors (λ _. vector_cells origin number tick ∷ []) old.now.trees new.now.trees × Lists (new.now.trees catalog_tree) archive_schema)
+adds_vector origin number tick old new (Err e) was h = tt
+adds_vector origin number tick old new (Ok count) was h =
+    let params = Int origin ∷ Int number ∷ Int tick ∷ [] in
+    let w = runs_as add_vector_text params old new archive_schema was.has (Insert 3 (Values vector_terms 4)) add_vector_is add_vector_plain count h.0 in
+    let it = into_vectors old w.tally new.now (statement_of add_vector_text (understood archive_schema add_vector_text)) params was.has (Values vector_terms 4) w.changed in
+    let one : map as_vector it.rows ≡ (Int origin ∷ cast Integer Null ∷ Int number ∷ Int tick ∷ []) ∷ [] = ap (map as_vector) it.are.1 ∙ rw (cast_int origin, cast_int number, cast_int tick) refl in (
+      record { inside = h.1.mode; has = it.schema },
+      h.1.committed_is,
+      vectors_more (λ _. vector_cells origin number tick ∷ []) (Values vector_terms 4) params old.now.trees new.now it
+          (λ typed. subst (λ l. IsPermutation (vector_cells origin number tick ∷ []) (map vector_columns l)) (sym one) (IsPermutation-refl (vector_cells origin number tick ∷ [])))
+          (λ typed. subst (AllByRecursion (λ r. is_null (rowid r) ≡ false)) (sym one) (refl, tt)),
+      subst (Lists (new.now.trees catalog_tree)) it.schema w.sound.lists,
+    )
+
+abbrev four : List Collation
+four = Binary ∷ Binary ∷ Binary ∷ Binary ∷ []
+
+abbrev fill_vectors : Program
+fill_vectors = record { lets = []; body = asking vectors_from (op1 Not (col 2 0) ∷ []) vectors_project four }
+
+fill_vectors_is : command_of (understood archive_schema fill_vectors_text) ≡ Insert 3 (Asks fill_vectors)
+unfolding understood everything
+fill_vectors_is = refl
+
+fill_vectors_plain : IsPlain (understood archive_schema fill_vectors_text)
+unfolding understood everything
+fill_vectors_plain = (refl, refl)
+
+pub fills_vectors : (old new : State) (r : Result ℕ Error) → Making archive_schema old → ExecutesInside 0 fill_vectors_text [] old new r
+    → OnOk r (Making archive_schema new × (new.committed ≡ old.committed) × PutsVectors vectors_of old.now.trees new.now.trees × Lists (new.now.trees catalog_tree) archive_schema)
+fills_vectors old new (Err e) was h = tt
+fills_vectors old new (Ok count) was h =
+    let w = runs_as fill_vectors_text [] old new archive_schema was.has (Insert 3 (Asks fill_vectors)) fill_vectors_is fill_vectors_plain count h.0 in
+    let it = into_vectors old w.tally new.now (statement_of fill_vectors_text (understood archive_schema fill_vectors_text)) [] was.has (Asks fill_vectors) w.changed in (
+      record { inside = h.1.mode; has = it.schema },
+      h.1.committed_is,
+      vectors_more vectors_of (Asks fill_vectors) [] old.now.trees new.now it (λ typed. (vectors_put [] old.now.trees typed four it.rows (it.are.answer Null)).1) (λ typed. (vectors_put [] old.now.trees typed four it.rows (it.are.answer Null)).0),
+      subst (Lists (new.now.trees catalog_tree)) it.schema w.sound.lists,
+    )
