@@ -5,7 +5,7 @@
 
 For each number of records (10,000 and 100,000 where none is given): they are inserted, a hundred a request and a commit each;
 the store is opened and dumped; pages of 1,000 raw values and of 1,000 modifications are read from its middle, a thousand of
-each; and the store is sent to an empty one. Prints a table: seconds, seconds of a processor and the greatest kB of each.
+each; and the store is sent to an empty one. Prints a table: seconds, and seconds of a processor, of each.
 The shell inserts as many, each in one transaction of three statements, and reads the same page. Needs sqlite3.
 """
 import os, shutil, socket, subprocess, sys, tempfile, time
@@ -31,7 +31,7 @@ def settings(name, replica):
 
 
 def measured(command, stdin=b""):
-    """Seconds, seconds of a processor and greatest kB of a command."""
+    """Seconds, and seconds of a processor, of a command."""
     with tempfile.TemporaryFile(dir=folder) as given:
         given.write(stdin)
         given.seek(0)
@@ -39,7 +39,7 @@ def measured(command, stdin=b""):
         child = subprocess.Popen(command, stdin=given, stdout=subprocess.DEVNULL)
         _, status, used = os.wait4(child.pid, 0)
     assert status == 0, command
-    return time.monotonic() - begin, used.ru_utime + used.ru_stime, used.ru_maxrss
+    return time.monotonic() - begin, used.ru_utime + used.ru_stime
 
 
 def session(requests):
@@ -49,13 +49,13 @@ def session(requests):
     return head + b"".join(request(client) for request in requests) + client.close_session()
 
 
-def show(what, seconds, used, most, each=1):
-    print(f"| {what} | {seconds / each:.4g} | {used / each:.3g} | {most:,} |", flush=True)
+def show(what, seconds, used, each=1):
+    print(f"| {what} | {seconds / each:.3g} | {used / each:.3g} |", flush=True)
 
 
 def less(of, start):
     """What a run took beyond a start."""
-    return of[0] - start[0], max(of[1] - start[1], 0), of[2]
+    return of[0] - start[0], of[1] - start[1]
 
 
 def of_shell(count):
@@ -95,8 +95,8 @@ def of_program(count):
     assert serving.wait() == 0
 
 
-print("| What | Seconds | of a processor | greatest kB |")
-print("|---|---|---|---|")
+print("| What | Seconds | of a processor |")
+print("|---|---|---|")
 for records in [int(word) for word in sys.argv[2:]] or [10_000, 100_000]:
     of_program(records)
     of_shell(records)
