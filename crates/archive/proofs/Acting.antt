@@ -1,15 +1,17 @@
 -- Steps over an archive, by what is held.
-use Rattle.std.proofs.Common.{◌≡◌, Bool, true, false, ◌||◌, List, [], ◌∷◌, ◌++◌, Option, Some, None, IfSome, unwrap_or, Result, refl, sym, ap, ◌∙◌, subst, inl, inr}
+use Rattle.std.proofs.Common.{◌≡◌, Bool, true, false, ◌||◌, List, [], ◌∷◌, ◌++◌, Option, Some, None, IfSome, unwrap_or, Result, ◌⊎◌, ℕ, refl, sym, ap, ◌∙◌, subst, inl, inr}
 use Rattle.std.proofs.lemmas.Bool.{true≢false, cases_Bool}
 use Rattle.std.proofs.lemmas.List.{append_assoc}
 use Rattle.std.specs.List.{list_any}
-use Rattle.records.specs.Contents.{Content, finding, learned, put}
+use Rattle.records.specs.Contents.{Content, Adds, finding, learned, put}
 use Rattle.records.specs.declared.record.Record.{Record}
 use Rattle.archive.specs.declared.fault.StoreFault.{StoreFault}
 use Rattle.archive.specs.declared.fault.LearnFault.{LearnFault}
-use Rattle.archive.specs.Store.{Store, Rests, Mark, Fine, Met, faults_in, faults_of, is_break, Passes, Leaves, Stays, Learns, store_fault_in, answer_to, MayBeFound, HasContent}
+use Rattle.archive.specs.Store.{Store, Rests, Mark, faults_in, faults_of, is_break, Passes, Leaves, Stays, Learns, store_fault_in, answer_to, MayBeFound, HasContent}
 use Rattle.archive.specs.Steps.{Marked, give, step, and_then, each, Does, Moves, Acts}
+use Rattle.archive.specs.Growth.{IsUpdateOf, Grows}
 use Rattle.archive.proofs.Calls.{passes-none, passes-then, in_use, left_in_use}
+use Rattle.archive.proofs.Growing.{grows-none, grows-one, grows-then}
 
 -- ---- what is held
 
@@ -80,9 +82,19 @@ does-each {X} {Y} {S} f xs x s us vs ys y t u p q = record {
       ∙ ap (λ (r : (Y × S) × List Mark). let z : (List Y × S) × List Mark = ((ys ++ r.0.0 ∷ [], r.0.1), r.1) in z) (q.does later);
 }
 
--- no call
+-- what could be found before may be found, or what some updates make of what was held
+abbrev pub MayGrow : Store → Store → Type 0
+MayGrow a b = b.honest → (R : Content) → HasContent a R → (left : Content) → b.may_hold left → a.may_hold left ⊎ Grows a.own R left
+
+pub grows-stays : (a b : Store) → Stays a b → MayGrow a b
+grows-stays a b s honest R h left m = inl (s.crash honest left m)
+
+-- no call: no mark among these is a fault of the store
+pub moves-none-by : (s : Store) (used : List Mark) → faults_of used ≡ [] → (To : Content → Content → Type 0) → ((R : Content) → To R R) → Moves s s used To
+moves-none-by s used quiet To stays = record { passes = subst (Passes s s) (sym quiet) (passes-none s); acts = λ honest R h. (R, stays R, h, grows-none s.own R); crash = λ honest R h left m. inl m }
+
 pub moves-none : (s : Store) (To : Content → Content → Type 0) → ((R : Content) → To R R) → Moves s s [] To
-moves-none s To stays = record { passes = passes-none s; acts = λ honest R h. (R, stays R, h) }
+moves-none s To stays = moves-none-by s [] refl To stays
 
 -- some calls, and then others
 pub moves-then : (a b c : Store) (us vs : List Mark) (P Q To : Content → Content → Type 0) → ((R S T : Content) → P R S → Q S T → To R T) → Moves a b us P → Moves b c vs Q → Moves a c (us ++ vs) To
@@ -91,12 +103,29 @@ moves-then a b c us vs P Q To both p q = record {
   acts = λ honest R h.
       let first = p.acts (q.passes.honest honest) R h in
       let second = q.acts honest first.0 first.2 in
-      (second.0, both R first.0 second.0 first.1 second.1, second.2);
+      (second.0, both R first.0 second.0 first.1 second.1, second.2, further R first.0 second.0 first.3 second.3);
+  crash = λ honest R h left m.
+      let first = p.acts (q.passes.honest honest) R h in
+      elim (q.crash honest first.0 first.2 left m) [
+        | inl before ↦ p.crash (q.passes.honest honest) R h left before
+        | inr more ↦ inr (further R first.0 left first.3 more)
+      ];
+}
+  where
+    further : (R S T : Content) → Grows a.own R S → Grows b.own S T → Grows a.own R T
+    further R S T x y = grows-then a.own R S T x (subst (λ (own : ℕ). Grows own S T) p.passes.own y)
+
+-- calls that leave the content as it is
+pub moves-stays : (a b : Store) (used : List Mark) (To : Content → Content → Type 0) → Passes a b (faults_of used) → Stays a b → ((R : Content) → To R R) → Moves a b used To
+moves-stays a b used To passes stays so = record {
+  passes = passes;
+  acts = λ honest R h. (R, so R, holds-stays a b (faults_of used) R stays passes honest h, grows-none a.own R);
+  crash = grows-stays a b stays;
 }
 
 -- the same calls, told in other words
 pub moves-as : (a b : Store) (us : List Mark) (P To : Content → Content → Type 0) → ((R S : Content) → P R S → To R S) → Moves a b us P → Moves a b us To
-moves-as a b us P To so p = record { passes = p.passes; acts = λ honest R h. let q = p.acts honest R h in (q.0, so R q.0 q.1, q.2) }
+moves-as a b us P To so p = record { passes = p.passes; acts = λ honest R h. let q = p.acts honest R h in (q.0, so R q.0 q.1, q.2, q.3); crash = p.crash }
 
 pub acts-give : {X : Type 0} (s : Store) (x : X) → Acts s s [] (λ R. give (x, R)) x
 acts-give s x = moves-none s (λ R S. Does (give (x, R)) [] (x, S)) (λ R. does-give (x, R))
@@ -122,19 +151,22 @@ acts-each a b c us vs f xs x ys y p q =
 -- ---- one call
 
 -- one step, by what it leaves
-pub acts-step : {X : Type 0} (a b : Store) (mark : Mark) (f : Content → Mark → X × Content) (x : X) → Passes a b (faults_of (mark ∷ []))
-    → (b.honest → (R : Content) → HasContent a R → (S : Content) × (f R mark ≡ (x, S)) × HasContent b S) → Acts a b (mark ∷ []) (λ R. step (f R)) x
-acts-step {X} a b mark f x passes so = record {
+pub acts-step : {X : Type 0} (a b : Store) (mark : Mark) (f : Content → Mark → X × Content) (x : X) → Passes a b (faults_of (mark ∷ [])) → MayGrow a b
+    → (b.honest → (R : Content) → HasContent a R → (S : Content) × (f R mark ≡ (x, S)) × HasContent b S × Grows a.own R S) → Acts a b (mark ∷ []) (λ R. step (f R)) x
+acts-step {X} a b mark f x passes crash so = record {
   passes = passes;
   acts = λ honest R h.
       let q = so honest R h in
-      (q.0, record { does = λ later. ap (λ (z : X × Content). let r : (X × Content) × List Mark = (z, later) in r) q.1 }, q.2);
+      (q.0, record { does = λ later. ap (λ (z : X × Content). let r : (X × Content) × List Mark = (z, later) in r) q.1 }, q.2, q.3);
+  crash = crash;
 }
 
 -- a step that the archive wasn't asked in, or that it stays in: what is told is f of what was held
 pub acts-stays : {X : Type 0} (a b : Store) (mark : Mark) (f : Content → Mark → X) (x : X) → Passes a b (faults_of (mark ∷ [])) → Stays a b
     → (b.honest → (R : Content) → HasContent a R → x ≡ f R mark) → Acts a b (mark ∷ []) (λ R. step (λ m. (f R m, R))) x
-acts-stays a b mark f x passes stays so = acts-step a b mark (λ R m. (f R m, R)) x passes (λ honest R h. (R, ap (λ z. (z, R)) (sym (so honest R h)), holds-stays a b (faults_of (mark ∷ [])) R stays passes honest h))
+acts-stays a b mark f x passes stays so =
+    acts-step a b mark (λ R m. (f R m, R)) x passes (grows-stays a b stays)
+    (λ honest R h. (R, ap (λ z. (z, R)) (sym (so honest R h)), holds-stays a b (faults_of (mark ∷ [])) R stays passes honest h, grows-none a.own R))
 
 -- what an opening finds of a store in use is its content
 settled-only : (a b : Store) (fault : Option StoreFault) (left : Content) → Leaves a b fault → b.honest → b.broken ≡ false → b.may_hold left → left ≡ b.content
@@ -145,42 +177,44 @@ pub held-before : (a b : Store) (R : Content) → Leaves a b None → HasContent
 held-before a b R leaves h = h.content (in_use a b leaves)
 
 -- a record was learned, or refused
-pub acts-learned : (a b : Store) (r : Record) (result : Result Bool LearnFault) → Learns a b r result → store_fault_in result ≡ None
-    → Acts a b (Fine ∷ []) (λ R. step (λ m. (answer_to (finding R r), unwrap_or (learned R r) R))) result
-acts-learned a b r result p quiet =
+pub learned-held : (a b : Store) (r : Record) (result : Result Bool LearnFault) → Learns a b r result → store_fault_in result ≡ None → b.honest → (R : Content) → HasContent a R
+    → (result ≡ answer_to (finding R r)) × HasContent b (unwrap_or (learned R r) R)
+learned-held a b r result p quiet honest R h =
     let leaves : Leaves a b None = subst (Leaves a b) quiet p.leaves in
     let used : b.broken ≡ false = left_in_use a b leaves in
-    acts-step a b Fine (λ R m. (answer_to (finding R r), unwrap_or (learned R r) R)) result leaves.passes (λ honest R h.
     let told = p.answered honest quiet in
     let same : a.content ≡ R = held-before a b R leaves h in
     let now : b.content ≡ unwrap_or (learned R r) R = told.1 ∙ ap (λ S. unwrap_or (learned S r) S) same in
-    let answered : answer_to (finding R r) ≡ result = sym (told.0 ∙ ap (λ S. answer_to (finding S r)) same) in (
-      unwrap_or (learned R r) R,
-      ap (λ z. (z, unwrap_or (learned R r) R)) answered,
-      record { content = λ _. now; found = λ left m. inl (settled-only a b None left leaves honest used m ∙ now) },
-    ))
+    (told.0 ∙ ap (λ S. answer_to (finding S r)) same, record { content = λ _. now; found = λ left m. inl (settled-only a b None left leaves honest used m ∙ now) })
 
--- the store met a fault, and what was asked for may stand behind a break
-pub acts-unlearned : {X : Type 0} (a b : Store) (r : Record) (result : Result Bool LearnFault) (fault : StoreFault) (f : Content → Mark → X × Content) (x : X) → Learns a b r result → store_fault_in result ≡ Some fault
-    → ((R : Content) → f R (Met fault) ≡ (x, R)) → Acts a b (Met fault ∷ []) (λ R. step (f R)) x
-acts-unlearned a b r result fault f x p met same =
+-- the store met a fault: what was held is held, and what was asked for may stand behind a break
+pub unlearned-held : (a b : Store) (r : Record) (result : Result Bool LearnFault) (fault : StoreFault) → Learns a b r result → store_fault_in result ≡ Some fault → b.honest → (R : Content) → HasContent a R
+    → HasContent b R
+unlearned-held a b r result fault p met honest R h =
     let leaves : Leaves a b (Some fault) = subst (Leaves a b) met p.leaves in
-    acts-step a b (Met fault) f x leaves.passes (λ honest R h.
     let kept : b.broken ≡ false → b.content ≡ R = λ used.
     let stays : IfSome (Some fault) (λ _. b.content ≡ a.content) = subst (λ o. IfSome o (λ _. b.content ≡ a.content)) met (p.kept honest used) in
-    stays ∙ h.content (used_before a b (fault ∷ []) leaves.passes used) in (
-      R,
-      same R,
-      record {
-        content = kept;
-        found = λ left m. elim (cases_Bool b.broken) [
-          | inl broken ↦ elim (p.crash honest left m) [
-            | inl before ↦ found-on a b (fault ∷ []) R left leaves.passes (h.found left before)
-            | inr more ↦
-                let same : a.content ≡ R = h.content more.0 in
-                inr (broken, r, ap (λ S. finding S r) (sym same) ∙ more.1, more.2 ∙ ap (put r) same)
-          ]
-          | inr used ↦ inl (settled-only a b (Some fault) left leaves honest used m ∙ kept used)
-        ];
-      },
-    ))
+    stays ∙ h.content (used_before a b (fault ∷ []) leaves.passes used) in
+    record {
+      content = kept;
+      found = λ left m. elim (cases_Bool b.broken) [
+        | inl broken ↦ elim (p.crash honest left m) [
+          | inl before ↦ found-on a b (fault ∷ []) R left leaves.passes (h.found left before)
+          | inr more ↦
+              let same : a.content ≡ R = h.content more.0 in
+              inr (broken, r, ap (λ S. finding S r) (sym same) ∙ more.1, more.2 ∙ ap (put r) same)
+        ]
+        | inr used ↦ inl (settled-only a b (Some fault) left leaves honest used m ∙ kept used)
+      ];
+    }
+
+-- the record of an update was to be learned: behind a fault it may stand
+pub grows-asked : (a b : Store) (r : Record) (result : Result Bool LearnFault) (own : ℕ) (R : Content) → Learns a b r result → b.honest → HasContent a R → (finding R r ≡ Adds → IsUpdateOf own R r)
+    → (left : Content) → b.may_hold left → a.may_hold left ⊎ Grows own R left
+grows-asked a b r result own R p honest h is left m = elim (p.crash honest left m) [
+  | inl before ↦ inl before
+  | inr more ↦
+      let same : a.content ≡ R = h.content more.0 in
+      let adds : finding R r ≡ Adds = ap (λ S. finding S r) (sym same) ∙ more.1 in
+      inr (subst (Grows own R) (sym (more.2 ∙ ap (put r) same)) (grows-one own R r (is adds)))
+]

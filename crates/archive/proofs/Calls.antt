@@ -5,7 +5,7 @@ use Rattle.std.proofs.Math.Bool.{or-false}
 use Rattle.std.specs.List.{list_any, AllByRecursion}
 use Rattle.archive.specs.declared.fault.StoreFault.{StoreFault}
 use Rattle.archive.specs.declared.fault.StoreFault.TheVariants.{OutOfMemory, Refused, WrongReplica, WrongArchive, Broken}
-use Rattle.archive.specs.Store.{Store, Leaves, Asks, fault_in, raised, IsOfOpening, is_break, failed_by, Passes}
+use Rattle.archive.specs.Store.{Store, Leaves, Stays, Asks, fault_in, raised, IsOfOpening, is_break, failed_by, Passes}
 use Rattle.archive.specs.Listed.{is_broken}
 
 -- ---- any calls in a row
@@ -13,6 +13,9 @@ use Rattle.archive.specs.Listed.{is_broken}
 -- no call
 pub passes-none : (a : Store) → Passes a a []
 passes-none a = record { own = refl; id = refl; honest = λ h. h; failed = refl; broken = sym (or-false a.broken); met = tt; meets = λ f m. m }
+
+pub stays-none : (a : Store) → Stays a a
+stays-none a = record { content = λ h u. refl; crash = λ h left m. m }
 
 failed-append : (faults more : List StoreFault) (n : ℕ) → failed_by (faults ++ more) n ≡ failed_by more (failed_by faults n)
 failed-append [] more n = refl

@@ -12,4 +12,5 @@ pub mod Resuming
 pub mod Cutting
 pub mod Narrow
 pub mod Vectors
+pub mod Growing
 pub mod Acting

@@ -1,5 +1,6 @@
 pub mod Reading
 pub mod Store
+pub mod Growth
 pub mod Steps
 pub mod Fault
 pub mod Listed

@@ -1,9 +1,10 @@
 -- Steps that something may come in the way of, and steps over an archive.
-use Rattle.std.specs.Prelude.{◌≡◌, List, [], ◌∷◌, ◌++◌, Option, Some, None}
+use Rattle.std.specs.Prelude.{◌≡◌, ◌⊎◌, List, [], ◌∷◌, ◌++◌, Option, Some, None}
 use Rattle.ua_binary.specs.declared.codes.Status.{Status}
 use Rattle.ua_binary.specs.declared.codes.TheConstants.Status.{BAD_OUT_OF_MEMORY}
 use Rattle.records.specs.Contents.{Content}
 use Rattle.archive.specs.Store.{Store, Mark, Fine, Starved, faults_of, Passes, HasContent}
+use Rattle.archive.specs.Growth.{Grows}
 
 -- what depends on what comes in the way of its steps: by a mark for each of them, its value, and the marks that are left
 abbrev pub Marked : Type 0 → Type 0
@@ -39,10 +40,12 @@ each f (x ∷ xs) s marks =
 pub record Does {A : Type 0} (marked : Marked A) (used : List Mark) (a : A) : Type 0 where
   pub does : (later : List Mark) → marked (used ++ later) ≡ (a, later)
 
--- calls were made, in whose way this came; of each content that was held before them, To says one that is held now
+-- calls were made, in whose way this came; of each content that was held before them, To says one that is held now: that content, with the records of some updates of
+-- this replica. What an opening finds now could be found before, or is such a content
 pub record Moves (old new : Store) (used : List Mark) (To : Content → Content → Type 0) : Type 0 where
   pub passes : Passes old new (faults_of used)
-  pub acts : new.honest → (R : Content) → HasContent old R → (S : Content) × To R S × HasContent new S
+  pub acts : new.honest → (R : Content) → HasContent old R → (S : Content) × To R S × HasContent new S × Grows old.own R S
+  pub crash : new.honest → (R : Content) → HasContent old R → (left : Content) → new.may_hold left → old.may_hold left ⊎ Grows old.own R left
 
 -- they answer, and leave, what the steps f say of what was held
 abbrev pub Acts : {X : Type 0} → Store → Store → List Mark → (Content → Marked (X × Content)) → X → Type 0

@@ -1,6 +1,6 @@
 //! Laws of the queries. Each function's contract is a law, and its body is empty.
 
-ghost use Rattle.std.specs.Prelude.{◌≡◌, ◌↔◌, ℕ, ◌+◌, ℤ, true, false, drop, slice_get, List, [], ◌∷◌, Bool, Option, Some, None, unwrap_or, Result};
+ghost use Rattle.std.specs.Prelude.{◌≡◌, ◌↔◌, ℕ, ◌+◌, ℤ, true, false, drop, slice_get, List, Bool, Option, Some, None, unwrap_or, Result};
 ghost use Rattle.ua_binary.specs.declared.values.NodeId.{NodeId};
 ghost use Rattle.records.specs.Lists.{Has, IsPairwise};
 ghost use Rattle.records.specs.Contents.{Content, IsClosed, finding, learned};
@@ -14,8 +14,7 @@ ghost use Rattle.archive.specs.declared.reading.LogPlace.{LogPlace};
 ghost use Rattle.archive.specs.declared.fault.StoreFault.{StoreFault};
 ghost use Rattle.archive.specs.declared.fault.StoreFault.TheVariants as store;
 ghost use Rattle.archive.specs.declared.fault.LearnFault.{LearnFault};
-ghost use Rattle.archive.specs.Store.{Rests, Stays, Passes, Learns, store_fault_in, answer_to, Fine, Met, HasContent};
-ghost use Rattle.archive.specs.Steps.{step, Acts};
+ghost use Rattle.archive.specs.Store.{Rests, Stays, Passes, Learns, store_fault_in, answer_to, HasContent};
 ghost use Rattle.archive.specs.Listed.{Listed};
 ghost use Rattle.archive.specs.Scripted.{Scripted};
 
@@ -67,8 +66,8 @@ pub fn what_is_held_goes_on<A: Archive>()
     ensures begins { (a : A) → Rests (A.state a) → (A.state a).honest → (A.state a).broken ≡ false → HasContent (A.state a) (A.state a).content }
     ensures stays { (a b : A) (faults : List StoreFault) (R : Content) → Stays (A.state a) (A.state b) → Passes (A.state a) (A.state b) faults → (A.state b).honest
         → HasContent (A.state a) R → HasContent (A.state b) R }
-    ensures learned { (a b : A) (r : Record) (result : Result Bool LearnFault) → Learns (A.state a) (A.state b) r result → store_fault_in result ≡ None
-        → Acts (A.state a) (A.state b) (Fine ∷ []) (λ R. step (λ _. (answer_to (finding R r), unwrap_or (learned R r) R))) result }
-    ensures unlearned { (a b : A) (r : Record) (result : Result Bool LearnFault) (fault : StoreFault) → Learns (A.state a) (A.state b) r result → store_fault_in result ≡ Some fault
-        → Acts (A.state a) (A.state b) (Met fault ∷ []) (λ R. step (λ _. (result, R))) result }
+    ensures learned { (a b : A) (r : Record) (result : Result Bool LearnFault) (R : Content) → Learns (A.state a) (A.state b) r result → store_fault_in result ≡ None → (A.state b).honest
+        → HasContent (A.state a) R → (result ≡ answer_to (finding R r)) × HasContent (A.state b) (unwrap_or (learned R r) R) }
+    ensures unlearned { (a b : A) (r : Record) (result : Result Bool LearnFault) (fault : StoreFault) (R : Content) → Learns (A.state a) (A.state b) r result → store_fault_in result ≡ Some fault → (A.state b).honest
+        → HasContent (A.state a) R → HasContent (A.state b) R }
 {}

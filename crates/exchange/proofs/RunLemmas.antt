@@ -23,7 +23,7 @@ use Rattle.archive.specs.declared.fault.LearnFault.TheVariants as refused
 use Rattle.archive.specs.Store.{Store, Mark, Fine, Starved, Met, faults_of, failed_by, fault_in, raised, Passes, Asks, Learns, HasContent, answer_to, store_fault_in}
 use Rattle.archive.specs.Steps.{Does, Acts}
 use Rattle.archive.proofs.Calls.{passes-none, passes-then}
-use Rattle.archive.proofs.Acting.{acts-as, acts-learned, acts-unlearned, holds-stays}
+use Rattle.archive.proofs.Acting.{acts-as, learned-held, unlearned-held, holds-stays}
 use Rattle.hist_update.specs.declared.request.Request.{Request}
 use Rattle.hist_update.specs.Codes.{asked_by, list_refusal}
 use Rattle.hist_update.specs.Outcome.{Operation, Write, DeleteAt, outcome, after}
@@ -176,13 +176,9 @@ module _ (a b c : Store) (xs : List Record) (i : ℕ) (d r : Record) (so_far : L
     all = λ honest R h.
         let here = so_far.all (learns.leaves.passes.honest honest) R h in
         let M = merged (take i xs) R in
-        let q = (acts-learned b c r (Ok x) learns refl).acts honest M here.1 in
-        let told : (answer_to (finding M r), unwrap_or (learned M r) M) ≡ (Ok x, q.0) = ap (λ (z : (Result Bool LearnFault × Content) × List Mark). z.0) (q.1.does []) in
-        let left : unwrap_or (learned M r) M ≡ q.0 = ap (λ (z : Result Bool LearnFault × Content). z.1) told in
-        let next = are_learned_push (take i xs) r R (unwrap_or (learned M r) M) here.0 (learned_told M r x (sym (ap (λ (z : Result Bool LearnFault × Content). z.0) told))).0 in (
-          subst (AreLearned R) (sym with_next) next.0,
-          subst (HasContent c) (sym left ∙ (sym next.1 ∙ ap (λ rs. merged rs R) (sym with_next))) q.2,
-        );
+        let held = learned-held b c r (Ok x) learns refl honest M here.1 in
+        let next = are_learned_push (take i xs) r R (unwrap_or (learned M r) M) here.0 (learned_told M r x held.0).0 in
+        (subst (AreLearned R) (sym with_next) next.0, subst (HasContent c) (sym next.1 ∙ ap (λ rs. merged rs R) (sym with_next)) held.1);
   }
 
   -- the store met a fault
@@ -193,8 +189,7 @@ module _ (a b c : Store) (xs : List Record) (i : ℕ) (d r : Record) (so_far : L
     done = λ honest R h. tt;
     halted = λ honest R h.
         let here = so_far.all (learns.leaves.passes.honest honest) R h in
-        let q = (acts-unlearned b c r (Err (refused.Store fault)) fault (λ S m. (Err (refused.Store fault), S)) (Err (refused.Store fault)) learns refl (λ S. refl)).acts honest (merged (take i xs) R) here.1 in
-        (q.0, (i, sym (ap (λ (z : (Result Bool LearnFault × Content) × List Mark). z.0.1) (q.1.does []))), q.2);
+        (merged (take i xs) R, (i, refl), unlearned-held b c r (Err (refused.Store fault)) fault learns refl honest (merged (take i xs) R) here.1);
   }
 
   -- the record was refused
@@ -207,13 +202,11 @@ module _ (a b c : Store) (xs : List Record) (i : ℕ) (d r : Record) (so_far : L
         done = λ honest R h.
             let here = so_far.all (learns.leaves.passes.honest honest) R h in
             let M = merged (take i xs) R in
-            let q = (acts-learned b c r (Err cause) learns quiet).acts honest M here.1 in
-            let told : (answer_to (finding M r), unwrap_or (learned M r) M) ≡ (Err cause, q.0) = ap (λ (z : (Result Bool LearnFault × Content) × List Mark). z.0) (q.1.does []) in
-            let answer : answer_to (finding M r) ≡ Err cause = ap (λ (z : Result Bool LearnFault × Content). z.0) told in
-            let left : unwrap_or (learned M r) M ≡ q.0 = ap (λ (z : Result Bool LearnFault × Content). z.1) told in
-            let same : unwrap_or (learned M r) M ≡ M = refused_left M r cause (sym answer) in
+            let held = learned-held b c r (Err cause) learns quiet honest M here.1 in
+            let answer : answer_to (finding M r) ≡ Err cause = sym held.0 in
+            let same : unwrap_or (learned M r) M ≡ M = refused_left M r cause held.0 in
             let stops : merged xs R ≡ M = merged_stops R xs i cause (record { held = here.0; next = r; there = slice_get-get_or xs i d lt ∙ ap Some (sym is); met = meets cause is_refusal M answer }) is_refusal in
-            subst (HasContent c) (sym left ∙ (same ∙ sym stops)) q.2;
+            subst (HasContent c) (same ∙ sym stops) held.1;
         halted = λ honest R h. tt;
       }
     where

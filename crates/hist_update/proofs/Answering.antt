@@ -11,8 +11,8 @@ use Rattle.ua_services.specs.declared.updates.HistoryUpdateResult.{HistoryUpdate
 use Rattle.records.specs.Contents.{Content}
 use Rattle.archive.specs.Steps.{Marked, memory, Does, Acts}
 use Rattle.archive.specs.Store.{Store, Mark, Fine, Starved, faults_of, Passes, Stays}
-use Rattle.archive.proofs.Calls.{passes-none}
-use Rattle.archive.proofs.Acting.{holds-stays, moves-none, moves-as, does-give}
+use Rattle.archive.proofs.Calls.{passes-none, stays-none}
+use Rattle.archive.proofs.Acting.{moves-none, moves-stays, moves-as, does-give}
 use Rattle.hist_update.specs.declared.request.Request.{Request}
 use Rattle.hist_update.specs.Codes.{list_refusal}
 use Rattle.hist_update.specs.Outcome.{Operation, Write}
@@ -32,10 +32,8 @@ acts-free a b used reason f x e p = subst (λ o. Acts a b used (λ R. unless o R
 -- something came in the way of a step
 pub acts-hindered : (a b : Store) (mark : Mark) (code : Status) (first : Marked (Option Status)) (f : Content → Marked Updated) → Passes a b (faults_of (mark ∷ [])) → Stays a b
     → ((later : List Mark) → first (mark ∷ later) ≡ (Some code, later)) → Acts a b (mark ∷ []) (λ R. past first R (f R)) (refused code)
-acts-hindered a b mark code first f passes stays e = record {
-  passes = passes;
-  acts = λ honest R h. (R, record { does = λ later. ap (λ (r : Option Status × List Mark). unless r.0 R (f R) r.1) (e later) }, holds-stays a b (faults_of (mark ∷ [])) R stays passes honest h);
-}
+acts-hindered a b mark code first f passes stays e =
+    moves-stays a b (mark ∷ []) (λ R S. Does (past first R (f R)) (mark ∷ []) (refused code, S)) passes stays (λ R. record { does = λ later. ap (λ (r : Option Status × List Mark). unless r.0 R (f R) r.1) (e later) })
 
 -- nothing did
 pub acts-past : (a b : Store) (used : List Mark) (first : Marked (Option Status)) (f : Content → Marked Updated) (x : HistoryUpdateResult) → ((later : List Mark) → first (Fine ∷ later) ≡ (None, later)) → Acts a b used f x
@@ -44,7 +42,8 @@ acts-past a b used first f x e p = record {
   passes = p.passes;
   acts = λ honest R h.
       let q = p.acts honest R h in
-      (q.0, record { does = λ later. ap (λ (r : Option Status × List Mark). unless r.0 R (f R) r.1) (e (used ++ later)) ∙ q.1.does later }, q.2);
+      (q.0, record { does = λ later. ap (λ (r : Option Status × List Mark). unless r.0 R (f R) r.1) (e (used ++ later)) ∙ q.1.does later }, q.2, q.3);
+  crash = p.crash;
 }
 
 -- the operations of an update
@@ -55,9 +54,6 @@ acts-run a b used own request status ops codes p =
     (λ R S d. record { does = λ later. ap (λ (r : (List Status × Content) × List Mark). let z : Updated × List Mark = ((told status r.0.0, r.0.1), r.1) in z) (d.does later) }) p
 
 -- ---- with the memory of the codes
-
-stays-none : (a : Store) → Stays a a
-stays-none a = record { content = λ h u. refl; crash = λ h left m. m }
 
 -- an update that came to no step
 pub none-ended : (broken : Bool) (steps : List Bool) → AreEnded broken steps []

@@ -11,7 +11,7 @@ use Rattle.stamp.specs.Limits.{IsReplica}
 use Rattle.records.specs.declared.record.Record.{Record}
 use Rattle.records.specs.Moments.{ticks_of}
 use Rattle.records.specs.Spelling.{IsLawfulRecord}
-use Rattle.hist_update.specs.Outcome.{id_length}
+use Rattle.archive.specs.Growth.{id_length}
 use Rattle.ua_variant.specs.DataValue.{IsDataValue, IsShortData}
 use Rattle.hist_update.specs.Operating.{IsDraft, is_long}
 

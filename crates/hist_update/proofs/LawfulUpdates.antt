@@ -1,5 +1,5 @@
 -- A content of lawful records has no others behind some operations.
-use Rattle.std.proofs.Common.{◌≡◌, ℕ, ◌+◌, ◌≤◌, length, unwrap_or, ℤ, pos, ◌≤ℤ◌, Bool, true, false, List, [], ◌∷◌, ◌++◌, Option, Some, None, IfSome, Result, Ok, Err, refl, sym, ap, subst, arith}
+use Rattle.std.proofs.Common.{◌≡◌, ℕ, ◌+◌, ◌≤◌, length, ℤ, pos, ◌≤ℤ◌, Bool, true, false, List, [], ◌∷◌, ◌++◌, Option, Some, None, IfSome, Result, Ok, Err, refl, sym, ap, subst, arith}
 use Rattle.std.specs.Prelude.{⊤, if◌then◌else◌, int_lt}
 use Rattle.std.specs.Int.{w64}
 use Rattle.std.specs.Str.{is_utf8}
@@ -12,7 +12,7 @@ use Rattle.std.proofs.lemmas.Bool.{ltb-false}
 use Rattle.std.proofs.lemmas.Option.{none-some, same_Some}
 use Rattle.stamp.specs.Limits.{IsReplica}
 use Rattle.ua_binary.specs.declared.values.Ticks.{Ticks}
-use Rattle.ua_variant.specs.DataValue.{IsDataValue, IsPicoseconds}
+use Rattle.ua_variant.specs.DataValue.{IsDataValue}
 use Rattle.records.specs.Moments.{moment, ticks_of, ticks_again}
 use Rattle.records.specs.declared.record.Record.{Record}
 use Rattle.records.specs.Contents.{Content, vec}
@@ -26,13 +26,14 @@ use Rattle.ua_binary.specs.Format.{◌>>=◌}
 use Rattle.ua_binary.specs.declared.codes.Status.{Status}
 use Rattle.ua_binary.specs.declared.codes.TheConstants.Status.{BAD_ENCODING_LIMITS_EXCEEDED, BAD_INVALID_TIMESTAMP, BAD_TYPE_MISMATCH}
 use Rattle.hist_update.specs.declared.request.Request.{Request}
-use Rattle.hist_update.specs.Outcome.{Operation, Write, DeleteAt, Change, Outcome, Refused, Added, IsRequest, id_length, change_by, sized, fits, source_time, source_pico, is_too_long, writing, deletion, outcome, record_by}
+use Rattle.hist_update.specs.Outcome.{Operation, Write, DeleteAt, Change, Outcome, Refused, Added, IsRequest, change_by, sized, fits, source_time, source_pico, is_too_long, writing, deletion, outcome, record_by}
+use Rattle.archive.specs.Growth.{id_length}
 use Rattle.archive.specs.Steps.{Does}
 use Rattle.archive.specs.Store.{Mark, Fine, Starved, Met}
 use Rattle.hist_update.specs.Updates.{left_by, update_all}
 use Rattle.hist_update.specs.Laws.{IsSpelled, IsOperation}
 use Rattle.hist_update.proofs.Deletions.{deletion_short}
-use Rattle.hist_update.proofs.Operating.{is_new}
+use Rattle.hist_update.proofs.Operating.{is_new, few_by}
 use Rattle.hist_update.proofs.NewRecords.{made, new_next}
 use Rattle.hist_update.proofs.Answered.{came_to, did}
 
@@ -61,10 +62,6 @@ sourced (Some s) p t few fits e = go (int_lt s.0 (pos 1)) refl e
     go false q h =
         let same = ticks_again s.0 p few in
         subst IsTime (same_Some _ _ h) (subst (λ u. pos 1 ≤ℤ u) (sym same) (le_from_not _ _ q), subst (λ u. FitsSigned w64 u) (sym same) fits)
-
-few_by : (o : Option ℕ) → IfSome o IsPicoseconds → unwrap_or o 0 ≤ 9999
-few_by None h = omega arith
-few_by (Some n) h = h
 
 is_change : (request : Request) (own : ℕ) (op : Operation) (change : Change) → IsRequest request → IsSpelled request → IsOperation op → change_by request own op ≡ Ok change → IsChange request own change
 is_change request own (DeleteAt time) change lawful spelled fits e = go (int_lt (ticks_of time) (pos 1)) refl e

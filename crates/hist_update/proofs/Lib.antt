@@ -11,4 +11,5 @@ pub mod Stood
 pub mod Answered
 pub mod Standing
 pub mod LawfulUpdates
+pub mod Grown
 pub mod LiveTimes

@@ -1,5 +1,5 @@
 -- One operation over an archive: a survey, a record, and what the archive makes of it.
-use Rattle.std.proofs.Common.{◌≡◌, ℕ, ◌+◌, ◌≤◌, ℤ, pos, ◌≤ℤ◌, ◌<ℤ◌, min, Bool, true, false, Option, Some, None, IfSome, IfNone, unwrap_or, List, [], ◌∷◌, Result, Ok, Err, IsErr, refl, sym, ap, ◌∙◌, subst, arith, nat_lt, int_lt, ◌+ℤ◌, option_to_list}
+use Rattle.std.proofs.Common.{◌≡◌, ℕ, ◌+◌, ◌≤◌, ℤ, pos, ◌≤ℤ◌, ◌<ℤ◌, min, Bool, true, false, Option, Some, None, IfSome, IfNone, unwrap_or, [], ◌∷◌, Result, Ok, Err, IsErr, refl, sym, ap, ◌∙◌, subst, inl, ◌⊎◌, arith, nat_lt, int_lt, ◌+ℤ◌, option_to_list}
 use Rattle.std.specs.Prelude.{if◌then◌else◌}
 use Rattle.std.specs.Int.{int_max, int_min}
 use Rattle.std.proofs.lemmas.Bool.{true≢false}
@@ -10,31 +10,34 @@ use Rattle.records.specs.declared.record.Record.{Record}
 use Rattle.records.specs.Spelling.{longest}
 use Rattle.records.specs.Records.{is_delete}
 use Rattle.ua_variant.specs.declared.update_type.HistoryUpdateType.{HistoryUpdateType}
+use Rattle.ua_variant.specs.declared.update_type.HistoryUpdateType.TheVariants.{Insert, Replace, Update, Delete}
 use Rattle.ua_binary.specs.Binary.{IsNodeId}
 use Rattle.ua_binary.specs.declared.values.Ticks.{Ticks}
 use Rattle.ua_variant.specs.declared.data.DataValue.{DataValue}
 use Rattle.ua_variant.specs.declared.value.ValueType.{ValueType}
-use Rattle.ua_variant.specs.DataValue.{IsShortData}
+use Rattle.ua_variant.specs.DataValue.{IsShortData, IsPicoseconds}
 use Rattle.std.specs.Option.{option_and_then, ok_or}
 use Rattle.ua_binary.specs.Format.{◌>>=◌}
-use Rattle.records.specs.Contents.{Content, vec, top, last_tick, finding, Adds, after_finding, learned, put, IsClosed}
+use Rattle.records.specs.Contents.{Content, vec, top, last_tick, after_finding, put, IsClosed}
 use Rattle.records.proofs.Sizes.{fields_length}
 use Rattle.records.proofs.LearnLemmas.{finding_next, lt_from_test, le_from_not}
 use Rattle.records.proofs.PutLemmas.{last_tick_within}
 use Rattle.records.proofs.GreatestLemmas.{numbers_below}
 use Rattle.ua_binary.specs.declared.codes.Status.{Status}
 use Rattle.ua_binary.specs.declared.codes.TheConstants.Status.{BAD_OUT_OF_MEMORY, BAD_RESOURCE_UNAVAILABLE, BAD_ENCODING_LIMITS_EXCEEDED, BAD_INVALID_TIMESTAMP, BAD_TYPE_MISMATCH}
-use Rattle.records.specs.Moments.{moment, ticks_of, whole_again, pico_within}
+use Rattle.records.specs.Moments.{moment, ticks_of, pico_of, whole_again, pico_within, pico_again}
 use Rattle.archive.specs.declared.fault.StoreFault.{StoreFault}
 use Rattle.archive.specs.declared.fault.LearnFault.{LearnFault}
 use Rattle.archive.specs.declared.fault.LearnFault.TheVariants as refused
 use Rattle.archive.specs.declared.setback.Setback.TheVariants as setback
 use Rattle.archive.specs.Fault.{status_of}
-use Rattle.archive.specs.Steps.{step, Does, Acts}
+use Rattle.archive.specs.Steps.{Does}
 use Rattle.archive.specs.Store.{Store, Mark, Fine, Starved, Met, Passes, Asks, Learns, store_fault_in, answer_to, HasContent}
 use Rattle.archive.proofs.Results.{err-ok}
 use Rattle.archive.proofs.Calls.{in_use, passes-none}
-use Rattle.archive.proofs.Acting.{does-step, holds-stays, acts-learned, acts-unlearned}
+use Rattle.archive.specs.Growth.{is_possible, IsUpdateOf, Grows}
+use Rattle.archive.proofs.Growing.{grows-none, grows-one}
+use Rattle.archive.proofs.Acting.{does-step, moves-none-by, moves-stays, learned-held, unlearned-held, grows-asked}
 use Rattle.hist_update.specs.declared.request.Request.{Request}
 use Rattle.hist_update.specs.declared.operate.Place.{Place}
 use Rattle.hist_update.specs.declared.operate.Undone.{Undone}
@@ -133,10 +136,8 @@ does-one own request op R mark code S told left =
 -- the rules refuse it before the archive is asked
 pub refused-early : (a : Store) (request : Request) (op : Operation) (code : Status) → change_by request a.own op ≡ Err code → Operates a a request op (Err (undone.Refused code))
 refused-early a request op code e = record {
-  acts = record {
-    passes = passes-none a;
-    acts = λ honest R h. (R, does-one a.own request op R Fine code R (ap (λ x. code_in (outcome_of R a.own request x)) e) (ap (λ x. after R (outcome_of R a.own request x)) e), h);
-  };
+  acts = moves-none-by a (Fine ∷ []) refl (λ R S. Does (update_one a.own request op R) (Fine ∷ []) (code, S))
+      (λ R. does-one a.own request op R Fine code R (ap (λ x. code_in (outcome_of R a.own request x)) e) (ap (λ x. after R (outcome_of R a.own request x)) e));
   ended = λ b f. subst IsErr (sym e) refl;
 }
 
@@ -149,10 +150,8 @@ starved-fine e = absurd (true≢false (sym (ap (λ m. elim m [ Fine ↦ true | _
 -- the survey met a fault
 pub survey-failed : (a b : Store) (request : Request) (op : Operation) (fault : StoreFault) (P : Place → Type 0) → Asks {A = Place} a b (Err fault) P → Operates a b request op (Err (undone.Hindered (setback.Store fault)))
 survey-failed a b request op fault P p = record {
-  acts = record {
-    passes = p.leaves.passes;
-    acts = λ honest R h. (R, does-one a.own request op R (Met fault) (status_of fault) R refl refl, holds-stays a b (fault ∷ []) R p.stays p.leaves.passes honest h);
-  };
+  acts = moves-stays a b (Met fault ∷ []) (λ R S. Does (update_one a.own request op R) (Met fault ∷ []) (status_of fault, S)) p.leaves.passes p.stays
+      (λ R. does-one a.own request op R (Met fault) (status_of fault) R refl refl);
   ended = λ e f. fine-met fault f;
 }
 
@@ -160,7 +159,7 @@ survey-failed a b request op fault P p = record {
 pub draft-starved : (a b : Store) (request : Request) (op : Operation) (place : Place) (P : Place → Type 0) → Asks a b (Ok place) P → Operates a b request op (Err (undone.Hindered setback.Starved))
 draft-starved a b request op place P p = record {
   acts = moves-behind a b b place P (Starved ∷ []) (λ R S. Does (update_one a.own request op R) (Starved ∷ []) (BAD_OUT_OF_MEMORY, S)) p (passes-none b)
-      (λ honest is h. (a.content, does-one a.own request op a.content Starved BAD_OUT_OF_MEMORY a.content refl refl, h));
+      (λ honest is h. ((a.content, does-one a.own request op a.content Starved BAD_OUT_OF_MEMORY a.content refl refl, h, grows-none a.own a.content), λ left m. inl m));
   ended = λ e f. starved-fine f;
 }
 
@@ -170,7 +169,7 @@ pub settled-refused : (a b : Store) (request : Request) (op : Operation) (change
     → refusal (candidate_of request place change) place ≡ Some code → Operates a b request op (Err (undone.Refused code))
 settled-refused a b request op change place code asked p e = record {
   acts = moves-behind a b b place (IsPlace a request change.time) (Fine ∷ []) (λ R S. Does (update_one a.own request op R) (Fine ∷ []) (code, S)) p (passes-none b)
-      (λ honest at h. (a.content, does-one a.own request op a.content Fine code a.content (ap code_in (refused at)) (ap (after a.content) (refused at)), h));
+      (λ honest at h. ((a.content, does-one a.own request op a.content Fine code a.content (ap code_in (refused at)) (ap (after a.content) (refused at)), h, grows-none a.own a.content), λ left m. inl m));
   ended = λ b f. absurd (none-some _ (p.leaves.ended b));
 }
   where
@@ -180,16 +179,35 @@ settled-refused a b request op change place code asked p e = record {
         ∙ (tested a.content a.own request change (is_too_long request a.own change)
         ∙ refused_by_tests a.content a.own request change _ _ _ _ code (sym (same_refusal a.content a.own request change place at.live at.tick at.origin) ∙ e))
 
+-- the moment of a change that writes is the one that its value's picoseconds say
+abbrev pub IsTimed : Change → Type 0
+IsTimed change = is_delete change.asked ≡ false → pico_of change.time ≡ source_pico change.value
+
+possible_by : (asked : HistoryUpdateType) (live : Bool) → conflict asked live ≡ None → is_possible asked live ≡ true
+possible_by Insert false e = refl
+possible_by Insert true e = some-none _ e
+possible_by Replace true e = refl
+possible_by Replace false e = some-none _ e
+possible_by Update live e = refl
+possible_by Delete true e = refl
+possible_by Delete false e = some-none _ e
+
+free_by : (long : Bool) (conf : Option Status) (tick : Option ℤ) → refusal_by long conf tick ≡ None → conf ≡ None
+free_by true conf tick e = some-none _ e
+free_by false (Some c) tick e = some-none _ e
+free_by false None tick e = refl
+
 record Facts (R : Content) (own : ℕ) (request : Request) (op : Operation) (code : Status) (r : Record) : Type 0 where
   pub is : outcome R own request op ≡ Added code r
-  pub adds : finding R r ≡ Adds
+  pub update : IsUpdateOf own R r
 
 facts : (R : Content) (own : ℕ) (request : Request) (op : Operation) (change : Change) (place : Place)
-    → change_by request own op ≡ sized request own change → IsClosed R
+    → IsRequest request → IsTimed change → change_by request own op ≡ sized request own change → IsClosed R
     → place.live ≡ is_live R request.node change.time → place.origin ≡ own → place.number ≡ min (vec R own + 1) greatest → place.tick ≡ lift request.reading (top R)
     → refusal (candidate_of request place change) place ≡ None → Facts R own request op (done change.asked place.live) (candidate_of request place change)
-facts R own request op change place asked closed live origin number tick e =
-    let made = added_by_tests R own request change (is_live R request.node change.time) _ _ _ (sym (same_refusal R own request change place live tick origin) ∙ e) in
+facts R own request op change place lawful timed asked closed live origin number tick e =
+    let quiet = sym (same_refusal R own request change place live tick origin) ∙ e in
+    let made = added_by_tests R own request change (is_live R request.node change.time) _ _ _ quiet in
     let t = made.0 in
     let new = is_new R own request.reading t closed made.1 in
     let few : min (vec R own + 1) greatest ≡ vec R own + 1 = omega (arith, new.number) in
@@ -199,47 +217,49 @@ facts R own request op change place asked closed live origin number tick e =
     ∙ ap (λ o. record_by request own (vec R own + 1) (unwrap_or o (pos greatest)) change) (tick ∙ made.1))) in
     record {
       is = ap (outcome_of R own request) asked ∙ (tested R own request change _ ∙ (made.2 ∙ (ap (λ x. Added (done change.asked x) (record_by request own (vec R own + 1) t change)) (sym live) ∙ ap (Added (done change.asked place.live)) same)));
-      adds = subst (λ r. finding R r ≡ Adds) same (finding_next R (record_by request own (vec R own + 1) t change) (record { number = refl; rises = new.rises; within = new.within }));
+      update = subst (IsUpdateOf own R) same (record {
+        origin = refl;
+        next = finding_next R (record_by request own (vec R own + 1) t change) (record { number = refl; rises = new.rises; within = new.within });
+        above = (lifted request.reading (top R) t made.1).above;
+        possible = possible_by change.asked (is_live R request.node change.time) (free_by (is_too_long request own change) _ _ quiet);
+        node = lawful.node;
+        moment = timed;
+      });
     }
 
 -- the archive was given its record
 pub settled-submitted : (a b c : Store) (request : Request) (op : Operation) (change : Change) (place : Place) (result : Result Status Undone)
-    → change_by request a.own op ≡ sized request a.own change → Asks a b (Ok place) (IsPlace a request change.time)
+    → IsRequest request → IsTimed change → change_by request a.own op ≡ sized request a.own change → Asks a b (Ok place) (IsPlace a request change.time)
     → refusal (candidate_of request place change) place ≡ None
     → Submits b c (candidate_of request place change) (done change.asked place.live) result → Operates a c request op result
-settled-submitted a b c request op change place result asked p e (answer, learns, told_so) =
+settled-submitted a b c request op change place result lawful timed asked p e (answer, learns, told_so) =
     subst (λ r. Operates a c request op r) (sym told_so) (go answer learns)
   where
     known : b.honest → IsPlace a request change.time place → Facts a.content a.own request op (done change.asked place.live) (candidate_of request place change)
     known h at =
         let settled = p.leaves.before (p.leaves.passes.honest h) (in_use a b p.leaves) in
-        facts a.content a.own request op change place asked settled.lawful.closed at.live at.origin at.number at.tick e
+        facts a.content a.own request op change place lawful timed asked settled.lawful.closed at.live at.origin at.number at.tick e
 
-    -- what is held behind an answer of the archive
-    learned_so : (x : Result Bool LearnFault) → Learns b c (candidate_of request place change) x → store_fault_in x ≡ None → c.honest → HasContent b a.content
-        → (S : Content) × Does {A = Result Bool LearnFault × Content} (step (λ m. (answer_to (finding a.content (candidate_of request place change)), unwrap_or (learned a.content (candidate_of request place change)) a.content))) (Fine ∷ []) (x, S) × HasContent c S
-    learned_so x l none honest h = (acts-learned b c (candidate_of request place change) x l none).acts honest a.content h
+    -- what a crash leaves
+    left_by_crash : (x : Result Bool LearnFault) → Learns b c (candidate_of request place change) x → c.honest → IsPlace a request change.time place → HasContent b a.content
+        → (left : Content) → c.may_hold left → b.may_hold left ⊎ Grows a.own a.content left
+    left_by_crash x l honest at h left m = grows-asked b c (candidate_of request place change) x a.own a.content l honest h (λ adds. (known (l.leaves.passes.honest honest) at).update) left m
 
     -- the archive's honest answer is that the record was added
-    answered : (x : Result Bool LearnFault) → Learns b c (candidate_of request place change) x → store_fault_in x ≡ None → c.honest → HasContent b a.content → IsPlace a request change.time place → Ok true ≡ x
-    answered x l none honest h at =
-        let q = learned_so x l none honest h in
-        sym (ap answer_to (known (l.leaves.passes.honest honest) at).adds) ∙ ap (λ (z : (Result Bool LearnFault × Content) × List Mark). z.0.0) (q.1.does [])
-
-    held : (x : Result Bool LearnFault) → Learns b c (candidate_of request place change) x → store_fault_in x ≡ None → c.honest → HasContent b a.content → IsPlace a request change.time place
-        → (S : Content) × Does (update_one a.own request op a.content) (Fine ∷ []) (done change.asked place.live, S) × HasContent c S
-    held x l none honest h at =
-        let q = learned_so x l none honest h in
+    added : (x : Result Bool LearnFault) → Learns b c (candidate_of request place change) x → store_fault_in x ≡ None → c.honest → HasContent b a.content → IsPlace a request change.time place
+        → (x ≡ Ok true) × HasContent c (put (candidate_of request place change) a.content)
+    added x l none honest h at =
         let k = known (l.leaves.passes.honest honest) at in
-        let left : put (candidate_of request place change) a.content ≡ q.0 =
-        sym (ap (λ f. unwrap_or (after_finding a.content (candidate_of request place change) f) a.content) k.adds) ∙ ap (λ (z : (Result Bool LearnFault × Content) × List Mark). z.0.1) (q.1.does []) in
-        (q.0, does-one a.own request op a.content Fine (done change.asked place.live) q.0 (ap code_in k.is) (ap (after a.content) k.is ∙ left), q.2)
+        let held = learned-held b c (candidate_of request place change) x l none honest a.content h in (
+          held.0 ∙ ap answer_to k.update.next,
+          subst (HasContent c) (ap (λ f. unwrap_or (after_finding a.content (candidate_of request place change) f) a.content) k.update.next) held.1,
+        )
 
     quiet : (x : Result Bool LearnFault) → store_fault_in x ≡ None → Learns b c (candidate_of request place change) x → Passes b c []
     quiet x none l = subst (λ f. Passes b c (option_to_list f)) none l.leaves.passes
 
     impossible : {X : Type 0} (f : LearnFault) → Learns b c (candidate_of request place change) (Err f) → store_fault_in (Err f) ≡ None → c.honest → HasContent b a.content → IsPlace a request change.time place → X
-    impossible f l none honest h at = absurd (err-ok (Err f) f true refl (sym (answered (Err f) l none honest h at)))
+    impossible f l none honest h at = absurd (err-ok (Err f) f true refl (added (Err f) l none honest h at).0)
 
     odd : (f : LearnFault) → Learns b c (candidate_of request place change) (Err f) → store_fault_in (Err f) ≡ None → Operates a c request op (Err (undone.Refused BAD_RESOURCE_UNAVAILABLE))
     odd f l none = record {
@@ -249,20 +269,32 @@ settled-submitted a b c request op change place result asked p e (answer, learns
     }
 
     go : (x : Result Bool LearnFault) → Learns b c (candidate_of request place change) x → Operates a c request op (told_of x (done change.asked place.live))
-    go (Ok added) l = record {
-      acts = moves-behind a b c place (IsPlace a request change.time) (Fine ∷ []) (λ R S. Does (update_one a.own request op R) (Fine ∷ []) (done change.asked place.live, S)) p l.leaves.passes
-          (λ honest at h. held (Ok added) l refl honest h at);
+    go (Ok x) l = record {
+      acts = moves-behind a b c place (IsPlace a request change.time) (Fine ∷ []) (λ R S. Does (update_one a.own request op R) (Fine ∷ []) (done change.asked place.live, S)) p l.leaves.passes (λ honest at h.
+          let k = known (l.leaves.passes.honest honest) at in
+          let here = added (Ok x) l refl honest h at in (
+            (
+              put (candidate_of request place change) a.content,
+              does-one a.own request op a.content Fine (done change.asked place.live) (put (candidate_of request place change) a.content) (ap code_in k.is) (ap (after a.content) k.is),
+              here.1,
+              grows-one a.own a.content (candidate_of request place change) k.update,
+            ),
+            left_by_crash (Ok x) l honest at h,
+          ));
       ended = λ y. absurd (none-some _ (p.leaves.ended y));
     }
-    go (Err (refused.Store fault)) l =
-        let acts : Acts b c (Met fault ∷ []) (update_one a.own request op) (status_of fault) =
-        acts-unlearned b c (candidate_of request place change) (Err (refused.Store fault)) fault
-        (λ R m. (code_by (outcome R a.own request op) m, left_by R (outcome R a.own request op) m)) (status_of fault) l refl (λ R. refl) in
-        record {
-          acts = moves-behind a b c place (IsPlace a request change.time) (Met fault ∷ []) (λ R S. Does (update_one a.own request op R) (Met fault ∷ []) (status_of fault, S)) p l.leaves.passes
-              (λ honest at h. acts.acts honest a.content h);
-          ended = λ y. absurd (none-some _ (p.leaves.ended y));
-        }
+    go (Err (refused.Store fault)) l = record {
+      acts = moves-behind a b c place (IsPlace a request change.time) (Met fault ∷ []) (λ R S. Does (update_one a.own request op R) (Met fault ∷ []) (status_of fault, S)) p l.leaves.passes (λ honest at h. (
+            (
+              a.content,
+              does-one a.own request op a.content (Met fault) (status_of fault) a.content refl refl,
+              unlearned-held b c (candidate_of request place change) (Err (refused.Store fault)) fault l refl honest a.content h,
+              grows-none a.own a.content,
+            ),
+            left_by_crash (Err (refused.Store fault)) l honest at h,
+          ));
+      ended = λ y. absurd (none-some _ (p.leaves.ended y));
+    }
     go (Err refused.Clash) l = odd _ l refl
     go (Err (refused.Gap held got)) l = odd _ l refl
     go (Err refused.TickTooFar) l = odd _ l refl
@@ -306,6 +338,33 @@ write_draft request place asked type v time lawful number write value judged = r
   suits = rw write refl;
 }
 
+pub few_by : (o : Option ℕ) → IfSome o IsPicoseconds → unwrap_or o 0 ≤ 9999
+few_by None h = omega arith
+few_by (Some n) h = h
+
+-- a write's moment has its value's picoseconds
+pub written_timed : (asked : HistoryUpdateType) (type : ValueType) (v : DataValue) (time : ℤ) → IsShortData v → time_judged type v ≡ Ok time → IsTimed (writing asked v time)
+written_timed asked type v time short judged _ = go (source_time v) refl judged
+  where
+    by_pico : (o : Option Ticks) (p : ℕ) (t : ℤ) → p ≤ 9999 → option_and_then (λ (s : Ticks). if int_lt s.0 (pos 1) then None else Some (moment s.0 p)) o ≡ Some t → pico_of t ≡ p
+    by_pico None p t few e = absurd (none-some _ e)
+    by_pico (Some s) p t few e = by_test (int_lt s.0 (pos 1)) e
+      where
+        by_test : (x : Bool) → (if x then None else Some (moment s.0 p)) ≡ Some t → pico_of t ≡ p
+        by_test true h = absurd (none-some _ h)
+        by_test false h = subst (λ u. pico_of u ≡ p) (same_Some _ _ h) (pico_again s.0 p few)
+
+    typed_so : (x : Bool) (t : ℤ) → (if x then Ok t else Err BAD_TYPE_MISMATCH) ≡ Ok time → t ≡ time
+    typed_so true t h = ok_same t time (Ok t) refl h
+    typed_so false t h = absurd (err-ok _ _ _ refl h)
+
+    go : (o : Option ℤ) → source_time v ≡ o → (ok_or o BAD_INVALID_TIMESTAMP >>= λ time. if fits type v.value then Ok time else Err BAD_TYPE_MISMATCH) ≡ Ok time → pico_of time ≡ source_pico v
+    go None p h = absurd (err-ok _ _ _ refl h)
+    go (Some t) p h = subst (λ u. pico_of u ≡ source_pico v) (typed_so (fits type v.value) t h) (by_pico v.source_time (source_pico v) t (few_by v.source_pico short.1) p)
+
+pub deletion_timed : (time : ℤ) → IsTimed (deletion time)
+deletion_timed time written = absurd (true≢false written)
+
 pub written_by : (request : Request) (own : ℕ) (asked : HistoryUpdateType) (type : ValueType) (v : DataValue) (time : ℤ) → time_judged type v ≡ Ok time
     → change_by request own (Write asked type v) ≡ sized request own (writing asked v time)
 written_by request own asked type v time e = ap (λ judged. judged >>= λ time. sized request own (writing asked v time)) e
@@ -316,11 +375,11 @@ unwritten request own asked type v code e = ap (λ judged. judged >>= λ time. s
 
 -- either way in which a record was settled
 pub settled : {A : Type 0} (state : A → Store) (x y z : A) (request : Request) (op : Operation) (change : Change) (place : Place) (r : Record) (result : Result Status Undone)
-    → change_by request (state x).own op ≡ sized request (state x).own change → Asks (state x) (state y) (Ok place) (IsPlace (state x) request change.time) → r ≡ candidate_of request place change
+    → IsRequest request → IsTimed change → change_by request (state x).own op ≡ sized request (state x).own change → Asks (state x) (state y) (Ok place) (IsPlace (state x) request change.time) → r ≡ candidate_of request place change
     → IfSome (refusal r place) (λ code. (result ≡ Err (undone.Refused code)) × (z ≡ y))
     → IfNone (refusal r place) (Submits (state y) (state z) r (done r.asked place.live) result)
     → Operates (state x) (state z) request op result
-settled state x y z request op change place r result asked p is refused submitted = go (refusal r place) refl refused submitted
+settled state x y z request op change place r result lawful timed asked p is refused submitted = go (refusal r place) refl refused submitted
   where
     go : (o : Option Status) → refusal r place ≡ o → IfSome o (λ code. (result ≡ Err (undone.Refused code)) × (z ≡ y)) → IfNone o (Submits (state y) (state z) r (done r.asked place.live) result)
         → Operates (state x) (state z) request op result
@@ -328,7 +387,7 @@ settled state x y z request op change place r result asked p is refused submitte
         subst (λ w. Operates (state x) (state w) request op result) (sym f.1)
         (subst (λ w. Operates (state x) (state y) request op w) (sym f.0) (settled-refused (state x) (state y) request op change place code asked p (ap (λ w. refusal w place) (sym is) ∙ e)))
     go None e f s =
-        settled-submitted (state x) (state y) (state z) request op change place result asked p (ap (λ w. refusal w place) (sym is) ∙ e) (subst (λ w. Submits (state y) (state z) w (done w.asked place.live) result) is s)
+        settled-submitted (state x) (state y) (state z) request op change place result lawful timed asked p (ap (λ w. refusal w place) (sym is) ∙ e) (subst (λ w. Submits (state y) (state z) w (done w.asked place.live) result) is s)
 
 pub deleted_by : (request : Request) (own : ℕ) (time : ℤ) → IsNodeId request.node → IsRequest request → int_lt (ticks_of time) (pos 1) ≡ false → change_by request own (DeleteAt time) ≡ sized request own (deletion time)
 deleted_by request own time spelled lawful late =

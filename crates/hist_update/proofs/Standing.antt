@@ -1,5 +1,5 @@
 -- Every update that is answered Good stands, whichever call it was one of.
-use Rattle.std.proofs.Common.{ℕ, ℤ, Bool, List, [], ◌∷◌, ◌++◌, map, length, Option, Some, None, subst}
+use Rattle.std.proofs.Common.{ℕ, ℤ, Bool, List, [], ◌++◌, map, length, Option, Some, None, subst}
 use Rattle.std.proofs.lemmas.Option.{none-some}
 use Rattle.ua_binary.specs.declared.codes.Status.{Status}
 use Rattle.ua_binary.specs.declared.values.Ticks.{Ticks}

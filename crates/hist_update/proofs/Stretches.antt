@@ -1,5 +1,5 @@
 -- Deletes of all values of a stretch of time: a listing, and deletes at what it told.
-use Rattle.std.proofs.Common.{◌≡◌, ℕ, ◌≤◌, suc, nat_lt, min, ℤ, Bool, true, false, List, [], ◌∷◌, map, take, length, Option, Some, None, Result, Ok, Err, IfOk, IfSome, ◌||◌, refl, sym, ap, ◌∙◌, subst, arith, not}
+use Rattle.std.proofs.Common.{◌≡◌, ℕ, ◌≤◌, suc, nat_lt, min, ℤ, Bool, true, false, List, [], ◌∷◌, map, take, length, Option, Some, None, Result, Ok, Err, IfOk, IfSome, ◌||◌, ◌⊎◌, refl, sym, ap, ◌∙◌, subst, arith, not}
 use Rattle.std.specs.Prelude.{if◌then◌else◌}
 use Rattle.std.specs.List.{take-map}
 use Rattle.std.proofs.Math.Bool.{or-false}
@@ -23,6 +23,7 @@ use Rattle.archive.specs.declared.reading.Direction.TheVariants.{Forward}
 use Rattle.archive.specs.Fault.{status_of, status_told}
 use Rattle.archive.specs.Reading.{range_of}
 use Rattle.archive.specs.Steps.{Marked, step, Acts, Does}
+use Rattle.archive.specs.Growth.{Grows}
 use Rattle.archive.specs.Store.{Store, Mark, Fine, Met, Asks, HasContent}
 use Rattle.archive.proofs.Calls.{asks-then, in_use, left_in_use}
 use Rattle.hist_update.specs.declared.request.Request.{Request}
@@ -148,7 +149,11 @@ pub stretch-listed : {B : Type 0} (a b c : Store) (lives : B) (items : B → Lis
 stretch-listed {B} a b c lives items times request start end_ from to result p first final is u = (
   Fine ∷ u.used,
   moves-behind a b c lives (λ (w : B). items w ≡ take 1001 (range_of a.content request.node from to Forward)) (Fine ∷ u.used) (λ R S. Does (past (step status_told) R (delete_listed a.own request (doomed R request.node start end_) R)) (Fine ∷ u.used) (result, S)) p u.acts.passes
-      (λ honest told h. let q = u.acts.acts honest a.content h in (q.0, step_past q.0 told q.1, q.2)),
+      (λ honest told h.
+      let q = u.acts.acts honest a.content h in (
+        (q.0, step_past q.0 told q.1, q.2, subst (λ (own : ℕ). Grows own a.content q.0) p.leaves.passes.own q.3),
+        λ left m. subst (λ (own : ℕ). b.may_hold left ⊎ Grows own a.content left) p.leaves.passes.own (u.acts.crash honest a.content h left m),
+      )),
   λ honest R h.
       let same : a.content ≡ R = h.content used in
       let told = p.answer (u.acts.passes.honest honest) in

@@ -19,7 +19,8 @@ use Rattle.hist_update.specs.declared.request.Request.{Request}
 use Rattle.hist_update.specs.declared.operate.Undone.{Undone}
 use Rattle.hist_update.specs.declared.operate.Undone.TheVariants as undone
 use Rattle.hist_update.specs.declared.operate.Place.{Place}
-use Rattle.hist_update.specs.Outcome.{Operation, DeleteAt, Change, id_length, change_by, is_live, conflict, record_by}
+use Rattle.hist_update.specs.Outcome.{Operation, DeleteAt, Change, change_by, is_live, conflict, record_by}
+use Rattle.archive.specs.Growth.{id_length}
 use Rattle.hist_update.specs.Updates.{update_one, update_all, begin, listing_refusal, delete_listed, AreEnded, needs_store, needs_of}
 
 -- ---- one operation

@@ -4,7 +4,6 @@ use Rattle.std.specs.Option.{option_and_then, ok_or}
 use Rattle.stamp.specs.Limits.{lift}
 use Rattle.ua_binary.specs.Format.{◌>>=◌}
 use Rattle.ua_binary.specs.declared.values.NodeId.{NodeId}
-use Rattle.ua_binary.specs.declared.values.NodeId.TheVariants.{Named, Opaque}
 use Rattle.ua_variant.specs.Variant.{has_type}
 use Rattle.ua_variant.specs.declared.data.DataValue.{DataValue}
 use Rattle.ua_variant.specs.declared.value.Variant.{Variant}
@@ -16,6 +15,7 @@ use Rattle.records.specs.Spelling.{empty, fields, longest}
 use Rattle.records.specs.declared.record.Record.{Record}
 use Rattle.ua_variant.specs.declared.update_type.HistoryUpdateType.{HistoryUpdateType}
 use Rattle.ua_variant.specs.declared.update_type.HistoryUpdateType.TheVariants.{Insert, Replace, Delete}
+use Rattle.archive.specs.Growth.{id_length}
 use Rattle.hist_update.specs.declared.request.Request.{Request}
 use Rattle.ua_binary.specs.declared.codes.Status.{Status}
 use Rattle.ua_binary.specs.declared.codes.TheConstants.Status.{GOOD, GOOD_ENTRY_INSERTED, GOOD_ENTRY_REPLACED, BAD_RESOURCE_UNAVAILABLE, BAD_ENCODING_LIMITS_EXCEEDED, BAD_INVALID_TIMESTAMP, BAD_TYPE_MISMATCH, BAD_ENTRY_EXISTS, BAD_NO_ENTRY_EXISTS}
@@ -36,11 +36,6 @@ abbrev pub record_by : Request → ℕ → ℕ → ℤ → Change → Record
 record_by request own number tick change = record { origin = own; number = number; tick = tick; node = request.node; time = change.time; asked = change.asked; user = request.user; value = change.value }
 
 -- what a caller sees to: the node's id and the user's name have at most 256 bytes each
-abbrev pub id_length : NodeId → ℕ
-id_length (Named ns name) = length name
-id_length (Opaque ns id) = length id
-id_length node = 0
-
 pub record IsRequest (request : Request) : Type 0 where
   pub node : id_length request.node ≤ 256
   pub user : length request.user ≤ 256

@@ -8,9 +8,8 @@ use Rattle.ua_binary.specs.declared.codes.Status.{Status}
 use Rattle.ua_binary.specs.declared.codes.TheConstants.Status.{BAD_OUT_OF_MEMORY, BAD_NOTHING_TO_DO, BAD_TOO_MANY_OPERATIONS}
 use Rattle.records.specs.Contents.{Content}
 use Rattle.archive.specs.Store.{Store, Mark, Fine, Starved}
-use Rattle.archive.specs.Steps.{Marked, give, and_then, each, Acts}
-use Rattle.archive.proofs.Acting.{acts-give, acts-as, acts-each}
-use Rattle.archive.proofs.Calls.{passes-none}
+use Rattle.archive.specs.Steps.{Marked, give, and_then, each, Does, Acts}
+use Rattle.archive.proofs.Acting.{moves-none-by, acts-give, acts-as, acts-each}
 use Rattle.historian.specs.declared.answer.Answer.{Answer as Made}
 use Rattle.historian.specs.Answers.{Answer, Response}
 use Rattle.hist_update.specs.Codes.{list_refusal}
@@ -57,7 +56,7 @@ pub comes-starved : {X Y : Type 0} (s : Store) (service : Content → Served) (a
 comes-starved s service answer item xs is = (
   Starved ∷ [],
   Err BAD_OUT_OF_MEMORY,
-  record { passes = passes-none s; acts = λ honest R h. (R, record { does = λ later. is R (Starved ∷ later) }, h) },
+  moves-none-by s (Starved ∷ []) refl (λ R S. Does (service R) (Starved ∷ []) ((Err BAD_OUT_OF_MEMORY, S))) (λ R. record { does = λ later. is R (Starved ∷ later) }),
   inl refl,
 )
 
@@ -78,7 +77,9 @@ comes-items {X} {Y} a b service answer item xs ys made is all told = (
                 ∙ ap (λ (r : (List Y × Content) × List Mark). let z : (Response × Content) × List Mark = ((Ok (answer r.0.0), r.0.1), r.1) in z) (q.1.does later);
           },
           q.2,
+          q.3,
         );
+    crash = all.1.crash;
   },
   ap Ok told,
 )
@@ -102,14 +103,14 @@ acts-none s f x is = ([], acts-as s s [] (λ R. give (x, R)) f x (λ R marks. sy
 
 -- memory for one is wanting
 pub acts-starved : {X : Type 0} (s : Store) (f : Content → Marked (X × Content)) (x : X) → ((R : Content) (later : List Mark) → f R (Starved ∷ later) ≡ ((x, R), later)) → (used : List Mark) × Acts s s used f x
-acts-starved s f x is = (Starved ∷ [], record { passes = passes-none s; acts = λ honest R h. (R, record { does = λ later. is R later }, h) })
+acts-starved s f x is = (Starved ∷ [], moves-none-by s (Starved ∷ []) refl (λ R S. Does (f R) (Starved ∷ []) (x, S)) (λ R. record { does = λ later. is R later }))
 
 -- nothing came in the way of the first, and then others
 pub acts-past : {X : Type 0} (a b : Store) (f g : Content → Marked (X × Content)) (x : X) → ((used : List Mark) × Acts a b used g x) → ((R : Content) (marks : List Mark) → f R (Fine ∷ marks) ≡ g R marks)
     → (used : List Mark) × Acts a b used f x
 acts-past a b f g x (used, acts) is = (
   Fine ∷ used,
-  record { passes = acts.passes; acts = λ honest R h. let q = acts.acts honest R h in (q.0, record { does = λ later. is R (used ++ later) ∙ q.1.does later }, q.2) },
+  record { passes = acts.passes; acts = λ honest R h. let q = acts.acts honest R h in (q.0, record { does = λ later. is R (used ++ later) ∙ q.1.does later }, q.2, q.3); crash = acts.crash },
 )
 
 -- some steps, and what is made of their value
@@ -129,7 +130,9 @@ acts-made {X} {Y} a b g f make x y (used, acts) is made = (
                 ∙ ap (λ (w : Y). let z : (Y × Content) × List Mark = ((w, q.0), later) in z) (sym made));
           },
           q.2,
+          q.3,
         );
+    crash = acts.crash;
   },
 )
 

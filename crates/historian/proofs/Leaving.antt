@@ -28,7 +28,8 @@ use Rattle.ua_space.specs.Space.{Node, Root, Objects, NamespaceArray, State, OfF
 use Rattle.ua_space.proofs.Found.{short_found}
 use Rattle.hist_update.specs.declared.request.Request.{Request}
 use Rattle.hist_update.specs.Codes.{asked_by, list_refusal, first_other}
-use Rattle.hist_update.specs.Outcome.{Operation, Write, DeleteAt, id_length, outcome, after}
+use Rattle.hist_update.specs.Outcome.{Operation, Write, DeleteAt, outcome, after}
+use Rattle.archive.specs.Growth.{id_length}
 use Rattle.hist_update.proofs.LawfulUpdates.{IsWritten}
 use Rattle.hist_update.specs.Updates as update
 use Rattle.hist_read.specs.declared.query.Query.{Query}

@@ -11,8 +11,8 @@ use Rattle.ua_session.specs.declared.fault.SessionFault.TheVariants.{OutOfMemory
 use Rattle.ua_session.specs.Fault.{code_of}
 use Rattle.ua_session.specs.Sessions.{State, user_at}
 use Rattle.records.specs.Contents.{Content}
-use Rattle.archive.specs.Store.{Store, Mark, Fine, Starved, faults_of, Passes}
-use Rattle.archive.proofs.Calls.{passes-none}
+use Rattle.archive.specs.Store.{Store, Mark, Fine, Starved, faults_of}
+use Rattle.archive.proofs.Acting.{moves-none-by}
 use Rattle.archive.specs.Steps.{Marked, give, step, Does, Acts}
 use Rattle.historian.specs.declared.service.Service.{Service}
 use Rattle.historian.specs.declared.answer.Answer.{Answer as Made}
@@ -127,7 +127,7 @@ pub performs-here : (s : Store) (service : Content → Marked Outcome) (sessions
 performs-here s service sessions result (used, told, faultless, does, tells) = (
   used,
   told,
-  record { passes = subst (Passes s s) (sym faultless) (passes-none s); acts = λ honest R h. (R, does R, h) },
+  moves-none-by s used faultless (λ R S. Does (service R) used ((told, sessions), S)) does,
   tells,
 )
 
@@ -190,7 +190,9 @@ performs-over a b site now token sessions asked call bytes user f used told resu
                 ∙ (does-in sessions user (f R) R q.0 used told q.1).does later;
           }),
           q.2,
+          q.3,
         );
+    crash = acts.crash;
   },
   tells,
 )

@@ -25,8 +25,8 @@ use Rattle.archive.specs.Fault.{status_of, status_told}
 use Rattle.archive.specs.Reading.{range_of}
 use Rattle.archive.specs.Store.{Store, Mark, Fine, Starved, Met, faults_of, Passes, Stays, HasContent, Asks}
 use Rattle.archive.specs.Steps.{Marked, give, step, and_then, Does, Acts}
-use Rattle.archive.proofs.Acting.{moves-as, acts-as, acts-stays}
-use Rattle.archive.proofs.Calls.{passes-none, passes-leaves, in_use, asks-then}
+use Rattle.archive.proofs.Acting.{moves-none-by, moves-as, acts-as, acts-stays}
+use Rattle.archive.proofs.Calls.{passes-leaves, in_use, asks-then}
 use Rattle.hist_read.specs.Asking.{first_time}
 use Rattle.hist_read.specs.Reads.{greatest_time}
 use Rattle.historian.specs.Reading.{stored, latest, value_of, value_rules, item_at, item_value, telling, unless_met, item_told, value_step}
@@ -55,18 +55,12 @@ listed a b c v node from to d limit {B} items result p q =
 -- the archive isn't asked
 pub value-here : (s : Store) (told : Marked (Option Status)) (value : Content → Result DataValue Status) (mark : Mark) (reason : Option Status) (x : Result DataValue Status) → faults_of (mark ∷ []) ≡ []
     → ((later : List Mark) → told (mark ∷ later) ≡ (reason, later)) → ((R : Content) → x ≡ unless_met reason (value R)) → Acts s s (mark ∷ []) (value_step told value) x
-value-here s told value mark reason x faultless is so = record {
-  passes = subst (Passes s s) (sym faultless) (passes-none s);
-  acts = λ honest R h. (
-    R,
-    record {
+value-here s told value mark reason x faultless is so =
+    moves-none-by s (mark ∷ []) faultless (λ R S. Does (value_step told value R) (mark ∷ []) (x, S)) (λ R. record {
       does = λ later.
           ap (λ (r : Option Status × List Mark). let z : (Result DataValue Status × Content) × List Mark = ((unless_met r.0 (value R), R), r.1) in z) (is later)
           ∙ ap (λ (v : Result DataValue Status). let z : (Result DataValue Status × Content) × List Mark = ((v, R), later) in z) (sym (so R));
-    },
-    h,
-  );
-}
+    })
 
 -- the archive is asked
 step-told : (value : Content → Result DataValue Status) (R : Content) (marks : List Mark) → step (λ m. (unless_met (status_told m) (value R), R)) marks ≡ value_step (step status_told) value R marks

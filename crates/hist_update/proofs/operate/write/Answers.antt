@@ -3,7 +3,7 @@ use Rattle.hist_update.specs.Outcome.{Write, writing}
 use Rattle.archive.specs.declared.setback.Setback.TheVariants as setback
 use Rattle.hist_update.specs.Operating.{candidate_of, Operates, IsDraft}
 use Rattle.hist_update.specs.declared.operate.Undone.TheVariants as undone
-use Rattle.hist_update.proofs.Operating.{refused-early, survey-failed, draft-starved, write_draft, written_by, unwritten, settled}
+use Rattle.hist_update.proofs.Operating.{refused-early, survey-failed, draft-starved, write_draft, written_timed, written_by, unwritten, settled}
 use Rattle.std.proofs.Common.{subst, sym}
 use Rattle.hist_update.proofs.operate.write.Goals as goal
 
@@ -32,4 +32,4 @@ returns g c =
     let is = c.in_ok-candidate.ensures in
     let asks = (c.in_ok-place.ensures).asks in
     settled g.A.Archive.state c.args.archive.now c.survey.new.archive c.settle.new.archive c.args.request.now (Write c.args.asked c.args.value_type c.args.value.now) (writing c.args.asked c.args.value.now c.in-Ok.time) c.in_ok-place.place c.in_ok-candidate.candidate c.settle.result
-    (written_by c.args.request.now (g.A.Archive.state c.args.archive.now).own c.args.asked c.args.value_type c.args.value.now c.in-Ok.time (sym c.in-Ok.ensures)) asks is c.settle.ensures.refused c.settle.ensures.submitted
+    c.requires.request (written_timed c.args.asked c.args.value_type c.args.value.now c.in-Ok.time c.requires.value (sym c.in-Ok.ensures)) (written_by c.args.request.now (g.A.Archive.state c.args.archive.now).own c.args.asked c.args.value_type c.args.value.now c.in-Ok.time (sym c.in-Ok.ensures)) asks is c.settle.ensures.refused c.settle.ensures.submitted
