@@ -82,13 +82,6 @@ does-each {X} {Y} {S} f xs x s us vs ys y t u p q = record {
       ∙ ap (λ (r : (Y × S) × List Mark). let z : (List Y × S) × List Mark = ((ys ++ r.0.0 ∷ [], r.0.1), r.1) in z) (q.does later);
 }
 
--- what could be found before may be found, or what some updates make of what was held
-abbrev pub MayGrow : Store → Store → Type 0
-MayGrow a b = b.honest → (R : Content) → HasContent a R → (left : Content) → b.may_hold left → a.may_hold left ⊎ Grows a.own R left
-
-pub grows-stays : (a b : Store) → Stays a b → MayGrow a b
-grows-stays a b s honest R h left m = inl (s.crash honest left m)
-
 -- no call: no mark among these is a fault of the store
 pub moves-none-by : (s : Store) (used : List Mark) → faults_of used ≡ [] → (To : Content → Content → Type 0) → ((R : Content) → To R R) → Moves s s used To
 moves-none-by s used quiet To stays = record { passes = subst (Passes s s) (sym quiet) (passes-none s); acts = λ honest R h. (R, stays R, h, grows-none s.own R); crash = λ honest R h left m. inl m }
@@ -116,16 +109,23 @@ moves-then a b c us vs P Q To both p q = record {
     further R S T x y = grows-then a.own R S T x (subst (λ (own : ℕ). Grows own S T) p.passes.own y)
 
 -- calls that leave the content as it is
-pub moves-stays : (a b : Store) (used : List Mark) (To : Content → Content → Type 0) → Passes a b (faults_of used) → Stays a b → ((R : Content) → To R R) → Moves a b used To
+pub moves-stays : (a b : Store) (used : List Mark) (To : Content → Content → Type 0) → Passes a b (faults_of used) → Stays a b → (b.honest → (R : Content) → HasContent a R → To R R) → Moves a b used To
 moves-stays a b used To passes stays so = record {
   passes = passes;
-  acts = λ honest R h. (R, so R, holds-stays a b (faults_of used) R stays passes honest h, grows-none a.own R);
-  crash = grows-stays a b stays;
+  acts = λ honest R h. (R, so honest R h, holds-stays a b (faults_of used) R stays passes honest h, grows-none a.own R);
+  crash = λ honest R h left m. inl (stays.crash honest left m);
 }
 
--- the same calls, told in other words
+-- the same calls, told in other words and by other marks
+pub moves-told : (a b : Store) (us vs : List Mark) (P To : Content → Content → Type 0) → faults_of vs ≡ faults_of us → ((R S : Content) → P R S → To R S) → Moves a b us P → Moves a b vs To
+moves-told a b us vs P To same so p = record {
+  passes = subst (Passes a b) (sym same) p.passes;
+  acts = λ honest R h. let q = p.acts honest R h in (q.0, so R q.0 q.1, q.2, q.3);
+  crash = p.crash;
+}
+
 pub moves-as : (a b : Store) (us : List Mark) (P To : Content → Content → Type 0) → ((R S : Content) → P R S → To R S) → Moves a b us P → Moves a b us To
-moves-as a b us P To so p = record { passes = p.passes; acts = λ honest R h. let q = p.acts honest R h in (q.0, so R q.0 q.1, q.2, q.3); crash = p.crash }
+moves-as a b us P To so p = moves-told a b us us P To refl so p
 
 pub acts-give : {X : Type 0} (s : Store) (x : X) → Acts s s [] (λ R. give (x, R)) x
 acts-give s x = moves-none s (λ R S. Does (give (x, R)) [] (x, S)) (λ R. does-give (x, R))
@@ -150,23 +150,12 @@ acts-each a b c us vs f xs x ys y p q =
 
 -- ---- one call
 
--- one step, by what it leaves
-pub acts-step : {X : Type 0} (a b : Store) (mark : Mark) (f : Content → Mark → X × Content) (x : X) → Passes a b (faults_of (mark ∷ [])) → MayGrow a b
-    → (b.honest → (R : Content) → HasContent a R → (S : Content) × (f R mark ≡ (x, S)) × HasContent b S × Grows a.own R S) → Acts a b (mark ∷ []) (λ R. step (f R)) x
-acts-step {X} a b mark f x passes crash so = record {
-  passes = passes;
-  acts = λ honest R h.
-      let q = so honest R h in
-      (q.0, record { does = λ later. ap (λ (z : X × Content). let r : (X × Content) × List Mark = (z, later) in r) q.1 }, q.2, q.3);
-  crash = crash;
-}
-
 -- a step that the archive wasn't asked in, or that it stays in: what is told is f of what was held
 pub acts-stays : {X : Type 0} (a b : Store) (mark : Mark) (f : Content → Mark → X) (x : X) → Passes a b (faults_of (mark ∷ [])) → Stays a b
     → (b.honest → (R : Content) → HasContent a R → x ≡ f R mark) → Acts a b (mark ∷ []) (λ R. step (λ m. (f R m, R))) x
-acts-stays a b mark f x passes stays so =
-    acts-step a b mark (λ R m. (f R m, R)) x passes (grows-stays a b stays)
-    (λ honest R h. (R, ap (λ z. (z, R)) (sym (so honest R h)), holds-stays a b (faults_of (mark ∷ [])) R stays passes honest h, grows-none a.own R))
+acts-stays {X} a b mark f x passes stays so =
+    moves-stays a b (mark ∷ []) (λ R S. Does (step (λ m. (f R m, R))) (mark ∷ []) (x, S)) passes stays
+    (λ honest R h. record { does = λ later. ap (λ (y : X). let z : (X × Content) × List Mark = ((y, R), later) in z) (sym (so honest R h)) })
 
 -- what an opening finds of a store in use is its content
 settled-only : (a b : Store) (fault : Option StoreFault) (left : Content) → Leaves a b fault → b.honest → b.broken ≡ false → b.may_hold left → left ≡ b.content

@@ -12,7 +12,7 @@ use Rattle.records.specs.Contents.{Content}
 use Rattle.archive.specs.Steps.{Marked, memory, Does, Acts}
 use Rattle.archive.specs.Store.{Store, Mark, Fine, Starved, faults_of, Passes, Stays}
 use Rattle.archive.proofs.Calls.{passes-none, stays-none}
-use Rattle.archive.proofs.Acting.{moves-none, moves-stays, moves-as, does-give}
+use Rattle.archive.proofs.Acting.{moves-none, moves-stays, moves-told, moves-as, does-give}
 use Rattle.hist_update.specs.declared.request.Request.{Request}
 use Rattle.hist_update.specs.Codes.{list_refusal}
 use Rattle.hist_update.specs.Outcome.{Operation, Write}
@@ -33,18 +33,14 @@ acts-free a b used reason f x e p = subst (λ o. Acts a b used (λ R. unless o R
 pub acts-hindered : (a b : Store) (mark : Mark) (code : Status) (first : Marked (Option Status)) (f : Content → Marked Updated) → Passes a b (faults_of (mark ∷ [])) → Stays a b
     → ((later : List Mark) → first (mark ∷ later) ≡ (Some code, later)) → Acts a b (mark ∷ []) (λ R. past first R (f R)) (refused code)
 acts-hindered a b mark code first f passes stays e =
-    moves-stays a b (mark ∷ []) (λ R S. Does (past first R (f R)) (mark ∷ []) (refused code, S)) passes stays (λ R. record { does = λ later. ap (λ (r : Option Status × List Mark). unless r.0 R (f R) r.1) (e later) })
+    moves-stays a b (mark ∷ []) (λ R S. Does (past first R (f R)) (mark ∷ []) (refused code, S)) passes stays (λ honest R h. record { does = λ later. ap (λ (r : Option Status × List Mark). unless r.0 R (f R) r.1) (e later) })
 
 -- nothing did
 pub acts-past : (a b : Store) (used : List Mark) (first : Marked (Option Status)) (f : Content → Marked Updated) (x : HistoryUpdateResult) → ((later : List Mark) → first (Fine ∷ later) ≡ (None, later)) → Acts a b used f x
     → Acts a b (Fine ∷ used) (λ R. past first R (f R)) x
-acts-past a b used first f x e p = record {
-  passes = p.passes;
-  acts = λ honest R h.
-      let q = p.acts honest R h in
-      (q.0, record { does = λ later. ap (λ (r : Option Status × List Mark). unless r.0 R (f R) r.1) (e (used ++ later)) ∙ q.1.does later }, q.2, q.3);
-  crash = p.crash;
-}
+acts-past a b used first f x e p =
+    moves-told a b used (Fine ∷ used) (λ R S. Does (f R) used (x, S)) (λ R S. Does (past first R (f R)) (Fine ∷ used) (x, S)) refl
+    (λ R S d. record { does = λ later. ap (λ (r : Option Status × List Mark). unless r.0 R (f R) r.1) (e (used ++ later)) ∙ d.does later }) p
 
 -- the operations of an update
 pub acts-run : (a b : Store) (used : List Mark) (own : ℕ) (request : Request) (status : List Status → Status) (ops : List Operation) (codes : List Status)

@@ -151,7 +151,7 @@ starved-fine e = absurd (true≢false (sym (ap (λ m. elim m [ Fine ↦ true | _
 pub survey-failed : (a b : Store) (request : Request) (op : Operation) (fault : StoreFault) (P : Place → Type 0) → Asks {A = Place} a b (Err fault) P → Operates a b request op (Err (undone.Hindered (setback.Store fault)))
 survey-failed a b request op fault P p = record {
   acts = moves-stays a b (Met fault ∷ []) (λ R S. Does (update_one a.own request op R) (Met fault ∷ []) (status_of fault, S)) p.leaves.passes p.stays
-      (λ R. does-one a.own request op R (Met fault) (status_of fault) R refl refl);
+      (λ honest R h. does-one a.own request op R (Met fault) (status_of fault) R refl refl);
   ended = λ e f. fine-met fault f;
 }
 

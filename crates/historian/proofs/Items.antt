@@ -9,7 +9,7 @@ use Rattle.ua_binary.specs.declared.codes.TheConstants.Status.{BAD_OUT_OF_MEMORY
 use Rattle.records.specs.Contents.{Content}
 use Rattle.archive.specs.Store.{Store, Mark, Fine, Starved}
 use Rattle.archive.specs.Steps.{Marked, give, and_then, each, Does, Acts}
-use Rattle.archive.proofs.Acting.{moves-none-by, acts-give, acts-as, acts-each}
+use Rattle.archive.proofs.Acting.{moves-none-by, moves-told, moves-as, acts-give, acts-as, acts-each}
 use Rattle.historian.specs.declared.answer.Answer.{Answer as Made}
 use Rattle.historian.specs.Answers.{Answer, Response}
 use Rattle.hist_update.specs.Codes.{list_refusal}
@@ -66,21 +66,11 @@ pub comes-items : {X Y : Type 0} (a b : Store) (service : Content → Served) (a
 comes-items {X} {Y} a b service answer item xs ys made is all told = (
   Fine ∷ all.0,
   Ok (answer ys),
-  record {
-    passes = all.1.passes;
-    acts = λ honest R h.
-        let q = all.1.acts honest R h in (
-          q.0,
-          record {
-            does = λ later.
-                is R (Fine ∷ (all.0 ++ later))
-                ∙ ap (λ (r : (List Y × Content) × List Mark). let z : (Response × Content) × List Mark = ((Ok (answer r.0.0), r.0.1), r.1) in z) (q.1.does later);
-          },
-          q.2,
-          q.3,
-        );
-    crash = all.1.crash;
-  },
+  moves-told a b all.0 (Fine ∷ all.0) (λ R S. Does (each item xs R) all.0 (ys, S)) (λ R S. Does (service R) (Fine ∷ all.0) (Ok (answer ys), S)) refl (λ R S d. record {
+    does = λ later.
+        is R (Fine ∷ (all.0 ++ later))
+        ∙ ap (λ (r : (List Y × Content) × List Mark). let z : (Response × Content) × List Mark = ((Ok (answer r.0.0), r.0.1), r.1) in z) (d.does later);
+  }) all.1,
   ap Ok told,
 )
 
@@ -110,7 +100,7 @@ pub acts-past : {X : Type 0} (a b : Store) (f g : Content → Marked (X × Conte
     → (used : List Mark) × Acts a b used f x
 acts-past a b f g x (used, acts) is = (
   Fine ∷ used,
-  record { passes = acts.passes; acts = λ honest R h. let q = acts.acts honest R h in (q.0, record { does = λ later. is R (used ++ later) ∙ q.1.does later }, q.2, q.3); crash = acts.crash },
+  moves-told a b used (Fine ∷ used) (λ R S. Does (g R) used (x, S)) (λ R S. Does (f R) (Fine ∷ used) (x, S)) refl (λ R S d. record { does = λ later. is R (used ++ later) ∙ d.does later }) acts,
 )
 
 -- some steps, and what is made of their value
@@ -118,22 +108,12 @@ pub acts-made : {X Y : Type 0} (a b : Store) (g : Content → Marked (X × Conte
     → ((R : Content) (marks : List Mark) → f R marks ≡ and_then (g R) (λ p. give (make p.0, p.1)) marks) → y ≡ make x → (used : List Mark) × Acts a b used f y
 acts-made {X} {Y} a b g f make x y (used, acts) is made = (
   used,
-  record {
-    passes = acts.passes;
-    acts = λ honest R h.
-        let q = acts.acts honest R h in (
-          q.0,
-          record {
-            does = λ later.
-                is R (used ++ later)
-                ∙ (ap (λ (r : (X × Content) × List Mark). let z : (Y × Content) × List Mark = ((make r.0.0, r.0.1), r.1) in z) (q.1.does later)
-                ∙ ap (λ (w : Y). let z : (Y × Content) × List Mark = ((w, q.0), later) in z) (sym made));
-          },
-          q.2,
-          q.3,
-        );
-    crash = acts.crash;
-  },
+  moves-as a b used (λ R S. Does (g R) used (x, S)) (λ R S. Does (f R) used (y, S)) (λ R S d. record {
+    does = λ later.
+        is R (used ++ later)
+        ∙ (ap (λ (r : (X × Content) × List Mark). let z : (Y × Content) × List Mark = ((make r.0.0, r.0.1), r.1) in z) (d.does later)
+        ∙ ap (λ (w : Y). let z : (Y × Content) × List Mark = ((w, S), later) in z) (sym made));
+  }) acts,
 )
 
 -- the same calls, told in other words

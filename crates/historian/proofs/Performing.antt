@@ -12,7 +12,7 @@ use Rattle.ua_session.specs.Fault.{code_of}
 use Rattle.ua_session.specs.Sessions.{State, user_at}
 use Rattle.records.specs.Contents.{Content}
 use Rattle.archive.specs.Store.{Store, Mark, Fine, Starved, faults_of}
-use Rattle.archive.proofs.Acting.{moves-none-by}
+use Rattle.archive.proofs.Acting.{moves-none-by, moves-told}
 use Rattle.archive.specs.Steps.{Marked, give, step, Does, Acts}
 use Rattle.historian.specs.declared.service.Service.{Service}
 use Rattle.historian.specs.declared.answer.Answer.{Answer as Made}
@@ -178,22 +178,13 @@ pub performs-over : (a b : Store) (site : Site) (now : Ticks) (token : NodeId) (
 performs-over a b site now token sessions asked call bytes user f used told result is same in_use acts tells = (
   Fine ∷ used,
   told,
-  record {
-    passes = acts.passes;
-    acts = λ honest R h.
-        let q = acts.acts honest R h in (
-          q.0,
-          does-read site now token (call_in asked bytes) call sessions R used ((told, sessions), q.0) is (record {
-            does = λ later.
-                same R (used ++ later)
-                ∙ ap (λ (u : Result (List ℕ) SessionFault). in_session sessions u (f R) R (used ++ later)) in_use
-                ∙ (does-in sessions user (f R) R q.0 used told q.1).does later;
-          }),
-          q.2,
-          q.3,
-        );
-    crash = acts.crash;
-  },
+  moves-told a b used (Fine ∷ used) (λ R S. Does (f R user) used (told, S)) (λ R S. Does (answered_call site now token (call_in asked bytes) sessions R) (Fine ∷ used) ((told, sessions), S)) refl
+      (λ R S d. does-read site now token (call_in asked bytes) call sessions R used ((told, sessions), S) is (record {
+        does = λ later.
+            same R (used ++ later)
+            ∙ ap (λ (u : Result (List ℕ) SessionFault). in_session sessions u (f R) R (used ++ later)) in_use
+            ∙ (does-in sessions user (f R) R S used told d).does later;
+      })) acts,
   tells,
 )
 

@@ -23,7 +23,7 @@ sort_by-rises xs up = same_members name_cmp name_total _ _ (rises-sort_by name_c
 pub missing_is : (R : Content) (v : ℕ → ℕ) (k : ℕ) → Rises name_cmp R → missing R v k ≡ take k (filter (is_beyond v) R)
 missing_is R v k up = ap (take k) (sort_by-rises _ (pairwise-filter _ (is_beyond v) R up))
 
-name_less : (x z : Record) → name_cmp x z ≡ Less → x.origin ≡ z.origin → x.number < z.number
+pub name_less : (x z : Record) → name_cmp x z ≡ Less → x.origin ≡ z.origin → x.number < z.number
 name_less x z e o = grind (arith, nat_tests)
 
 -- S has these records beyond R, of which x is the first

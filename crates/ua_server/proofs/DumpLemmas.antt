@@ -26,7 +26,7 @@ use Rattle.archive.specs.Store.{Store, Met, Asks, IsLawfulContent}
 use Rattle.archive.specs.Steps.{Moves}
 use Rattle.archive.proofs.ListLemmas.{vec_more}
 use Rattle.archive.proofs.Calls.{in_use}
-use Rattle.archive.proofs.Acting.{moves-none, moves-then, moves-as, holds-stays, held-before}
+use Rattle.archive.proofs.Acting.{moves-none, moves-stays, moves-then, moves-as, held-before}
 use Rattle.ua_server.specs.declared.dumps.DumpFault.{DumpFault}
 use Rattle.ua_server.specs.declared.dumps.DumpFault.TheVariants as dump
 use Rattle.ua_server.specs.Bytes.{AppendsPart}
@@ -110,20 +110,15 @@ known_more old mid new xs i d lt so raised others o =
 -- the records that the archive answered
 pub asked : {A : Type 0} (t u : Store) (items_of : A → List Record) (v : ℕ → ℕ) (k : ℕ) (a : A) → Asks t u (Ok a) (λ x. items_of x ≡ missing t.content v k)
     → Moves t u [] (λ R S. (S ≡ R) × IsLawfulContent R × (items_of a ≡ missing R v k))
-asked t u items_of v k a asks = record {
-  passes = asks.leaves.passes;
-  acts = λ honest R h.
-      let is : t.content ≡ R = held-before t u R asks.leaves h in
-      let rests = asks.leaves.before (asks.leaves.passes.honest honest) (in_use t u asks.leaves) in
-      (R, (refl, subst IsLawfulContent is rests.lawful, asks.answer honest ∙ ap (λ C. missing C v k) is), holds-stays t u [] R asks.stays asks.leaves.passes honest h);
-}
+asked t u items_of v k a asks =
+    moves-stays t u [] (λ R S. (S ≡ R) × IsLawfulContent R × (items_of a ≡ missing R v k)) asks.leaves.passes asks.stays (λ honest R h.
+    let is : t.content ≡ R = held-before t u R asks.leaves h in
+    let rests = asks.leaves.before (asks.leaves.passes.honest honest) (in_use t u asks.leaves) in
+    (refl, subst IsLawfulContent is rests.lawful, asks.answer honest ∙ ap (λ C. missing C v k) is))
 
 -- a fault of its store
 pub asked-none : {A : Type 0} (t u : Store) (fault : StoreFault) (P : A → Type 0) → Asks {A = A} t u (Err fault) P → Moves t u (Met fault ∷ []) (λ R S. S ≡ R)
-asked-none t u fault P asks = record {
-  passes = asks.leaves.passes;
-  acts = λ honest R h. (R, refl, holds-stays t u (fault ∷ []) R asks.stays asks.leaves.passes honest h);
-}
+asked-none t u fault P asks = moves-stays t u (Met fault ∷ []) (λ R S. S ≡ R) asks.leaves.passes asks.stays (λ honest R h. refl)
 
 lines-parts : (R : Content) (n : ℕ) → lines_of R ≡ lines_of (take n R) ++ lines_of (drop n R)
 lines-parts R n = ap lines_of (sym (take-append-drop n R)) ∙ flat_map-append line_of (take n R) (drop n R)

@@ -23,10 +23,9 @@ use Rattle.ua_channel.specs.Taking.{State, fresh, after as heard_after, Refuses 
 use Rattle.ua_channel.specs.Sending.{opened_chunk, number_after, message_bytes, chunk_count}
 use Rattle.ua_session.specs.Sessions as session
 use Rattle.records.specs.Contents.{Content}
-use Rattle.archive.specs.Store.{Store, Mark, Fine, Starved, faults_of, Passes}
+use Rattle.archive.specs.Store.{Store, Mark, Fine, Starved, faults_of}
 use Rattle.archive.specs.Steps.{Acts}
-use Rattle.archive.proofs.Calls.{passes-none}
-use Rattle.archive.proofs.Acting.{faults-append}
+use Rattle.archive.proofs.Acting.{moves-none-by, moves-told, faults-append}
 use Rattle.historian.specs.Services.{Site, Outcome, answered as performed}
 use Rattle.historian.specs.Requests.{handle_of}
 use Rattle.historian.specs.Answers.{Response, response, service_fault}
@@ -65,10 +64,8 @@ pub answered-by : (a b : Store) (f g : Content → Answering) (used more : Outsi
 answered-by a b f g used more old new ending client same so h = record {
   made = h.made;
   appended = h.appended;
-  moves = record {
-    passes = subst (Passes a b) (sym same) h.moves.passes;
-    acts = λ honest R held. let s = h.moves.acts honest R held in (s.0, replies-by (f R) (g R) used more h.made ending client s.0 (so R) s.1, s.2);
-  };
+  moves = moves-told a b used.marks more.marks (λ R S. Replies (f R) used h.made ending client S) (λ R S. Replies (g R) more h.made ending client S) same
+      (λ R S r. replies-by (f R) (g R) used more h.made ending client S (so R) r) h.moves;
 }
 
 -- no archive is asked
@@ -77,7 +74,7 @@ pub answered-here : (a : Store) (f : Content → Answering) (used : List Mark) (
 answered-here a f used old new ending client h = record {
   made = h.made;
   appended = h.appended;
-  moves = record { passes = subst (Passes a a) (sym h.quiet) (passes-none a); acts = λ honest R held. (R, h.replies R, held) };
+  moves = moves-none-by a used h.quiet (λ R S. Replies (f R) (marked used) h.made ending client S) h.replies;
 }
 
 pub answered-client : (a b : Store) (f : Content → Answering) (used : Outside) (old new : List ℕ) (ending : Option Ending) (client other : Client) → client ≡ other
@@ -241,23 +238,18 @@ tells a b site client next sessions state request message now ms vs answer old n
   record {
     made = out;
     appended = appended;
-    moves = record {
-      passes = subst (Passes a b) (sym (faults-append ms vs ∙ (ap (λ fs. faults_of ms ++ fs) quiet ∙ append-nil (faults_of ms)))) acts.passes;
-      acts = λ honest R held.
-          let s = acts.acts honest R held in
-          let f : Outcome → Answering = told (standing_of client sessions R) state request message now in
-          let r = so R s.0 in (
-            s.0,
-            record {
-              last = r.last;
-              content = r.content;
-              goes = r.goes;
-              does = does-then (by_marks (performed site now message sessions R)) f (marked ms) (marked vs) (answer, s.0) (record { out = out; ending = ending; state = r.last })
-                  (does-marked (performed site now message sessions R) ms (answer, s.0) s.1) r.does;
-            },
-            s.2,
-          );
-    };
+    moves = moves-told a b ms (ms ++ vs) (λ R S. Does (performed site now message sessions R) ms (answer, S))
+        (λ R S. Replies (responded site (standing_of client sessions R) state request message now) (marked (ms ++ vs)) out ending next S)
+        (faults-append ms vs ∙ (ap (λ fs. faults_of ms ++ fs) quiet ∙ append-nil (faults_of ms))) (λ R S d.
+        let f : Outcome → Answering = told (standing_of client sessions R) state request message now in
+        let r = so R S in
+        record {
+          last = r.last;
+          content = r.content;
+          goes = r.goes;
+          does = does-then (by_marks (performed site now message sessions R)) f (marked ms) (marked vs) (answer, S) (record { out = out; ending = ending; state = r.last })
+              (does-marked (performed site now message sessions R) ms (answer, S) d) r.does;
+        }) acts;
   },
 )
 

@@ -11,7 +11,7 @@ use Rattle.ua_binary.specs.declared.codes.TheConstants.Status.{BAD_OUT_OF_MEMORY
 use Rattle.records.specs.Contents.{Content}
 use Rattle.archive.specs.Store.{Store, Mark, Fine, faults_of, Passes}
 use Rattle.archive.specs.Steps.{Moves}
-use Rattle.archive.proofs.Acting.{moves-as, faults-append}
+use Rattle.archive.proofs.Acting.{moves-told, moves-as, faults-append}
 use Rattle.historian.specs.Services.{Site, site_of}
 use Rattle.ua_server.specs.declared.outcome.Served.{Served}
 use Rattle.ua_server.specs.declared.outcome.Served.TheVariants.{EndOfInput, Closed, Refused}
@@ -184,10 +184,7 @@ whole-of site start last came waiting out used answers short = λ later.
     ∙ ap (λ (o : List ℕ). let a : Answer Standing Ending = record { out = o; ending = Ok EndOfInput; state = last; left = later } in a) (append-nil out)
 
 moves-more : (a b : Store) (us vs : List Mark) (P To : Content → Content → Type 0) → faults_of vs ≡ [] → ((R S : Content) → P R S → To R S) → Moves a b us P → Moves a b (us ++ vs) To
-moves-more a b us vs P To quiet so m = record {
-  passes = subst (Passes a b) (sym (faults-append us vs ∙ (ap (λ fs. faults_of us ++ fs) quiet ∙ append-nil (faults_of us)))) m.passes;
-  acts = λ honest R held. let s = m.acts honest R held in (s.0, so R s.0 s.1, s.2);
-}
+moves-more a b us vs P To quiet so m = moves-told a b us (us ++ vs) P To (faults-append us vs ∙ (ap (λ fs. faults_of us ++ fs) quiet ∙ append-nil (faults_of us))) so m
 
 -- less than a chunk waits, and this was read so far
 serves-over : (settings : Values) (a b : Store) (first : List ℕ) (unread left rest old written : Option (List ℕ)) (used : Outside) (link : Link) (ending : Ending) (so : ServesSoFar settings a b first unread left old written used link) → Consumes unread rest so.came
