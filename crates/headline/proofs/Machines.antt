@@ -23,10 +23,10 @@ use Rattle.exchange.proofs.WorldLemmas.{get-set_same, get-set_other}
 use Rattle.exchange.proofs.HappenLemmas.{site_there, sites_set, set_same}
 use Rattle.exchange.proofs.ConverseLemmas.{IsParty}
 use Rattle.historian.specs.Services.{site_of}
-use Rattle.ua_server.specs.Client.{new_client}
-use Rattle.ua_server.specs.Events.{AreUpdates, IsExchange, AreExchanges}
+use Rattle.ua_connection.specs.Client.{new_client}
+use Rattle.ua_peers.specs.Events.{AreUpdates, IsExchange, AreExchanges}
 use Rattle.ua_server.proofs.Updated.{updates_made}
-use Rattle.ua_server.proofs.Exchanged.{exchanged, ends_kept}
+use Rattle.ua_peers.proofs.Exchanged.{run_append, exchanged, ends_kept}
 use Rattle.headline.specs.Pasts.{IsLawfulEvent, Past, IsPast, world_at, IsAt, Was, HaveLearnedSame}
 use Rattle.headline.specs.Answers.{IsReplicaOf, IsAnswered, IsFree}
 use Rattle.headline.specs.Machines.{IsInUse, IsMachine, AreInUse, AreNew, AreOf, GoOn, Serves, Meet, Restarts}
@@ -66,10 +66,6 @@ all_set P (y ∷ xs) (suc i) x all is = (all.0, all_set P xs i x all.1 is)
 all_append : {X : Type 0} (P : X → Type 0) (xs ys : List X) → AllByRecursion P xs → AllByRecursion P ys → AllByRecursion P (xs ++ ys)
 all_append P [] ys all more = more
 all_append P (x ∷ xs) ys all more = (all.0, all_append P xs ys all.1 more)
-
-run_append : (es fs : List Event) (w : World) → run (es ++ fs) w ≡ run fs (run es w)
-run_append [] fs w = refl
-run_append (e ∷ es) fs w = run_append es fs (step w e)
 
 -- ---- lawful events
 

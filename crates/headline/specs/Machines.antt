@@ -7,10 +7,10 @@ use Rattle.ua_settings.specs.Settings.{Values}
 use Rattle.archive.specs.Store.{Store, Rests}
 use Rattle.exchange.specs.Worlds.{Event, run}
 use Rattle.exchange.specs.Running.{AreSites}
-use Rattle.ua_server.specs.Given.{Outside}
-use Rattle.ua_server.specs.Client.{Ending}
-use Rattle.ua_server.specs.Serving.{ServesBehind}
-use Rattle.ua_server.specs.Events.{AreEnds}
+use Rattle.ua_connection.specs.Given.{Outside}
+use Rattle.ua_connection.specs.Client.{Ending}
+use Rattle.ua_connection.specs.Serving.{ServesBehind}
+use Rattle.ua_peers.specs.Events.{AreEnds}
 use Rattle.headline.specs.Pasts.{Past, IsPast}
 
 -- its store returned what was written to it, and isn't broken, and so what it holds is what an opening finds

@@ -29,8 +29,8 @@ use Rattle.archive.proofs.Calls.{in_use}
 use Rattle.archive.proofs.Acting.{moves-none, moves-stays, moves-then, moves-as, held-before}
 use Rattle.ua_server.specs.declared.dumps.DumpFault.{DumpFault}
 use Rattle.ua_server.specs.declared.dumps.DumpFault.TheVariants as dump
-use Rattle.ua_server.specs.Bytes.{AppendsPart}
-use Rattle.ua_server.proofs.Printing.{part-first, part-second}
+use Rattle.counted_io.specs.Bytes.{AppendsPart}
+use Rattle.counted_io.proofs.Parts.{part-first, part-second}
 use Rattle.ua_server.specs.Dumping.{line_of, lines_of, IsDumped, Dumps, IsSoFar, Dumping}
 
 vec-append : (xs ys : List Record) (o : ℕ) → vec (xs ++ ys) o ≡ max (vec xs o) (vec ys o)

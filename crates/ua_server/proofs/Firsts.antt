@@ -7,15 +7,15 @@ use Rattle.std.proofs.Math.Seq.{take-append-add}
 use Rattle.archive.specs.Store.{Store}
 use Rattle.archive.proofs.Calls.{passes-none}
 use Rattle.ua_settings.specs.Settings.{Values}
-use Rattle.ua_server.specs.declared.outcome.ServeFault.{ServeFault}
-use Rattle.ua_server.specs.declared.outcome.ServeFault.TheVariants.{Read}
-use Rattle.ua_server.specs.declared.peers.Parted.{Parted}
-use Rattle.ua_server.specs.Client.{Ending}
-use Rattle.ua_server.specs.Given.{Outside}
-use Rattle.ua_server.specs.Peers.{MeetsBehind, responding}
-use Rattle.ua_server.specs.Serving.{ServesBehind}
+use Rattle.counted_io.specs.declared.fault.ServeFault.{ServeFault}
+use Rattle.counted_io.specs.declared.fault.ServeFault.TheVariants.{Read}
+use Rattle.ua_peers.specs.declared.peers.Parted.{Parted}
+use Rattle.ua_connection.specs.Client.{Ending}
+use Rattle.ua_connection.specs.Given.{Outside}
+use Rattle.ua_peers.specs.Peers.{MeetsBehind, responding}
+use Rattle.ua_connection.specs.Serving.{ServesBehind}
 use Rattle.ua_server.specs.Either.{Ends, AreFirst, BreaksOff, GoesAs, peer_ended, client_ended}
-use Rattle.ua_server.proofs.Outsides.{nothing}
+use Rattle.ua_connection.proofs.Outsides.{nothing}
 
 -- a piece behind those that were read before
 pub took-more : (first piece : List ℕ) (read n : ℕ) → read ≤ length first → take (read + n) (take read first ++ piece) ≡ take read first ++ take n piece

@@ -2,11 +2,11 @@
 use Rattle.std.proofs.Common.{◌≡◌, ℕ, zero, suc, List, refl, subst, ◌∙◌, ap}
 use Rattle.std.specs.Prelude.{Option, Some, Err}
 use Rattle.ua_settings.specs.Settings.{Values}
-use Rattle.ua_server.specs.Bytes.{counted}
-use Rattle.ua_server.specs.declared.outcome.ServeFault.TheVariants.{Read, Write}
+use Rattle.counted_io.specs.Bytes.{counted}
+use Rattle.counted_io.specs.declared.fault.ServeFault.TheVariants.{Read, Write}
 use Rattle.ua_server.specs.Either.{Ends, ServesEither}
-use Rattle.ua_server.specs.Given.{Outside}
-use Rattle.ua_server.specs.Tally.{Tally, HasCounted}
+use Rattle.ua_connection.specs.Given.{Outside}
+use Rattle.counted_io.specs.Tally.{Tally, HasCounted}
 use Rattle.ua_server.specs.Network.{Means, Around, Connects, Tells, ServesEach}
 
 -- a call that failed is the one that is counted

@@ -7,13 +7,13 @@ use Rattle.archive.specs.Listed.{Listed, store_of}
 use Rattle.ua_settings.specs.Settings.{Values}
 use Rattle.ua_server.specs.declared.program.ProgramFault.{ProgramFault}
 use Rattle.ua_server.specs.declared.program.ProgramFault.TheVariants as program
-use Rattle.ua_server.specs.declared.outcome.ServeFault.TheVariants.{Read, Write}
-use Rattle.ua_server.specs.declared.calling.Synced.{Synced}
-use Rattle.ua_server.specs.declared.calling.SyncFault.{SyncFault}
-use Rattle.ua_server.specs.declared.calling.SyncFault.TheVariants as sync
-use Rattle.ua_server.specs.Bytes.{counted}
-use Rattle.ua_server.specs.Tally.{Tally}
-use Rattle.ua_server.specs.Calling.{Syncs}
+use Rattle.counted_io.specs.declared.fault.ServeFault.TheVariants.{Read, Write}
+use Rattle.ua_peers.specs.declared.calling.Synced.{Synced}
+use Rattle.ua_peers.specs.declared.calling.SyncFault.{SyncFault}
+use Rattle.ua_peers.specs.declared.calling.SyncFault.TheVariants as sync
+use Rattle.counted_io.specs.Bytes.{counted}
+use Rattle.counted_io.specs.Tally.{Tally}
+use Rattle.ua_peers.specs.Calling.{Syncs}
 use Rattle.ua_server.proofs.Networks.{has-counted}
 use Rattle.ua_server.specs.Program.{empty_of, unopened, OverOpened, OverStore, Over, Calls, IsSynced, PrintsSynced}
 

@@ -34,16 +34,16 @@ use Rattle.ua_channel.specs.declared.taken.Taken.{Taken}
 use Rattle.ua_channel.specs.declared.taken.Taken.TheVariants as taken
 use Rattle.exchange.specs.Worlds.{Site as Replica, World, Event, Operates, IsSite, IsUpdated, run}
 use Rattle.exchange.proofs.WorldLemmas.{list_run}
-use Rattle.ua_server.specs.declared.outcome.Served.TheVariants.{EndOfInput, Closed, Refused}
-use Rattle.ua_server.specs.declared.outcome.ServeFault.TheVariants.{Read, Write, TooLong, OutOfMemory}
-use Rattle.ua_server.specs.Given as given
-use Rattle.ua_server.specs.Given.{Outside, Given, made}
-use Rattle.ua_server.specs.Run.{Reply, Protocol, joined, joined_by, stepped, answered, Answers}
-use Rattle.ua_server.specs.Run as stream
-use Rattle.ua_server.specs.Client as client
-use Rattle.ua_server.specs.Client.{Standing, Ending, Item, whole, ill, partial, chunks}
-use Rattle.ua_server.specs.Serving.{IsServed}
-use Rattle.ua_server.specs.Events.{AreUpdates}
+use Rattle.ua_connection.specs.declared.outcome.Served.TheVariants.{EndOfInput, Closed, Refused}
+use Rattle.counted_io.specs.declared.fault.ServeFault.TheVariants.{Read, Write, TooLong, OutOfMemory}
+use Rattle.ua_connection.specs.Given as given
+use Rattle.ua_connection.specs.Given.{Outside, Given, made}
+use Rattle.ua_connection.specs.Run.{Reply, Protocol, joined, joined_by, stepped, answered, Answers}
+use Rattle.ua_connection.specs.Run as stream
+use Rattle.ua_connection.specs.Client as client
+use Rattle.ua_connection.specs.Client.{Standing, Ending, Item, whole, ill, partial, chunks}
+use Rattle.ua_connection.specs.Serving.{IsServed}
+use Rattle.ua_peers.specs.Events.{AreUpdates}
 
 -- ---- chunks
 

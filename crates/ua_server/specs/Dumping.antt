@@ -13,7 +13,7 @@ use Rattle.archive.specs.Store.{Store, Mark, faults_of}
 use Rattle.archive.specs.Steps.{Moves}
 use Rattle.ua_server.specs.declared.dumps.DumpFault.{DumpFault}
 use Rattle.ua_server.specs.declared.dumps.DumpFault.TheVariants as dump
-use Rattle.ua_server.specs.Bytes.{AppendsPart}
+use Rattle.counted_io.specs.Bytes.{AppendsPart}
 
 -- a record's line: its origin, its number and its tick in decimal digits, and its bytes in hex digits
 abbrev pub line_of : Record → List ℕ

@@ -4,15 +4,15 @@ use Rattle.std.specs.Io.KnownBytes.{Consumes, IsAtEnd}
 use Rattle.archive.specs.Store.{Store, Stays, Passes}
 use Rattle.exchange.specs.Frames.{begins}
 use Rattle.ua_settings.specs.Settings.{Values}
-use Rattle.ua_server.specs.declared.outcome.ServeFault.{ServeFault}
-use Rattle.ua_server.specs.declared.outcome.ServeFault.TheVariants.{Read}
-use Rattle.ua_server.specs.declared.peers.Parted.{Parted}
+use Rattle.counted_io.specs.declared.fault.ServeFault.{ServeFault}
+use Rattle.counted_io.specs.declared.fault.ServeFault.TheVariants.{Read}
+use Rattle.ua_peers.specs.declared.peers.Parted.{Parted}
 use Rattle.ua_server.specs.declared.either.Ended.{Ended}
 use Rattle.ua_server.specs.declared.either.Ended.TheVariants.{Client, Peer}
-use Rattle.ua_server.specs.Client.{Ending}
-use Rattle.ua_server.specs.Given.{Outside}
-use Rattle.ua_server.specs.Peers.{MeetsBehind, responding}
-use Rattle.ua_server.specs.Serving.{ServesBehind}
+use Rattle.ua_connection.specs.Client.{Ending}
+use Rattle.ua_connection.specs.Given.{Outside}
+use Rattle.ua_peers.specs.Peers.{MeetsBehind, responding}
+use Rattle.ua_connection.specs.Serving.{ServesBehind}
 
 -- how a connection ended, whosever it was
 abbrev pub Ends : Type 0

@@ -4,12 +4,12 @@ use Rattle.std.specs.Net.Grammar.{IsSocketText}
 use Rattle.std.specs.declared.net.socket_addr.SocketAddr.{SocketAddr}
 use Rattle.archive.specs.Store.{Store}
 use Rattle.ua_settings.specs.Settings.{Values}
-use Rattle.ua_server.specs.declared.outcome.ServeFault.TheVariants.{Read, Write}
+use Rattle.counted_io.specs.declared.fault.ServeFault.TheVariants.{Read, Write}
 use Rattle.ua_server.specs.declared.program.ProgramFault.{ProgramFault}
 use Rattle.ua_server.specs.declared.program.ProgramFault.TheVariants.{Address, Connection}
 use Rattle.ua_server.specs.Either.{Ends, ServesEither}
-use Rattle.ua_server.specs.Given.{Outside}
-use Rattle.ua_server.specs.Tally.{Tally, HasCounted}
+use Rattle.ua_connection.specs.Given.{Outside}
+use Rattle.counted_io.specs.Tally.{Tally, HasCounted}
 use Rattle.ua_server.specs.Telling.{IsTold, error_lines}
 
 -- how a listener gives connections and takes them back, and a clock its readings; and what is known of what a client writes, of what it reads, and of

@@ -5,17 +5,16 @@ ghost use Rattle.std.specs.Net.Grammar.{IsSocketText};
 ghost use Rattle.std.specs.declared.net.socket_addr.SocketAddr.{SocketAddr};
 ghost use Rattle.ua_server.specs.Network.{Connects, Tells, ServesEach, IsUnheard, Listens};
 
-use crate::clock::Clock;
-use crate::counted::Counted;
 use crate::either::{Ended, serve_either};
 use crate::network::{Listener, Network};
-use crate::outcome::ServeFault;
 use crate::program::{ProgramFault, report};
 use archive::Archive;
+use counted_io::{Counted, ServeFault};
 use exchange::Replica;
 use std::alloc::Global;
 use std::io::Write;
 use std::net::SocketAddr;
+use ua_connection::Clock;
 use ua_settings::Settings;
 
 /// Serves the next connection. That none can be had is a fault of reading.

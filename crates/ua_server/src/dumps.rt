@@ -1,15 +1,15 @@
 //! Dumps: a line for each record of an archive.
 
 ghost use Rattle.std.specs.Prelude.{◌≡◌, ◌≢◌, ◌++◌, ◌⊎◌, ◌↔◌, ℕ, max, OnOk, IfErr, IsErrOf, IsTrue, string_bytes};
-ghost use Rattle.ua_server.specs.Bytes.{counted};
+ghost use Rattle.counted_io.specs.Bytes.{counted};
 ghost use Rattle.std.specs.List.{flat_map, AllByRecursion};
 ghost use Rattle.stamp.specs.Numbers.{number_of};
 ghost use Rattle.records.specs.Contents.{vec};
 ghost use Rattle.records.specs.Spelling.{IsRecord};
 ghost use Rattle.ua_server.specs.Dumping.{line_of, Dumps, Dumping};
 
-use crate::counted::Counted;
 use archive::{Archive, StoreFault};
+use counted_io::Counted;
 use records::{Record, put_record};
 use stamp::{GREATEST_TICK, Vector};
 use std::alloc::{AllocError, Global};

@@ -2,21 +2,19 @@
 
 ghost use Rattle.std.specs.Prelude.{◌≡◌, ◌≤◌, ◌<◌, length, take, IfOk, OnOk, OnErr, IsErrOf, Err, ℕ, List};
 ghost use Rattle.std.specs.Io.KnownBytes.{Consumes, IsAtEnd};
-ghost use Rattle.ua_server.specs.Bytes.{counted};
-ghost use Rattle.ua_server.specs.Given.{Outside};
-ghost use Rattle.ua_server.specs.Serving.{ServesBehind};
-ghost use Rattle.ua_server.specs.Peers.{MeetsBehind, responding};
+ghost use Rattle.counted_io.specs.Bytes.{counted};
+ghost use Rattle.ua_connection.specs.Given.{Outside};
+ghost use Rattle.ua_connection.specs.Serving.{ServesBehind};
+ghost use Rattle.ua_peers.specs.Peers.{MeetsBehind, responding};
 ghost use Rattle.ua_server.specs.Either.{peer_ended, client_ended, is_peers, ServesEither};
 
-use crate::clock::Clock;
-use crate::counted::Counted;
-use crate::outcome::{ServeFault, Served};
-use crate::peers::{Parted, talk};
-use crate::serving::{serve, serve_behind};
 use archive::Archive;
-use exchange::{Dialog, Replica};
+use counted_io::{Counted, ServeFault};
+use exchange::Replica;
 use std::alloc::Global;
 use std::io::{Read, Write};
+use ua_connection::{Clock, Served, serve_from};
+use ua_peers::{Parted, serve_peer_from};
 use ua_settings::Settings;
 
 /// How a connection ended that met no fault.
@@ -73,35 +71,9 @@ fn meet_peer<R: Read, W: Write, A: Archive>(
     ensures read_kept { (IsErrOf result ServeFault.Read → ⊥) → reader.new.faults ≡ reader.old.faults }
     ensures write_kept { (IsErrOf result ServeFault.Write → ⊥) → writer.new.faults ≡ writer.old.faults }
 {
-    let mut dialog = Dialog::responder();
-    match talk(alloc, replica, &mut dialog, first, reader, writer) {
+    match serve_peer_from(alloc, replica, first, reader, writer) {
         Ok(parted) => Ok(Ended::Peer(parted)),
         Err(fault) => Err(fault),
-    }
-}
-
-/// Serves a client of whom these first bytes, if any, were read before.
-fn serve_from<R: Read, W: Write, C: Clock, A: Archive>(
-    alloc: Global,
-    settings: &Settings,
-    archive: &mut A,
-    first: &[u8],
-    reader: &mut Counted<R>,
-    writer: &mut Counted<W>,
-    clock: &mut C,
-) -> Result<Served, ServeFault>
-    requires { length first.now < 8 }
-    ensures serves { (used : Outside) × C.gave clock.old used.readings clock.new
-        × ServesBehind settings.now (A.state archive.old) (A.state archive.new) first.now (R.remaining reader.old.inner) (R.remaining reader.new.inner) (W.contents writer.old.inner) (W.contents writer.new.inner) used result }
-    ensures read { IsErrOf result ServeFault.Read → reader.new.faults ≡ counted reader.old.faults }
-    ensures write { IsErrOf result ServeFault.Write → writer.new.faults ≡ counted writer.old.faults }
-    ensures read_kept { (IsErrOf result ServeFault.Read → ⊥) → reader.new.faults ≡ reader.old.faults }
-    ensures write_kept { (IsErrOf result ServeFault.Write → ⊥) → writer.new.faults ≡ writer.old.faults }
-{
-    if first.is_empty() {
-        serve(alloc, settings, archive, reader, writer, clock)
-    } else {
-        serve_behind(alloc, settings, archive, first, reader, writer, clock)
     }
 }
 

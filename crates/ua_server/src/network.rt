@@ -2,9 +2,9 @@
 
 ghost use Rattle.std.specs.Prelude.{List, Option};
 ghost use Rattle.std.specs.declared.net.socket_addr.SocketAddr.{SocketAddr};
-ghost use Rattle.ua_server.specs.Tally.{Tally};
+ghost use Rattle.counted_io.specs.Tally.{Tally};
 
-use crate::counted::Counted;
+use counted_io::Counted;
 use std::io::{Read, Write};
 use std::net::SocketAddr;
 

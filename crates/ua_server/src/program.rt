@@ -2,29 +2,25 @@
 
 ghost use Rattle.std.specs.Prelude.{◌≡◌, ◌+◌, ℕ, ℤ, List, [], ◌∷◌, ◌++◌, IfOk, IfErr, OnOk, OnErr, IsErrOf, map, option_copied, string_bytes};
 ghost use Rattle.std.specs.Io.KnownBytes.{Appends};
-ghost use Rattle.ua_server.specs.Bytes.{counted, AppendsPart};
-ghost use Rattle.ua_server.specs.Given.{Outside};
+ghost use Rattle.counted_io.specs.Bytes.{counted, AppendsPart};
+ghost use Rattle.ua_connection.specs.Given.{Outside};
+ghost use Rattle.ua_connection.specs.Single.{AnswersAt};
 ghost use Rattle.ua_server.specs.Telling.{status_of, IsTold, refusal_text, store_text, connection_text, exchange_text, told_line, place_line, error_lines, synced_line};
-ghost use Rattle.ua_server.specs.Program.{empty_of, AnswersAt, fault_of, program_result, unopened, AnswersBy, ServesBy, dump_result, DumpsBy, sync_fault, PrintsSynced, CallsPeer, SyncsBy, DoesLine, Runs};
+ghost use Rattle.ua_server.specs.Program.{empty_of, fault_of, program_result, unopened, AnswersBy, ServesBy, dump_result, DumpsBy, sync_fault, PrintsSynced, CallsPeer, SyncsBy, DoesLine, Runs};
 ghost use Rattle.ua_server.specs.Dumping.{Dumps};
 ghost use Rattle.clap.specs.Words.{subcommand_of};
 ghost use Rattle.clap.specs.Takes.{takes};
 ghost use Rattle.clap.specs.Faults.{fault_of as fault_kinds};
 ghost use Rattle.ua_server.specs.Line.{uahist};
 
-use crate::calling::{SyncFault, Synced, sync};
-use crate::clock::Clock;
 use crate::connections::serve_at;
-use crate::counted::Counted;
 use crate::dumps::{DumpFault, dump};
 use crate::files::{SettingsFiles, settings_at};
-use crate::hexed::HexFault;
 use crate::line::{Line, LineFault, read_line};
 use crate::network::Network;
-use crate::outcome::ServeFault;
-use crate::single::answer_at;
 use crate::stores::Stores;
 use archive::{Archive, ListArchive, StoreFault};
+use counted_io::{Counted, ServeFault};
 use exchange::{ExchangeFault, Replica};
 use std::alloc::{AllocError, Global};
 use std::convert::AsStr;
@@ -34,6 +30,8 @@ use std::fmt::Write as _;
 use std::io::{Read, Write};
 use std::net::SocketAddr;
 use ua_binary::Text;
+use ua_connection::{Clock, HexFault, answer_at};
+use ua_peers::{SyncFault, Synced, sync};
 use ua_settings::{Settings, SettingsFault};
 
 /// What went wrong in a run of the program.
@@ -175,23 +173,6 @@ pub(crate) fn archive_of(alloc: Global, settings: &Settings) -> ListArchive
     ensures { result ≡ empty_of settings.now }
 {
     ListArchive::new(alloc, settings.archive(), settings.replica())
-}
-
-/// Writes a line.
-pub(crate) fn print_line<W: Write>(line: &[u8], output: &mut Counted<W>) -> Result<(), ServeFault>
-    ensures ok { OnOk result (Appends (W.contents output.old.inner) (W.contents output.new.inner) (line.now ++ 10 ∷ [])) }
-    ensures kept { OnOk result (output.new.faults ≡ output.old.faults) }
-    ensures write { OnErr result (output.new.faults ≡ counted output.old.faults) }
-    ensures part { IfErr result (λ fault. (fault ≡ ServeFault.Write) × AppendsPart (W.contents output.old.inner) (W.contents output.new.inner) (line.now ++ 10 ∷ [])) }
-{
-    match output.send(line) {
-        Ok(()) => {}
-        Err(fault) => return Err(fault),
-    }
-    match output.send(b"\n") {
-        Ok(()) => Ok(()),
-        Err(fault) => Err(fault),
-    }
 }
 
 /// What a fault of a connection is called by the program.
@@ -589,7 +570,7 @@ fn tell<W: Write>(text: &[u8], errors: &mut Counted<W>) -> Result<(), ServeFault
     ensures write { OnErr result (errors.new.faults ≡ counted errors.old.faults) }
 {
     match errors.send(b"uahist: ") {
-        Ok(()) => print_line(text, errors),
+        Ok(()) => errors.send_line(text),
         Err(fault) => Err(fault),
     }
 }

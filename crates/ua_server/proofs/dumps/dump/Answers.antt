@@ -7,7 +7,7 @@ use Rattle.archive.specs.declared.fault.StoreFault.TheVariants.{Refused}
 use Rattle.ua_server.specs.declared.dumps.DumpFault.TheVariants as dump
 use Rattle.stamp.specs.Numbers.{number_of}
 use Rattle.records.specs.declared.record.Record.{Record}
-use Rattle.ua_server.specs.Bytes.{AppendsPart}
+use Rattle.counted_io.specs.Bytes.{AppendsPart}
 use Rattle.ua_server.specs.Dumping.{lines_of}
 use Rattle.std.specs.Io.KnownBytes.{Appends}
 use Rattle.ua_server.proofs.DumpLemmas.{begun, asked, asked-none, failed, ended, unwritten, cut_off, goes-on, endless, no-items}

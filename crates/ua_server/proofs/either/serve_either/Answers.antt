@@ -1,7 +1,7 @@
 use Rattle.std.proofs.Common.{◌≡◌, ◌∙◌, Err, take, sym, inl, inr}
-use Rattle.ua_server.specs.declared.outcome.ServeFault.TheVariants.{Read}
+use Rattle.counted_io.specs.declared.fault.ServeFault.TheVariants.{Read}
 use Rattle.ua_server.specs.Either.{Ends, is_peers}
-use Rattle.ua_server.proofs.Outsides.{nothing}
+use Rattle.ua_connection.proofs.Outsides.{nothing}
 use Rattle.ua_server.proofs.Firsts.{are-first, breaks-off, goes-as-peer, goes-as-client}
 use Rattle.ua_server.proofs.either.serve_either.Goals as goal
 

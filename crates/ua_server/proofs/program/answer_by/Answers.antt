@@ -1,9 +1,10 @@
 use Rattle.std.proofs.Common.{◌≡◌, ◌∙◌, Ok, Err, Result, refl, sym, ap, option_copied}
-use Rattle.ua_server.specs.declared.hexed.HexFault.{HexFault}
+use Rattle.ua_connection.specs.declared.hexed.HexFault.{HexFault}
 use Rattle.ua_server.specs.declared.program.ProgramFault.{ProgramFault}
 use Rattle.ua_server.specs.declared.program.ProgramFault.TheVariants as program
-use Rattle.ua_server.specs.Program.{AnswersAt, program_result}
-use Rattle.ua_server.proofs.Outsides.{nothing}
+use Rattle.ua_connection.specs.Single.{AnswersAt}
+use Rattle.ua_server.specs.Program.{program_result}
+use Rattle.ua_connection.proofs.Outsides.{nothing}
 use Rattle.ua_server.proofs.Opened.{over-none, over-opened, over-refused}
 use Rattle.ua_server.proofs.program.answer_by.Goals as goal
 

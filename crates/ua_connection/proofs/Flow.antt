@@ -1,0 +1,253 @@
+-- How the answers to item after item make the answer to a connection.
+use Rattle.std.proofs.Common.{◌≡◌, ◌≤◌, ◌<◌, length, arith, Bool, true, false, nat_lt, inl, inr, ℕ, List, [], ◌++◌, Some, None, Ok, Err, refl, sym, ◌∙◌, ap, subst, append_assoc}
+use Rattle.std.specs.Prelude.{Option, Result}
+use Rattle.std.specs.Io.KnownBytes.{Appends}
+use Rattle.std.proofs.KnownBytes.{Appends-trans, Appends-nil}
+use Rattle.std.proofs.lemmas.List.{append-nil}
+use Rattle.std.proofs.lemmas.Bool.{lt-ltb}
+use Rattle.uacp.specs.Chunks.{cut, greatest}
+use Rattle.uacp.specs.Stream.{IsPartial}
+use Rattle.uacp.specs.declared.types.Header.{Header}
+use Rattle.uacp.specs.declared.types.Kind.{Kind}
+use Rattle.uacp.specs.declared.types.Kind.TheVariants.{Hello, Open, Close, Message}
+use Rattle.uacp.specs.declared.types.UacpFault.{UacpFault}
+use Rattle.uacp.proofs.Streams.{Cuts, cuts}
+use Rattle.ua_settings.specs.Settings.{Values}
+use Rattle.records.specs.Contents.{Content}
+use Rattle.archive.specs.Store.{Store, faults_of, Passes}
+use Rattle.archive.specs.Steps.{Moves}
+use Rattle.archive.proofs.Acting.{moves-then}
+use Rattle.historian.specs.Services.{Site, site_of}
+use Rattle.ua_connection.specs.declared.outcome.Served.{Served}
+use Rattle.ua_connection.specs.declared.outcome.Served.TheVariants.{EndOfInput, Closed, Refused}
+use Rattle.counted_io.specs.declared.fault.ServeFault.{ServeFault}
+use Rattle.counted_io.specs.declared.fault.ServeFault.TheVariants.{Read, Write, TooLong, OutOfMemory}
+use Rattle.ua_connection.specs.declared.turn.Turn.{Turn}
+use Rattle.ua_connection.specs.declared.turn.Turn.TheVariants.{Waits, Greets, Goes, Ends}
+use Rattle.counted_io.specs.Bytes.{AppendsPart}
+use Rattle.ua_connection.specs.Given.{Outside, before}
+use Rattle.ua_connection.specs.Run.{Answers}
+use Rattle.ua_connection.specs.Client.{Client, new_client, Standing, Ending, chunks}
+use Rattle.ua_connection.specs.Turns.{Link, IsShort, IsSmall, Reaches, Turned, TurnedInto, Drained, DrainsTo, DrainedSoFar, IsOwnEnd, IsNoLess, IsOwn, Shortens, new_link, ending_of, end_of}
+use Rattle.ua_connection.proofs.Outsides.{nothing}
+use Rattle.ua_connection.proofs.Runs.{answers-then}
+use Rattle.ua_connection.proofs.Turning.{turned-none}
+
+-- ---- stretches of one answer
+
+site_same : (settings : Values) (a b : Store) (faults : _) → Passes a b faults → site_of settings b ≡ site_of settings a
+site_same settings a b faults p =
+    ap (λ (n : ℕ). let s : Site = record { settings = settings; own = n; id = b.id } in s) p.own
+    ∙ ap (λ (i : List ℕ). let s : Site = record { settings = settings; own = a.own; id = i } in s) p.id
+
+standing_same : (last : Standing) (client : Client) (S : Content) → last.content ≡ S → last.client ≡ client → ◌≡◌ {A = Standing} last (record { client = client; content = S })
+standing_same last client S e f =
+    ap (λ (c : Client). let s : Standing = record { client = c; content = last.content } in s) f
+    ∙ ap (λ (r : Content). let s : Standing = record { client = client; content = r } in s) e
+
+-- one stretch after another
+reaches-then : (site : Site) (link middle next : Link) (R S T : Content) (used more : Outside) (xs ys : List ℕ) (ending : Option Ending) → Reaches site link R used xs None middle S → Reaches site middle S more ys ending next T
+    → Reaches site link R (before used more) (xs ++ ys) ending next T
+reaches-then site link middle next R S T used more xs ys ending first second =
+    let start : Standing = record { client = link.client; content = R } in
+    let between : Standing = record { client = middle.client; content = S } in
+    let P : Standing → Type 0 = λ s. Answers (chunks site) start link.waiting used (record { out = xs; ending = None; state = s }) middle.waiting in
+    record {
+      last = second.last;
+      content = second.content;
+      goes = second.goes;
+      answers = answers-then (chunks site) start link.waiting used xs between middle.waiting more (record { out = ys; ending = ending; state = second.last }) next.waiting
+          (subst P (standing_same first.last middle.client S first.content (first.goes refl)) first.answers) second.answers;
+    }
+
+pub turned-then : (settings : Values) (a b c : Store) (link middle next : Link) (used more : Outside) (xs ys : List ℕ) (ending : Option Ending) → Turned settings a b link used xs None middle → Turned settings b c middle more ys ending next
+    → Turned settings a c link (before used more) (xs ++ ys) ending next
+turned-then settings a b c link middle next used more xs ys ending first second =
+    let same = site_same settings a b (faults_of used.marks) first.passes in
+    let P : Site → Type 0 = λ s. Moves b c more.marks (λ S T. Reaches s middle S more ys ending next T) in
+    moves-then a b c used.marks more.marks (λ R S. Reaches (site_of settings a) link R used xs None middle S) (λ S T. Reaches (site_of settings a) middle S more ys ending next T)
+    (λ R T. Reaches (site_of settings a) link R (before used more) (xs ++ ys) ending next T)
+    (λ R S T p q. reaches-then (site_of settings a) link middle next R S T used more xs ys ending p q) first (subst P same second)
+
+pub into-then : (settings : Values) (a b c : Store) (link middle next : Link) (used more : Outside) (old now new : List ℕ) (ending : Option Ending) → TurnedInto settings a b link used old now None middle
+    → TurnedInto settings b c middle more now new ending next → TurnedInto settings a c link (before used more) old new ending next
+into-then settings a b c link middle next used more old now new ending first second =
+    (first.0 ++ second.0, second.1 ∙ ap (λ (front : List ℕ). front ++ second.0) first.1 ∙ append_assoc old first.0 second.0, turned-then settings a b c link middle next used more first.0 second.0 ending first.2 second.2)
+
+pub into-none : (settings : Values) (a : Store) (link : Link) (old : List ℕ) → TurnedInto settings a a link nothing old old None link
+into-none settings a link old = ([], sym (append-nil old), turned-none settings a link)
+
+-- what goes into an empty buffer
+into-empty : (settings : Values) (a b : Store) (link next : Link) (used : Outside) (old new : List ℕ) (ending : Option Ending) → old ≡ [] → TurnedInto settings a b link used old new ending next → Turned settings a b link used new ending next
+into-empty settings a b link next used old new ending empty into =
+    let made : into.0 ≡ new = sym (into.1 ∙ ap (λ (front : List ℕ). front ++ into.0) empty) in
+    let P : List ℕ → Type 0 = λ o. Turned settings a b link used o ending next in
+    subst P made into.2
+
+-- ---- what is written
+
+pub drains-start : (settings : Values) (a : Store) (old : Option (List ℕ)) (link : Link) → DrainedSoFar settings a a old old link nothing link
+drains-start settings a old link = ([], Appends-nil old, turned-none settings a link)
+
+pub drains-goes : (settings : Values) (a b c : Store) (old written sent : Option (List ℕ)) (link middle next : Link) (used more : Outside) (empty out : List ℕ) → DrainedSoFar settings a b old written link used middle → empty ≡ []
+    → TurnedInto settings b c middle more empty out None next → Appends written sent out → DrainedSoFar settings a c old sent link (before used more) next
+drains-goes settings a b c old written sent link middle next used more empty out so none into appends =
+    (so.0 ++ out, Appends-trans old written sent so.0 out so.1 appends, turned-then settings a b c link middle next used more so.0 out None so.2 (into-empty settings b c middle next more empty out None none into))
+
+pub drains-waits : (settings : Values) (a b c : Store) (old written sent : Option (List ℕ)) (link middle next : Link) (used more : Outside) (empty out : List ℕ) → DrainedSoFar settings a b old written link used middle → empty ≡ []
+    → TurnedInto settings b c middle more empty out None next → Appends written sent out → Drained settings a c old sent link (before used more) (Ok None) next
+drains-waits settings a b c old written sent link middle next used more empty out so none into appends = drains-goes settings a b c old written sent link middle next used more empty out so none into appends
+
+pub drains-ends : (settings : Values) (a b c : Store) (old written sent : Option (List ℕ)) (link middle next : Link) (used more : Outside) (empty out : List ℕ) (served : Served) → DrainedSoFar settings a b old written link used middle → empty ≡ []
+    → TurnedInto settings b c middle more empty out (Some (Ok served)) next → Appends written sent out → Drained settings a c old sent link (before used more) (Ok (Some served)) next
+drains-ends settings a b c old written sent link middle next used more empty out served so none into appends =
+    (so.0 ++ out, Appends-trans old written sent so.0 out so.1 appends, turned-then settings a b c link middle next used more so.0 out (Some (Ok served)) so.2 (into-empty settings b c middle next more empty out (Some (Ok served)) none into))
+
+pub drains-fails : (settings : Values) (a b c : Store) (old written sent : Option (List ℕ)) (link middle next : Link) (used more : Outside) (empty out : List ℕ) (fault : ServeFault) → DrainedSoFar settings a b old written link used middle → empty ≡ []
+    → TurnedInto settings b c middle more empty out (Some (Err fault)) next → Appends written sent out → Drained settings a c old sent link (before used more) (Err fault) next
+drains-fails settings a b c old written sent link middle next used more empty out fault so none into appends =
+    let all = turned-then settings a b c link middle next used more so.0 out (Some (Err fault)) so.2 (into-empty settings b c middle next more empty out (Some (Err fault)) none into) in
+    (so.0 ++ out, Appends-trans old written sent so.0 out so.1 appends, go fault all)
+  where
+    go : (f : ServeFault) → Turned settings a c link (before used more) (so.0 ++ out) (Some (Err f)) next → DrainsTo settings a c link (before used more) (so.0 ++ out) (Err f) next
+    go Read t = t
+    go Write t =
+        let P : List ℕ → Type 0 = λ o. Turned settings a c link (before used more) o (Some (Err Write)) next in
+        ([], Some (Err Write), subst P (sym (append-nil (so.0 ++ out))) t)
+    go TooLong t = t
+    go OutOfMemory t = t
+
+-- a write that failed
+pub drains-part : (settings : Values) (a b c : Store) (old written sent : Option (List ℕ)) (link middle next : Link) (used more : Outside) (empty out : List ℕ) (ending : Option Ending) (result : Result (Option Served) ServeFault)
+    → DrainedSoFar settings a b old written link used middle → empty ≡ [] → TurnedInto settings b c middle more empty out ending next → AppendsPart written sent out → result ≡ Err Write
+    → Drained settings a c old sent link (before used more) result next
+drains-part settings a b c old written sent link middle next used more empty out ending result so none into part is =
+    let P : Result (Option Served) ServeFault → Type 0 = λ x. Drained settings a c old sent link (before used more) x next in
+    let Q : List ℕ → Type 0 = λ o. Turned settings a c link (before used more) o ending next in
+    let all = turned-then settings a b c link middle next used more so.0 out ending so.2 (into-empty settings b c middle next more empty out ending none into) in
+    subst P (sym is) (so.0 ++ part.0, Appends-trans old written sent so.0 part.0 so.1 part.3, (part.1, ending, subst Q (ap (λ (o : List ℕ). so.0 ++ o) part.2 ∙ sym (append_assoc so.0 part.0 part.1)) all))
+
+-- ---- measures
+
+pub no-less-then : (a b c : Link) → IsNoLess a b → IsNoLess b c → IsNoLess a c
+no-less-then a b c p q = omega arith
+
+pub shorter-then : (a b c : Link) → length b.waiting ≤ length a.waiting → IsNoLess a b → (length c.waiting < length b.waiting) × IsNoLess b c → (length c.waiting < length a.waiting) × IsNoLess a c
+shorter-then a b c short p q = (omega (arith, q.0), no-less-then a b c p q.1)
+
+greatest-le : (limit : ℕ) (kind : Kind) → limit ≤ 65536 → greatest limit kind ≤ 65536
+greatest-le limit Hello small = omega arith
+greatest-le limit Open small = small
+greatest-le limit Close small = small
+greatest-le limit Message small = small
+
+part-small : (greeted : Bool) (limit : ℕ) (bytes : List ℕ) → limit ≤ 65536 → IsPartial greeted limit bytes → length bytes < 65536
+part-small greeted limit bytes small (inl short) = omega arith
+part-small greeted limit bytes small (inr part) =
+    let low = greatest-le limit part.0 small in
+    let high = part.4 in
+    let less = part.5 in omega arith
+
+-- what waits is short
+pub short-length : (link : Link) → link.client.limit ≤ 65536 → IsShort link → length link.waiting < 65536
+short-length link small short =
+    let P : Result (Option Header) UacpFault → Type 0 = Cuts link.client.greeted link.client.limit link.waiting in
+    part-small link.client.greeted link.client.limit link.waiting small (subst P short (cuts link.client.greeted link.client.limit link.waiting))
+
+short-none : cut false 65536 [] ≡ Ok None
+unfolding cut
+short-none = refl
+
+pub starts-short : (link : Link) → link ≡ new_link → IsShort link
+starts-short link is = let P : Link → Type 0 = IsShort in subst P (sym is) short-none
+
+pub starts-small : (link : Link) → link ≡ new_link → IsSmall link
+starts-small link is = let P : Link → Type 0 = IsSmall in subst P (sym is) (omega arith, omega arith)
+
+pub fresh-small : (link : Link) → link.client ≡ new_client → IsSmall link
+fresh-small link is = let P : Client → Type 0 = λ c. (c.taken ≤ 1000000) × (c.limit ≤ 65536) in subst P (sym is) (omega arith, omega arith)
+
+-- fewer bytes than a header has
+few-none : (limit : ℕ) (bytes : List ℕ) → length bytes < 8 → cut false limit bytes ≡ Ok None
+unfolding cut
+few-none limit bytes few = let low : nat_lt (length bytes) 8 ≡ true = lt-ltb _ _ few in rw low refl
+
+pub fed-short : (link fed : Link) (first : List ℕ) → link ≡ new_link → fed ≡ record link { waiting = link.waiting ++ first } → length first < 8 → (fed.client ≡ new_client) × (fed.waiting ≡ first) × IsShort fed
+fed-short link fed first is more few =
+    let same : fed ≡ (let l : Link = record { client = new_client; waiting = first } in l) = more ∙ ap (λ (l : Link). let k : Link = record l { waiting = l.waiting ++ first } in k) is in
+    let P : Link → Type 0 = λ l. (l.client ≡ new_client) × (l.waiting ≡ first) × IsShort l in
+    subst P (sym same) (refl, refl, few-none 65536 first few)
+
+-- ---- the end of a stretch
+
+pub drains-end : (settings : Values) (a b c : Store) (old written sent : Option (List ℕ)) (link middle next : Link) (used more : Outside) (empty out : List ℕ) (result : Result Turn ServeFault) (end : Result (Option Served) ServeFault)
+    → Some end ≡ end_of result → DrainedSoFar settings a b old written link used middle → empty ≡ [] → TurnedInto settings b c middle more empty out (ending_of result) next → Appends written sent out
+    → Drained settings a c old sent link (before used more) end next
+drains-end settings a b c old written sent link middle next used more empty out (Ok Waits) end is so none into appends =
+    let same : end ≡ Ok None = cc in
+    let P : Result (Option Served) ServeFault → Type 0 = λ e. Drained settings a c old sent link (before used more) e next in
+    subst P (sym same) (drains-waits settings a b c old written sent link middle next used more empty out so none into appends)
+drains-end settings a b c old written sent link middle next used more empty out (Ok (Greets limit)) end is so none into appends = absurd cc
+drains-end settings a b c old written sent link middle next used more empty out (Ok Goes) end is so none into appends = absurd cc
+drains-end settings a b c old written sent link middle next used more empty out (Ok (Ends served)) end is so none into appends =
+    let same : end ≡ Ok (Some served) = cc in
+    let P : Result (Option Served) ServeFault → Type 0 = λ e. Drained settings a c old sent link (before used more) e next in
+    subst P (sym same) (drains-ends settings a b c old written sent link middle next used more empty out served so none into appends)
+drains-end settings a b c old written sent link middle next used more empty out (Err fault) end is so none into appends =
+    let same : end ≡ Err fault = cc in
+    let P : Result (Option Served) ServeFault → Type 0 = λ e. Drained settings a c old sent link (before used more) e next in
+    subst P (sym same) (drains-fails settings a b c old written sent link middle next used more empty out fault so none into appends)
+
+pub drains-more : (settings : Values) (a b c : Store) (old written sent : Option (List ℕ)) (link middle next : Link) (used more : Outside) (empty out : List ℕ) (result : Result Turn ServeFault) → None ≡ end_of result
+    → DrainedSoFar settings a b old written link used middle → empty ≡ [] → TurnedInto settings b c middle more empty out (ending_of result) next → Appends written sent out → DrainedSoFar settings a c old sent link (before used more) next
+drains-more settings a b c old written sent link middle next used more empty out (Ok Waits) is so none into appends = absurd cc
+drains-more settings a b c old written sent link middle next used more empty out (Ok (Greets limit)) is so none into appends = drains-goes settings a b c old written sent link middle next used more empty out so none into appends
+drains-more settings a b c old written sent link middle next used more empty out (Ok Goes) is so none into appends = drains-goes settings a b c old written sent link middle next used more empty out so none into appends
+drains-more settings a b c old written sent link middle next used more empty out (Ok (Ends served)) is so none into appends = absurd cc
+drains-more settings a b c old written sent link middle next used more empty out (Err fault) is so none into appends = absurd cc
+
+pub more-shorter : (a b : Link) (result : Result Turn ServeFault) → None ≡ end_of result → Shortens result a b → (length b.waiting < length a.waiting) × IsNoLess a b
+more-shorter a b (Ok Waits) is less = absurd cc
+more-shorter a b (Ok (Greets limit)) is less = less
+more-shorter a b (Ok Goes) is less = less
+more-shorter a b (Ok (Ends served)) is less = absurd cc
+more-shorter a b (Err fault) is less = absurd cc
+
+pub own-end : (waits : Type 0) (start a b : Link) (result : Result Turn ServeFault) (end : Result (Option Served) ServeFault) → Some end ≡ end_of result → IsOwn waits 65536 result → IsNoLess start a → Shortens result a b
+    → IsOwnEnd (waits × IsNoLess start b) end
+own-end waits start a b (Ok Waits) end is own no_less less =
+    let same : end ≡ Ok None = cc in
+    let P : Result (Option Served) ServeFault → Type 0 = λ e. IsOwnEnd (waits × IsNoLess start b) e in
+    subst P (sym same) (own, no-less-then start a b no_less less)
+own-end waits start a b (Ok (Greets limit)) end is own no_less less = absurd cc
+own-end waits start a b (Ok Goes) end is own no_less less = absurd cc
+own-end waits start a b (Ok (Ends served)) end is own no_less less =
+    let same : end ≡ Ok (Some served) = cc in
+    let P : Result (Option Served) ServeFault → Type 0 = λ e. IsOwnEnd (waits × IsNoLess start b) e in
+    subst P (sym same) (go served own)
+  where
+    go : (s : Served) → IsOwn waits 65536 (Ok (Ends s)) → IsOwnEnd (waits × IsNoLess start b) (Ok (Some s))
+    go EndOfInput o = o
+    go Closed o = o
+    go (Refused code) o = o
+own-end waits start a b (Err fault) end is own no_less less =
+    let same : end ≡ Err fault = cc in
+    let P : Result (Option Served) ServeFault → Type 0 = λ e. IsOwnEnd (waits × IsNoLess start b) e in
+    subst P (sym same) (go fault own)
+  where
+    go : (f : ServeFault) → IsOwn waits 65536 (Err f) → IsOwnEnd (waits × IsNoLess start b) (Err f)
+    go Read o = o
+    go Write o = absurd o
+    go TooLong o = o
+    go OutOfMemory o = o
+
+-- it isn't the writer's fault
+pub end-unwritten : (result : Result Turn ServeFault) (waits : Type 0) → IsOwn waits 65536 result → Some (Err Write) ≡ end_of result → ⊥
+end-unwritten (Ok Waits) waits own is = cc
+end-unwritten (Ok (Greets limit)) waits own is = cc
+end-unwritten (Ok Goes) waits own is = cc
+end-unwritten (Ok (Ends served)) waits own is = cc
+end-unwritten (Err Read) waits own is = own
+end-unwritten (Err Write) waits own is = own
+end-unwritten (Err TooLong) waits own is = cc
+end-unwritten (Err OutOfMemory) waits own is = cc

@@ -1,0 +1,293 @@
+-- What one item's answer is in the answer to the stream.
+use Rattle.std.proofs.Common.{◌≡◌, ◌≢◌, ◌==◌, ℕ, ◌+◌, ◌<◌, ◌≤◌, Bool, true, false, List, [], ◌∷◌, ◌++◌, length, drop, Some, None, Ok, Err, refl, sym, ◌∙◌, ap, subst, arith}
+use Rattle.std.specs.Prelude.{Option, Result, max, if◌then◌else◌}
+use Rattle.std.proofs.lemmas.List.{append-nil, length-drop}
+use Rattle.std.proofs.lemmas.Bool.Decides.{nat_tests}
+use Rattle.ua_binary.specs.declared.codes.Status.{Status}
+use Rattle.ua_binary.specs.declared.codes.TheConstants.Status.{BAD_OUT_OF_MEMORY}
+use Rattle.uacp.specs.declared.types.Header.{Header}
+use Rattle.uacp.specs.declared.types.Chunk.{Chunk}
+use Rattle.uacp.specs.declared.types.UacpFault.{UacpFault}
+use Rattle.uacp.specs.Stream.{Piece}
+use Rattle.uacp.specs.Chunks.{cut}
+use Rattle.uacp.specs.Held.{Held, Gives, next_of, next_or, after_next}
+use Rattle.uacp.specs.Fault.{code_of}
+use Rattle.ua_channel.specs.Taking.{State, piece_of}
+use Rattle.ua_session.specs.Sessions as session
+use Rattle.ua_settings.specs.Settings.{Values}
+use Rattle.records.specs.Contents.{Content}
+use Rattle.archive.specs.Store.{Store, Mark, Fine, Starved}
+use Rattle.archive.proofs.Acting.{moves-as, moves-none}
+use Rattle.historian.specs.Services.{site_of}
+use Rattle.counted_io.specs.declared.fault.ServeFault.{ServeFault}
+use Rattle.ua_connection.specs.declared.outcome.Served.TheVariants.{EndOfInput, Closed, Refused}
+use Rattle.counted_io.specs.declared.fault.ServeFault.TheVariants.{Read, Write, TooLong, OutOfMemory}
+use Rattle.ua_connection.specs.declared.turn.Turn.{Turn}
+use Rattle.ua_connection.specs.declared.turn.Turn.TheVariants.{Waits, Greets, Goes, Ends}
+use Rattle.ua_connection.specs.Given.{Outside, give, made, Does}
+use Rattle.ua_connection.specs.Run.{Reply}
+use Rattle.ua_connection.specs.Client.{Client, Standing, Ending, Answering, Item, whole, ill, partial, ends, refuse, answered_item, answered_piece, answer, found, next, chunks}
+use Rattle.ua_connection.specs.Turns.{tried, Link, link_of, Replies, Answered, Reaches, Turned, TurnedInto, RefusesTurn, IsSound, GivesOne, LeavesIntake, IsOwn, IsCounted, ending_of}
+use Rattle.ua_connection.proofs.Outsides.{marked, nothing}
+use Rattle.ua_connection.proofs.Runs.{answers-start, answers-item, answers-end}
+use Rattle.ua_connection.proofs.Cutting.{falls, next-some, some_more, chunk-stands, fault-stands}
+use Rattle.ua_connection.proofs.Steps.{here-refused, here-starved, here-fine, answered-here, answered-by}
+
+at : Link → Content → Standing
+at link R = record { client = link.client; content = R }
+
+-- nothing more was answered
+pub turned-none : (settings : Values) (a : Store) (link : Link) → Turned settings a a link nothing [] None link
+turned-none settings a link = moves-none a (λ R S. Reaches (site_of settings a) link R nothing [] None link S) (λ R. record {
+  last = record { client = link.client; content = R };
+  content = refl;
+  goes = λ e. refl;
+  answers = answers-start (chunks (site_of settings a)) (record { client = link.client; content = R }) link.waiting;
+})
+
+-- an item that stands first, whatever follows
+pub turned-item : (settings : Values) (a b : Store) (link : Link) (item : Item) (n : ℕ) (used : Outside) (old new : List ℕ) (ending : Option Ending) (client : Client)
+    → ((R : Content) (more : List ℕ) → next (record { client = link.client; content = R }) (link.waiting ++ more) ≡ Some (item, n))
+    → Answered a b (λ R. answer (site_of settings a) (record { client = link.client; content = R }) item) used old new ending client
+    → TurnedInto settings a b link used old new ending (record { client = client; waiting = drop n link.waiting })
+turned-item settings a b link item n used old new ending client stands h =
+    let site = site_of settings a in
+    let f : Content → Answering = λ R. answer site (record { client = link.client; content = R }) item in (
+      h.made,
+      h.appended,
+      moves-as a b used.marks (λ R S. Replies (f R) used h.made ending client S) (λ R S. Reaches site link R used h.made ending (record { client = client; waiting = drop n link.waiting }) S) (λ R S r. record {
+        last = r.last;
+        content = r.content;
+        goes = r.goes;
+        answers = answers-item (chunks site) (falls site) (record { client = link.client; content = R }) link.waiting (item, n) used (record { out = h.made; ending = ending; state = r.last }) (stands R) r.does;
+      }) h.moves,
+    )
+
+-- an end, by whichever item stands first, whatever follows
+pub turned-end : (settings : Values) (a b : Store) (link : Link) (item : List ℕ → Item × ℕ) (used : Outside) (old new : List ℕ) (ending : Ending) (left : Link)
+    → ((R : Content) (more : List ℕ) → next (record { client = link.client; content = R }) (link.waiting ++ more) ≡ Some (item more))
+    → (f : Content → Answering) → ((R : Content) (more : List ℕ) (r : Reply Standing Ending) → Does (f R) used r → Does (answer (site_of settings a) (record { client = link.client; content = R }) (item more).0) used r)
+    → Answered a b f used old new (Some ending) left.client
+    → TurnedInto settings a b link used old new (Some ending) left
+turned-end settings a b link item used old new ending left stands f same h =
+    let site = site_of settings a in (
+      h.made,
+      h.appended,
+      moves-as a b used.marks (λ R S. Replies (f R) used h.made (Some ending) left.client S) (λ R S. Reaches site link R used h.made (Some ending) left S) (λ R S r.
+          let reply : Reply Standing Ending = record { out = h.made; ending = Some ending; state = r.last } in
+          record {
+            last = r.last;
+            content = r.content;
+            goes = λ e. absurd cc;
+            answers = answers-end (chunks site) (falls site) (record { client = link.client; content = R }) link.waiting left.waiting used reply ending refl (λ more. (item more, stands R more, same R more reply r.does));
+          }) h.moves,
+    )
+
+-- ---- what an intake gives
+
+-- the header of a chunk that was given
+head_of : Chunk → Header
+head_of chunk = record { kind = chunk.kind; letter = chunk.letter; size = 8 + length chunk.body.now }
+
+given-cut : (held : Held) (chunk : Chunk) → IsSound held → Gives held (Ok (Some chunk)) → cut held.greeted held.limit held.waiting ≡ Ok (Some (record { kind = chunk.kind; letter = chunk.letter; size = 8 + length chunk.body.now }))
+given-cut held chunk sound gives = sym sound ∙ gives.0
+
+-- a whole chunk stands first
+given-stands : (held : Held) (taken : ℕ) (channel : Option State) (sessions : session.State) (chunk : Chunk) (R : Content) (more : List ℕ) → IsSound held → Gives held (Ok (Some chunk))
+    → next (record { client = (link_of held taken channel sessions).client; content = R }) (held.waiting ++ more) ≡ Some (whole (piece_of chunk), 8 + length chunk.body.now)
+given-stands held taken channel sessions chunk R more sound gives =
+    let standing : Standing = record { client = (link_of held taken channel sessions).client; content = R } in
+    let header : Header = record { kind = chunk.kind; letter = chunk.letter; size = 8 + length chunk.body.now } in
+    let stands = (chunk-stands standing held.waiting more header (given-cut held chunk sound gives)).0 in
+    stands ∙ ap (λ (b : List ℕ). let p : Piece = record { kind = chunk.kind; letter = chunk.letter; body = b } in Some (whole p, 8 + length chunk.body.now)) (sym gives.2)
+
+pub few_test : (taken : ℕ) → taken ≢ 1000000 → (taken == 1000000) ≡ false
+few_test taken few = grind (arith, nat_tests)
+
+-- the chunk is answered
+pub chunk-turned : (settings : Values) (a b : Store) (held : Held) (taken : ℕ) (channel : Option State) (sessions : session.State) (chunk : Chunk) (left : List ℕ) (used : Outside) (old new : List ℕ) (ending : Option Ending) (client : Client)
+    → IsSound held → Gives held (Ok (Some chunk)) → taken ≢ 1000000 → left ≡ drop (8 + length chunk.body.now) held.waiting
+    → Answered a b (λ R. tried (site_of settings a) (record { client = (link_of held taken channel sessions).client; content = R }) (piece_of chunk)) used old new ending client
+    → TurnedInto settings a b (link_of held taken channel sessions) used old new ending (record { client = client; waiting = left })
+chunk-turned settings a b held taken channel sessions chunk left used old new ending client sound gives few leaves h =
+    let link = link_of held taken channel sessions in
+    let site = site_of settings a in
+    let start : Content → Standing = λ R. record { client = link.client; content = R } in
+    let f : Content → Answering = λ R. tried site (start R) (piece_of chunk) in
+    let g : Content → Answering = λ R. answer site (start R) (whole (piece_of chunk)) in
+    let P : List ℕ → Type 0 = λ l. TurnedInto settings a b link used old new ending (record { client = client; waiting = l }) in
+    subst P (sym leaves)
+    (turned-item settings a b link (whole (piece_of chunk)) (8 + length chunk.body.now) used old new ending client (λ R more. given-stands held taken channel sessions chunk R more sound gives)
+    (answered-by a b f g used used old new ending client refl
+    (λ R r does.
+    let D : Bool → Type 0 = λ t. Does (made (if t then give (ends (start R) [] (Err TooLong)) else answered_piece site (start R) chunk.kind (piece_of chunk)) (refuse (start R) BAD_OUT_OF_MEMORY)) used r in
+    subst D (sym (few_test taken few)) does) h))
+
+-- a chunk too many
+pub many-turned : (settings : Values) (a : Store) (held : Held) (taken : ℕ) (channel : Option State) (sessions : session.State) (chunk : Chunk) (left : Link) (old : List ℕ) → IsSound held → Gives held (Ok (Some chunk)) → (taken == 1000000) ≡ true
+    → TurnedInto settings a a (link_of held taken channel sessions) (marked (Fine ∷ [])) old old (Some (Err TooLong)) left
+many-turned settings a held taken channel sessions chunk left old sound gives many =
+    let link = link_of held taken channel sessions in
+    let site = site_of settings a in
+    let start : Content → Standing = λ R. record { client = link.client; content = R } in
+    let g : Content → Answering = λ R. answer site (start R) (whole (piece_of chunk)) in
+    turned-end settings a a link (λ more. (whole (piece_of chunk), 8 + length chunk.body.now)) (marked (Fine ∷ [])) old old (Err TooLong) left (λ R more. given-stands held taken channel sessions chunk R more sound gives)
+    g (λ R more r does. does)
+    (answered-here a g (Fine ∷ []) old old (Some (Err TooLong)) left.client
+    (record {
+      quiet = refl;
+      made = [];
+      appended = sym (append-nil old);
+      replies = λ R. record {
+        last = start R;
+        content = refl;
+        goes = λ e. absurd cc;
+        does = record {
+          does = λ later. ap (λ (t : Bool). (if t then give (ends (start R) [] (Err TooLong)) else answered_piece site (start R) chunk.kind (piece_of chunk)) later) many;
+        };
+      };
+    }))
+
+-- a refusal is an end
+refusal_ends : (code : Status) (result : Result Turn ServeFault) (old new : List ℕ) → RefusesTurn code result old new → (e : Ending) × (ending_of result ≡ Some e)
+refusal_ends code (Ok turn) old new refuses = (Ok (Refused code), ap (λ (t : Turn). ending_of (Ok t)) refuses.0)
+refusal_ends code (Err fault) old new refuses = (Err fault, refl)
+
+-- a fault that stands in a chunk's place
+fault-refused : (settings : Values) (a : Store) (held : Held) (taken : ℕ) (channel : Option State) (sessions : session.State) (fault : UacpFault) (left : Link) (old new : List ℕ) (result : Result Turn ServeFault) → IsSound held
+    → Gives held (Err fault) → RefusesTurn (code_of fault) result old new
+    → (used : List Mark) × TurnedInto settings a a (link_of held taken channel sessions) (marked used) old new (ending_of result) left
+fault-refused settings a held taken channel sessions fault left old new result sound gives refuses =
+    let link = link_of held taken channel sessions in
+    let site = site_of settings a in
+    let start : Content → Standing = λ R. record { client = link.client; content = R } in
+    let h = here-refused (code_of fault) start left.client old new result (λ R. refl) refuses in
+    let end = refusal_ends (code_of fault) result old new refuses in
+    let f : Content → Answering = λ R. answer site (start R) (ill fault) in
+    let answered = answered-here a f (Fine ∷ h.0) old new (ending_of result) left.client
+    (here-fine (λ R. refuse (start R) (code_of fault)) (λ R. refuse (start R) BAD_OUT_OF_MEMORY) h.0 old new (ending_of result) left.client h.1) in
+    let P : Option Ending → Type 0 = λ e. Answered a a f (marked (Fine ∷ h.0)) old new e left.client in
+    let Q : Option Ending → Type 0 = λ e. TurnedInto settings a a link (marked (Fine ∷ h.0)) old new e left in (
+      Fine ∷ h.0,
+      subst Q (sym end.1)
+          (turned-end settings a a link (λ more. (ill fault, length (held.waiting ++ more))) (marked (Fine ∷ h.0)) old new end.0 left (λ R more. fault-stands (start R) held.waiting more fault (sym sound ∙ gives)) f (λ R more r does. does)
+          (subst P end.1 answered)),
+    )
+
+pub fault-turned : (settings : Values) (a : Store) (held : Held) (taken : ℕ) (channel : Option State) (sessions : session.State) (fault : UacpFault) (code : Status) (left : Link) (old new : List ℕ) (result : Result Turn ServeFault)
+    → IsSound held → Gives held (Err fault) → code ≡ code_of fault → RefusesTurn code result old new
+    → (used : List Mark) × TurnedInto settings a a (link_of held taken channel sessions) (marked used) old new (ending_of result) left
+fault-turned settings a held taken channel sessions fault code left old new result sound gives told refuses =
+    let Q : Status → Type 0 = λ c. RefusesTurn c result old new in
+    fault-refused settings a held taken channel sessions fault left old new result sound gives (subst Q told refuses)
+
+-- bytes came for which memory is wanting
+pub starved-turned : (settings : Values) (a : Store) (link left : Link) (old new : List ℕ) (result : Result Turn ServeFault) → 0 < length link.waiting → RefusesTurn BAD_OUT_OF_MEMORY result old new
+    → (used : List Mark) × TurnedInto settings a a link (marked used) old new (ending_of result) left
+starved-turned settings a link left old new result some refuses =
+    let site = site_of settings a in
+    let start : Content → Standing = λ R. record { client = link.client; content = R } in
+    let item : List ℕ → Item × ℕ = λ more. found (link.waiting ++ more) (cut link.client.greeted link.client.limit (link.waiting ++ more)) in
+    let h = here-refused BAD_OUT_OF_MEMORY start left.client old new result (λ R. refl) refuses in
+    let end = refusal_ends BAD_OUT_OF_MEMORY result old new refuses in
+    let f : Content → Answering = λ R. refuse (start R) BAD_OUT_OF_MEMORY in
+    let starved : Content → Answering = λ R. made (answered_item site (start R) partial) (f R) in
+    let answered = answered-here a starved (Starved ∷ h.0) old new (ending_of result) left.client (here-starved (λ R. answered_item site (start R) partial) f h.0 old new (ending_of result) left.client h.1) in
+    let P : Option Ending → Type 0 = λ e. Answered a a starved (marked (Starved ∷ h.0)) old new e left.client in
+    let Q : Option Ending → Type 0 = λ e. TurnedInto settings a a link (marked (Starved ∷ h.0)) old new e left in (
+      Starved ∷ h.0,
+      subst Q (sym end.1)
+          (turned-end settings a a link item (marked (Starved ∷ h.0)) old new end.0 left (λ R more. next-some (start R) (link.waiting ++ more) (some_more link.waiting more some)) starved
+          (λ R more r does. record { does = λ later. does.does later }) (subst P end.1 answered)),
+    )
+
+-- ---- what is left in the intake
+
+max-below : (limit : ℕ) → limit ≤ 65536 → max limit 4128 ≤ 65536
+max-below limit small = omega arith
+
+-- what is left once a chunk was given out
+pub left-waiting : (held new : Held) (chunk : Chunk) → Gives held (Ok (Some chunk)) → new ≡ after_next held (next_of held) → new.waiting ≡ drop (8 + length chunk.body.now) held.waiting
+left-waiting held new chunk gives is = ap (λ (h : Held). h.waiting) (is ∙ ap (after_next held) gives.0)
+
+-- an intake that gives a chunk gave no fault
+whole-gives : (held : Held) (header : Header) → next_of held ≡ Ok (Some header) → held.failed ≡ None
+whole-gives held header gives = go held.failed refl
+  where
+    go : (o : Option UacpFault) → held.failed ≡ o → held.failed ≡ None
+    go None e = e
+    go (Some fault) e = let wrong = sym (ap (λ o. next_or o (cut held.greeted held.limit held.waiting)) e) ∙ gives in absurd cc
+
+-- a chunk that was given out has 24 bytes at least, and 65,536 at most
+pub gives-one : (held new : Held) (chunk : Chunk) → Gives held (Ok (Some chunk)) → new ≡ after_next held (next_of held) → held.limit ≤ 65536 → GivesOne held new
+gives-one held new chunk gives is small =
+    let header : Header = record { kind = chunk.kind; letter = chunk.letter; size = 8 + length chunk.body.now } in
+    let now = is ∙ ap (after_next held) gives.0 in
+    let left = ap (length {A = ℕ}) (left-waiting held new chunk gives is) in
+    let within = gives.1 in
+    let most = max-below held.limit small in
+    record {
+      greeted = ap (λ (h : Held). h.greeted) now;
+      limit = ap (λ (h : Held). h.limit) now;
+      failed = ap (λ (h : Held). h.failed) now ∙ whole-gives held header gives.0;
+      less = (omega (arith, length-drop (8 + length chunk.body.now) held.waiting, within.0, within.1), omega (arith, length-drop (8 + length chunk.body.now) held.waiting, within.0, within.1, within.2));
+    }
+
+-- a sound intake stays sound behind a chunk
+pub sound-one : (held new : Held) → GivesOne held new → IsSound new
+sound-one held new one = ap (λ o. next_or o (cut new.greeted new.limit new.waiting)) one.failed
+
+-- and behind a fault
+fault-sound : (held : Held) (fault : UacpFault) → IsSound held → next_of held ≡ Err fault → IsSound (record held { failed = Some fault })
+fault-sound held fault sound gives = sym gives ∙ sound
+
+pub fault-leaves : (held new : Held) (fault : UacpFault) → IsSound held → Gives held (Err fault) → new ≡ after_next held (next_of held) → (new.limit ≡ held.limit) × IsSound new
+fault-leaves held new fault sound gives is =
+    let now = is ∙ ap (after_next held) gives in
+    let P : Held → Type 0 = λ h. (h.limit ≡ held.limit) × IsSound h in
+    subst P (sym now) (refl, fault-sound held fault sound gives)
+
+-- whatever a chunk came to
+pub chunk-leaves : (held new : Held) (result : Result Turn ServeFault) → IsOwn ⊥ 65536 result → GivesOne held new → LeavesIntake result held new
+chunk-leaves held new (Ok Waits) own one = absurd own
+chunk-leaves held new (Ok (Greets limit)) own one = one
+chunk-leaves held new (Ok Goes) own one = one
+chunk-leaves held new (Ok (Ends served)) own one = (one.limit, sound-one held new one)
+chunk-leaves held new (Err fault) own one = (one.limit, sound-one held new one)
+
+pub refusal-leaves : (code : Status) (result : Result Turn ServeFault) (old now : List ℕ) (held new : Held) → RefusesTurn code result old now → (new.limit ≡ held.limit) × IsSound new → LeavesIntake result held new
+refusal-leaves code (Ok turn) old now held new refuses leaves = let P : Turn → Type 0 = λ t. LeavesIntake (Ok t) held new in subst P (sym refuses.0) leaves
+refusal-leaves code (Err fault) old now held new refuses leaves = leaves
+
+pub counted-one : (taken : ℕ) (result : Result Turn ServeFault) → taken < 1000000 → IsCounted taken result
+counted-one taken (Ok Waits) few = tt
+counted-one taken (Ok (Greets limit)) few = few
+counted-one taken (Ok Goes) few = few
+counted-one taken (Ok (Ends served)) few = tt
+counted-one taken (Err fault) few = tt
+
+pub counted-refusal : (code : Status) (taken : ℕ) (result : Result Turn ServeFault) (old now : List ℕ) → RefusesTurn code result old now → IsCounted taken result
+counted-refusal code taken (Ok turn) old now refuses = let P : Turn → Type 0 = λ t. IsCounted taken (Ok t) in subst P (sym refuses.0) tt
+counted-refusal code taken (Err fault) old now refuses = tt
+
+-- what a chunk's answer is, is a turn's too
+pub own-turn : (waits : Type 0) (result : Result Turn ServeFault) → IsOwn ⊥ 65536 result → IsOwn waits 65536 result
+own-turn waits (Ok Waits) own = absurd own
+own-turn waits (Ok (Greets limit)) own = own
+own-turn waits (Ok Goes) own = own
+own-turn waits (Ok (Ends EndOfInput)) own = own
+own-turn waits (Ok (Ends Closed)) own = own
+own-turn waits (Ok (Ends (Refused code))) own = own
+own-turn waits (Err Read) own = own
+own-turn waits (Err Write) own = own
+own-turn waits (Err TooLong) own = own
+own-turn waits (Err OutOfMemory) own = own
+
+-- no whole chunk is there
+pub waits-turned : (settings : Values) (a : Store) (held new : Held) (taken : ℕ) (channel : Option State) (sessions : session.State) (old : List ℕ) → Gives held (Ok None) → new ≡ after_next held (next_of held)
+    → TurnedInto settings a a (link_of held taken channel sessions) nothing old old None (record { client = (link_of held taken channel sessions).client; waiting = new.waiting })
+waits-turned settings a held new taken channel sessions old gives is =
+    let link = link_of held taken channel sessions in
+    let same : new.waiting ≡ held.waiting = ap (λ (h : Held). h.waiting) (is ∙ ap (after_next held) gives) in
+    let P : List ℕ → Type 0 = λ w. TurnedInto settings a a link nothing old old None (record { client = link.client; waiting = w }) in
+    subst P (sym same) ([], sym (append-nil old), turned-none settings a link)

@@ -1,0 +1,125 @@
+use Rattle.std.proofs.Common.{◌≡◌, ◌<◌, ◌++◌, List, ℤ, Err, ◌∙◌, arith, take, refl, ap, length, subst, sym}
+use Rattle.std.proofs.lemmas.Result.{err_from_is_err_and}
+use Rattle.std.proofs.lemmas.List.{length-append, length-take, append-nil}
+use Rattle.counted_io.specs.declared.fault.ServeFault.TheVariants.{Read}
+use Rattle.ua_connection.specs.Given.{before}
+use Rattle.ua_connection.specs.Turns.{Link, IsShort, IsNoLess}
+use Rattle.ua_connection.proofs.Outsides.{nothing}
+use Rattle.ua_connection.proofs.Flow.{fresh-small, short-length}
+use Rattle.ua_connection.proofs.Whole.{serves-start, serves-read, serves-end, serves-fed, serves-drained, serves-ended, serves-failed, serves-starved}
+use Rattle.ua_connection.proofs.serving.serve_on.Goals as goal
+
+pub reads-init : goal.reads-init
+reads-init g c = record {
+  small = fresh-small c.args.connection.now c.requires.fresh;
+  short = c.requires.short;
+  read_faults = refl;
+  write_faults = refl;
+  so_far = (nothing, g.met.C.Clock.gave_none c.args.clock.now, serves-start c.args.settings.now (g.A.Archive.state c.args.archive.now) (g.R.Read.remaining c.args.reader.now.inner) (g.W.Write.contents c.args.writer.now.inner) c.args.connection.now c.requires.fresh);
+}
+
+pub returns-in_err-n-clause-serves : goal.returns-in_err-n-clause-serves
+returns-in_err-n-clause-serves g c =
+    let so = c.reads.invariant.so_far in
+    let p = err_from_is_err_and c.from_residual.result c.from_residual.ensures.1 in
+    let fault = c.in_err-n.ensures.fault.0 in
+    let is : c.from_residual.result ≡ Err Read = cc (fault, p.1, p.2) in
+    let state = g.A.Archive.state in
+    let left = g.R.Read.remaining in
+    let contents = g.W.Write.contents in
+    let end = serves-read c.args.settings.now (state c.args.archive.now) (state c.reads.archive) c.args.connection.now.waiting (left c.args.reader.now.inner) (left c.reads.reader.inner) (left c.read_piece.new.self.inner) (contents c.args.writer.now.inner) (contents c.reads.writer.inner) so.0
+    c.reads.connection so.2 c.in_err-n.ensures.kept c.reads.invariant.short in
+    let P : List ℤ → Type 0 = λ r. g.C.Clock.gave c.args.clock.now r c.reads.clock in
+    (before so.0 end.0, subst P (sym (append-nil so.0.readings) ∙ ap (λ (r : List ℤ). so.0.readings ++ r) (sym end.1)) so.1, rw is end.2)
+
+pub returns-then-n-eq0-clause-serves : goal.returns-then-n-eq0-clause-serves
+returns-then-n-eq0-clause-serves g c =
+    let so = c.reads.invariant.so_far in
+    let n = c.in_ok-n.n in
+    let none : n ≡ 0 = omega arith in
+    let state = g.A.Archive.state in
+    let left = g.R.Read.remaining in
+    let contents = g.W.Write.contents in
+    let end = serves-end c.args.settings.now (state c.args.archive.now) (state c.reads.archive) c.args.connection.now.waiting (left c.args.reader.now.inner) (left c.reads.reader.inner) (left c.read_piece.new.self.inner) (contents c.args.writer.now.inner) (contents c.reads.writer.inner) so.0 c.reads.connection
+    (take n c.read_piece.new.piece) so.2 c.in_ok-n.ensures.bytes (ap (λ k. take k c.read_piece.new.piece) none) (c.in_ok-n.ensures.end none) c.reads.invariant.short in
+    let P : List ℤ → Type 0 = λ r. g.C.Clock.gave c.args.clock.now r c.reads.clock in
+    (before so.0 end.0, subst P (sym (append-nil so.0.readings) ∙ ap (λ (r : List ℤ). so.0.readings ++ r) (sym end.1)) so.1, end.2)
+
+pub returns-in-Err-clause-serves : goal.returns-in-Err-clause-serves
+returns-in-Err-clause-serves g c =
+    let so = c.reads.invariant.so_far in
+    let n = c.in_ok-n.n in
+    let within = c.in_ok-n.ensures.within in
+    let state = g.A.Archive.state in
+    let left = g.R.Read.remaining in
+    let contents = g.W.Write.contents in
+    let end = serves-starved c.args.settings.now (state c.args.archive.now) (state c.reads.archive) c.args.connection.now.waiting (left c.args.reader.now.inner) (left c.reads.reader.inner) (left c.read_piece.new.self.inner) (contents c.args.writer.now.inner) (contents c.reads.writer.inner) (contents c.send_starved.new.writer.inner) so.0
+    c.reads.connection (take n c.read_piece.new.piece) c.send_starved.result so.2 c.in_ok-n.ensures.bytes (omega (arith, length-take n c.read_piece.new.piece)) c.send_starved.ensures.sends in
+    let P : List ℤ → Type 0 = λ r. g.C.Clock.gave c.args.clock.now r c.reads.clock in
+    (before so.0 end.0, subst P (sym (append-nil so.0.readings) ∙ ap (λ (r : List ℤ). so.0.readings ++ r) (sym end.1)) so.1, end.2)
+
+pub returns-in-Ok-Some-clause-serves : goal.returns-in-Ok-Some-clause-serves
+returns-in-Ok-Some-clause-serves g c =
+    let so = c.reads.invariant.so_far in
+    let state = g.A.Archive.state in
+    let left = g.R.Read.remaining in
+    let contents = g.W.Write.contents in
+    let fed = serves-fed c.args.settings.now (state c.args.archive.now) (state c.reads.archive) c.args.connection.now.waiting (left c.args.reader.now.inner) (left c.reads.reader.inner) (left c.read_piece.new.self.inner) (contents c.args.writer.now.inner) (contents c.reads.writer.inner) so.0
+    c.reads.connection c.feed.new.self (take c.in_ok-n.n c.read_piece.new.piece) so.2 c.in_ok-n.ensures.bytes c.in-Ok.ensures.ok in
+    let drained = rw c.in-Ok-Some.field-0-is at c.in-Ok-Some.ensures.drained in
+    let own = rw c.in-Ok-Some.field-0-is at c.in-Ok-Some.ensures.own in (
+      before so.0 drained.0,
+      g.met.C.Clock.gave_more _ _ _ _ _ so.1 drained.1,
+      serves-ended c.args.settings.now (state c.args.archive.now) (state c.reads.archive) (state c.answer_waiting.new.archive) c.args.connection.now.waiting (left c.args.reader.now.inner) (left c.read_piece.new.self.inner) (contents c.args.writer.now.inner) (contents c.reads.writer.inner) (contents c.answer_waiting.new.writer.inner)
+          so.0 drained.0 c.feed.new.self c.answer_waiting.new.connection (IsShort c.answer_waiting.new.connection × IsNoLess c.feed.new.self c.answer_waiting.new.connection) c.in-Ok-Some.served fed drained.2 own,
+    )
+
+pub returns-in-Err-answer_waiting-clause-serves : goal.returns-in-Err-answer_waiting-clause-serves
+returns-in-Err-answer_waiting-clause-serves g c =
+    let so = c.reads.invariant.so_far in
+    let state = g.A.Archive.state in
+    let left = g.R.Read.remaining in
+    let contents = g.W.Write.contents in
+    let fed = serves-fed c.args.settings.now (state c.args.archive.now) (state c.reads.archive) c.args.connection.now.waiting (left c.args.reader.now.inner) (left c.reads.reader.inner) (left c.read_piece.new.self.inner) (contents c.args.writer.now.inner) (contents c.reads.writer.inner) so.0
+    c.reads.connection c.feed.new.self (take c.in_ok-n.n c.read_piece.new.piece) so.2 c.in_ok-n.ensures.bytes c.in-Ok.ensures.ok in
+    let drained = c.in-Err-answer_waiting.ensures.drained in (
+      before so.0 drained.0,
+      g.met.C.Clock.gave_more _ _ _ _ _ so.1 drained.1,
+      serves-failed c.args.settings.now (state c.args.archive.now) (state c.reads.archive) (state c.answer_waiting.new.archive) c.args.connection.now.waiting (left c.args.reader.now.inner) (left c.read_piece.new.self.inner) (contents c.args.writer.now.inner) (contents c.reads.writer.inner) (contents c.answer_waiting.new.writer.inner)
+          so.0 drained.0 c.feed.new.self c.answer_waiting.new.connection (IsShort c.answer_waiting.new.connection × IsNoLess c.feed.new.self c.answer_waiting.new.connection) c.in-Err-answer_waiting.fault fed drained.2 c.in-Err-answer_waiting.ensures.own,
+    )
+
+pub reads-smaller : goal.reads-smaller
+reads-smaller g c =
+    let own = rw c.in-Ok-None.field-0-is at c.in-Ok-None.ensures.own in
+    let small = c.in-Ok-None.ensures.small in
+    let short : length c.answer_waiting.new.connection.waiting < 65536 = short-length c.answer_waiting.new.connection small.1 own.0 in
+    let now = ap (λ (l : Link). length l.waiting) c.in-Ok.ensures.ok in
+    let taken = ap (λ (l : Link). l.client.taken) c.in-Ok.ensures.ok in
+    let within = c.in_ok-n.ensures.within in
+    let more = own.1 in
+    let most = small.0 in
+    omega (arith, length-append c.reads.connection.waiting (take c.in_ok-n.n c.read_piece.new.piece), length-take c.in_ok-n.n c.read_piece.new.piece)
+
+pub reads-preserved : goal.reads-preserved
+reads-preserved g c =
+    let so = c.reads.invariant.so_far in
+    let state = g.A.Archive.state in
+    let left = g.R.Read.remaining in
+    let contents = g.W.Write.contents in
+    let fed = serves-fed c.args.settings.now (state c.args.archive.now) (state c.reads.archive) c.args.connection.now.waiting (left c.args.reader.now.inner) (left c.reads.reader.inner) (left c.read_piece.new.self.inner) (contents c.args.writer.now.inner) (contents c.reads.writer.inner) so.0
+    c.reads.connection c.feed.new.self (take c.in_ok-n.n c.read_piece.new.piece) so.2 c.in_ok-n.ensures.bytes c.in-Ok.ensures.ok in
+    let drained = rw c.in-Ok-None.field-0-is at c.in-Ok-None.ensures.drained in
+    let own = rw c.in-Ok-None.field-0-is at c.in-Ok-None.ensures.own in
+    record {
+      small = c.in-Ok-None.ensures.small;
+      short = own.0;
+      read_faults = c.in_ok-n.ensures.faults ∙ c.reads.invariant.read_faults;
+      write_faults = (rw c.in-Ok-None.field-0-is at c.in-Ok-None.ensures.kept) (λ e. cc) ∙ c.reads.invariant.write_faults;
+      so_far = (
+        before so.0 drained.0,
+        g.met.C.Clock.gave_more _ _ _ _ _ so.1 drained.1,
+        serves-drained c.args.settings.now (state c.args.archive.now) (state c.reads.archive) (state c.answer_waiting.new.archive) c.args.connection.now.waiting (left c.args.reader.now.inner) (left c.read_piece.new.self.inner) (contents c.args.writer.now.inner) (contents c.reads.writer.inner) (contents c.answer_waiting.new.writer.inner)
+            so.0 drained.0 c.feed.new.self c.answer_waiting.new.connection fed drained.2,
+      );
+    }

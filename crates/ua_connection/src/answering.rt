@@ -1,0 +1,134 @@
+//! The chunks of a channel, each answered by what it comes to (Part 6, 6.7).
+
+ghost use Rattle.std.specs.Prelude.{◌≡◌, List, Some};
+ghost use Rattle.archive.specs.Store.{Mark};
+ghost use Rattle.ua_channel.specs.Taking.{LeavesReady, piece_of};
+ghost use Rattle.historian.specs.Services.{site_of};
+ghost use Rattle.ua_connection.specs.Given.{Outside};
+ghost use Rattle.ua_connection.specs.Client.{Client, opened, answered_come};
+ghost use Rattle.ua_connection.specs.Turns.{IsOwn, AnsweredHere, Answered, ending_of, behind, standing_of, tried_on, tried};
+
+use crate::clock::Clock;
+use crate::greeting::greet;
+use crate::outcome::Served;
+use crate::responding::respond;
+use crate::turn::{Turn, refuse};
+use archive::Archive;
+use counted_io::ServeFault;
+use std::alloc::Global;
+use ua_binary::{Status, Ticks};
+use ua_channel::{Channel, OpenRequest, Taken};
+use ua_session::Sessions;
+use ua_settings::Settings;
+use uacp::{Chunk, Kind, UacpFault};
+
+/// Answers an opening (Part 4, 5.6.2).
+fn open(
+    channel: &mut Channel,
+    request: &OpenRequest,
+    now: Ticks,
+    out: &mut Vec<u8>,
+) -> Result<Turn, ServeFault>
+    ensures answered { (client : Client) → (used : List Mark)
+        × AnsweredHere (λ R. opened (record { client = client; content = R }) channel.old request.now now) used out.old.items out.new.items (ending_of result) (behind client result (Some channel.new) client.sessions) }
+    ensures own { IsOwn ⊥ 65536 result }
+{
+    match channel.put_opened(request, now, out) {
+        Ok(()) => Ok(Turn::Goes),
+        Err(_) => refuse(Status::BAD_OUT_OF_MEMORY, out),
+    }
+}
+
+/// Answers what a chunk came to, where it asks for an answer. The clock is read once for an opening and for a whole message,
+/// and for nothing else.
+fn answer_taken<A: Archive, C: Clock>(
+    alloc: Global,
+    settings: &Settings,
+    archive: &mut A,
+    channel: &mut Channel,
+    sessions: &mut Sessions,
+    taken: Taken<'_>,
+    clock: &mut C,
+    body: &mut Vec<u8>,
+    out: &mut Vec<u8>,
+) -> Result<Turn, ServeFault>
+    requires ready { LeavesReady taken channel.old }
+    ensures answered { (client : Client) → (used : Outside) × C.gave clock.old used.readings clock.new
+        × Answered (A.state archive.old) (A.state archive.new) (λ R. answered_come (site_of settings.now (A.state archive.old)) (standing_of client sessions.old R) channel.old taken.entry) used out.old.items out.new.items (ending_of result) (behind client result (Some channel.new) sessions.new) }
+    ensures own { IsOwn ⊥ 65536 result }
+{
+    match taken {
+        Taken::Nothing => Ok(Turn::Goes),
+        Taken::Aborted(_) => Ok(Turn::Goes),
+        Taken::Opening(request) => open(channel, &request, Ticks(clock.now()), out),
+        Taken::Message(request_id, message) => {
+            let now = Ticks(clock.now());
+            respond(
+                alloc,
+                settings,
+                archive,
+                channel,
+                sessions,
+                request_id,
+                message.as_slice(),
+                now,
+                body,
+                out,
+            )
+        }
+        Taken::Closed => Ok(Turn::Ends(Served::Closed)),
+    }
+}
+
+/// Takes a chunk of the channel, and answers it where it asks for an answer.
+fn answer_chunk<A: Archive, C: Clock>(
+    alloc: Global,
+    settings: &Settings,
+    archive: &mut A,
+    channel: &mut Option<Channel>,
+    sessions: &mut Sessions,
+    chunk: Chunk<'_>,
+    clock: &mut C,
+    body: &mut Vec<u8>,
+    out: &mut Vec<u8>,
+) -> Result<Turn, ServeFault>
+    ensures answered { (client : Client) → (used : Outside) × C.gave clock.old used.readings clock.new
+        × Answered (A.state archive.old) (A.state archive.new) (λ R. tried_on (site_of settings.now (A.state archive.old)) (standing_of client sessions.old R) channel.old (piece_of chunk.entry)) used out.old.items out.new.items (ending_of result) (behind client result channel.new sessions.new) }
+    ensures own { IsOwn ⊥ 65536 result }
+{
+    let Some(channel) = channel else {
+        return refuse(UacpFault::TypeInvalid.code(), out);
+    };
+    match channel.take(chunk) {
+        Ok(taken) => answer_taken(
+            alloc, settings, archive, channel, sessions, taken, clock, body, out,
+        ),
+        Err(fault) => refuse(fault.code(), out),
+    }
+}
+
+/// Answers a whole chunk.
+pub(crate) fn answer_piece<A: Archive, C: Clock>(
+    alloc: Global,
+    settings: &Settings,
+    archive: &mut A,
+    channel: &mut Option<Channel>,
+    sessions: &mut Sessions,
+    chunk: Chunk<'_>,
+    clock: &mut C,
+    body: &mut Vec<u8>,
+    out: &mut Vec<u8>,
+) -> Result<Turn, ServeFault>
+    ensures answered { (client : Client) → (used : Outside) × C.gave clock.old used.readings clock.new
+        × Answered (A.state archive.old) (A.state archive.new) (λ R. tried (site_of settings.now (A.state archive.old)) (standing_of (record client { channel = channel.old }) sessions.old R) (piece_of chunk.entry)) used out.old.items out.new.items (ending_of result) (behind client result channel.new sessions.new) }
+    ensures own { IsOwn ⊥ 65536 result }
+{
+    match chunk.kind {
+        Kind::Hello => greet(alloc, chunk.body, channel, out),
+        Kind::Open | Kind::Close | Kind::Message => {
+            answer_chunk(
+                alloc, settings, archive, channel, sessions, chunk, clock, body, out,
+            )
+        }
+    }
+}

@@ -1,0 +1,29 @@
+//! What holds of every connection of a client.
+
+ghost use Rattle.std.specs.Prelude.{◌≡◌, ◌+◌, ℕ, List, [], None, Some, Err};
+ghost use Rattle.uacp.specs.Stream.{Piece};
+ghost use Rattle.historian.specs.Services.{Site};
+ghost use Rattle.ua_connection.specs.Given.{Outside};
+ghost use Rattle.ua_connection.specs.Run.{answered, stepped};
+ghost use Rattle.ua_connection.specs.Client.{Standing, Item, whole, ends, answered_item, answer, chunks, next};
+
+use counted_io::ServeFault;
+
+/// A connection has 1,000,000 chunks at most: the next one ends it by `TooLong` and nothing is written, no chunk before it
+/// does, and each chunk that is answered and doesn't end the connection is counted.
+#[tactic(auto, using(crate::proofs::Counting::counting))]
+pub fn chunks_are_counted()
+    ensures one_too_many { (site : Site) (standing : Standing) (piece : Piece) (later : Outside) → standing.client.taken ≡ 1000000
+        → answered_item site standing (whole piece) later ≡ (ends standing [] (Err ServeFault.TooLong), later) }
+    ensures no_sooner { (site : Site) (standing : Standing) (item : Item) (outside : Outside) → (answer site standing item outside).0.ending ≡ Some (Err ServeFault.TooLong)
+        → standing.client.taken ≡ 1000000 }
+    ensures each { (site : Site) (standing : Standing) (item : Item) (outside : Outside) → (answer site standing item outside).0.ending ≡ None
+        → (answer site standing item outside).0.state.client.taken ≡ standing.client.taken + 1 }
+{}
+
+/// The answer to a stream is what stands first, answered, and then the answer to the rest; it doesn't stop before the stream does.
+#[tactic(auto, using(crate::proofs::Counting::counting))]
+pub fn answers_go_item_by_item()
+    ensures { (site : Site) (standing : Standing) (bytes : List ℕ) (outside : Outside)
+        → answered (chunks site) standing bytes outside ≡ stepped (answered (chunks site)) (chunks site) standing bytes outside (next standing bytes) }
+{}

@@ -1,0 +1,22 @@
+//! A client's connection: what it is answered over an archive, from the first byte read to the last one written.
+#![tactic(auto)]
+
+mod answering;
+mod clock;
+mod connection;
+mod greeting;
+mod hexed;
+mod laws;
+mod outcome;
+mod responding;
+mod serving;
+mod single;
+mod turn;
+
+pub use clock::{Clock, ConstantClock, SystemClock};
+pub use connection::MOST_CHUNKS;
+pub use hexed::{HexFault, answer_hex};
+pub use laws::{answers_go_item_by_item, chunks_are_counted};
+pub use outcome::Served;
+pub use serving::{serve, serve_from};
+pub use single::answer_at;

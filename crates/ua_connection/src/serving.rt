@@ -1,0 +1,236 @@
+//! A connection, from the first byte read to the last one written.
+
+ghost use Rattle.std.specs.Prelude.{◌≡◌, ◌≤◌, ◌<◌, ◌⊎◌, List, [], None, IfOk, OnOk, OnErr, IsErrOf, length};
+ghost use Rattle.std.specs.Io.KnownBytes.{Appends};
+ghost use Rattle.counted_io.specs.Bytes.{counted};
+ghost use Rattle.ua_connection.specs.Client.{new_client};
+ghost use Rattle.ua_binary.specs.declared.codes.TheConstants.Status.{BAD_OUT_OF_MEMORY};
+ghost use Rattle.ua_connection.specs.Given.{Outside};
+ghost use Rattle.ua_connection.specs.Turns.{IsShort, IsSmall, IsOwn, IsOwnEnd, IsNoLess, Shortens, TurnedInto, Drained, SendsRefusal, ending_of};
+ghost use Rattle.ua_connection.specs.Serving.{ServesBehind, Serves};
+
+use crate::clock::Clock;
+use crate::connection::Connection;
+use crate::outcome::Served;
+use crate::turn::{Turn, end_of, put_refusal};
+use archive::Archive;
+use counted_io::{Counted, ServeFault};
+use std::alloc::Global;
+use std::io::{Read, Write};
+use ua_binary::Status;
+use ua_settings::Settings;
+
+/// The bytes that one read asks for, and the bytes of answers that are written at once.
+const PIECE: usize = 65536;
+
+/// Answers items until none waits, or there are bytes enough to write, or the connection ends.
+fn answer_some<A: Archive, C: Clock>(
+    alloc: Global,
+    settings: &Settings,
+    archive: &mut A,
+    connection: &mut Connection,
+    clock: &mut C,
+    out: &mut Vec<u8>,
+) -> Result<Turn, ServeFault>
+    requires { IsSmall connection.old }
+    ensures turned { (used : Outside) × C.gave clock.old used.readings clock.new
+        × TurnedInto settings.now (A.state archive.old) (A.state archive.new) connection.old used out.old.items out.new.items (ending_of result) connection.new }
+    ensures own { IsOwn (IsShort connection.new) 65536 result }
+    ensures small { IsSmall connection.new }
+    ensures shorter { Shortens result connection.old connection.new }
+{
+    'items: loop {
+        match connection.next_answer(alloc, settings, archive, clock, out) {
+            Ok(Turn::Waits) => return Ok(Turn::Waits),
+            Ok(Turn::Ends(served)) => return Ok(Turn::Ends(served)),
+            Err(fault) => return Err(fault),
+            Ok(Turn::Greets(_)) => {
+                if out.len() >= PIECE {
+                    return Ok(Turn::Goes);
+                }
+            }
+            Ok(Turn::Goes) => {
+                if out.len() >= PIECE {
+                    return Ok(Turn::Goes);
+                }
+            }
+        }
+    }
+}
+
+/// Answers the items that wait, and sends the answers.
+fn answer_waiting<A: Archive, W: Write, C: Clock>(
+    alloc: Global,
+    settings: &Settings,
+    archive: &mut A,
+    connection: &mut Connection,
+    writer: &mut Counted<W>,
+    clock: &mut C,
+    out: &mut Vec<u8>,
+) -> Result<Option<Served>, ServeFault>
+    requires { IsSmall connection.old }
+    ensures drained { (used : Outside) × C.gave clock.old used.readings clock.new
+        × Drained settings.now (A.state archive.old) (A.state archive.new) (W.contents writer.old.inner) (W.contents writer.new.inner) connection.old used result connection.new }
+    ensures own { IsOwnEnd (IsShort connection.new × IsNoLess connection.old connection.new) result }
+    ensures small { IsSmall connection.new }
+    ensures write { IsErrOf result ServeFault.Write → writer.new.faults ≡ counted writer.old.faults }
+    ensures kept { (IsErrOf result ServeFault.Write → ⊥) → writer.new.faults ≡ writer.old.faults }
+{
+    'parts: loop {
+        out.clear();
+        let turn = answer_some(alloc, settings, archive, connection, clock, out);
+        writer.send(out.as_slice())?;
+        match end_of(turn) {
+            Some(end) => return end,
+            None => {}
+        }
+    }
+}
+
+/// Ends the connection by an Error message that says that memory ran out.
+fn send_starved<W: Write>(writer: &mut Counted<W>, out: &mut Vec<u8>) -> Result<Served, ServeFault>
+    ensures sends { SendsRefusal (W.contents writer.old.inner) (W.contents writer.new.inner) BAD_OUT_OF_MEMORY result }
+    ensures write { IsErrOf result ServeFault.Write → writer.new.faults ≡ counted writer.old.faults }
+    ensures kept { (IsErrOf result ServeFault.Write → ⊥) → writer.new.faults ≡ writer.old.faults }
+{
+    out.clear();
+    let served = put_refusal(Status::BAD_OUT_OF_MEMORY, out)?;
+    writer.send(out.as_slice())?;
+    Ok(served)
+}
+
+/// Answers a connection on, of which nothing was answered yet.
+fn serve_on<R: Read, W: Write, C: Clock, A: Archive>(
+    alloc: Global,
+    settings: &Settings,
+    archive: &mut A,
+    connection: &mut Connection,
+    reader: &mut Counted<R>,
+    writer: &mut Counted<W>,
+    clock: &mut C,
+) -> Result<Served, ServeFault>
+    requires fresh { connection.old.client ≡ new_client }
+    requires short { IsShort connection.old }
+    ensures serves { (used : Outside) × C.gave clock.old used.readings clock.new
+        × ServesBehind settings.now (A.state archive.old) (A.state archive.new) connection.old.waiting (R.remaining reader.old.inner) (R.remaining reader.new.inner) (W.contents writer.old.inner) (W.contents writer.new.inner) used result }
+    ensures read { IsErrOf result ServeFault.Read → reader.new.faults ≡ counted reader.old.faults }
+    ensures write { IsErrOf result ServeFault.Write → writer.new.faults ≡ counted writer.old.faults }
+    ensures read_kept { (IsErrOf result ServeFault.Read → ⊥) → reader.new.faults ≡ reader.old.faults }
+    ensures write_kept { (IsErrOf result ServeFault.Write → ⊥) → writer.new.faults ≡ writer.old.faults }
+{
+    let mut out = Vec::new(alloc);
+    let mut piece = [0u8; PIECE];
+    'reads: loop {
+        let n = reader.read_piece(&mut piece)?;
+        if n == 0 {
+            return Ok(Served::EndOfInput);
+        }
+        match connection.feed(&piece[..n]) {
+            Ok(()) => {}
+            Err(_) => return send_starved(writer, &mut out),
+        }
+        match answer_waiting(
+            alloc, settings, archive, connection, writer, clock, &mut out,
+        ) {
+            Ok(None) => {}
+            Ok(Some(served)) => return Ok(served),
+            Err(fault) => return Err(fault),
+        }
+    }
+}
+
+/// Answers the connection of one client over an archive.
+///
+/// Where the reader's bytes and the writer's contents are known, what goes out is the answer to the bytes that were read, by
+/// the readings that the clock gave, and what the archive holds then is what that answer left; after a fault of the writer it
+/// is a first part of it. The answers to what was read are sent before the next read; the writer is not flushed.
+///
+/// Errors: `Read` and `Write` where a call of the reader or the writer failed (its `faults` rose, and it rises nowhere else),
+/// `TooLong` where a chunk comes after 1,000,000 of them, `OutOfMemory` where memory was wanting and the Error message that
+/// tells it could not be made either.
+pub fn serve<R: Read, W: Write, C: Clock, A: Archive>(
+    alloc: Global,
+    settings: &Settings,
+    archive: &mut A,
+    reader: &mut Counted<R>,
+    writer: &mut Counted<W>,
+    clock: &mut C,
+) -> Result<Served, ServeFault>
+    ensures serves { (used : Outside) × C.gave clock.old used.readings clock.new
+        × Serves settings.now (A.state archive.old) (A.state archive.new) (R.remaining reader.old.inner) (R.remaining reader.new.inner) (W.contents writer.old.inner) (W.contents writer.new.inner) used result }
+    ensures read { IsErrOf result ServeFault.Read → reader.new.faults ≡ counted reader.old.faults }
+    ensures write { IsErrOf result ServeFault.Write → writer.new.faults ≡ counted writer.old.faults }
+    ensures read_kept { (IsErrOf result ServeFault.Read → ⊥) → reader.new.faults ≡ reader.old.faults }
+    ensures write_kept { (IsErrOf result ServeFault.Write → ⊥) → writer.new.faults ≡ writer.old.faults }
+{
+    let mut connection = Connection::new(alloc);
+    serve_on(
+        alloc,
+        settings,
+        archive,
+        &mut connection,
+        reader,
+        writer,
+        clock,
+    )
+}
+
+/// Answers the connection of one client of which these first bytes were read before, as `serve` does.
+fn serve_behind<R: Read, W: Write, C: Clock, A: Archive>(
+    alloc: Global,
+    settings: &Settings,
+    archive: &mut A,
+    first: &[u8],
+    reader: &mut Counted<R>,
+    writer: &mut Counted<W>,
+    clock: &mut C,
+) -> Result<Served, ServeFault>
+    requires some { 0 < length first.now }
+    requires few { length first.now < 8 }
+    ensures serves { (used : Outside) × C.gave clock.old used.readings clock.new
+        × ServesBehind settings.now (A.state archive.old) (A.state archive.new) first.now (R.remaining reader.old.inner) (R.remaining reader.new.inner) (W.contents writer.old.inner) (W.contents writer.new.inner) used result }
+    ensures read { IsErrOf result ServeFault.Read → reader.new.faults ≡ counted reader.old.faults }
+    ensures write { IsErrOf result ServeFault.Write → writer.new.faults ≡ counted writer.old.faults }
+    ensures read_kept { (IsErrOf result ServeFault.Read → ⊥) → reader.new.faults ≡ reader.old.faults }
+    ensures write_kept { (IsErrOf result ServeFault.Write → ⊥) → writer.new.faults ≡ writer.old.faults }
+{
+    let mut connection = Connection::new(alloc);
+    match connection.feed(first) {
+        Ok(()) => {}
+        Err(_) => return send_starved(writer, &mut Vec::new(alloc)),
+    }
+    serve_on(
+        alloc,
+        settings,
+        archive,
+        &mut connection,
+        reader,
+        writer,
+        clock,
+    )
+}
+
+/// Answers the connection of one client of which these first bytes, if any, were read before, as `serve` does.
+pub fn serve_from<R: Read, W: Write, C: Clock, A: Archive>(
+    alloc: Global,
+    settings: &Settings,
+    archive: &mut A,
+    first: &[u8],
+    reader: &mut Counted<R>,
+    writer: &mut Counted<W>,
+    clock: &mut C,
+) -> Result<Served, ServeFault>
+    requires { length first.now < 8 }
+    ensures serves { (used : Outside) × C.gave clock.old used.readings clock.new
+        × ServesBehind settings.now (A.state archive.old) (A.state archive.new) first.now (R.remaining reader.old.inner) (R.remaining reader.new.inner) (W.contents writer.old.inner) (W.contents writer.new.inner) used result }
+    ensures read { IsErrOf result ServeFault.Read → reader.new.faults ≡ counted reader.old.faults }
+    ensures write { IsErrOf result ServeFault.Write → writer.new.faults ≡ counted writer.old.faults }
+    ensures read_kept { (IsErrOf result ServeFault.Read → ⊥) → reader.new.faults ≡ reader.old.faults }
+    ensures write_kept { (IsErrOf result ServeFault.Write → ⊥) → writer.new.faults ≡ writer.old.faults }
+{
+    if first.is_empty() {
+        serve(alloc, settings, archive, reader, writer, clock)
+    } else {
+        serve_behind(alloc, settings, archive, first, reader, writer, clock)
+    }
+}

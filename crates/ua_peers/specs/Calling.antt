@@ -1,0 +1,66 @@
+-- A dialog with a peer that is called.
+use Rattle.std.specs.Prelude.{◌≡◌, ◌⊎◌, ℕ, ◌-◌, List, [], length, true, false, Option, None, Result, Ok, Err, IfOk}
+use Rattle.std.specs.Io.KnownBytes.{Appends, Consumes}
+use Rattle.archive.specs.Store.{Store}
+use Rattle.exchange.specs.declared.fault.ExchangeFault.{ExchangeFault}
+use Rattle.exchange.specs.declared.fault.ExchangeFault.TheVariants.{Frame}
+use Rattle.exchange.specs.declared.message.State.TheVariants.{Pulling}
+use Rattle.exchange.specs.Named.{asking_frame}
+use Rattle.exchange.specs.Dialogs.{Standing, party_of, Greets, capped}
+use Rattle.counted_io.specs.declared.fault.ServeFault.{ServeFault}
+use Rattle.counted_io.specs.declared.fault.ServeFault.TheVariants.{Write}
+use Rattle.ua_peers.specs.declared.peers.Parted.{Parted}
+use Rattle.ua_peers.specs.declared.peers.Parted.TheVariants as parted
+use Rattle.ua_peers.specs.declared.calling.Synced.{Synced}
+use Rattle.ua_peers.specs.declared.calling.SyncFault.{SyncFault}
+use Rattle.ua_peers.specs.declared.calling.SyncFault.TheVariants.{Connection, Exchange, Peer}
+use Rattle.counted_io.specs.Bytes.{AppendsPart}
+use Rattle.ua_peers.specs.Peers.{MeetsTo}
+
+-- the end that begins, once its first frame is written
+abbrev pub calling : Standing
+calling = record { state = Pulling; taken = 0; code = None; started = true; learned = 0; sent = 0 }
+
+-- what the end of the dialog is to the one that called, where its end stands so at last; an input that is over before is a frame that can't be read
+abbrev pub synced_by : Standing → Result Parted ServeFault → Result Synced SyncFault
+synced_by last (Ok parted.EndOfInput) = Err (Exchange Frame)
+synced_by last (Ok parted.Done) = Ok (record { learned = last.learned; sent = last.sent })
+synced_by last (Ok (parted.Refused n)) = Err (Peer n)
+synced_by last (Ok (parted.Failed fault)) = Err (Exchange fault)
+synced_by last (Err fault) = Err (Connection fault)
+
+-- the first frame could not be made: nothing was read or written
+pub record Unasked (old new : Store) (unread left before after : Option (List ℕ)) (result : Result Synced SyncFault) : Type 0 where
+  pub fault : ExchangeFault
+  pub told : result ≡ Err (Exchange fault)
+  pub greets : Greets old new [] [] (Err fault)
+  pub read : Consumes unread left []
+  pub written : Appends before after []
+
+-- it was made, and a first part of it written, and nothing was read
+pub record Unsent (old new : Store) (unread left before after : Option (List ℕ)) (result : Result Synced SyncFault) : Type 0 where
+  pub frame : List ℕ
+  pub told : result ≡ Err (Connection Write)
+  pub greets : Greets old new [] frame (Ok tt)
+  pub read : Consumes unread left []
+  pub written : AppendsPart before after frame
+
+-- it was written, and the dialog went on behind it
+pub record Asked (old new : Store) (unread left before after : Option (List ℕ)) (result : Result Synced SyncFault) : Type 0 where
+  pub frame : List ℕ
+  pub is : new.honest → frame ≡ asking_frame (party_of old) old.content
+  pub between : Option (List ℕ)
+  pub written : Appends before between frame
+  pub ending : Result Parted ServeFault
+  pub last : Standing
+  pub told : result ≡ synced_by last ending
+  pub meets : MeetsTo calling old new [] unread left between after ending last
+
+-- a peer was called so
+abbrev pub Syncs : Store → Store → Option (List ℕ) → Option (List ℕ) → Option (List ℕ) → Option (List ℕ) → Result Synced SyncFault → Type 0
+Syncs old new unread left before after result =
+    Unasked old new unread left before after result ⊎ (Unsent old new unread left before after result ⊎ Asked old new unread left before after result)
+
+-- a call that came to its end told how many records more are held
+abbrev pub Adds : Store → Store → Result Synced SyncFault → Type 0
+Adds old new result = new.honest → old.broken ≡ false → IfOk result (λ synced. synced.learned ≡ capped (length new.content - length old.content))

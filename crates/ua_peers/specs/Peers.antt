@@ -1,0 +1,172 @@
+-- A dialog with a peer over a connection: which frames came, what an end made of them, and what went out.
+use Rattle.std.specs.Prelude.{◌≡◌, ◌⊎◌, ⊤, ℕ, ◌==◌, Bool, true, false, not, List, [], ◌∷◌, ◌++◌, map, length, Option, None, Some, unwrap_or, Result, Ok, Err, option_to_list}
+use Rattle.std.specs.List.{AllByRecursion, flat_map}
+use Rattle.std.specs.Io.KnownBytes.{Appends, Consumes, IsAtEnd}
+use Rattle.records.specs.Lists.{Has}
+use Rattle.records.specs.Contents.{Content, Adds, finding, put}
+use Rattle.records.specs.declared.record.Record.{Record}
+use Rattle.archive.specs.declared.fault.StoreFault.{StoreFault}
+use Rattle.archive.specs.Store.{Store, Passes}
+use Rattle.exchange.specs.declared.fault.ExchangeFault.{ExchangeFault}
+use Rattle.exchange.specs.declared.fault.ExchangeFault.TheVariants as exchange
+use Rattle.exchange.specs.declared.message.State.{State}
+use Rattle.exchange.specs.declared.message.State.TheVariants.{Done, Failed}
+use Rattle.exchange.specs.Named.{Party, end_frame}
+use Rattle.exchange.specs.Frames.{cut}
+use Rattle.exchange.specs.Streams.{Piece, AreFrames}
+use Rattle.exchange.specs.Dialogs.{Turn, Way, IsWay, Standing, fault_on, is_over, received, records_read, answered, standing_after, party_of, IsHeld, Writes, TellsFault}
+use Rattle.counted_io.specs.declared.fault.ServeFault.{ServeFault}
+use Rattle.counted_io.specs.declared.fault.ServeFault.TheVariants.{Read, Write, OutOfMemory}
+use Rattle.ua_peers.specs.declared.peers.Parted.{Parted}
+use Rattle.ua_peers.specs.declared.peers.Parted.TheVariants as parted
+
+-- ---- frames
+
+-- a frame that an end took, what came in its way, what was told of it, and the bytes that were written for it
+pub record Taken : Type 0 where
+  pub frame : Piece
+  pub way : Way
+  pub result : Result State ExchangeFault
+  pub said : List ℕ
+
+-- an end of a dialog, and what its archive holds
+pub record Side : Type 0 where
+  pub standing : Standing
+  pub content : Content
+
+abbrev pub side_of : Standing → Content → Side
+side_of standing R = record { standing = standing; content = R }
+
+-- what the side makes of the frame
+abbrev pub turn_of : Party → Side → Taken → Turn
+turn_of p side t = answered p side.standing side.content t.way t.frame.kind t.frame.body
+
+-- the side behind the frame
+abbrev pub after : Party → Side → Taken → Side
+after p side t = record { standing = standing_after side.standing side.content t.frame.kind (turn_of p side t); content = (turn_of p side t).content }
+
+abbrev pub after_all : Party → Side → List Taken → Side
+after_all p side [] = side
+after_all p side (t ∷ later) = after_all p (after p side t) later
+
+-- what came in the way of each of them is what can come there, and what was told and written for it is what the side makes of it, as the ones before it left it
+abbrev pub AreAnswered : Party → Side → List Taken → Type 0
+AreAnswered p side [] = ⊤
+AreAnswered p side (t ∷ later) =
+    (IsWay (records_read (received p side.standing t.frame.kind t.frame.body)) t.way × Writes (turn_of p side t) t.result [] t.said) × AreAnswered p (after p side t) later
+
+-- the records that came in them
+abbrev pub records_of : Party → Side → List Taken → List Record
+records_of p side [] = []
+records_of p side (t ∷ later) = records_read (received p side.standing t.frame.kind t.frame.body) ++ records_of p (after p side t) later
+
+-- this content, or it with one of these records more, which may be added to it
+abbrev pub HasAtMostOneMore : Content → List Record → Content → Type 0
+HasAtMostOneMore R rs left = (left ≡ R) ⊎ ((r : Record) × Has rs r × (finding R r ≡ Adds) × (left ≡ put r R))
+
+abbrev pub faults_met : List Taken → List StoreFault
+faults_met taken = flat_map (λ t. option_to_list (fault_on t.way)) taken
+
+-- ---- ends
+
+-- the dialog goes on behind it
+abbrev pub is_open : Result State ExchangeFault → Bool
+is_open (Ok state) = not (is_over state)
+is_open (Err fault) = false
+
+abbrev pub AreOpen : List Taken → Type 0
+AreOpen taken = AllByRecursion (λ t. is_open t.result ≡ true) taken
+
+-- a fault is told to the peer, or memory for that was wanting, and nothing was written
+abbrev pub failed_as : (silent : Bool) → ExchangeFault → Result Parted ServeFault
+failed_as true fault = Err OutOfMemory
+failed_as false fault = Ok (parted.Failed fault)
+
+-- the end that this is, if it is one, where the peer ended the dialog by this number
+abbrev pub ended_as : Option ℕ → (silent : Bool) → Result State ExchangeFault → Option (Result Parted ServeFault)
+ended_as code silent (Ok Done) = Some (Ok parted.Done)
+ended_as code silent (Ok Failed) = Some (Ok (parted.Refused (unwrap_or code 0)))
+ended_as code silent (Ok state) = None
+ended_as code silent (Err fault) = Some (failed_as silent fault)
+
+abbrev pub is_silent : List ℕ → Bool
+is_silent said = length said == 0
+
+-- the last frame ended the dialog
+pub record EndsByFrame (taken : List Taken) (code : Option ℕ) (ending : Result Parted ServeFault) : Type 0 where
+  pub before : List Taken
+  pub last : Taken
+  pub all : taken ≡ before ++ (last ∷ [])
+  pub goes : AreOpen before
+  pub ends : ended_as code (is_silent last.said) last.result ≡ Some ending
+
+-- what came behind the frames is none
+pub record EndsByBytes (taken : List Taken) (code : Option ℕ) (rest beside : List ℕ) (ending : Result Parted ServeFault) : Type 0 where
+  pub goes : AreOpen taken
+  pub ill : cut rest ≡ Err exchange.Frame
+  pub fault : ExchangeFault
+  pub told : TellsFault exchange.Frame (Err fault) [] beside
+  pub ends : failed_as (is_silent beside) fault ≡ ending
+
+-- memory for what came was wanting
+pub record EndsByWant (taken : List Taken) (beside : List ℕ) (ending : Result Parted ServeFault) : Type 0 where
+  pub goes : AreOpen taken
+  pub told : beside ≡ end_frame 4
+  pub ends : ending ≡ Ok (parted.Failed exchange.OutOfMemory)
+
+-- the dialog is open, or it ended so; beside is what was written behind the answers to the frames
+abbrev pub IsEnd : List Taken → Option ℕ → List ℕ → List ℕ → Option (Result Parted ServeFault) → Type 0
+IsEnd taken code rest beside None = AreOpen taken × (beside ≡ [])
+IsEnd taken code rest beside (Some ending) = (EndsByFrame taken code ending × (beside ≡ [])) ⊎ (EndsByBytes taken code rest beside ending ⊎ EndsByWant taken beside ending)
+
+-- ---- dialogs
+
+-- the bytes that came are frames and this rest; this was written for them, the dialog is open or ended so, and the end stands so then
+pub record Talks (start : Standing) (old new : Store) (came out rest : List ℕ) (ending : Option (Result Parted ServeFault)) (last : Standing) : Type 0 where
+  pub taken : List Taken
+  pub beside : List ℕ
+  pub frames : AreFrames came (map (λ t. t.frame) taken) rest
+  pub wrote : out ≡ flat_map (λ t. t.said) taken ++ beside
+  pub ends : IsEnd taken last.code rest beside ending
+  pub passes : Passes old new (faults_met taken)
+  -- over a store that is honest; over a broken one it is so whatever it held, since no answer tells what nobody knows
+  pub answered : new.honest → (R : Content) → IsHeld old R → AreAnswered (party_of old) (side_of start R) taken
+  pub stands : new.honest → (R : Content) → IsHeld old R → last ≡ (after_all (party_of old) (side_of start R) taken).standing
+  pub content : new.honest → (R : Content) → IsHeld old R → IsHeld new (after_all (party_of old) (side_of start R) taken).content
+  -- while it goes on the store stays in use
+  pub used : new.honest → old.broken ≡ false → ending ≡ None → new.broken ≡ false
+  -- a crash leaves what is held then, or that with one record more; where nothing was added, what it could leave before
+  pub crash : new.honest → (R : Content) → IsHeld old R → (left : Content) → new.may_hold left
+      → (old.may_hold left × (old.broken ≡ false → (after_all (party_of old) (side_of start R) taken).content ≡ R))
+      ⊎ ((old.broken ≡ false) × HasAtMostOneMore (after_all (party_of old) (side_of start R) taken).content (records_of (party_of old) (side_of start R) taken) left)
+
+-- the dialog is open, and no whole frame is left
+abbrev pub Waits : Standing → Store → Store → List ℕ → List ℕ → Standing → Type 0
+Waits start old new came out last = (rest : List ℕ) × (cut rest ≡ Ok None) × Talks start old new came out rest None last
+
+-- This went out for the bytes that came. At the end of the input, and where a read failed, each frame that came was answered. Where a write failed, it
+-- is a first part of what was to be written. The end stands so then.
+abbrev pub Speaks : Standing → Store → Store → List ℕ → List ℕ → Result Parted ServeFault → Standing → Type 0
+Speaks start old new came out (Ok parted.EndOfInput) last = Waits start old new came out last
+Speaks start old new came out (Err Read) last = Waits start old new came out last
+Speaks start old new came out (Err Write) last = (unsent rest : List ℕ) × (ending : Option (Result Parted ServeFault)) × Talks start old new came (out ++ unsent) rest ending last
+Speaks start old new came out ending last = (rest : List ℕ) × Talks start old new came out rest (Some ending) last
+
+-- an end stood so at the start and so at last, and a dialog over a connection, of which these first bytes were read before, ended so
+pub record MeetsTo (start : Standing) (old new : Store) (first : List ℕ) (unread left : Option (List ℕ)) (before after : Option (List ℕ)) (ending : Result Parted ServeFault) (last : Standing) : Type 0 where
+  pub came : List ℕ
+  pub out : List ℕ
+  pub read : Consumes unread left came
+  pub over : ending ≡ Ok parted.EndOfInput → IsAtEnd left
+  pub written : Appends before after out
+  pub speaks : Speaks start old new (first ++ came) out ending last
+
+abbrev pub MeetsBehind : Standing → (old new : Store) → List ℕ → (unread left before after : Option (List ℕ)) → Result Parted ServeFault → Type 0
+MeetsBehind start old new first unread left before after ending = (last : Standing) × MeetsTo start old new first unread left before after ending last
+
+abbrev pub Meets : Standing → (old new : Store) → (unread left before after : Option (List ℕ)) → Result Parted ServeFault → Type 0
+Meets start old new unread left before after ending = MeetsBehind start old new [] unread left before after ending
+
+-- before the first frame of the end that answers
+abbrev pub responding : Standing
+responding = record { state = Rattle.exchange.specs.declared.message.State.TheVariants.Serving; taken = 0; code = None; started = true; learned = 0; sent = 0 }
