@@ -16,20 +16,18 @@ use Rattle.archive.specs.Store.{Store, IsSettled, HasContent}
 use Rattle.hist_read.specs.declared.query.Query.{Query}
 use Rattle.exchange.specs.Dialogs.{party_of, IsHeld}
 use Rattle.exchange.specs.Meetings.{CanMeet}
-use Rattle.exchange.specs.Running.{AreSites}
+use Rattle.exchange.specs.Running.{AreSites, IsSiteOf}
 use Rattle.exchange.specs.Worlds as worlds
-use Rattle.exchange.specs.Worlds.{Site, World, Event, Operates, Sends, Delivers, IsSite, IsSound, IsUpdated, step, run}
+use Rattle.exchange.specs.Worlds.{Site, World, Event, Operates, Sends, Delivers, IsSite, IsSound, IsUpdated, AreUpdates, step, run}
 use Rattle.exchange.proofs.WorldLemmas.{get-set_same, get-set_other}
 use Rattle.exchange.proofs.HappenLemmas.{site_there, sites_set, set_same}
 use Rattle.exchange.proofs.ConverseLemmas.{IsParty}
-use Rattle.historian.specs.Services.{site_of}
-use Rattle.ua_connection.specs.Client.{new_client}
-use Rattle.ua_peers.specs.Events.{AreUpdates, IsExchange, AreExchanges}
+use Rattle.ua_peers.specs.Events.{IsExchange, AreExchanges}
 use Rattle.ua_server.proofs.Updated.{updates_made}
 use Rattle.ua_peers.proofs.Exchanged.{run_append, exchanged, ends_kept}
 use Rattle.headline.specs.Pasts.{IsLawfulEvent, Past, IsPast, world_at, IsAt, Was, HaveLearnedSame}
 use Rattle.headline.specs.Answers.{IsReplicaOf, IsAnswered, IsFree}
-use Rattle.headline.specs.Machines.{IsInUse, IsMachine, AreInUse, AreNew, AreOf, GoOn, Serves, Meet, Restarts}
+use Rattle.headline.specs.Machines.{IsInUse, GoesOnAs, IsMachine, AreInUse, AreNew, AreOf, GoOn, Serves, Meet, Restarts}
 use Rattle.headline.proofs.Times.{sound_at, replica_at, learned_even}
 use Rattle.headline.proofs.Alike.{answered_alike}
 
@@ -152,23 +150,29 @@ module _ {A : Type 0} (state : A → Store) where
     },
   )
 
+  -- a machine that goes on holds what its replica does
+  goes_as : (left later : Store) (s : Site) → GoesOnAs left later → left.id ≡ s.id → left.own ≡ s.number → IsSiteOf later (record s { content = later.content })
+  goes_as left later s goes id own = record { id = goes.id ∙ id; number = goes.own ∙ own; content = held_by later later.content goes.used (λ u. refl) }
+
+  lawful_later : (a : Store) → IsInUse a → (r : Record) → Has a.content r → IsLawfulRecord r
+  lawful_later a used r h = (settled a used).lawful.records r h
+
   pub served : (p : Past) (old new : List A) → AreOf state p old → Serves state old new → GoOn state p new
   served p old new are serves =
       let w = run p.events p.start in
       let site = site_there state old w.sites serves.place serves.before are.hold serves.there in
       let s = site.0 in
-      let moved = serves.serves.served.acts serves.used.honest s.content site.2.content in
-      let last = moved.1.0 in
-      let there : HasContent (state serves.later) last.content = subst (HasContent (state serves.later)) (sym moved.1.1) moved.2 in
-      let made = updates_made (site_of serves.settings (state serves.before)) (record { client = new_client; content = s.content }) last (serves.first ++ serves.serves.came) serves.given serves.serves.out serves.ending w serves.place s serves.ids
-      moved.1.2 (lawful_in (state serves.later) last.content serves.used there) site.1 (sym site.2.number) refl in
+      let used = all_there (λ a. IsInUse (state a)) old serves.place serves.before are.used serves.there in
+      let made = updates_made serves.settings (state serves.before) (state serves.behind) serves.first serves.unread serves.left serves.written serves.after serves.given serves.ending serves.serves used.rests used.whole serves.honest
+      w serves.place s (state serves.later).content serves.goes.content (lawful_later (state serves.later) serves.goes.used) site.1 (sym site.2.number) (sym (site.2.content.content used.whole)) in
       let v = run made.0 w in
-      let sites : v.sites ≡ slice_set w.sites serves.place (record s { content = last.content }) = set_by w.sites v.sites serves.place s (record s { content = last.content }) site.1 made.2.here made.2.others in
+      let t : Site = record s { content = (state serves.later).content } in
+      let sites : v.sites ≡ slice_set w.sites serves.place t = set_by w.sites v.sites serves.place s t site.1 made.2.here made.2.others in
       let passes = serves.serves.served.passes in
-      let hold : AreSites state (slice_set old serves.place serves.later) (slice_set w.sites serves.place (record s { content = last.content })) =
-      sites_set state old w.sites serves.place serves.later (record s { content = last.content }) are.hold (record { id = passes.id ∙ site.2.id; number = passes.own ∙ site.2.number; content = there }) in
+      let hold : AreSites state (slice_set old serves.place serves.later) (slice_set w.sites serves.place t) =
+      sites_set state old w.sites serves.place serves.later t are.hold (goes_as (state serves.behind) (state serves.later) s serves.goes (passes.id ∙ site.2.id) (passes.own ∙ site.2.number)) in
       subst (GoOn state p) (sym serves.now)
-      (goes_on p (slice_set old serves.place serves.later) made.0 are.past (all_set (λ a. IsInUse (state a)) old serves.place serves.later are.used serves.used) (updates_lawful serves.place made.0 made.1)
+      (goes_on p (slice_set old serves.place serves.later) made.0 are.past (all_set (λ a. IsInUse (state a)) old serves.place serves.later are.used serves.goes.used) (updates_lawful serves.place made.0 made.1)
       (subst (AreSites state (slice_set old serves.place serves.later)) (sym sites) hold))
 
   -- two machines of a past may meet
@@ -204,41 +208,42 @@ module _ {A : Type 0} (state : A → Store) where
       let used = all_there (λ a. IsInUse (state a)) old meet.caller meet.before are.used meet.there in
       let used' = all_there (λ a. IsInUse (state a)) old meet.peer meet.peer_before are.used meet.peer_there in
       let can = may_meet p old meet.caller meet.peer meet.before meet.peer_before are meet.apart meet.there meet.peer_there in
-      let traded = exchanged (state meet.before) (state meet.later) (state meet.peer_before) (state meet.peer_later) w meet.caller meet.peer x.0 y.0 can.1 can.2 can.0 meet.used.honest meet.peer_used.honest meet.ends meet.apart
-      x.1 (sym (x.2.content.content used.whole)) y.1 (sym (y.2.content.content used'.whole)) in
-      let events = traded.4.0 in
-      let to = traded.4.2 in
+      let A' = (state meet.later).content in
+      let B' = (state meet.peer_later).content in
+      let traded = exchanged (state meet.before) (state meet.behind) (state meet.peer_before) (state meet.peer_behind) w meet.caller meet.peer x.0 y.0 A' B' can.1 can.2 can.0 meet.honest.0 meet.honest.1 meet.ends meet.goes.content meet.peer_goes.content
+      meet.apart x.1 (sym (x.2.content.content used.whole)) y.1 (sym (y.2.content.content used'.whole)) in
+      let events = traded.0 in
+      let to = traded.2 in
       let v = run events w in
-      let s : Site = record x.0 { content = traded.0 } in
-      let t : Site = record y.0 { content = traded.1 } in
+      let s : Site = record x.0 { content = A' } in
+      let t : Site = record y.0 { content = B' } in
       let one = slice_set w.sites meet.caller s in
-      let kept = ends_kept (state meet.before) (state meet.later) (state meet.peer_before) (state meet.peer_later) meet.ends in
+      let kept = ends_kept (state meet.before) (state meet.behind) (state meet.peer_before) (state meet.peer_behind) meet.ends in
       let sites : v.sites ≡ slice_set one meet.peer t =
       set_by one v.sites meet.peer y.0 t (get-set_other w.sites meet.caller meet.peer s (λ e. meet.apart (sym e)) ∙ y.1) to.there
       (λ j other. elim (cases_eq j meet.caller) [
         | inl e ↦ ap (slice_get v.sites) e ∙ (to.here ∙ (sym (get-set_same w.sites meet.caller s x.0 x.1) ∙ ap (slice_get one) (sym e)))
         | inr there ↦ to.others j there other ∙ sym (get-set_other w.sites meet.caller j s there)
       ]) in
-      let half = sites_set state old w.sites meet.caller meet.later s are.hold
-      (record { id = kept.0 ∙ x.2.id; number = kept.1 ∙ x.2.number; content = held_by (state meet.later) traded.0 meet.used traded.2 }) in
-      let hold = sites_set state (slice_set old meet.caller meet.later) one meet.peer meet.peer_later t half
-      (record { id = kept.2 ∙ y.2.id; number = kept.3 ∙ y.2.number; content = held_by (state meet.peer_later) traded.1 meet.peer_used traded.3 }) in
+      let half = sites_set state old w.sites meet.caller meet.later s are.hold (goes_as (state meet.behind) (state meet.later) x.0 meet.goes (kept.0 ∙ x.2.id) (kept.1 ∙ x.2.number)) in
+      let hold = sites_set state (slice_set old meet.caller meet.later) one meet.peer meet.peer_later t half (goes_as (state meet.peer_behind) (state meet.peer_later) y.0 meet.peer_goes (kept.2 ∙ y.2.id) (kept.3 ∙ y.2.number)) in
       let machines = slice_set (slice_set old meet.caller meet.later) meet.peer meet.peer_later in
       subst (GoOn state p) (sym meet.now)
       (goes_on p machines events are.past
-      (all_set (λ a. IsInUse (state a)) (slice_set old meet.caller meet.later) meet.peer meet.peer_later (all_set (λ a. IsInUse (state a)) old meet.caller meet.later are.used meet.used) meet.peer_used)
-      (exchanges_lawful meet.caller meet.peer events traded.4.1) (subst (AreSites state machines) (sym sites) hold))
+      (all_set (λ a. IsInUse (state a)) (slice_set old meet.caller meet.later) meet.peer meet.peer_later (all_set (λ a. IsInUse (state a)) old meet.caller meet.later are.used meet.goes.used) meet.peer_goes.used)
+      (exchanges_lawful meet.caller meet.peer events traded.1) (subst (AreSites state machines) (sym sites) hold))
 
   pub restarted : (p : Past) (old new : List A) → AreOf state p old → Restarts state old new → GoOn state p new
   restarted p old new are restarts =
       let w = run p.events p.start in
       let x = site_there state old w.sites restarts.place restarts.before are.hold restarts.there in
       let used = all_there (λ a. IsInUse (state a)) old restarts.place restarts.before are.used restarts.there in
-      let content : (state restarts.later).content ≡ x.0.content = (settled (state restarts.before) used).only (state restarts.later).content restarts.found ∙ x.2.content.content used.whole in
+      let left : (state restarts.later).content ≡ (state restarts.before).content = elim restarts.goes.content [ inl is ↦ sym is.1 | inr found ↦ (settled (state restarts.before) used).only (state restarts.later).content found ] in
+      let content : (state restarts.later).content ≡ x.0.content = left ∙ x.2.content.content used.whole in
       let hold = sites_set state old w.sites restarts.place restarts.later x.0 are.hold
-      (record { id = restarts.id ∙ x.2.id; number = restarts.own ∙ x.2.number; content = held_by (state restarts.later) x.0.content restarts.used (λ u. content) }) in
+      (record { id = restarts.goes.id ∙ x.2.id; number = restarts.goes.own ∙ x.2.number; content = held_by (state restarts.later) x.0.content restarts.goes.used (λ u. content) }) in
       subst (GoOn state p) (sym restarts.now)
-      (goes_on p (slice_set old restarts.place restarts.later) (worlds.Restarts restarts.place ∷ []) are.past (all_set (λ a. IsInUse (state a)) old restarts.place restarts.later are.used restarts.used) (tt, tt)
+      (goes_on p (slice_set old restarts.place restarts.later) (worlds.Restarts restarts.place ∷ []) are.past (all_set (λ a. IsInUse (state a)) old restarts.place restarts.later are.used restarts.goes.used) (tt, tt)
       (subst (AreSites state (slice_set old restarts.place restarts.later)) (set_same w.sites restarts.place x.0 x.1) hold))
 
   -- ---- what that says of them

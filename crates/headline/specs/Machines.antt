@@ -2,7 +2,6 @@
 use Rattle.std.specs.Prelude.{◌≡◌, ℕ, false, List, [], ◌++◌, length, slice_get, slice_set, Option, Some}
 use Rattle.std.specs.List.{AllByRecursion}
 use Rattle.stamp.specs.Limits.{IsReplica}
-use Rattle.ua_space.specs.Space.{HasShortId}
 use Rattle.ua_settings.specs.Settings.{Values}
 use Rattle.archive.specs.Store.{Store, Rests}
 use Rattle.exchange.specs.Worlds.{Event, run}
@@ -10,7 +9,7 @@ use Rattle.exchange.specs.Running.{AreSites}
 use Rattle.ua_connection.specs.Given.{Outside}
 use Rattle.ua_connection.specs.Client.{Ending}
 use Rattle.ua_connection.specs.Serving.{ServesBehind}
-use Rattle.ua_peers.specs.Events.{AreEnds}
+use Rattle.ua_peers.specs.Events.{IsLeft, AreEnds}
 use Rattle.headline.specs.Pasts.{Past, IsPast}
 
 -- its store returned what was written to it, and isn't broken, and so what it holds is what an opening finds
@@ -18,6 +17,13 @@ pub record IsInUse (a : Store) : Type 0 where
   pub honest : a.honest
   pub whole : a.broken ≡ false
   pub rests : Rests a
+
+-- what it goes on as: as it is, or its store was opened anew, since it broke, or the machine was stopped; it is the same replica, and holds what it is left with
+pub record GoesOnAs (left later : Store) : Type 0 where
+  pub id : later.id ≡ left.id
+  pub own : later.own ≡ left.own
+  pub content : IsLeft left later.content
+  pub used : IsInUse later
 
 -- another past that goes on behind this one
 abbrev pub GoesOn : Past → Past → Type 0
@@ -50,15 +56,15 @@ module _ {A : Type 0} (state : A → Store) where
 
   -- ---- what is done to them
 
-  -- one served a client, whatever that sent and however its connection ended, and is in use then
+  -- one served a client, whatever that sent and however its connection ended, also by a break of the store in its midst
   pub record Serves (old new : List A) : Type 0 where
     pub place : ℕ
     pub before : A
+    pub behind : A
     pub later : A
     pub there : IsMachine old place before
     pub now : new ≡ slice_set old place later
     pub settings : Values
-    pub ids : AllByRecursion HasShortId settings.space.variables
     pub first : List ℕ
     pub unread : Option (List ℕ)
     pub left : Option (List ℕ)
@@ -66,33 +72,34 @@ module _ {A : Type 0} (state : A → Store) where
     pub after : Option (List ℕ)
     pub given : Outside
     pub ending : Ending
-    pub serves : ServesBehind settings (state before) (state later) first unread left written after given ending
-    pub used : IsInUse (state later)
+    pub serves : ServesBehind settings (state before) (state behind) first unread left written after given ending
+    pub honest : (state behind).honest
+    pub goes : GoesOnAs (state behind) (state later)
 
-  -- one called another over a network, and both are in use then, however the call ended at either
+  -- one called another over a network, however the call ended at either, also by a break of a store in its midst
   pub record Meet (old new : List A) : Type 0 where
     pub caller : ℕ
     pub peer : ℕ
     pub apart : caller ≡ peer → ⊥
     pub before : A
+    pub behind : A
     pub later : A
     pub peer_before : A
+    pub peer_behind : A
     pub peer_later : A
     pub there : IsMachine old caller before
     pub peer_there : IsMachine old peer peer_before
     pub now : new ≡ slice_set (slice_set old caller later) peer peer_later
-    pub ends : AreEnds (state before) (state later) (state peer_before) (state peer_later)
-    pub used : IsInUse (state later)
-    pub peer_used : IsInUse (state peer_later)
+    pub ends : AreEnds (state before) (state behind) (state peer_before) (state peer_behind)
+    pub honest : (state behind).honest × (state peer_behind).honest
+    pub goes : GoesOnAs (state behind) (state later)
+    pub peer_goes : GoesOnAs (state peer_behind) (state peer_later)
 
-  -- one stopped, and its store was opened anew: it holds what an opening may find
+  -- one was stopped between its connections, and its store was opened anew
   pub record Restarts (old new : List A) : Type 0 where
     pub place : ℕ
     pub before : A
     pub later : A
     pub there : IsMachine old place before
     pub now : new ≡ slice_set old place later
-    pub id : (state later).id ≡ (state before).id
-    pub own : (state later).own ≡ (state before).own
-    pub found : (state before).may_hold (state later).content
-    pub used : IsInUse (state later)
+    pub goes : GoesOnAs (state before) (state later)

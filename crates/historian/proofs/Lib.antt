@@ -4,4 +4,3 @@ pub mod Values
 pub mod Items
 pub mod Variables
 pub mod Updates
-pub mod Leaving

@@ -7,10 +7,14 @@ use Rattle.std.proofs.lemmas.Bool.{true≢false}
 use Rattle.std.proofs.lemmas.List.{append-nil}
 use Rattle.stamp.specs.Numbers.{number_of}
 use Rattle.records.specs.Records.{missing}
-use Rattle.records.specs.Contents.{Content, merged}
+use Rattle.records.specs.Lists.{Has}
+use Rattle.records.specs.Contents.{Content, merged, put, finding, Adds, IsClosed}
+use Rattle.records.proofs.ContentLemmas.{has_from_append}
+use Rattle.records.proofs.PutLemmas.{has-put}
+use Rattle.records.proofs.LearnLemmas.{has-merged, next_found, closed-next}
 use Rattle.records.specs.declared.record.Record.{Record}
 use Rattle.archive.specs.declared.fault.LearnFault.TheVariants as refused
-use Rattle.archive.specs.Store.{Store, IsLawfulContent}
+use Rattle.archive.specs.Store.{Store, Rests, IsLawfulContent}
 use Rattle.exchange.specs.declared.fault.ExchangeFault.{ExchangeFault}
 use Rattle.exchange.specs.declared.fault.ExchangeFault.TheVariants as exchange
 use Rattle.exchange.specs.declared.message.Message.TheVariants.{Asks, Carries, Ends}
@@ -28,6 +32,7 @@ use Rattle.exchange.specs.Worlds.{Site, World, Event, Sends, Delivers, IsSite, s
 use Rattle.exchange.proofs.FrameLemmas.{read_own}
 use Rattle.exchange.proofs.TitleLemmas.{batch_is}
 use Rattle.exchange.proofs.WorldLemmas.{get_last}
+use Rattle.exchange.proofs.OneMore.{all_but, merged_one}
 use Rattle.exchange.proofs.LeftLemmas.{merged_none, answered_left}
 use Rattle.exchange.proofs.DialogLemmas.{batch_has, between_first, between_merged}
 use Rattle.exchange.proofs.ConverseLemmas.{IsParty, title_spelled, carries_spelled, check_title}
@@ -37,8 +42,8 @@ use Rattle.ua_peers.specs.declared.peers.Parted.{Parted}
 use Rattle.ua_peers.specs.declared.peers.Parted.TheVariants as parted
 use Rattle.ua_peers.specs.Wires.{IsFirstPart}
 use Rattle.ua_peers.specs.Calling.{calling}
-use Rattle.ua_peers.specs.Peers.{Taken, Side, side_of, turn_of, after, after_all, AreAnswered, is_open, responding, Talks, Speaks}
-use Rattle.ua_peers.specs.Events.{AreExchanges, AreUpdated, AreEnds}
+use Rattle.ua_peers.specs.Peers.{Taken, Side, side_of, turn_of, after, after_all, AreAnswered, records_of, HasAtMostOneMore, is_open, responding, Talks, Speaks}
+use Rattle.ua_peers.specs.Events.{AreExchanges, AreUpdated, IsLeft, AreEnds}
 use Rattle.ua_peers.proofs.Delivered.{delivered_here}
 use Rattle.ua_peers.proofs.Joined.{first_frame, no_frame, numbered, got_by, IsLastWord, GoesOn, goes_by}
 
@@ -147,21 +152,33 @@ left_by p side t rs e =
 kept_by : (p : Party) (side : Side) (t : Taken) → records_read (received p side.standing t.frame.kind t.frame.body) ≡ [] → (after p side t).content ≡ side.content
 kept_by p side t e = let left = left_by p side t [] e in left.1 ∙ merged_none left.0 side.content
 
--- an end that is told nothing more, or a fault, holds what it held
-idle : (p : Party) (side : Side) (ts : List Taken) (word came rest later : List ℕ) → IsLastWord word → AreFrames came (map (λ t. t.frame) ts) rest → word ≡ came ++ later → (after_all p side ts).content ≡ side.content
-idle p side [] word came rest later is frames out = refl
+-- what is held stays held
+held_on : (p : Party) (side : Side) (ts : List Taken) (r : Record) → Has side.content r → Has (after_all p side ts).content r
+held_on p side [] r h = h
+held_on p side (t ∷ ts) r h =
+    let left = left_by p side t (records_read (received p side.standing t.frame.kind t.frame.body)) refl in
+    held_on p (after p side t) ts r (subst (λ (R : Content). Has R r) (sym left.1) (has-merged (take left.0 (records_read (received p side.standing t.frame.kind t.frame.body))) side.content r h))
+
+-- behind a frame and others the end holds what it held, and no record came to it
+abbrev Idles : Party → Side → Taken → List Taken → Type 0
+Idles p side t us = ((after_all p (after p side t) us).content ≡ side.content) × (records_read (received p side.standing t.frame.kind t.frame.body) ++ records_of p (after p side t) us ≡ [])
+
+-- an end that is told nothing more, or a fault, holds what it held, and no record came to it
+idle : (p : Party) (side : Side) (ts : List Taken) (word came rest later : List ℕ) → IsLastWord word → AreFrames came (map (λ t. t.frame) ts) rest → word ≡ came ++ later
+    → ((after_all p side ts).content ≡ side.content) × (records_of p side ts ≡ [])
+idle p side [] word came rest later is frames out = (refl, refl)
 idle p side (t ∷ ts) word came rest later (inl none) frames out = absurd (no_frame t.frame (map (λ t. t.frame) ts) came rest later frames (sym none ∙ out))
 idle p side (t ∷ ts) word came rest later (inr told) frames out = go ts frames
   where
-    go : (us : List Taken) → AreFrames came (t.frame ∷ map (λ t. t.frame) us) rest → (after_all p (after p side t) us).content ≡ side.content
+    go : (us : List Taken) → AreFrames came (t.frame ∷ map (λ t. t.frame) us) rest → Idles p side t us
     go us frames =
         let f = first_frame (Ends (suc told.0)) t.frame (map (λ t. t.frame) us) came rest later [] told.1 frames (append-nil (end_frame (suc told.0)) ∙ (sym told.2 ∙ out)) in
         let none : records_read (received p side.standing t.frame.kind t.frame.body) ≡ [] = elim (took p side t (Ends (suc told.0)) f.0 f.1 told.1 tt) [ inl e ↦ e | inr e ↦ e ] in
-        behind us f.2 f.3 f.4 (kept_by p side t none)
+        behind us f.2 f.3 f.4 none
       where
-        behind : (us : List Taken) (came' : List ℕ) → AreFrames came' (map (λ t. t.frame) us) rest → [] ≡ came' ++ later → (after p side t).content ≡ side.content → (after_all p (after p side t) us).content ≡ side.content
-        behind [] came' frames' out' kept = kept
-        behind (u ∷ us) came' frames' out' kept = absurd (no_frame u.frame (map (λ t. t.frame) us) came' rest later frames' out')
+        behind : (us : List Taken) (came' : List ℕ) → AreFrames came' (map (λ t. t.frame) us) rest → [] ≡ came' ++ later → records_read (received p side.standing t.frame.kind t.frame.body) ≡ [] → Idles p side t us
+        behind [] came' frames' out' none = (kept_by p side t none, ap (λ (l : List Record). l ++ []) none)
+        behind (u ∷ us) came' frames' out' none = absurd (no_frame u.frame (map (λ t. t.frame) us) came' rest later frames' out')
 
 -- ---- in the world
 
@@ -265,23 +282,44 @@ on_way p A x xs beside goes (inr told) = inr told
 on_way p A x xs beside (inl on) (inl none) = absurd (true≢false (sym on.0 ∙ none.1))
 on_way p A x xs beside (inr last) (inl none) = inl (none.0, last.0, last.1)
 
+-- a record of a frame is held by the end that sent it
+from_held : (p : Party) (A : Content) (m : Message) (r : Record) → IsFrom p A m → Has (records_in m) r → Has A r
+from_held p A (Asks t) r is h = absurd h
+from_held p A (Carries t rs) r is h = batch_has A is.1 rs r is.2 h
+from_held p A (Ends n) r is h = absurd h
+
+-- what two ends leave: sends and deliveries do the same, each holds its own and some of the other's, and knows all that it sent
+record Traded (w : World) (i j : ℕ) (s t : Site) (p q : Party) (R S : Content) (a b : Side) (xs ys : List Taken) : Type 0 where
+  trades : Trades w i j s t (after_all p a xs).content (after_all q b ys).content
+  one : IsBetween R S (after_all p a xs).content
+  other : IsBetween S R (after_all q b ys).content
+  knows : (r : Record) → Has (records_of p a xs) r → Has (after_all q b ys).content r
+  known : (r : Record) → Has (records_of q b ys) r → Has (after_all p a xs).content r
+
 -- one end takes what is on its way, and then the other what it said; each frame is less to come
 trade : (n : ℕ) (p q : Party) (R S : Content) (w : World) (i j : ℕ) (s t : Site) (a b : Side) (xs ys : List Taken) (word came rest later came' rest' later' beside beside' : List ℕ) → p.id ≡ q.id → (p.own ≡ q.own → ⊥) → IsParty p → IsParty q
     → (i ≡ j → ⊥) → length xs + length ys < n → IsBetween R S a.content → IsBetween S R b.content → IsSite w i s → s.content ≡ a.content → IsSite w j t → t.content ≡ b.content → AreAnswered p a xs → AreAnswered q b ys
     → GoesOn xs beside → GoesOn ys beside' → IsOnWay q b.content word ys beside' → AreFrames came (map (λ t. t.frame) xs) rest → word ++ (flat_map (λ t. t.said) ys ++ beside') ≡ came ++ later
     → AreFrames came' (map (λ t. t.frame) ys) rest' → flat_map (λ t. t.said) xs ++ beside ≡ came' ++ later'
-    → Trades w i j s t (after_all p a xs).content (after_all q b ys).content
+    → Traded w i j s t p q R S a b xs ys
 trade zero p q R S w i j s t a b xs ys word came rest later came' rest' later' beside beside' id apart party party' other less one two at same at' same' answered answered' goes goes' way frames out frames' out' = absurd (omega (arith, less))
 trade (suc n) p q R S w i j s t a b [] ys word came rest later came' rest' later' beside beside' id apart party party' other less one two at same at' same' answered answered' goes goes' way frames out frames' out' =
-    let kept = idle q b ys beside came' rest' later' goes frames' out' in (
-      [],
-      tt,
-      record {
-        here = subst (λ (R : Content). IsSite w i (record s { content = R })) same at;
-        there = subst (λ (R : Content). IsSite w j (record t { content = R })) (same' ∙ sym kept) at';
-        others = λ k c d. refl;
-      },
-    )
+    let kept = idle q b ys beside came' rest' later' goes frames' out' in
+    record {
+      trades = (
+        [],
+        tt,
+        record {
+          here = subst (λ (R : Content). IsSite w i (record s { content = R })) same at;
+          there = subst (λ (R : Content). IsSite w j (record t { content = R })) (same' ∙ sym kept.0) at';
+          others = λ k c d. refl;
+        },
+      );
+      one = one;
+      other = subst (IsBetween S R) (sym kept.0) two;
+      knows = λ r h. absurd h;
+      known = λ r h. absurd (subst (λ (l : List Record). Has l r) kept.1 h);
+    }
 trade (suc n) p q R S w i j s t a b (x ∷ xs) ys word came rest later came' rest' later' beside beside' id apart party party' other less one two at same at' same' answered answered' goes goes' way frames out frames' out' = elim way [
   | inl none ↦ absurd (no_frame x.frame (map (λ t. t.frame) xs) came rest later frames (sym (nothing none.0 none.1 none.2) ∙ out))
   | inr told ↦
@@ -296,12 +334,27 @@ trade (suc n) p q R S w i j s t a b (x ∷ xs) ys word came rest later came' res
       let more = trade n q p S R (run here.0 w) j i (record t { content = b.content }) (record s { content = (after p a x).content }) b (after p a x) ys xs x.said came' rest' later' f.2 rest later beside' beside (sym id)
       (λ e. apart (sym e)) party' party (λ e. other (sym e)) (omega (arith, less)) two between here.2.there refl here.2.here refl answered' answered.1 goes' (goes_then x xs beside goes)
       (on_way p (after p a x).content x xs beside goes said) frames' (sym (append_assoc x.said (flat_map (λ t. t.said) xs) beside) ∙ out') f.3 f.4 in
-      trades_then w i j s t (after p a x).content b.content (after_all p a (x ∷ xs)).content (after_all q b ys).content here
-      (swapped (run here.0 w) j i (record t { content = b.content }) (record s { content = (after p a x).content }) (after_all q b ys).content (after_all p a (x ∷ xs)).content more)
+      record {
+        trades =
+            trades_then w i j s t (after p a x).content b.content (after_all p a (x ∷ xs)).content (after_all q b ys).content here
+            (swapped (run here.0 w) j i (record t { content = b.content }) (record s { content = (after p a x).content }) (after_all q b ys).content (after_all p a (x ∷ xs)).content more.trades);
+        one = more.other;
+        other = more.one;
+        knows = λ r h. elim (has_from_append (records_read (received p a.standing x.frame.kind x.frame.body)) (records_of p (after p a x) xs) r h) [
+          | inl first ↦ held_on q b ys r (came_from m told.2 got r first)
+          | inr then ↦ more.known r then
+        ];
+        known = more.knows;
+      }
 ]
   where
     nothing : word ≡ [] → ys ≡ [] → beside' ≡ [] → word ++ (flat_map (λ t. t.said) ys ++ beside') ≡ []
     nothing e f g = ap (λ (l : List ℕ). l ++ (flat_map (λ t. t.said) ys ++ beside')) e ∙ (ap (λ (l : List Taken). flat_map (λ t. t.said) l ++ beside') f ∙ g)
+
+    came_from : (m : Message) → IsFrom q b.content m → (records_read (received p a.standing x.frame.kind x.frame.body) ≡ records_in m) ⊎ (records_read (received p a.standing x.frame.kind x.frame.body) ≡ []) → (r : Record)
+        → Has (records_read (received p a.standing x.frame.kind x.frame.body)) r → Has b.content r
+    came_from m is (inl e) r h = from_held q b.content m r is (subst (λ (l : List Record). Has l r) e h)
+    came_from m is (inr e) r h = absurd (subst (λ (l : List Record). Has l r) e h)
 
 -- ---- two archives
 
@@ -335,9 +388,38 @@ ends_kept c c' d d' ends =
     let responder = spoken responding ends.last_there d d' ends.came_there ends.out_there ends.ending_there ends.responds in
     (caller.talks.passes.id, caller.talks.passes.own, responder.talks.passes.id, responder.talks.passes.own)
 
-pub exchanged : (c c' d d' : Store) (w : World) (i j : ℕ) (s t : Site) → IsParty (party_of c) → IsParty (party_of d) → CanMeet c d → c'.honest → d'.honest → AreEnds c c' d d' → (i ≡ j → ⊥) → IsSite w i s → s.content ≡ c.content
-    → IsSite w j t → t.content ≡ d.content → (A : Content) × (B : Content) × IsHeld c' A × IsHeld d' B × Trades w i j s t A B
-exchanged c c' d d' w i j s t party party' meet honest honest' ends other at same at' same' =
+-- what an archive holds behind a dialog, or an opening may find
+left_at : (start : Rattle.exchange.specs.Dialogs.Standing) (old new : Store) (came out : List ℕ) (part : IsPartOf start old new came out) (A : Content) → Rests old → old.broken ≡ false → new.honest → IsLeft new A
+    → HasAtMostOneMore (after_all (party_of old) (side_of start old.content) part.talks.taken).content (records_of (party_of old) (side_of start old.content) part.talks.taken) A
+left_at start old new came out part A rests used honest (inl held) = inl (sym held.1 ∙ part.talks.content honest old.content (λ u. refl) held.0)
+left_at start old new came out part A rests used honest (inr found) = elim (part.talks.crash honest old.content (λ u. refl) A found) [
+  | inl before ↦ inl ((rests (part.talks.passes.honest honest) used).only A before.0 ∙ sym (before.1 used))
+  | inr more ↦ more.1
+]
+
+-- one record more that the other holds
+trades_more : (w : World) (i j : ℕ) (s t : Site) (S T A : Content) (rs : List Record) → (j ≡ i → ⊥) → IsClosed S → IsClosed T → ((r : Record) → Has rs r → Has T r) → Trades w i j s t S T → HasAtMostOneMore S rs A
+    → Trades w i j s t A T × IsClosed A × ((r : Record) → Has S r → Has A r)
+trades_more w i j s t S T A rs other closed closed' knows base (inl same) =
+    (subst (λ (Q : Content). Trades w i j s t Q T) (sym same) base, subst IsClosed (sym same) closed, λ r h. subst (λ (Q : Content). Has Q r) (sym same) h)
+trades_more w i j s t S T A rs other closed closed' knows base (inr one) =
+    let r = one.0 in
+    let there = knows r one.1 in
+    let v = run base.0 w in
+    let more : Trades v i j (record s { content = S }) (record t { content = T }) (put r S) T = (
+      Sends j (all_but T r) 1 ∷ Delivers i (length v.pool) 1 ∷ [],
+      (inr (inl (all_but T r, 1, refl)), (inl (inr (length v.pool, 1, refl)), tt)),
+      subst (λ (Q : Content). AreUpdated v (run (Sends j (all_but T r) 1 ∷ Delivers i (length v.pool) 1 ∷ []) v) i j (record s { content = S }) (record t { content = T }) Q T) (merged_one S T r closed' there one.2)
+          (sent_over v i j 1 1 (all_but T r) (record s { content = S }) (record t { content = T }) other base.2.here base.2.there),
+    ) in (
+      subst (λ (Q : Content). Trades w i j s t Q T) (sym one.3) (trades_then w i j s t S T (put r S) T base more),
+      subst IsClosed (sym one.3) (closed-next S r closed (next_found S r one.2)),
+      λ z h. subst (λ (Q : Content). Has Q z) (sym one.3) (has-put r S z (inr h)),
+    )
+
+pub exchanged : (c c' d d' : Store) (w : World) (i j : ℕ) (s t : Site) (A B : Content) → IsParty (party_of c) → IsParty (party_of d) → CanMeet c d → c'.honest → d'.honest → AreEnds c c' d d' → IsLeft c' A → IsLeft d' B
+    → (i ≡ j → ⊥) → IsSite w i s → s.content ≡ c.content → IsSite w j t → t.content ≡ d.content → Trades w i j s t A B
+exchanged c c' d d' w i j s t A B party party' meet honest honest' ends left left' other at same at' same' =
     let lawful = (meet.one.0 (caller.talks.passes.honest honest) meet.one.1).lawful in
     let lawful' = (meet.other.0 (responder.talks.passes.honest honest') meet.other.1).lawful in
     let a = side_of calling c.content in
@@ -350,13 +432,14 @@ exchanged c c' d d' w i j s t party party' meet honest honest' ends other at sam
     ends.came_there responder.rest went.0 ends.came caller.rest came.0 responder.talks.beside caller.talks.beside (sym meet.id) (λ e. meet.apart (sym e)) party' party (λ e. other (sym e)) (omega arith)
     (between_first d.content c.content lawful') (between_first c.content d.content lawful) at' same' at same (responder.talks.answered honest' d.content (λ u. refl)) (caller.talks.answered honest c.content (λ u. refl))
     (goes_by responder.talks.taken responder.last.code responder.rest responder.talks.beside responder.ending responder.talks.ends) (goes_by caller.talks.taken caller.last.code caller.rest caller.talks.beside caller.ending caller.talks.ends)
-    (inr (Asks (title_by (party_of c) c.content), refl, refl)) responder.talks.frames (ap (λ (l : List ℕ). asking_frame (party_of c) c.content ++ l) (sym caller.talks.wrote) ∙ went.1) caller.talks.frames (sym responder.talks.wrote ∙ came.1) in (
-      (after_all (party_of c) a caller.talks.taken).content,
-      (after_all (party_of d) b responder.talks.taken).content,
-      caller.talks.content honest c.content (λ u. refl),
-      responder.talks.content honest' d.content (λ u. refl),
-      swapped w j i t s (after_all (party_of d) b responder.talks.taken).content (after_all (party_of c) a caller.talks.taken).content traded,
-    )
+    (inr (Asks (title_by (party_of c) c.content), refl, refl)) responder.talks.frames (ap (λ (l : List ℕ). asking_frame (party_of c) c.content ++ l) (sym caller.talks.wrote) ∙ went.1) caller.talks.frames (sym responder.talks.wrote ∙ came.1) in
+    let S = (after_all (party_of c) a caller.talks.taken).content in
+    let T = (after_all (party_of d) b responder.talks.taken).content in
+    let here = trades_more w i j s t S T A (records_of (party_of c) a caller.talks.taken) (λ e. other (sym e)) traded.other.lawful.closed traded.one.lawful.closed traded.known
+    (swapped w j i t s T S traded.trades) (left_at calling c c' ends.came ends.out caller A meet.one.0 meet.one.1 honest left) in
+    let there = trades_more w j i t s T A B (records_of (party_of d) b responder.talks.taken) other traded.one.lawful.closed here.1 (λ r h. here.2 r (traded.knows r h))
+    (swapped w i j s t A T here.0) (left_at responding d d' ends.came_there ends.out_there responder B meet.other.0 meet.other.1 honest' left') in
+    swapped w j i t s B A there.0
   where
     caller : IsPartOf calling c c' ends.came ends.out
     caller = spoken calling ends.last c c' ends.came ends.out ends.ending ends.calls

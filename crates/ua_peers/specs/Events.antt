@@ -1,13 +1,10 @@
 -- What connections bring, as events of a world of replicas.
-use Rattle.std.specs.Prelude.{◌≡◌, ◌⊎◌, ⊤, ℕ, List, [], ◌∷◌, ◌++◌, slice_get, Some, Result}
+use Rattle.std.specs.Prelude.{◌≡◌, ◌⊎◌, ⊤, false, ℕ, List, [], ◌∷◌, ◌++◌, slice_get, Some, Result}
 use Rattle.std.specs.List.{AllByRecursion}
 use Rattle.records.specs.declared.record.Record.{Record}
 use Rattle.exchange.specs.Named.{Party, asking_frame}
 use Rattle.exchange.specs.Dialogs.{Standing, received, records_read, party_of}
-use Rattle.hist_update.specs.declared.request.Request.{Request}
-use Rattle.hist_update.specs.Outcome.{Operation, IsRequest}
-use Rattle.hist_update.specs.Laws.{IsSpelled, IsOperation}
-use Rattle.exchange.specs.Worlds.{Site, World, Event, Operates, Sends, Delivers, IsSite}
+use Rattle.exchange.specs.Worlds.{Site, World, Event, Sends, Delivers, IsSite}
 use Rattle.records.specs.Contents.{Content}
 use Rattle.archive.specs.Store.{Store}
 use Rattle.counted_io.specs.declared.fault.ServeFault.{ServeFault}
@@ -29,10 +26,6 @@ WereSent pool p side (t ∷ later) = IsSent pool (records_read (received p side.
 abbrev pub AreDeliveries : ℕ → List Event → Type 0
 AreDeliveries i = AllByRecursion (λ event. (batch count : ℕ) × (event ≡ Delivers i batch count))
 
--- updates at one replica, each of them as its conditions ask
-abbrev pub AreUpdates : ℕ → List Event → Type 0
-AreUpdates i = AllByRecursion (λ event. (request : Request) × (operation : Operation) × (event ≡ Operates i request operation) × IsRequest request × IsSpelled request × IsOperation operation)
-
 -- ---- two replicas
 
 -- one replica sends, or some first records of a batch come to it
@@ -48,6 +41,10 @@ pub record AreUpdated (w v : World) (i j : ℕ) (s t : Site) (A B : Content) : T
   pub here : IsSite v i (record s { content = A })
   pub there : IsSite v j (record t { content = B })
   pub others : (k : ℕ) → (k ≡ i → ⊥) → (k ≡ j → ⊥) → slice_get v.sites k ≡ slice_get w.sites k
+
+-- what an archive in use holds, or an opening may find, if its store broke or it was stopped there
+abbrev pub IsLeft : Store → Content → Type 0
+IsLeft s R = ((s.broken ≡ false) × (s.content ≡ R)) ⊎ s.may_hold R
 
 -- both ends of one call, over stores that held and hold this: what came at each is a first part of what went out at the other
 pub record AreEnds (s s' t t' : Store) : Type 0 where

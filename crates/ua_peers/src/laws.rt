@@ -7,7 +7,7 @@ ghost use Rattle.exchange.specs.Named.{Party, asking_frame};
 ghost use Rattle.exchange.specs.Dialogs.{Standing as Stand, party_of, IsHeld};
 ghost use Rattle.exchange.specs.Meetings.{CanMeet};
 ghost use Rattle.exchange.specs.Worlds.{World, Site as Replica, Event, IsSite, IsUpdated, run};
-ghost use Rattle.ua_peers.specs.Events.{WereSent, AreDeliveries, AreExchanges, AreUpdated, AreEnds};
+ghost use Rattle.ua_peers.specs.Events.{WereSent, AreDeliveries, AreExchanges, AreUpdated, IsLeft, AreEnds};
 ghost use Rattle.ua_peers.specs.Wires.{IsFirstPart};
 ghost use Rattle.ua_peers.specs.Calling.{calling};
 ghost use Rattle.ua_peers.specs.Peers.{Taken, Side, after_all, responding, Talks};
@@ -49,11 +49,12 @@ pub fn a_call_that_ends_joins<A: Archive, B: Archive>(caller: &A, peer: &B)
 }
 
 /// What a call of one replica by another leaves is what events of a world leave: however it ended at either, as long as what came at each is a first part of
-/// what went out at the other, sends and deliveries at the two make of the world one in which each holds what its dialog left it, and all else is as it was.
+/// what went out at the other, sends and deliveries at the two make of the world one in which each holds what it is left with, and all else is as it was. An
+/// archive in use is left with what it holds; of one whose store broke in the midst, or that was stopped there, it is whatever an opening may find.
 pub fn calls_are_exchanges<A: Archive, B: Archive>(caller: &A, peer: &B)
-    ensures { (a : A) (b : B) (w : World) (i j : ℕ) (s t : Replica) → CanMeet (A.state caller.now) (B.state peer.now) → (A.state a).honest → (B.state b).honest
-        → AreEnds (A.state caller.now) (A.state a) (B.state peer.now) (B.state b) → (i ≡ j → ⊥) → IsSite w i s → s.content ≡ (A.state caller.now).content → IsSite w j t → t.content ≡ (B.state peer.now).content
-        → (R S : Content) × IsHeld (A.state a) R × IsHeld (B.state b) S × ((events : List Event) × AreExchanges i j events × AreUpdated w (run events w) i j s t R S) }
+    ensures { (a : A) (b : B) (w : World) (i j : ℕ) (s t : Replica) (R S : Content) → CanMeet (A.state caller.now) (B.state peer.now) → (A.state a).honest → (B.state b).honest
+        → AreEnds (A.state caller.now) (A.state a) (B.state peer.now) (B.state b) → IsLeft (A.state a) R → IsLeft (B.state b) S → (i ≡ j → ⊥) → IsSite w i s → s.content ≡ (A.state caller.now).content → IsSite w j t → t.content ≡ (B.state peer.now).content
+        → (events : List Event) × AreExchanges i j events × AreUpdated w (run events w) i j s t R S }
 {
     is_party(caller);
     is_party(peer);

@@ -1,34 +1,26 @@
-//! What holds of every connection.
+//! What holds of every connection of a client.
 
-ghost use Rattle.std.specs.List.{AllByRecursion};
-ghost use Rattle.std.specs.Prelude.{◌≡◌, ℕ, List};
+ghost use Rattle.std.specs.Prelude.{◌≡◌, ℕ, false, List, Option};
 ghost use Rattle.records.specs.Lists.{Has};
+ghost use Rattle.records.specs.Contents.{Content};
 ghost use Rattle.records.specs.Spelling.{IsLawfulRecord};
 ghost use Rattle.records.specs.declared.record.Record.{Record};
-ghost use Rattle.exchange.specs.Worlds.{World, Site as Replica, Event, IsSite, IsUpdated, run};
-ghost use Rattle.ua_space.specs.Space.{HasShortId};
-ghost use Rattle.historian.specs.Services.{Site};
+ghost use Rattle.archive.specs.Store.{Rests};
+ghost use Rattle.exchange.specs.Worlds.{World, Site as Replica, Event, IsSite, IsUpdated, AreUpdates, run};
+ghost use Rattle.ua_settings.specs.Settings.{Values};
 ghost use Rattle.ua_connection.specs.Given.{Outside};
-ghost use Rattle.ua_connection.specs.Serving.{IsServed};
-ghost use Rattle.ua_connection.specs.Client.{Standing, Ending, chunks};
-ghost use Rattle.ua_peers.specs.Events.{AreUpdates};
+ghost use Rattle.ua_connection.specs.Serving.{ServesBehind};
+ghost use Rattle.ua_connection.specs.Client.{Ending};
+ghost use Rattle.ua_peers.specs.Events.{IsLeft};
 
-use ua_settings::Settings;
-use ua_space::ids_are_short;
+use archive::Archive;
 
-/// The ids of the variables of any settings have at most 256 bytes.
-pub fn ids_of_settings_are_short(settings: &Settings)
-    ensures { AllByRecursion HasShortId settings.now.space.variables }
-{
-    ids_are_short(settings.space());
-}
-
-/// What a client's connection leaves is what events of a world leave: however it ended, updates at this replica, one after the other, each as its
-/// conditions ask, make of the world one in which it holds what the connection left it, and all else is as it was. The ids of the settings' variables have
-/// at most 256 bytes, as in all settings, and each record that is held then is lawful, as in each archive in use.
-#[tactic(auto, using(crate::proofs::Updated::updates_made))]
-pub fn connections_are_updates()
-    ensures { (site : Site) (start last : Standing) (came : List ℕ) (used : Outside) (out : List ℕ) (ending : Ending) (w : World) (i : ℕ) (s : Replica) → AllByRecursion HasShortId site.settings.space.variables
-        → IsServed (chunks site) start came used out ending last → ((r : Record) → Has last.content r → IsLawfulRecord r) → IsSite w i s → s.number ≡ site.own → s.content ≡ start.content
-        → (events : List Event) × AreUpdates i events × IsUpdated w (run events w) i s last.content }
+/// What a client's connection leaves at an archive in use is what events of a world leave: whatever the client sent and however the connection ended, updates at
+/// this replica, each as its conditions ask, one after the other, make of the world one in which it holds what it is left with, and all else is as it was. An
+/// archive in use is left with what it holds; of one whose store broke in the midst, or that was stopped there, it is whatever an opening may find. Each record
+/// that it is left with has to be lawful, as in each archive in use.
+pub fn connections_are_updates<A: Archive>()
+    ensures { (settings : Values) (a b : A) (first : List ℕ) (unread left before after : Option (List ℕ)) (used : Outside) (ending : Ending) (w : World) (i : ℕ) (s : Replica) (R : Content)
+        → ServesBehind settings (A.state a) (A.state b) first unread left before after used ending → Rests (A.state a) → (A.state a).broken ≡ false → (A.state b).honest → IsLeft (A.state b) R
+        → ((r : Record) → Has R r → IsLawfulRecord r) → IsSite w i s → s.number ≡ (A.state a).own → s.content ≡ (A.state a).content → (events : List Event) × AreUpdates i events × IsUpdated w (run events w) i s R }
 {}

@@ -16,7 +16,7 @@ pub use counted_io::{Counted, ServeFault};
 pub use dumps::{DumpFault, dump};
 pub use either::{Ended, serve_either};
 pub use files::SettingsFiles;
-pub use laws::{connections_are_updates, ids_of_settings_are_short};
+pub use laws::connections_are_updates;
 pub use line::{Line, LineFault, read_line};
 pub use network::{Listener, Network};
 pub use program::{ProgramFault, report, run};

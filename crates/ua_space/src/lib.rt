@@ -17,6 +17,6 @@ mod space;
 
 pub use attributes::Answered;
 pub use fault::BuildFault;
-pub use laws::{ids_are_short, variables_hang_below_their_parents};
+pub use laws::variables_hang_below_their_parents;
 pub use plan::{FolderPlan, Plan, VariablePlan};
 pub use space::{Space, VariableInfo};
