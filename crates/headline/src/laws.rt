@@ -149,8 +149,9 @@ pub fn pages_stay(details: ReadRawModifiedDetails)
 
 /// The headline of machines: archives in use, in whatever stores. Those that begin with nothing hold what the replicas of a past do, and go on to, in pasts
 /// that go on behind it, whatever is done to them over a network: one serves a client, whatever that sends and however its connection ends; one calls another,
-/// and their call is cut off anywhere or comes to its end; one stops between its connections, and its store is opened anew. So the laws of replicas are laws of
-/// machines: two whose vectors are equal, where neither answer reports want of memory or a fault of the store, answer a read of a node's history alike.
+/// and their call is cut off anywhere or comes to its end; a store breaks in the midst of either, and is opened anew; one stops between its connections, and its
+/// store is opened anew. So the laws of replicas are laws of machines: two whose vectors are equal, where neither answer reports want of memory or a fault of
+/// the store, answer a read of a node's history alike.
 pub fn machines_are_replicas_of_a_past<A: Archive>()
     ensures begin { (machines : List A) → AreNew A.state machines → (p : Past) × (p.events ≡ []) × AreOf A.state p machines }
     ensures serve { (p : Past) (old new : List A) → AreOf A.state p old → Serves A.state old new → GoOn A.state p new }

@@ -285,14 +285,14 @@ settled-submitted a b c request op change place result lawful timed asked p e (a
     }
     go (Err (refused.Store fault)) l = record {
       acts = moves-behind a b c place (IsPlace a request change.time) (Met fault ∷ []) (λ R S. Does (update_one a.own request op R) (Met fault ∷ []) (status_of fault, S)) p l.leaves.passes (λ honest at h. (
-            (
-              a.content,
-              does-one a.own request op a.content (Met fault) (status_of fault) a.content refl refl,
-              unlearned-held b c (candidate_of request place change) (Err (refused.Store fault)) fault l refl honest a.content h,
-              grows-none a.own a.content,
-            ),
-            left_by_crash (Err (refused.Store fault)) l honest at h,
-          ));
+        (
+          a.content,
+          does-one a.own request op a.content (Met fault) (status_of fault) a.content refl refl,
+          unlearned-held b c (candidate_of request place change) (Err (refused.Store fault)) fault l refl honest a.content h,
+          grows-none a.own a.content,
+        ),
+        left_by_crash (Err (refused.Store fault)) l honest at h,
+      ));
       ended = λ y. absurd (none-some _ (p.leaves.ended y));
     }
     go (Err refused.Clash) l = odd _ l refl

@@ -24,7 +24,7 @@ use Rattle.ua_channel.specs.Sending.{opened_chunk, number_after, message_bytes, 
 use Rattle.ua_session.specs.Sessions as session
 use Rattle.records.specs.Contents.{Content}
 use Rattle.archive.specs.Store.{Store, Mark, Fine, Starved, faults_of}
-use Rattle.archive.specs.Steps.{Acts}
+use Rattle.archive.specs.Steps.{Acts, Does as DoesMarked}
 use Rattle.archive.proofs.Acting.{moves-none-by, moves-told, faults-append}
 use Rattle.historian.specs.Services.{Site, Outcome, answered as performed}
 use Rattle.historian.specs.Requests.{handle_of}
@@ -238,7 +238,7 @@ tells a b site client next sessions state request message now ms vs answer old n
   record {
     made = out;
     appended = appended;
-    moves = moves-told a b ms (ms ++ vs) (λ R S. Does (performed site now message sessions R) ms (answer, S))
+    moves = moves-told a b ms (ms ++ vs) (λ R S. DoesMarked (performed site now message sessions R) ms (answer, S))
         (λ R S. Replies (responded site (standing_of client sessions R) state request message now) (marked (ms ++ vs)) out ending next S)
         (faults-append ms vs ∙ (ap (λ fs. faults_of ms ++ fs) quiet ∙ append-nil (faults_of ms))) (λ R S d.
         let f : Outcome → Answering = told (standing_of client sessions R) state request message now in
