@@ -1,6 +1,6 @@
 //! An archive: the records of one replica, in a store, and what it answers of them. `Archive` is the
-//! one contract that updates, reads and exchange stand on, and `ListArchive` meets it by one list of
-//! records.
+//! one contract that updates, reads and exchange stand on. `ListArchive` meets it by one list of records,
+//! and an `Either` of two archives by the one that is there.
 #![tactic(auto)]
 
 mod archive;
@@ -10,6 +10,7 @@ mod list_archive;
 mod reading;
 mod scripted;
 mod setback;
+mod sides;
 
 pub use archive::Archive;
 pub use fault::{LearnFault, StoreFault};

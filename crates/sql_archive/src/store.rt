@@ -308,12 +308,15 @@ impl SqlArchive<MemStore> {
     ghost use Rattle.sqlite.specs.Held.{state};
     ghost use Rattle.sqlite.specs.Steps.{over_memory};
     ghost use Rattle.archive.specs.Store.{IsOfOpening};
+    ghost use Rattle.archive.specs.Beginning.{HoldsNothing};
+    ghost use Rattle.sql_archive.specs.Kept.{store_of};
     ghost use Rattle.sql_archive.specs.Rows.{content_in};
 
     /// An archive of this id and replica in memory, which holds nothing.
     pub fn open_in_memory(alloc: Global, id: Uuid, number: ReplicaNo) -> Result<Self, StoreFault>
         ensures own { IfOk result (λ a. (a.id ≡ id) × (a.number ≡ number) × (a.faults ≡ 0) × (a.broken ≡ false)) }
         ensures empty { IfOk result (λ a. content_in (state over_memory a.conn).now.trees ≡ []) }
+        ensures begins { IfOk result (λ a. HoldsNothing id number (store_of over_memory a)) }
         ensures refused { IfErr result (λ e. IsOfOpening e → ⊥) }
     {
         let conn = match Connection::open_in_memory(alloc) {
@@ -321,7 +324,10 @@ impl SqlArchive<MemStore> {
             Err(_) => return Err(StoreFault::OutOfMemory),
         };
         match make(alloc, conn, id, number) {
-            Ok(archive) => Ok(archive),
+            Ok(archive) => {
+                let _rests = archive.number();
+                Ok(archive)
+            }
             Err((fault, _)) => Err(fault),
         }
     }

@@ -19,8 +19,7 @@ use Rattle.ua_server.specs.Line.{IsLine, IsNoCommand}
 use Rattle.clap.specs.declared.error.ErrorKind.{ErrorKind}
 use Rattle.ua_settings.specs.Settings.{Values}
 use Rattle.archive.specs.Store.{Store}
-use Rattle.archive.specs.Listed.{Listed, store_of}
-use Rattle.ua_server.specs.Program.{empty_of, IsUnbegun, SettingsAt, Machine, OverStore, By, Calls, CallsPeer, Scene, program_result, dump_result, PrintsSynced, IsRefused, DoesLine, Runs}
+use Rattle.ua_server.specs.Program.{IsUnbegun, SettingsAt, Machine, By, Calls, CallsPeer, Scene, program_result, dump_result, PrintsSynced, IsRefused, DoesLine, Runs}
 use Rattle.ua_server.specs.Network.{Means}
 use Rattle.std.specs.declared.net.socket_addr.SocketAddr.{SocketAddr}
 use Rattle.ua_server.specs.declared.line.Line.{Line as CommandLine}
@@ -42,14 +41,10 @@ unset reads unasked (Some path) fault (None, read, so) = absurd (cc)
 unset reads unasked (Some path) fault (Some text, read, so) = absurd so
 
 -- a command that ends as a refused line: its settings were refused so, and nothing was done
-by-line : {K : Type 0} (machine : Machine K) (path : Option (List ℕ)) (does : Values → (T : Type 0) → (T → Store) → T → Type 0) (refused : ProgramFault → Type 0) (line : LineFault) (Q : Type 0)
-    → ((settings : Values) (T : Type 0) (held : T → Store) (first : T) → does settings T held first → ⊥) → ((fault : ProgramFault) → refused fault → (fault ≡ Line line) × Q) → By machine path does refused → IsUnbegun line × Q × machine.unasked × machine.untouched
-by-line {K} machine path does refused line Q never told (Ok settings, set, so) = go settings.store so
-  where
-    go : (store : Option (List ℕ)) → OverStore machine.held (λ path opening. machine.opened path settings.archive settings.replica opening) machine.untouched settings store (does settings) (λ fault. refused (program.Store fault)) → IsUnbegun line × Q × machine.unasked × machine.untouched
-    go None so = absurd (never settings Listed store_of (empty_of settings) so.1)
-    go (Some path) (Ok first, opened, so) = absurd (never settings K machine.held first so)
-    go (Some path) (Err fault, opened, so) = let t = told (program.Store fault) so in absurd cc
+by-line : {K : Type 0} (machine : Machine K) (path : Option (List ℕ)) (does : Values → K → Type 0) (refused : ProgramFault → Type 0) (line : LineFault) (Q : Type 0)
+    → ((settings : Values) (first : K) → does settings first → ⊥) → ((fault : ProgramFault) → refused fault → (fault ≡ Line line) × Q) → By machine path does refused → IsUnbegun line × Q × machine.unasked × machine.untouched
+by-line machine path does refused line Q never told (Ok settings, set, (Ok first, opened, so)) = absurd (never settings first so)
+by-line machine path does refused line Q never told (Ok settings, set, (Err fault, opened, so)) = let t = told (program.Store fault) so in absurd cc
 by-line machine path does refused line Q never told (Err fault, set, so) =
     let t = told fault so.1 in
     let u = unset machine.reads machine.unasked path line (subst (λ f. SettingsAt machine.reads machine.unasked path (Err f)) t.0 set) in
@@ -86,16 +81,16 @@ pub line-done : {K N L R W C E P Q : Type 0} (faults : List ErrorKind) (taken : 
     → faults ≡ [] → IsLine matches line → DoesLine machine calls means listened told line old new result → Runs faults taken matches machine calls means listened told old new result
 line-done faults taken matches machine calls means listened told line old new (Ok done) free is so = (free, (line, is, so))
 line-done faults taken matches machine calls means listened told (Answer path hex now) old new (Err (Line fault)) free is (network, errors, (used, gave, so)) =
-    let b = by-line machine (option_copied path) _ _ fault ((new.unread ≡ old.unread) × (new.written ≡ old.written)) (λ settings T held first x. answered-line x.1 fault x.3) (λ f x. (same-line fault f (Err (Line fault)) refl x.0, (x.1, x.2))) so in
+    let b = by-line machine (option_copied path) _ _ fault ((new.unread ≡ old.unread) × (new.written ≡ old.written)) (λ settings first x. answered-line x.1 fault x.3) (λ f x. (same-line fault f (Err (Line fault)) refl x.0, (x.1, x.2))) so in
     (unbegun-refused taken matches fault b.0, b.1.0, b.1.1, network, errors, b.2, b.3)
 line-done faults taken matches machine calls means listened told (Serve path count) old new (Err (Line fault)) free is (unread, written, so) =
-    let b = by-line machine (Some path.now) _ _ fault ((new.network ≡ old.network) × (new.errors ≡ old.errors)) (λ settings T held first x. x.1) (λ f x. (same-line fault f (Err (Line fault)) refl x.0, (x.1, x.3))) so in
+    let b = by-line machine (Some path.now) _ _ fault ((new.network ≡ old.network) × (new.errors ≡ old.errors)) (λ settings first x. x.1) (λ f x. (same-line fault f (Err (Line fault)) refl x.0, (x.1, x.3))) so in
     (unbegun-refused taken matches fault b.0, unread, written, b.1.0, b.1.1, b.2, b.3)
 line-done faults taken matches machine calls means listened told (Dump path) old new (Err (Line fault)) free is (unread, network, clock, errors, so) =
-    let b = by-line machine (Some path.now) _ _ fault (new.written ≡ old.written) (λ settings T held first x. dumped-line x.1 fault x.3) (λ f x. (same-line fault f (Err (Line fault)) refl x.0, x.1)) so in
+    let b = by-line machine (Some path.now) _ _ fault (new.written ≡ old.written) (λ settings first x. dumped-line x.1 fault x.3) (λ f x. (same-line fault f (Err (Line fault)) refl x.0, x.1)) so in
     (unbegun-refused taken matches fault b.0, unread, b.1, network, errors, b.2, b.3)
 line-done faults taken matches machine calls means listened told (Sync path peer) old new (Err (Line fault)) free is (unread, clock, errors, so) =
-    let b = by-line machine (Some path.now) _ _ fault ((new.network ≡ old.network) × (new.written ≡ old.written)) (λ settings T held first x. called-line calls held peer.now first x.0 old.network new.network old.written new.written fault x.1) (λ f x. (same-line fault f (Err (Line fault)) refl x.0, (x.1, x.2))) so in
+    let b = by-line machine (Some path.now) _ _ fault ((new.network ≡ old.network) × (new.written ≡ old.written)) (λ settings first x. called-line calls held peer.now first x.0 old.network new.network old.written new.written fault x.1) (λ f x. (same-line fault f (Err (Line fault)) refl x.0, (x.1, x.2))) so in
     (unbegun-refused taken matches fault b.0, unread, b.1.1, b.1.0, errors, b.2, b.3)
 line-done faults taken matches machine calls means listened told line old new (Err File) free is so = (free, (line, is, so))
 line-done faults taken matches machine calls means listened told line old new (Err (Settings fault place)) free is so = (free, (line, is, so))

@@ -19,7 +19,7 @@ use Rattle.ua_settings.specs.Settings.{Values, bare}
 use Rattle.ua_settings.specs.Reading.{IsReadOrStarved}
 use Rattle.archive.specs.declared.fault.StoreFault.{StoreFault}
 use Rattle.archive.specs.Store.{Store}
-use Rattle.archive.specs.Listed.{Listed, store_of}
+use Rattle.archive.specs.Beginning.{HoldsNothing}
 use Rattle.ua_connection.specs.Given.{Outside}
 use Rattle.ua_connection.specs.Single.{AnswersAt}
 use Rattle.ua_server.specs.Dumping.{Dumps}
@@ -40,27 +40,10 @@ use Rattle.ua_server.specs.Line.{IsLine, IsNoCommand}
 
 -- ---- the archive of a program
 
--- an archive in memory that holds nothing
-abbrev pub empty_of : Values → Listed
-empty_of settings = record { id = settings.archive; number = settings.replica; records = []; faults = 0 }
-
--- what a store that can't be opened is called by the program
-abbrev pub unopened : {K : Type 0} → Result K StoreFault → Result K ProgramFault
-unopened (Ok kept) = Ok kept
-unopened (Err fault) = Err (program.Store fault)
-
--- what is done over the archive of a file, or where that is refused
-abbrev pub OverOpened : {K : Type 0} → (K → Store) → Result K StoreFault → ((T : Type 0) → (T → Store) → T → Type 0) → (StoreFault → Type 0) → Type 0
-OverOpened {K} held (Ok first) does refused = does K held first
-OverOpened held (Err fault) does refused = refused fault
-
-abbrev pub OverStore : {K : Type 0} → (K → Store) → (List ℕ → Result K StoreFault → Type 0) → (untouched : Type 0) → Values → Option (List ℕ) → ((T : Type 0) → (T → Store) → T → Type 0) → (StoreFault → Type 0) → Type 0
-OverStore held opened untouched settings None does refused = untouched × does Listed store_of (empty_of settings)
-OverStore {K} held opened untouched settings (Some path) does refused = (opening : Result K StoreFault) × opened path opening × OverOpened held opening does refused
-
--- what is done over the archive of the settings: that of their file, as it was opened, or one in memory that holds nothing, and then no file was opened
-abbrev pub Over : {K : Type 0} → (K → Store) → (List ℕ → Result K StoreFault → Type 0) → (untouched : Type 0) → Values → ((T : Type 0) → (T → Store) → T → Type 0) → (StoreFault → Type 0) → Type 0
-Over held opened untouched settings does refused = OverStore held opened untouched settings settings.store does refused
+-- the archive of the settings: that of their file, as it was opened, or one in memory that holds nothing, and then no file was opened
+abbrev pub OpensArchive : {K : Type 0} → (opened : List ℕ → List ℕ → ℕ → Result K StoreFault → Type 0) → (untouched : Type 0) → (K → Store) → Values → Option (List ℕ) → Result K StoreFault → Type 0
+OpensArchive opened untouched held settings None opening = untouched × IfOk opening (λ first. HoldsNothing settings.archive settings.replica (held first))
+OpensArchive opened untouched held settings (Some path) opening = opened path settings.archive settings.replica opening
 
 -- ---- settings
 
@@ -107,7 +90,7 @@ abbrev pub program_result : Result (Unit {0}) HexFault → Result (Unit {0}) Pro
 program_result (Ok done) = Ok done
 program_result (Err fault) = Err (fault_of fault)
 
--- the machine that a program runs on: how its files give their texts and their archives, and what these hold; and what it is to it that none was asked
+-- the machine that a program runs on: how its files give their texts and their archives, and what archives hold; and what it is to it that none was asked
 -- for its text, or opened
 pub record Machine (K : Type 0) : Type 1 where
   pub reads : List ℕ → Option (List ℕ) → Type 0
@@ -117,29 +100,26 @@ pub record Machine (K : Type 0) : Type 1 where
   pub held : K → Store
 
 -- what is done by the settings of the file at a path, over their archive; or nothing is
-abbrev pub BySettings : {K : Type 0} → Machine K → Result Values ProgramFault → (Values → (T : Type 0) → (T → Store) → T → Type 0) → (ProgramFault → Type 0) → Type 0
-BySettings machine (Ok settings) does refused = Over machine.held (λ path opening. machine.opened path settings.archive settings.replica opening) machine.untouched settings (does settings) (λ fault. refused (program.Store fault))
+abbrev pub BySettings : {K : Type 0} → Machine K → Result Values ProgramFault → (Values → K → Type 0) → (ProgramFault → Type 0) → Type 0
+BySettings {K} machine (Ok settings) does refused =
+    (opening : Result K StoreFault) × OpensArchive machine.opened machine.untouched machine.held settings settings.store opening × MatchResult opening (does settings) (λ fault. refused (program.Store fault))
 BySettings machine (Err fault) does refused = machine.untouched × refused fault
 
-abbrev pub By : {K : Type 0} → Machine K → Option (List ℕ) → (Values → (T : Type 0) → (T → Store) → T → Type 0) → (ProgramFault → Type 0) → Type 0
+abbrev pub By : {K : Type 0} → Machine K → Option (List ℕ) → (Values → K → Type 0) → (ProgramFault → Type 0) → Type 0
 By machine path does refused = (settings : Result Values ProgramFault) × SettingsAt machine.reads machine.unasked path settings × BySettings machine settings does refused
 
 -- a connection is answered, or nothing is read or written
 abbrev pub AnswersBy : {K : Type 0} → Machine K → Option (List ℕ) → Bool → Option ℤ → Option (List ℕ) → Option (List ℕ) → Option (List ℕ) → Option (List ℕ) → Outside → Result (Unit {0}) ProgramFault → Type 0
-AnswersBy machine path hex now input left old written used result =
+AnswersBy {K} machine path hex now input left old written used result =
     By machine path
-    (λ settings T held first. (last : T) × (answered : Result (Unit {0}) HexFault) × AnswersAt settings (held first) (held last) hex now input left old written used answered × (result ≡ program_result answered))
+    (λ settings first. (last : K) × (answered : Result (Unit {0}) HexFault) × AnswersAt settings (machine.held first) (machine.held last) hex now input left old written used answered × (result ≡ program_result answered))
     (λ fault. (result ≡ Err fault) × (left ≡ input) × (written ≡ old))
-
--- the same over another kind of archive
-abbrev pub means_over : {L R W A B C : Type 0} → Means L R W A C → (B → Store) → Means L R W B C
-means_over means held = record { accepted = means.accepted; closed = means.closed; gave = means.gave; unread = means.unread; written = means.written; held = held }
 
 -- connections are served, or nothing is done
 abbrev pub ServesBy : {K N L R W C E : Type 0} → Machine K → Means L R W K C → (N → SocketAddr → Option L → N → Type 0) → (E → Option (List ℕ)) → List ℕ → ℕ → N → N → C → C → Tally E → Tally E → Result (Unit {0}) ProgramFault → Type 0
-ServesBy machine means listened told path count network after clock later before errors result =
+ServesBy {K} machine means listened told path count network after clock later before errors result =
     By machine (Some path)
-    (λ settings T held first. (last : T) × Listens (means_over means held) listened told settings count (record { source = network; archive = first; clock = clock }) before (record { source = after; archive = last; clock = later }) errors result)
+    (λ settings first. (last : K) × Listens means listened told settings count (record { source = network; archive = first; clock = clock }) before (record { source = after; archive = last; clock = later }) errors result)
     (λ fault. (result ≡ Err fault) × (after ≡ network) × (later ≡ clock) × (errors ≡ before))
 
 -- what a dump is called by the program
@@ -151,9 +131,9 @@ dump_result (Err dump.OutOfMemory) = Err (Connection OutOfMemory)
 
 -- the archive is dumped, or nothing is written
 abbrev pub DumpsBy : {K : Type 0} → Machine K → List ℕ → Option (List ℕ) → Option (List ℕ) → Result (Unit {0}) ProgramFault → Type 0
-DumpsBy machine path old written result =
+DumpsBy {K} machine path old written result =
     By machine (Some path)
-    (λ settings T held first. (last : T) × (dumped : Result (Unit {0}) DumpFault) × Dumps (held first) (held last) old written dumped × (result ≡ dump_result dumped))
+    (λ settings first. (last : K) × (dumped : Result (Unit {0}) DumpFault) × Dumps (machine.held first) (machine.held last) old written dumped × (result ≡ dump_result dumped))
     (λ fault. (result ≡ Err fault) × (written ≡ old))
 
 -- what the fault of a dialog with a peer that was called is called by the program
@@ -202,9 +182,9 @@ CallsPeer {T} {N} {R} {W} calls held text first last network after old written r
 
 -- a peer is called, or nothing is done
 abbrev pub SyncsBy : {K N R W : Type 0} → Machine K → Calls N R W → List ℕ → List ℕ → N → N → Option (List ℕ) → Option (List ℕ) → Result (Unit {0}) ProgramFault → Type 0
-SyncsBy machine calls path peer network after old written result =
+SyncsBy {K} machine calls path peer network after old written result =
     By machine (Some path)
-    (λ settings T held first. (last : T) × CallsPeer calls held peer first last network after old written result)
+    (λ settings first. (last : K) × CallsPeer calls machine.held peer first last network after old written result)
     (λ fault. (result ≡ Err fault) × (after ≡ network) × (written ≡ old))
 
 -- what stands around a run: what is unread of the input and written to the output, as far as that is known, the network, the clock, and standard error

@@ -6,7 +6,7 @@ ghost use Rattle.counted_io.specs.Bytes.{counted, AppendsPart};
 ghost use Rattle.ua_connection.specs.Given.{Outside};
 ghost use Rattle.ua_connection.specs.Single.{AnswersAt};
 ghost use Rattle.ua_server.specs.Telling.{status_of, IsTold, refusal_text, store_text, connection_text, exchange_text, told_line, place_line, error_lines, synced_line};
-ghost use Rattle.ua_server.specs.Program.{empty_of, fault_of, program_result, unopened, AnswersBy, ServesBy, dump_result, DumpsBy, sync_fault, PrintsSynced, CallsPeer, SyncsBy, DoesLine, Runs};
+ghost use Rattle.ua_server.specs.Program.{OpensArchive, fault_of, program_result, AnswersBy, ServesBy, dump_result, DumpsBy, sync_fault, PrintsSynced, CallsPeer, SyncsBy, DoesLine, Runs};
 ghost use Rattle.ua_server.specs.Dumping.{Dumps};
 ghost use Rattle.clap.specs.Words.{subcommand_of};
 ghost use Rattle.clap.specs.Takes.{takes};
@@ -19,7 +19,7 @@ use crate::files::{SettingsFiles, settings_at};
 use crate::line::{Line, LineFault, read_line};
 use crate::network::Network;
 use crate::stores::Stores;
-use archive::{Archive, ListArchive, StoreFault};
+use archive::{Archive, StoreFault};
 use counted_io::{Counted, ServeFault};
 use exchange::{ExchangeFault, Replica};
 use std::alloc::{AllocError, Global};
@@ -168,13 +168,6 @@ impl fmt::Display for ProgramFault {
 
 impl Error for ProgramFault {}
 
-/// The archive of these settings, in memory: it holds nothing.
-pub(crate) fn archive_of(alloc: Global, settings: &Settings) -> ListArchive
-    ensures { result ≡ empty_of settings.now }
-{
-    ListArchive::new(alloc, settings.archive(), settings.replica())
-}
-
 /// What a fault of a connection is called by the program.
 fn fault_of(fault: HexFault) -> ProgramFault
     ensures { result ≡ fault_of fault }
@@ -185,17 +178,13 @@ fn fault_of(fault: HexFault) -> ProgramFault
     }
 }
 
-/// Opens the archive of the file at a path by the settings.
-fn open_store<D: Stores>(
-    settings: &Settings,
-    path: &str,
-    stores: &mut D,
-) -> Result<D::Kept, ProgramFault>
-    ensures { (opening : _) × D.opened stores.old path.now settings.now.archive settings.now.replica opening stores.new × (result ≡ unopened opening) }
+/// Opens the archive of the settings: that of their file, or one in memory that holds nothing.
+fn open_archive<D: Stores>(settings: &Settings, stores: &mut D) -> Result<D::Kept, StoreFault>
+    ensures { OpensArchive (λ path id number opening. D.opened stores.old path id number opening stores.new) (stores.new ≡ stores.old) D.Kept.state settings.now settings.now.store result }
 {
-    match stores.open(path, settings.archive(), settings.replica()) {
-        Ok(archive) => Ok(archive),
-        Err(fault) => Err(ProgramFault::Store(fault)),
+    match settings.store() {
+        None => stores.in_memory(settings.archive(), settings.replica()),
+        Some(path) => stores.open(path, settings.archive(), settings.replica()),
     }
 }
 
@@ -242,30 +231,18 @@ fn answer_by<F: SettingsFiles, D: Stores, R: Read, W: Write, C: Clock>(
         Ok(settings) => settings,
         Err(fault) => return Err(fault),
     };
-    match settings.store() {
-        None => answer_over(
+    match open_archive(&settings, stores) {
+        Ok(mut archive) => answer_over(
             alloc,
             &settings,
-            &mut archive_of(alloc, &settings),
+            &mut archive,
             hex,
             now,
             input,
             output,
             clock,
         ),
-        Some(path) => match open_store(&settings, path, stores) {
-            Ok(mut archive) => answer_over(
-                alloc,
-                &settings,
-                &mut archive,
-                hex,
-                now,
-                input,
-                output,
-                clock,
-            ),
-            Err(fault) => Err(fault),
-        },
+        Err(fault) => Err(ProgramFault::Store(fault)),
     }
 }
 
@@ -288,30 +265,17 @@ fn serve_by<F: SettingsFiles, D: Stores, N: Network, C: Clock, E: Write>(
         Ok(settings) => settings,
         Err(fault) => return Err(fault),
     };
-    match settings.store() {
-        None => serve_at(
+    match open_archive(&settings, stores) {
+        Ok(archive) => serve_at(
             alloc,
             &settings,
-            &mut Replica {
-                archive: archive_of(alloc, &settings),
-            },
+            &mut Replica { archive },
             connections,
             network,
             clock,
             errors,
         ),
-        Some(path) => match open_store(&settings, path, stores) {
-            Ok(archive) => serve_at(
-                alloc,
-                &settings,
-                &mut Replica { archive },
-                connections,
-                network,
-                clock,
-                errors,
-            ),
-            Err(fault) => Err(fault),
-        },
+        Err(fault) => Err(ProgramFault::Store(fault)),
     }
 }
 
@@ -349,12 +313,9 @@ fn dump_by<F: SettingsFiles, D: Stores, W: Write>(
         Ok(settings) => settings,
         Err(fault) => return Err(fault),
     };
-    match settings.store() {
-        None => dump_over(alloc, &mut archive_of(alloc, &settings), output),
-        Some(path) => match open_store(&settings, path, stores) {
-            Ok(mut archive) => dump_over(alloc, &mut archive, output),
-            Err(fault) => Err(fault),
-        },
+    match open_archive(&settings, stores) {
+        Ok(mut archive) => dump_over(alloc, &mut archive, output),
+        Err(fault) => Err(ProgramFault::Store(fault)),
     }
 }
 
@@ -460,12 +421,9 @@ fn sync_by<F: SettingsFiles, D: Stores, N: Network, W: Write>(
         Ok(settings) => settings,
         Err(fault) => return Err(fault),
     };
-    match settings.store() {
-        None => sync_over(alloc, archive_of(alloc, &settings), peer, network, output),
-        Some(path) => match open_store(&settings, path, stores) {
-            Ok(archive) => sync_over(alloc, archive, peer, network, output),
-            Err(fault) => Err(fault),
-        },
+    match open_archive(&settings, stores) {
+        Ok(archive) => sync_over(alloc, archive, peer, network, output),
+        Err(fault) => Err(ProgramFault::Store(fault)),
     }
 }
 

@@ -493,6 +493,10 @@ impl Stores for Memories {
         }
         Ok(ListArchive::new(self.0, id, number))
     }
+
+    fn in_memory(&self, id: Uuid, number: ReplicaNo) -> Result<ListArchive, StoreFault> {
+        Ok(ListArchive::new(self.0, id, number))
+    }
 }
 
 /// Over the network come a client that ends well, one that takes no answer, and then nobody.
