@@ -6,3 +6,5 @@ pub mod Fault
 pub mod Listed
 pub mod Scripted
 pub mod Queries
+pub mod Beginning
+pub mod Sides

@@ -11,9 +11,9 @@ use ua_binary::NodeId;
 use uuid::Uuid;
 
 impl<L: Archive, R: Archive> Archive for Either<L, R> {
-    ghost use Rattle.either.specs.Either.{either};
+    ghost use Rattle.archive.specs.Sides.{store_of};
 
-    ghost state = { either L.state R.state };
+    ghost state = { store_of L.state R.state };
 
     fn id(&self) -> Uuid {
         match self {
