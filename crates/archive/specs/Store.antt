@@ -1,5 +1,5 @@
 -- What an archive keeps, and what its calls leave.
-use Rattle.std.specs.Prelude.{◌≡◌, ◌⊎◌, ◌||◌, ℕ, ◌+◌, ◌-◌, ◌^◌, min, Bool, true, false, List, [], ◌∷◌, Option, Some, None, IfSome, unwrap_or, option_to_list, Result, Ok, Err, IfOk}
+use Rattle.std.specs.Prelude.{◌≡◌, ◌⊎◌, ◌||◌, ℕ, ◌≤◌, ◌+◌, ◌-◌, ◌^◌, min, max, Bool, true, false, List, [], ◌∷◌, Option, Some, None, IfSome, unwrap_or, option_to_list, Result, Ok, Err, IfOk}
 use Rattle.std.specs.List.{list_any, flat_map, AllByRecursion}
 use Rattle.records.specs.Lists.{Has}
 use Rattle.records.specs.Contents.{Content, IsClosed, Finding, Adds, Holds, Clash, Gap, TickTooFar, TickNotRising, finding, learned, put}
@@ -149,3 +149,9 @@ MayBeFound broken R left = (left ≡ R) ⊎ ((broken ≡ true) × (r : Record) �
 pub record HasContent (s : Store) (R : Content) : Type 0 where
   pub content : s.broken ≡ false → s.content ≡ R
   pub found : (left : Content) → s.may_hold left → MayBeFound s.broken R left
+
+-- ---- how much is asked for
+
+-- of the greatest limit that queries were given so far: no call in between was given a greater one than this
+abbrev pub IsAskedWithin : (limit old new : ℕ) → Type 0
+IsAskedWithin limit old new = new ≤ max old limit

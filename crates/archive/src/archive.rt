@@ -10,7 +10,9 @@ use uuid::Uuid;
 
 /// The records of one replica, in a store. Contracts see it as a `Store`: its content, what the store
 /// may be found to hold after a crash, and how many of its calls answered a fault of the store; an
-/// implementor's `state` says what these are of it, and is to be read with it. Each call but `id`,
+/// implementor's `state` says what these are of it, and is to be read with it. How much it was asked for is
+/// its `asked`: no call raises that above its own limit, so that a caller can promise what it asks for of
+/// any archive; one that notes its limits, as `ScriptedArchive` does, shows it. Each call but `id`,
 /// `number` and `faults` may answer a fault of the store, and then, unless it is `Broken`, the content
 /// is as before. What the calls answer is promised as long as the store returns what was written to
 /// it. `alloc` is where an answer's lists are made; the other calls answer by value, and take what
@@ -22,9 +24,12 @@ pub trait Archive {
     ghost use Rattle.records.specs.Contents.{vec, top, cut};
     ghost use Rattle.records.specs.Spelling.{IsLawfulRecord};
     ghost use Rattle.archive.specs.Reading.{range_of, log_of, outside_of};
-    ghost use Rattle.archive.specs.Store.{Store, Rests, Asks, Learns};
+    ghost use Rattle.archive.specs.Store.{Store, Rests, Asks, Learns, IsAskedWithin};
 
     ghost state: { Self → Store };
+
+    /// The greatest limit that a query was given so far, of an archive that notes it; 0 of another one.
+    ghost asked: { Self → ℕ };
 
     /// The archive's id, which all of its replicas have. It reads no store.
     fn id(&self) -> Uuid
@@ -42,15 +47,18 @@ pub trait Archive {
 
     /// The number of each replica's last record.
     fn vector(&mut self) -> Result<Vector, StoreFault>
-        ensures { Asks (state self.old) (state self.new) result (λ v. (replica : ℕ) → number_of v replica ≡ vec (state self.old).content replica) };
+        ensures asks { Asks (state self.old) (state self.new) result (λ v. (replica : ℕ) → number_of v replica ≡ vec (state self.old).content replica) }
+        ensures asked { IsAskedWithin 0 (asked self.old) (asked self.new) };
 
     /// The greatest tick of all records, 0 where there is none.
     fn top(&mut self) -> Result<i64, StoreFault>
-        ensures { Asks (state self.old) (state self.new) result (λ t. t ≡ top (state self.old).content) };
+        ensures asks { Asks (state self.old) (state self.new) result (λ t. t ≡ top (state self.old).content) }
+        ensures asked { IsAskedWithin 0 (asked self.old) (asked self.new) };
 
     /// The records of a node and a source time, in the order of their stamps.
     fn at(&mut self, alloc: Global, node: &NodeId, time: Moment) -> Result<Vec<Record>, StoreFault>
-        ensures { Asks (state self.old) (state self.new) result (λ v. v.items ≡ story (state self.old).content node.now time) };
+        ensures asks { Asks (state self.old) (state self.new) result (λ v. v.items ≡ story (state self.old).content node.now time) }
+        ensures asked { IsAskedWithin 0 (asked self.old) (asked self.new) };
 
     /// The first `limit` of a node's live values from one source time to another, both included, in
     /// the direction. `from` is the lesser time; where it is above `to` there are none.
@@ -64,7 +72,8 @@ pub trait Archive {
         limit: usize,
         within: &Vector,
     ) -> Result<Vec<Held>, StoreFault>
-        ensures { Asks (state self.old) (state self.new) result (λ v. v.items ≡ take limit (range_of (cut (state self.old).content (number_of within.now)) node.now from to direction)) };
+        ensures asks { Asks (state self.old) (state self.new) result (λ v. v.items ≡ take limit (range_of (cut (state self.old).content (number_of within.now)) node.now from to direction)) }
+        ensures asked { IsAskedWithin limit (asked self.old) (asked self.new) };
 
     /// The first `limit` of a node's modifications from one source time to another, both included, in
     /// the direction, that stand behind a place, where one is given. There is one for each record,
@@ -80,7 +89,8 @@ pub trait Archive {
         limit: usize,
         within: &Vector,
     ) -> Result<Vec<Entry>, StoreFault>
-        ensures { Asks (state self.old) (state self.new) result (λ v. v.items ≡ take limit (log_of (cut (state self.old).content (number_of within.now)) node.now from to after direction)) };
+        ensures asks { Asks (state self.old) (state self.new) result (λ v. v.items ≡ take limit (log_of (cut (state self.old).content (number_of within.now)) node.now from to after direction)) }
+        ensures asked { IsAskedWithin limit (asked self.old) (asked self.new) };
 
     /// A node's live value that is nearest to a source time, strictly beyond it in the direction;
     /// `None` where there is none.
@@ -92,7 +102,8 @@ pub trait Archive {
         direction: Direction,
         within: &Vector,
     ) -> Result<Option<Held>, StoreFault>
-        ensures { Asks (state self.old) (state self.new) result (λ h. h ≡ outside_of (cut (state self.old).content (number_of within.now)) node.now time direction) };
+        ensures asks { Asks (state self.old) (state self.new) result (λ h. h ≡ outside_of (cut (state self.old).content (number_of within.now)) node.now time direction) }
+        ensures asked { IsAskedWithin 0 (asked self.old) (asked self.new) };
 
     /// The first `limit` of the records that a vector lacks, by origin and number.
     fn since(
@@ -101,7 +112,8 @@ pub trait Archive {
         vector: &Vector,
         limit: usize,
     ) -> Result<Vec<Record>, StoreFault>
-        ensures { Asks (state self.old) (state self.new) result (λ v. v.items ≡ missing (state self.old).content (number_of vector.now) limit) };
+        ensures asks { Asks (state self.old) (state self.new) result (λ v. v.items ≡ missing (state self.old).content (number_of vector.now) limit) }
+        ensures asked { IsAskedWithin limit (asked self.old) (asked self.new) };
 
     /// Takes in a record: `true` where it is added, `false` where it is held already. Refusals come in
     /// this order: `Clash` where another record of its name is held, `Gap` where its number is above
@@ -111,9 +123,11 @@ pub trait Archive {
     /// `Record::is_lawful`.
     fn learn(&mut self, candidate: &Record) -> Result<bool, LearnFault>
         requires { IsLawfulRecord candidate.now }
-        ensures { Learns (state self.old) (state self.new) candidate.now result };
+        ensures learns { Learns (state self.old) (state self.new) candidate.now result }
+        ensures asked { IsAskedWithin 0 (asked self.old) (asked self.new) };
 
     /// Reads the store anew.
     fn reload(&mut self) -> Result<(), StoreFault>
-        ensures { Asks (state self.old) (state self.new) result (λ u. ⊤) };
+        ensures asks { Asks (state self.old) (state self.new) result (λ u. ⊤) }
+        ensures asked { IsAskedWithin 0 (asked self.old) (asked self.new) };
 }

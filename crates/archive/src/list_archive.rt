@@ -542,6 +542,8 @@ impl Archive for ListArchive {
 
     ghost state = { store_of };
 
+    ghost asked = { λ a. 0 };
+
     fn id(&self) -> Uuid {
         self.id
     }

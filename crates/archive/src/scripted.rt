@@ -212,10 +212,12 @@ impl Archive for ScriptedArchive {
     ghost use Rattle.records.specs.Contents.{vec, top, cut};
     ghost use Rattle.records.specs.Spelling.{IsLawfulRecord};
     ghost use Rattle.archive.specs.Reading.{range_of, log_of, outside_of};
-    ghost use Rattle.archive.specs.Store.{Asks, Learns, fault_in, store_fault_in};
+    ghost use Rattle.archive.specs.Store.{Asks, Learns, IsAskedWithin, fault_in, store_fault_in};
     ghost use Rattle.archive.specs.Scripted.{scripted_store, Follows};
 
     ghost state = { scripted_store };
+
+    ghost asked = { λ a. a.greatest_limit };
 
     fn id(&self) -> Uuid {
         self.inner.id()
@@ -232,6 +234,7 @@ impl Archive for ScriptedArchive {
     #[tactic(auto, using(crate::proofs::Scripting::queries))]
     fn vector(&mut self) -> Result<Vector, StoreFault>
         ensures asks { Asks (scripted_store self.old) (scripted_store self.new) result (λ v. (replica : ℕ) → number_of v replica ≡ vec self.old.inner.records replica) }
+        ensures asked { IsAskedWithin 0 self.old.greatest_limit self.new.greatest_limit }
         ensures follows { Follows self.old self.new false 0 (fault_in result) }
     {
         self.begin(0, false)?;
@@ -242,6 +245,7 @@ impl Archive for ScriptedArchive {
     #[tactic(auto, using(crate::proofs::Scripting::queries))]
     fn top(&mut self) -> Result<i64, StoreFault>
         ensures asks { Asks (scripted_store self.old) (scripted_store self.new) result (λ t. t ≡ top self.old.inner.records) }
+        ensures asked { IsAskedWithin 0 self.old.greatest_limit self.new.greatest_limit }
         ensures follows { Follows self.old self.new false 0 (fault_in result) }
     {
         self.begin(0, false)?;
@@ -252,6 +256,7 @@ impl Archive for ScriptedArchive {
     #[tactic(auto, using(crate::proofs::Scripting::queries))]
     fn at(&mut self, alloc: Global, node: &NodeId, time: Moment) -> Result<Vec<Record>, StoreFault>
         ensures asks { Asks (scripted_store self.old) (scripted_store self.new) result (λ v. v.items ≡ story self.old.inner.records node.now time) }
+        ensures asked { IsAskedWithin 0 self.old.greatest_limit self.new.greatest_limit }
         ensures follows { Follows self.old self.new false 0 (fault_in result) }
     {
         self.begin(0, false)?;
@@ -271,6 +276,7 @@ impl Archive for ScriptedArchive {
         within: &Vector,
     ) -> Result<Vec<Held>, StoreFault>
         ensures asks { Asks (scripted_store self.old) (scripted_store self.new) result (λ v. v.items ≡ take limit (range_of (cut self.old.inner.records (number_of within.now)) node.now from to direction)) }
+        ensures asked { IsAskedWithin limit self.old.greatest_limit self.new.greatest_limit }
         ensures follows { Follows self.old self.new false limit (fault_in result) }
     {
         self.begin(limit, false)?;
@@ -293,6 +299,7 @@ impl Archive for ScriptedArchive {
         within: &Vector,
     ) -> Result<Vec<Entry>, StoreFault>
         ensures asks { Asks (scripted_store self.old) (scripted_store self.new) result (λ v. v.items ≡ take limit (log_of (cut self.old.inner.records (number_of within.now)) node.now from to after direction)) }
+        ensures asked { IsAskedWithin limit self.old.greatest_limit self.new.greatest_limit }
         ensures follows { Follows self.old self.new false limit (fault_in result) }
     {
         self.begin(limit, false)?;
@@ -312,6 +319,7 @@ impl Archive for ScriptedArchive {
         within: &Vector,
     ) -> Result<Option<Held>, StoreFault>
         ensures asks { Asks (scripted_store self.old) (scripted_store self.new) result (λ h. h ≡ outside_of (cut self.old.inner.records (number_of within.now)) node.now time direction) }
+        ensures asked { IsAskedWithin 0 self.old.greatest_limit self.new.greatest_limit }
         ensures follows { Follows self.old self.new false 0 (fault_in result) }
     {
         self.begin(0, false)?;
@@ -329,6 +337,7 @@ impl Archive for ScriptedArchive {
         limit: usize,
     ) -> Result<Vec<Record>, StoreFault>
         ensures asks { Asks (scripted_store self.old) (scripted_store self.new) result (λ v. v.items ≡ missing self.old.inner.records (number_of vector.now) limit) }
+        ensures asked { IsAskedWithin limit self.old.greatest_limit self.new.greatest_limit }
         ensures follows { Follows self.old self.new false limit (fault_in result) }
     {
         self.begin(limit, false)?;
@@ -339,6 +348,7 @@ impl Archive for ScriptedArchive {
     fn learn(&mut self, candidate: &Record) -> Result<bool, LearnFault>
         requires { IsLawfulRecord candidate.now }
         ensures learns { Learns (scripted_store self.old) (scripted_store self.new) candidate.now result }
+        ensures asked { IsAskedWithin 0 self.old.greatest_limit self.new.greatest_limit }
         ensures follows { Follows self.old self.new true 0 (store_fault_in result) }
     {
         let breaks_after = self.failure == Failure::BrokenAfter && !self.broken;
@@ -354,6 +364,7 @@ impl Archive for ScriptedArchive {
     #[tactic(auto, using(crate::proofs::Scripting::queries))]
     fn reload(&mut self) -> Result<(), StoreFault>
         ensures asks { Asks (scripted_store self.old) (scripted_store self.new) result (λ u. ⊤) }
+        ensures asked { IsAskedWithin 0 self.old.greatest_limit self.new.greatest_limit }
         ensures follows { Follows self.old self.new false 0 (fault_in result) }
     {
         self.begin(0, false)?;

@@ -3,5 +3,5 @@ use Rattle.std.specs.Prelude.{⊤}
 use Rattle.archive.proofs.Listing.{asked}
 use Rattle.archive.proofs.list_archive.ListArchiveArchive.reload.Goals as goal
 
-pub returns : goal.returns
-returns c = asked _ _ (Ok tt) _ c.told.ensures.lawful tt c.told.ensures.same c.told.ensures.left (λ _. ⊤) tt
+pub returns-clause-asks : goal.returns-clause-asks
+returns-clause-asks c = asked _ _ (Ok tt) _ c.told.ensures.lawful tt c.told.ensures.same c.told.ensures.left (λ _. ⊤) tt
