@@ -11,9 +11,12 @@ use ua_binary::NodeId;
 use uuid::Uuid;
 
 impl<L: Archive, R: Archive> Archive for Either<L, R> {
+    ghost use Rattle.either.specs.Either.{either};
     ghost use Rattle.archive.specs.Sides.{store_of};
 
     ghost state = { store_of L.state R.state };
+
+    ghost asked = { either L.asked R.asked };
 
     fn id(&self) -> Uuid {
         match self {
