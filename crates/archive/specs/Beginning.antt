@@ -1,6 +1,6 @@
 -- An archive that begins.
 use Rattle.std.specs.Prelude.{◌≡◌, ℕ, false, List, []}
-use Rattle.archive.specs.Store.{Store, Rests}
+use Rattle.archive.specs.Store.{Store}
 
 -- an archive of this id and replica, in use, that holds nothing
 pub record HoldsNothing (archive : List ℕ) (replica : ℕ) (s : Store) : Type 0 where
@@ -8,5 +8,4 @@ pub record HoldsNothing (archive : List ℕ) (replica : ℕ) (s : Store) : Type 
   pub own : s.own ≡ replica
   pub honest : s.honest
   pub whole : s.broken ≡ false
-  pub rests : Rests s
   pub empty : s.content ≡ []

@@ -324,10 +324,7 @@ impl SqlArchive<MemStore> {
             Err(_) => return Err(StoreFault::OutOfMemory),
         };
         match make(alloc, conn, id, number) {
-            Ok(archive) => {
-                let _rests = archive.number();
-                Ok(archive)
-            }
+            Ok(archive) => Ok(archive),
             Err((fault, _)) => Err(fault),
         }
     }
