@@ -152,6 +152,10 @@ given_before place = option_map_or (λ p. p.given) place 0
 abbrev pub page_size : Details → Option Position → ℕ
 page_size q p = if q.num_values_per_node == 0 then 1000 else min 1000 (if has_both q then q.num_values_per_node else q.num_values_per_node - given_before p)
 
+-- the most items of any page of a read
+abbrev pub most_items : Details → ℕ
+most_items q = if q.num_values_per_node == 0 then 1000 else min 1000 q.num_values_per_node
+
 -- no more than the count, where a time is open
 abbrev pub is_spent : Details → Option Position → Bool
 is_spent q p = not (has_both q) && nat_le q.num_values_per_node (given_before p + page_size q p)

@@ -4,7 +4,7 @@ ghost use Rattle.std.specs.Prelude.{◌≡◌, slice_get};
 ghost use Rattle.stamp.specs.Numbers.{number_of};
 ghost use Rattle.records.specs.Contents.{cut};
 ghost use Rattle.records.specs.Records.{current};
-ghost use Rattle.archive.specs.Store.{Asks};
+ghost use Rattle.archive.specs.Store.{Asks, IsAskedWithin};
 ghost use Rattle.hist_read.specs.Asking.{end_time};
 ghost use Rattle.hist_read.specs.Reads.{near, nearest_from, far_value};
 
@@ -33,7 +33,8 @@ fn value_at<A: Archive>(
     time: Moment,
     within: &Vector,
 ) -> Result<Option<Held>, StoreFault>
-    ensures { Asks (A.state archive.old) (A.state archive.new) result (λ h. h ≡ current (cut (A.state archive.old).content (number_of within.now)) node.now time) }
+    ensures asks { Asks (A.state archive.old) (A.state archive.new) result (λ h. h ≡ current (cut (A.state archive.old).content (number_of within.now)) node.now time) }
+    ensures asked { IsAskedWithin 1 (A.asked archive.old) (A.asked archive.new) }
 {
     let found = archive.range(alloc, node, time, time, Direction::Forward, 1, within)?;
     Ok(first_of(found))
@@ -48,7 +49,8 @@ fn nearest_from<A: Archive>(
     time: Moment,
     within: &Vector,
 ) -> Result<Option<Held>, StoreFault>
-    ensures { Asks (A.state archive.old) (A.state archive.new) result (λ h. h ≡ nearest_from (cut (A.state archive.old).content (number_of within.now)) node.now direction time) }
+    ensures asks { Asks (A.state archive.old) (A.state archive.new) result (λ h. h ≡ nearest_from (cut (A.state archive.old).content (number_of within.now)) node.now direction time) }
+    ensures asked { IsAskedWithin 1 (A.asked archive.old) (A.asked archive.new) }
 {
     if let Some(held) = value_at(alloc, archive, node, time, within)? {
         return Ok(Some(held));
@@ -64,7 +66,8 @@ pub(crate) fn near<A: Archive>(
     details: &ReadRawModifiedDetails,
     within: &Vector,
 ) -> Result<Item, StoreFault>
-    ensures { Asks (A.state archive.old) (A.state archive.new) result (λ i. i ≡ near (cut (A.state archive.old).content (number_of within.now)) node.now details.now) }
+    ensures asks { Asks (A.state archive.old) (A.state archive.new) result (λ i. i ≡ near (cut (A.state archive.old).content (number_of within.now)) node.now details.now) }
+    ensures asked { IsAskedWithin 1 (A.asked archive.old) (A.asked archive.new) }
 {
     let back = direction(details).opposite();
     let start = origin(details);
@@ -83,7 +86,8 @@ pub(crate) fn far_value<A: Archive>(
     details: &ReadRawModifiedDetails,
     within: &Vector,
 ) -> Result<Option<Held>, StoreFault>
-    ensures { Asks (A.state archive.old) (A.state archive.new) result (λ h. h ≡ far_value (cut (A.state archive.old).content (number_of within.now)) node.now details.now (end_time details.now)) }
+    ensures asks { Asks (A.state archive.old) (A.state archive.new) result (λ h. h ≡ far_value (cut (A.state archive.old).content (number_of within.now)) node.now details.now (end_time details.now)) }
+    ensures asked { IsAskedWithin 1 (A.asked archive.old) (A.asked archive.new) }
 {
     let onward = direction(details);
     let end = Moment::at(details.end_time.0);

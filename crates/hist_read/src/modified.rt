@@ -1,11 +1,11 @@
 //! Pages of modifications.
 
-ghost use Rattle.std.specs.Prelude.{◌≡◌, ◌||◌, IsTrue, false};
+ghost use Rattle.std.specs.Prelude.{◌≡◌, ◌+◌, ◌||◌, IsTrue, false};
 ghost use Rattle.stamp.specs.Numbers.{number_of};
 ghost use Rattle.records.specs.Contents.{cut};
-ghost use Rattle.archive.specs.Store.{Asks};
+ghost use Rattle.archive.specs.Store.{Asks, IsAskedWithin};
 ghost use Rattle.hist_read.specs.Asking.{is_given};
-ghost use Rattle.hist_read.specs.Reads.{page, is_spent, next_place, place_at, modified_position};
+ghost use Rattle.hist_read.specs.Reads.{page, page_size, is_spent, next_place, place_at, modified_position};
 ghost use Rattle.hist_read.specs.Pages.{IsModifiedPage};
 
 use crate::asked::{body, direction, given_after, goes_on, page_size};
@@ -96,7 +96,8 @@ pub(crate) fn read_modified<A: Archive>(
     within: &Vector,
 ) -> Result<ModifiedPage, StoreFault>
     requires { IsTrue (is_given details.now.start_time.0 || is_given details.now.end_time.0) }
-    ensures { Asks (A.state archive.old) (A.state archive.new) result (IsModifiedPage (cut (A.state archive.old).content (number_of within.now)) node.now details.now position.now) }
+    ensures asks { Asks (A.state archive.old) (A.state archive.new) result (IsModifiedPage (cut (A.state archive.old).content (number_of within.now)) node.now details.now position.now) }
+    ensures asked { IsAskedWithin (page_size details.now position.now + 1) (A.asked archive.old) (A.asked archive.new) }
 {
     let onward = direction(details);
     let span = body(details);

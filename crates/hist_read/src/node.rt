@@ -1,6 +1,6 @@
 //! Reads of a node's history.
 
-ghost use Rattle.std.specs.Prelude.{◌≡◌, ◌↔◌, ◌<◌, ◌^◌, nat_le, length, map, All, IsTrue, ◌||◌, ◌≤ℤ◌, List, IfOk, IfErr, IfSome, Option, option_map, Ok, Err, true, false};
+ghost use Rattle.std.specs.Prelude.{◌≡◌, ◌↔◌, ◌<◌, ◌+◌, ◌^◌, nat_le, length, map, All, IsTrue, ◌||◌, ◌≤ℤ◌, List, IfOk, IfErr, IfSome, Option, option_map, Ok, Err, true, false};
 ghost use Rattle.std.specs.Option.{option_copied};
 ghost use Rattle.stamp.specs.Numbers.{number_of, IsVector};
 ghost use Rattle.ua_binary.specs.Binary.{node_of, IsNodeId, IsShortNode, IsCounted};
@@ -12,10 +12,11 @@ ghost use Rattle.ua_services.specs.Unkept.{many};
 ghost use Rattle.hist_read.specs.Short.{IsWritable, AreWritable, IsWritableHistory};
 ghost use Rattle.ua_services.specs.History.{info_fields, modification_info, IsShortInfo, IsShortHistory, IsShortHistoryRead};
 ghost use Rattle.records.specs.Contents.{numbers_of, cut};
-ghost use Rattle.archive.specs.Store.{Mark, Asks};
+ghost use Rattle.archive.specs.Store.{Mark, Asks, IsAskedWithin};
 ghost use Rattle.archive.specs.Steps.{Acts};
 ghost use Rattle.hist_read.specs.Asking.{is_given, first_time};
 ghost use Rattle.hist_read.specs.Point.{point_in, point_of, point, IsPoint, IsNext};
+ghost use Rattle.hist_read.specs.Reads.{page_size, most_items};
 ghost use Rattle.hist_read.specs.Node.{is_enough, IsOfRead, place_in, judged, refused, status_for, point_at, page_result, page_from, read_node};
 ghost use Rattle.hist_read.specs.Finding.{Finds};
 
@@ -217,6 +218,7 @@ fn raw_result<A: Archive>(
     ensures counted { IfOk result (λ r. IsCounted r.continuation_point) }
     ensures finds { Finds (A.state archive.old) (A.state archive.new) result
         (λ r. r ≡ page_result (cut (A.state archive.old).content (number_of within.now)) within.now (A.state archive.old).id node.now query.now position.now) }
+    ensures asked { IsAskedWithin (page_size query.now.details position.now + 1) (A.asked archive.old) (A.asked archive.new) }
 {
     let id = archive.id();
     let page = read_raw(alloc, archive, node, &query.details, position, within)?;
@@ -244,6 +246,7 @@ fn modified_result<A: Archive>(
     ensures counted { IfOk result (λ r. IsCounted r.continuation_point) }
     ensures finds { Finds (A.state archive.old) (A.state archive.new) result
         (λ r. r ≡ page_result (cut (A.state archive.old).content (number_of within.now)) within.now (A.state archive.old).id node.now query.now position.now) }
+    ensures asked { IsAskedWithin (page_size query.now.details position.now + 1) (A.asked archive.old) (A.asked archive.new) }
 {
     let id = archive.id();
     let page = read_modified(alloc, archive, node, &query.details, position, within)?;
@@ -271,6 +274,7 @@ fn page_result<A: Archive>(
     ensures counted { IfOk result (λ r. IsCounted r.continuation_point) }
     ensures finds { Finds (A.state archive.old) (A.state archive.new) result
         (λ r. r ≡ page_result (cut (A.state archive.old).content (number_of within.now)) within.now (A.state archive.old).id node.now query.now position.now) }
+    ensures asked { IsAskedWithin (page_size query.now.details position.now + 1) (A.asked archive.old) (A.asked archive.new) }
 {
     if query.details.is_read_modified {
         modified_result(alloc, archive, node, query, position, within)
@@ -283,6 +287,7 @@ fn page_result<A: Archive>(
 fn own_vector<A: Archive>(archive: &mut A) -> Result<Vector, StoreFault>
     ensures asks { Asks (A.state archive.old) (A.state archive.new) result (λ v. v ≡ numbers_of (A.state archive.old).content) }
     ensures vector { IfOk result IsVector }
+    ensures asked { IsAskedWithin 0 (A.asked archive.old) (A.asked archive.new) }
 {
     let own = archive.vector()?;
     let _first = first_number(&own);
@@ -310,6 +315,7 @@ fn page_from<A: Archive>(
     requires place { IfSome behind.now (λ p. first_time ≤ℤ p.0.time) }
     ensures counted { IfOk result (λ r. IsCounted r.continuation_point) }
     ensures finds { Finds (A.state archive.old) (A.state archive.new) result (λ r. r ≡ page_from (A.state archive.old).content (A.state archive.old).id node.now query.now behind.now) }
+    ensures asked { IsAskedWithin (page_size query.now.details (option_map (λ b. b.0) behind.now) + 1) (A.asked archive.old) (A.asked archive.new) }
 {
     let own = own_vector(archive)?;
     match behind {
@@ -386,6 +392,7 @@ fn short_page<A: Archive>(
     requires given { IsTrue (is_given query.now.details.start_time.0 || is_given query.now.details.end_time.0) }
     requires place { IfSome behind.now (λ p. first_time ≤ℤ p.0.time) }
     ensures finds { Finds (A.state archive.old) (A.state archive.new) result (λ r. r ≡ page_from (A.state archive.old).content (A.state archive.old).id node.now query.now behind.now) }
+    ensures asked { IsAskedWithin (page_size query.now.details (option_map (λ b. b.0) behind.now) + 1) (A.asked archive.old) (A.asked archive.new) }
     ensures short { IfOk result IsShortHistoryRead }
 {
     let read = page_from(alloc, archive, node, query, behind)?;
@@ -407,8 +414,10 @@ fn short_page<A: Archive>(
 /// a point whose vector the archive's own isn't at least is refused with the same code; a fault is told by
 /// `BAD_OUT_OF_MEMORY`, as is want of memory here, or by `BAD_RESOURCE_UNAVAILABLE`. A bad status has neither
 /// items nor a point, and no call changes the content. Of a broken archive each read that isn't refused
-/// before is `BAD_RESOURCE_UNAVAILABLE`. An empty page is `GOOD_NO_DATA`. Each result can be written. The
-/// node's id has less than 2^31 bytes.
+/// before is `BAD_RESOURCE_UNAVAILABLE`. An empty page is `GOOD_NO_DATA`. Each result can be written. No query
+/// of the archive is given a limit above the page's items and one, so above 1,001, or above the count and one
+/// where a count is given. The node's id has less than 2^31 bytes.
+#[tactic(auto, using(crate::proofs::Sizes::page_most))]
 pub fn read_node<A: Archive>(
     alloc: Global,
     archive: &mut A,
@@ -421,6 +430,8 @@ pub fn read_node<A: Archive>(
     ensures acts { (used : List Mark) × Acts (A.state archive.old) (A.state archive.new) used (read_node (A.state archive.old).id node.now query.now (option_copied continuation.entry)) result }
     ensures ended { (A.state archive.old).broken ≡ true → IfOk (judged (A.state archive.old).id node.now query.now.details (option_copied continuation.entry)) (λ _. result ≡ refused BAD_RESOURCE_UNAVAILABLE) }
     ensures short { IsShortHistoryRead result }
+    ensures asked { IsAskedWithin (most_items query.now.details + 1) (A.asked archive.old) (A.asked archive.new) }
+    ensures page { IfOk (judged (A.state archive.old).id node.now query.now.details (option_copied continuation.entry)) (λ behind. IsAskedWithin (page_size query.now.details (option_map (λ b. b.0) behind) + 1) (A.asked archive.old) (A.asked archive.new)) }
 {
     let id = archive.id();
     let behind = match judge(id, node, &query.details, continuation) {

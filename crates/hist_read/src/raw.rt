@@ -4,7 +4,7 @@ ghost use Rattle.std.specs.Prelude.{◌≡◌, ◌≤◌, ◌+◌, ◌<◌, ◌|
 ghost use Rattle.std.specs.Option.{option_to_list};
 ghost use Rattle.stamp.specs.Numbers.{number_of};
 ghost use Rattle.records.specs.Contents.{cut};
-ghost use Rattle.archive.specs.Store.{Asks};
+ghost use Rattle.archive.specs.Store.{Asks, IsAskedWithin};
 ghost use Rattle.hist_read.specs.Asking.{is_given, has_both, first_time, origin_time};
 ghost use Rattle.hist_read.specs.Reads.{is_near_alone, body_part, far_value, values, item_time, last_time, time_before, open_bound, page_size, page, is_spent, next_place, raw_position};
 ghost use Rattle.hist_read.specs.Pages.{IsFound, IsFoundBehind, body_limit, has_far, far_item, far_of, row_of, IsRawPage};
@@ -48,7 +48,8 @@ fn has_far(details: &ReadRawModifiedDetails) -> bool
 
 /// How many values are asked for.
 fn body_limit(details: &ReadRawModifiedDetails, position: &Option<Position>) -> usize
-    ensures { result ≡ body_limit details.now position.now }
+    ensures value { result ≡ body_limit details.now position.now }
+    ensures few { result ≤ page_size details.now position.now + 1 }
 {
     if is_near_alone(details) {
         return 0;
@@ -67,8 +68,9 @@ fn find_body<A: Archive>(
 ) -> Result<Vec<Held>, StoreFault>
     requires given { IsTrue (is_given details.now.start_time.0 || is_given details.now.end_time.0) }
     requires place { IfSome position.now (λ p. first_time ≤ℤ p.time) }
-    ensures { Asks (A.state archive.old) (A.state archive.new) result
+    ensures asks { Asks (A.state archive.old) (A.state archive.new) result
         (λ v. v.items ≡ take (page_size details.now position.now + 1) (body_part (cut (A.state archive.old).content (number_of within.now)) node.now details.now position.now)) }
+    ensures asked { IsAskedWithin (page_size details.now position.now + 1) (A.asked archive.old) (A.asked archive.new) }
 {
     let onward = direction(details);
     let span = span_after(details, position);
@@ -87,7 +89,8 @@ fn find_values<A: Archive>(
 ) -> Result<(Vec<Held>, Option<Held>), StoreFault>
     requires given { IsTrue (is_given details.now.start_time.0 || is_given details.now.end_time.0) }
     requires place { IfSome position.now (λ p. first_time ≤ℤ p.time) }
-    ensures { Asks (A.state archive.old) (A.state archive.new) result (IsFoundBehind (cut (A.state archive.old).content (number_of within.now)) node.now details.now position.now) }
+    ensures asks { Asks (A.state archive.old) (A.state archive.new) result (IsFoundBehind (cut (A.state archive.old).content (number_of within.now)) node.now details.now position.now) }
+    ensures asked { IsAskedWithin (page_size details.now position.now + 1) (A.asked archive.old) (A.asked archive.new) }
 {
     let body = find_body(alloc, archive, node, details, position, within)?;
     if !has_far(details) || !has_both(details) {
@@ -108,7 +111,8 @@ pub(crate) fn find<A: Archive>(
 ) -> Result<Found, StoreFault>
     requires given { IsTrue (is_given details.now.start_time.0 || is_given details.now.end_time.0) }
     requires place { IfSome position.now (λ p. first_time ≤ℤ p.time) }
-    ensures { Asks (A.state archive.old) (A.state archive.new) result (IsFound (cut (A.state archive.old).content (number_of within.now)) node.now details.now position.now) }
+    ensures asks { Asks (A.state archive.old) (A.state archive.new) result (IsFound (cut (A.state archive.old).content (number_of within.now)) node.now details.now position.now) }
+    ensures asked { IsAskedWithin (page_size details.now position.now + 1) (A.asked archive.old) (A.asked archive.new) }
 {
     if position.is_some() || !details.return_bounds {
         let (body, far) = find_values(alloc, archive, node, details, position, within)?;
@@ -287,7 +291,8 @@ pub(crate) fn read_raw<A: Archive>(
 ) -> Result<RawPage, Setback>
     requires given { IsTrue (is_given details.now.start_time.0 || is_given details.now.end_time.0) }
     requires place { IfSome position.now (λ p. first_time ≤ℤ p.time) }
-    ensures { Finds (A.state archive.old) (A.state archive.new) result (IsRawPage (cut (A.state archive.old).content (number_of within.now)) node.now details.now position.now) }
+    ensures finds { Finds (A.state archive.old) (A.state archive.new) result (IsRawPage (cut (A.state archive.old).content (number_of within.now)) node.now details.now position.now) }
+    ensures asked { IsAskedWithin (page_size details.now position.now + 1) (A.asked archive.old) (A.asked archive.new) }
 {
     let found = find(alloc, archive, node, details, position, within)?;
     let items = row(alloc, found, details, position)?;

@@ -10,8 +10,8 @@ use Rattle.hist_read.proofs.Askings.{asked_as}
 use Rattle.hist_read.proofs.Paging.{modified_page, modified_next}
 use Rattle.hist_read.proofs.modified.read_modified.Goals as goal
 
-pub returns : goal.returns
-returns g c =
+pub returns-clause-asks : goal.returns-clause-asks
+returns-clause-asks g c =
     let R = cut (g.A.Archive.state c.args.archive.now).content (number_of c.args.within.now) in
     let node = c.args.node.now in
     let q = c.args.details.now in
@@ -19,7 +19,7 @@ returns g c =
     let from = c.body-span.result.from in
     let to = c.body-span.result.to in
     let entries = c.in_ok-entries.entries.items in
-    asked_as _ _ c.in_ok-entries.entries c.page.result _ _ c.in_ok-entries.ensures (λ lawful is.
+    asked_as _ _ c.in_ok-entries.entries c.page.result _ _ c.in_ok-entries.ensures.asks (λ lawful is.
     let found : entries ≡ take (page_size q p + 1) (log_of R node from to (place_at p) (direction q)) =
     is
     ∙ (ap (λ d. take (c.page_size-limit.result + 1) (log_of R node from to c.place_at-after.result d)) c.direction-onward.ensures

@@ -22,7 +22,7 @@ returns-clause-finds g c =
     let query = c.args.query.now in
     let q = query.details in
     let p = c.args.position.now in
-    found_as _ _ c.in_ok-page.page _ _ _ c.in_ok-page.ensures (λ lawful is.
+    found_as _ _ c.in_ok-page.page _ _ _ c.in_ok-page.ensures.asks (λ lawful is.
     let next = c.in_ok-continuation_point.ensures.point (subst (λ o. IfSome o (IsNext q)) (sym is.next) (modified_next_lawful R node q p (lawful_cut _ (number_of v) lawful) c.requires.modified)) in
     let values = c.of.ensures ∙ c.in_ok-values.ensures.0 in
     result_is (shown_entry c.args.query.now.stamps) (page q p (modified R node q p)) c.in_ok-page.page.entries.items _ _ _ _ _ _

@@ -21,7 +21,7 @@ returns-clause-finds g c =
     let query = c.args.query.now in
     let q = query.details in
     let p = c.args.position.now in
-    found_then _ _ c.in_ok-page.page _ _ _ c.in_ok-page.ensures (λ lawful is.
+    found_then _ _ c.in_ok-page.page _ _ _ c.in_ok-page.ensures.finds (λ lawful is.
     let next = c.in_ok-continuation_point.ensures.point (subst (λ o. IfSome o (IsNext q)) (sym is.next) (raw_next R node q p (lawful_cut _ (number_of v) lawful) c.requires.given c.requires.raw)) in
     let values = c.of.ensures ∙ c.in_ok-values.ensures in
     result_is (shown c.args.query.now.stamps) (page q p (raw R node q p)) c.in_ok-page.page.items.items _ _ _ _ _ _

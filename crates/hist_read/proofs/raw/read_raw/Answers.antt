@@ -6,13 +6,13 @@ use Rattle.hist_read.proofs.Askings.{found_as}
 use Rattle.hist_read.proofs.Paging.{row_page, row_next}
 use Rattle.hist_read.proofs.raw.read_raw.Goals as goal
 
-pub returns : goal.returns
-returns g c =
+pub returns-clause-finds : goal.returns-clause-finds
+returns-clause-finds g c =
     let R = cut (g.A.Archive.state c.args.archive.now).content (number_of c.args.within.now) in
     let node = c.args.node.now in
     let q = c.args.details.now in
     let p = c.args.position.now in
-    found_as _ _ c.in_ok-found.found c.page.result _ _ c.in_ok-found.ensures (λ lawful is. record {
+    found_as _ _ c.in_ok-found.found c.page.result _ _ c.in_ok-found.ensures.asks (λ lawful is. record {
       items = c.page.ensures.items ∙ (ap (page q p) c.in_ok-items.ensures ∙ row_page R node q p c.in_ok-found.found is);
       next = c.page.ensures.next ∙ (ap (next_place (raw_position q p) q p) c.in_ok-items.ensures ∙ row_next R node q p c.in_ok-found.found is);
     })
