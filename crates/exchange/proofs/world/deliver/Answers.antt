@@ -8,11 +8,11 @@ returns-then-not-is_lawful g c = learned_ended (g.A.Archive.state c.args.archive
 
 pub returns-in-Err : goal.returns-in-Err
 returns-in-Err g c = learned_stopped (g.A.Archive.state c.args.archive.now) (g.A.Archive.state c.loop-held.archive) (g.A.Archive.state c.learn.new.self) c.args.records.now c.loop-held.held-index c.held-item.result c.held-item.result c.loop-held.invariant c.loop-held-test.true c.held-item.is
-    c.in-Err.cause c.ended_by.result c.ended_by.ensures c.in-Err.ensures
+    c.in-Err.cause c.ended_by.result c.ended_by.ensures c.in-Err.ensures.learns
 
 pub loop-held-preserved : goal.loop-held-preserved
 loop-held-preserved g c = learned_more (g.A.Archive.state c.args.archive.now) (g.A.Archive.state c.loop-held.archive) (g.A.Archive.state c.learn.new.self) c.args.records.now c.loop-held.held-index c.held-item.result c.held-item.result c.loop-held.invariant c.loop-held-test.true c.held-item.is
-    c.in-Ok.field-0 c.in-Ok.ensures
+    c.in-Ok.field-0 c.in-Ok.ensures.learns
 
 pub returns : goal.returns
 returns g c = learned_all (g.A.Archive.state c.args.archive.now) (g.A.Archive.state c.loop-held.archive) c.args.records.now

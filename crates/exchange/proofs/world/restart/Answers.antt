@@ -3,4 +3,4 @@ use Rattle.exchange.proofs.RunLemmas.{restarted}
 use Rattle.exchange.proofs.world.restart.Goals as goal
 
 pub returns : goal.returns
-returns g c = restarted (g.A.Archive.state c.args.archive.now) (g.A.Archive.state c.reload.new.self) c.reload.result (λ u. ⊤) c.reload.ensures
+returns g c = restarted (g.A.Archive.state c.args.archive.now) (g.A.Archive.state c.reload.new.self) c.reload.result (λ u. ⊤) c.reload.ensures.asks

@@ -7,8 +7,8 @@ use Rattle.exchange.specs.Dialogs.{received, AnswersTo}
 use Rattle.exchange.proofs.TakeLemmas.{takes}
 use Rattle.exchange.proofs.dialog.Dialog.take.Goals as goal
 
-pub returns : goal.returns
-returns g c =
+pub returns-clause-takes : goal.returns-clause-takes
+returns-clause-takes g c =
     let a = g.A.Archive.state c.args.replica.now.archive in
     let b = g.A.Archive.state c.answer-answered.new.replica.archive in
     let by_id = ap (λ (i : List ℕ). let p : Party = record { id = i; own = c.number.result } in p) c.id.ensures in
@@ -17,5 +17,5 @@ returns g c =
     takes a b c.args.self.now c.count.new.self c.conclude.new.self c.args.frame.kind c.args.out.now.items c.answer-answered.new.out.items c.conclude.new.out.items c.conclude.result c.count.ensures
     c.args.frame.body.now c.receive-received.result c.answer-answered.result
     (subst (λ (p : Party). GivesUnless fault.OutOfMemory c.receive-received.result (received p c.args.self.now c.args.frame.kind c.args.frame.body.now)) party c.receive-received.ensures.gives)
-    (subst (λ (s : State). AnswersTo a b s c.receive-received.result c.args.out.now.items c.answer-answered.new.out.items c.answer-answered.result) c.state-state.ensures c.answer-answered.ensures)
+    (subst (λ (s : State). AnswersTo a b s c.receive-received.result c.args.out.now.items c.answer-answered.new.out.items c.answer-answered.result) c.state-state.ensures c.answer-answered.ensures.answers)
     c.conclude.ensures
