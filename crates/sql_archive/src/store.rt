@@ -71,6 +71,8 @@ impl<S: Alter> Archive for SqlArchive<S> {
 
     ghost state = { store_of S.Store };
 
+    ghost asked = { λ a. 0 };
+
     fn id(&self) -> Uuid {
         self.id
     }

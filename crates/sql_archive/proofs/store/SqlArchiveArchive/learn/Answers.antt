@@ -5,8 +5,8 @@ use Rattle.sql_archive.specs.Learning.{flat}
 use Rattle.sql_archive.proofs.StoreLemmas.{Laws, refuses-learn, learns, serves-learned}
 use Rattle.sql_archive.proofs.store.SqlArchiveArchive.learn.Goals as goal
 
-pub returns-then-self : goal.returns-then-self
-returns-then-self g c =
+pub returns-then-self-clause-learns : goal.returns-then-self-clause-learns
+returns-then-self-clause-learns g c =
     let e = c.refuse.ensures in
     refuses-learn g.S.Store (record { settled = g.met.S.Store.settled; stays = g.met.S.Store.stays; survives = g.met.S.Store.survives }) c.args.self.now c.refuse.new.self c.refuse.result _ e.was e.is e.conn e.number e.id e.faults e.broken e.ended e.met
 
@@ -17,8 +17,8 @@ invariant_of-self g c =
     let laws : Laws g.S.Store = record { settled = g.met.S.Store.settled; stays = g.met.S.Store.stays; survives = g.met.S.Store.survives } in
     serves-learned g.S.Store laws a b c.args.candidate.now c.learn_in-answer.result c.self.invariant c.if-self.false refl refl c.latest_after-self-inside.ensures c.learn_in-answer.ensures.learned c.tell.ensures.broken
 
-pub returns : goal.returns
-returns g c =
+pub returns-clause-learns : goal.returns-clause-learns
+returns-clause-learns g c =
     let a : Kept _ = record { conn = c.self.inside.conn; id = c.self.inside.id; number = c.self.inside.number; numbers = c.self.inside.latest.numbers; tick = c.self.inside.latest.tick; faults = c.self.inside.faults; broken = c.self.inside.broken } in
     let b : Kept _ = record { conn = c.learn_in-answer.new.conn; id = c.self.inside.id; number = c.self.inside.number; numbers = c.latest_after-self-inside.result.numbers; tick = c.latest_after-self-inside.result.tick; faults = c.tell.new.faults; broken = c.tell.new.broken } in
     let laws : Laws g.S.Store = record { settled = g.met.S.Store.settled; stays = g.met.S.Store.stays; survives = g.met.S.Store.survives } in

@@ -5,13 +5,13 @@ use Rattle.sql_archive.specs.Kept.{Kept, Serves, store_of}
 use Rattle.sql_archive.proofs.StoreLemmas.{Laws, refuses, asks, serves-asked}
 use Rattle.sql_archive.proofs.store.SqlArchiveArchive.reload.Goals as goal
 
-pub returns-then-self : goal.returns-then-self
-returns-then-self g c =
+pub returns-then-self-clause-asks : goal.returns-then-self-clause-asks
+returns-then-self-clause-asks g c =
     let e = c.refuse.ensures in
     refuses g.S.Store (record { settled = g.met.S.Store.settled; stays = g.met.S.Store.stays; survives = g.met.S.Store.survives }) c.args.self.now c.refuse.new.self c.refuse.result _ e.was e.is e.conn e.number e.id e.faults e.broken e.ended e.met
 
-pub returns : goal.returns
-returns g c =
+pub returns-clause-asks : goal.returns-clause-asks
+returns-clause-asks g c =
     let a : Kept _ = record { conn = c.self.inside.conn; id = c.self.inside.id; number = c.self.inside.number; numbers = c.self.inside.latest.numbers; tick = c.self.inside.latest.tick; faults = c.self.inside.faults; broken = c.self.inside.broken } in
     let b : Kept _ = record { conn = c.still_open-answer.new.conn; id = c.self.inside.id; number = c.self.inside.number; numbers = c.self.inside.latest.numbers; tick = c.self.inside.latest.tick; faults = c.tell.new.faults; broken = c.tell.new.broken } in
     let IsAnswer : Kept _ → Unit → Type 0 = λ x v. ⊤ in
