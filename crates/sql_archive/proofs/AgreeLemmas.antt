@@ -71,7 +71,7 @@ listing from filter project order limit = record {
 
 module _ (from : Join) (tests project : List Term) (order : List (Term × Key)) (limit : Term) (params : Row) (db : Trees) (es : List Row) (keep : Row → Bool) (env : Row → Env)
     (matched : matches db tests from (params ∷ []) ≡ flat_map (λ r. cond (keep r) (env r ∷ []) []) es) where
-  listed : (rows : List Row) → IsAnswer (listing from tests project order limit) db params rows
+  pub listed : (rows : List Row) → IsAnswer (listing from tests project order limit) db params rows
       → (all : List Row) × IsPermutation (map (λ r. eval_all project (env r)) (filter keep es)) all × (rows ≡ page (listing from tests project order limit) params all)
   listed rows a =
       let q = listing from tests project order limit in
@@ -80,16 +80,16 @@ module _ (from : Join) (tests project : List Term) (order : List (Term × Key)) 
       let same : IsPermutation (map front a.kept) (map front a.ordered) = IsPermutation-map front a.kept a.ordered a.same in
       (map front a.ordered, subst (λ xs. IsPermutation xs (map front a.ordered)) (ap (map front) kept ∙ map-map front (λ r. output q (env r)) (filter keep es)) same, a.shown)
 
-none_first : (rows : List Row) → take 1 rows ≡ [] → rows ≡ []
+pub none_first : (rows : List Row) → take 1 rows ≡ [] → rows ≡ []
 none_first [] e = refl
 none_first (r ∷ rows) e = absurd (let no = e in cc)
 
-none_of : {A B : Type 0} (f : A → B) (xs : List A) → IsPermutation (map f xs) [] → xs ≡ []
+pub none_of : {A B : Type 0} (f : A → B) (xs : List A) → IsPermutation (map f xs) [] → xs ≡ []
 none_of f [] same_rows = refl
 none_of f (x ∷ xs) same_rows = absurd (omega (arith, length_permutation (f x ∷ map f xs) [] same_rows))
 
 -- where none passes, none of them does
-none_passes : {A : Type 0} (p : A → Bool) (xs : List A) → filter p xs ≡ [] → AllByRecursion (λ x. p x ≡ false) xs
+pub none_passes : {A : Type 0} (p : A → Bool) (xs : List A) → filter p xs ≡ [] → AllByRecursion (λ x. p x ≡ false) xs
 none_passes p [] e = tt
 none_passes {A} p (x ∷ xs) e = go (p x) refl e (none_passes p xs)
   where
@@ -97,7 +97,7 @@ none_passes {A} p (x ∷ xs) e = go (p x) refl e (none_passes p xs)
     go true is e more = absurd (let no = e in cc)
     go false is e more = (is, more e)
 
-abbrev first_only : Term
+abbrev pub first_only : Term
 first_only = lit (Int (pos 1))
 
 abbrev all_of_them : Term

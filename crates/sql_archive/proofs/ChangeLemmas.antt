@@ -1,5 +1,5 @@
 -- What the writes of currents2 and of vectors mean.
-use Rattle.std.proofs.Common.{◌≡◌, ℕ, not, Bool, true, false, cond, List, [], ◌∷◌, ◌++◌, drop, map, None, Ok, refl, sym, ap, ap₂, subst, ◌∙◌, IsPermutation, is_eq}
+use Rattle.std.proofs.Common.{◌≡◌, ℕ, not, Bool, true, false, cond, List, [], ◌∷◌, ◌++◌, drop, map, length, Some, None, Ok, refl, sym, ap, ap₂, subst, ◌∙◌, IsPermutation, is_eq}
 use Rattle.std.specs.List.{AllByRecursion}
 use Rattle.std.specs.Ordering.{on}
 use Rattle.std.proofs.lemmas.Cmp.{on_total}
@@ -15,7 +15,7 @@ use Rattle.sqlite_schema.specs.declared.schema.Keys.TheVariants.{Enforced}
 use Rattle.sqlite_schema.specs.declared.schema.Table.{Table}
 use Rattle.sqlite_schema.specs.declared.program.Program.{Program}
 use Rattle.sqlite_schema.specs.declared.command.Source.{Source}
-use Rattle.sqlite_schema.specs.declared.command.Command.TheVariants.{Insert, Delete}
+use Rattle.sqlite_schema.specs.declared.command.Command.TheVariants.{Insert, Update, Delete}
 use Rattle.sqlite_rules.specs.declared.error.Rowids.TheVariants.{Chosen, Given}
 use Rattle.sqlite_rules.specs.Cast.{cast_row}
 use Rattle.sqlite_rules.specs.Calls.{ids_of}
@@ -50,7 +50,7 @@ one_more rows r free int was =
     away [] all = tt
     away (x ∷ xs) all = (either_way value_cmp value_cmp_total (rowid x) (rowid r) all.0, away xs all.1)
 
-all_more : (rows news : List Row) → are_fresh rows news ≡ true → have_rowids news ≡ true → AreNumbered rows → AreNumbered (put_all rows news)
+pub all_more : (rows news : List Row) → are_fresh rows news ≡ true → have_rowids news ≡ true → AreNumbered rows → AreNumbered (put_all rows news)
 all_more rows [] fresh keyed was = was
 all_more rows (r ∷ news) fresh keyed was =
     let both = and_parts (not (is_taken rows r)) (are_fresh (put_row r rows) news) fresh in
@@ -58,7 +58,7 @@ all_more rows (r ∷ news) fresh keyed was =
     all_more (put_row r rows) news both.1 ints.1 (one_more rows r (not_true (is_taken rows r) both.0) ints.0 was)
 
 -- all that is put in stands beside what was there
-put_beside : (rows news : List Row) → are_fresh rows news ≡ true → IsPermutation (news ++ rows) (put_all rows news)
+pub put_beside : (rows news : List Row) → are_fresh rows news ≡ true → IsPermutation (news ++ rows) (put_all rows news)
 put_beside rows [] fresh = IsPermutation-refl rows
 put_beside rows (r ∷ news) fresh =
     let both = and_parts (not (is_taken rows r)) (are_fresh (put_row r rows) news) fresh in
@@ -84,6 +84,11 @@ unnumbered columns apart rows (r ∷ news) = ap₂ ◌∷◌ (go (is_chosen Chos
     go true = apart _ r
     go false = refl
 
+-- rowids that aren't chosen stay
+pub as_given : (rows news : List Row) → numbered Given rows news ≡ news
+as_given rows [] = refl
+as_given rows (r ∷ news) = ap (λ l. r ∷ l) (as_given (put_row r rows) news)
+
 -- rowids that are given stay
 pub given : (rows news : List Row) → AllByRecursion (λ r. is_null (rowid r) ≡ false) news → numbered Chosen rows news ≡ news
 given rows [] all = refl
@@ -107,6 +112,14 @@ pub record TakesOut (table : Table) (q : Program) (params : Row) (db : Trees) (a
   pub are : Answers (record { schema = archive_schema; trees = db }) q params rows
   pub schema : after.schema ≡ archive_schema
   pub applied : Applies archive_schema Enforced db (edit_of db table (ids_of rows) Given 0 []) after.trees
+
+-- rows of a table were put in for others, and counted
+pub record Sets (table : Table) (q : Program) (params : Row) (db : Trees) (tally : Tally) (after : Database) : Type 0 where
+  pub rows : List Row
+  pub are : Answers (record { schema = archive_schema; trees = db }) q params rows
+  pub schema : after.schema ≡ archive_schema
+  pub applied : Applies archive_schema Enforced db (edit_of db table (ids_of rows) Given 1 rows) after.trees
+  pub counted : tally.rows ≡ Some (length (edit_of db table (ids_of rows) Given 1 rows).news)
 
 module _ (old : State) (tally : Tally) (after : Database) (text : List ℕ) (params : Row) (has : old.now.schema ≡ archive_schema) where
   pub into_currents : (from : Source) → Does old.step_limit (mode_of old) params old.now text None (Insert 2 from) (Ok (tally, after)) → PutsIn third_table from params old.now.trees after
@@ -147,14 +160,22 @@ module _ (old : State) (tally : Tally) (after : Database) (text : List ℕ) (par
       let same : after.trees ≡ written.0 = ap (λ (d : Database). d.trees) now ∙ trees in
       record { rows = given_rows.0; are = given_rows.1; schema = ap (λ (d : Database). d.schema) now; applied = subst (Applies archive_schema Enforced db (edit_of db fourth_table [] Chosen 0 given_rows.0)) (sym same) applied }
 
-  pub from_vectors : (q : Program) → Does old.step_limit (mode_of old) params old.now text None (Delete 3 q) (Ok (tally, after)) → TakesOut fourth_table q params old.now.trees after
-  from_vectors q changed =
+  pub set_vectors : (q : Program) → Does old.step_limit (mode_of old) params old.now text None (Update 3 q) (Ok (tally, after)) → Sets fourth_table q params old.now.trees tally after
+  set_vectors q changed =
       let db = old.now.trees in
-      let done = went (subst (λ s. Does old.step_limit (mode_of old) params (record old.now { schema = s }) text None (Delete 3 q) (Ok (tally, after))) has changed) in
-      let now = ap (λ (p : Tally × Database). p.1) (same_value (went (went done.2).2).2) in
+      let done = went (subst (λ s. Does old.step_limit (mode_of old) params (record old.now { schema = s }) text None (Update 3 q) (Ok (tally, after))) has changed) in
+      let both = same_value (went (went done.2).2).2 in
+      let now = ap (λ (p : Tally × Database). p.1) both in
       let found = went done.1 in
       let written = went found.2 in
       let trees : done.0.trees ≡ written.0 = ap (λ (it : Written). it.trees) (same_value written.2) in
-      let applied = one_step archive_schema _ db written.0 (edit_of db fourth_table (ids_of found.0) Given 0 []) refl written.1 in
+      let rows : done.0.rows ≡ (edit_of db fourth_table (ids_of found.0) Given 1 found.0).news = ap (λ (it : Written). it.rows) (same_value written.2) in
+      let applied = one_step archive_schema _ db written.0 (edit_of db fourth_table (ids_of found.0) Given 1 found.0) refl written.1 in
       let same : after.trees ≡ written.0 = ap (λ (d : Database). d.trees) now ∙ trees in
-      record { rows = found.0; are = found.1; schema = ap (λ (d : Database). d.schema) now; applied = subst (Applies archive_schema Enforced db (edit_of db fourth_table (ids_of found.0) Given 0 [])) (sym same) applied }
+      record {
+        rows = found.0;
+        are = found.1;
+        schema = ap (λ (d : Database). d.schema) now;
+        applied = subst (Applies archive_schema Enforced db (edit_of db fourth_table (ids_of found.0) Given 1 found.0)) (sym same) applied;
+        counted = ap (λ (p : Tally × Database). p.0.rows) both ∙ ap (λ l. Some (length l)) rows;
+      }

@@ -6,7 +6,7 @@ use Rattle.std.proofs.lemmas.List.{map-append}
 use Rattle.std.proofs.lemmas.List.Sorted.{IsPermutation-refl, IsPermutation-sym, IsPermutation-trans, IsPermutation-cons, IsPermutation-middle, IsPermutation-map, IsPermutation-append, length_permutation, list_any-IsPermutation}
 use Rattle.sqlite_rules.specs.Lists.{Has}
 use Rattle.sqlite_trees.specs.Tree.{IsAscending}
-use Rattle.sqlite_keyed.proofs.ListLemmas.{any_from_none, filter-map, filter_same, map_same, IsPermutation-filter}
+use Rattle.sqlite_keyed.proofs.ListLemmas.{any_from_none, all_weaker, filter_none, filter-map, filter_same, map_same, IsPermutation-filter}
 use Rattle.sqlite_value.specs.declared.value.Value.{Value}
 use Rattle.sqlite_value.specs.declared.value.Value.TheVariants.{Null, Int, Blob as Bytes}
 use Rattle.sqlite_value.specs.Order.{Row, column, value_cmp}
@@ -15,9 +15,9 @@ use Rattle.std.proofs.lemmas.Cmp.{tied_itself}
 use Rattle.sqlite_value.specs.declared.keys.Collation.TheVariants.{Binary}
 use Rattle.sqlite_sql.specs.Ops.{binary, is_true, is_null, from_truth}
 use Rattle.sqlite_sql.specs.declared.ops.BinaryOp.TheVariants.{Compare, Or}
-use Rattle.sqlite_sql.specs.declared.ops.CompareOp.TheVariants.{Ne}
+use Rattle.sqlite_sql.specs.declared.ops.CompareOp.TheVariants.{Ne, Gt, Ge}
 use Rattle.sql_archive.specs.Words.{cells_of}
-use Rattle.sql_archive.specs.Keeping.{is_vector_of, currents_where}
+use Rattle.sql_archive.specs.Keeping.{is_vector_of, currents_where, HasNoneOf}
 use Rattle.sql_archive.specs.Derived.{current_of, currents_of, last_of, vectors_of, is_later, is_other, is_newer, flag, same, above, is_of, is_current_of, IsNewest}
 
 pub both_filters : {A : Type 0} (p q : A → Bool) (xs : List A) → filter p (filter q xs) ≡ filter (λ x. p x && q x) xs
@@ -192,6 +192,64 @@ currents_changed origin number tick node time pico asked who value X Y C after =
 
     apart : (r : Row) → is_of node time pico r ≡ false → (is_later r n ≡ false) × ((X : List Row) → current_of (n ∷ X) r ≡ current_of X r)
     apart r off = (other_moment origin number tick node time pico asked who value r _ off, λ X. rw (other_moment origin number tick node time pico asked who value r (is_true (binary Or (binary (Compare Ne Binary) (Int tick) (column r 2)) (binary (Compare Ne Binary) (Int origin) (column r 0)))) off) refl)
+
+-- a row that is the only one of its node, time and picoseconds makes a row of currents2 that tells of no other
+module _ (origin number tick : ℤ) (node : List ℕ) (time pico asked : ℤ) (who value : List ℕ) where
+  abbrev only : Row
+  only = cells_of origin number tick node time pico asked who value
+
+  not_greater : is_true (binary Or (binary (Compare Gt Binary) (Int tick) (Int tick)) (binary (Compare Gt Binary) (Int origin) (Int origin))) ≡ false
+  unfolding binary
+  not_greater = rw (tied_itself value_cmp_total (Int tick), tied_itself value_cmp_total (Int origin)) refl
+
+  not_apart : is_true (binary Or (binary (Compare Ne Binary) (Int tick) (Int tick)) (binary (Compare Ne Binary) (Int origin) (Int origin))) ≡ false
+  unfolding binary
+  not_apart = rw (tied_itself value_cmp_total (Int tick), tied_itself value_cmp_total (Int origin)) refl
+
+  fifth_off : (a b c d e : Bool) → e ≡ false → (a && (b && (c && (d && e)))) ≡ false
+  fifth_off true true true true e off = off
+  fifth_off true true true false e off = refl
+  fifth_off true true false d e off = refl
+  fifth_off true false c d e off = refl
+  fifth_off false b c d e off = refl
+
+  fourth_off : (a b c d : Bool) → d ≡ false → (a && (b && (c && d))) ≡ false
+  fourth_off true true true d off = off
+  fourth_off true true false d off = refl
+  fourth_off true false c d off = refl
+  fourth_off false b c d off = refl
+
+  own_moment : is_of node time pico only ≡ true
+  own_moment = rw (same_itself (Bytes node) refl, same_itself (Int time) refl, same_itself (Int pico) refl) refl
+
+  none_later : (others : List Row) → HasNoneOf node time pico others → list_any (is_later only) (only ∷ others) ≡ false
+  none_later others apart =
+      any_from_none (is_later only) (only ∷ others) (
+        fifth_off (same (Bytes node) (Bytes node)) (same (Int time) (Int time)) (same (Int pico) (Int pico)) (is_true (binary (Compare Ge Binary) (Int tick) (Int tick))) _ not_greater,
+        all_weaker (λ r. is_of node time pico r ≡ false) (λ r. is_later only r ≡ false) (λ r off. three_off (same (column r 3) (Bytes node)) (same (column r 4) (Int time)) (same (column r 5) (Int pico)) _ off) others apart,
+      )
+
+  none_other : (others : List Row) → HasNoneOf node time pico others → list_any (is_other only) (only ∷ others) ≡ false
+  none_other others apart =
+      any_from_none (is_other only) (only ∷ others) (
+        fourth_off (same (Bytes node) (Bytes node)) (same (Int time) (Int time)) (same (Int pico) (Int pico)) _ not_apart,
+        all_weaker (λ r. is_of node time pico r ≡ false) (λ r. is_other only r ≡ false) (λ r off. three_off (same (column r 3) (Bytes node)) (same (column r 4) (Int time)) (same (column r 5) (Int pico)) _ off) others apart,
+      )
+
+  alone : (others : List Row) → HasNoneOf node time pico others → currents_where (is_of node time pico) (only ∷ others) ≡ current_of [] only ∷ []
+  alone others apart =
+      ap (λ b. map (current_of (only ∷ others)) (cond (b && not (list_any (is_later only) (only ∷ others))) (only ∷ more) more)) own_moment
+      ∙ ap (λ b. map (current_of (only ∷ others)) (cond (not b) (only ∷ more) more)) (none_later others apart)
+      ∙ ap (λ l. map (current_of (only ∷ others)) (only ∷ l)) (filter_none (λ r. is_of node time pico r && not (list_any (is_later r) (only ∷ others))) others
+      (all_weaker (λ r. is_of node time pico r ≡ false) (λ r. (is_of node time pico r && not (list_any (is_later r) (only ∷ others))) ≡ false) (λ r off. first_off (is_of node time pico r) (not (list_any (is_later r) (only ∷ others))) off) others apart))
+      ∙ ap (λ b. (column only 3 ∷ column only 4 ∷ column only 5 ∷ column only 2 ∷ column only 0 ∷ binary (Compare Ne Binary) (column only 6) (Int (pos 4)) ∷ flag b ∷ column only 8 ∷ []) ∷ []) (none_other others apart)
+    where
+      more : List Row
+      more = filter (λ r. is_of node time pico r && not (list_any (is_later r) (only ∷ others))) others
+
+  pub first_made : (others rows : List Row) → IsPermutation (only ∷ others) rows → HasNoneOf node time pico others → IsPermutation (currents_where (is_of node time pico) rows) (current_of [] only ∷ [])
+  first_made others rows same_rows apart =
+      IsPermutation-sym _ _ (subst (λ l. IsPermutation l (currents_where (is_of node time pico) rows)) (alone others apart) (made_permuted is_later current_of stable_currents (is_of node time pico) (only ∷ others) rows same_rows))
 
 -- ---- vectors
 

@@ -1,60 +1,68 @@
 -- What the statements of a record's transaction do.
-use Rattle.std.proofs.Common.{◌≡◌, ℕ, ℤ, not, ◌&&◌, Bool, true, false, List, [], ◌∷◌, ◌++◌, drop, map, filter, Ok, Err, Result, OnOk, refl, sym, ap, subst, ◌∙◌, IsPermutation}
+use Rattle.std.proofs.Common.{◌≡◌, arith, ℕ, ℤ, pos, not, ◌&&◌, Bool, true, false, List, [], ◌∷◌, ◌++◌, drop, length, map, filter, unwrap_or, Ok, Err, Result, OnOk, IfOk, refl, sym, ap, subst, subst₂, ◌∙◌, IsPermutation}
 use Rattle.std.specs.List.{list_all, AllByRecursion}
-use Rattle.std.proofs.lemmas.List.{map-append}
-use Rattle.std.proofs.lemmas.List.Sorted.{IsPermutation-trans, IsPermutation-map, IsPermutation-append, IsPermutation-refl}
+use Rattle.std.proofs.lemmas.List.{map-append, length-map}
+use Rattle.std.proofs.lemmas.List.Sorted.{length_permutation, IsPermutation-trans, IsPermutation-map, IsPermutation-append, IsPermutation-refl}
 use Rattle.sqlite_value.specs.declared.value.Value.{Value}
 use Rattle.sqlite_value.specs.declared.value.Value.TheVariants.{Null, Int, Blob}
 use Rattle.sqlite_value.specs.declared.keys.Collation.{Collation}
 use Rattle.sqlite_value.specs.declared.keys.Collation.TheVariants.{Binary}
 use Rattle.sqlite_value.specs.Order.{Row, column}
 use Rattle.sqlite_sql.specs.Ops.{is_null, is_true, unary}
-use Rattle.sqlite_sql.specs.Term.{Term, lit, col, op1, holds}
+use Rattle.sqlite_sql.specs.Term.{Term, lit, col, op1, op2, holds, eval_all}
 use Rattle.sqlite_sql.specs.declared.ops.UnaryOp.TheVariants.{Not}
+use Rattle.sqlite_sql.specs.declared.ops.BinaryOp.TheVariants.{Compare}
+use Rattle.sqlite_sql.specs.declared.ops.CompareOp.TheVariants.{Ne}
 use Rattle.sqlite_sql.specs.Query.{inner, end, IsAnswer}
 use Rattle.sqlite_sql.specs.Program.{overlay}
 use Rattle.sqlite_schema.specs.declared.program.Program.{Program}
 use Rattle.sqlite_schema.specs.declared.command.Source.{Source}
 use Rattle.sqlite_schema.specs.declared.command.Source.TheVariants.{Values, Query as Asks}
-use Rattle.sqlite_schema.specs.declared.command.Command.TheVariants.{Insert, Delete}
+use Rattle.sqlite_schema.specs.declared.command.Command.TheVariants.{Insert, Update, Delete}
 use Rattle.sqlite_schema.specs.declared.schema.Kind.TheVariants.{Integer}
-use Rattle.sqlite_rules.specs.declared.error.Rowids.TheVariants.{Chosen}
+use Rattle.sqlite_rules.specs.declared.error.Rowids.TheVariants.{Chosen, Given}
 use Rattle.sqlite_rules.specs.Cast.{cast, cast_row}
 use Rattle.sqlite_rules.specs.Calls.{ids_of}
-use Rattle.sqlite_rules.specs.Edit.{numbered, without_all, id_in}
-use Rattle.sqlite_trees.specs.Tree.{Trees, rowid}
+use Rattle.sqlite_rules.specs.Edit.{numbered, put_all, are_fresh, have_rowids, without_all, id_in}
+use Rattle.sqlite_trees.specs.Tree.{Trees, rowid, with_tree}
 use Rattle.sqlite_trees.specs.Objects.{catalog_tree}
 use Rattle.sqlite_catalog.specs.Listing.{Lists}
-use Rattle.sqlite_keyed.proofs.ListLemmas.{filter_same, map-map}
+use Rattle.sqlite_keyed.proofs.ListLemmas.{filter_same, filter_all, all_weaker, all_unmap, map_same, map-map}
 use Rattle.sqlite_tied.specs.Compute.{everything}
 use Rattle.sqlite.specs.Listing.{understood}
+use Rattle.sqlite.specs.Does.{Tally}
 use Rattle.sqlite.specs.Effect.{Database}
 use Rattle.sqlite.specs.State.{State, ExecutesInside}
 use Rattle.sqlite.specs.declared.error.Error.{Error}
 use Rattle.sqlite.proofs.Callers.{IsPlain, command_of, statement_of, runs_as}
 use Rattle.sql_archive.specs.Tables.{archive_schema, third_table, fourth_table}
-use Rattle.sql_archive.specs.Words.{cells, columns_of}
+use Rattle.sql_archive.specs.Words.{cells, cells_of, columns_of}
 use Rattle.sql_archive.specs.State.{Making}
-use Rattle.sql_archive.specs.Derived.{AreNumbered, IsCells, is_of, is_current_of, current_columns, same, vectors_of, vector_columns}
-use Rattle.sql_archive.specs.Keeping.{DropsCurrent, PutsCurrents, currents_where, is_vector_of, DropsVector, PutsVectors, vector_cells}
-use Rattle.sql_archive.proofs.Texts.{drop_current_text, add_current_text, fill_currents_text, drop_vector_text, add_vector_text, fill_vectors_text}
+use Rattle.sql_archive.specs.Derived.{AreNumbered, IsCells, is_of, is_current_of, current_of, current_columns, same, vectors_of, vector_columns}
+use Rattle.sql_archive.specs.Keeping.{KeepsBesideVectors, ChangesVectors, SetsVectors, KeepsBesideCurrents, DropsCurrent, PutsCurrents, ChangesCurrents, AddsRecord, IsFree, IsOnly, currents_where, is_vector_of, DropsVector, PutsVectors, vector_cells}
+use Rattle.sql_archive.proofs.Texts.{drop_current_text, add_current_text, first_current_text, fill_currents_text, add_vector_text, set_vector_text, fill_vectors_text}
 use Rattle.sql_archive.proofs.WriteLemmas.{apart_by, cast_int}
 use Rattle.sql_archive.proofs.RemoveLemmas.{ids_where, left_without, same_taken}
-use Rattle.sql_archive.proofs.ChangeLemmas.{PutsIn, into_currents, from_currents, into_vectors, from_vectors, put_in, unnumbered, given}
-use Rattle.sql_archive.proofs.MadeLemmas.{asking, asked_all, currents_from, currents_project, currents_put, none_later, laters, vectors_from, vectors_project, vectors_put, as_vector, eq, regrouped, one_true}
+use Rattle.sql_archive.proofs.ChangeLemmas.{PutsIn, Sets, into_currents, from_currents, into_vectors, set_vectors, put_in, put_beside, all_more, as_given, unnumbered, given}
+use Rattle.sql_archive.proofs.DerivedLemmas.{first_made}
+use Rattle.sql_archive.proofs.AgreeLemmas.{none_of, none_passes}
+use Rattle.sql_archive.proofs.MadeLemmas.{asking, asked_all, cast_live, currents_from, currents_project, currents_put, none_later, laters, vectors_from, vectors_project, vectors_put, as_vector, eq, regrouped, one_true}
 
 -- ---- rows are taken out
 
 -- what is left of a table without the rows that pass
-removed : (t : ℕ) (tests : List Term) (params : Row) (db : Trees) (keep : Row → Bool) → ((r : Row) → list_all (holds (params ∷ r ∷ [])) tests ≡ keep r) → AreNumbered (db t)
-    → (rows : List Row) → IsAnswer (asking (inner t end) tests (col 1 0 ∷ []) []) db params rows → without_all (db t) (ids_of rows) ≡ filter (λ r. not (keep r)) (db t)
-removed t tests params db keep alike was rows a =
+removed : (t : ℕ) (tests project : List Term) (params : Row) (db : Trees) (keep : Row → Bool) → ((r : Row) → list_all (holds (params ∷ r ∷ [])) tests ≡ keep r) → ((r : Row) → rowid (eval_all project (params ∷ r ∷ [])) ≡ rowid r) → AreNumbered (db t)
+    → (rows : List Row) → IsAnswer (asking (inner t end) tests project []) db params rows → without_all (db t) (ids_of rows) ≡ filter (λ r. not (keep r)) (db t)
+removed t tests project params db keep alike own was rows a =
     let passes = λ (r : Row). list_all (holds (params ∷ r ∷ [])) tests in
-    let asked : IsPermutation (map (λ r. column r 0 ∷ []) (filter passes (db t))) rows = asked_all (inner t end) tests (col 1 0 ∷ []) [] params db (db t) passes (λ r. params ∷ r ∷ []) refl rows a in
-    let ids : IsPermutation (ids_where passes (db t)) (ids_of rows) = subst (λ l. IsPermutation l (ids_of rows)) (map-map (λ r. id_in (rowid r)) (λ r. column r 0 ∷ []) (filter passes (db t))) (IsPermutation-map (λ r. id_in (rowid r)) _ _ asked) in
+    let made = λ (r : Row). eval_all project (params ∷ r ∷ []) in
+    let asked : IsPermutation (map made (filter passes (db t))) rows = asked_all (inner t end) tests project [] params db (db t) passes (λ r. params ∷ r ∷ []) refl rows a in
+    let same_ids : map (λ r. id_in (rowid r)) (map made (filter passes (db t))) ≡ ids_where passes (db t) =
+    map-map (λ r. id_in (rowid r)) made (filter passes (db t)) ∙ map_same (λ r. id_in (rowid (made r))) (λ r. id_in (rowid r)) (λ r. ap id_in (own r)) (filter passes (db t)) in
+    let ids : IsPermutation (ids_where passes (db t)) (ids_of rows) = subst (λ l. IsPermutation l (ids_of rows)) same_ids (IsPermutation-map (λ r. id_in (rowid r)) _ _ asked) in
     same_taken (ids_where passes (db t)) (ids_of rows) (db t) ids ∙ left_without passes (db t) was.apart was.keyed ∙ filter_same (λ r. not (passes r)) (λ r. not (keep r)) (λ r. ap not (alike r)) (db t)
 
-three_true : (a b c : Bool) → (a && (b && (c && true))) ≡ (a && (b && c))
+pub three_true : (a b c : Bool) → (a && (b && (c && true))) ≡ (a && (b && c))
 three_true a b c = ap (λ x. a && (b && x)) (one_true c)
 
 abbrev current_tests : List Term
@@ -83,40 +91,13 @@ drops_current node time pico old new (Ok count) was h =
       h.1.committed_is,
       record {
         rest = record { meta = others.0 (apart_by 0 4 refl); records = others.1.0 (apart_by 1 4 refl); vectors = others.1.1.1.0 (apart_by 6 4 refl) };
-        left = λ numbered_rows. out.applied.rows ∙ removed 4 current_tests params (overlay old.now.trees []) (λ r. is_current_of node time pico (current_columns r))
-            (λ r. three_true (same (column r 1) (Blob node)) (same (column r 2) (Int time)) (same (column r 3) (Int pico))) numbered_rows out.rows (out.are.answer Null);
+        left = λ numbered_rows. out.applied.rows ∙ removed 4 current_tests (col 1 0 ∷ []) params (overlay old.now.trees []) (λ r. is_current_of node time pico (current_columns r))
+            (λ r. three_true (same (column r 1) (Blob node)) (same (column r 2) (Int time)) (same (column r 3) (Int pico))) (λ r. refl) numbered_rows out.rows (out.are.answer Null);
       },
     )
 
 abbrev vector_tests : List Term
 vector_tests = eq (col 1 0) (col 0 0) ∷ []
-
-abbrev drop_vector : Program
-drop_vector = record { lets = []; body = asking (inner 6 end) vector_tests (col 1 0 ∷ []) [] }
-
-drop_vector_is : command_of (understood archive_schema drop_vector_text) ≡ Delete 3 drop_vector
-unfolding understood everything
-drop_vector_is = refl
-
-drop_vector_plain : IsPlain (understood archive_schema drop_vector_text)
-unfolding understood everything
-drop_vector_plain = (refl, refl)
-
-pub drops_vector : (origin : ℤ) (old new : State) (r : Result ℕ Error) → Making archive_schema old → ExecutesInside 0 drop_vector_text (Int origin ∷ []) old new r
-    → OnOk r (Making archive_schema new × (new.committed ≡ old.committed) × DropsVector origin old.now.trees new.now.trees)
-drops_vector origin old new (Err e) was h = tt
-drops_vector origin old new (Ok count) was h =
-    let params = Int origin ∷ [] in
-    let w = runs_as drop_vector_text params old new archive_schema was.has (Delete 3 drop_vector) drop_vector_is drop_vector_plain count h.0 in
-    let out = from_vectors old w.tally new.now (statement_of drop_vector_text (understood archive_schema drop_vector_text)) params was.has drop_vector w.changed in
-    let others = out.applied.tables in (
-      record { inside = h.1.mode; has = out.schema },
-      h.1.committed_is,
-      record {
-        rest = record { meta = others.0 (apart_by 0 6 refl); records = others.1.0 (apart_by 1 6 refl); currents = others.1.1.0 (apart_by 4 6 refl) };
-        left = λ numbered_rows. out.applied.rows ∙ removed 6 vector_tests params (overlay old.now.trees []) (λ r. is_vector_of origin (vector_columns r)) (λ r. one_true (same (column r 0) (Int origin))) numbered_rows out.rows (out.are.answer Null);
-      },
-    )
 
 -- ---- rows are put in
 
@@ -183,6 +164,67 @@ adds_current node time pico old new (Ok count) was h =
           regrouped (same (column r 4) (Blob node)) (same (column r 5) (Int time)) (same (column r 6) (Int pico)) (is_true (unary Not (laters params db r))) ∙ ap (λ b. is_of node time pico (columns_of r) && b) (none_later params db r)) typed nine rows a) it (it.are.answer Null),
     )
 
+abbrev first_terms : List Term
+first_terms = lit Null ∷ col 0 0 ∷ col 0 1 ∷ col 0 2 ∷ col 0 3 ∷ col 0 4 ∷ op2 (Compare Ne Binary) (col 0 5) (lit (Int (pos 4))) ∷ lit (Int (pos 0)) ∷ col 0 6 ∷ []
+
+first_current_is : command_of (understood archive_schema first_current_text) ≡ Insert 2 (Values first_terms 9)
+unfolding understood everything
+first_current_is = refl
+
+first_current_plain : IsPlain (understood archive_schema first_current_text)
+unfolding understood everything
+first_current_plain = (refl, refl)
+
+-- the row of currents2 of a record that is the only one of its node and time is put in beside the others
+module _ (origin number tick : ℤ) (node : List ℕ) (time pico asked : ℤ) (who value : List ℕ) where
+  abbrev first_row : Row
+  first_row = cells_of origin number tick node time pico asked who value
+
+  abbrev first_params : Row
+  first_params = Blob node ∷ Int time ∷ Int pico ∷ Int tick ∷ Int origin ∷ Int asked ∷ Blob value ∷ []
+
+  first_more : (db : Trees) (after : Database) → PutsIn third_table (Values first_terms 9) first_params db after → IsPermutation (current_of [] first_row ∷ map current_columns (db 4)) (map current_columns (after.trees 4))
+  first_more db after it =
+      let made = map (λ s. cast_row third_table (drop 0 s)) it.rows in
+      let one : map current_columns made ≡ current_of [] first_row ∷ [] =
+      ap (λ rs. map current_columns (map (λ s. cast_row third_table (drop 0 s)) rs)) it.are.1 ∙ rw (cast_int time, cast_int pico, cast_int tick, cast_int origin, cast_int (pos 0), cast_live [] db (Int asked) asked refl) refl in
+      subst (λ l. IsPermutation l (map current_columns (after.trees 4)))
+      (map-append current_columns (numbered Chosen (db 4) made) (db 4) ∙ ap (λ l. l ++ map current_columns (db 4)) (unnumbered current_columns unnumbered_currents (db 4) made ∙ one))
+      (IsPermutation-map current_columns _ _ (put_in third_table db after.trees it.rows it.applied).0)
+
+  first_changes : (db : Trees) (after : Database) → IsOnly first_row node time pico db → PutsIn third_table (Values first_terms 9) first_params db after → ChangesCurrents node time pico db after.trees
+  first_changes db after only it =
+      let others = it.applied.tables in
+      let rest : KeepsBesideCurrents db after.trees = record { meta = others.0 (apart_by 0 4 refl); records = others.1.0 (apart_by 1 4 refl); vectors = others.1.1.1.0 (apart_by 6 4 refl) } in
+      let held = map current_columns (db 4) in
+      let made = currents_where (is_of node time pico) (cells (db 1)) in
+      record {
+        between = db;
+        dropped = record {
+          rest = record { meta = refl; records = refl; vectors = refl };
+          left = λ _. sym (filter_all (λ r. not (is_current_of node time pico (current_columns r))) (db 4)
+              (all_weaker (λ r. is_current_of node time pico (current_columns r) ≡ false) (λ r. not (is_current_of node time pico (current_columns r)) ≡ true) (λ r off. ap not off) (db 4) (all_unmap (λ c. is_current_of node time pico c ≡ false) current_columns (db 4) only.currents)));
+        };
+        put = record {
+          rest = rest;
+          more = λ _.
+              IsPermutation-trans (made ++ held) (current_of [] first_row ∷ held) (map current_columns (after.trees 4))
+              (IsPermutation-append made (current_of [] first_row ∷ []) held held (first_made origin number tick node time pico asked who value only.others (cells (db 1)) only.records only.apart) (IsPermutation-refl held)) (first_more db after it);
+          numbered = (put_in third_table db after.trees it.rows it.applied).1;
+        };
+      }
+
+  pub adds_first : (old new : State) (r : Result ℕ Error) → Making archive_schema old → IsOnly first_row node time pico old.now.trees → ExecutesInside 0 first_current_text first_params old new r
+      → OnOk r (Making archive_schema new × (new.committed ≡ old.committed) × ChangesCurrents node time pico old.now.trees new.now.trees)
+  adds_first old new (Err e) was only h = tt
+  adds_first old new (Ok count) was only h =
+      let w = runs_as first_current_text first_params old new archive_schema was.has (Insert 2 (Values first_terms 9)) first_current_is first_current_plain count h.0 in
+      let it = into_currents old w.tally new.now (statement_of first_current_text (understood archive_schema first_current_text)) first_params was.has (Values first_terms 9) w.changed in (
+        record { inside = h.1.mode; has = it.schema },
+        h.1.committed_is,
+        first_changes old.now.trees new.now only it,
+      )
+
 pub fills_currents : (old new : State) (r : Result ℕ Error) → Making archive_schema old → ExecutesInside 0 fill_currents_text [] old new r
     → OnOk r (Making archive_schema new × (new.committed ≡ old.committed) × PutsCurrents (λ _. true) old.now.trees new.now.trees)
 fills_currents old new (Err e) was h = tt
@@ -237,6 +279,123 @@ adds_vector origin number tick old new (Ok count) was h =
       subst (Lists (new.now.trees catalog_tree)) it.schema w.sound.lists,
     )
 
+abbrev set_terms : List Term
+set_terms = col 1 0 ∷ col 0 0 ∷ lit Null ∷ col 0 1 ∷ col 0 2 ∷ []
+
+abbrev set_vector : Program
+set_vector = record { lets = []; body = asking (inner 6 end) vector_tests set_terms [] }
+
+set_vector_is : command_of (understood archive_schema set_vector_text) ≡ Update 3 set_vector
+unfolding understood everything
+set_vector_is = refl
+
+set_vector_plain : IsPlain (understood archive_schema set_vector_text)
+unfolding understood everything
+set_vector_plain = (refl, refl)
+
+empty_by : {A : Type 0} (xs : List A) → length xs ≡ 0 → xs ≡ []
+empty_by [] e = refl
+empty_by (x ∷ xs) e = absurd (omega (arith, e))
+
+single_by : {A B : Type 0} (b : B) (xs : List A) → length xs ≡ 1 → map (λ _. b) xs ≡ b ∷ []
+single_by b [] e = absurd (omega (arith, e))
+single_by b (x ∷ []) e = refl
+single_by b (x ∷ y ∷ xs) e = absurd (omega (arith, e))
+
+-- what an UPDATE of an origin's row leaves, where there was none and where there was one
+module _ (origin number tick : ℤ) (db : Trees) (tally : Tally) (after : Database) (it : Sets fourth_table set_vector (Int origin ∷ Int number ∷ Int tick ∷ []) db tally after) where
+  abbrev set_params : Row
+  set_params = Int origin ∷ Int number ∷ Int tick ∷ []
+
+  abbrev set_row : Row
+  set_row = vector_cells origin number tick
+
+  abbrev is_ours : Row → Bool
+  is_ours r = is_vector_of origin (vector_columns r)
+
+  abbrev set_passes : Row → Bool
+  set_passes r = list_all (holds (set_params ∷ r ∷ [])) vector_tests
+
+  abbrev set_source : Row → Row
+  set_source r = eval_all set_terms (set_params ∷ r ∷ [])
+
+  abbrev set_made : List Row
+  set_made = map (λ s. cast_row fourth_table (drop 1 s)) it.rows
+
+  abbrev set_left : List Row
+  set_left = without_all (db 6) (ids_of it.rows)
+
+  ours_alike : (r : Row) → set_passes r ≡ is_ours r
+  ours_alike r = one_true (same (column r 0) (Int origin))
+
+  set_asked : IsPermutation (map set_source (filter set_passes (db 6))) it.rows
+  set_asked = asked_all (inner 6 end) vector_tests set_terms [] set_params (overlay db []) (db 6) set_passes (λ r. set_params ∷ r ∷ []) refl it.rows (it.are.answer Null)
+
+  set_rest : KeepsBesideVectors db after.trees
+  set_rest = let others = it.applied.tables in record { meta = others.0 (apart_by 0 6 refl); records = others.1.0 (apart_by 1 6 refl); currents = others.1.1.0 (apart_by 4 6 refl) }
+
+  set_news : numbered Given set_left set_made ≡ set_made
+  set_news = as_given set_left set_made
+
+  set_now : after.trees 6 ≡ put_all set_left set_made
+  set_now = it.applied.rows ∙ ap (put_all set_left) set_news
+
+  set_count : (count : ℕ) → count ≡ unwrap_or tally.rows 0 → count ≡ length it.rows
+  set_count count e = e ∙ ap (λ o. unwrap_or o 0) it.counted ∙ ap length set_news ∙ length-map it.rows (λ s. cast_row fourth_table (drop 1 s))
+
+  set_none : length it.rows ≡ 0 → DropsVector origin db after.trees
+  set_none e =
+      let empty : it.rows ≡ [] = empty_by it.rows e in
+      let off = none_passes set_passes (db 6) (none_of set_source (filter set_passes (db 6)) (subst (IsPermutation (map set_source (filter set_passes (db 6)))) empty set_asked)) in
+      let kept : filter (λ r. not (is_ours r)) (db 6) ≡ db 6 = filter_all (λ r. not (is_ours r)) (db 6) (all_weaker (λ r. set_passes r ≡ false) (λ r. not (is_ours r) ≡ true) (λ r no. ap not (sym (ours_alike r) ∙ no)) (db 6) off) in
+      record { rest = set_rest; left = λ _. set_now ∙ ap (λ rs. put_all (without_all (db 6) (ids_of rs)) (map (λ s. cast_row fourth_table (drop 1 s)) rs)) empty ∙ sym kept }
+
+  set_written : (r : Row) → vector_columns (cast_row fourth_table (drop 1 (set_source r))) ≡ set_row
+  set_written r = rw (cast_int origin, cast_int number, cast_int tick) refl
+
+  set_one : length it.rows ≡ 1 → Lists (after.trees catalog_tree) archive_schema → ChangesVectors set_row origin db after.trees
+  set_one e lists =
+      let write = λ (s : Row). vector_columns (cast_row fourth_table (drop 1 s)) in
+      let ours = filter set_passes (db 6) in
+      let count : length ours ≡ 1 = sym (length-map ours set_source) ∙ (sym (length_permutation (map set_source ours) it.rows set_asked) ∙ e) in
+      let one : map write (map set_source ours) ≡ set_row ∷ [] = map-map write set_source ours ∙ map_same (λ r. write (set_source r)) (λ _. set_row) set_written ours ∙ single_by set_row ours count in
+      let made : IsPermutation (set_row ∷ []) (map vector_columns set_made) = subst₂ IsPermutation one (sym (map-map vector_columns (λ s. cast_row fourth_table (drop 1 s)) it.rows)) (IsPermutation-map write _ _ set_asked) in
+      let fresh : are_fresh set_left set_made ≡ true = subst (λ l. are_fresh set_left l ≡ true) set_news it.applied.fresh in
+      let keyed : have_rowids set_made ≡ true = subst (λ l. have_rowids l ≡ true) set_news it.applied.keyed in
+      let beside : IsPermutation (map vector_columns set_made ++ map vector_columns set_left) (map vector_columns (after.trees 6)) =
+      subst₂ IsPermutation (map-append vector_columns set_made set_left) (ap (map vector_columns) (sym set_now)) (IsPermutation-map vector_columns _ _ (put_beside set_left set_made fresh)) in
+      record {
+        between = with_tree db 6 set_left;
+        dropped = record {
+          rest = record { meta = refl; records = refl; currents = refl };
+          left = λ was. removed 6 vector_tests set_terms set_params (overlay db []) is_ours ours_alike (λ r. refl) was it.rows (it.are.answer Null);
+        };
+        put = record {
+          rest = record { meta = set_rest.meta; records = set_rest.records; currents = set_rest.currents };
+          more = λ _.
+              IsPermutation-trans (set_row ∷ map vector_columns set_left) (map vector_columns set_made ++ map vector_columns set_left) (map vector_columns (after.trees 6))
+              (IsPermutation-append (set_row ∷ []) (map vector_columns set_made) (map vector_columns set_left) (map vector_columns set_left) made (IsPermutation-refl (map vector_columns set_left))) beside;
+          numbered = λ was. subst AreNumbered (sym set_now) (all_more set_left set_made fresh keyed was);
+        };
+        lists = lists;
+      }
+
+pub sets_vector : (origin number tick : ℤ) (old new : State) (r : Result ℕ Error) → Making archive_schema old → ExecutesInside 0 set_vector_text (Int origin ∷ Int number ∷ Int tick ∷ []) old new r
+    → IfOk r (λ count. Making archive_schema new × (new.committed ≡ old.committed) × SetsVectors count (vector_cells origin number tick) origin old.now.trees new.now.trees)
+sets_vector origin number tick old new (Err e) was h = tt
+sets_vector origin number tick old new (Ok count) was h =
+    let params = Int origin ∷ Int number ∷ Int tick ∷ [] in
+    let w = runs_as set_vector_text params old new archive_schema was.has (Update 3 set_vector) set_vector_is set_vector_plain count h.0 in
+    let it = set_vectors old w.tally new.now (statement_of set_vector_text (understood archive_schema set_vector_text)) params was.has set_vector w.changed in
+    let as_many : count ≡ length it.rows = set_count origin number tick old.now.trees w.tally new.now it count w.counted in (
+      record { inside = h.1.mode; has = it.schema },
+      h.1.committed_is,
+      record {
+        none = λ e. set_none origin number tick old.now.trees w.tally new.now it (sym as_many ∙ e);
+        one = λ e. set_one origin number tick old.now.trees w.tally new.now it (sym as_many ∙ e) (subst (Lists (new.now.trees catalog_tree)) it.schema w.sound.lists);
+      },
+    )
+
 abbrev four : List Collation
 four = Binary ∷ Binary ∷ Binary ∷ Binary ∷ []
 
@@ -262,3 +421,12 @@ fills_vectors old new (Ok count) was h =
       vectors_more vectors_of (Asks fill_vectors) [] old.now.trees new.now it (λ typed. (vectors_put [] old.now.trees typed four it.rows (it.are.answer Null)).1) (λ typed. (vectors_put [] old.now.trees typed four it.rows (it.are.answer Null)).0),
       subst (Lists (new.now.trees catalog_tree)) it.schema w.sound.lists,
     )
+
+-- where nothing stood at the node and time of a row, it is the only one there once it is added
+pub only_by : (row : Row) (node : List ℕ) (time pico : ℤ) (old added : Trees) → AddsRecord row old added → IsFree node time pico old → IsOnly row node time pico added
+only_by row node time pico old added adds free = record {
+  others = cells (old 1);
+  records = adds.records;
+  apart = free.records;
+  currents = subst (λ rs. AllByRecursion (λ c. is_current_of node time pico c ≡ false) (map current_columns rs)) (sym adds.currents) free.currents;
+}

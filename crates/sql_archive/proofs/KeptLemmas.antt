@@ -56,7 +56,7 @@ filled_cells R db stand = cells_permuted (map row_of R) (cells (db 1)) stand (ro
 
 -- ---- the newest row of its origin
 
-same_ints : (m n : ℤ) → same (Int m) (Int n) ≡ is_eq (int_cmp m n)
+pub same_ints : (m n : ℤ) → same (Int m) (Int n) ≡ is_eq (int_cmp m n)
 unfolding binary
 same_ints m n = rw (value_cmp-Int m n) (truly (is_eq (int_cmp m n)))
   where
@@ -72,17 +72,20 @@ above_ints m n = rw (value_cmp-Int m n) (truly (is_gt (int_cmp m n)))
     truly true = refl
     truly false = refl
 
-newer_is : (r s : Record) → is_newer (row_of r) (row_of s) ≡ (is_eq (int_cmp (pos s.origin) (pos r.origin)) && is_gt (int_cmp (pos s.number) (pos r.number)))
+pub newer_is : (r s : Record) → is_newer (row_of r) (row_of s) ≡ (is_eq (int_cmp (pos s.origin) (pos r.origin)) && is_gt (int_cmp (pos s.number) (pos r.number)))
 newer_is r s = ap₂ ◌&&◌ (same_ints (pos s.origin) (pos r.origin)) (above_ints (pos s.number) (pos r.number))
 
-not_above : (a b : ℕ) (x : Bool) → a ≤ b → (x && is_gt (int_cmp (pos a) (pos b))) ≡ false
+pub not_above : (a b : ℕ) (x : Bool) → a ≤ b → (x && is_gt (int_cmp (pos a) (pos b))) ≡ false
 not_above a b x below = grind (arith, below)
 
-is_above : (m n a b : ℕ) → m ≡ n → b < a → (is_eq (int_cmp (pos m) (pos n)) && is_gt (int_cmp (pos a) (pos b))) ≡ true
+pub is_above : (m n a b : ℕ) → m ≡ n → b < a → (is_eq (int_cmp (pos m) (pos n)) && is_gt (int_cmp (pos a) (pos b))) ≡ true
 is_above m n a b e up = grind (arith, e, up)
 
-same_origins : (m n : ℕ) → is_eq (int_cmp (pos m) (pos n)) ≡ true → m ≡ n
+pub same_origins : (m n : ℕ) → is_eq (int_cmp (pos m) (pos n)) ≡ true → m ≡ n
 same_origins m n e = grind (arith, e)
+
+pub equal_origins : (m n : ℕ) → m ≡ n → is_eq (int_cmp (pos m) (pos n)) ≡ true
+equal_origins m n e = grind (arith, e)
 
 -- the next record's row is newer than those of its origin
 pub next_row : (R : Content) (r : Record) (db : Trees) → AreRecords R db → finding R r ≡ IsAdded → IsNextRow (row_of r) db

@@ -1,105 +1,108 @@
--- The last record of an origin, by the first of its rows.
-use Rattle.std.proofs.Common.{◌≡◌, ℕ, suc, ◌≤◌, nat_lt, ◌==◌, ℤ, pos, Bool, true, false, cond, List, [], ◌∷◌, ◌++◌, map, filter, take, refl, sym, ap, subst, ◌∙◌, arith, inl, inr, is_lt, is_eq, Some, IsPermutation, IsSorted, Less, Equal, Greater, add-one}
-use Rattle.std.specs.List.{flat_map, AllByRecursion}
-use Rattle.std.specs.Ordering.{nat_cmp, int_eq}
-use Rattle.std.proofs.lemmas.Bool.{true≢false, ltb-false}
-use Rattle.std.proofs.lemmas.Bool.Decides.{Decides-int_eq}
-use Rattle.std.proofs.lemmas.List.Sorted.{IsPermutation-trans}
-use Rattle.std.proofs.lemmas.List.Elements.{recursion_from_All, All-from_recursion}
-use Rattle.std.proofs.lemmas.List.Sorted.{All-permutation}
-use Rattle.sqlite_value.specs.Order.{Row, column, value_cmp}
-use Rattle.sqlite_value.proofs.OrderLemmas.{value_cmp-Int}
+-- The last record of an origin, by its row of vectors.
+use Rattle.std.proofs.Common.{◌≡◌, inl, inr, ℕ, ◌≤◌, pos, not, ◌&&◌, Bool, true, false, List, [], ◌∷◌, map, filter, refl, sym, ap, subst, ◌∙◌, arith, is_eq, is_gt, IsPermutation}
+use Rattle.std.specs.List.{list_any}
+use Rattle.std.specs.Ordering.{int_cmp}
+use Rattle.std.proofs.lemmas.Bool.{true≢false, cases_lt, cases_Bool}
+use Rattle.std.proofs.lemmas.List.Sorted.{IsPermutation-sym, IsPermutation-trans}
+use Rattle.sqlite_value.specs.Order.{Row}
 use Rattle.sqlite_trees.specs.Tree.{Trees}
-use Rattle.sqlite_keyed.proofs.ListLemmas.{filter-map, IsPermutation-filter}
+use Rattle.sqlite_keyed.proofs.ListLemmas.{any_from_none, none_from_any, IsPermutation-filter}
 use Rattle.records.specs.Lists.{Has}
-use Rattle.records.specs.Contents.{Content, vec, last_tick}
+use Rattle.records.specs.Contents.{vec, last_tick}
 use Rattle.records.specs.declared.record.Record.{Record}
-use Rattle.records.proofs.ContentLemmas.{vec_is}
+use Rattle.records.proofs.ContentLemmas.{vec_is, vec_bounds, vec_attained}
 use Rattle.records.proofs.GreatestLemmas.{last_attained, last_of_last}
-use Rattle.records.proofs.Sorting.{has-permutation, has_from_filter, has-filter}
-use Rattle.sql_archive.specs.Words.{cells, is_from, descending_number, IsPage}
-use Rattle.sql_archive.specs.Rows.{row_of, records_in, content_in, AreRecords, IsFilled}
+use Rattle.records.proofs.Sorting.{all-has, all_from_has, has-permutation, has_from_filter, has-filter}
+use Rattle.archive.proofs.Turning.{has-map, has_from_map}
+use Rattle.sql_archive.specs.Words.{cells}
+use Rattle.sql_archive.specs.Rows.{row_of, content_in, IsFilled}
+use Rattle.sql_archive.specs.Derived.{AreKept, is_newer, last_of, vectors_of, vector_columns}
+use Rattle.sql_archive.specs.Keeping.{is_vector_of}
 use Rattle.sql_archive.specs.Learning.{IsLast, end_of}
-use Rattle.sql_archive.proofs.RowLemmas.{each_record, record_again, content_is}
-use Rattle.sql_archive.proofs.StoryLemmas.{same_pos, numbers_cmp, filter_as}
+use Rattle.sql_archive.proofs.RowLemmas.{content_is}
+use Rattle.sql_archive.proofs.DerivedLemmas.{vectors_permuted}
+use Rattle.sql_archive.proofs.KeptLemmas.{newer_is, not_above, is_above, same_ints, same_origins, equal_origins}
 
-abbrev from : ℕ → Record → Bool
-from origin r = int_eq (pos r.origin) (pos origin)
-
--- the row is that of one of the origin's records
-abbrev IsOf : Content → ℕ → Row → Type 0
-IsOf R origin x = (r : Record) × Has R r × (r.origin ≡ origin) × (x ≡ row_of r)
-
-not_above : (m n : ℕ) → is_lt (nat_cmp n m) ≡ false → m ≤ n
-not_above m n h = go (nat_lt n m) (n == m) refl h
+pub last_kept : (db : Trees) (origin : ℕ) (rows : List Row) → IsFilled db → AreKept db → IsPermutation (filter (is_vector_of (pos origin)) (map vector_columns (db 6))) rows → IsLast (content_in db) origin (end_of rows)
+last_kept db origin rows (R, l, stand) kept shown = subst (λ S. IsLast S origin (end_of rows)) (sym (content_is R db l stand)) (go rows refl)
   where
-    go : (a b : Bool) → nat_lt n m ≡ a → is_lt (cond a Less (cond b Equal Greater)) ≡ false → m ≤ n
-    go true b p h = absurd (true≢false h)
-    go false b p h = ltb-false n m p
+    X : List Row
+    X = map row_of R
 
-abbrev Falls : List Row → Type 0
-Falls = IsSorted descending_number
+    top : Row → Bool
+    top c = not (list_any (is_newer c) X)
 
-step_down : (s r : Record) → is_lt (value_cmp (column (row_of r) 1) (column (row_of s) 1)) ≡ false → s.number ≤ r.number
-step_down s r h = not_above s.number r.number (subst (λ o. is_lt o ≡ false) (value_cmp-Int (pos r.number) (pos s.number) ∙ numbers_cmp r.number s.number) h)
+    ours : Row → Bool
+    ours c = is_vector_of (pos origin) c
 
-greatest_first : (R : Content) (origin : ℕ) (x : Row) (xs : List Row) (r : Record) → x ≡ row_of r → AllByRecursion (IsOf R origin) xs → Falls (x ∷ xs) → (z : Record) → Has xs (row_of z) → z.number ≤ r.number
-greatest_first R origin x [] r is all sorted z h = absurd h
-greatest_first R origin x (y ∷ ys) r is all sorted z h =
-    let s = all.0.0 in
-    let is_s : y ≡ row_of s = all.0.3 in
-    let first : is_lt (value_cmp (column x 1) (column y 1)) ≡ false = sorted 0 x (omega arith) (omega arith) in
-    let down = step_down s r (subst (λ u. is_lt (value_cmp (column u 1) (column (row_of s) 1)) ≡ false) is (subst (λ u. is_lt (value_cmp (column x 1) (column u 1)) ≡ false) is_s first)) in
-    let tail : Falls (y ∷ ys) = λ k d p q. rw add-one (rw add-one at (sorted (suc k) d (omega arith) (omega arith))) in
-    let more = greatest_first R origin y ys s is_s all.1 tail z in
-    elim h [
-      | inl e ↦ let n = same_pos s.number z.number (ap (λ u. int_of (column u 1)) (sym is_s ∙ e)) in omega (arith, n, down)
-      | inr k ↦ let n = more k in omega (arith, n, down)
+    perm : IsPermutation (filter ours (vectors_of X)) rows
+    perm =
+        IsPermutation-trans (filter ours (vectors_of X)) (filter ours (map vector_columns (db 6))) rows
+        (IsPermutation-filter ours (vectors_of X) (map vector_columns (db 6)) (IsPermutation-trans (vectors_of X) (vectors_of (cells (db 1))) (map vector_columns (db 6)) (vectors_permuted X (cells (db 1)) stand) kept.vectors)) shown
+
+    flipped : (b : Bool) → not b ≡ true → b ≡ false
+    flipped true e = absurd (true≢false (sym e))
+    flipped false e = refl
+
+    -- a record of the origin than which none of it has a greater number
+    IsTop : Record → Type 0
+    IsTop r = Has R r × (r.origin ≡ origin) × ((z : Record) → Has R z → z.origin ≡ origin → z.number ≤ r.number)
+
+    below : (r z : Record) → z.origin ≡ r.origin → is_newer (row_of r) (row_of z) ≡ false → z.number ≤ r.number
+    below r z e off = elim (cases_lt r.number z.number) [
+      | inl lt ↦ absurd (true≢false (sym (newer_is r z ∙ is_above z.origin r.origin z.number r.number e lt) ∙ off))
+      | inr le ↦ le
     ]
-  where
-    int_of : Rattle.sqlite_value.specs.declared.value.Value.Value → ℤ
-    int_of = Rattle.sql_archive.specs.Rows.int_in
 
-has-map : (R : Content) (z : Record) → Has R z → Has (map row_of R) (row_of z)
-has-map [] z h = absurd h
-has-map (r ∷ R) z (inl e) = inl (ap row_of e)
-has-map (r ∷ R) z (inr k) = inr (has-map R z k)
+    -- each row is that of such a record
+    of_top : (x : Row) → Has rows x → (r : Record) × IsTop r × (x ≡ last_of (row_of r))
+    of_top x h =
+        let held = has_from_filter ours (vectors_of X) x (has-permutation rows (filter ours (vectors_of X)) x (IsPermutation-sym (filter ours (vectors_of X)) rows perm) h) in
+        let c = has_from_map last_of (filter top X) x held.0 in
+        let up = has_from_filter top X c.0 c.1 in
+        let r = has_from_map row_of R c.0 up.0 in
+        let is : x ≡ last_of (row_of r.0) = sym c.2 ∙ ap last_of (sym r.2) in
+        let own : ours (last_of (row_of r.0)) ≡ true = subst (λ y. ours y ≡ true) is held.1 in
+        let from : r.0.origin ≡ origin = same_origins r.0.origin origin (sym (same_ints (pos r.0.origin) (pos origin)) ∙ own) in
+        let none : list_any (is_newer (row_of r.0)) X ≡ false = flipped (list_any (is_newer (row_of r.0)) X) (subst (λ d. top d ≡ true) (sym r.2) up.1) in
+        (r.0, (r.1, from, λ z k e. below r.0 z (e ∙ sym from) (all-has (λ d. is_newer (row_of r.0) d ≡ false) X (row_of z) (none_from_any (is_newer (row_of r.0)) X none) (has-map row_of R z k))), is)
 
-each_of : (R : Content) (origin : ℕ) (F : List Record) → ((r : Record) → Has F r → Has R r × (r.origin ≡ origin)) → AllByRecursion (IsOf R origin) (map row_of F)
-each_of R origin [] f = tt
-each_of R origin (r ∷ F) f = let p = f r (inl refl) in ((r, p.0, p.1, refl), each_of R origin F (λ z h. f z (inr h)))
+    not_newer : (r : Record) → IsTop r → (z : Record) → Has R z → is_newer (row_of r) (row_of z) ≡ false
+    not_newer r t z k =
+        let same_one = is_eq (int_cmp (pos z.origin) (pos r.origin)) in
+        elim (cases_Bool (is_eq (int_cmp (pos z.origin) (pos r.origin)))) [
+          | inl e ↦ newer_is r z ∙ not_above z.number r.number same_one (t.2 z k (same_origins z.origin r.origin e ∙ t.1))
+          | inr e ↦ newer_is r z ∙ ap (λ b. b && is_gt (int_cmp (pos z.number) (pos r.number))) e
+        ]
 
-pub last_found : (db : Trees) (origin : ℕ) (rows : List Row) (items : List Record) → IsFilled db → IsPage (is_from (pos origin)) descending_number (Some 1) (cells (db 1)) rows → items ≡ flat_map records_in rows → IsLast (content_in db) origin (end_of items)
-last_found db origin rows items (R, l, stand) first read = subst (λ S. IsLast S origin (end_of items)) (sym (content_is R db l stand)) (subst (λ k. IsLast R origin (end_of k)) (sym read) (go first.ordered same first.sorted first.front))
-  where
-    F : List Record
-    F = filter (from origin) R
+    none_newer : (r : Record) → IsTop r → (d : Row) → Has X d → is_newer (row_of r) d ≡ false
+    none_newer r t d h = let z = has_from_map row_of R d h in subst (λ e. is_newer (row_of r) e ≡ false) z.2 (not_newer r t z.0 z.1)
 
-    told_rows : filter (is_from (pos origin)) (map row_of R) ≡ map row_of F
-    told_rows = filter-map (is_from (pos origin)) row_of R ∙ ap (map row_of) (filter_as (λ r. is_from (pos origin) (row_of r)) (from origin) R (λ r h. ap is_eq (value_cmp-Int (pos r.origin) (pos origin))))
+    -- and each such record has its row
+    there : (r : Record) → IsTop r → Has rows (last_of (row_of r))
+    there r t =
+        let none : list_any (is_newer (row_of r)) X ≡ false = any_from_none (is_newer (row_of r)) X (all_from_has (λ d. is_newer (row_of r) d ≡ false) X (none_newer r t)) in
+        let own : ours (last_of (row_of r)) ≡ true = same_ints (pos r.origin) (pos origin) ∙ equal_origins r.origin origin t.1 in
+        has-permutation (filter ours (vectors_of X)) rows (last_of (row_of r)) perm
+        (has-filter ours (vectors_of X) (last_of (row_of r)) (has-map last_of (filter top X) (row_of r) (has-filter top X (row_of r) (has-map row_of R r t.0) (ap not none))) own)
 
-    same : IsPermutation (map row_of F) first.ordered
-    same = IsPermutation-trans _ _ _ (subst (λ xs. IsPermutation xs (filter (is_from (pos origin)) (cells (db 1)))) told_rows (IsPermutation-filter (is_from (pos origin)) (map row_of R) (cells (db 1)) stand)) first.same
+    bound : (s : Record) → Has R s → s.origin ≡ origin → s.number ≤ vec R origin
+    bound s k e = subst (λ o. s.number ≤ vec R o) e (vec_bounds R s k)
 
-    members : (r : Record) → Has F r → Has R r × (r.origin ≡ origin)
-    members r h = let p = has_from_filter (from origin) R r h in (p.0, same_pos r.origin origin ((Decides-int_eq (pos r.origin) (pos origin)).0 p.1))
+    -- an origin with a record has such a one
+    some_top : (z : Record) → Has R z → z.origin ≡ origin → (r : Record) × IsTop r
+    some_top z k from = elim (vec_attained R origin) [
+      | inl zero_is ↦ (z, (k, from, λ s m e. let b = bound s m e in omega (arith, b, zero_is)))
+      | inr h ↦ let named = h.2.numbered in (h.0, (h.1, h.2.from, λ s m e. let b = bound s m e in omega (arith, b, named)))
+    ]
 
-    there : (O : List Row) → IsPermutation (map row_of F) O → (z : Record) → Has R z → z.origin ≡ origin → Has O (row_of z)
-    there O perm z h e = has-permutation (map row_of F) O (row_of z) perm (has-map F z (has-filter (from origin) R z h ((Decides-int_eq (pos z.origin) (pos origin)).1 (ap pos e))))
-
-    go : (O : List Row) → IsPermutation (map row_of F) O → Falls O → rows ≡ take 1 O → IsLast R origin (end_of (flat_map records_in rows))
-    go [] perm falls front =
-        let none : (z : Record) → Has R z → z.origin ≡ origin → ⊥ = λ z h e. there [] perm z h e in
-        subst (λ k. IsLast R origin (end_of (flat_map records_in k))) (sym front) (vec_is R origin 0 (λ z h e. absurd (none z h e)) (inl refl), elim (last_attained R origin) [ inl e ↦ e | inr w ↦ absurd (none w.0 w.1 w.2) ])
-    go (x ∷ xs) perm falls front =
-        let all = recursion_from_All (IsOf R origin) (x ∷ xs) (All-permutation (IsOf R origin) (map row_of F) (x ∷ xs) perm (All-from_recursion (IsOf R origin) (map row_of F) (each_of R origin F members))) in
-        let r = all.0.0 in
-        let is : x ≡ row_of r = all.0.3 in
-        let reads : flat_map records_in (x ∷ []) ≡ r ∷ [] = ap (λ u. records_in u ++ []) is ∙ ap (λ u. u ++ []) (record_again r (each_record R l r all.0.1)) in
-        let top : vec R origin ≡ r.number =
-        vec_is R origin r.number (λ z h e. elim (there (x ∷ xs) perm z h e) [
-          | inl same_row ↦ let n = same_pos r.number z.number (ap (λ u. Rattle.sql_archive.specs.Rows.int_in (column u 1)) (sym is ∙ same_row)) in omega (arith, n)
-          | inr k ↦ greatest_first R origin x xs r is all.1 falls z k
-        ]) (inr (r, all.0.1, record { from = all.0.2; numbered = refl })) in
-        let tick : last_tick R origin ≡ r.tick = sym (last_of_last R r l.closed all.0.1 (sym top ∙ sym (ap (vec R) all.0.2)) ∙ ap (last_tick R) all.0.2) in
-        subst (λ k. IsLast R origin (end_of (flat_map records_in k))) (sym front) (subst (λ k. IsLast R origin (end_of k)) (sym reads) (top, tick))
+    go : (xs : List Row) → rows ≡ xs → IsLast R origin (end_of xs)
+    go [] e =
+        let none : (z : Record) → Has R z → z.origin ≡ origin → ⊥ = λ z k from. let t = some_top z k from in subst (λ l. Has l (last_of (row_of t.0))) e (there t.0 t.1) in
+        (vec_is R origin 0 (λ z h from. absurd (none z h from)) (inl refl), elim (last_attained R origin) [ inl is ↦ is | inr w ↦ absurd (none w.0 w.1 w.2) ])
+    go (x ∷ xs) e =
+        let t = of_top x (subst (λ l. Has l x) (sym e) (inl refl)) in
+        let r = t.0 in
+        let greatest : vec R origin ≡ r.number = vec_is R origin r.number t.1.2 (inr (r, t.1.0, record { from = t.1.1; numbered = refl })) in
+        let tick : last_tick R origin ≡ r.tick = sym (last_of_last R r l.closed t.1.0 (sym greatest ∙ sym (ap (vec R) t.1.1)) ∙ ap (last_tick R) t.1.1) in
+        subst (λ y. IsLast R origin (end_of (y ∷ xs))) (sym t.2) (greatest, tick)

@@ -9,6 +9,7 @@ pub mod KeepLemmas
 pub mod KeptLemmas
 pub mod AgreeLemmas
 pub mod AgreedLemmas
+pub mod FreeLemmas
 pub mod QueryLemmas
 pub mod RowLemmas
 pub mod StoreLemmas

@@ -160,7 +160,7 @@ module _ (params : Row) (db : Trees) where
   abbrev pub current_source : Row → Row
   current_source r = eval_all currents_project (current_env r)
 
-  cast_live : (v : Value) (n : ℤ) → v ≡ Int n → cast Integer (binary (Compare Ne Binary) v (Int (pos 4))) ≡ binary (Compare Ne Binary) v (Int (pos 4))
+  pub cast_live : (v : Value) (n : ℤ) → v ≡ Int n → cast Integer (binary (Compare Ne Binary) v (Int (pos 4))) ≡ binary (Compare Ne Binary) v (Int (pos 4))
   unfolding binary
   cast_live v n e = rw e (one _)
     where

@@ -30,10 +30,11 @@ use Rattle.sqlite.specs.State.{State, Shown, ShowsRows, IsUnchanged}
 use Rattle.sqlite.specs.Clock.{timed}
 use Rattle.sqlite.proofs.Callers.{IsPlain, command_of, reads_as}
 use Rattle.sql_archive.specs.Tables.{older_schema, archive_schema}
-use Rattle.sql_archive.specs.Words.{columns_of, cells, is_at, is_named, is_from, is_behind, is_after, is_before, IsPage, name_order, descending_number, moment_order, stamp_cmp}
+use Rattle.sql_archive.specs.Words.{columns_of, cells, is_at, is_named, is_behind, is_after, is_before, IsPage, name_order, moment_order, stamp_cmp}
 use Rattle.sql_archive.specs.State.{AreAt, IsKnown, shown_of}
 use Rattle.sql_archive.specs.Rows.{meta_columns, meta_cells}
-use Rattle.sql_archive.specs.Derived.{current_columns}
+use Rattle.sql_archive.specs.Derived.{current_columns, vector_columns}
+use Rattle.sql_archive.specs.Keeping.{is_vector_of}
 use Rattle.sql_archive.specs.Currents.{is_live_after, is_live_before, current_order}
 use Rattle.sql_archive.proofs.Texts.{lives_after_text, lives_before_text, at_text, since_text, after_text, before_text, all_text, whose_text, named_text, last_text}
 
@@ -278,15 +279,15 @@ finds_named old new origin number rows has h =
     let same : rows ≡ all.0 = all.3 in
     subst (IsPermutation (filter (is_named origin number) (cells (old.now.trees 1)))) (sym same) all.1
 
--- ---- the last row of an origin
+-- ---- the row of vectors of an origin
 
 abbrev last_tests : List Term
-last_tests = eq (col 1 1) (col 0 0) ∷ []
+last_tests = eq (col 1 0) (col 0 0) ∷ []
 
-abbrev by_number : List (Term × Key)
-by_number = (col 1 2, record { collation = Binary; descending = true }) ∷ []
+abbrev last_terms : List Term
+last_terms = col 1 0 ∷ col 1 2 ∷ col 1 3 ∷ []
 
-last_is : (command_of (understood archive_schema last_text) ≡ Select (record { lets = []; body = simple 1 last_tests each by_number (lit (Int (pos 1))) }) names) × (reads_listing archive_schema last_text ≡ false)
+last_is : (command_of (understood archive_schema last_text) ≡ Select (record { lets = []; body = simple 6 last_tests last_terms [] all_rows }) (codes "origin" ∷ codes "number" ∷ codes "tick" ∷ [])) × (reads_listing archive_schema last_text ≡ false)
 unfolding understood everything
 last_is = (refl, refl)
 
@@ -294,17 +295,13 @@ pub last_plain : IsPlain (understood archive_schema last_text)
 unfolding understood everything
 last_plain = (refl, refl)
 
-pub finds_last : (old new : State) (origin : ℤ) (rows : List Row) → old.now.schema ≡ archive_schema → Shown last_text (Int origin ∷ []) old new rows → IsPage (is_from origin) descending_number (Some 1) (cells (old.now.trees 1)) rows
+pub finds_last : (old new : State) (origin : ℤ) (rows : List Row) → old.now.schema ≡ archive_schema → Shown last_text (Int origin ∷ []) old new rows → IsPermutation (filter (is_vector_of origin) (map vector_columns (old.now.trees 6))) rows
 finds_last old new origin rows has h =
     let params = Int origin ∷ [] in
     let got = reads_as last_text params old new archive_schema has _ last_is.0 last_plain last_is.1 rows h in
-    let all = answered 1 last_tests each by_number (lit (Int (pos 1))) params columns_of (is_from origin) (λ c. column c 1 ∷ []) (λ r. refl) (λ r. rw (equals (column r 1) (Int origin) refl) (one_true _)) old.now.trees rows (got.answer Null) in
-    record {
-      ordered = all.0;
-      same = all.1;
-      sorted = sorted_alike (λ a b. key_cmp 0 (map (λ (k : Term × Key). k.1) by_number) (column a 1 ∷ []) (column b 1 ∷ [])) descending_number (λ a b. then-Equal (value_cmp (column b 1) (column a 1))) all.0 all.2;
-      front = all.3;
-    }
+    let all = answered 6 last_tests last_terms [] all_rows params vector_columns (is_vector_of origin) (λ c. []) (λ r. refl) (λ r. one_true _) old.now.trees rows (got.answer Null) in
+    let same_rows : rows ≡ all.0 = all.3 in
+    subst (IsPermutation (filter (is_vector_of origin) (map vector_columns (old.now.trees 6)))) (sym same_rows) all.1
 
 -- ---- the rows of an origin behind a number
 

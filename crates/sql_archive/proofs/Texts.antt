@@ -51,7 +51,7 @@ abbrev pub named_text : List ℕ
 named_text = codes "SELECT origin, number, tick, node, time, pico, asked, who, value FROM records2 WHERE origin = ?1 AND number = ?2"
 
 abbrev pub last_text : List ℕ
-last_text = codes "SELECT origin, number, tick, node, time, pico, asked, who, value FROM records2 WHERE origin = ?1 ORDER BY number DESC LIMIT 1"
+last_text = codes "SELECT origin, number, tick FROM vectors WHERE origin = ?1"
 
 abbrev pub since_text : List ℕ
 since_text = codes "SELECT origin, number, tick, node, time, pico, asked, who, value FROM records2 WHERE origin = ?1 AND number > ?2 ORDER BY origin, number LIMIT ?3"
@@ -68,14 +68,20 @@ drop_current_text = codes "DELETE FROM currents2 WHERE node = ?1 AND time = ?2 A
 abbrev pub add_current_text : List ℕ
 add_current_text = codes "INSERT INTO currents2 SELECT r.node, r.time, r.pico, r.tick, r.origin, r.asked <> 4, EXISTS (SELECT 1 FROM records2 AS s WHERE s.node = r.node AND s.time = r.time AND s.pico = r.pico AND (s.tick <> r.tick OR s.origin <> r.origin)), r.value FROM records2 AS r WHERE r.node = ?1 AND r.time = ?2 AND r.pico = ?3 AND NOT EXISTS (SELECT 1 FROM records2 AS s WHERE s.node = r.node AND s.time = r.time AND s.pico = r.pico AND s.tick >= r.tick AND (s.tick > r.tick OR s.origin > r.origin))"
 
+abbrev pub first_current_text : List ℕ
+first_current_text = codes "INSERT INTO currents2 VALUES (?1, ?2, ?3, ?4, ?5, ?6 <> 4, 0, ?7)"
+
+abbrev pub some_at_text : List ℕ
+some_at_text = codes "SELECT origin FROM records2 WHERE node = ?1 AND time = ?2 AND pico = ?3 LIMIT 1"
+
 abbrev pub fill_currents_text : List ℕ
 fill_currents_text = codes "INSERT INTO currents2 SELECT r.node, r.time, r.pico, r.tick, r.origin, r.asked <> 4, EXISTS (SELECT 1 FROM records2 AS s WHERE s.node = r.node AND s.time = r.time AND s.pico = r.pico AND (s.tick <> r.tick OR s.origin <> r.origin)), r.value FROM records2 AS r WHERE NOT EXISTS (SELECT 1 FROM records2 AS s WHERE s.node = r.node AND s.time = r.time AND s.pico = r.pico AND s.tick >= r.tick AND (s.tick > r.tick OR s.origin > r.origin))"
 
-abbrev pub drop_vector_text : List ℕ
-drop_vector_text = codes "DELETE FROM vectors WHERE origin = ?1"
-
 abbrev pub add_vector_text : List ℕ
 add_vector_text = codes "INSERT INTO vectors VALUES (?1, ?2, ?3)"
+
+abbrev pub set_vector_text : List ℕ
+set_vector_text = codes "UPDATE vectors SET origin = ?1, number = ?2, tick = ?3 WHERE origin = ?1"
 
 abbrev pub fill_vectors_text : List ℕ
 fill_vectors_text = codes "INSERT INTO vectors SELECT r.origin, r.number, r.tick FROM records2 AS r WHERE NOT EXISTS (SELECT 1 FROM records2 AS s WHERE s.origin = r.origin AND s.number > r.number)"

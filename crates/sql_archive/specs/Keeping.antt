@@ -1,5 +1,5 @@
 -- The writes of one record in one transaction: its row, and the rows of currents2 and of vectors that it changes.
-use Rattle.std.specs.Prelude.{◌≡◌, true, ℕ, ℤ, not, ◌&&◌, Bool, List, [], ◌∷◌, ◌++◌, map, filter, IsPermutation}
+use Rattle.std.specs.Prelude.{◌≡◌, true, false, ℕ, ℤ, not, ◌&&◌, Bool, List, [], ◌∷◌, ◌++◌, map, filter, IsPermutation}
 use Rattle.std.specs.List.{list_any, AllByRecursion}
 use Rattle.sqlite_value.specs.declared.value.Value.TheVariants.{Int}
 use Rattle.sqlite_value.specs.Order.{Row, column, bytes}
@@ -74,6 +74,27 @@ pub record ChangesVectors (row : Row) (origin : ℤ) (old new : Trees) : Type 0 
   pub dropped : DropsVector origin old between
   pub put : PutsVectors (λ _. row ∷ []) between new
   pub lists : Lists (new catalog_tree) archive_schema
+
+-- so many rows of vectors were of this origin: where none was, none is gone, and where one was, it is another now
+pub record SetsVectors (count : ℕ) (row : Row) (origin : ℤ) (old new : Trees) : Type 0 where
+  pub none : count ≡ 0 → DropsVector origin old new
+  pub one : count ≡ 1 → ChangesVectors row origin old new
+
+-- no row is of this node, time and picoseconds
+abbrev pub HasNoneOf : List ℕ → ℤ → ℤ → List Row → Type 0
+HasNoneOf node time pico = AllByRecursion (λ c. is_of node time pico c ≡ false)
+
+-- no row of records2 is of this node, time and picoseconds, and none of currents2
+pub record IsFree (node : List ℕ) (time pico : ℤ) (db : Trees) : Type 0 where
+  pub records : HasNoneOf node time pico (cells (db 1))
+  pub currents : AllByRecursion (λ c. is_current_of node time pico c ≡ false) (map current_columns (db 4))
+
+-- of the rows of records2 this is the only one of its node, time and picoseconds, and currents2 has none of them
+pub record IsOnly (row : Row) (node : List ℕ) (time pico : ℤ) (db : Trees) : Type 0 where
+  pub others : List Row
+  pub records : IsPermutation (row ∷ others) (cells (db 1))
+  pub apart : HasNoneOf node time pico others
+  pub currents : AllByRecursion (λ c. is_current_of node time pico c ≡ false) (map current_columns (db 4))
 
 abbrev pub int_at : Row → ℕ → ℤ
 int_at c at = int_in (column c at)

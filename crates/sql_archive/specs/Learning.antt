@@ -1,7 +1,8 @@
 -- What learning a record does to a connection.
 use Rattle.std.specs.Prelude.{◌≡◌, ℕ, ◌+◌, nat_lt, ℤ, int_lt, int_le, if◌then◌else◌, List, [], ◌∷◌, pos, false, Bool, None, Result, Ok, Err, IfOk, IfErr, OnOk, unwrap_or}
 use Rattle.sqlite_trees.specs.Tree.{Trees}
-use Rattle.sqlite_trees.specs.Objects.{catalog_tree}
+use Rattle.sqlite_value.specs.Order.{Row, column}
+use Rattle.sqlite_trees.specs.Objects.{number_in, catalog_tree}
 use Rattle.sqlite_catalog.specs.Listing.{Lists}
 use Rattle.sqlite.specs.State.{State, HasCleanDisk, Survives}
 use Rattle.stamp.specs.Limits.{greatest}
@@ -14,17 +15,17 @@ use Rattle.archive.specs.declared.fault.LearnFault.{LearnFault}
 use Rattle.archive.specs.declared.fault.LearnFault.TheVariants as refused
 use Rattle.sql_archive.specs.Tables.{archive_schema}
 use Rattle.sql_archive.specs.Rows.{row_of, content_in, IsFilled}
-use Rattle.sql_archive.specs.Derived.{AreKept}
+use Rattle.sql_archive.specs.Derived.{AreKept, int_in}
 use Rattle.sql_archive.specs.State as state
 
 -- the last record of an origin tells its number and its tick
 abbrev pub IsLast : Content → ℕ → ℕ × ℤ → Type 0
 IsLast R origin last = (vec R origin ≡ last.0) × (last_tick R origin ≡ last.1)
 
--- the number and the tick of the first of some records
-abbrev pub end_of : List Record → ℕ × ℤ
+-- the number and the tick in the first of some rows of vectors
+abbrev pub end_of : List Row → ℕ × ℤ
 end_of [] = (0, pos 0)
-end_of (r ∷ rs) = (r.number, r.tick)
+end_of (c ∷ cs) = (number_in (column c 1), int_in (column c 2))
 
 -- what a record meets whose number is reached
 abbrev pub reached : Bool → Finding

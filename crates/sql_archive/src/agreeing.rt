@@ -108,7 +108,8 @@ fn ids_in<S: Alter>(conn: &mut Connection<S>, sql: &str) -> Result<u64, StoreFau
     }
 }
 
-fn are_none(rows: &[Row]) -> bool
+/// Whether these are no rows.
+pub(crate) fn are_none(rows: &[Row]) -> bool
     ensures { IsTrue result → rows.now ≡ [] }
 {
     match rows {

@@ -35,8 +35,15 @@ pub(crate) fn bytes_at(row: &Row, at: usize) -> Result<&[u8], RecordFault>
     }
 }
 
+/// A whole number, as a tick is.
+pub(crate) fn tick_at(row: &Row, at: usize) -> Result<i64, RecordFault>
+    ensures { IfOk result (λ n. int_in (column row.now at) ≡ n) }
+{
+    int_at(row, at)
+}
+
 /// A whole number that isn't negative.
-fn number_at(row: &Row, at: usize) -> Result<u64, RecordFault>
+pub(crate) fn number_at(row: &Row, at: usize) -> Result<u64, RecordFault>
     ensures { IfOk result (λ n. number_in (column row.now at) ≡ n) }
 {
     match u64::try_from(int_at(row, at)?) {

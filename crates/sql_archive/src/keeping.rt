@@ -1,6 +1,6 @@
 //! The writes of one record in one transaction: its row, and the rows of current values and of vectors that follow.
 
-ghost use Rattle.std.specs.Prelude.{◌≡◌, ◌∷◌, [], false, OnOk, OnErr, IsTrue};
+ghost use Rattle.std.specs.Prelude.{◌≡◌, ◌∷◌, [], false, IfOk, OnOk, OnErr, IsTrue};
 ghost use Rattle.sqlite_trees.specs.Objects.{catalog_tree};
 ghost use Rattle.sqlite_catalog.specs.Listing.{Lists};
 ghost use Rattle.sqlite.specs.State.{HasCleanDisk, Survives, KeepsCommit};
@@ -9,7 +9,7 @@ ghost use Rattle.sql_archive.specs.Tables.{archive_schema};
 ghost use Rattle.sql_archive.specs.Words.{cells_of};
 ghost use Rattle.sql_archive.specs.Derived.{is_of};
 ghost use Rattle.sql_archive.specs.State.{Idles, Making, Rests};
-ghost use Rattle.sql_archive.specs.Keeping.{AddsRecord, DropsCurrent, PutsCurrents, ChangesCurrents, DropsVector, PutsVectors, ChangesVectors, Keeps, vector_cells};
+ghost use Rattle.sql_archive.specs.Keeping.{AddsRecord, IsFree, IsOnly, DropsCurrent, PutsCurrents, ChangesCurrents, PutsVectors, ChangesVectors, SetsVectors, Keeps, vector_cells};
 
 use crate::writes::Cells;
 use sqlite::{Alter, Connection, Error, Transaction, params};
@@ -58,15 +58,19 @@ fn add_current<S: Alter>(tx: &mut Transaction<'_, S>, r: &Cells) -> Result<usize
     )
 }
 
-/// Takes out the last number of a record's origin.
-fn drop_vector<S: Alter>(tx: &mut Transaction<'_, S>, r: &Cells) -> Result<usize, Error>
+/// Makes a record's number and tick the last of its origin where vectors has the origin, and tells how many rows
+/// those are.
+fn set_vector<S: Alter>(tx: &mut Transaction<'_, S>, r: &Cells) -> Result<usize, Error>
     requires { HasCleanDisk (state S.Store tx.old.conn.now) → Making archive_schema (state S.Store tx.old.conn.now) }
-    ensures made { HasCleanDisk (state S.Store tx.new.conn.now) → OnOk result (Making archive_schema (state S.Store tx.new.conn.now) × ((state S.Store tx.new.conn.now).committed ≡ (state S.Store tx.old.conn.now).committed) × DropsVector r.now.origin (state S.Store tx.old.conn.now).now.trees (state S.Store tx.new.conn.now).now.trees) }
+    ensures made { HasCleanDisk (state S.Store tx.new.conn.now) → IfOk result (λ count. Making archive_schema (state S.Store tx.new.conn.now) × ((state S.Store tx.new.conn.now).committed ≡ (state S.Store tx.old.conn.now).committed) × SetsVectors count (vector_cells r.now.origin r.now.number r.now.tick) r.now.origin (state S.Store tx.old.conn.now).now.trees (state S.Store tx.new.conn.now).now.trees) }
     ensures kept { HasCleanDisk (state S.Store tx.new.conn.now) → KeepsCommit (state S.Store tx.old.conn.now) (state S.Store tx.new.conn.now) }
     ensures same { tx.new.conn.ghost_name ≡ tx.old.conn.ghost_name }
     ensures crash { Survives (state S.Store tx.old.conn.now) (state S.Store tx.new.conn.now) (λ _. ⊥) }
 {
-    tx.execute("DELETE FROM vectors WHERE origin = ?1", params![&r.origin])
+    tx.execute(
+        "UPDATE vectors SET origin = ?1, number = ?2, tick = ?3 WHERE origin = ?1",
+        params![&r.origin, &r.number, &r.tick],
+    )
 }
 
 /// Puts in a record's number as the last of its origin.
@@ -83,8 +87,25 @@ fn add_vector<S: Alter>(tx: &mut Transaction<'_, S>, r: &Cells) -> Result<usize,
     )
 }
 
-/// Makes the current value of a record's node and time anew.
-fn change_current<S: Alter>(tx: &mut Transaction<'_, S>, r: &Cells) -> Result<(), Error>
+/// Puts in the current value of a record that is the only one of its node and time.
+fn add_first<S: Alter>(tx: &mut Transaction<'_, S>, r: &Cells) -> Result<usize, Error>
+    requires making { HasCleanDisk (state S.Store tx.old.conn.now) → Making archive_schema (state S.Store tx.old.conn.now) }
+    requires only { HasCleanDisk (state S.Store tx.old.conn.now) → IsOnly (cells_of r.now.origin r.now.number r.now.tick r.now.node.items r.now.time r.now.pico r.now.asked r.now.who.items r.now.value.items) r.now.node.items r.now.time r.now.pico (state S.Store tx.old.conn.now).now.trees }
+    ensures made { HasCleanDisk (state S.Store tx.new.conn.now) → OnOk result (Making archive_schema (state S.Store tx.new.conn.now) × ((state S.Store tx.new.conn.now).committed ≡ (state S.Store tx.old.conn.now).committed) × ChangesCurrents r.now.node.items r.now.time r.now.pico (state S.Store tx.old.conn.now).now.trees (state S.Store tx.new.conn.now).now.trees) }
+    ensures kept { HasCleanDisk (state S.Store tx.new.conn.now) → KeepsCommit (state S.Store tx.old.conn.now) (state S.Store tx.new.conn.now) }
+    ensures same { tx.new.conn.ghost_name ≡ tx.old.conn.ghost_name }
+    ensures crash { Survives (state S.Store tx.old.conn.now) (state S.Store tx.new.conn.now) (λ _. ⊥) }
+{
+    tx.execute(
+        "INSERT INTO currents2 VALUES (?1, ?2, ?3, ?4, ?5, ?6 <> 4, 0, ?7)",
+        params![
+            &r.node, &r.time, &r.pico, &r.tick, &r.origin, &r.asked, &r.value
+        ],
+    )
+}
+
+/// Makes the current value of a record's node and time anew, from all records that stand there.
+fn renew_current<S: Alter>(tx: &mut Transaction<'_, S>, r: &Cells) -> Result<(), Error>
     requires { HasCleanDisk (state S.Store tx.old.conn.now) → Making archive_schema (state S.Store tx.old.conn.now) }
     ensures made { HasCleanDisk (state S.Store tx.new.conn.now) → OnOk result (Making archive_schema (state S.Store tx.new.conn.now) × ((state S.Store tx.new.conn.now).committed ≡ (state S.Store tx.old.conn.now).committed) × ChangesCurrents r.now.node.items r.now.time r.now.pico (state S.Store tx.old.conn.now).now.trees (state S.Store tx.new.conn.now).now.trees) }
     ensures kept { HasCleanDisk (state S.Store tx.new.conn.now) → KeepsCommit (state S.Store tx.old.conn.now) (state S.Store tx.new.conn.now) }
@@ -96,7 +117,27 @@ fn change_current<S: Alter>(tx: &mut Transaction<'_, S>, r: &Cells) -> Result<()
     Ok(())
 }
 
-/// Makes the last number of a record's origin anew.
+/// Makes the current value of a record's node and time; `first` tells that no other record stands there.
+fn change_current<S: Alter>(
+    tx: &mut Transaction<'_, S>,
+    r: &Cells,
+    first: bool,
+) -> Result<(), Error>
+    requires making { HasCleanDisk (state S.Store tx.old.conn.now) → Making archive_schema (state S.Store tx.old.conn.now) }
+    requires only { IsTrue first → HasCleanDisk (state S.Store tx.old.conn.now) → IsOnly (cells_of r.now.origin r.now.number r.now.tick r.now.node.items r.now.time r.now.pico r.now.asked r.now.who.items r.now.value.items) r.now.node.items r.now.time r.now.pico (state S.Store tx.old.conn.now).now.trees }
+    ensures made { HasCleanDisk (state S.Store tx.new.conn.now) → OnOk result (Making archive_schema (state S.Store tx.new.conn.now) × ((state S.Store tx.new.conn.now).committed ≡ (state S.Store tx.old.conn.now).committed) × ChangesCurrents r.now.node.items r.now.time r.now.pico (state S.Store tx.old.conn.now).now.trees (state S.Store tx.new.conn.now).now.trees) }
+    ensures kept { HasCleanDisk (state S.Store tx.new.conn.now) → KeepsCommit (state S.Store tx.old.conn.now) (state S.Store tx.new.conn.now) }
+    ensures same { tx.new.conn.ghost_name ≡ tx.old.conn.ghost_name }
+    ensures crash { Survives (state S.Store tx.old.conn.now) (state S.Store tx.new.conn.now) (λ _. ⊥) }
+{
+    if !first {
+        return renew_current(tx, r);
+    }
+    add_first(tx, r)?;
+    Ok(())
+}
+
+/// Makes a record's number the last of its origin. More rows than one of an origin would be no archive's.
 fn change_vector<S: Alter>(tx: &mut Transaction<'_, S>, r: &Cells) -> Result<(), Error>
     requires { HasCleanDisk (state S.Store tx.old.conn.now) → Making archive_schema (state S.Store tx.old.conn.now) }
     ensures made { HasCleanDisk (state S.Store tx.new.conn.now) → OnOk result (Making archive_schema (state S.Store tx.new.conn.now) × ((state S.Store tx.new.conn.now).committed ≡ (state S.Store tx.old.conn.now).committed) × ChangesVectors (vector_cells r.now.origin r.now.number r.now.tick) r.now.origin (state S.Store tx.old.conn.now).now.trees (state S.Store tx.new.conn.now).now.trees) }
@@ -104,34 +145,41 @@ fn change_vector<S: Alter>(tx: &mut Transaction<'_, S>, r: &Cells) -> Result<(),
     ensures same { tx.new.conn.ghost_name ≡ tx.old.conn.ghost_name }
     ensures crash { Survives (state S.Store tx.old.conn.now) (state S.Store tx.new.conn.now) (λ _. ⊥) }
 {
-    drop_vector(tx, r)?;
-    add_vector(tx, r)?;
-    Ok(())
+    match set_vector(tx, r)? {
+        0 => {
+            add_vector(tx, r)?;
+            Ok(())
+        }
+        1 => Ok(()),
+        _ => Err(Error::InvalidQuery),
+    }
 }
 
-/// All writes of a record.
-fn write_all<S: Alter>(tx: &mut Transaction<'_, S>, r: &Cells) -> Result<(), Error>
-    requires { HasCleanDisk (state S.Store tx.old.conn.now) → Making archive_schema (state S.Store tx.old.conn.now) }
+/// All writes of a record; `first` tells that no other stands at its node and time.
+fn write_all<S: Alter>(tx: &mut Transaction<'_, S>, r: &Cells, first: bool) -> Result<(), Error>
+    requires making { HasCleanDisk (state S.Store tx.old.conn.now) → Making archive_schema (state S.Store tx.old.conn.now) }
+    requires free { IsTrue first → HasCleanDisk (state S.Store tx.old.conn.now) → IsFree r.now.node.items r.now.time r.now.pico (state S.Store tx.old.conn.now).now.trees }
     ensures made { HasCleanDisk (state S.Store tx.new.conn.now) → OnOk result (Making archive_schema (state S.Store tx.new.conn.now) × ((state S.Store tx.new.conn.now).committed ≡ (state S.Store tx.old.conn.now).committed) × Keeps (cells_of r.now.origin r.now.number r.now.tick r.now.node.items r.now.time r.now.pico r.now.asked r.now.who.items r.now.value.items) (state S.Store tx.old.conn.now).now.trees (state S.Store tx.new.conn.now).now.trees) }
     ensures kept { HasCleanDisk (state S.Store tx.new.conn.now) → KeepsCommit (state S.Store tx.old.conn.now) (state S.Store tx.new.conn.now) }
     ensures same { tx.new.conn.ghost_name ≡ tx.old.conn.ghost_name }
     ensures crash { Survives (state S.Store tx.old.conn.now) (state S.Store tx.new.conn.now) (λ _. ⊥) }
 {
     add_record(tx, r)?;
-    change_current(tx, r)?;
+    change_current(tx, r, first)?;
     change_vector(tx, r)?;
     Ok(())
 }
 
 /// All of them, in one commit, or none.
-pub(crate) fn keep<S: Alter>(conn: &mut Connection<S>, r: &Cells) -> Result<(), Error>
+pub(crate) fn keep<S: Alter>(conn: &mut Connection<S>, r: &Cells, first: bool) -> Result<(), Error>
     requires idle { conn.old.in_transaction ≡ false }
     requires idles { HasCleanDisk (state S.Store conn.old) → Idles (state S.Store conn.old) }
+    requires free { IsTrue first → HasCleanDisk (state S.Store conn.old) → IsFree r.now.node.items r.now.time r.now.pico (state S.Store conn.old).now.trees }
     ensures made { HasCleanDisk (state S.Store conn.new) → OnOk result (Idles (state S.Store conn.new) × Keeps (cells_of r.now.origin r.now.number r.now.tick r.now.node.items r.now.time r.now.pico r.now.asked r.now.who.items r.now.value.items) (state S.Store conn.old).now.trees (state S.Store conn.new).now.trees) }
     ensures refused { HasCleanDisk (state S.Store conn.new) → IsTrue (state S.Store conn.new).is_open → OnErr result (Rests (state S.Store conn.new) × ((state S.Store conn.new).now ≡ (state S.Store conn.old).committed)) }
     ensures crash { Survives (state S.Store conn.old) (state S.Store conn.new) (Keeps (cells_of r.now.origin r.now.number r.now.tick r.now.node.items r.now.time r.now.pico r.now.asked r.now.who.items r.now.value.items) (state S.Store conn.old).now.trees) }
 {
     let mut tx = conn.transaction();
-    write_all(&mut tx, r)?;
+    write_all(&mut tx, r, first)?;
     tx.commit()
 }

@@ -13,12 +13,12 @@ ghost use Rattle.sql_archive.specs.Derived.{AreKept};
 ghost use Rattle.sql_archive.specs.State.{Idles, Asked};
 ghost use Rattle.sql_archive.specs.Learning.{IsLast, Learned, beyond, reached, is_added, flat, IsOwn, end_of};
 
-use crate::decode::decode_all;
+use crate::decode::{decode_all, number_at, tick_at};
 use crate::queries::{Name, rows_last, rows_named};
 use crate::writes::store_record;
 use archive::{LearnFault, StoreFault};
-use records::Record;
-use sqlite::{Alter, Connection};
+use records::{Record, RecordFault};
+use sqlite::{Alter, Connection, Row};
 use stamp::{GREATEST_TICK, ReplicaNo};
 use std::alloc::Global;
 
@@ -63,30 +63,31 @@ fn first_of(origin: ReplicaNo) -> Name
     }
 }
 
-/// The number and the tick of the first of some records, 0 and 0 where there is none.
-fn end_of(records: &[Record]) -> (u64, i64)
-    ensures { result ≡ end_of records.now }
+/// The number and the tick in the first of some rows of vectors, 0 and 0 where there is none.
+fn end_of(rows: &[Row]) -> Result<(u64, i64), RecordFault>
+    ensures { IfOk result (λ last. last ≡ end_of rows.now) }
 {
-    match records.first() {
-        Some(r) => (r.number, r.tick),
-        None => (0, 0),
+    match rows.first() {
+        Some(row) => {
+            let number = number_at(row, 1)?;
+            let tick = tick_at(row, 2)?;
+            Ok((number, tick))
+        }
+        None => Ok((0, 0)),
     }
 }
 
-/// The last number and tick of an origin.
-fn last_of<S: Alter>(
-    alloc: Global,
-    conn: &mut Connection<S>,
-    origin: ReplicaNo,
-) -> Result<(u64, i64), StoreFault>
+/// The last number and tick of an origin, which its row of vectors has.
+fn last_of<S: Alter>(conn: &mut Connection<S>, origin: ReplicaNo) -> Result<(u64, i64), StoreFault>
     requires idles { HasCleanDisk (state S.Store conn.old) → Idles (state S.Store conn.old) }
     requires filled { HasCleanDisk (state S.Store conn.old) → IsFilled (state S.Store conn.old).now.trees }
+    requires kept { HasCleanDisk (state S.Store conn.old) → AreKept (state S.Store conn.old).now.trees }
     ensures { Asked (state S.Store conn.old) (state S.Store conn.new) result (IsLast (content_in (state S.Store conn.old).now.trees) origin) }
 {
     let name = first_of(origin);
     let rows = rows_last(conn, &name)?;
-    let records = decode_all(alloc, &rows)?;
-    Ok(end_of(&records))
+    let last = end_of(&rows)?;
+    Ok(last)
 }
 
 fn name_of(r: &Record) -> Name
@@ -143,11 +144,12 @@ fn judge<S: Alter>(
 ) -> Result<Result<bool, LearnFault>, StoreFault>
     requires idles { HasCleanDisk (state S.Store conn.old) → Idles (state S.Store conn.old) }
     requires filled { HasCleanDisk (state S.Store conn.old) → IsFilled (state S.Store conn.old).now.trees }
+    requires kept { HasCleanDisk (state S.Store conn.old) → AreKept (state S.Store conn.old).now.trees }
     requires lawful { IsLawfulRecord candidate.now }
     ensures own { IsOwn result }
     ensures asked { Asked (state S.Store conn.old) (state S.Store conn.new) result (λ told. told ≡ answer_to (finding (content_in (state S.Store conn.old).now.trees) candidate.now)) }
 {
-    let (held, last) = last_of(alloc, conn, candidate.origin)?;
+    let (held, last) = last_of(conn, candidate.origin)?;
     if candidate.number > held {
         return Ok(beyond(held, last, candidate));
     }

@@ -1,12 +1,14 @@
 //! The queries over the rows of records.
 
-ghost use Rattle.std.specs.Prelude.{◌≡◌, pos, Some, filter, IsPermutation};
+ghost use Rattle.std.specs.Prelude.{◌≡◌, pos, map, filter, IsPermutation};
 ghost use Rattle.sqlite.specs.State.{HasCleanDisk};
 ghost use Rattle.sqlite.specs.Held.{state};
 ghost use Rattle.records.specs.Moments.{ticks_of, pico_of};
 ghost use Rattle.sqlite_value.specs.declared.value.Value.TheVariants.{Int};
 ghost use Rattle.sqlite_sql.specs.Query.{as_count};
-ghost use Rattle.sql_archive.specs.Words.{cells, is_named, is_from, is_behind, name_order, descending_number, is_after, is_before, moment_order, IsPage, AreNextRows};
+ghost use Rattle.sql_archive.specs.Words.{cells, is_named, is_behind, name_order, is_after, is_before, moment_order, IsPage, AreNextRows};
+ghost use Rattle.sql_archive.specs.Derived.{vector_columns};
+ghost use Rattle.sql_archive.specs.Keeping.{is_vector_of};
 ghost use Rattle.sql_archive.specs.Rows.{meta_cells};
 ghost use Rattle.sql_archive.specs.State.{AreAt, Asked, Found, Idles, IsKnown, Rests};
 
@@ -134,17 +136,17 @@ pub(crate) fn rows_named<S: Alter>(
     )
 }
 
-/// The last row of an origin.
+/// The row of vectors of an origin.
 pub(crate) fn rows_last<S: Alter>(
     conn: &mut Connection<S>,
     name: &Name,
 ) -> Result<Vec<Row>, StoreFault>
     requires { HasCleanDisk (state S.Store conn.old) → Idles (state S.Store conn.old) }
-    ensures { Asked (state S.Store conn.old) (state S.Store conn.new) result (λ rows. IsPage (is_from name.now.origin) descending_number (Some 1) (cells ((state S.Store conn.old).now.trees 1)) rows.items) }
+    ensures { Asked (state S.Store conn.old) (state S.Store conn.new) result (λ rows. IsPermutation (filter (is_vector_of name.now.origin) (map vector_columns ((state S.Store conn.old).now.trees 6))) rows.items) }
 {
     select(
         conn,
-        "SELECT origin, number, tick, node, time, pico, asked, who, value FROM records2 WHERE origin = ?1 ORDER BY number DESC LIMIT 1",
+        "SELECT origin, number, tick FROM vectors WHERE origin = ?1",
         params![&name.origin],
     )
 }

@@ -1,23 +1,25 @@
 //! The writes of a record.
 
-ghost use Rattle.std.specs.Prelude.{◌≡◌, ◌≢◌, IfOk, IfErr, OnOk};
+ghost use Rattle.std.specs.Prelude.{◌≡◌, ◌≢◌, IfOk, IfErr, OnOk, IsTrue};
 ghost use Rattle.sqlite.specs.State.{HasCleanDisk, Survives};
 ghost use Rattle.sqlite.specs.Held.{state};
 ghost use Rattle.archive.specs.Store.{IsOfOpening};
-ghost use Rattle.sql_archive.specs.Words.{cells_of};
+ghost use Rattle.sql_archive.specs.Words.{cells, cells_of};
 ghost use Rattle.sql_archive.specs.Derived.{AreKept, IsNextRow};
-ghost use Rattle.sql_archive.specs.State.{Adds, Idles, Stays};
+ghost use Rattle.sql_archive.specs.Keeping.{HasNoneOf};
+ghost use Rattle.sql_archive.specs.State.{Adds, Asked, Idles, Stays};
 ghost use Rattle.ua_binary.specs.Binary.{node_id, IsShortNode};
 ghost use Rattle.ua_variant.specs.DataValue.{data_value, IsShortData};
 ghost use Rattle.records.specs.Spelling.{IsLawfulRecord};
 ghost use Rattle.sql_archive.specs.Rows.{row_of};
 ghost use Rattle.sql_archive.specs.Learning.{Stored};
 
+use crate::agreeing::are_none;
 use crate::keeping::keep;
-use crate::statements::fault_of;
+use crate::statements::{fault_of, select};
 use archive::StoreFault;
 use records::Record;
-use sqlite::{Alter, Connection};
+use sqlite::{Alter, Connection, params};
 use std::alloc::Global;
 use ua_binary::{NodeId, put_node_id};
 use ua_variant::{DataValue, put_data_value};
@@ -36,8 +38,41 @@ pub(crate) struct Cells {
     pub(crate) value: Vec<u8>,
 }
 
-/// Adds a record with the rows that follow, in one commit. A connection that is inside a transaction is
-/// refused: none is where the disk is honest.
+/// Whether no record stands at a record's node and time.
+fn is_first<S: Alter>(conn: &mut Connection<S>, r: &Cells) -> Result<bool, StoreFault>
+    requires { HasCleanDisk (state S.Store conn.old) → Idles (state S.Store conn.old) }
+    ensures { Asked (state S.Store conn.old) (state S.Store conn.new) result (λ first. IsTrue first → HasNoneOf r.now.node.items r.now.time r.now.pico (cells ((state S.Store conn.old).now.trees 1))) }
+{
+    let rows = select(
+        conn,
+        "SELECT origin FROM records2 WHERE node = ?1 AND time = ?2 AND pico = ?3 LIMIT 1",
+        params![&r.node, &r.time, &r.pico],
+    )?;
+    Ok(are_none(&rows))
+}
+
+/// Adds a record with the rows that follow, in one commit; `first` tells that no other stands at its node and
+/// time. A connection that is inside a transaction is refused: none is where the disk is honest.
+fn write_cells<S: Alter>(conn: &mut Connection<S>, r: &Cells, first: bool) -> Result<(), StoreFault>
+    requires idles { HasCleanDisk (state S.Store conn.old) → Idles (state S.Store conn.old) }
+    requires kept { HasCleanDisk (state S.Store conn.old) → AreKept (state S.Store conn.old).now.trees }
+    requires next { HasCleanDisk (state S.Store conn.old) → IsNextRow (cells_of r.now.origin r.now.number r.now.tick r.now.node.items r.now.time r.now.pico r.now.asked r.now.who.items r.now.value.items) (state S.Store conn.old).now.trees }
+    requires none { IsTrue first → HasCleanDisk (state S.Store conn.old) → HasNoneOf r.now.node.items r.now.time r.now.pico (cells ((state S.Store conn.old).now.trees 1)) }
+    ensures added { HasCleanDisk (state S.Store conn.new) → OnOk result (Idles (state S.Store conn.new) × Adds (cells_of r.now.origin r.now.number r.now.tick r.now.node.items r.now.time r.now.pico r.now.asked r.now.who.items r.now.value.items) (state S.Store conn.old).now.trees (state S.Store conn.new).now.trees) }
+    ensures refused { HasCleanDisk (state S.Store conn.new) → IfErr result (λ fault. fault ≢ StoreFault.Broken → Stays (state S.Store conn.old) (state S.Store conn.new)) }
+    ensures met { IfErr result (λ fault. IsOfOpening fault → ⊥) }
+    ensures crash { Survives (state S.Store conn.old) (state S.Store conn.new) (Adds (cells_of r.now.origin r.now.number r.now.tick r.now.node.items r.now.time r.now.pico r.now.asked r.now.who.items r.now.value.items) (state S.Store conn.old).now.trees) }
+{
+    if !conn.is_autocommit() {
+        return Err(StoreFault::Refused);
+    }
+    match keep(conn, r, first) {
+        Ok(()) => Ok(()),
+        Err(error) => Err(fault_of(conn, error)),
+    }
+}
+
+/// Adds a record with the rows that follow, in one commit.
 pub(crate) fn store_cells<S: Alter>(conn: &mut Connection<S>, r: &Cells) -> Result<(), StoreFault>
     requires idles { HasCleanDisk (state S.Store conn.old) → Idles (state S.Store conn.old) }
     requires kept { HasCleanDisk (state S.Store conn.old) → AreKept (state S.Store conn.old).now.trees }
@@ -47,13 +82,8 @@ pub(crate) fn store_cells<S: Alter>(conn: &mut Connection<S>, r: &Cells) -> Resu
     ensures met { IfErr result (λ fault. IsOfOpening fault → ⊥) }
     ensures crash { Survives (state S.Store conn.old) (state S.Store conn.new) (Adds (cells_of r.now.origin r.now.number r.now.tick r.now.node.items r.now.time r.now.pico r.now.asked r.now.who.items r.now.value.items) (state S.Store conn.old).now.trees) }
 {
-    if !conn.is_autocommit() {
-        return Err(StoreFault::Refused);
-    }
-    match keep(conn, r) {
-        Ok(()) => Ok(()),
-        Err(error) => Err(fault_of(conn, error)),
-    }
+    let first = is_first(conn, r)?;
+    write_cells(conn, r, first)
 }
 
 fn copy(alloc: Global, bytes: &[u8]) -> Result<Vec<u8>, StoreFault>

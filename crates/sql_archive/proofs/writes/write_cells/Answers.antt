@@ -3,8 +3,13 @@ use Rattle.sqlite.specs.State.{HasCleanDisk}
 use Rattle.sqlite.specs.Held.{state}
 use Rattle.sqlite.proofs.StateLemmas.{survives_weaker, survives_then}
 use Rattle.sql_archive.proofs.WriteLemmas.{stays_behind}
+use Rattle.sql_archive.proofs.FreeLemmas.{free_by}
 use Rattle.sql_archive.proofs.KeptLemmas.{adds_by_keeping}
-use Rattle.sql_archive.proofs.writes.store_cells.Goals as goal
+use Rattle.sql_archive.proofs.writes.write_cells.Goals as goal
+
+pub keep-requires-clause-free : goal.keep-requires-clause-free
+keep-requires-clause-free g c alone clean =
+    let r = c.args.r.now in free_by r.node.items r.time r.pico (state g.S.Store c.args.conn.now).now.trees (c.requires.kept clean) (c.requires.none alone clean)
 
 pub returns-then-not-is_autocommit-clause-refused : goal.returns-then-not-is_autocommit-clause-refused
 returns-then-not-is_autocommit-clause-refused g c clean own = record { idles = c.requires.idles clean; same = refl }
