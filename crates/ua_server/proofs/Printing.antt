@@ -90,7 +90,7 @@ line-done faults taken matches machine calls means listened told (Dump path) old
     let b = by-line machine (Some path.now) _ _ fault (new.written ≡ old.written) (λ settings first x. dumped-line x.1 fault x.3) (λ f x. (same-line fault f (Err (Line fault)) refl x.0, x.1)) so in
     (unbegun-refused taken matches fault b.0, unread, b.1, network, errors, b.2, b.3)
 line-done faults taken matches machine calls means listened told (Sync path peer) old new (Err (Line fault)) free is (unread, clock, errors, so) =
-    let b = by-line machine (Some path.now) _ _ fault ((new.network ≡ old.network) × (new.written ≡ old.written)) (λ settings first x. called-line calls held peer.now first x.0 old.network new.network old.written new.written fault x.1) (λ f x. (same-line fault f (Err (Line fault)) refl x.0, (x.1, x.2))) so in
+    let b = by-line machine (Some path.now) _ _ fault ((new.network ≡ old.network) × (new.written ≡ old.written)) (λ settings first x. called-line calls machine.held peer.now first x.0 old.network new.network old.written new.written fault x.1) (λ f x. (same-line fault f (Err (Line fault)) refl x.0, (x.1, x.2))) so in
     (unbegun-refused taken matches fault b.0, unread, b.1.1, b.1.0, errors, b.2, b.3)
 line-done faults taken matches machine calls means listened told line old new (Err File) free is so = (free, (line, is, so))
 line-done faults taken matches machine calls means listened told line old new (Err (Settings fault place)) free is so = (free, (line, is, so))
