@@ -1,4 +1,4 @@
-//! Archives in files: found again, refused, and behind a crash.
+//! Archives in files: found again, and refused. What a crash leaves `store_stops` tells.
 
 use crate::archives::{Row, learn};
 use HistoryUpdateType::{Delete, Insert, Update};
@@ -6,7 +6,7 @@ use archive::{Archive, StoreFault};
 use records::HistoryUpdateType;
 use sql_archive::{FileArchive, SqlArchive};
 use sqlite::{Connection, FileStore, Files, Options};
-use sqlite_disk::{Crash, Disk, Fuse, Memory};
+use sqlite_disk::{Disk, Memory};
 use stamp::{ReplicaNo, Vector};
 use std::alloc::Global;
 use std::fs;
@@ -333,39 +333,6 @@ fn a_store_of_two_tables_gets_the_others(rt: HostRuntime) -> Result<(), Fail> {
     Ok(())
 }
 
-/// Whether an older store, whose opening is stopped there and crashes, still has its five records.
-fn outlasts(alloc: Global, log_calls: u64, db_calls: u64) -> Option<bool> {
-    let Files { log, db } = older(alloc)?;
-    let files = Files {
-        log: Fuse::new(log, log_calls),
-        db: Fuse::new(db, db_calls),
-    };
-    let mut files = match open(alloc, files, Uuid::nil(), one().ok()?) {
-        Ok(archive) => archive.into_files(),
-        Err((_, left)) => left,
-    };
-    files.log.crash();
-    files.db.crash();
-    let Ok(mut again) = open(alloc, files, Uuid::nil(), one().ok()?) else {
-        return Some(false);
-    };
-    Some(held(alloc, &mut again) == Some(5))
-}
-
-#[test]
-fn a_stop_of_the_log_while_tables_are_added_loses_nothing(rt: HostRuntime) -> Result<(), Fail> {
-    assert!(rt; outlasts(rt.alloc(), 9, u64::MAX) == Some(true));
-    Ok(())
-}
-
-#[test]
-fn a_stop_of_the_database_while_tables_are_added_loses_nothing(
-    rt: HostRuntime,
-) -> Result<(), Fail> {
-    assert!(rt; outlasts(rt.alloc(), u64::MAX, 9) == Some(true));
-    Ok(())
-}
-
 /// How many records the store at a path holds, and how many of the five updates are then learned.
 fn use_file(rt: &HostRuntime, path: &str) -> Result<(Option<usize>, usize), StoreFault> {
     let mut archive = FileArchive::open(rt, path, Uuid::nil(), one()?)?;
@@ -380,66 +347,5 @@ fn a_file_is_opened_and_found_again(rt: HostRuntime) -> Result<(), Fail> {
     assert!(rt; use_file(&rt, "sql_archive_test/a.db")? == (Some(0), 5));
     assert!(rt; use_file(&rt, "sql_archive_test/a.db")? == (Some(5), 0));
     fs::remove_dir_all(&rt, "sql_archive_test")?;
-    Ok(())
-}
-
-/// A run that opens a store, learns the five records and closes, over files that fail from some call on: how
-/// many were learned, whether all went well, and the files.
-fn run(alloc: Global, files: Files<Fuse<Memory>>) -> Option<(usize, bool, Files<Fuse<Memory>>)> {
-    let mut archive = match open(alloc, files, Uuid::nil(), one().ok()?) {
-        Ok(archive) => archive,
-        Err((_, left)) => return Some((0, false, left)),
-    };
-    let learned = learn_five(alloc, &mut archive);
-    match archive.close_files() {
-        Ok(files) => Some((learned, learned == 5, files)),
-        Err(files) => Some((learned, false, files)),
-    }
-}
-
-/// Whether a run that is stopped there, and crashes, leaves the records that were learned, and at most one
-/// more; and whether it went to its end.
-fn survives(alloc: Global, log_calls: u64, db_calls: u64) -> Option<(bool, bool)> {
-    let Files { log, db } = empty(alloc);
-    let files = Files {
-        log: Fuse::new(log, log_calls),
-        db: Fuse::new(db, db_calls),
-    };
-    let (learned, ended, mut files) = run(alloc, files)?;
-    files.log.crash();
-    files.db.crash();
-    let Ok(mut again) = open(alloc, files, Uuid::nil(), one().ok()?) else {
-        return Some((false, ended));
-    };
-    let found = held(alloc, &mut again)?;
-    Some((learned <= found && found - learned <= 1, ended))
-}
-
-/// Calls of the log, and of the database, at which runs are stopped. Each call of a run can be tried here; all of
-/// them take minutes.
-static LOG_STOPS: [u64; 2] = [22, 73];
-
-static DATABASE_STOPS: [u64; 2] = [4, 30];
-
-#[test]
-fn a_stop_of_the_log_leaves_what_was_learned(rt: HostRuntime) -> Result<(), Fail> {
-    for calls in &LOG_STOPS {
-        assert!(rt; survives(rt.alloc(), *calls, u64::MAX).is_some_and(|(kept, _)| kept));
-    }
-    Ok(())
-}
-
-#[test]
-fn a_stop_of_the_database_leaves_what_was_learned(rt: HostRuntime) -> Result<(), Fail> {
-    for calls in &DATABASE_STOPS {
-        assert!(rt; survives(rt.alloc(), u64::MAX, *calls).is_some_and(|(kept, _)| kept));
-    }
-    Ok(())
-}
-
-/// No stop comes behind these calls.
-#[test]
-fn a_run_has_no_more_calls(rt: HostRuntime) -> Result<(), Fail> {
-    assert!(rt; survives(rt.alloc(), 1000, 1000) == Some((true, true)));
     Ok(())
 }
