@@ -5,8 +5,8 @@
 
 For each number of records (10,000 and 100,000 where none is given): they are inserted, a hundred a request and a commit each;
 the store is opened and dumped; pages of 1,000 raw values and of 1,000 modifications are read from its middle, a thousand of
-each; and the store is sent to an empty one. Prints a table: seconds, and seconds of a processor, of each.
-The shell inserts as many, each in one transaction of three statements, and reads the same page. Needs sqlite3.
+each; and the store is sent to an empty one. As many are inserted into an archive in memory. Prints a table: seconds, and seconds of a processor, of each.
+The shell inserts as many, each in one transaction of three statements, into a file and in memory, and reads the same page. Needs sqlite3.
 """
 import os, shutil, socket, subprocess, sys, tempfile, time
 import opcua
@@ -19,14 +19,14 @@ tag, first = node("T", 1), opcua.EPOCH
 PAGES = 1000
 
 
-def settings(name, replica):
-    """The settings of a replica with a store of its own, at a port that is free."""
+def settings(name, replica, stored=True):
+    """The settings of a replica with a store of its own, or none, at a port that is free."""
     with socket.socket() as probe:
         probe.bind(("127.0.0.1", 0))
         port = probe.getsockname()[1]
     text = open(os.path.join(here, "bench.toml")).read().replace("127.0.0.1:4840", f"127.0.0.1:{port}").replace("replica = 1", f"replica = {replica}")
     path = os.path.join(folder, f"{name}.toml")
-    open(path, "w").write(text.replace("[server]", f"store = '{os.path.join(folder, name)}.db'\n[server]", 1))
+    open(path, "w").write(text.replace("[server]", f"store = '{os.path.join(folder, name)}.db'\n[server]", 1) if stored else text)
     return path, port
 
 
@@ -70,6 +70,7 @@ def of_shell(count):
                     f"INSERT OR REPLACE INTO vectors VALUES (1, {k + 1}, {first + k}); COMMIT;\n")
     begin = f"PRAGMA journal_mode = WAL; PRAGMA synchronous = FULL;\n{made}"
     show(f"{count:,} inserts by the shell", *measured(["sqlite3", store], (begin + "".join(rows)).encode()))
+    show(f"{count:,} inserts in memory by the shell", *measured(["sqlite3", ":memory:"], (made + "".join(rows)).encode()))
     page = f"SELECT time, pico, extra, value FROM currents2 WHERE node = x'0301000100000054' AND time >= {first + count // 2} AND time <= {first + count // 2 + 999} AND live = 1 ORDER BY time, pico LIMIT 1001;\n"
     start = measured(["sqlite3", store], b"SELECT 1;\n")
     show("a page of 1,000 raw values by the shell", *less(measured(["sqlite3", store], (page * PAGES).encode()), start), PAGES)
@@ -79,7 +80,9 @@ def of_program(count):
     name = f"store-{count}"
     path, port = settings(name, 1)
     answer = [program, "answer", "--settings", path]
-    show(f"{count:,} inserts", *measured(answer, session([lambda c, k=k: c.update(tag, 3, [value_at(int32(j), first + 100 * k + j) for j in range(100)]) for k in range(count // 100)])))
+    inserts = session([lambda c, k=k: c.update(tag, 3, [value_at(int32(j), first + 100 * k + j) for j in range(100)]) for k in range(count // 100)])
+    show(f"{count:,} inserts", *measured(answer, inserts))
+    show(f"{count:,} inserts in memory", *measured([program, "answer", "--settings", settings(f"memory-{count}", 1, stored=False)[0]], inserts))
     start = measured(answer)
     show(f"an opening of {count:,} records", *start)
     show(f"a dump of {count:,} records, with its opening", *measured([program, "dump", "--settings", path]))
