@@ -76,6 +76,7 @@ def measured(program, archive, task, count, every):
 
 
 if __name__ == "__main__":
+    signal.signal(signal.SIGTERM, lambda *_: sys.exit(143))
     folder = tempfile.mkdtemp()
     try:
         program = built(folder)
