@@ -7,6 +7,8 @@ mod archives;
 #[cfg(test)]
 mod exchanges;
 #[cfg(test)]
+mod format_one;
+#[cfg(test)]
 mod reads;
 #[cfg(test)]
 mod store_files;

@@ -22,24 +22,24 @@ static FIVE: [Row; 5] = [
     (1, 5, 104, 30, Insert, Some(1)),
 ];
 
-fn one() -> Result<ReplicaNo, StoreFault> {
+pub(crate) fn one() -> Result<ReplicaNo, StoreFault> {
     ReplicaNo::new(1).ok_or(StoreFault::WrongReplica)
 }
 
-fn two() -> Result<ReplicaNo, StoreFault> {
+pub(crate) fn two() -> Result<ReplicaNo, StoreFault> {
     ReplicaNo::new(2).ok_or(StoreFault::WrongReplica)
 }
 
-fn empty(alloc: Global) -> Files<Memory> {
+pub(crate) fn empty(alloc: Global) -> Files<Memory> {
     Files {
         log: Memory::new(alloc),
         db: Memory::new(alloc),
     }
 }
 
-type Opened<D> = Result<SqlArchive<FileStore<D>>, (StoreFault, Files<D>)>;
+pub(crate) type Opened<D> = Result<SqlArchive<FileStore<D>>, (StoreFault, Files<D>)>;
 
-fn open<D: Disk + Drop>(alloc: Global, files: Files<D>, id: Uuid, number: ReplicaNo) -> Opened<D> {
+pub(crate) fn open<D: Disk + Drop>(alloc: Global, files: Files<D>, id: Uuid, number: ReplicaNo) -> Opened<D> {
     if files.may_be_used() {
         SqlArchive::open_files(alloc, files, Options::new(7), id, number)
     } else {
@@ -150,7 +150,7 @@ fn another_archive_and_another_replica_are_refused(rt: HostRuntime) -> Result<()
 }
 
 /// What opening files is refused by after these statements.
-fn refused_after(alloc: Global, files: Files<Memory>, statements: &[&str]) -> Option<StoreFault> {
+pub(crate) fn refused_after(alloc: Global, files: Files<Memory>, statements: &[&str]) -> Option<StoreFault> {
     if !files.may_be_used() {
         return None;
     }
@@ -257,7 +257,7 @@ fn other_last_numbers_are_refused(rt: HostRuntime) -> Result<(), Fail> {
 }
 
 /// The numbers that a query shows of the files of an archive, row by row.
-fn shown(alloc: Global, files: Files<Memory>, sql: &str) -> Option<Vec<i64>> {
+pub(crate) fn shown(alloc: Global, files: Files<Memory>, sql: &str) -> Option<Vec<i64>> {
     if !files.may_be_used() {
         return None;
     }

@@ -1,5 +1,5 @@
 -- How an archive begins, and what its files hold.
-use Rattle.std.proofs.Common.{◌≡◌, ◌⊎◌, inl, inr, ℕ, ℤ, List, map, length, Err, IsTrue, sym, ap, subst, ◌∙◌, arith, IsPermutation}
+use Rattle.std.proofs.Common.{◌≡◌, ◌⊎◌, inl, inr, ℕ, ℤ, pos, List, [], ◌∷◌, map, length, slice_index_or, Err, IsTrue, sym, ap, subst, ◌∙◌, arith, IsPermutation}
 use Rattle.std.proofs.Math.Logic.{∥∥₁_elim, ∥∥₁_map}
 use Rattle.sqlite_disk.specs.declared.Disk.{Ghosts}
 use Rattle.sqlite_disk.specs.declared.Files.{Files}
@@ -31,8 +31,11 @@ use Rattle.sqlite.specs.Closing.{IsCopied, files_left}
 use Rattle.sqlite.specs.declared.file.Leftover.{Leftover}
 use Rattle.sqlite.specs.declared.file.Leftover.TheVariants as left
 use Rattle.records.specs.Contents.{Content}
-use Rattle.sql_archive.specs.Tables.{no_schema, older_schema, archive_schema}
-use Rattle.sql_archive.specs.Rows.{content_in, records_in, row_of, meta_columns, IsStored, IsStoreOf, IsOlderStoreOf, meta_cells}
+use Rattle.sql_archive.specs.Tables.{meta, no_schema, older_schema, schema1, archive_schema}
+use Rattle.std.proofs.lemmas.List.Sorted.{IsPermutation-trans}
+use Rattle.sql_archive.specs.Renewing.{cells1, content1_in, IsStored1, IsStoreOf1, IsRenewed}
+use Rattle.sql_archive.proofs.RowLemmas.{content_from}
+use Rattle.sql_archive.specs.Rows.{content_in, records_in, row_of, meta_row, meta_columns, IsStored, IsStoreOf, IsOlderStoreOf, meta_cells}
 use Rattle.sql_archive.specs.Derived.{AreKept}
 use Rattle.sql_archive.specs.Words.{cells}
 use Rattle.records.specs.Lists.{sort_by}
@@ -48,6 +51,11 @@ use Rattle.sql_archive.proofs.OpenLemmas.{nothing_in}
 -- the content is that of the rows of records2
 same_content : (a b : Trees) → a 1 ≡ b 1 → content_in a ≡ content_in b
 same_content a b same = ap (λ rows. sort_by name_cmp (flat_map records_in (cells rows))) same
+
+-- new tables hold the content of those of format 1
+renewed_content : (id : List ℕ) (own : ℕ) (replica : ℤ) (old new : Trees) → IsStored1 id own old → IsRenewed id replica (cells1 old) new → content_in new ≡ content1_in old
+renewed_content id own replica old new stored made =
+    content_from stored.content (cells (new 1)) stored.lawful (IsPermutation-trans (map row_of stored.content) (cells1 old) (cells (new 1)) stored.records made.records) ∙ sym (content_from stored.content (cells1 old) stored.lawful stored.records)
 
 -- what was opened lists its schema
 found_lists : (old : State) → Opens old → IsLive old → Lists (old.committed.trees catalog_tree) old.now.schema
@@ -65,9 +73,10 @@ resumes image id own old new opens live found starts = record { db = old.committ
 
     go : Starts id own old.now new.now → Tells id own old.committed.trees (content_in new.now.trees)
     go (inl (inl made)) = inl (subst (Lists (old.committed.trees catalog_tree)) made.0 lists, nothing_in new.now.trees made.1.records)
-    go (inl (inr moved)) = inr (inr (subst (Lists (old.committed.trees catalog_tree)) moved.0 lists, subst (IsStored id own) same moved.1), same_content new.now.trees old.now.trees moved.2.records ∙ ap content_in same)
+    go (inl (inr (inl moved))) = inr (inl (inr (subst (Lists (old.committed.trees catalog_tree)) moved.0 lists, subst (IsStored id own) same moved.1), same_content new.now.trees old.now.trees moved.2.records ∙ ap content_in same))
+    go (inl (inr (inr made))) = inr (inr ((subst (Lists (old.committed.trees catalog_tree)) made.0 lists, subst (IsStored1 id own) same made.1), renewed_content id own (pos own) old.now.trees new.now.trees made.1 made.2 ∙ ap content1_in same))
     go (inr stood) =
-        inr (inl (subst (Lists (old.committed.trees catalog_tree)) stood.0 lists, subst (IsStored id own) same stood.1, subst AreKept same stood.2), ap content_in (ap (λ (d : Database). d.trees) stood.3 ∙ same))
+        inr (inl (inl (subst (Lists (old.committed.trees catalog_tree)) stood.0 lists, subst (IsStored id own) same stood.1, subst AreKept same stood.2), ap content_in (ap (λ (d : Database). d.trees) stood.3 ∙ same)))
 
 -- the files of another archive, or of another replica, say so
 pub another : (image : Image) (id : List ℕ) (own : ℕ) (fault : StoreFault) (old : State) → Opens old → IsLive old → FindsIn image old → IsRefused id own old.now fault → IsAnothers image id own fault
@@ -75,8 +84,11 @@ another image id own fault old opens live found refused = record {
   db = old.committed.trees;
   found = record { holds = found.holds; reads = found.reads };
   lists = elim refused.schema [
-    | inl is ↦ inl (subst (Lists (old.committed.trees catalog_tree)) is (found_lists old opens live))
-    | inr was ↦ inr (subst (Lists (old.committed.trees catalog_tree)) was (found_lists old opens live))
+    | inl known ↦ elim known [
+      | inl is ↦ inl (inl (subst (Lists (old.committed.trees catalog_tree)) is (found_lists old opens live)))
+      | inr was ↦ inl (inr (subst (Lists (old.committed.trees catalog_tree)) was (found_lists old opens live)))
+    ]
+    | inr first ↦ inr (subst (Lists (old.committed.trees catalog_tree)) first (found_lists old opens live))
   ];
   judged = subst (λ t. judged id own (meta_cells t) ≡ Err fault) same refused.judged;
 }
@@ -86,6 +98,16 @@ another image id own fault old opens live found refused = record {
 
 no_older : no_schema ≡ older_schema → ⊥
 no_older e = let n : 0 ≡ 2 = ap (λ (s : Schema). length s.tables) e in absurd (omega (arith, n))
+
+no_first : no_schema ≡ schema1 → ⊥
+no_first e = let n : 0 ≡ 4 = ap (λ (s : Schema). length s.tables) e in absurd (omega (arith, n))
+
+-- the columns of the second table tell them apart
+apart_first : schema1 ≡ archive_schema → ⊥
+apart_first e = let n : 8 ≡ 9 = ap (λ (s : Schema). length (slice_index_or s.tables 1 meta).columns) e in absurd (omega (arith, n))
+
+older_first : older_schema ≡ schema1 → ⊥
+older_first e = let n : 2 ≡ 4 = ap (λ (s : Schema). length s.tables) e in absurd (omega (arith, n))
 
 two_schemas : no_schema ≡ archive_schema → ⊥
 two_schemas e = let n : 0 ≡ 4 = ap (λ (s : Schema). length s.tables) e in absurd (omega (arith, n))
@@ -106,7 +128,8 @@ closed_is {D} {g} c files whose number numbers tick stands live copied id own S 
 
     go : Tells id own resumed.db S → S ≡ content_in (file_state c).now.trees
     go (inl none) = absurd (two_schemas (lists_once (resumed.db catalog_tree) no_schema archive_schema none.0 lists))
-    go (inr all) = all.1 ∙ ap content_in same
+    go (inr (inl all)) = all.1 ∙ ap content_in same
+    go (inr (inr first)) = absurd (apart_first (lists_once (resumed.db catalog_tree) schema1 archive_schema first.0.0 lists))
 
 -- and they hold its tables
 pub closed_holds : {D : Type 0} {g : Ghosts D} (c : Held (FileStore D g)) (files : Files D) (id : List ℕ) (own : ℕ) (numbers : List ℕ) (tick : ℤ) → (HasCleanDisk (file_state c) → Stands id own numbers tick (file_state c)) → IsLive (file_state c) → IsCopied c files
@@ -115,7 +138,7 @@ closed_holds c files id own numbers tick stands live copied =
     let s = stands copied.was_clean in
     let same : (file_state c).now.trees ≡ (file_state c).committed.trees = sym (ap (λ (d : Database). d.trees) s.idles.settled) in
     let lists = subst (λ (t : Trees). Lists (t catalog_tree) archive_schema) same (subst (Lists ((file_state c).now.trees catalog_tree)) s.idles.tables (live s.idles.is_open).0.lists) in
-    ∥∥₁_map copied.seen.both (λ held. ((file_state c).committed.trees, held, inr (inl (lists, subst (IsStored id own) same s.stored, subst AreKept same s.kept), ap content_in same)))
+    ∥∥₁_map copied.seen.both (λ held. ((file_state c).committed.trees, held, inr (inl (inl (lists, subst (IsStored id own) same s.stored, subst AreKept same s.kept), ap content_in same))))
 
 -- the files that a store gave back hold what a crash could leave
 pub left_holds : {D : Type 0} {g : Ghosts D} (was : Held (FileStore D g)) (it : FileStore D g) (files : Files D) → SeenMayStay g → IsQuiet view faults recovers is_shielded was.store it
@@ -163,11 +186,12 @@ archive_left {D} {g} image files id own was new stays opens live found survives 
     by : (db : Trees) → (file_state was).may_leave db ⊎ IsBegunIn id own (file_state was).now db → IsLeftOf id own old db
     by db (inl same) = inl (settled_at was.store stays db opens.is_open same)
     by db (inr (inl made)) = inr (inl (subst (Lists (old catalog_tree)) made.0 (found_lists (file_state was) opens live), made.1))
-    by db (inr (inr moved)) = inr (inr ((subst (Lists (old catalog_tree)) moved.0 (found_lists (file_state was) opens live), subst (IsStored id own) trees moved.1), subst (λ t. IsMigrated t db) trees moved.2))
+    by db (inr (inr (inl moved))) = inr (inr (inl ((subst (Lists (old catalog_tree)) moved.0 (found_lists (file_state was) opens live), subst (IsStored id own) trees moved.1), subst (λ t. IsMigrated t db) trees moved.2)))
+    by db (inr (inr (inr made))) = inr (inr (inr ((subst (Lists (old catalog_tree)) made.0 (found_lists (file_state was) opens live), subst (IsStored1 id own) trees made.1), subst (λ t. IsRenewed id (pos own) (cells1 t) db) trees made.2)))
 
 -- files that held a database with tables hold it still, save where that was a store that was migrated
-pub still_held : (image left : Image) (id : List ℕ) (own : ℕ) → KeepsFound image id own left → (db : Trees) → HoldsDatabase image db → ¬ Lists (db catalog_tree) no_schema → ¬ IsOlderStoreOf id own db → ∥ HoldsDatabase left db ∥₁
-still_held image left id own (old, found, holds) db held some newer = ∥∥₁_map holds (λ it. by it.0 it.1 it.2)
+pub still_held : (image left : Image) (id : List ℕ) (own : ℕ) → KeepsFound image id own left → (db : Trees) → HoldsDatabase image db → ¬ Lists (db catalog_tree) no_schema → ¬ IsOlderStoreOf id own db → ¬ IsStoreOf1 id own db → ∥ HoldsDatabase left db ∥₁
+still_held image left id own (old, found, holds) db held some newer later = ∥∥₁_map holds (λ it. by it.0 it.1 it.2)
   where
     is : old ≡ db
     is = found.holds db held
@@ -175,7 +199,8 @@ still_held image left id own (old, found, holds) db held some newer = ∥∥₁_
     by : (now : Trees) → HoldsDatabase left now → IsLeftOf id own old now → HoldsDatabase left db
     by now held (inl same) = subst (HoldsDatabase left) (same ∙ is) held
     by now held (inr (inl new)) = absurd (some (subst (λ (t : Trees). Lists (t catalog_tree) no_schema) is new.0))
-    by now held (inr (inr moved)) = absurd (newer (subst (IsOlderStoreOf id own) is moved.0))
+    by now held (inr (inr (inl moved))) = absurd (newer (subst (IsOlderStoreOf id own) is moved.0))
+    by now held (inr (inr (inr made))) = absurd (later (subst (IsStoreOf1 id own) is made.0))
 
 -- and that one holds what it held, in the tables of an archive
 pub still_stored : (image left : Image) (id : List ℕ) (own : ℕ) → KeepsFound image id own left → (db : Trees) → HoldsDatabase image db → IsOlderStoreOf id own db
@@ -188,7 +213,22 @@ still_stored image left id own (old, found, holds) db held older = ∥∥₁_map
     by : (now : Trees) → IsLeftOf id own old now → (now ≡ db) ⊎ IsMigrated db now
     by now (inl same) = inl (same ∙ is)
     by now (inr (inl new)) = absurd (no_older (lists_once (db catalog_tree) no_schema older_schema (subst (λ (t : Trees). Lists (t catalog_tree) no_schema) is new.0) older.0))
-    by now (inr (inr moved)) = inr (subst (λ t. IsMigrated t now) is moved.1)
+    by now (inr (inr (inl moved))) = inr (subst (λ t. IsMigrated t now) is moved.1)
+    by now (inr (inr (inr made))) = absurd (older_first (lists_once (db catalog_tree) older_schema schema1 older.0 (subst (λ (t : Trees). Lists (t catalog_tree) schema1) is made.0.0)))
+
+-- and so does a store of format 1
+pub still_renewed : (image left : Image) (id : List ℕ) (own : ℕ) → KeepsFound image id own left → (db : Trees) → HoldsDatabase image db → IsStoreOf1 id own db
+    → ∥ ((now : Trees) × HoldsDatabase left now × ((now ≡ db) ⊎ IsRenewed id (pos own) (cells1 db) now)) ∥₁
+still_renewed image left id own (old, found, holds) db held first = ∥∥₁_map holds (λ it. (it.0, it.1, by it.0 it.2))
+  where
+    is : old ≡ db
+    is = found.holds db held
+
+    by : (now : Trees) → IsLeftOf id own old now → (now ≡ db) ⊎ IsRenewed id (pos own) (cells1 db) now
+    by now (inl same) = inl (same ∙ is)
+    by now (inr (inl new)) = absurd (no_first (lists_once (db catalog_tree) no_schema schema1 (subst (λ (t : Trees). Lists (t catalog_tree) no_schema) is new.0) first.0))
+    by now (inr (inr (inl moved))) = absurd (older_first (lists_once (db catalog_tree) older_schema schema1 (subst (λ (t : Trees). Lists (t catalog_tree) older_schema) is moved.0.0) first.0))
+    by now (inr (inr (inr made))) = inr (subst (λ t. IsRenewed id (pos own) (cells1 t) now) is made.1)
 
 pub still_resumed : (image left : Image) (id : List ℕ) (own : ℕ) → KeepsFound image id own left → (other : List ℕ) (number : ℕ) (R : Content) → Resumes left other number R → ∥ Resumes image other number R ∥₁
 still_resumed image left id own (old, found, holds) other number R resumed =
@@ -205,10 +245,24 @@ still_resumed image left id own (old, found, holds) other number R resumed =
       };
     }
 
+    -- the new tables are of the archive and replica that those of format 1 were of
+    first_of : (now : Trees) → IsStoreOf1 id own old × IsRenewed id (pos own) (cells1 old) now → meta_cells now ≡ meta_row other number ∷ [] → IsStored1 other number old
+    first_of now made meta =
+        let rows : meta_row id own ∷ [] ≡ meta_row other number ∷ [] = sym made.1.meta ∙ meta in
+        let ids : id ≡ other = cc in
+        let owns : own ≡ number = cc in
+        subst (λ i. IsStored1 i number old) ids (subst (λ n. IsStored1 id n old) owns made.0.1)
+
     by : (now : Trees) → IsLeftOf id own old now → Tells other number now R → Tells other number old R
     by now (inl same) tells = subst (λ t. Tells other number t R) same tells
     by now (inr (inl new)) (inl none) = inl (new.0, none.1)
-    by now (inr (inl new)) (inr all) = inl (new.0, all.1 ∙ nothing_in now new.1.records)
-    by now (inr (inr moved)) (inl none) = absurd (two_schemas (lists_once (now catalog_tree) no_schema archive_schema none.0 moved.1.lists))
-    by now (inr (inr moved)) (inr (inl store, is)) = inr (inr (moved.0.0, stored_as now moved.1 store.1), is ∙ same_content now old moved.1.records)
-    by now (inr (inr moved)) (inr (inr older, is)) = inr (inr (moved.0.0, stored_as now moved.1 older.1), is ∙ same_content now old moved.1.records)
+    by now (inr (inl new)) (inr (inl all)) = inl (new.0, all.1 ∙ nothing_in now new.1.records)
+    by now (inr (inl new)) (inr (inr first)) = absurd (apart_first (lists_once (now catalog_tree) schema1 archive_schema first.0.0 new.1.lists))
+    by now (inr (inr (inl moved))) (inl none) = absurd (two_schemas (lists_once (now catalog_tree) no_schema archive_schema none.0 moved.1.lists))
+    by now (inr (inr (inl moved))) (inr (inl (inl store, is))) = inr (inl (inr (moved.0.0, stored_as now moved.1 store.1), is ∙ same_content now old moved.1.records))
+    by now (inr (inr (inl moved))) (inr (inl (inr older, is))) = inr (inl (inr (moved.0.0, stored_as now moved.1 older.1), is ∙ same_content now old moved.1.records))
+    by now (inr (inr (inl moved))) (inr (inr first)) = absurd (apart_first (lists_once (now catalog_tree) schema1 archive_schema first.0.0 moved.1.lists))
+    by now (inr (inr (inr made))) (inl none) = absurd (two_schemas (lists_once (now catalog_tree) no_schema archive_schema none.0 made.1.lists))
+    by now (inr (inr (inr made))) (inr (inl (inl store, is))) = inr (inr ((made.0.0, first_of now made store.1.stands.meta), is ∙ renewed_content id own (pos own) old now made.0.1 made.1))
+    by now (inr (inr (inr made))) (inr (inl (inr older, is))) = inr (inr ((made.0.0, first_of now made older.1.stands.meta), is ∙ renewed_content id own (pos own) old now made.0.1 made.1))
+    by now (inr (inr (inr made))) (inr (inr first)) = absurd (apart_first (lists_once (now catalog_tree) schema1 archive_schema first.0.0 made.1.lists))

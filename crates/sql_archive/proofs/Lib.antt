@@ -26,5 +26,7 @@ pub mod AheadLemmas
 pub mod LoopLemmas
 pub mod SinceLemmas
 pub mod StandingLemmas
+pub mod FirstLemmas
+pub mod RenewLemmas
 pub mod FileLemmas
 pub mod StartLemmas

@@ -50,7 +50,7 @@ use Rattle.records.specs.Contents.{number_from, top}
 use Rattle.sql_archive.specs.Kept.{Remembers, Raises}
 use Rattle.sql_archive.specs.declared.checking.Mark.{Mark}
 use Rattle.sql_archive.specs.declared.checking.Walk.{Walk}
-use Rattle.sql_archive.specs.Opening.{mark_of, nowhere, comes_next, are_in_turn, mark_behind, HasWalked, HasChecked, has_number, has_bytes, judged_row, judged, Opens}
+use Rattle.sql_archive.specs.Opening.{mark_of, nowhere, comes_next, are_in_turn, mark_behind, HasWalked, HasChecked, has_number, has_bytes, judged_row, judged_as, judged, Opens}
 
 -- the content ends with this mark: its origin's last number and tick, and no later origin
 record Ends (P : Content) (m : Mark) : Type 0 where
@@ -150,6 +150,10 @@ checked_is db walk (rows, same, w) =
     let stands : AreRecords w.items db = subst (λ xs. IsPermutation xs (cells (db 1))) (sym is) (IsPermutation-sym (cells (db 1)) rows same) in
     ((w.items, lawful, stands), subst (λ R. Remembers R walk.latest.numbers walk.latest.tick) (sym (content_is w.items db lawful stands)) w.remembered)
 
+-- rows that were gone over are those of a lawful content
+pub walked_lawful : (rows : List Row) (walk : Walk) → HasWalked rows walk → (R : Content) × IsLawfulContent R × (map row_of R ≡ map shown_of rows)
+walked_lawful rows walk w = (w.items, lawful_in_turn w.items (λ r has. all-has IsRecord w.items r w.each has) w.turn, w.spelled)
+
 -- ---- one row more
 
 turn_more : (m : Mark) (rs : List Record) (r : Record) → are_in_turn m rs ≡ true → comes_next (mark_behind m rs) r ≡ true → are_in_turn m (rs ++ r ∷ []) ≡ true
@@ -199,13 +203,13 @@ bytes_are (Real x) b e = absurd (true≢false (sym e))
 bytes_are (Text t) b e = absurd (true≢false (sym e))
 bytes_are (Bytes c) b e = ap Bytes ((bytes_eq-Decides c b).0 e)
 
-pub judged_permuted : (id : List ℕ) (own : ℕ) (xs ys : List Row) → IsPermutation xs ys → judged id own ys ≡ judged id own xs
-judged_permuted id own [] [] same = refl
-judged_permuted id own [] (y ∷ ys) same = absurd (omega (arith, length_permutation [] (y ∷ ys) same))
-judged_permuted id own (x ∷ []) ys same = ap (judged id own) (one_permutation x ys same)
-judged_permuted id own (x ∷ z ∷ xs) [] same = absurd (omega (arith, length_permutation (x ∷ z ∷ xs) [] same))
-judged_permuted id own (x ∷ z ∷ xs) (y ∷ []) same = absurd (omega (arith, length_permutation (x ∷ z ∷ xs) (y ∷ []) same))
-judged_permuted id own (x ∷ z ∷ xs) (y ∷ w ∷ ys) same = refl
+pub judged_permuted : (format : ℕ) (id : List ℕ) (own : ℕ) (xs ys : List Row) → IsPermutation xs ys → judged_as format id own ys ≡ judged_as format id own xs
+judged_permuted format id own [] [] same = refl
+judged_permuted format id own [] (y ∷ ys) same = absurd (omega (arith, length_permutation [] (y ∷ ys) same))
+judged_permuted format id own (x ∷ []) ys same = ap (judged_as format id own) (one_permutation x ys same)
+judged_permuted format id own (x ∷ z ∷ xs) [] same = absurd (omega (arith, length_permutation (x ∷ z ∷ xs) [] same))
+judged_permuted format id own (x ∷ z ∷ xs) (y ∷ []) same = absurd (omega (arith, length_permutation (x ∷ z ∷ xs) (y ∷ []) same))
+judged_permuted format id own (x ∷ z ∷ xs) (y ∷ w ∷ ys) same = refl
 
 pub four_columns : (rows : List Row) (found : List Row) → IsPermutation (map meta_columns rows) found → AllByRecursion (λ r. length r ≡ 4) found
 four_columns rows found same = recursion_from_All (λ r. length r ≡ 4) found (All-permutation (λ r. length r ≡ 4) (map meta_columns rows) found same (All-from_recursion (λ r. length r ≡ 4) (map meta_columns rows) (each rows)))
@@ -214,25 +218,25 @@ four_columns rows found same = recursion_from_All (λ r. length r ≡ 4) found (
     each [] = tt
     each (r ∷ rs) = (refl, each rs)
 
-row_passed : (id : List ℕ) (own : ℕ) (a b c d : Value) → judged_row id own (a ∷ b ∷ c ∷ d ∷ []) ≡ Ok tt → a ∷ b ∷ c ∷ d ∷ [] ≡ meta_row id own
-row_passed id own a b c d e = go (has_bytes c id) (has_number d own) (has_number a 1 && has_number b 2) refl refl refl e
+row_passed : (format : ℕ) (id : List ℕ) (own : ℕ) (a b c d : Value) → judged_row format id own (a ∷ b ∷ c ∷ d ∷ []) ≡ Ok tt → a ∷ b ∷ c ∷ d ∷ [] ≡ Int (pos 1) ∷ Int (pos format) ∷ Bytes id ∷ Int (pos own) ∷ []
+row_passed format id own a b c d e = go (has_bytes c id) (has_number d own) (has_number a 1 && has_number b format) refl refl refl e
   where
-    go : (x y z : Bool) → has_bytes c id ≡ x → has_number d own ≡ y → (has_number a 1 && has_number b 2) ≡ z → ◌≡◌ {A = Result Unit StoreFault} (cond (not x) (Err WrongArchive) (cond (not y) (Err WrongReplica) (cond (not z) (Err Refused) (Ok tt)))) (Ok tt)
-        → a ∷ b ∷ c ∷ d ∷ [] ≡ meta_row id own
+    go : (x y z : Bool) → has_bytes c id ≡ x → has_number d own ≡ y → (has_number a 1 && has_number b format) ≡ z → ◌≡◌ {A = Result Unit StoreFault} (cond (not x) (Err WrongArchive) (cond (not y) (Err WrongReplica) (cond (not z) (Err Refused) (Ok tt)))) (Ok tt)
+        → a ∷ b ∷ c ∷ d ∷ [] ≡ Int (pos 1) ∷ Int (pos format) ∷ Bytes id ∷ Int (pos own) ∷ []
     go true true true p q r e =
-        let both = and_parts (has_number a 1) (has_number b 2) r in
+        let both = and_parts (has_number a 1) (has_number b format) r in
         let is_c = bytes_are c id p in
         let is_d = number_is d own q in
         let is_a = number_is a 1 both.0 in
-        let is_b = number_is b 2 both.1 in ap (λ v. v ∷ b ∷ c ∷ d ∷ []) is_a ∙ ap (λ v. Int (pos 1) ∷ v ∷ c ∷ d ∷ []) is_b ∙ ap (λ v. Int (pos 1) ∷ Int (pos 2) ∷ v ∷ d ∷ []) is_c ∙ ap (λ v. Int (pos 1) ∷ Int (pos 2) ∷ Bytes id ∷ v ∷ []) is_d
+        let is_b = number_is b format both.1 in ap (λ v. v ∷ b ∷ c ∷ d ∷ []) is_a ∙ ap (λ v. Int (pos 1) ∷ v ∷ c ∷ d ∷ []) is_b ∙ ap (λ v. Int (pos 1) ∷ Int (pos format) ∷ v ∷ d ∷ []) is_c ∙ ap (λ v. Int (pos 1) ∷ Int (pos format) ∷ Bytes id ∷ v ∷ []) is_d
     go true true false p q r e = absurd cc
     go true false z p q r e = absurd cc
     go false y z p q r e = absurd cc
 
-meta_passed : (id : List ℕ) (own : ℕ) (rows : List Row) → judged id own (map meta_columns rows) ≡ Ok tt → map meta_columns rows ≡ meta_row id own ∷ []
-meta_passed id own [] e = absurd cc
-meta_passed id own (r ∷ []) e = ap (λ x. x ∷ []) (row_passed id own (column r 0) (column r 2) (column r 3) (column r 4) e)
-meta_passed id own (r ∷ s ∷ rows) e = absurd cc
+pub meta_passed : (format : ℕ) (id : List ℕ) (own : ℕ) (rows : List Row) → judged_as format id own (map meta_columns rows) ≡ Ok tt → map meta_columns rows ≡ (Int (pos 1) ∷ Int (pos format) ∷ Bytes id ∷ Int (pos own) ∷ []) ∷ []
+meta_passed format id own [] e = absurd cc
+meta_passed format id own (r ∷ []) e = ap (λ x. x ∷ []) (row_passed format id own (column r 0) (column r 2) (column r 3) (column r 4) e)
+meta_passed format id own (r ∷ s ∷ rows) e = absurd cc
 
 pub opened_by : {A : Type 0} (id : List ℕ) (own : ℕ) (a b c : State) (P : Trees → A → Type 0) (result : Result A StoreFault) → Found a b (Ok (Ok tt)) (λ told. told ≡ judged id own (meta_cells a.now.trees))
     → Found b c result (λ l. IsFilled b.now.trees × P b.now.trees l) → (HasCleanDisk c → HasCleanDisk b) → Opens id own a c (P a.now.trees) result
@@ -247,7 +251,7 @@ opened_by {A} id own a b c P result one two early = record {
         let t = more refl in
         let same = ap (λ (d : Database). d.trees) s.same in
         let all = subst (λ d. IsFilled d × P d l) same filled in
-        (record { rests = t.rests; same = t.same ∙ s.same }, record { content = all.0.0; lawful = all.0.1; stands = record { meta = meta_passed id own (a.now.trees 0) (sym is); records = all.0.2 } }, all.1)
+        (record { rests = t.rests; same = t.same ∙ s.same }, record { content = all.0.0; lawful = all.0.1; stands = record { meta = meta_passed 2 id own (a.now.trees 0) (sym is); records = all.0.2 } }, all.1)
     go (Err f) s is more filled = tt
 
     never : (r : Result A StoreFault) → IfErr r (λ f. IsOfOpening f → ⊥) → IfErr r (λ f. IsOfOpening f → judged id own (meta_cells a.now.trees) ≡ Err f)

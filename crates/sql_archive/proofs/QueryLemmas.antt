@@ -29,9 +29,9 @@ use Rattle.sqlite.specs.Listing.{understood, reads_listing}
 use Rattle.sqlite.specs.State.{State, Shown, ShowsRows, IsUnchanged}
 use Rattle.sqlite.specs.Clock.{timed}
 use Rattle.sqlite.proofs.Callers.{IsPlain, command_of, reads_as}
-use Rattle.sql_archive.specs.Tables.{older_schema, archive_schema}
+use Rattle.sql_archive.specs.Tables.{older_schema, schema1, archive_schema}
 use Rattle.sql_archive.specs.Words.{columns_of, cells, is_at, is_named, is_behind, is_after, is_before, IsPage, name_order, moment_order, stamp_cmp}
-use Rattle.sql_archive.specs.State.{AreAt, IsKnown, shown_of}
+use Rattle.sql_archive.specs.State.{AreAt, HasMeta, IsKnown, shown_of}
 use Rattle.sql_archive.specs.Rows.{meta_columns, meta_cells}
 use Rattle.sql_archive.specs.Derived.{current_columns, vector_columns}
 use Rattle.sql_archive.specs.Keeping.{is_vector_of}
@@ -65,7 +65,7 @@ all_made : {A B : Type 0} (P : B → Type 0) (f : A → B) → ((x : A) → P (f
 all_made P f each [] = tt
 all_made P f each (x ∷ xs) = (each x, all_made P f each xs)
 
-repaired : {A : Type 0} (f : A → A) (xs : List A) → AllByRecursion (λ x. f x ≡ x) xs → map f xs ≡ xs
+pub repaired : {A : Type 0} (f : A → A) (xs : List A) → AllByRecursion (λ x. f x ≡ x) xs → map f xs ≡ xs
 repaired f [] all = refl
 repaired f (x ∷ xs) all = ap₂ ◌∷◌ all.0 (repaired f xs all.1)
 
@@ -215,7 +215,7 @@ all_in schema (inr was) = subst IsAllIn (sym was) all_was
 pub all_plain : (schema : Schema) → IsKnown schema → IsPlain (understood schema all_text)
 all_plain schema known = (all_in schema known).2
 
-every : (rows : List Row) → filter (λ _. true) rows ≡ rows
+pub every : (rows : List Row) → filter (λ _. true) rows ≡ rows
 every rows = filter_all (λ _. true) rows (all_of (λ _. true ≡ true) (λ _. refl) rows)
 
 pub finds_all : (old new : State) (rows : List Row) → IsKnown old.now.schema → Shown all_text [] old new rows → IsPermutation (cells (old.now.trees 1)) rows
@@ -244,14 +244,19 @@ whose_was : IsWhoseIn older_schema
 unfolding understood everything
 whose_was = (refl, refl, (refl, refl))
 
-whose_in : (schema : Schema) → IsKnown schema → IsWhoseIn schema
-whose_in schema (inl is) = subst IsWhoseIn (sym is) whose_is
-whose_in schema (inr was) = subst IsWhoseIn (sym was) whose_was
+whose_first : IsWhoseIn schema1
+unfolding understood everything
+whose_first = (refl, refl, (refl, refl))
 
-pub whose_plain : (schema : Schema) → IsKnown schema → IsPlain (understood schema whose_text)
+whose_in : (schema : Schema) → HasMeta schema → IsWhoseIn schema
+whose_in schema (inl (inl is)) = subst IsWhoseIn (sym is) whose_is
+whose_in schema (inl (inr was)) = subst IsWhoseIn (sym was) whose_was
+whose_in schema (inr first) = subst IsWhoseIn (sym first) whose_first
+
+pub whose_plain : (schema : Schema) → HasMeta schema → IsPlain (understood schema whose_text)
 whose_plain schema known = (whose_in schema known).2
 
-pub finds_whose : (old new : State) (rows : List Row) → IsKnown old.now.schema → Shown whose_text [] old new rows → IsPermutation (meta_cells old.now.trees) rows
+pub finds_whose : (old new : State) (rows : List Row) → HasMeta old.now.schema → Shown whose_text [] old new rows → IsPermutation (meta_cells old.now.trees) rows
 finds_whose old new rows has h =
     let got = reads_as whose_text [] old new old.now.schema refl _ (whose_in old.now.schema has).0 (whose_in old.now.schema has).2 (whose_in old.now.schema has).1 rows h in
     let all = answered 0 [] whose [] all_rows [] meta_columns (λ _. true) (λ c. []) (λ r. refl) (λ r. refl) old.now.trees rows (got.answer Null) in

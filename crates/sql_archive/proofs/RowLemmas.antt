@@ -5,6 +5,7 @@ use Rattle.std.specs.Ordering.{ordering_reverse}
 use Rattle.std.specs.Cmp.{IsTotalOrder}
 use Rattle.std.proofs.lemmas.List.Sorted.{IsPermutation-refl, IsPermutation-cons, IsPermutation-middle, IsPermutation-sym, IsPermutation-trans}
 use Rattle.sqlite_trees.specs.Tree.{Trees}
+use Rattle.sqlite_value.specs.Order.{Row}
 use Rattle.sqlite_keyed.proofs.ListLemmas.{along_permutation, IsPermutation-flat_map}
 use Rattle.records.specs.Lists.{Has, IsApart, sort_by}
 use Rattle.records.specs.Records.{name_cmp}
@@ -59,13 +60,17 @@ module _ {X : Type 0} (cmp : X → X → Ordering) (total : IsTotalOrder cmp) wh
       (λ x y us. (IsPermutation-middle (x ∷ []) y us, λ h. ((either_way x y h.0.0, h.1.0), (h.0.1, h.1.1))))
       (λ us vs ws p q. (IsPermutation-trans us vs ws p.0 q.0, λ h. q.1 (p.1 h))) xs ys same).1
 
--- the records in the tables that stand for a content are that content
-pub content_is : (R : Content) (db : Trees) → IsLawfulContent R → AreRecords R db → content_in db ≡ R
-content_is R db l stand =
+-- the records in rows that are those of a content are that content
+pub content_from : (R : Content) (rows : List Row) → IsLawfulContent R → IsPermutation (map row_of R) rows → sort_by name_cmp (flat_map records_in rows) ≡ R
+content_from R rows l stand =
     let back = records_back R (each_record R l) in
-    let all = flat_map records_in (cells (db 1)) in
-    let same : IsPermutation R all = subst (λ xs. IsPermutation xs all) back (IsPermutation-flat_map records_in (map row_of R) (cells (db 1)) stand) in
+    let all = flat_map records_in rows in
+    let same : IsPermutation R all = subst (λ xs. IsPermutation xs all) back (IsPermutation-flat_map records_in (map row_of R) rows stand) in
     let apart = apart-permuted name_cmp name_total R all same (closed_names R l.closed) in
     same_members name_cmp name_total (sort_by name_cmp all) R (rises-sort_by name_cmp name_total all apart) l.closed.ordered
     (λ z h. has-permutation all R z (IsPermutation-sym R all same) (has_from_sort_by name_cmp name_total all z h))
     (λ z h. has-sort_by name_cmp name_total all z (has-permutation R all z same h))
+
+-- the records in the tables that stand for a content are that content
+pub content_is : (R : Content) (db : Trees) → IsLawfulContent R → AreRecords R db → content_in db ≡ R
+content_is R db = content_from R (cells (db 1))

@@ -10,8 +10,8 @@ use Rattle.archive.specs.Store.{IsOfOpening}
 use Rattle.sql_archive.specs.Tables.{no_schema, older_schema, archive_schema}
 use Rattle.sql_archive.specs.Rows.{meta_cells, meta_columns, IsStored}
 use Rattle.sql_archive.specs.Derived.{AreKept}
-use Rattle.sql_archive.specs.State.{IsNewArchive, IsMigrated, IsKnown}
-use Rattle.sql_archive.specs.Opening.{judged, Starts, IsBegunIn, IsMigratedIn, IsRefused}
+use Rattle.sql_archive.specs.State.{IsNewArchive, IsMigrated, HasMeta}
+use Rattle.sql_archive.specs.Opening.{judged, Starts, IsBegunIn, IsMigratedIn, IsRenewedIn, IsRefused}
 use Rattle.sql_archive.specs.Kept.{Kept}
 use Rattle.sql_archive.proofs.OpenLemmas.{new_is_own, own_row}
 use Rattle.sql_archive.proofs.AskLemmas.{survives_itself}
@@ -111,20 +111,33 @@ module _ {S : Type 0} (g : Ghosts S) (old : State) where
   started_old id own (Ok a) has stored kept same = λ clean. inr (has, stored clean, kept clean, same clean)
   started_old id own (Err e) has stored kept same = tt
 
-  pub refused_by : (id : List ℕ) (own : ℕ) (r : Result (Kept S) (StoreFault × Held S)) → IsKnown old.now.schema
+  pub refused_by : (id : List ℕ) (own : ℕ) (r : Result (Kept S) (StoreFault × Held S)) → HasMeta old.now.schema
       → IfErr r (λ e. HasCleanDisk (state g e.1) → IsOfOpening e.0 → judged id own (meta_cells old.now.trees) ≡ Err e.0) → IfErr r (λ e. HasCleanDisk (state g e.1) → IsOfOpening e.0 → IsRefused id own old.now e.0)
   refused_by id own (Ok a) has wrong = tt
   refused_by id own (Err e) has wrong = λ clean of. record { schema = has; judged = wrong clean of }
 
   -- and with those of a store as it was
   pub started_migrated : (id : List ℕ) (own : ℕ) (r : Result (Kept S) (StoreFault × Held S)) → IfOk r (λ a. HasCleanDisk (state g a.conn) → IsMigratedIn id own old.now (state g a.conn).now.trees) → IfOk r (λ a. HasCleanDisk (state g a.conn) → Starts id own old.now (state g a.conn).now)
-  started_migrated id own (Ok a) made = λ clean. inl (inr (made clean))
+  started_migrated id own (Ok a) made = λ clean. inl (inr (inl (made clean)))
   started_migrated id own (Err e) made = tt
 
   pub opened_migrated : (id : List ℕ) (own : ℕ) (r : Result (Kept S) (StoreFault × Held S)) → IfOk r (λ a. Survives old (state g a.conn) (IsMigratedIn id own old.now)) → IfOk r (λ a. Survives old (state g a.conn) (IsBegunIn id own old.now))
-  opened_migrated id own (Ok a) one = survives_weaker old (state g a.conn) _ _ (λ clean db made. inr made) one
+  opened_migrated id own (Ok a) one = survives_weaker old (state g a.conn) _ _ (λ clean db made. inr (inl made)) one
   opened_migrated id own (Err e) one = tt
 
   pub left_migrated : (id : List ℕ) (own : ℕ) (r : Result (Kept S) (StoreFault × Held S)) → IfErr r (λ e. Survives old (state g e.1) (IsMigratedIn id own old.now)) → IfErr r (λ e. Survives old (state g e.1) (IsBegunIn id own old.now))
   left_migrated id own (Ok a) one = tt
-  left_migrated id own (Err e) one = survives_weaker old (state g e.1) _ _ (λ clean db made. inr made) one
+  left_migrated id own (Err e) one = survives_weaker old (state g e.1) _ _ (λ clean db made. inr (inl made)) one
+
+  -- and with those of a store of format 1
+  pub started_renewed : (id : List ℕ) (own : ℕ) (r : Result (Kept S) (StoreFault × Held S)) → IfOk r (λ a. HasCleanDisk (state g a.conn) → IsRenewedIn id own old.now (state g a.conn).now.trees) → IfOk r (λ a. HasCleanDisk (state g a.conn) → Starts id own old.now (state g a.conn).now)
+  started_renewed id own (Ok a) made = λ clean. inl (inr (inr (made clean)))
+  started_renewed id own (Err e) made = tt
+
+  pub opened_renewed : (id : List ℕ) (own : ℕ) (r : Result (Kept S) (StoreFault × Held S)) → IfOk r (λ a. Survives old (state g a.conn) (IsRenewedIn id own old.now)) → IfOk r (λ a. Survives old (state g a.conn) (IsBegunIn id own old.now))
+  opened_renewed id own (Ok a) one = survives_weaker old (state g a.conn) _ _ (λ clean db made. inr (inr made)) one
+  opened_renewed id own (Err e) one = tt
+
+  pub left_renewed : (id : List ℕ) (own : ℕ) (r : Result (Kept S) (StoreFault × Held S)) → IfErr r (λ e. Survives old (state g e.1) (IsRenewedIn id own old.now)) → IfErr r (λ e. Survives old (state g e.1) (IsBegunIn id own old.now))
+  left_renewed id own (Ok a) one = tt
+  left_renewed id own (Err e) one = survives_weaker old (state g e.1) _ _ (λ clean db made. inr (inr made)) one

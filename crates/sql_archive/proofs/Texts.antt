@@ -109,3 +109,27 @@ lives_after_text = codes "SELECT node, time, pico, tick, origin, live, extra, va
 
 abbrev pub lives_before_text : List ℕ
 lives_before_text = codes "SELECT node, time, pico, tick, origin, live, extra, value FROM currents2 WHERE node = ?1 AND time <= ?2 AND (time < ?2 OR pico < ?3) AND time >= ?4 AND (time > ?4 OR pico >= ?5) AND live = 1 ORDER BY time DESC, pico DESC LIMIT ?6"
+
+abbrev pub records1_text : List ℕ
+records1_text = codes "SELECT origin, number, tick, node, time, 0, asked, who, value FROM records ORDER BY origin, number"
+
+abbrev pub currents1_text : List ℕ
+currents1_text = codes "SELECT node, time, 0, tick, origin, live, extra, value FROM currents ORDER BY node, time"
+
+abbrev pub all_currents_text : List ℕ
+all_currents_text = codes "SELECT node, time, pico, tick, origin, live, extra, value FROM currents2 ORDER BY node, time, pico"
+
+abbrev pub all_vectors_text : List ℕ
+all_vectors_text = codes "SELECT origin, number, tick FROM vectors ORDER BY origin"
+
+abbrev pub drop_vectors_text : List ℕ
+drop_vectors_text = codes "DROP TABLE vectors"
+
+abbrev pub drop_currents_text : List ℕ
+drop_currents_text = codes "DROP TABLE currents"
+
+abbrev pub drop_records_text : List ℕ
+drop_records_text = codes "DROP TABLE records"
+
+abbrev pub drop_meta_text : List ℕ
+drop_meta_text = codes "DROP TABLE meta"

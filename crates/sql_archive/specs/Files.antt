@@ -10,8 +10,9 @@ use Rattle.sqlite.specs.Files.{HoldsDatabase, AreFoundIn, LeavesFiles}
 use Rattle.sqlite.specs.Closing.{files_left}
 use Rattle.sqlite.specs.declared.file.Leftover.{Leftover}
 use Rattle.records.specs.Contents.{Content}
-use Rattle.sql_archive.specs.Tables.{no_schema, older_schema, archive_schema}
+use Rattle.sql_archive.specs.Tables.{no_schema, older_schema, schema1, archive_schema}
 use Rattle.sql_archive.specs.State.{IsNewArchive, IsMigrated}
+use Rattle.sql_archive.specs.Renewing.{cells1, content1_in, IsStoreOf1, IsRenewed}
 use Rattle.archive.specs.declared.fault.StoreFault.{StoreFault}
 use Rattle.sql_archive.specs.Opening.{judged}
 use Rattle.sql_archive.specs.Rows.{content_in, IsStoreOf, IsOlderStoreOf, meta_cells}
@@ -21,9 +22,13 @@ pub record IsFound (image : Image) (db : Trees) : Type 0 where
   pub holds : (held : Trees) → HoldsDatabase image held → db ≡ held
   pub reads : AreFoundIn image db
 
--- the content of a store: nothing where it has no tables; else it is one of this archive and replica, as it is or as it was before current values and vectors had tables of their own, and its content is what its tables hold
+-- a store of this archive and replica, as it is, or as it was before current values and vectors had tables of their own, or of format 1, has this content in its tables
+abbrev pub IsStoreWith : List ℕ → ℕ → Trees → Content → Type 0
+IsStoreWith id own db R = ((IsStoreOf id own db ⊎ IsOlderStoreOf id own db) × (R ≡ content_in db)) ⊎ (IsStoreOf1 id own db × (R ≡ content1_in db))
+
+-- the content of a store: nothing where it has no tables; else it is one of this archive and replica, and its content is what its tables hold
 abbrev pub Tells : List ℕ → ℕ → Trees → Content → Type 0
-Tells id own db R = (Lists (db catalog_tree) no_schema × (R ≡ [])) ⊎ ((IsStoreOf id own db ⊎ IsOlderStoreOf id own db) × (R ≡ content_in db))
+Tells id own db R = (Lists (db catalog_tree) no_schema × (R ≡ [])) ⊎ IsStoreWith id own db R
 
 -- the content that an archive of this id and replica goes on with where the two files hold this
 pub record Resumes (image : Image) (id : List ℕ) (own : ℕ) (R : Content) : Type 0 where
@@ -43,7 +48,7 @@ ResumesAmong image Among = (id : List ℕ) (own : ℕ) (R : Content) → Resumes
 pub record IsAnothers (image : Image) (id : List ℕ) (own : ℕ) (fault : StoreFault) : Type 0 where
   pub db : Trees
   pub found : IsFound image db
-  pub lists : Lists (db catalog_tree) archive_schema ⊎ Lists (db catalog_tree) older_schema
+  pub lists : (Lists (db catalog_tree) archive_schema ⊎ Lists (db catalog_tree) older_schema) ⊎ Lists (db catalog_tree) schema1
   pub judged : judged id own (meta_cells db) ≡ Err fault
 
 -- what the engine leaves of files that it can't open
@@ -52,8 +57,8 @@ EngineLeaves {D} g files left = (rest : Leftover D g) × ((left.log, left.db) �
 
 -- what an opening that was refused leaves of what it found
 abbrev pub IsLeftOf : List ℕ → ℕ → Trees → Trees → Type 0
-IsLeftOf id own found db = (db ≡ found) ⊎ ((Lists (found catalog_tree) no_schema × IsNewArchive id (pos own) db) ⊎ (IsOlderStoreOf id own found × IsMigrated found db))
+IsLeftOf id own found db = (db ≡ found) ⊎ ((Lists (found catalog_tree) no_schema × IsNewArchive id (pos own) db) ⊎ ((IsOlderStoreOf id own found × IsMigrated found db) ⊎ (IsStoreOf1 id own found × IsRenewed id (pos own) (cells1 found) db)))
 
--- the files hold the database that was found there; or, where that had no table, a new archive; or, where it was a store of this archive and replica without tables of current values and vectors, that store with them
+-- the files hold the database that was found there; or, where that had no table, a new archive; or, where it was a store of this archive and replica of an earlier form, the tables of an archive with the same records
 abbrev pub KeepsFound : Image → List ℕ → ℕ → Image → Type 0
 KeepsFound image id own left = (found : Trees) × IsFound image found × ∥ ((db : Trees) × HoldsDatabase left db × IsLeftOf id own found db) ∥₁

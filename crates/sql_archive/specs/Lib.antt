@@ -12,3 +12,4 @@ pub mod Walking
 pub mod Files
 pub mod Lacked
 pub mod Currents
+pub mod Renewing

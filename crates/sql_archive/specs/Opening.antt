@@ -15,13 +15,15 @@ use Rattle.records.specs.Spelling.{IsRecord}
 use Rattle.sqlite_trees.specs.Tree.{Trees}
 use Rattle.sql_archive.specs.declared.checking.Mark.{Mark}
 use Rattle.sql_archive.specs.declared.checking.Walk.{Walk}
+use Rattle.sql_archive.specs.declared.renewing.Rows1.{Rows1}
+use Rattle.sql_archive.specs.Renewing.{cells1, meta1_row, IsRead1, IsStored1, IsRenewed}
 use Rattle.sql_archive.specs.Words.{cells}
 use Rattle.sql_archive.specs.Kept.{Remembers}
 use Rattle.sql_archive.specs.Derived.{AreKept}
 use Rattle.sql_archive.specs.Rows.{IsStored, meta_cells, row_of}
 use Rattle.sqlite.specs.Effect.{Database}
-use Rattle.sql_archive.specs.Tables.{no_schema, older_schema, archive_schema}
-use Rattle.sql_archive.specs.State.{Holds, Stays, IsKnown, IsNewArchive, IsMigrated, shown_of}
+use Rattle.sql_archive.specs.Tables.{no_schema, older_schema, schema1, archive_schema}
+use Rattle.sql_archive.specs.State.{Holds, Stays, HasMeta, IsNewArchive, IsMigrated, shown_of}
 
 abbrev pub mark_of : Record → Mark
 mark_of r = record { origin = r.origin; number = r.number; tick = r.tick }
@@ -73,18 +75,22 @@ has_bytes (Text t) bytes = false
 has_bytes (Bytes b) bytes = bytes_eq b bytes
 
 -- a row of meta is judged: the archive first, then the replica, then the format
-abbrev pub judged_row : List ℕ → ℕ → Row → Result Unit StoreFault
-judged_row id own r =
+abbrev pub judged_row : ℕ → List ℕ → ℕ → Row → Result Unit StoreFault
+judged_row format id own r =
     if not (has_bytes (column r 2) id) then Err WrongArchive
     else if not (has_number (column r 3) own) then Err WrongReplica
-    else if not (has_number (column r 0) 1 && has_number (column r 1) 2) then Err Refused
+    else if not (has_number (column r 0) 1 && has_number (column r 1) format) then Err Refused
     else Ok tt
 
 -- another count of rows is no archive's
+abbrev pub judged_as : ℕ → List ℕ → ℕ → List Row → Result Unit StoreFault
+judged_as format id own [] = Err Refused
+judged_as format id own (r ∷ []) = judged_row format id own r
+judged_as format id own (r ∷ s ∷ rs) = Err Refused
+
+-- as one of format 2
 abbrev pub judged : List ℕ → ℕ → List Row → Result Unit StoreFault
-judged id own [] = Err Refused
-judged id own (r ∷ []) = judged_row id own r
-judged id own (r ∷ s ∷ rs) = Err Refused
+judged = judged_as 2
 
 -- what an opening makes of meta and records2: Ok only where they stand for a lawful content of this archive and replica;
 -- WrongArchive and WrongReplica only as meta says
@@ -99,6 +105,12 @@ pub record OpensAll {A : Type 0} (id : List ℕ) (own : ℕ) (old new : State) (
   pub wrong : HasCleanDisk new → IfErr result (λ fault. IsOfOpening fault → judged id own (meta_cells old.now.trees) ≡ Err fault)
   pub crash : Survives old new (λ _. ⊥)
 
+-- what an opening makes of a store of format 1
+pub record Opens1 (id : List ℕ) (own : ℕ) (old new : State) (result : Result Rows1 StoreFault) : Type 0 where
+  pub opened : HasCleanDisk new → IfOk result (λ rows. Holds old new × (meta_cells old.now.trees ≡ meta1_row id own ∷ []) × IsRead1 old.now.trees rows)
+  pub wrong : HasCleanDisk new → IfErr result (λ fault. IsOfOpening fault → judged id own (meta_cells old.now.trees) ≡ Err fault)
+  pub crash : Survives old new (λ _. ⊥)
+
 -- new tables are made where there are none
 abbrev pub IsMadeIn : List ℕ → ℕ → Database → Trees → Type 0
 IsMadeIn id own old db = (old.schema ≡ no_schema) × IsNewArchive id (pos own) db
@@ -107,9 +119,13 @@ IsMadeIn id own old db = (old.schema ≡ no_schema) × IsNewArchive id (pos own)
 abbrev pub IsMigratedIn : List ℕ → ℕ → Database → Trees → Type 0
 IsMigratedIn id own old db = (old.schema ≡ older_schema) × IsStored id own old.trees × IsMigrated old.trees db
 
+-- the tables of an archive are made of those of format 1 of this archive and replica
+abbrev pub IsRenewedIn : List ℕ → ℕ → Database → Trees → Type 0
+IsRenewedIn id own old db = (old.schema ≡ schema1) × IsStored1 id own old.trees × IsRenewed id (pos own) (cells1 old.trees) db
+
 -- what an opening commits
 abbrev pub IsBegunIn : List ℕ → ℕ → Database → Trees → Type 0
-IsBegunIn id own old db = IsMadeIn id own old db ⊎ IsMigratedIn id own old db
+IsBegunIn id own old db = IsMadeIn id own old db ⊎ (IsMigratedIn id own old db ⊎ IsRenewedIn id own old db)
 
 -- an archive begins with what the opening made, or with the tables that stood there, which are those of a lawful content of this archive and replica
 abbrev pub Starts : List ℕ → ℕ → Database → Database → Type 0
@@ -117,5 +133,5 @@ Starts id own old new = IsBegunIn id own old new.trees ⊎ ((old.schema ≡ arch
 
 -- meta says that this is another archive's store, or another replica's
 pub record IsRefused (id : List ℕ) (own : ℕ) (old : Database) (fault : StoreFault) : Type 0 where
-  pub schema : IsKnown old.schema
+  pub schema : HasMeta old.schema
   pub judged : judged id own (meta_cells old.trees) ≡ Err fault

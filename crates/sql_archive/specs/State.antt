@@ -10,7 +10,7 @@ use Rattle.archive.specs.Store.{fault_in, IsOfOpening}
 use Rattle.archive.specs.Listed.{is_broken}
 use Rattle.sqlite_schema.specs.declared.schema.Schema.{Schema}
 use Rattle.sqlite_value.specs.declared.value.Value.TheVariants.{Null, Int, Blob as Bytes}
-use Rattle.sql_archive.specs.Tables.{archive_schema, older_schema}
+use Rattle.sql_archive.specs.Tables.{archive_schema, older_schema, schema1}
 use Rattle.sql_archive.specs.Derived.{AreKept}
 use Rattle.sql_archive.specs.Words.{cells, is_at, stamp_cmp}
 
@@ -21,6 +21,10 @@ HasTables s = s.now.schema ≡ archive_schema
 -- the tables are those of an archive, or those that it had before current values and vectors had tables of their own
 abbrev pub IsKnown : Schema → Type 0
 IsKnown schema = (schema ≡ archive_schema) ⊎ (schema ≡ older_schema)
+
+-- or those of a store of format 1
+abbrev pub HasMeta : Schema → Type 0
+HasMeta schema = IsKnown schema ⊎ (schema ≡ schema1)
 
 -- open, nothing pending, whatever the tables
 pub record Rests (s : State) : Type 0 where

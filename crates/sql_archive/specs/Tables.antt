@@ -62,6 +62,23 @@ vectors = record (bare (codes "vectors") (strict (codes "origin") Integer false 
   primary = 0 ∷ [];
 }
 
+-- the tables of records and of current values of a store of format 1, whose moments have no picoseconds
+abbrev pub records1 : Table
+records1 = record (bare (codes "records") (strict (codes "origin") Integer true ∷ strict (codes "number") Integer true ∷ strict (codes "tick") Integer true ∷ strict (codes "node") Blob true ∷ strict (codes "time") Integer true
+    ∷ strict (codes "asked") Integer true ∷ strict (codes "who") Blob true ∷ strict (codes "value") Blob true ∷ [])) {
+      primary = 1 ∷ 2 ∷ [];
+      uniques = (1 ∷ 2 ∷ []) ∷ (4 ∷ 5 ∷ 3 ∷ 1 ∷ []) ∷ [];
+      orders = plain ∷ plain ∷ [];
+    }
+
+abbrev pub currents1 : Table
+currents1 = record (bare (codes "currents") (strict (codes "node") Blob true ∷ strict (codes "time") Integer true ∷ strict (codes "tick") Integer true
+    ∷ strict (codes "origin") Integer true ∷ strict (codes "live") Integer true ∷ strict (codes "extra") Integer true ∷ strict (codes "value") Blob true ∷ [])) {
+      primary = 1 ∷ 2 ∷ [];
+      uniques = (1 ∷ 2 ∷ []) ∷ [];
+      orders = plain ∷ [];
+    }
+
 abbrev pub no_schema : Schema
 no_schema = record { tables = []; indexes = []; views = [] }
 
@@ -77,6 +94,16 @@ with_currents = created older_schema currents2
 
 abbrev pub archive_schema : Schema
 archive_schema = created with_currents vectors
+
+abbrev pub with_records1 : Schema
+with_records1 = created with_meta records1
+
+abbrev pub with_currents1 : Schema
+with_currents1 = created with_records1 currents1
+
+-- the tables of a store of format 1
+abbrev pub schema1 : Schema
+schema1 = created with_currents1 vectors
 
 -- the tables with the trees that they get, and the indexes of their keys
 abbrev pub first_table : Table
@@ -108,3 +135,12 @@ older_indexes = first_index ∷ second_index ∷ []
 
 abbrev pub key_indexes : List Index
 key_indexes = first_index ∷ second_index ∷ third_index ∷ []
+
+abbrev pub second_table1 : Table
+second_table1 = record records1 { tree = 1 }
+
+abbrev pub third_table1 : Table
+third_table1 = record currents1 { tree = 4 }
+
+abbrev pub indexes1 : List Index
+indexes1 = index_of (codes "sqlite_autoindex_records_1") 2 1 (1 ∷ 2 ∷ []) ∷ index_of (codes "sqlite_autoindex_records_2") 3 1 (4 ∷ 5 ∷ 3 ∷ 1 ∷ []) ∷ index_of (codes "sqlite_autoindex_currents_1") 5 4 (1 ∷ 2 ∷ []) ∷ []

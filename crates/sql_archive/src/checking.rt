@@ -42,7 +42,7 @@ fn comes_next(before: Mark, r: &Record) -> bool
         && before.tick < r.tick
 }
 
-fn is_int(row: &Row, at: usize, n: i64) -> bool
+pub(crate) fn is_int(row: &Row, at: usize, n: i64) -> bool
     ensures { IsTrue result → column row.now at ≡ value.Int n }
 {
     match int_at(row, at) {
@@ -51,7 +51,7 @@ fn is_int(row: &Row, at: usize, n: i64) -> bool
     }
 }
 
-fn is_bytes(row: &Row, at: usize, bytes: &[u8]) -> bool
+pub(crate) fn is_bytes(row: &Row, at: usize, bytes: &[u8]) -> bool
     ensures { IsTrue result → column row.now at ≡ value.Blob bytes.now }
 {
     match bytes_at(row, at) {
@@ -100,7 +100,7 @@ pub(crate) struct Walk {
 }
 
 /// Nothing gone over yet.
-fn start() -> Walk
+pub(crate) fn start() -> Walk
     ensures { HasWalked [] result }
 {
     Walk {
@@ -117,7 +117,7 @@ fn start() -> Walk
 }
 
 /// Goes on over one row more, which is that of the next record in turn; else it is refused.
-fn go_on(alloc: Global, walk: Walk, row: &Row) -> Result<Walk, StoreFault>
+pub(crate) fn go_on(alloc: Global, walk: Walk, row: &Row) -> Result<Walk, StoreFault>
     ensures walked { (rows : List Columns) → HasWalked rows walk → IfOk result (HasWalked (rows ++ row.now ∷ [])) }
     ensures met { IfErr result (λ fault. IsOfOpening fault → ⊥) }
 {

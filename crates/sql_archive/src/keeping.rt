@@ -15,7 +15,7 @@ use crate::writes::Cells;
 use sqlite::{Alter, Connection, Error, Transaction, params};
 
 /// Adds the row of a record.
-fn add_record<S: Alter>(tx: &mut Transaction<'_, S>, r: &Cells) -> Result<usize, Error>
+pub(crate) fn add_record<S: Alter>(tx: &mut Transaction<'_, S>, r: &Cells) -> Result<usize, Error>
     requires { HasCleanDisk (state S.Store tx.old.conn.now) → Making archive_schema (state S.Store tx.old.conn.now) }
     ensures made { HasCleanDisk (state S.Store tx.new.conn.now) → OnOk result (Making archive_schema (state S.Store tx.new.conn.now) × ((state S.Store tx.new.conn.now).committed ≡ (state S.Store tx.old.conn.now).committed) × AddsRecord (cells_of r.now.origin r.now.number r.now.tick r.now.node.items r.now.time r.now.pico r.now.asked r.now.who.items r.now.value.items) (state S.Store tx.old.conn.now).now.trees (state S.Store tx.new.conn.now).now.trees) }
     ensures kept { HasCleanDisk (state S.Store tx.new.conn.now) → KeepsCommit (state S.Store tx.old.conn.now) (state S.Store tx.new.conn.now) }

@@ -1,6 +1,6 @@
 //! Laws of the archive. Each function's contract is a law, and its body is empty.
 
-ghost use Rattle.std.specs.Prelude.{◌≡◌, ◌⊎◌, ℕ, List};
+ghost use Rattle.std.specs.Prelude.{◌≡◌, ◌⊎◌, ℕ, pos, List};
 ghost use Rattle.sqlite_wal.specs.Recovery.{Image};
 ghost use Rattle.sqlite_trees.specs.Tree.{Trees};
 ghost use Rattle.sqlite_trees.specs.Objects.{catalog_tree};
@@ -10,6 +10,7 @@ ghost use Rattle.sqlite.specs.Files.{HoldsDatabase};
 ghost use Rattle.records.specs.Contents.{Content};
 ghost use Rattle.sql_archive.specs.Tables.{no_schema};
 ghost use Rattle.sql_archive.specs.Files.{Resumes, KeepsFound};
+ghost use Rattle.sql_archive.specs.Renewing.{cells1, IsStoreOf1, IsRenewed};
 ghost use Rattle.sql_archive.specs.Rows.{IsOlderStoreOf};
 ghost use Rattle.sql_archive.specs.State.{IsMigrated};
 ghost use Rattle.sql_archive.specs.Kept.{Kept};
@@ -24,10 +25,11 @@ pub fn memory_is_honest()
 {}
 
 /// Where an opening was refused, files that held a database with tables still hold it; save that a store of this
-/// archive and replica without tables of current values and of vectors may have got them. Whatever can be opened
+/// archive and replica of an earlier form may have got the tables of today, with the same records. Whatever can be opened
 /// of them then could be opened before, with the same content.
 pub fn refused_openings_lose_nothing()
-    ensures held { (image left : Image) (id : List ℕ) (own : ℕ) → KeepsFound image id own left → (db : Trees) → HoldsDatabase image db → ¬ Lists (db catalog_tree) no_schema → ¬ IsOlderStoreOf id own db → ∥ HoldsDatabase left db ∥₁ }
+    ensures held { (image left : Image) (id : List ℕ) (own : ℕ) → KeepsFound image id own left → (db : Trees) → HoldsDatabase image db → ¬ Lists (db catalog_tree) no_schema → ¬ IsOlderStoreOf id own db → ¬ IsStoreOf1 id own db → ∥ HoldsDatabase left db ∥₁ }
     ensures stored { (image left : Image) (id : List ℕ) (own : ℕ) → KeepsFound image id own left → (db : Trees) → HoldsDatabase image db → IsOlderStoreOf id own db → ∥ ((now : Trees) × HoldsDatabase left now × ((now ≡ db) ⊎ IsMigrated db now)) ∥₁ }
+    ensures renewed { (image left : Image) (id : List ℕ) (own : ℕ) → KeepsFound image id own left → (db : Trees) → HoldsDatabase image db → IsStoreOf1 id own db → ∥ ((now : Trees) × HoldsDatabase left now × ((now ≡ db) ⊎ IsRenewed id (pos own) (cells1 db) now)) ∥₁ }
     ensures resumed { (image left : Image) (id : List ℕ) (own : ℕ) → KeepsFound image id own left → (other : List ℕ) (number : ℕ) (R : Content) → Resumes left other number R → ∥ Resumes image other number R ∥₁ }
 {}

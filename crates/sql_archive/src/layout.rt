@@ -1,12 +1,21 @@
 //! The tables of an archive.
 
-ghost use Rattle.std.specs.Prelude.{◌≡◌, false, [], OnOk, OnErr, IsTrue};
+ghost use Rattle.std.specs.Prelude.{◌≡◌, ◌≤◌, pos, false, [], OnOk, OnErr, IsTrue};
 ghost use Rattle.sqlite.specs.State.{HasCleanDisk, Survives, KeepsCommit};
 ghost use Rattle.sqlite.specs.Held.{state};
 ghost use Rattle.sql_archive.specs.Tables.{no_schema, with_meta, older_schema, with_currents, archive_schema};
 ghost use Rattle.sql_archive.specs.State.{Making, Makes, MakesOlder, MakesBeside, KeepsOlder, AreEmpty, IsNewArchive, Idles};
 
 use sqlite::{Alter, Connection, Error, Transaction, params};
+use stamp::ReplicaNo;
+
+/// A replica's number as meta has it.
+pub(crate) fn number_of(number: ReplicaNo) -> i64
+    ensures same { result ≡ pos number }
+    ensures small { number ≤ 64 }
+{
+    i64::from(number.get())
+}
 
 fn make_meta<S: Alter>(tx: &mut Transaction<'_, S>) -> Result<usize, Error>
     requires { HasCleanDisk (state S.Store tx.old.conn.now) → Making no_schema (state S.Store tx.old.conn.now) }
@@ -105,7 +114,7 @@ fn fill_meta<S: Alter>(
 }
 
 /// Makes all tables, in a transaction.
-fn make_tables<S: Alter>(
+pub(crate) fn make_tables<S: Alter>(
     tx: &mut Transaction<'_, S>,
     archive: &[u8],
     replica: &i64,

@@ -7,8 +7,8 @@ ghost use Rattle.sqlite.specs.Held.{state};
 ghost use Rattle.sqlite_value.specs.Order.{column};
 ghost use Rattle.sql_archive.specs.Rows.{content_in, IsFilled, meta_cells};
 ghost use Rattle.sql_archive.specs.Kept.{Remembers};
-ghost use Rattle.sql_archive.specs.State.{Found, Idles, IsKnown, Rests};
-ghost use Rattle.sql_archive.specs.Opening.{has_number, has_bytes, judged_row, judged, Opens, OpensAll};
+ghost use Rattle.sql_archive.specs.State.{Found, HasMeta, Idles, IsKnown, Rests};
+ghost use Rattle.sql_archive.specs.Opening.{has_number, has_bytes, judged_row, judged_as, Opens, OpensAll};
 
 use crate::agreeing::check_kept;
 use crate::checking::check_rows;
@@ -64,8 +64,8 @@ fn has_bytes(row: &Row, at: usize, bytes: &[u8]) -> bool
 }
 
 /// Whose store it is, by a row of meta.
-fn judge_row(row: &Row, id: &Uuid, number: ReplicaNo) -> Result<(), StoreFault>
-    ensures { length row.now ≡ 4 → result ≡ judged_row id.now number row.now }
+fn judge_row(row: &Row, id: &Uuid, number: ReplicaNo, format: u64) -> Result<(), StoreFault>
+    ensures { length row.now ≡ 4 → result ≡ judged_row format id.now number row.now }
 {
     if row.column_count() != 4 {
         return Err(StoreFault::Refused);
@@ -76,34 +76,35 @@ fn judge_row(row: &Row, id: &Uuid, number: ReplicaNo) -> Result<(), StoreFault>
     if !has_number(row, 3, u64::from(number.get())) {
         return Err(StoreFault::WrongReplica);
     }
-    if !(has_number(row, 0, 1) && has_number(row, 1, 2)) {
+    if !(has_number(row, 0, 1) && has_number(row, 1, format)) {
         return Err(StoreFault::Refused);
     }
     Ok(())
 }
 
 /// Whose store it is, by the rows of meta.
-fn judge_meta(rows: &[Row], id: &Uuid, number: ReplicaNo) -> Result<(), StoreFault>
-    ensures { AllByRecursion (λ r. length r ≡ 4) rows.now → result ≡ judged id.now number rows.now }
+fn judge_meta(rows: &[Row], id: &Uuid, number: ReplicaNo, format: u64) -> Result<(), StoreFault>
+    ensures { AllByRecursion (λ r. length r ≡ 4) rows.now → result ≡ judged_as format id.now number rows.now }
 {
     match rows {
-        [row] => judge_row(row, id, number),
+        [row] => judge_row(row, id, number, format),
         _ => Err(StoreFault::Refused),
     }
 }
 
-/// Whose store it is.
-fn judge<S: Alter>(
+/// Whose store of a format it is.
+pub(crate) fn judge<S: Alter>(
     conn: &mut Connection<S>,
     id: &Uuid,
     number: ReplicaNo,
+    format: u64,
 ) -> Result<Result<(), StoreFault>, StoreFault>
     requires rests { HasCleanDisk (state S.Store conn.old) → Rests (state S.Store conn.old) }
-    requires known { HasCleanDisk (state S.Store conn.old) → IsKnown (state S.Store conn.old).now.schema }
-    ensures { Found (state S.Store conn.old) (state S.Store conn.new) result (λ told. told ≡ judged id.now number (meta_cells (state S.Store conn.old).now.trees)) }
+    requires known { HasCleanDisk (state S.Store conn.old) → HasMeta (state S.Store conn.old).now.schema }
+    ensures { Found (state S.Store conn.old) (state S.Store conn.new) result (λ told. told ≡ judged_as format id.now number (meta_cells (state S.Store conn.old).now.trees)) }
 {
     let rows = rows_of_meta(conn)?;
-    Ok(judge_meta(&rows, id, number))
+    Ok(judge_meta(&rows, id, number, format))
 }
 
 /// Opens meta and records as they stand there, and tells the last numbers and the greatest tick of the records.
@@ -117,7 +118,7 @@ pub(crate) fn open_tables<S: Alter>(
     requires known { HasCleanDisk (state S.Store conn.old) → IsKnown (state S.Store conn.old).now.schema }
     ensures { Opens id.now number (state S.Store conn.old) (state S.Store conn.new) (λ l. Remembers (content_in (state S.Store conn.old).now.trees) l.numbers l.tick) result }
 {
-    let told = judge(conn, id, number)?;
+    let told = judge(conn, id, number, 2)?;
     match told {
         Ok(()) => walk(alloc, conn),
         Err(fault) => Err(fault),

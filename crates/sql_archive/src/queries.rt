@@ -10,7 +10,7 @@ ghost use Rattle.sql_archive.specs.Words.{cells, is_named, is_behind, name_order
 ghost use Rattle.sql_archive.specs.Derived.{vector_columns};
 ghost use Rattle.sql_archive.specs.Keeping.{is_vector_of};
 ghost use Rattle.sql_archive.specs.Rows.{meta_cells};
-ghost use Rattle.sql_archive.specs.State.{AreAt, Asked, Found, Idles, IsKnown, Rests};
+ghost use Rattle.sql_archive.specs.State.{AreAt, Asked, Found, HasMeta, Idles, Rests};
 
 use crate::statements::{ask, select};
 use archive::{Direction, StoreFault};
@@ -166,10 +166,10 @@ pub(crate) fn rows_behind<S: Alter>(
     )
 }
 
-/// The rows of meta, in an archive's tables as they are or as they were.
+/// The rows of meta, in an archive's tables as they are or as they were, or in those of format 1.
 pub(crate) fn rows_of_meta<S: Alter>(conn: &mut Connection<S>) -> Result<Vec<Row>, StoreFault>
     requires rests { HasCleanDisk (state S.Store conn.old) → Rests (state S.Store conn.old) }
-    requires known { HasCleanDisk (state S.Store conn.old) → IsKnown (state S.Store conn.old).now.schema }
+    requires known { HasCleanDisk (state S.Store conn.old) → HasMeta (state S.Store conn.old).now.schema }
     ensures { Found (state S.Store conn.old) (state S.Store conn.new) result (λ rows. IsPermutation (meta_cells (state S.Store conn.old).now.trees) rows.items) }
 {
     ask(conn, "SELECT one, format, archive, replica FROM meta", &[])

@@ -1,8 +1,9 @@
 //! Which tables a store has.
 
 ghost use Rattle.std.specs.Prelude.{◌≡◌, false, true, [], ◌∷◌, codes, IfOk, IsTrue};
-ghost use Rattle.sql_archive.specs.Tables.{strict, meta, records2, currents2, vectors, no_schema, older_schema, archive_schema, first_table, second_table, third_table, fourth_table, index_of, first_index, second_index, older_indexes, key_indexes};
+ghost use Rattle.sql_archive.specs.Tables.{strict, meta, records2, currents2, vectors, no_schema, older_schema, schema1, archive_schema, first_table, second_table, third_table, fourth_table, index_of, first_index, second_index, older_indexes, key_indexes};
 
+use crate::standing_first::is_first;
 use sqlite_items::Items;
 use sqlite_schema::code::Terms;
 use sqlite_schema::schema::{Column, Index, Kind, Schema, Stamps, Table};
@@ -21,12 +22,14 @@ pub(crate) enum Standing {
     Archive,
     /// Those that it had before current values and vectors had tables of their own, and nothing else.
     Older,
+    /// Those of a store of format 1, and nothing else.
+    First,
     /// Others.
     Foreign,
 }
 
 /// Whether it is a column of a STRICT table, of this name and kind, with no default.
-fn is_strict(column: &Column, name: &[u8], kind: Kind, needed: bool) -> bool
+pub(crate) fn is_strict(column: &Column, name: &[u8], kind: Kind, needed: bool) -> bool
     ensures { IsTrue result → column.now ≡ strict name.now kind needed }
 {
     column.name.as_slice() == name
@@ -53,7 +56,7 @@ fn are_columns_of_meta(columns: &[Column]) -> bool
 }
 
 /// Whether these are the columns of a record's name and tick.
-fn are_named(origin: &Column, number: &Column, tick: &Column) -> bool
+pub(crate) fn are_named(origin: &Column, number: &Column, tick: &Column) -> bool
     ensures { IsTrue result → (origin.now ≡ strict (codes "origin") Kind.Integer true) × (number.now ≡ strict (codes "number") Kind.Integer true) × (tick.now ≡ strict (codes "tick") Kind.Integer true) }
 {
     is_strict(origin, b"origin", Kind::Integer, true)
@@ -71,7 +74,7 @@ fn are_placed(node: &Column, time: &Column, pico: &Column) -> bool
 }
 
 /// Whether these are the columns of what was asked, by whom, and of the value.
-fn are_asked(asked: &Column, who: &Column, value: &Column) -> bool
+pub(crate) fn are_asked(asked: &Column, who: &Column, value: &Column) -> bool
     ensures { IsTrue result → (asked.now ≡ strict (codes "asked") Kind.Integer true) × (who.now ≡ strict (codes "who") Kind.Blob true) × (value.now ≡ strict (codes "value") Kind.Blob true) }
 {
     is_strict(asked, b"asked", Kind::Integer, true)
@@ -117,7 +120,7 @@ fn are_current(node: &Column, time: &Column, pico: &Column, tick: &Column, origi
 }
 
 /// Whether these are the columns that tell whether it is live and whether other records stand beside it, and the value.
-fn are_shown(live: &Column, extra: &Column, value: &Column) -> bool
+pub(crate) fn are_shown(live: &Column, extra: &Column, value: &Column) -> bool
     ensures { IsTrue result → (live.now ≡ strict (codes "live") Kind.Integer true) × (extra.now ≡ strict (codes "extra") Kind.Integer true) × (value.now ≡ strict (codes "value") Kind.Blob true) }
 {
     is_strict(live, b"live", Kind::Integer, true)
@@ -152,7 +155,7 @@ fn are_columns_of_vectors(columns: &[Column]) -> bool
 }
 
 /// Whether there are no expressions.
-fn are_none(alloc: Global, terms: &Terms) -> Result<bool, AllocError>
+pub(crate) fn are_none(alloc: Global, terms: &Terms) -> Result<bool, AllocError>
     ensures { IfOk result (λ none. IsTrue none → terms.now ≡ []) }
 {
     let lent = terms.lend(alloc)?;
@@ -181,7 +184,7 @@ fn are_checks_of_meta(alloc: Global, terms: &Terms) -> Result<bool, AllocError>
 }
 
 /// Whether no default reads the time.
-fn are_no_stamps(alloc: Global, stamps: &Stamps) -> Result<bool, AllocError>
+pub(crate) fn are_no_stamps(alloc: Global, stamps: &Stamps) -> Result<bool, AllocError>
     ensures { IfOk result (λ none. IsTrue none → stamps.now ≡ meta.stamps) }
 {
     let none = are_none(alloc, &stamps.terms)?;
@@ -195,7 +198,7 @@ fn is_key(key: &Items<usize>, columns: &[usize]) -> bool
 }
 
 /// Whether these are the keys.
-fn are_keys(keys: &[Items<usize>], first: &[usize], second: &[usize]) -> bool
+pub(crate) fn are_keys(keys: &[Items<usize>], first: &[usize], second: &[usize]) -> bool
     ensures { IsTrue result → keys.now ≡ first.now ∷ second.now ∷ [] }
 {
     match keys {
@@ -204,7 +207,7 @@ fn are_keys(keys: &[Items<usize>], first: &[usize], second: &[usize]) -> bool
     }
 }
 
-fn are_plain(orders: &[Order]) -> bool
+pub(crate) fn are_plain(orders: &[Order]) -> bool
     ensures { IsTrue result → orders.now ≡ records2.orders }
 {
     match orders {
@@ -214,7 +217,7 @@ fn are_plain(orders: &[Order]) -> bool
 }
 
 /// Whether a table has this name and tree, and no more than its columns, keys and checks.
-fn is_named(table: &Table, name: &[u8], tree: u32) -> bool
+pub(crate) fn is_named(table: &Table, name: &[u8], tree: u32) -> bool
     ensures { IsTrue result → (table.now.name ≡ name.now) × (table.now.tree ≡ tree) × (table.now.references ≡ []) × (table.now.computed ≡ []) × (table.now.is_counted ≡ false) }
 {
     table.name.as_slice() == name
@@ -225,7 +228,7 @@ fn is_named(table: &Table, name: &[u8], tree: u32) -> bool
 }
 
 /// Whether it is the table `meta`.
-fn is_meta(alloc: Global, table: &Table) -> Result<bool, AllocError>
+pub(crate) fn is_meta(alloc: Global, table: &Table) -> Result<bool, AllocError>
     ensures { IfOk result (λ same. IsTrue same → table.now ≡ first_table) }
 {
     let checked = are_checks_of_meta(alloc, &table.checks)?;
@@ -261,7 +264,7 @@ fn is_records(alloc: Global, table: &Table) -> Result<bool, AllocError>
 }
 
 /// Whether there is one key, and it is this one.
-fn is_only_key(keys: &[Items<usize>], columns: &[usize]) -> bool
+pub(crate) fn is_only_key(keys: &[Items<usize>], columns: &[usize]) -> bool
     ensures { IsTrue result → keys.now ≡ columns.now ∷ [] }
 {
     match keys {
@@ -270,7 +273,7 @@ fn is_only_key(keys: &[Items<usize>], columns: &[usize]) -> bool
     }
 }
 
-fn is_plain(orders: &[Order]) -> bool
+pub(crate) fn is_plain(orders: &[Order]) -> bool
     ensures { IsTrue result → orders.now ≡ currents2.orders }
 {
     match orders {
@@ -298,7 +301,7 @@ fn is_currents(alloc: Global, table: &Table) -> Result<bool, AllocError>
 }
 
 /// Whether it is the table `vectors`.
-fn is_vectors(alloc: Global, table: &Table) -> Result<bool, AllocError>
+pub(crate) fn is_vectors(alloc: Global, table: &Table) -> Result<bool, AllocError>
     ensures { IfOk result (λ same. IsTrue same → table.now ≡ fourth_table) }
 {
     let unchecked = are_none(alloc, &table.checks)?;
@@ -316,7 +319,7 @@ fn is_vectors(alloc: Global, table: &Table) -> Result<bool, AllocError>
 }
 
 /// Whether it is the index of a key of the table with this tree.
-fn is_index(index: &Index, name: &[u8], tree: u32, table: u32, columns: &[usize]) -> bool
+pub(crate) fn is_index(index: &Index, name: &[u8], tree: u32, table: u32, columns: &[usize]) -> bool
     ensures { IsTrue result → index.now ≡ index_of name.now tree table columns.now }
 {
     index.name.as_slice() == name
@@ -421,6 +424,7 @@ pub(crate) fn standing_in(alloc: Global, schema: &Schema) -> Result<Standing, Al
     ensures empty { IfOk result (λ s. s ≡ Standing.Empty → schema.now ≡ no_schema) }
     ensures archive { IfOk result (λ s. s ≡ Standing.Archive → schema.now ≡ archive_schema) }
     ensures older { IfOk result (λ s. s ≡ Standing.Older → schema.now ≡ older_schema) }
+    ensures first { IfOk result (λ s. s ≡ Standing.First → schema.now ≡ schema1) }
 {
     if is_empty(schema) {
         return Ok(Standing::Empty);
@@ -430,6 +434,9 @@ pub(crate) fn standing_in(alloc: Global, schema: &Schema) -> Result<Standing, Al
     }
     if is_older(alloc, schema)? {
         return Ok(Standing::Older);
+    }
+    if is_first(alloc, schema)? {
+        return Ok(Standing::First);
     }
     Ok(Standing::Foreign)
 }

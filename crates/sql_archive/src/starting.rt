@@ -1,6 +1,6 @@
 //! How an archive begins over a connection.
 
-ghost use Rattle.std.specs.Prelude.{◌≡◌, ◌≤◌, pos, false, IfOk, IfErr, Err};
+ghost use Rattle.std.specs.Prelude.{◌≡◌, pos, false, IfOk, IfErr, Err};
 ghost use Rattle.sqlite.specs.State.{HasCleanDisk, Survives, Opens};
 ghost use Rattle.sqlite.specs.Held.{state};
 ghost use Rattle.archive.specs.Store.{IsOfOpening};
@@ -8,8 +8,9 @@ ghost use Rattle.sql_archive.specs.Tables.{no_schema};
 ghost use Rattle.sql_archive.specs.State.{IsNewArchive};
 ghost use Rattle.sql_archive.specs.Opening.{Starts, IsBegunIn, IsRefused};
 
-use crate::layout::first_open;
+use crate::layout::{first_open, number_of};
 use crate::migrating::take_over;
+use crate::renewing::take_over_first;
 use crate::standing::{Standing, standing_in};
 use crate::statements::fault_of;
 use crate::store::SqlArchive;
@@ -18,13 +19,6 @@ use sqlite::{Alter, Connection};
 use stamp::ReplicaNo;
 use std::alloc::Global;
 use uuid::Uuid;
-
-fn number_of(number: ReplicaNo) -> i64
-    ensures same { result ≡ pos number }
-    ensures small { number ≤ 64 }
-{
-    i64::from(number.get())
-}
 
 /// Makes the tables in a store that has none, in one commit, and begins with them.
 pub(crate) fn make<S: Alter>(
@@ -53,7 +47,7 @@ pub(crate) fn make<S: Alter>(
 
 /// Begins over a connection: in a store without tables they are made; else those that are there have to be
 /// the tables of a lawful content of this archive and replica, and nothing else. Where these are those that an
-/// archive had before current values and vectors had tables of their own, it is migrated.
+/// archive had before current values and vectors had tables of their own, or those of format 1, it is migrated.
 pub(crate) fn start<S: Alter>(
     alloc: Global,
     conn: Connection<S>,
@@ -72,6 +66,7 @@ pub(crate) fn start<S: Alter>(
         Ok(Standing::Empty) => make(alloc, conn, id, number),
         Ok(Standing::Archive) => SqlArchive::over(alloc, conn, id, number),
         Ok(Standing::Older) => take_over(alloc, conn, id, number),
+        Ok(Standing::First) => take_over_first(alloc, conn, id, number),
         Ok(Standing::Foreign) => Err((StoreFault::Refused, conn)),
         Err(_) => Err((StoreFault::OutOfMemory, conn)),
     }

@@ -133,3 +133,30 @@ pub(crate) fn older(alloc: Global) -> Option<Files<Memory>> {
     conn.execute("DROP TABLE currents2", &[]).ok()?;
     conn.close_files().ok()
 }
+
+/// A store of format 1, whose moments have no picoseconds, with the five records.
+static FORMAT_ONE: [&str; 8] = [
+    "CREATE TABLE meta (one INTEGER PRIMARY KEY CHECK (one = 1), format INTEGER NOT NULL, archive BLOB NOT NULL, replica INTEGER NOT NULL) STRICT",
+    "CREATE TABLE records (origin INTEGER NOT NULL, number INTEGER NOT NULL, tick INTEGER NOT NULL, node BLOB NOT NULL, time INTEGER NOT NULL, asked INTEGER NOT NULL, who BLOB NOT NULL, value BLOB NOT NULL, PRIMARY KEY (origin, number), UNIQUE (node, time, tick, origin)) STRICT",
+    "CREATE TABLE currents (node BLOB NOT NULL, time INTEGER NOT NULL, tick INTEGER NOT NULL, origin INTEGER NOT NULL, live INTEGER NOT NULL, extra INTEGER NOT NULL, value BLOB NOT NULL, PRIMARY KEY (node, time)) STRICT",
+    "CREATE TABLE vectors (origin INTEGER PRIMARY KEY, number INTEGER NOT NULL, tick INTEGER NOT NULL) STRICT",
+    "INSERT INTO meta VALUES (1, 1, x'00000000000000000000000000000000', 1)",
+    "INSERT INTO records VALUES (1, 1, 100, x'0301000100000054', 10, 1, x'616e6e', x'010607000000'), (1, 2, 101, x'0301000100000054', 10, 3, x'616e6e', x'010608000000'), (1, 3, 102, x'0301000100000054', 10, 4, x'616e6e', x'00'), (1, 4, 103, x'0301000100000054', 20, 1, x'616e6e', x'010609000000'), (1, 5, 104, x'0301000100000054', 30, 1, x'616e6e', x'010601000000')",
+    "INSERT INTO currents VALUES (x'0301000100000054', 10, 102, 1, 0, 1, x'00'), (x'0301000100000054', 20, 103, 1, 1, 0, x'010609000000'), (x'0301000100000054', 30, 104, 1, 1, 0, x'010601000000')",
+    "INSERT INTO vectors VALUES (1, 5, 104)",
+];
+
+/// The files of it.
+pub(crate) fn first(alloc: Global) -> Option<Files<Memory>> {
+    let files = empty(alloc);
+    if !files.may_be_used() {
+        return None;
+    }
+    let Ok(mut conn) = Connection::open_files(alloc, files, Options::new(7)) else {
+        return None;
+    };
+    for sql in &FORMAT_ONE {
+        conn.execute(sql, &[]).ok()?;
+    }
+    conn.close_files().ok()
+}

@@ -1,6 +1,6 @@
 //! Runs over a store, stopped at some call of a file.
 
-use crate::five::{empty, held, learn_five, older, open};
+use crate::five::{empty, first, held, learn_five, older, open};
 use sqlite::Files;
 use sqlite_disk::{Crash, Fuse, Memory};
 use std::alloc::Global;
@@ -19,6 +19,8 @@ pub(crate) enum Run {
     Learning,
     /// An older store of the five records gets the tables that it lacks by an opening, and is closed.
     AddingTables,
+    /// A store of format 1 of the five records gets the tables of today by an opening, and is closed.
+    Renewing,
 }
 
 /// What a run left, once the machine crashed and the store was opened again.
@@ -64,7 +66,7 @@ fn learn_all(alloc: Global, files: Files<Fuse<Memory>>) -> Ran {
 }
 
 /// Opens a store of the five records and closes it.
-fn add_tables(alloc: Global, files: Files<Fuse<Memory>>) -> Ran {
+fn open_and_close(alloc: Global, files: Files<Fuse<Memory>>) -> Ran {
     let archive = match open(alloc, files) {
         Ok(archive) => archive,
         Err((_, left)) => return (5, false, left),
@@ -79,7 +81,8 @@ fn add_tables(alloc: Global, files: Files<Fuse<Memory>>) -> Ran {
 fn run_to_a_stop(alloc: Global, run: Run, fused: Fused, calls: u64) -> Option<Ran> {
     match run {
         Run::Learning => Some(learn_all(alloc, fuse(empty(alloc), fused, calls))),
-        Run::AddingTables => Some(add_tables(alloc, fuse(older(alloc)?, fused, calls))),
+        Run::AddingTables => Some(open_and_close(alloc, fuse(older(alloc)?, fused, calls))),
+        Run::Renewing => Some(open_and_close(alloc, fuse(first(alloc)?, fused, calls))),
     }
 }
 
