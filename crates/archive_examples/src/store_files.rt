@@ -39,7 +39,12 @@ pub(crate) fn empty(alloc: Global) -> Files<Memory> {
 
 pub(crate) type Opened<D> = Result<SqlArchive<FileStore<D>>, (StoreFault, Files<D>)>;
 
-pub(crate) fn open<D: Disk + Drop>(alloc: Global, files: Files<D>, id: Uuid, number: ReplicaNo) -> Opened<D> {
+pub(crate) fn open<D: Disk + Drop>(
+    alloc: Global,
+    files: Files<D>,
+    id: Uuid,
+    number: ReplicaNo,
+) -> Opened<D> {
     if files.may_be_used() {
         SqlArchive::open_files(alloc, files, Options::new(7), id, number)
     } else {
@@ -150,7 +155,11 @@ fn another_archive_and_another_replica_are_refused(rt: HostRuntime) -> Result<()
 }
 
 /// What opening files is refused by after these statements.
-pub(crate) fn refused_after(alloc: Global, files: Files<Memory>, statements: &[&str]) -> Option<StoreFault> {
+pub(crate) fn refused_after(
+    alloc: Global,
+    files: Files<Memory>,
+    statements: &[&str],
+) -> Option<StoreFault> {
     if !files.may_be_used() {
         return None;
     }
