@@ -11,7 +11,8 @@ from opcua import Client, int32, node, value_at
 
 here = os.path.dirname(os.path.abspath(__file__))
 program = os.path.abspath(sys.argv[1])
-settings = os.path.join(tempfile.mkdtemp(), "settings.toml")
+folder = tempfile.TemporaryDirectory()
+settings = os.path.join(folder.name, "settings.toml")
 T = node("T", 1)
 ENDED = "uahist: connection ended (%d)\n"
 
