@@ -1,6 +1,6 @@
 //! A store as it was before current values and vectors had tables of their own: these are made and filled, in one commit.
 
-ghost use Rattle.std.specs.Prelude.{◌≡◌, ◌≤◌, pos, true, false, IfOk, IfErr, Err, OnOk, OnErr, IsTrue};
+ghost use Rattle.std.specs.Prelude.{◌≡◌, true, false, IfOk, IfErr, Err, OnOk};
 ghost use Rattle.sqlite_trees.specs.Objects.{catalog_tree};
 ghost use Rattle.sqlite_catalog.specs.Listing.{Lists};
 ghost use Rattle.sqlite.specs.State.{HasCleanDisk, Survives, KeepsCommit};

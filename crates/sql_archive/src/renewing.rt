@@ -1,6 +1,6 @@
 //! A store of format 1, whose moments have no picoseconds: its tables are made anew, in one commit.
 
-ghost use Rattle.std.specs.Prelude.{◌≡◌, ◌∷◌, ◌<◌, [], pos, false, true, length, map, IfOk, IfErr, OnOk, IsTrue, IsPermutation, Err};
+ghost use Rattle.std.specs.Prelude.{◌≡◌, ◌∷◌, ◌<◌, [], false, true, map, IfOk, IfErr, OnOk, IsTrue, IsPermutation, Err};
 ghost use Rattle.sqlite.specs.State.{HasCleanDisk, Survives, IsUnchanged};
 ghost use Rattle.sqlite.specs.Held.{state};
 ghost use Rattle.sqlite_value.specs.Order.{column};
@@ -11,7 +11,7 @@ ghost use Rattle.sql_archive.specs.Tables.{schema1, with_currents1, with_records
 ghost use Rattle.sql_archive.specs.Words.{cells_of};
 ghost use Rattle.sql_archive.specs.Keeping.{AddsRecord};
 ghost use Rattle.sql_archive.specs.Derived.{current_columns, vector_columns};
-ghost use Rattle.sql_archive.specs.Rows.{row_of, meta_cells, IsStored};
+ghost use Rattle.sql_archive.specs.Rows.{row_of, meta_cells};
 ghost use Rattle.sql_archive.specs.State.{Found, Idles, Making, Rests, shown_of};
 ghost use Rattle.sql_archive.specs.Renewing.{cells1, current1, meta1_row, IsRead1, IsRenewed, IsTurned, PutsRecords};
 ghost use Rattle.sql_archive.specs.Opening.{judged, Opens1, IsRenewedIn};

@@ -1,6 +1,6 @@
 //! Whether a store has the tables of format 1.
 
-ghost use Rattle.std.specs.Prelude.{◌≡◌, true, [], ◌∷◌, codes, IfOk, IsTrue};
+ghost use Rattle.std.specs.Prelude.{◌≡◌, true, codes, IfOk, IsTrue};
 ghost use Rattle.sql_archive.specs.Tables.{strict, records1, currents1, second_table1, third_table1, indexes1, schema1};
 
 use crate::standing::{

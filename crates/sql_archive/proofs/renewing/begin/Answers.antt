@@ -1,10 +1,8 @@
-use Rattle.std.proofs.Common.{pos, w64, SFits, arith, ◌≡◌, List, [], ◌∷◌}
+use Rattle.std.proofs.Common.{pos, w64, SFits, arith}
 use Rattle.std.proofs.lemmas.Int.{to_z-of_z}
-use Rattle.sqlite.specs.State.{HasCleanDisk, Survives}
+use Rattle.sqlite.specs.State.{HasCleanDisk}
 use Rattle.sqlite.specs.Held.{state}
-use Rattle.sql_archive.specs.Tables.{schema1}
-use Rattle.sql_archive.specs.Rows.{meta_cells}
-use Rattle.sql_archive.specs.Renewing.{cells1, meta1_row, IsRead1, IsTurned}
+use Rattle.sql_archive.specs.Renewing.{cells1}
 use Rattle.sql_archive.proofs.StartLemmas.{never_another}
 use Rattle.sql_archive.proofs.RenewLemmas.{renewed_is_own, opened_turned, left_turned, begun_turned, crash_turned}
 use Rattle.sql_archive.proofs.renewing.begin.Goals as goal

@@ -1,4 +1,4 @@
-use Rattle.std.proofs.Common.{◌≡◌, ◌≤◌, arith, length}
+use Rattle.std.proofs.Common.{◌≤◌, arith, length}
 use Rattle.sql_archive.proofs.RenewLemmas.{lawful_rows}
 use Rattle.sql_archive.proofs.renewing.check_records.Goals as goal
 

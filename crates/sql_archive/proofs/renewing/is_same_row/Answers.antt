@@ -1,4 +1,4 @@
-use Rattle.std.proofs.Common.{◌≡◌, ◌<◌, arith, length}
+use Rattle.std.proofs.Common.{◌≡◌, arith, length}
 use Rattle.std.proofs.lemmas.List.{ext_get_or}
 use Rattle.sqlite_value.specs.declared.value.Value.TheVariants.{Null}
 use Rattle.sql_archive.proofs.renewing.is_same_row.Goals as goal
