@@ -130,10 +130,10 @@ fn list_replica(alloc: Global, number: u8) -> Result<Replica<ListArchive>, Store
 }
 
 /// Sends to a replica what it lacks of another one.
-fn send(
+fn send<A: Archive>(
     alloc: Global,
-    from: &mut Replica<ListArchive>,
-    to: &mut Replica<ListArchive>,
+    from: &mut Replica<A>,
+    to: &mut Replica<A>,
 ) -> Result<u32, ExchangeFault> {
     let theirs = to.archive.vector()?;
     let batch = from.answer(alloc, &theirs)?;
@@ -164,7 +164,7 @@ fn is_live_alone(lives: &[Held], written: i32) -> bool {
 }
 
 /// Whether 8 is live, and the modifications are a replacement of 7 and the insert of it.
-fn shows_both(alloc: Global, archive: &mut ListArchive) -> Result<bool, StoreFault> {
+fn shows_both<A: Archive>(alloc: Global, archive: &mut A) -> Result<bool, StoreFault> {
     let node = node(alloc)?;
     let all = archive.vector()?;
     let (from, to) = (Moment::at(1), Moment::at(100));
@@ -176,10 +176,10 @@ fn shows_both(alloc: Global, archive: &mut ListArchive) -> Result<bool, StoreFau
 }
 
 /// Whether two replicas hold the same records.
-fn are_equal(
+fn are_equal<A: Archive>(
     alloc: Global,
-    one: &mut Replica<ListArchive>,
-    two: &mut Replica<ListArchive>,
+    one: &mut Replica<A>,
+    two: &mut Replica<A>,
 ) -> Result<bool, StoreFault> {
     let ones = one.archive.since(alloc, &Vector::new(), 99)?;
     let twos = two.archive.since(alloc, &Vector::new(), 99)?;
@@ -187,10 +187,10 @@ fn are_equal(
 }
 
 /// Whether two replicas that hold nothing insert a value each, are sent what they lack, and then show both.
-fn meet(
+pub(crate) fn meet<A: Archive>(
     alloc: Global,
-    one: &mut Replica<ListArchive>,
-    two: &mut Replica<ListArchive>,
+    one: &mut Replica<A>,
+    two: &mut Replica<A>,
 ) -> Result<bool, StoreFault> {
     let met = merge_rows(alloc, one, &[(1, 1, 100, 7)]) == Ok(1)
         && merge_rows(alloc, two, &[(2, 1, 100, 8)]) == Ok(1)
@@ -433,7 +433,10 @@ fn held_of<A: Archive>(archive: &mut A, number: u8) -> Result<u64, StoreFault> {
 }
 
 /// The first of the batches that is answered otherwise, or leaves other records.
-fn first_other<A: Archive>(alloc: Global, replica: &mut Replica<A>) -> Option<usize> {
+pub(crate) fn first_other_batch<A: Archive>(
+    alloc: Global,
+    replica: &mut Replica<A>,
+) -> Option<usize> {
     for (i, (rows, told, held)) in MERGES.iter().enumerate() {
         if merge_rows(alloc, replica, rows) != *told
             || held_of(&mut replica.archive, 2) != Ok(*held)
@@ -447,7 +450,7 @@ fn first_other<A: Archive>(alloc: Global, replica: &mut Replica<A>) -> Option<us
 #[test]
 fn batches_are_merged(rt: HostRuntime) -> Result<(), Fail> {
     let mut replica = list_replica(rt.alloc(), 1)?;
-    assert!(rt; first_other(rt.alloc(), &mut replica) == None);
+    assert!(rt; first_other_batch(rt.alloc(), &mut replica) == None);
     Ok(())
 }
 

@@ -1,9 +1,9 @@
 //! Stores of format 1, whose moments have no picoseconds: they are opened with tables made anew, or refused.
 
-use crate::store_files::{empty, one, open, refused_after, shown, two};
+use crate::store_files::{changed, empty, one, open, refused_after, shown, two};
 use archive::{Archive, Direction, StoreFault};
 use records::Moment;
-use sqlite::{Connection, Files, Options};
+use sqlite::Files;
 use sqlite_disk::Memory;
 use std::alloc::Global;
 use std::test::Fail;
@@ -24,17 +24,7 @@ static FORMAT_ONE: [&str; 8] = [
 
 /// The files of that store.
 fn first(alloc: Global) -> Option<Files<Memory>> {
-    let files = empty(alloc);
-    if !files.may_be_used() {
-        return None;
-    }
-    let Ok(mut conn) = Connection::open_files(alloc, files, Options::new(7)) else {
-        return None;
-    };
-    for sql in &FORMAT_ONE {
-        conn.execute(sql, &[]).ok()?;
-    }
-    conn.close_files().ok()
+    changed(alloc, empty(alloc), &FORMAT_ONE)
 }
 
 /// The ticks of the modifications at node T, in order, and how many values are live there.

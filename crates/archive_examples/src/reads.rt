@@ -193,13 +193,6 @@ fn learn_all<A: Archive>(alloc: Global, archive: &mut A, rows: &[Row]) -> Result
     Ok(())
 }
 
-/// An archive that learned these.
-fn archive_of(alloc: Global, rows: &[Row]) -> Result<ListArchive, LearnFault> {
-    let mut archive = list_archive(alloc)?;
-    learn_all(alloc, &mut archive, rows)?;
-    Ok(archive)
-}
-
 /// Source times at 5:00 and so on, in minutes of 600,000,000 steps.
 const AT_4_48: i64 = 172_800_000_000;
 
@@ -492,18 +485,71 @@ fn has_pages<A: Archive>(alloc: Global, archive: &mut A, row: &RawRead) -> bool 
     true
 }
 
-#[test]
-fn raw_reads_have_their_pages(rt: HostRuntime) -> Result<(), Fail> {
-    for (values, reads) in [
-        (VALUES.as_slice(), RAW_READS.as_slice()),
-        (&ONE_VALUE, &BEFORE_ONE),
-    ] {
-        let mut archive = archive_of(rt.alloc(), values)?;
-        for row in reads {
-            assert!(rt; has_pages(rt.alloc(), &mut archive, row), "{row:?}");
+/// The first of the reads that has other pages.
+fn first_other<A: Archive>(alloc: Global, archive: &mut A, reads: &[RawRead]) -> Option<usize> {
+    for (i, row) in reads.iter().enumerate() {
+        if !has_pages(alloc, archive, row) {
+            return Some(i);
         }
     }
+    None
+}
+
+/// The first of the reads of the five values that has other pages, by an archive that learned these.
+pub(crate) fn first_other_of_five<A: Archive>(
+    alloc: Global,
+    archive: &mut A,
+) -> Result<Option<usize>, LearnFault> {
+    learn_all(alloc, archive, &VALUES)?;
+    Ok(first_other(alloc, archive, &RAW_READS))
+}
+
+/// The same of the reads of one value.
+pub(crate) fn first_other_of_one<A: Archive>(
+    alloc: Global,
+    archive: &mut A,
+) -> Result<Option<usize>, LearnFault> {
+    learn_all(alloc, archive, &ONE_VALUE)?;
+    Ok(first_other(alloc, archive, &BEFORE_ONE))
+}
+
+#[test]
+fn raw_reads_have_their_pages(rt: HostRuntime) -> Result<(), Fail> {
+    let mut archive = list_archive(rt.alloc())?;
+    assert!(rt; first_other_of_five(rt.alloc(), &mut archive)? == None);
     Ok(())
+}
+
+#[test]
+fn backward_from_the_only_value(rt: HostRuntime) -> Result<(), Fail> {
+    let mut archive = list_archive(rt.alloc())?;
+    assert!(rt; first_other_of_one(rt.alloc(), &mut archive)? == None);
+    Ok(())
+}
+
+fn are_numbers(values: &[DataValue], wanted: &[(i32, Option<u16>)]) -> bool {
+    let mut same = values.len() == wanted.len();
+    for (value, (written, pico)) in values.iter().zip(wanted) {
+        same = same
+            && is_int(value, *written)
+            && value.source_pico == *pico
+            && value.status.is_none();
+    }
+    same
+}
+
+/// Whether a read of the raw values from 1 to 100 shows these with these picoseconds, none beside other records.
+pub(crate) fn shows_picoseconds<A: Archive>(
+    alloc: Global,
+    archive: &mut A,
+    wanted: &[(i32, Option<u16>)],
+) -> Result<bool, AllocError> {
+    let details = asked(false, 1, 100, 0, false);
+    let told = read(alloc, archive, details, TimestampsToReturn::Source, None)?;
+    match &told.history_data {
+        HistoryData::Raw(values) => Ok(are_numbers(values.as_slice(), wanted)),
+        _ => Ok(false),
+    }
 }
 
 /// What a modification did, the value that it shows, and its tick.
@@ -593,9 +639,9 @@ static MODIFIED_READS: [ModifiedRead; 6] = [
 ];
 
 /// The point that a page ends with, in case it has these modifications.
-fn point_behind_changes(
+fn point_behind_changes<A: Archive>(
     alloc: Global,
-    archive: &mut ListArchive,
+    archive: &mut A,
     details: ReadRawModifiedDetails,
     point: &Option<Bytes>,
     wanted: &[Change],
@@ -608,7 +654,7 @@ fn point_behind_changes(
 }
 
 /// Whether the read has these pages, each from the point that the one before it ended with.
-fn has_changed_pages(alloc: Global, archive: &mut ListArchive, row: &ModifiedRead) -> bool {
+fn has_changed_pages<A: Archive>(alloc: Global, archive: &mut A, row: &ModifiedRead) -> bool {
     let (start, end, count, pages) = *row;
     let details = asked(true, start, end, count, false);
     let mut point = None;
@@ -624,12 +670,24 @@ fn has_changed_pages(alloc: Global, archive: &mut ListArchive, row: &ModifiedRea
     true
 }
 
+/// The first of the reads of modifications that has other pages, by an archive that learned the updates.
+pub(crate) fn first_other_modified<A: Archive>(
+    alloc: Global,
+    archive: &mut A,
+) -> Result<Option<usize>, LearnFault> {
+    learn_all(alloc, archive, &UPDATES)?;
+    for (i, row) in MODIFIED_READS.iter().enumerate() {
+        if !has_changed_pages(alloc, archive, row) {
+            return Ok(Some(i));
+        }
+    }
+    Ok(None)
+}
+
 #[test]
 fn modified_reads_have_their_pages(rt: HostRuntime) -> Result<(), Fail> {
-    let mut archive = archive_of(rt.alloc(), &UPDATES)?;
-    for row in &MODIFIED_READS {
-        assert!(rt; has_changed_pages(rt.alloc(), &mut archive, row), "{row:?}");
-    }
+    let mut archive = list_archive(rt.alloc())?;
+    assert!(rt; first_other_modified(rt.alloc(), &mut archive)? == None);
     Ok(())
 }
 
@@ -661,8 +719,12 @@ fn goes_on_as_before<A: Archive>(alloc: Global, archive: &mut A) -> bool {
         && point_behind(alloc, archive, details, &second.continuation_point, REST[1]) == Some(None)
 }
 
-/// Whether later pages are of what was held at the first, also behind what is done between.
-fn are_of_what_was_held<A: Archive>(alloc: Global, archive: &mut A) -> Result<bool, LearnFault> {
+/// Whether later pages are of what was held at the first, the five values, also behind what is done between.
+pub(crate) fn are_of_what_was_held<A: Archive>(
+    alloc: Global,
+    archive: &mut A,
+) -> Result<bool, LearnFault> {
+    learn_all(alloc, archive, &VALUES)?;
     let before = goes_on_as_before(alloc, archive);
     learn_all(alloc, archive, &LATER)?;
     Ok(before && goes_on_as_before(alloc, archive))
@@ -670,7 +732,7 @@ fn are_of_what_was_held<A: Archive>(alloc: Global, archive: &mut A) -> Result<bo
 
 #[test]
 fn later_pages_are_of_what_was_held(rt: HostRuntime) -> Result<(), Fail> {
-    let mut archive = archive_of(rt.alloc(), &VALUES)?;
+    let mut archive = list_archive(rt.alloc())?;
     assert!(rt; are_of_what_was_held(rt.alloc(), &mut archive)?);
     Ok(())
 }
@@ -687,27 +749,40 @@ fn status_of<A: Archive>(
     }
 }
 
-/// The bytes that make the point one of another archive, and one within a vector that isn't covered.
-static FOREIGN: [Patch; 2] = [(1, 17, 9), (73, 74, 6)];
+/// The bytes that make the point one of another archive, one within a vector that isn't covered, and one of each earlier
+/// format.
+static FOREIGN: [Patch; 4] = [(1, 17, 9), (73, 74, 6), (0, 1, 1), (0, 1, 2)];
 
 /// Whether the next page from the point with these bytes is refused.
 fn is_refused<A: Archive>(
     alloc: Global,
     archive: &mut A,
     patch: Patch,
-) -> Result<bool, AllocError> {
+) -> Result<bool, StoreFault> {
     let point = patched(alloc, patch, NONE)?;
     let details = asked(false, AT_5_00, AT_5_07, 2, false);
     let told = status_of(alloc, archive, details, Some(&point));
     Ok(told == Some(Status::BAD_CONTINUATION_POINT_INVALID))
 }
 
+/// Whether the point is refused where only four of the five values are held, and those with other bytes where all are.
+pub(crate) fn refuses_foreign_points<A: Archive>(
+    alloc: Global,
+    archive: &mut A,
+) -> Result<bool, LearnFault> {
+    learn_all(alloc, archive, &VALUES[..4])?;
+    let mut refused = is_refused(alloc, archive, NONE)?;
+    learn_all(alloc, archive, &VALUES[4..])?;
+    for patch in &FOREIGN {
+        refused = refused && is_refused(alloc, archive, *patch)?;
+    }
+    Ok(refused)
+}
+
 #[test]
 fn foreign_points_are_refused(rt: HostRuntime) -> Result<(), Fail> {
-    let mut archive = archive_of(rt.alloc(), &VALUES)?;
-    for patch in &FOREIGN {
-        assert!(rt; is_refused(rt.alloc(), &mut archive, *patch)?);
-    }
+    let mut archive = list_archive(rt.alloc())?;
+    assert!(rt; refuses_foreign_points(rt.alloc(), &mut archive)?);
     Ok(())
 }
 
@@ -715,7 +790,7 @@ fn foreign_points_are_refused(rt: HostRuntime) -> Result<(), Fail> {
 
 /// An archive with so many values, at 1 and each time behind it.
 fn long_archive(alloc: Global, count: u16) -> Result<ListArchive, LearnFault> {
-    let mut archive = archive_of(alloc, &[])?;
+    let mut archive = list_archive(alloc)?;
     for i in 1..=count {
         let row = (
             u64::from(i),

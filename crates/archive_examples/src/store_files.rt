@@ -1,6 +1,7 @@
 //! Archives in files: found again, and refused. What a crash leaves `store_stops` tells.
 
 use crate::archives::{Row, learn};
+use crate::updates::operates_all;
 use HistoryUpdateType::{Delete, Insert, Update};
 use archive::{Archive, StoreFault};
 use records::HistoryUpdateType;
@@ -154,12 +155,12 @@ fn another_archive_and_another_replica_are_refused(rt: HostRuntime) -> Result<()
     Ok(())
 }
 
-/// What opening files is refused by after these statements.
-pub(crate) fn refused_after(
+/// The files after these statements.
+pub(crate) fn changed(
     alloc: Global,
     files: Files<Memory>,
     statements: &[&str],
-) -> Option<StoreFault> {
+) -> Option<Files<Memory>> {
     if !files.may_be_used() {
         return None;
     }
@@ -169,7 +170,16 @@ pub(crate) fn refused_after(
     for sql in statements {
         conn.execute(sql, &[]).ok()?;
     }
-    let files = conn.close_files().ok()?;
+    conn.close_files().ok()
+}
+
+/// What opening files is refused by after these statements.
+pub(crate) fn refused_after(
+    alloc: Global,
+    files: Files<Memory>,
+    statements: &[&str],
+) -> Option<StoreFault> {
+    let files = changed(alloc, files, statements)?;
     match open(alloc, files, Uuid::nil(), one().ok()?) {
         Ok(_) => None,
         Err((fault, _)) => Some(fault),
@@ -180,6 +190,8 @@ static OTHER_TABLES: [&[&str]; 5] = [
     &[
         "DROP TABLE meta",
         "DROP TABLE records2",
+        "DROP TABLE currents2",
+        "DROP TABLE vectors",
         "CREATE TABLE records (origin INTEGER)",
     ],
     &["DROP TABLE records2"],
@@ -283,39 +295,63 @@ pub(crate) fn shown(alloc: Global, files: Files<Memory>, sql: &str) -> Option<Ve
     Some(numbers)
 }
 
+/// The files of an archive that did the operations on one value, and was closed.
+fn operated(alloc: Global) -> Option<Files<Memory>> {
+    let mut archive = open(alloc, empty(alloc), Uuid::nil(), one().ok()?).ok()?;
+    if operates_all(alloc, &mut archive) != Ok(true) {
+        return None;
+    }
+    archive.close_files().ok()
+}
+
+fn shows(alloc: Global, files: Option<Files<Memory>>, sql: &str, wanted: &[i64]) -> Option<bool> {
+    let numbers = shown(alloc, files?, sql)?;
+    Some(numbers.as_slice() == wanted)
+}
+
+/// Queries, and the numbers that they show of the five records.
+static KEPT_OF_FIVE: [(&str, &[i64]); 2] = [
+    (
+        "SELECT time, pico, tick, origin, live, extra FROM currents2 ORDER BY time",
+        &[
+            10, 0, 102, 1, 0, 1, 20, 0, 103, 1, 1, 0, 30, 0, 104, 1, 1, 0,
+        ],
+    ),
+    ("SELECT origin, number, tick FROM vectors", &[1, 5, 104]),
+];
+
+/// The same of the operations on one value.
+static KEPT_OF_ONE: [(&str, &[i64]); 2] = [
+    (
+        "SELECT time, pico, tick, origin, live, extra FROM currents2",
+        &[10, 0, 103, 1, 1, 1],
+    ),
+    ("SELECT origin, number, tick FROM vectors", &[1, 4, 103]),
+];
+
 #[test]
 fn current_values_and_last_numbers_stand_beside_the_records(rt: HostRuntime) -> Result<(), Fail> {
     let alloc = rt.alloc();
-    let currents = shown(
-        alloc,
-        filled(alloc)?,
-        "SELECT time, pico, tick, origin, live, extra FROM currents2 ORDER BY time",
-    );
-    let expected = [
-        10, 0, 102, 1, 0, 1, 20, 0, 103, 1, 1, 0, 30, 0, 104, 1, 1, 0,
-    ];
-    assert!(rt; currents.is_some_and(|numbers| numbers.as_slice() == expected.as_slice()));
-    let vectors = shown(
-        alloc,
-        filled(alloc)?,
-        "SELECT origin, number, tick FROM vectors",
-    );
-    assert!(rt; vectors.is_some_and(|numbers| numbers.as_slice() == [1, 5, 104].as_slice()));
+    for (sql, wanted) in &KEPT_OF_FIVE {
+        assert!(rt;
+            shows(alloc, filled(alloc).ok(), *sql, *wanted) == Some(true),
+            "{sql}"
+        );
+    }
+    for (sql, wanted) in &KEPT_OF_ONE {
+        assert!(rt;
+            shows(alloc, operated(alloc), *sql, *wanted) == Some(true),
+            "{sql}"
+        );
+    }
     Ok(())
 }
 
+static OLDER: [&str; 2] = ["DROP TABLE vectors", "DROP TABLE currents2"];
+
 /// The five records in a store as it was before it had tables of current values and of vectors.
 fn older(alloc: Global) -> Option<Files<Memory>> {
-    let files = filled(alloc).ok()?;
-    if !files.may_be_used() {
-        return None;
-    }
-    let Ok(mut conn) = Connection::open_files(alloc, files, Options::new(7)) else {
-        return None;
-    };
-    conn.execute("DROP TABLE vectors", &[]).ok()?;
-    conn.execute("DROP TABLE currents2", &[]).ok()?;
-    conn.close_files().ok()
+    changed(alloc, filled(alloc).ok()?, &OLDER)
 }
 
 /// How many records an archive finds in the files of an older store, and the files behind it.
@@ -339,6 +375,59 @@ fn a_store_of_two_tables_gets_the_others(rt: HostRuntime) -> Result<(), Fail> {
     );
     let expected = [10, 102, 0, 1, 20, 103, 1, 0, 30, 104, 1, 0];
     assert!(rt; currents.is_some_and(|numbers| numbers.as_slice() == expected.as_slice()));
+    Ok(())
+}
+
+/// The files that opening an older store gives back after these statements, where it is refused by this fault.
+fn left_by_refusal(alloc: Global, statements: &[&str], fault: StoreFault) -> Option<Files<Memory>> {
+    let files = changed(alloc, older(alloc)?, statements)?;
+    let Err((met, left)) = open(alloc, files, Uuid::nil(), one().ok()?) else {
+        return None;
+    };
+    if met == fault { Some(left) } else { None }
+}
+
+/// A gap in the records; another archive's store, and another replica's.
+const GAP: &[&str] = &["DELETE FROM records2 WHERE number = 2"];
+
+const ANOTHERS: &[&str] = &["UPDATE meta SET archive = x'01010101010101010101010101010101'"];
+
+const ANOTHER_REPLICAS: &[&str] = &["UPDATE meta SET replica = 2"];
+
+/// What an older store holds behind a refusal: what was done to it, the fault, a query, and the numbers that it shows.
+static REFUSED_OLDER: [(&[&str], StoreFault, &str, &[i64]); 3] = [
+    (
+        GAP,
+        StoreFault::Refused,
+        "SELECT number, tick, time, pico, asked FROM records2 ORDER BY number",
+        &[
+            1, 100, 10, 0, 1, 3, 102, 10, 0, 4, 4, 103, 20, 0, 1, 5, 104, 30, 0, 1,
+        ],
+    ),
+    (
+        ANOTHERS,
+        StoreFault::WrongArchive,
+        "SELECT 1 FROM sqlite_schema WHERE type = 'table'",
+        &[1, 1],
+    ),
+    (
+        ANOTHER_REPLICAS,
+        StoreFault::WrongReplica,
+        "SELECT one, format, replica FROM meta WHERE archive = x'00000000000000000000000000000000'",
+        &[1, 2, 2],
+    ),
+];
+
+#[test]
+fn a_refused_store_of_two_tables_stays_as_it_is(rt: HostRuntime) -> Result<(), Fail> {
+    let alloc = rt.alloc();
+    for (statements, fault, sql, wanted) in &REFUSED_OLDER {
+        let left = left_by_refusal(alloc, *statements, *fault);
+        assert!(rt;
+            shows(alloc, left, *sql, *wanted) == Some(true),
+            "{fault:?} {sql}"
+        );
+    }
     Ok(())
 }
 

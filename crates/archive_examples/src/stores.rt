@@ -2,9 +2,16 @@
 //! what it reads by one query.
 
 use crate::archives::{Row, answers, learn, learns_in_order, list_archive, node};
+use crate::exchanges::{first_other_batch, meet};
+use crate::reads::{
+    are_of_what_was_held, first_other_modified, first_other_of_five, first_other_of_one,
+    refuses_foreign_points,
+};
+use crate::updates::{operates_all, rises, tells_picoseconds_apart};
 use Direction::{Backward, Forward};
 use HistoryUpdateType::{Delete, Update};
 use archive::{Archive, Direction, LearnFault, StoreFault};
+use exchange::Replica;
 use records::{HistoryUpdateType, Moment};
 use sql_archive::SqlArchive;
 use sqlite::MemStore;
@@ -14,11 +21,15 @@ use std::test::Fail;
 use ua_binary::NodeId;
 use uuid::Uuid;
 
-fn sql_archive(alloc: Global) -> Result<SqlArchive<MemStore>, StoreFault> {
-    match ReplicaNo::new(1) {
-        Some(one) => SqlArchive::open_in_memory(alloc, Uuid::nil(), one),
+fn sql_archive_of(alloc: Global, number: u8) -> Result<SqlArchive<MemStore>, StoreFault> {
+    match ReplicaNo::new(number) {
+        Some(number) => SqlArchive::open_in_memory(alloc, Uuid::nil(), number),
         None => Err(StoreFault::WrongReplica),
     }
+}
+
+fn sql_archive(alloc: Global) -> Result<SqlArchive<MemStore>, StoreFault> {
+    sql_archive_of(alloc, 1)
 }
 
 #[test]
@@ -32,6 +43,77 @@ fn records_are_learned(rt: HostRuntime) -> Result<(), Fail> {
 fn queries_are_answered(rt: HostRuntime) -> Result<(), Fail> {
     let mut archive = sql_archive(rt.alloc())?;
     assert!(rt; answers(rt.alloc(), &mut archive)?);
+    Ok(())
+}
+
+#[test]
+fn operations_have_their_codes(rt: HostRuntime) -> Result<(), Fail> {
+    let mut archive = sql_archive(rt.alloc())?;
+    assert!(rt; operates_all(rt.alloc(), &mut archive)?);
+    Ok(())
+}
+
+#[test]
+fn picoseconds_tell_values_apart(rt: HostRuntime) -> Result<(), Fail> {
+    let mut archive = sql_archive(rt.alloc())?;
+    assert!(rt; tells_picoseconds_apart(rt.alloc(), &mut archive)?);
+    Ok(())
+}
+
+#[test]
+fn raw_reads_have_their_pages(rt: HostRuntime) -> Result<(), Fail> {
+    let mut archive = sql_archive(rt.alloc())?;
+    assert!(rt; first_other_of_five(rt.alloc(), &mut archive)? == None);
+    Ok(())
+}
+
+#[test]
+fn backward_from_the_only_value(rt: HostRuntime) -> Result<(), Fail> {
+    let mut archive = sql_archive(rt.alloc())?;
+    assert!(rt; first_other_of_one(rt.alloc(), &mut archive)? == None);
+    Ok(())
+}
+
+#[test]
+fn modified_reads_have_their_pages(rt: HostRuntime) -> Result<(), Fail> {
+    let mut archive = sql_archive(rt.alloc())?;
+    assert!(rt; first_other_modified(rt.alloc(), &mut archive)? == None);
+    Ok(())
+}
+
+#[test]
+fn later_pages_are_of_what_was_held(rt: HostRuntime) -> Result<(), Fail> {
+    let mut archive = sql_archive(rt.alloc())?;
+    assert!(rt; are_of_what_was_held(rt.alloc(), &mut archive)?);
+    Ok(())
+}
+
+#[test]
+fn foreign_points_are_refused(rt: HostRuntime) -> Result<(), Fail> {
+    let mut archive = sql_archive(rt.alloc())?;
+    assert!(rt; refuses_foreign_points(rt.alloc(), &mut archive)?);
+    Ok(())
+}
+
+#[test]
+fn ticks_rise(rt: HostRuntime) -> Result<(), Fail> {
+    let mut archive = sql_archive(rt.alloc())?;
+    assert!(rt; rises(rt.alloc(), &mut archive)?);
+    Ok(())
+}
+
+#[test]
+fn batches_are_merged(rt: HostRuntime) -> Result<(), Fail> {
+    let mut replica = Replica::new(sql_archive(rt.alloc())?);
+    assert!(rt; first_other_batch(rt.alloc(), &mut replica) == None);
+    Ok(())
+}
+
+#[test]
+fn two_inserts_meet(rt: HostRuntime) -> Result<(), Fail> {
+    let mut one = Replica::new(sql_archive(rt.alloc())?);
+    let mut two = Replica::new(sql_archive_of(rt.alloc(), 2)?);
+    assert!(rt; meet(rt.alloc(), &mut one, &mut two)?);
     Ok(())
 }
 

@@ -4,11 +4,13 @@ ghost use Rattle.ua_variant.specs.DataValue.{IsShortData};
 ghost use Rattle.hist_update.specs.Outcome.{IsRequest};
 
 use crate::archives::{is_int, list_archive, scripted_archive};
+use crate::reads::shows_picoseconds;
+use crate::written_records::is_insert_7;
 use HistoryUpdateType::{Delete, Insert, Update};
 use archive::{Archive, Direction, Failure, StoreFault};
 use hist_update::{Request, delete_at, delete_raw, update_data};
 use records::{Entry, Held, HistoryUpdateType, Moment, Record};
-use stamp::ReplicaNo;
+use stamp::{ReplicaNo, Vector};
 use std::alloc::{AllocError, Global};
 use std::test::Fail;
 use ua_binary::{Bytes, NodeId, Status, Text, Ticks};
@@ -278,12 +280,22 @@ static STORY: [(HistoryUpdateType, i64); 4] = [
     (Insert, 103),
 ];
 
+/// Whether the first record of all is the insert of 7.
+fn begins_with_insert_7<A: Archive>(alloc: Global, archive: &mut A) -> Result<bool, StoreFault> {
+    let all = archive.since(alloc, &Vector::new(), 1)?;
+    match all.first() {
+        Some(first) => Ok(is_insert_7(alloc, first)),
+        None => Ok(false),
+    }
+}
+
 /// Whether the two lists of operations have their codes, and the records and entries of them are there then.
-fn operates_all<A: Archive>(alloc: Global, archive: &mut A) -> Result<bool, StoreFault> {
+pub(crate) fn operates_all<A: Archive>(alloc: Global, archive: &mut A) -> Result<bool, StoreFault> {
     let operated = operates(alloc, archive, &FIRST)? && operates(alloc, archive, &NEXT)?;
     let request = request(alloc, 0)?;
     Ok(
         operated
+            && begins_with_insert_7(alloc, archive)?
             && has_story(alloc, archive, &request.node, 10, &STORY)?
             && shows_all(alloc, archive, &request.node)?,
     )
@@ -337,7 +349,7 @@ static NONE_LEFT: [Row; 3] = [
 ];
 
 /// Whether a tick rises above a greater one that is held, and none is given above the greatest.
-fn rises<A: Archive>(alloc: Global, archive: &mut A) -> Result<bool, StoreFault> {
+pub(crate) fn rises<A: Archive>(alloc: Global, archive: &mut A) -> Result<bool, StoreFault> {
     let operated = operates(alloc, archive, &LATER)?;
     archive.reload()?;
     let operated = operated && operates(alloc, archive, &LATEST)?;
@@ -355,6 +367,51 @@ fn rises<A: Archive>(alloc: Global, archive: &mut A) -> Result<bool, StoreFault>
 fn ticks_rise(rt: HostRuntime) -> Result<(), Fail> {
     let mut archive = list_archive(rt.alloc())?;
     assert!(rt; rises(rt.alloc(), &mut archive)?);
+    Ok(())
+}
+
+/// The code of an insert at 10 with these picoseconds.
+fn insert_at_10<A: Archive>(
+    alloc: Global,
+    archive: &mut A,
+    written: i32,
+    pico: Option<u16>,
+) -> Result<Status, AllocError> {
+    let values = [DataValue {
+        value: int(written),
+        status: None,
+        source_time: Some(Ticks(10)),
+        source_pico: pico,
+        server_time: None,
+        server_pico: None,
+    }];
+    let told = update(alloc, archive, 100, INT32, 1, &values)?;
+    Ok(code_of(&told))
+}
+
+static AT_10: Row = (100, 4, 10, 0, GOOD);
+
+static FROM_10_TO_10: [Stretch; 1] = [(false, 10, 10, GOOD, 1)];
+
+/// Whether two values at one source time, of which one has picoseconds, stand beside each other; the delete at that time
+/// takes the one without, and the delete of the stretch the other.
+pub(crate) fn tells_picoseconds_apart<A: Archive>(
+    alloc: Global,
+    archive: &mut A,
+) -> Result<bool, AllocError> {
+    let inserted = insert_at_10(alloc, archive, 7, None)? == INSERTED
+        && insert_at_10(alloc, archive, 8, Some(5))? == INSERTED
+        && shows_picoseconds(alloc, archive, &[(7, None), (8, Some(5))])?;
+    let deleted = operate(alloc, archive, &AT_10)? == GOOD
+        && shows_picoseconds(alloc, archive, &[(8, Some(5))])?;
+    let erased = erases(alloc, archive, &FROM_10_TO_10)?;
+    Ok(inserted && deleted && erased && shows_picoseconds(alloc, archive, &[])?)
+}
+
+#[test]
+fn picoseconds_tell_values_apart(rt: HostRuntime) -> Result<(), Fail> {
+    let mut archive = list_archive(rt.alloc())?;
+    assert!(rt; tells_picoseconds_apart(rt.alloc(), &mut archive)?);
     Ok(())
 }
 

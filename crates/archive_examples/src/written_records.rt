@@ -254,18 +254,16 @@ fn is_read_as(alloc: Global, bytes: &[u8], wanted: &Record) -> bool {
     }
 }
 
-/// Whether the bytes are read as Insert 7 of replica 1 at tick 100.
-fn is_insert_7(alloc: Global, bytes: &[u8]) -> Result<bool, Fail> {
-    let Some(one) = ReplicaNo::new(1) else {
-        return Ok(false);
-    };
-    let wanted = record(alloc, one, 100, HistoryUpdateType::Insert, Some(7))?;
-    Ok(is_read_as(alloc, bytes, &wanted))
+/// Whether a record is the one that the bytes of Insert 7 are read as.
+pub(crate) fn is_insert_7(alloc: Global, held: &Record) -> bool {
+    is_read_as(alloc, &INSERT_7, held)
 }
 
 #[test]
 fn the_record_that_is_read(rt: HostRuntime) -> Result<(), Fail> {
-    assert!(rt; is_insert_7(rt.alloc(), &INSERT_7)?);
+    let one = ReplicaNo::new(1).ok_or("a replica")?;
+    let wanted = record(rt.alloc(), one, 100, HistoryUpdateType::Insert, Some(7))?;
+    assert!(rt; is_insert_7(rt.alloc(), &wanted));
     Ok(())
 }
 

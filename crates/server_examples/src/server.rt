@@ -6,6 +6,7 @@ mod runs;
 
 use archive::{Archive, ListArchive};
 use clients::{BEGIN, BEGUN, CLIENTS};
+use records::read_record;
 use rows::{ACK, ANSWER, HELLO, OPEN, OPENED, REQUEST, ROWS, SESSION};
 use sql_archive::SqlArchive;
 use stamp::ReplicaNo;
@@ -16,7 +17,7 @@ use std::test::Fail;
 use ua_binary::{Status, Text};
 use ua_server::{
     Clock, ConstantClock, Counted, HexFault, ServeFault, Served, SystemClock, answer_hex,
-    answers_go_item_by_item, chunks_are_counted, serve,
+    answers_go_item_by_item, chunks_are_counted, dump, serve,
 };
 use ua_session::Users;
 use ua_settings::{Parts, Settings};
@@ -288,6 +289,34 @@ fn serves_clients_over_a_store(rt: HostRuntime) -> Result<(), Fail> {
             "{client}"
         );
     }
+    Ok(())
+}
+
+/// The record of an insert of 7 at 10.
+const INSERT_7: &str =
+    "02010100000000000000640000000000000003010001000000540A0000000000000000000103000000616E6E010607000000";
+
+/// What a dump writes of an archive in SQLite that learned the record with these digits.
+fn dumped(alloc: Global, digits: &str) -> Result<Vec<u8>, Fail> {
+    let one = ReplicaNo::new(1).ok_or("a replica")?;
+    let mut archive = SqlArchive::open_in_memory(alloc, Uuid::nil(), one)?;
+    let bytes = bytes_of(alloc, &[digits])?;
+    let record = read_record(alloc, bytes.as_slice())?;
+    if !record.is_lawful() || archive.learn(&record) != Ok(true) {
+        return Err(Fail::from("not learned"));
+    }
+    let mut output = Counted::new(Vec::new(alloc));
+    match dump(alloc, &mut archive, &mut output) {
+        Ok(()) => Ok(output.into_inner()),
+        Err(_) => Err(Fail::from("not dumped")),
+    }
+}
+
+#[test]
+fn dumps_a_store(rt: HostRuntime) -> Result<(), Fail> {
+    let line = joined(rt.alloc(), &["1 1 100 ", INSERT_7, "\n"])?;
+    let written = dumped(rt.alloc(), INSERT_7)?;
+    assert_eq!(rt; written.as_slice(), line.as_bytes());
     Ok(())
 }
 

@@ -19,13 +19,13 @@ use Rattle.sqlite.specs.Effect.{Database}
 use Rattle.sqlite.specs.Listing.{understood, reads_listing}
 use Rattle.sqlite.specs.State.{State, Shown, IsUnchanged, mode_of, Executes, ExecutesInside}
 use Rattle.sqlite.proofs.Callers.{IsPlain, command_of, reads_as, runs_as}
-use Rattle.sql_archive.specs.Tables.{no_schema, with_meta, with_records1, with_currents1, schema1, archive_schema, first_table, second_table1, third_table1, fourth_table}
-use Rattle.sql_archive.specs.Derived.{current_columns, vector_columns}
-use Rattle.sql_archive.specs.State.{Making}
+use Rattle.sql_schema.specs.Tables.{no_schema, with_meta, with_records1, with_currents1, schema1, archive_schema, first_table, second_table1, third_table1, fourth_table}
+use Rattle.sql_tables.specs.Derived.{current_columns, vector_columns}
+use Rattle.sql_tables.specs.State.{Making}
 use Rattle.sql_archive.specs.Renewing.{columns1, cells1, current1}
-use Rattle.sql_archive.proofs.Texts.{records1_text, currents1_text, all_currents_text, all_vectors_text, drop_vectors_text, drop_currents_text, drop_records_text, drop_meta_text}
-use Rattle.sql_archive.proofs.QueryLemmas.{simple, all_rows, answered, every, leaves_all}
-use Rattle.sql_archive.proofs.WriteLemmas.{went, same_value}
+use Rattle.sql_tables.proofs.Texts.{records1_text, currents1_text, all_currents_text, all_vectors_text, drop_vectors_text, drop_currents_text, drop_records_text, drop_meta_text}
+use Rattle.sql_tables.proofs.QueryLemmas.{simple, all_rows, answered, every, leaves_all}
+use Rattle.sql_tables.proofs.WriteLemmas.{went, same_value}
 
 abbrev by : ℕ → Term × Key
 by place = (col 1 place, ascending Binary)

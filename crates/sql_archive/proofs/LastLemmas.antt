@@ -14,14 +14,14 @@ use Rattle.records.proofs.ContentLemmas.{vec_is, vec_bounds, vec_attained}
 use Rattle.records.proofs.GreatestLemmas.{last_attained, last_of_last}
 use Rattle.records.proofs.Sorting.{all-has, all_from_has, has-permutation, has_from_filter, has-filter}
 use Rattle.archive.proofs.Turning.{has-map, has_from_map}
-use Rattle.sql_archive.specs.Words.{cells}
-use Rattle.sql_archive.specs.Rows.{row_of, content_in, IsFilled}
-use Rattle.sql_archive.specs.Derived.{AreKept, is_newer, last_of, vectors_of, vector_columns}
-use Rattle.sql_archive.specs.Keeping.{is_vector_of}
-use Rattle.sql_archive.specs.Learning.{IsLast, end_of}
-use Rattle.sql_archive.proofs.RowLemmas.{content_is}
-use Rattle.sql_archive.proofs.DerivedLemmas.{vectors_permuted}
-use Rattle.sql_archive.proofs.KeptLemmas.{newer_is, not_above, is_above, same_ints, same_origins, equal_origins}
+use Rattle.sql_tables.specs.Words.{cells}
+use Rattle.sql_tables.specs.Rows.{row_of, content_in, IsFilled}
+use Rattle.sql_tables.specs.Derived.{AreKept, is_newer, last_of, vectors_of, vector_columns}
+use Rattle.sql_tables.specs.Keeping.{is_vector_of}
+use Rattle.sql_tables.specs.Learning.{IsLast, end_of}
+use Rattle.sql_tables.proofs.RowLemmas.{content_is}
+use Rattle.sql_tables.proofs.DerivedLemmas.{vectors_permuted}
+use Rattle.sql_tables.proofs.KeptLemmas.{newer_is, not_above, is_above, same_ints, same_origins, equal_origins}
 
 pub last_kept : (db : Trees) (origin : ℕ) (rows : List Row) → IsFilled db → AreKept db → IsPermutation (filter (is_vector_of (pos origin)) (map vector_columns (db 6))) rows → IsLast (content_in db) origin (end_of rows)
 last_kept db origin rows (R, l, stand) kept shown = subst (λ S. IsLast S origin (end_of rows)) (sym (content_is R db l stand)) (go rows refl)

@@ -5,7 +5,7 @@ use Rattle.std.proofs.lemmas.Int.{ints}
 use Rattle.std.specs.List.{AllByRecursion}
 use Rattle.records.specs.Lists.{Has, sort_by}
 use Rattle.std.specs.List.{flat_map}
-use Rattle.sql_archive.specs.Rows.{records_in}
+use Rattle.sql_tables.specs.Rows.{records_in}
 use Rattle.records.specs.Records.{name_cmp}
 use Rattle.records.specs.Contents.{Content, IsClosed, IsNext, vec, last_tick, put}
 use Rattle.records.specs.Spelling.{IsRecord}
@@ -19,11 +19,11 @@ use Rattle.std.proofs.lemmas.List.Sorted.{IsPermutation-sym}
 use Rattle.sqlite_value.specs.Order.{Row}
 use Rattle.sqlite_trees.specs.Tree.{Trees}
 use Rattle.records.proofs.Sorting.{all-has}
-use Rattle.sql_archive.specs.Words.{cells}
-use Rattle.sql_archive.specs.Rows.{row_of, content_in, AreRecords, IsFilled}
-use Rattle.sql_archive.proofs.RowLemmas.{content_is}
-use Rattle.sql_archive.specs.State.{shown_of}
-use Rattle.sql_archive.proofs.QueryLemmas.{shown_all}
+use Rattle.sql_tables.specs.Words.{cells}
+use Rattle.sql_tables.specs.Rows.{row_of, content_in, AreRecords, IsFilled}
+use Rattle.sql_tables.proofs.RowLemmas.{content_is}
+use Rattle.sql_tables.specs.State.{shown_of}
+use Rattle.sql_tables.proofs.QueryLemmas.{shown_all}
 use Rattle.std.proofs.Common.{Result, Ok, Err, IfOk, IfErr, not, negsuc, length}
 use Rattle.std.proofs.lemmas.Slice.Eq.{bytes_eq-Decides}
 use Rattle.std.proofs.lemmas.List.Sorted.{length_permutation, All-permutation}
@@ -39,8 +39,8 @@ use Rattle.archive.specs.declared.fault.StoreFault.{StoreFault}
 use Rattle.archive.specs.declared.fault.StoreFault.TheVariants.{WrongArchive, WrongReplica, Refused}
 use Rattle.archive.specs.Store.{IsOfOpening, fault_in}
 use Rattle.archive.specs.Listed.{is_broken}
-use Rattle.sql_archive.specs.Rows.{IsStored, meta_row, meta_columns, meta_cells}
-use Rattle.sql_archive.specs.State.{Found, Holds, IsNewArchive}
+use Rattle.sql_tables.specs.Rows.{IsStored, meta_row, meta_columns, meta_cells}
+use Rattle.sql_tables.specs.State.{Found, Holds, IsNewArchive}
 use Rattle.std.proofs.Common.{max, ap₂}
 use Rattle.std.specs.Int.{int_max}
 use Rattle.std.proofs.lemmas.List.{map-append}

@@ -1,5 +1,5 @@
 -- A store of format 1 becomes one of an archive.
-use Rattle.std.proofs.Common.{◌≡◌, ◌<◌, ◌≤◌, ◌+◌, arith, ℕ, ℤ, pos, true, false, cond, not, ◌&&◌, Bool, List, [], ◌∷◌, ◌++◌, map, length, take, slice_index_or, Ok, Err, Result, IfOk, IfErr, refl, sym, ap, subst, ◌∙◌, inl, inr, append_assoc, append-nil, IsPermutation}
+use Rattle.std.proofs.Common.{◌≡◌, ◌<◌, ◌≤◌, ◌+◌, arith, ℕ, ℤ, pos, true, false, cond, not, ◌&&◌, Bool, List, [], ◌∷◌, ◌++◌, map, length, take, slice_index_or, All, Ok, Err, Result, IfOk, IfErr, refl, sym, ap, subst, ◌∙◌, inl, inr, append_assoc, append-nil, IsPermutation}
 use Rattle.std.specs.List.{AllByRecursion}
 use Rattle.std.proofs.lemmas.List.{map-append, take_more, take_all}
 use Rattle.std.proofs.lemmas.List.Elements.{recursion_from_All, All-from_recursion}
@@ -11,25 +11,27 @@ use Rattle.sqlite.specs.Effect.{Database}
 use Rattle.sqlite.specs.Held.{Held, state}
 use Rattle.sqlite.specs.State.{State, HasCleanDisk, Survives, IsUnchanged}
 use Rattle.sqlite.proofs.StateLemmas.{survives_then}
+use Rattle.sqlite_value.specs.declared.value.Value.TheVariants.{Int}
 use Rattle.records.specs.Contents.{Content}
+use Rattle.records.specs.Moments.{pico_of}
 use Rattle.archive.specs.declared.fault.StoreFault.{StoreFault}
 use Rattle.archive.specs.declared.fault.StoreFault.TheVariants.{WrongArchive, WrongReplica, Refused}
 use Rattle.archive.specs.Store.{IsLawfulContent, IsOfOpening, fault_in}
 use Rattle.archive.specs.Listed.{is_broken}
 use Rattle.sql_archive.specs.declared.renewing.Rows1.{Rows1}
 use Rattle.sql_archive.specs.declared.checking.Walk.{Walk}
-use Rattle.sql_archive.specs.Tables.{schema1, archive_schema}
-use Rattle.sql_archive.specs.Words.{cells}
-use Rattle.sql_archive.specs.Derived.{currents_of, current_columns, vectors_of, vector_columns}
-use Rattle.sql_archive.specs.Rows.{row_of, meta_cells, meta_columns}
-use Rattle.sql_archive.specs.Keeping.{AddsRecord, Fills}
-use Rattle.sql_archive.specs.State.{Making, IsNewArchive, Found, Holds, shown_of}
+use Rattle.sql_schema.specs.Tables.{schema1, archive_schema}
+use Rattle.sql_tables.specs.Words.{cells}
+use Rattle.sql_tables.specs.Derived.{currents_of, current_columns, vectors_of, vector_columns}
+use Rattle.sql_tables.specs.Rows.{row_of, meta_cells, meta_columns}
+use Rattle.sql_tables.specs.Keeping.{AddsRecord, Fills}
+use Rattle.sql_tables.specs.State.{Making, IsNewArchive, Found, Holds, shown_of}
 use Rattle.sql_archive.specs.Kept.{Kept}
 use Rattle.sql_archive.specs.Opening.{has_bytes, has_number, judged, judged_as, HasWalked, Opens1, IsRenewedIn}
 use Rattle.sql_archive.specs.Renewing.{columns1, cells1, current1, meta1_row, IsStored1, IsRead1, IsRenewed, IsTurned, PutsRecords}
-use Rattle.sql_archive.proofs.QueryLemmas.{repaired}
-use Rattle.sql_archive.proofs.DerivedLemmas.{currents_permuted, vectors_permuted}
-use Rattle.sql_archive.proofs.KeptLemmas.{filled_kept}
+use Rattle.sql_tables.proofs.QueryLemmas.{repaired}
+use Rattle.sql_tables.proofs.DerivedLemmas.{currents_permuted, vectors_permuted}
+use Rattle.sql_tables.proofs.KeptLemmas.{filled_kept}
 use Rattle.sql_archive.proofs.OpenLemmas.{own_row, walked_lawful, meta_passed}
 
 -- ---- rows of records2
@@ -107,6 +109,25 @@ stored1 id own old new rows meta read turned = record {
   currents = turned.currents;
   vectors = turned.vectors;
 }
+
+-- ---- its moments
+
+abbrev at_zero : Row → Type 0
+at_zero c = column c 5 ≡ Int (pos 0)
+
+pub moments1 : (id : List ℕ) (own : ℕ) (db : Trees) (stored : IsStored1 id own db) → All (λ r. pico_of r.time ≡ 0) stored.content
+moments1 id own db stored = All-from_recursion (λ r. pico_of r.time ≡ 0) stored.content (back stored.content (recursion_from_All at_zero (map row_of stored.content) there))
+  where
+    each : (rs : List Row) → AllByRecursion at_zero (map columns1 rs)
+    each [] = tt
+    each (r ∷ rs) = (refl, each rs)
+
+    there : All at_zero (map row_of stored.content)
+    there = All-permutation at_zero (cells1 db) (map row_of stored.content) (IsPermutation-sym (map row_of stored.content) (cells1 db) stored.records) (All-from_recursion at_zero (cells1 db) (each (db 1)))
+
+    back : (R : Content) → AllByRecursion at_zero (map row_of R) → AllByRecursion (λ r. pico_of r.time ≡ 0) R
+    back [] h = tt
+    back (r ∷ R) (zero, h) = ((let is : Int (pos (pico_of r.time)) ≡ Int (pos 0) = zero in cc), back R h)
 
 -- ---- whose it is
 

@@ -7,14 +7,14 @@ use Rattle.sqlite.specs.State.{State, HasCleanDisk, Survives}
 use Rattle.sqlite.proofs.StateLemmas.{survives_then, survives_weaker}
 use Rattle.archive.specs.declared.fault.StoreFault.{StoreFault}
 use Rattle.archive.specs.Store.{IsOfOpening}
-use Rattle.sql_archive.specs.Tables.{no_schema, older_schema, archive_schema}
-use Rattle.sql_archive.specs.Rows.{meta_cells, meta_columns, IsStored}
-use Rattle.sql_archive.specs.Derived.{AreKept}
-use Rattle.sql_archive.specs.State.{IsNewArchive, IsMigrated, HasMeta}
+use Rattle.sql_schema.specs.Tables.{no_schema, older_schema, archive_schema}
+use Rattle.sql_tables.specs.Rows.{meta_cells, meta_columns, IsStored}
+use Rattle.sql_tables.specs.Derived.{AreKept}
+use Rattle.sql_tables.specs.State.{IsNewArchive, IsMigrated, HasMeta}
 use Rattle.sql_archive.specs.Opening.{judged, Starts, IsBegunIn, IsMigratedIn, IsRenewedIn, IsRefused}
 use Rattle.sql_archive.specs.Kept.{Kept}
 use Rattle.sql_archive.proofs.OpenLemmas.{new_is_own, own_row}
-use Rattle.sql_archive.proofs.AskLemmas.{survives_itself}
+use Rattle.sql_tables.proofs.AskLemmas.{survives_itself}
 
 module _ {S : Type 0} (g : Ghosts S) (old mid : State) (result : Result (Kept S) (StoreFault × Held S)) where
   -- with tables that are its own no opening is wrong

@@ -15,7 +15,7 @@ use Rattle.records.specs.Contents.{Content, Adds, finding, put}
 use Rattle.records.specs.declared.record.Record.{Record}
 use Rattle.archive.specs.declared.fault.LearnFault.{LearnFault}
 use Rattle.archive.specs.declared.fault.LearnFault.TheVariants as refused
-use Rattle.sql_archive.specs.Learning.{Learned, Follows, IsCommitOf, flat, IsOwn, was_added}
+use Rattle.sql_tables.specs.Learning.{Learned, Follows, IsCommitOf, flat, IsOwn, was_added}
 use Rattle.archive.specs.declared.fault.StoreFault.{StoreFault}
 use Rattle.archive.specs.declared.fault.StoreFault.TheVariants.{Broken}
 use Rattle.archive.specs.Store.{IsLawfulContent, Rests, IsOfOpening, failed_by, is_break, Leaves, fault_in, Asks, Learns}
@@ -28,16 +28,16 @@ use Rattle.std.specs.Int.{int_max}
 use Rattle.std.proofs.lemmas.Int.{ints, clamps}
 use Rattle.records.specs.Records.{name_cmp}
 use Rattle.archive.specs.Store.{answer_to}
-use Rattle.sql_archive.specs.Learning.{is_added}
-use Rattle.sql_archive.proofs.LearnLemmas.{kept_by, adds_by}
+use Rattle.sql_tables.specs.Learning.{is_added}
+use Rattle.sql_tables.proofs.LearnLemmas.{kept_by, adds_by}
 use Rattle.records.specs.Contents.{vec, top, number_from, learned, after_finding}
 use Rattle.records.proofs.ChangeLemmas.{top_put}
-use Rattle.sql_archive.specs.Rows.{content_in, IsStored, IsStoreOf, meta_columns}
-use Rattle.sql_archive.specs.Derived.{AreKept}
-use Rattle.sql_archive.specs.State.{Stays, Asked}
+use Rattle.sql_tables.specs.Rows.{content_in, IsStored, IsStoreOf, meta_columns}
+use Rattle.sql_tables.specs.Derived.{AreKept}
+use Rattle.sql_tables.specs.State.{Stays, Asked}
 use Rattle.sql_archive.specs.Kept.{Kept, Remembers, Raises, Stands, Serves, LeavesStores, store_of}
-use Rattle.sql_archive.proofs.AskLemmas.{survives_itself, asked_nothing}
-use Rattle.sql_archive.proofs.RowLemmas.{content_is}
+use Rattle.sql_tables.proofs.AskLemmas.{survives_itself, asked_nothing}
+use Rattle.sql_tables.proofs.RowLemmas.{content_is}
 
 -- the laws of stores that are used: while it is open, a crash leaves the last commit and nothing else; and it always leaves something
 pub record Laws {S : Type 0} (g : Ghosts S) : Type 0 where

@@ -10,12 +10,12 @@ use Rattle.sqlite.specs.Files.{HoldsDatabase, AreFoundIn, LeavesFiles}
 use Rattle.sqlite.specs.Closing.{files_left}
 use Rattle.sqlite.specs.declared.file.Leftover.{Leftover}
 use Rattle.records.specs.Contents.{Content}
-use Rattle.sql_archive.specs.Tables.{no_schema, older_schema, schema1, archive_schema}
-use Rattle.sql_archive.specs.State.{IsNewArchive, IsMigrated}
+use Rattle.sql_schema.specs.Tables.{no_schema, older_schema, schema1, archive_schema}
+use Rattle.sql_tables.specs.State.{IsNewArchive, IsMigrated}
 use Rattle.sql_archive.specs.Renewing.{cells1, content1_in, IsStoreOf1, IsRenewed}
 use Rattle.archive.specs.declared.fault.StoreFault.{StoreFault}
 use Rattle.sql_archive.specs.Opening.{judged}
-use Rattle.sql_archive.specs.Rows.{content_in, IsStoreOf, IsOlderStoreOf, meta_cells}
+use Rattle.sql_tables.specs.Rows.{content_in, IsStoreOf, IsOlderStoreOf, meta_cells}
 
 -- an opening finds these trees in the two files: the database that they hold, or none
 pub record IsFound (image : Image) (db : Trees) : Type 0 where

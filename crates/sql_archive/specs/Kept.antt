@@ -10,9 +10,9 @@ use Rattle.stamp.specs.Numbers.{number_of}
 use Rattle.records.specs.Contents.{Content, number_from, vec, top}
 use Rattle.records.specs.declared.record.Record.{Record}
 use Rattle.archive.specs.Store.{Store, IsOfOpening}
-use Rattle.sql_archive.specs.Rows.{content_in, IsStored, IsStoreOf}
-use Rattle.sql_archive.specs.Derived.{AreKept}
-use Rattle.sql_archive.specs.State.{Idles}
+use Rattle.sql_tables.specs.Rows.{content_in, IsStored, IsStoreOf}
+use Rattle.sql_tables.specs.Derived.{AreKept}
+use Rattle.sql_tables.specs.State.{Idles}
 
 pub record Kept (S : Type 0) : Type 0 where
   pub conn : Held S

@@ -1,15 +1,4 @@
-pub mod Tables
-pub mod Words
-pub mod Derived
-pub mod Keeping
-pub mod Rows
-pub mod State
 pub mod Kept
-pub mod Learning
 pub mod Opening
-pub mod Agreeing
-pub mod Walking
 pub mod Files
-pub mod Lacked
-pub mod Currents
 pub mod Renewing

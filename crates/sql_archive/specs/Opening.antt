@@ -17,13 +17,13 @@ use Rattle.sql_archive.specs.declared.checking.Mark.{Mark}
 use Rattle.sql_archive.specs.declared.checking.Walk.{Walk}
 use Rattle.sql_archive.specs.declared.renewing.Rows1.{Rows1}
 use Rattle.sql_archive.specs.Renewing.{cells1, meta1_row, IsRead1, IsStored1, IsRenewed}
-use Rattle.sql_archive.specs.Words.{cells}
+use Rattle.sql_tables.specs.Words.{cells}
 use Rattle.sql_archive.specs.Kept.{Remembers}
-use Rattle.sql_archive.specs.Derived.{AreKept}
-use Rattle.sql_archive.specs.Rows.{IsStored, meta_cells, row_of}
+use Rattle.sql_tables.specs.Derived.{AreKept}
+use Rattle.sql_tables.specs.Rows.{IsStored, meta_cells, row_of}
 use Rattle.sqlite.specs.Effect.{Database}
-use Rattle.sql_archive.specs.Tables.{no_schema, older_schema, schema1, archive_schema}
-use Rattle.sql_archive.specs.State.{Holds, Stays, HasMeta, IsNewArchive, IsMigrated, shown_of}
+use Rattle.sql_schema.specs.Tables.{no_schema, older_schema, schema1, archive_schema}
+use Rattle.sql_tables.specs.State.{Holds, Stays, HasMeta, IsNewArchive, IsMigrated, shown_of}
 
 abbrev pub mark_of : Record → Mark
 mark_of r = record { origin = r.origin; number = r.number; tick = r.tick }

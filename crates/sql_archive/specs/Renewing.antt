@@ -11,11 +11,11 @@ use Rattle.records.specs.Records.{name_cmp}
 use Rattle.records.specs.Contents.{Content}
 use Rattle.archive.specs.Store.{IsLawfulContent}
 use Rattle.sql_archive.specs.declared.renewing.Rows1.{Rows1}
-use Rattle.sql_archive.specs.State.{shown_of}
-use Rattle.sql_archive.specs.Tables.{schema1, archive_schema}
-use Rattle.sql_archive.specs.Words.{cells}
-use Rattle.sql_archive.specs.Derived.{AreKept, currents_of, vectors_of, vector_columns}
-use Rattle.sql_archive.specs.Rows.{row_of, records_in, meta_cells}
+use Rattle.sql_tables.specs.State.{shown_of}
+use Rattle.sql_schema.specs.Tables.{schema1, archive_schema}
+use Rattle.sql_tables.specs.Words.{cells}
+use Rattle.sql_tables.specs.Derived.{AreKept, currents_of, vectors_of, vector_columns}
+use Rattle.sql_tables.specs.Rows.{row_of, records_in, meta_cells}
 
 -- the row of records2 that a row of records becomes: its moment has 0 picoseconds
 abbrev pub columns1 : Row → Row

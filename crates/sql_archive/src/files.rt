@@ -8,13 +8,13 @@ ghost use Rattle.sqlite_wal.specs.Files.{image_at};
 ghost use Rattle.sqlite_std_file.specs.File.{IsFresh};
 ghost use Rattle.sqlite_wal.specs.Reads.{AreClean};
 ghost use Rattle.archive.specs.Store.{IsOfOpening};
-ghost use Rattle.sql_archive.specs.Rows.{content_in, IsStoreOf};
+ghost use Rattle.sql_tables.specs.Rows.{content_in, IsStoreOf};
 ghost use Rattle.sql_archive.specs.Files.{Tells, Resumes, ResumesOnly, ResumesAmong, IsAnothers, EngineLeaves, KeepsFound};
 
 use crate::starting::start;
-use crate::statements::refusal_of;
 use crate::store::SqlArchive;
 use archive::StoreFault;
+use sql_tables::refusal_of;
 use sqlite::{Connection, File, FileFrom, FileStore, Files, Options, Start, Unknown};
 use sqlite_disk::Disk;
 use stamp::ReplicaNo;

@@ -1,9 +1,9 @@
 //! The last numbers and the greatest tick of an archive's records, in memory.
 
-ghost use Rattle.std.specs.Prelude.{◌≡◌, true, false};
+ghost use Rattle.std.specs.Prelude.{true};
 ghost use Rattle.records.specs.Spelling.{IsLawfulRecord};
 ghost use Rattle.sql_archive.specs.Kept.{Raises};
-ghost use Rattle.sql_archive.specs.Learning.{was_added};
+ghost use Rattle.sql_tables.specs.Learning.{was_added};
 
 use archive::{LearnFault, StoreFault};
 use records::Record;

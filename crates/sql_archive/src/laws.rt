@@ -1,6 +1,6 @@
 //! Laws of the archive. Each function's contract is a law, and its body is empty.
 
-ghost use Rattle.std.specs.Prelude.{◌≡◌, ◌⊎◌, ℕ, pos, List};
+ghost use Rattle.std.specs.Prelude.{◌≡◌, ◌⊎◌, ℕ, pos, List, All};
 ghost use Rattle.sqlite_wal.specs.Recovery.{Image};
 ghost use Rattle.sqlite_trees.specs.Tree.{Trees};
 ghost use Rattle.sqlite_trees.specs.Objects.{catalog_tree};
@@ -8,11 +8,12 @@ ghost use Rattle.sqlite_trees.specs.declared.memory.MemStore.{MemStore};
 ghost use Rattle.sqlite_catalog.specs.Listing.{Lists};
 ghost use Rattle.sqlite.specs.Files.{HoldsDatabase};
 ghost use Rattle.records.specs.Contents.{Content};
-ghost use Rattle.sql_archive.specs.Tables.{no_schema};
+ghost use Rattle.records.specs.Moments.{pico_of};
+ghost use Rattle.sql_schema.specs.Tables.{no_schema};
 ghost use Rattle.sql_archive.specs.Files.{Resumes, KeepsFound};
-ghost use Rattle.sql_archive.specs.Renewing.{cells1, IsStoreOf1, IsRenewed};
-ghost use Rattle.sql_archive.specs.Rows.{IsOlderStoreOf};
-ghost use Rattle.sql_archive.specs.State.{IsMigrated};
+ghost use Rattle.sql_archive.specs.Renewing.{cells1, IsStored1, IsStoreOf1, IsRenewed};
+ghost use Rattle.sql_tables.specs.Rows.{IsOlderStoreOf};
+ghost use Rattle.sql_tables.specs.State.{IsMigrated};
 ghost use Rattle.sql_archive.specs.Kept.{Kept};
 
 use crate::store::SqlArchive;
@@ -32,4 +33,9 @@ pub fn refused_openings_lose_nothing()
     ensures stored { (image left : Image) (id : List ℕ) (own : ℕ) → KeepsFound image id own left → (db : Trees) → HoldsDatabase image db → IsOlderStoreOf id own db → ∥ ((now : Trees) × HoldsDatabase left now × ((now ≡ db) ⊎ IsMigrated db now)) ∥₁ }
     ensures renewed { (image left : Image) (id : List ℕ) (own : ℕ) → KeepsFound image id own left → (db : Trees) → HoldsDatabase image db → IsStoreOf1 id own db → ∥ ((now : Trees) × HoldsDatabase left now × ((now ≡ db) ⊎ IsRenewed id (pos own) (cells1 db) now)) ∥₁ }
     ensures resumed { (image left : Image) (id : List ℕ) (own : ℕ) → KeepsFound image id own left → (other : List ℕ) (number : ℕ) (R : Content) → Resumes left other number R → ∥ Resumes image other number R ∥₁ }
+{}
+
+/// The records that a store of format 1 stands for have moments without picoseconds, whatever picoseconds their values have.
+pub fn moments_of_format_1_have_no_picoseconds()
+    ensures { (id : List ℕ) (own : ℕ) (db : Trees) (stored : IsStored1 id own db) → All (λ r. pico_of r.time ≡ 0) stored.content }
 {}

@@ -1,23 +1,21 @@
 //! Learning a record.
 
-ghost use Rattle.std.specs.Prelude.{◌≡◌, ◌≤◌, ◌<◌, ℕ, pos, None, filter, IsPermutation, IfOk, IfErr, OnOk, IfSome, IsTrue};
+ghost use Rattle.std.specs.Prelude.{◌≡◌, ◌<◌, pos, None, IfOk};
 ghost use Rattle.std.specs.List.{list_any};
 ghost use Rattle.sqlite.specs.State.{HasCleanDisk};
 ghost use Rattle.sqlite.specs.Held.{state};
 ghost use Rattle.records.specs.Same.{same_record};
-ghost use Rattle.records.specs.Contents.{vec, last_tick, finding, Adds};
+ghost use Rattle.records.specs.Contents.{finding, Adds};
 ghost use Rattle.records.specs.Spelling.{IsLawfulRecord};
 ghost use Rattle.archive.specs.Store.{answer_to, store_fault_in};
-ghost use Rattle.sql_archive.specs.Rows.{content_in, IsFilled};
-ghost use Rattle.sql_archive.specs.Derived.{AreKept};
-ghost use Rattle.sql_archive.specs.State.{Idles, Asked};
-ghost use Rattle.sql_archive.specs.Learning.{IsLast, Learned, beyond, reached, is_added, flat, IsOwn, end_of};
+ghost use Rattle.sql_tables.specs.Rows.{content_in, IsFilled};
+ghost use Rattle.sql_tables.specs.Derived.{AreKept};
+ghost use Rattle.sql_tables.specs.State.{Idles, Asked};
+ghost use Rattle.sql_tables.specs.Learning.{IsLast, Learned, beyond, reached, is_added, flat, IsOwn, end_of};
 
-use crate::decode::{decode_all, number_at, tick_at};
-use crate::queries::{Name, rows_last, rows_named};
-use crate::writes::store_record;
 use archive::{LearnFault, StoreFault};
 use records::{Record, RecordFault};
+use sql_tables::{Name, decode_all, number_at, rows_last, rows_named, store_record, tick_at};
 use sqlite::{Alter, Connection, Row};
 use stamp::{GREATEST_TICK, ReplicaNo};
 use std::alloc::Global;

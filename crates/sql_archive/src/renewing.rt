@@ -7,24 +7,22 @@ ghost use Rattle.sqlite_value.specs.Order.{column};
 ghost use Rattle.sqlite_value.specs.declared.value.Value.TheVariants as value;
 ghost use Rattle.records.specs.Contents.{Content};
 ghost use Rattle.archive.specs.Store.{IsOfOpening, IsLawfulContent};
-ghost use Rattle.sql_archive.specs.Tables.{schema1, with_currents1, with_records1, with_meta, no_schema, archive_schema};
-ghost use Rattle.sql_archive.specs.Words.{cells_of};
-ghost use Rattle.sql_archive.specs.Keeping.{AddsRecord};
-ghost use Rattle.sql_archive.specs.Derived.{current_columns, vector_columns};
-ghost use Rattle.sql_archive.specs.Rows.{row_of, meta_cells};
-ghost use Rattle.sql_archive.specs.State.{Found, Idles, Making, Rests, shown_of};
+ghost use Rattle.sql_schema.specs.Tables.{schema1, with_currents1, with_records1, with_meta, no_schema, archive_schema};
+ghost use Rattle.sql_tables.specs.Words.{cells_of};
+ghost use Rattle.sql_tables.specs.Keeping.{AddsRecord};
+ghost use Rattle.sql_tables.specs.Derived.{current_columns, vector_columns};
+ghost use Rattle.sql_tables.specs.Rows.{row_of, meta_cells};
+ghost use Rattle.sql_tables.specs.State.{Found, Idles, Making, Rests, shown_of};
 ghost use Rattle.sql_archive.specs.Renewing.{cells1, current1, meta1_row, IsRead1, IsRenewed, IsTurned, PutsRecords};
 ghost use Rattle.sql_archive.specs.Opening.{judged, Opens1, IsRenewedIn};
 
 use crate::checking::{go_on, is_bytes, is_int, start};
-use crate::keeping::add_record;
-use crate::layout::{make_tables, number_of};
 use crate::migrating::fill_beside;
 use crate::opening::judge;
-use crate::statements::{ask, fault_of};
 use crate::store::SqlArchive;
-use crate::writes::Cells;
 use archive::StoreFault;
+use records::RecordFault;
+use sql_tables::{Cells, add_record, ask, bytes_at, fault_of, int_at, make_tables, number_of};
 use sqlite::{Alter, Connection, Error, ErrorCode, Row, Transaction};
 use sqlite_value::value::ValueRef;
 use stamp::ReplicaNo;
@@ -158,56 +156,41 @@ fn drop_tables<S: Alter>(tx: &mut Transaction<'_, S>) -> Result<(), Error>
     Ok(())
 }
 
-/// The whole number in a column.
-fn whole_at(row: &Row, at: usize) -> Result<i64, Error>
-    ensures { IfOk result (λ n. column row.now at ≡ value.Int n) }
-{
-    match row.get_ref(at) {
-        Ok(ValueRef::Int(n)) => Ok(n),
-        _ => Err(Error::InvalidQuery),
-    }
-}
-
-/// The bytes in a column.
-fn blob_at(row: &Row, at: usize) -> Result<&[u8], Error>
-    ensures { IfOk result (λ b. column row.now at ≡ value.Blob b.now) }
-{
-    match row.get_ref(at) {
-        Ok(ValueRef::Blob(bytes)) => Ok(bytes),
-        _ => Err(Error::InvalidQuery),
-    }
-}
-
 /// A copy of the bytes in a column.
-fn copy_at(alloc: Global, row: &Row, at: usize) -> Result<Vec<u8>, Error>
+fn copy_at(alloc: Global, row: &Row, at: usize) -> Result<Vec<u8>, RecordFault>
     ensures { IfOk result (λ b. column row.now at ≡ value.Blob b.items) }
 {
-    let bytes = blob_at(row, at)?;
     let mut out = Vec::new(alloc);
-    match out.extend_from_slice(bytes) {
-        Ok(()) => Ok(out),
-        Err(_) => Err(Error::SqliteFailure(ErrorCode::OutOfMemory)),
-    }
+    out.extend_from_slice(bytes_at(row, at)?)?;
+    Ok(out)
 }
 
 /// A record as its row has it.
-fn cells_in(alloc: Global, row: &Row) -> Result<Cells, Error>
+fn cells_in(alloc: Global, row: &Row) -> Result<Cells, RecordFault>
     ensures { IfOk result (λ c. shown_of row.now ≡ cells_of c.origin c.number c.tick c.node.items c.time c.pico c.asked c.who.items c.value.items) }
 {
     let node = copy_at(alloc, row, 3)?;
     let who = copy_at(alloc, row, 7)?;
     let value = copy_at(alloc, row, 8)?;
     Ok(Cells {
-        origin: whole_at(row, 0)?,
-        number: whole_at(row, 1)?,
-        tick: whole_at(row, 2)?,
+        origin: int_at(row, 0)?,
+        number: int_at(row, 1)?,
+        tick: int_at(row, 2)?,
         node,
-        time: whole_at(row, 4)?,
-        pico: whole_at(row, 5)?,
-        asked: whole_at(row, 6)?,
+        time: int_at(row, 4)?,
+        pico: int_at(row, 5)?,
+        asked: int_at(row, 6)?,
         who,
         value,
     })
+}
+
+/// What a row that can't be put in is told as, inside of a transaction.
+fn error_of(fault: RecordFault) -> Error {
+    match fault {
+        RecordFault::OutOfMemory => Error::SqliteFailure(ErrorCode::OutOfMemory),
+        _ => Error::InvalidQuery,
+    }
 }
 
 /// Puts one row into records2.
@@ -221,8 +204,10 @@ fn put_record<S: Alter>(
     ensures same { tx.new.conn.ghost_name ≡ tx.old.conn.ghost_name }
     ensures crash { Survives (state S.Store tx.old.conn.now) (state S.Store tx.new.conn.now) (λ _. ⊥) }
 {
-    let cells = cells_in(alloc, row)?;
-    add_record(tx, &cells)
+    match cells_in(alloc, row) {
+        Ok(cells) => add_record(tx, &cells),
+        Err(fault) => Err(error_of(fault)),
+    }
 }
 
 /// Puts rows into records2.

@@ -1,22 +1,20 @@
 //! An archive in a database.
 
-ghost use Rattle.std.specs.Prelude.{◌≡◌, false, ⊤};
+ghost use Rattle.std.specs.Prelude.{◌≡◌, false};
 ghost use Rattle.sqlite.specs.State.{HasCleanDisk};
 ghost use Rattle.sqlite.specs.Held.{state};
 ghost use Rattle.archive.specs.Store.{fault_in};
 ghost use Rattle.archive.specs.Listed.{failures, is_broken};
-ghost use Rattle.sql_archive.specs.State.{Asked, Idles};
+ghost use Rattle.sql_tables.specs.State.{Idles};
 
 use crate::latest::{Latest, latest_after};
 use crate::learning::{flat, learn_in};
 use crate::opening::open_all;
-use crate::ranges::{log_in, outside_in, range_in};
-use crate::reads::records_at;
-use crate::since::records_since;
 use crate::starting::make;
-use crate::statements::still_open;
 use archive::{Archive, Direction, LearnFault, LogPlace, StoreFault};
 use records::{Entry, Held, Moment, Record};
+use sql_reading::{log_in, outside_in, range_in, records_at, records_since};
+use sql_tables::still_open;
 use sqlite::{Alter, Connection, MemStore};
 use stamp::{ReplicaNo, Vector};
 use std::alloc::Global;
@@ -226,7 +224,7 @@ impl<S: Alter> SqlArchive<S> {
     ghost use Rattle.std.specs.Prelude.{◌≡◌, true, false, Some, ◌≢◌, IfOk};
     ghost use Rattle.sqlite.specs.State.{HasCleanDisk};
     ghost use Rattle.sqlite.specs.Held.{state};
-    ghost use Rattle.sql_archive.specs.State.{Idles};
+    ghost use Rattle.sql_tables.specs.State.{Idles};
     ghost use Rattle.archive.specs.Store.{IsOfOpening};
     ghost use Rattle.archive.specs.Listed.{failures, is_broken};
     ghost use Rattle.sql_archive.specs.Kept.{Serves, LeavesStores};
@@ -234,8 +232,8 @@ impl<S: Alter> SqlArchive<S> {
     ghost use Rattle.std.specs.Prelude.{IfErr, Err};
     ghost use Rattle.sqlite.specs.State.{Survives};
     ghost use Rattle.sql_archive.specs.Opening.{judged};
-    ghost use Rattle.sql_archive.specs.Rows.{meta_cells, IsStored};
-    ghost use Rattle.sql_archive.specs.Derived.{AreKept};
+    ghost use Rattle.sql_tables.specs.Rows.{meta_cells, IsStored};
+    ghost use Rattle.sql_tables.specs.Derived.{AreKept};
 
     /// An archive over a connection whose tables are there: Ok only where they stand for a lawful content
     /// of this archive and replica.
@@ -312,7 +310,7 @@ impl SqlArchive<MemStore> {
     ghost use Rattle.archive.specs.Store.{IsOfOpening};
     ghost use Rattle.archive.specs.Beginning.{HoldsNothing};
     ghost use Rattle.sql_archive.specs.Kept.{store_of};
-    ghost use Rattle.sql_archive.specs.Rows.{content_in};
+    ghost use Rattle.sql_tables.specs.Rows.{content_in};
 
     /// An archive of this id and replica in memory, which holds nothing.
     pub fn open_in_memory(alloc: Global, id: Uuid, number: ReplicaNo) -> Result<Self, StoreFault>

@@ -12,17 +12,17 @@ use Rattle.ua_peers.specs.declared.calling.SyncFault.{SyncFault}
 use Rattle.ua_peers.specs.declared.calling.SyncFault.TheVariants as sync
 use Rattle.ua_server.specs.declared.dumps.DumpFault.{DumpFault}
 use Rattle.ua_server.specs.declared.dumps.DumpFault.TheVariants as dump
-use Rattle.ua_server.specs.declared.line.Line.TheVariants.{Answer, Serve, Dump, Sync}
-use Rattle.ua_server.specs.declared.line.LineFault.{LineFault}
-use Rattle.ua_server.specs.declared.line.LineFault.TheVariants.{Words, OutOfMemory as NoMemory}
-use Rattle.ua_server.specs.Line.{IsLine, IsNoCommand}
+use Rattle.command_line.specs.declared.line.Line.TheVariants.{Answer, Serve, Dump, Sync}
+use Rattle.command_line.specs.declared.line.LineFault.{LineFault}
+use Rattle.command_line.specs.declared.line.LineFault.TheVariants.{Words, OutOfMemory as NoMemory}
+use Rattle.command_line.specs.Line.{IsLine, IsNoCommand}
 use Rattle.clap.specs.declared.error.ErrorKind.{ErrorKind}
 use Rattle.ua_settings.specs.Settings.{Values}
 use Rattle.archive.specs.Store.{Store}
 use Rattle.ua_server.specs.Program.{IsUnbegun, SettingsAt, Machine, By, Calls, CallsPeer, Scene, program_result, dump_result, PrintsSynced, IsRefused, DoesLine, Runs}
 use Rattle.ua_server.specs.Network.{Means}
 use Rattle.std.specs.declared.net.socket_addr.SocketAddr.{SocketAddr}
-use Rattle.ua_server.specs.declared.line.Line.{Line as CommandLine}
+use Rattle.command_line.specs.declared.line.Line.{Line as CommandLine}
 
 pub line-refused : (taken : Bool) (matches : Option (Text × List Row)) (fault : LineFault) → (fault ≡ Words → taken ≡ true → IsNoCommand matches) → IsRefused taken matches fault
 line-refused taken matches Words told = told refl

@@ -1,4 +1,3 @@
-pub mod Line
 pub mod Telling
 pub mod Either
 pub mod Network

@@ -32,11 +32,11 @@ use Rattle.std.specs.Net.Grammar.{IsSocketText}
 use Rattle.ua_server.specs.Network.{Means, Listens}
 use Rattle.clap.specs.Words.{Row, Text}
 use Rattle.clap.specs.declared.error.ErrorKind.{ErrorKind}
-use Rattle.ua_server.specs.declared.line.Line.{Line as CommandLine}
-use Rattle.ua_server.specs.declared.line.Line.TheVariants.{Answer, Serve, Dump, Sync}
-use Rattle.ua_server.specs.declared.line.LineFault.{LineFault}
-use Rattle.ua_server.specs.declared.line.LineFault.TheVariants.{Words, OutOfMemory as NoMemory}
-use Rattle.ua_server.specs.Line.{IsLine, IsNoCommand}
+use Rattle.command_line.specs.declared.line.Line.{Line as CommandLine}
+use Rattle.command_line.specs.declared.line.Line.TheVariants.{Answer, Serve, Dump, Sync}
+use Rattle.command_line.specs.declared.line.LineFault.{LineFault}
+use Rattle.command_line.specs.declared.line.LineFault.TheVariants.{Words, OutOfMemory as NoMemory}
+use Rattle.command_line.specs.Line.{IsLine, IsNoCommand}
 
 -- ---- the archive of a program
 

@@ -7,8 +7,7 @@ use Rattle.counted_io.specs.declared.fault.ServeFault.TheVariants.{Read, Write, 
 use Rattle.ua_server.specs.declared.program.ProgramFault.{ProgramFault}
 use Rattle.ua_server.specs.declared.program.ProgramFault.TheVariants.{Line, File, Settings, Store, BadHex, Address, Connection, Call, Exchange, Peer}
 use Rattle.ua_peers.specs.declared.calling.Synced.{Synced}
-use Rattle.ua_server.specs.declared.line.LineFault.{LineFault}
-use Rattle.ua_server.specs.declared.line.LineFault.TheVariants.{Words, OutOfMemory as NoMemory}
+use Rattle.command_line.specs.Line.{line_text_of}
 use Rattle.counted_io.specs.Bytes.{AppendsPart, counted}
 use Rattle.counted_io.specs.Tally.{Tally}
 use Rattle.exchange.specs.Fault.{exchange_number}
@@ -28,11 +27,6 @@ fault_status fault = 1
 abbrev pub status_of : Result (Unit {0}) ProgramFault → ℕ
 status_of (Ok done) = 0
 status_of (Err fault) = fault_status fault
-
--- the text that tells a refused command line
-abbrev pub line_text_of : LineFault → List ℕ
-line_text_of Words = codes "usage: uahist answer [--settings FILE] [--hex] [--now N] | serve --settings FILE [--connections N] | dump --settings FILE | sync --settings FILE --peer ADDRESS"
-line_text_of NoMemory = codes "memory ran out before the command began"
 
 -- the text that tells refused settings
 abbrev pub refusal_text : SettingsFault → List ℕ

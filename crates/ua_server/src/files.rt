@@ -3,8 +3,8 @@
 ghost use Rattle.std.specs.Prelude.{◌≡◌, ◌≤◌, ℕ, List, Option, IfSome, length, option_map, option_copied, string_bytes};
 ghost use Rattle.ua_server.specs.Program.{IsBare, IsPlace, IsSetIn, SettingsAt};
 
-use crate::line::LineFault;
 use crate::program::ProgramFault;
+use command_line::LineFault;
 use std::alloc::Global;
 use std::fmt::InlineText;
 use ua_binary::Text;

@@ -11,15 +11,15 @@ ghost use Rattle.ua_server.specs.Dumping.{Dumps};
 ghost use Rattle.clap.specs.Words.{subcommand_of};
 ghost use Rattle.clap.specs.Takes.{takes};
 ghost use Rattle.clap.specs.Faults.{fault_of as fault_kinds};
-ghost use Rattle.ua_server.specs.Line.{uahist};
+ghost use Rattle.command_line.specs.Line.{uahist};
 
 use crate::connections::serve_at;
 use crate::dumps::{DumpFault, dump};
 use crate::files::{SettingsFiles, settings_at};
-use crate::line::{Line, LineFault, read_line};
 use crate::network::Network;
 use crate::stores::Stores;
 use archive::{Archive, StoreFault};
+use command_line::{Line, LineFault, read_line};
 use counted_io::{Counted, ServeFault};
 use exchange::{ExchangeFault, Replica};
 use std::alloc::{AllocError, Global};

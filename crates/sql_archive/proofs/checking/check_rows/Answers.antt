@@ -6,11 +6,11 @@ use Rattle.sqlite.specs.State.{State, HasCleanDisk, Survives, CommitsShowing, Fa
 use Rattle.sqlite.specs.Held.{state}
 use Rattle.sqlite.proofs.StateLemmas.{survives_weaker}
 use Rattle.sqlite.proofs.Callers.{never_commits, begun_plain}
-use Rattle.sql_archive.specs.State.{Holds, IsKnown}
-use Rattle.sql_archive.specs.Words.{cells}
-use Rattle.sql_archive.proofs.Texts.{all_text}
-use Rattle.sql_archive.proofs.QueryLemmas.{all_plain, finds_all}
-use Rattle.sql_archive.proofs.WriteLemmas.{fails_query}
+use Rattle.sql_tables.specs.State.{Holds, IsKnown}
+use Rattle.sql_tables.specs.Words.{cells}
+use Rattle.sql_tables.proofs.Texts.{all_text}
+use Rattle.sql_tables.proofs.QueryLemmas.{all_plain, finds_all}
+use Rattle.sql_tables.proofs.WriteLemmas.{fails_query}
 use Rattle.sql_archive.proofs.checking.check_rows.Goals as goal
 
 commits_nothing : (old new : State) → (HasCleanDisk old → IsKnown old.now.schema) → Survives old new (CommitsShowing all_text [] old) → Survives old new (λ _. ⊥)

@@ -4,7 +4,7 @@ use Rattle.sqlite.specs.State.{HasCleanDisk, IsUnchanged, Survives}
 use Rattle.sqlite.specs.Held.{state}
 use Rattle.sqlite.specs.Given.{HasGiven}
 use Rattle.sql_archive.specs.Opening.{HasWalked}
-use Rattle.sql_archive.proofs.Texts.{all_text}
+use Rattle.sql_tables.proofs.Texts.{all_text}
 use Rattle.sql_archive.proofs.checking.check_rows.Given as goal
 
 abbrev pub invariant-rows : goal.invariant-rows

@@ -1,7 +1,7 @@
 use Rattle.std.proofs.Common.{◌∙◌, arith}
 use Rattle.sqlite.specs.State.{HasCleanDisk}
 use Rattle.sqlite.specs.Held.{state}
-use Rattle.sql_archive.proofs.KeptLemmas.{filled_kept}
+use Rattle.sql_tables.proofs.KeptLemmas.{filled_kept}
 use Rattle.sql_archive.proofs.migrating.add_tables.Goals as goal
 
 pub returns-clause-made : goal.returns-clause-made

@@ -1,6 +1,6 @@
 use Rattle.std.proofs.Common.{arith}
 use Rattle.sqlite.specs.Held.{state}
-use Rattle.sql_archive.specs.State.{IsMigrated}
+use Rattle.sql_tables.specs.State.{IsMigrated}
 use Rattle.sql_archive.proofs.StartLemmas.{never_moved, opened_then, left_then}
 use Rattle.sql_archive.proofs.migrating.begin.Goals as goal
 

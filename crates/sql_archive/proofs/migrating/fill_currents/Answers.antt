@@ -1,8 +1,8 @@
 use Rattle.std.proofs.Common.{arith}
 use Rattle.sqlite.specs.State.{HasCleanDisk}
 use Rattle.sqlite.specs.Held.{state}
-use Rattle.sql_archive.proofs.WriteLemmas.{keeps_commit}
-use Rattle.sql_archive.proofs.KeepLemmas.{fills_currents}
+use Rattle.sql_tables.proofs.WriteLemmas.{keeps_commit}
+use Rattle.sql_tables.proofs.KeepLemmas.{fills_currents}
 use Rattle.sql_archive.proofs.migrating.fill_currents.Goals as goal
 
 pub returns-clause-made : goal.returns-clause-made

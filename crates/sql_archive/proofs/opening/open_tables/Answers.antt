@@ -1,7 +1,7 @@
 use Rattle.std.proofs.Common.{◌≡◌, arith, subst, Ok, ap, sym, refl}
-use Rattle.sql_archive.specs.Rows.{content_in, meta_cells}
+use Rattle.sql_tables.specs.Rows.{content_in, meta_cells}
 use Rattle.sql_archive.specs.Kept.{Remembers}
-use Rattle.sql_archive.specs.State.{Found, IsKnown}
+use Rattle.sql_tables.specs.State.{Found, IsKnown}
 use Rattle.sql_archive.specs.Opening.{judged}
 use Rattle.sqlite.specs.Held.{state}
 use Rattle.sqlite.specs.Effect.{Database}

@@ -1,7 +1,7 @@
 use Rattle.sqlite.specs.Held.{state}
 use Rattle.std.proofs.Common.{arith}
 use Rattle.sql_archive.proofs.OpenLemmas.{checked_is}
-use Rattle.sql_archive.proofs.WriteLemmas.{holds_as}
+use Rattle.sql_tables.proofs.WriteLemmas.{holds_as}
 use Rattle.sql_archive.proofs.opening.walk.Goals as goal
 
 pub returns-in-Ok-Ok : goal.returns-in-Ok-Ok

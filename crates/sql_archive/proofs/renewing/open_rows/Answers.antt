@@ -1,7 +1,7 @@
 use Rattle.std.proofs.Common.{◌≡◌, arith, subst, Ok}
 use Rattle.sqlite.specs.Held.{state}
-use Rattle.sql_archive.specs.Rows.{meta_cells}
-use Rattle.sql_archive.specs.State.{Found}
+use Rattle.sql_tables.specs.Rows.{meta_cells}
+use Rattle.sql_tables.specs.State.{Found}
 use Rattle.sql_archive.specs.Opening.{judged_as}
 use Rattle.sql_archive.proofs.RenewLemmas.{opened_rows}
 use Rattle.sql_archive.proofs.renewing.open_rows.Goals as goal

@@ -1,8 +1,8 @@
 use Rattle.std.proofs.Common.{◌≡◌, take, map}
 use Rattle.sqlite.specs.State.{HasCleanDisk, Survives}
 use Rattle.sqlite.specs.Held.{state}
-use Rattle.sql_archive.specs.Tables.{archive_schema}
-use Rattle.sql_archive.specs.State.{Making, shown_of}
+use Rattle.sql_schema.specs.Tables.{archive_schema}
+use Rattle.sql_tables.specs.State.{Making, shown_of}
 use Rattle.sql_archive.specs.Renewing.{PutsRecords}
 use Rattle.sql_archive.proofs.renewing.put_records.Given as goal
 

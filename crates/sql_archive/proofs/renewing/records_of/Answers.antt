@@ -2,8 +2,8 @@ use Rattle.std.proofs.Common.{arith, subst, sym}
 use Rattle.sqlite.specs.Held.{state}
 use Rattle.sqlite.specs.Listing.{understood}
 use Rattle.sqlite.proofs.Callers.{IsPlain}
-use Rattle.sql_archive.proofs.AskLemmas.{found_as}
-use Rattle.sql_archive.proofs.Texts.{records1_text}
+use Rattle.sql_tables.proofs.AskLemmas.{found_as}
+use Rattle.sql_tables.proofs.Texts.{records1_text}
 use Rattle.sql_archive.proofs.FirstLemmas.{finds_records1, records1_plain}
 use Rattle.sql_archive.proofs.renewing.records_of.Goals as goal
 

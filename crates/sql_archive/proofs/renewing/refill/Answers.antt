@@ -1,7 +1,7 @@
 use Rattle.std.proofs.Common.{◌∙◌, map, arith}
 use Rattle.sqlite.specs.State.{HasCleanDisk}
 use Rattle.sqlite.specs.Held.{state}
-use Rattle.sql_archive.specs.State.{shown_of}
+use Rattle.sql_tables.specs.State.{shown_of}
 use Rattle.sql_archive.proofs.RenewLemmas.{refilled}
 use Rattle.sql_archive.proofs.renewing.refill.Goals as goal
 

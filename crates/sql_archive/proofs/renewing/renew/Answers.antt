@@ -1,7 +1,7 @@
 use Rattle.std.proofs.Common.{◌∙◌, map, subst, sym, arith, IsPermutation}
 use Rattle.sqlite.specs.State.{HasCleanDisk}
 use Rattle.sqlite.specs.Held.{state}
-use Rattle.sql_archive.specs.Derived.{vector_columns}
+use Rattle.sql_tables.specs.Derived.{vector_columns}
 use Rattle.sql_archive.specs.Renewing.{IsTurned}
 use Rattle.sql_archive.proofs.RenewLemmas.{turned, makes_still}
 use Rattle.sql_archive.proofs.renewing.renew.Goals as goal

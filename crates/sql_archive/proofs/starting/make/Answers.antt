@@ -2,7 +2,7 @@ use Rattle.std.proofs.Common.{pos, w64, SFits, arith}
 use Rattle.std.proofs.lemmas.Int.{to_z-of_z}
 use Rattle.sqlite.specs.State.{HasCleanDisk}
 use Rattle.sqlite.specs.Held.{state}
-use Rattle.sql_archive.specs.State.{IsNewArchive}
+use Rattle.sql_tables.specs.State.{IsNewArchive}
 use Rattle.sql_archive.proofs.StartLemmas.{never_wrong, opened_then, left_then}
 use Rattle.sql_archive.proofs.starting.make.Goals as goal
 

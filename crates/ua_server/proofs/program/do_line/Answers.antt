@@ -1,5 +1,5 @@
 use Rattle.std.proofs.Common.{◌≡◌, refl, sym, subst}
-use Rattle.ua_server.specs.declared.line.Line.{Line as CommandLine}
+use Rattle.command_line.specs.declared.line.Line.{Line as CommandLine}
 use Rattle.ua_server.specs.Program.{DoesLine}
 use Rattle.ua_server.proofs.program.do_line.Goals as goal
 

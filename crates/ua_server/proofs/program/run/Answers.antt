@@ -2,7 +2,7 @@ use Rattle.std.proofs.Common.{◌≡◌, Err, ap, map, refl}
 use Rattle.clap.specs.Words.{subcommand_of}
 use Rattle.clap.specs.Takes.{takes}
 use Rattle.clap.specs.Faults.{fault_of as fault_kinds}
-use Rattle.ua_server.specs.Line.{uahist}
+use Rattle.command_line.specs.Line.{uahist}
 use Rattle.ua_server.proofs.Printing.{line-refused, line-done}
 use Rattle.ua_server.proofs.program.run.Goals as goal
 

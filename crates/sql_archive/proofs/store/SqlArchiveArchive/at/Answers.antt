@@ -3,7 +3,7 @@ use Rattle.std.specs.declared.alloc.Global.{Global}
 use Rattle.sqlite.specs.Held.{state}
 use Rattle.records.specs.Records.{story}
 use Rattle.records.specs.declared.record.Record.{Record}
-use Rattle.sql_archive.specs.Rows.{content_in}
+use Rattle.sql_tables.specs.Rows.{content_in}
 use Rattle.archive.specs.Store.{Asks}
 use Rattle.sql_archive.specs.Kept.{Kept, Serves, store_of}
 use Rattle.sql_archive.proofs.StoreLemmas.{Laws, refuses, asks, serves-asked}

@@ -1,7 +1,7 @@
 use Rattle.std.proofs.Common.{subst, ap, ◌∙◌, refl}
 use Rattle.sql_archive.specs.Kept.{Kept, Serves, store_of}
 use Rattle.archive.specs.Store.{Learns}
-use Rattle.sql_archive.specs.Learning.{flat}
+use Rattle.sql_tables.specs.Learning.{flat}
 use Rattle.sql_archive.proofs.StoreLemmas.{Laws, refuses-learn, learns, serves-learned}
 use Rattle.sql_archive.proofs.store.SqlArchiveArchive.learn.Goals as goal
 

@@ -5,7 +5,7 @@ use Rattle.stamp.specs.Numbers.{number_of}
 use Rattle.records.specs.Contents.{cut}
 use Rattle.records.specs.declared.shown.Entry.{Entry}
 use Rattle.archive.specs.Reading.{log_of}
-use Rattle.sql_archive.specs.Rows.{content_in}
+use Rattle.sql_tables.specs.Rows.{content_in}
 use Rattle.archive.specs.Store.{Asks}
 use Rattle.sql_archive.specs.Kept.{Kept, Serves, store_of}
 use Rattle.sql_archive.proofs.StoreLemmas.{Laws, refuses, asks, serves-asked}

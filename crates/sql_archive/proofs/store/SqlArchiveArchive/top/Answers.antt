@@ -2,7 +2,7 @@ use Rattle.std.proofs.Common.{◌≡◌, arith, w64, FitsSigned, subst, ℤ, Ok}
 use Rattle.sqlite.specs.Held.{state}
 use Rattle.std.proofs.lemmas.Int.{to_z-of_z, ints, clamps}
 use Rattle.records.specs.Contents.{top}
-use Rattle.sql_archive.specs.Rows.{content_in}
+use Rattle.sql_tables.specs.Rows.{content_in}
 use Rattle.archive.specs.Store.{Asks}
 use Rattle.sql_archive.specs.Kept.{Kept, store_of}
 use Rattle.sql_archive.proofs.StoreLemmas.{Laws, refuses, tells}

@@ -2,7 +2,7 @@ use Rattle.std.proofs.Common.{◌≡◌, subst, List, ℕ, Ok}
 use Rattle.sqlite.specs.Held.{state}
 use Rattle.stamp.specs.Numbers.{number_of}
 use Rattle.records.specs.Contents.{vec}
-use Rattle.sql_archive.specs.Rows.{content_in}
+use Rattle.sql_tables.specs.Rows.{content_in}
 use Rattle.archive.specs.Store.{Asks}
 use Rattle.sql_archive.specs.Kept.{Kept, store_of}
 use Rattle.sql_archive.proofs.StoreLemmas.{Laws, refuses, tells}

@@ -1,0 +1,50 @@
+use Rattle.std.proofs.Common.{◌≡◌, ℤ, List, Some, None, refl, ◌∙◌, ap, subst, sym, codes}
+use Rattle.std.specs.Prelude.{Option, Result, Ok, Err}
+use Rattle.std.specs.Int.{w64}
+use Rattle.std.specs.Str.Parse.{ParsesSigned, ExplainsSignedError, HasSignedDigitsIfOk, signed_digits_value}
+use Rattle.std.specs.declared.num.ParseIntError.{ParseIntError}
+use Rattle.clap.specs.Matches.{TriesOne}
+use Rattle.clap.specs.Words.{Row, Text, found_of, one_of, one_text, rows_of}
+use Rattle.clap.proofs.WalkLemmas.{first_value-rows, one_text-rows}
+use Rattle.command_line.specs.Line.{IsFlag, IsNumber, GivesNoNumber}
+use Rattle.command_line.proofs.line.read_answer.Goals as goal
+
+-- the number that was read is the one that the text spells
+number_of : {E : Type 0} (gives : Text → Result ℤ E → Type 0) → ((text : Text) (r : Result ℤ E) → gives text r → ParsesSigned w64 10 text r)
+    → (text : Text) (result : Result (Option ℤ) E) (number : Option ℤ) → TriesOne gives text result → result ≡ Ok number → number ≡ Some (signed_digits_value 10 text)
+number_of gives parses text (Ok (Some v)) number tries is = let same : number ≡ Some v = cc in same ∙ ap (λ n. Some n) (parses text (Ok v) tries).1
+number_of gives parses text (Ok None) number tries is = absurd tries
+number_of gives parses text (Err e) number tries is = absurd cc
+
+-- and where none could be read, the text spells none
+no_number : {E : Type 0} (gives : Text → Result ℤ E → Type 0) → ((text : Text) (r : Result ℤ E) → gives text r → ParsesSigned w64 10 text r)
+    → (rows : List Row) (one : Option Text) (result : Result (Option ℤ) E) (fault : E) → one_of (codes "now") rows ≡ one → (one ≡ None → result ≡ Ok None)
+    → ((text : Text) → one ≡ Some text → TriesOne gives text result) → result ≡ Err fault → GivesNoNumber (codes "now") rows
+no_number gives parses rows None result fault is none tries fails = let wrong = none refl in absurd cc
+no_number {E} gives parses rows (Some text) result fault is none tries fails =
+    let P : Result (Option ℤ) E → Type 0 = TriesOne gives text in
+    (text, is, parses text (Err fault) (subst P fails (tries text refl)))
+
+-- what a 64-bit number is read by
+abbrev gives : Text → Result ℤ ParseIntError → Type 0
+gives text r = ParsesSigned w64 10 text r × ExplainsSignedError 10 text r × HasSignedDigitsIfOk text r
+
+pub returns-in-Ok-clause-ok : goal.returns-in-Ok-clause-ok
+returns-in-Ok-clause-ok c =
+    let found = found_of c.args.answer.now in
+    let flag : IsFlag (codes "hex") (rows_of found) c.get_flag-hex.result = record {
+      set = λ e. c.get_flag-hex.ensures.value (one_text-rows found (codes "hex") ∙ e);
+      unset = λ e. c.get_flag-hex.ensures.other (one_text-rows found (codes "hex") ∙ e);
+      absent = λ e. c.get_flag-hex.ensures.none (one_text-rows found (codes "hex") ∙ e);
+    } in
+    let number : IsNumber (codes "now") (rows_of found) c.in-Ok.now = record {
+      given = λ text e. number_of gives (λ t r g. g.0) text c.try_get_one.result c.in-Ok.now (c.try_get_one.ensures.value text (one_text-rows found (codes "now") ∙ e)) c.in-Ok.is;
+      absent = λ e. let none = c.try_get_one.ensures.none (one_text-rows found (codes "now") ∙ e) in cc;
+    } in
+    (c.get_str-settings.ensures ∙ first_value-rows found (codes "settings"), flag, number)
+
+pub returns-in-Err-clause-words : goal.returns-in-Err-clause-words
+returns-in-Err-clause-words c =
+    let found = found_of c.args.answer.now in
+    no_number gives (λ t r g. g.0) (rows_of found) (one_text found (codes "now")) c.try_get_one.result c.in-Err.field-0 (sym (one_text-rows found (codes "now")))
+    c.try_get_one.ensures.none c.try_get_one.ensures.value c.in-Err.is

@@ -1,0 +1,6 @@
+//! The command line of the program: the commands that it takes, and what a line asks it to do.
+#![tactic(auto)]
+
+mod line;
+
+pub use line::{Line, LineFault, read_line};

@@ -1,0 +1,300 @@
+//! The command line.
+
+ghost use Rattle.std.specs.Prelude.{◌≡◌, [], map, codes, IfOk, OnErr, IsErrOf, None, true, false};
+ghost use Rattle.clap.specs.Words.{app_of, rule_of, rows_of, found_of, first_of, subcommand_of, subcommand_rows_of};
+ghost use Rattle.clap.specs.declared.builder.command.Command.TheViews.{out-Command};
+ghost use Rattle.clap.specs.Takes.{takes};
+ghost use Rattle.clap.specs.Faults.{fault_of as fault_kinds};
+ghost use Rattle.command_line.specs.Line.{IsAnswer, IsServe, IsDump, IsSync, IsLine, GivesNoNumber, IsNoServe, IsNoSync, IsNoCommand, answer, connections, dump, now, peer, serve, servers, settings, sync, uahist};
+
+use clap::builder::ValueParser;
+use clap::error::ErrorKind;
+use clap::{Arg, ArgAction, ArgMatches, Command};
+use std::alloc::{AllocError, Global};
+use std::convert::AsStr;
+use std::error::Error;
+use std::fmt;
+
+/// The greatest moment that a clock may stand at, 2^63 - 1.
+const MOST_NOW: u64 = 9_223_372_036_854_775_807;
+
+/// The most connections that a run serves, and as many as it serves where no number is given, 2^32 - 1.
+const MOST_CONNECTIONS: u64 = 4_294_967_295;
+
+/// What the program is asked to do.
+#[derive(Clone, Copy, Debug, PartialEq, Eq)]
+pub enum Line<'a> {
+    /// Answer one connection from standard input to standard output, both in hex digits where `hex` is set. The server is
+    /// set by the file at `settings` where that is given, and the clock stands at `now` where that is.
+    Answer {
+        settings: Option<&'a str>,
+        hex: bool,
+        now: Option<i64>,
+    },
+    /// Serve so many connections over TCP, one after the other, by the settings of the file at `settings`.
+    Serve {
+        settings: &'a str,
+        connections: u32,
+    },
+    /// Print the records of the archive that the file at `settings` sets.
+    Dump {
+        settings: &'a str,
+    },
+    /// Call the peer at the address `peer`, by the settings of the file at `settings`, and exchange records with it.
+    Sync {
+        settings: &'a str,
+        peer: &'a str,
+    },
+}
+
+/// Why a command line is no command.
+#[derive(Clone, Copy, Debug, PartialEq, Eq)]
+pub enum LineFault {
+    /// The words are no command of the program's, or ask for help.
+    Words,
+    /// Memory ran out.
+    OutOfMemory,
+}
+
+impl LineFault {
+    ghost use Rattle.command_line.specs.Line.{line_text_of};
+
+    /// The text that tells it.
+    pub fn text(self) -> &'static str
+        ensures { result.now ≡ line_text_of self }
+    {
+        match self {
+            LineFault::Words =>
+                "usage: uahist answer [--settings FILE] [--hex] [--now N] | serve --settings FILE [--connections N] | dump --settings FILE | sync --settings FILE --peer ADDRESS",
+            LineFault::OutOfMemory => "memory ran out before the command began",
+        }
+    }
+}
+
+impl fmt::Display for LineFault {
+    ghost use Rattle.std.specs.Prelude.{Some};
+    ghost use Rattle.command_line.specs.Line.{line_text_of};
+
+    ghost output = { λ fault. Some (line_text_of fault) };
+
+    fn fmt<W: fmt::Write>(&self, f: &mut fmt::Formatter<W>) -> fmt::Result {
+        f.write_str(self.text())
+    }
+}
+
+impl Error for LineFault {}
+
+/// The option `--now N`.
+fn now_option<'a>(alloc: Global) -> Arg<'a>
+    ensures rule { rule_of result ≡ now }
+    ensures local { result.global ≡ false }
+{
+    Arg::new(alloc, "now")
+        .long("now")
+        .action(ArgAction::Set)
+        .value_parser(ValueParser::unsigned(0, MOST_NOW))
+}
+
+/// The option `--settings FILE`.
+fn settings_option<'a>(alloc: Global) -> Arg<'a>
+    ensures rule { rule_of result ≡ settings }
+    ensures local { result.global ≡ false }
+{
+    Arg::new(alloc, "settings")
+        .long("settings")
+        .action(ArgAction::Set)
+}
+
+/// The option `--connections N`.
+fn connections_option<'a>(alloc: Global) -> Arg<'a>
+    ensures rule { rule_of result ≡ connections }
+    ensures local { result.global ≡ false }
+{
+    Arg::new(alloc, "connections")
+        .long("connections")
+        .action(ArgAction::Set)
+        .value_parser(ValueParser::unsigned(1, MOST_CONNECTIONS))
+}
+
+/// The command `answer` and its options.
+fn answer_command<'a>(alloc: Global) -> Result<Command<'a>, AllocError>
+    ensures app { IfOk result (λ command. app_of command ≡ answer) }
+    ensures local { IfOk result (λ command. (out-Command command).has_globals ≡ false) }
+{
+    let hex = Arg::new(alloc, "hex")
+        .long("hex")
+        .action(ArgAction::SetTrue);
+    let settings = settings_option(alloc);
+    let now = now_option(alloc);
+    let command = Command::new(alloc, "answer");
+    let command = command.arg(settings)?.arg(hex)?.arg(now)?;
+    Ok(command)
+}
+
+/// The command `serve` and its options.
+fn serve_command<'a>(alloc: Global) -> Result<Command<'a>, AllocError>
+    ensures app { IfOk result (λ command. app_of command ≡ serve) }
+    ensures local { IfOk result (λ command. (out-Command command).has_globals ≡ false) }
+{
+    let settings = settings_option(alloc);
+    let connections = connections_option(alloc);
+    let command = Command::new(alloc, "serve");
+    let command = command.arg(settings)?.arg(connections)?;
+    Ok(command)
+}
+
+/// The command `dump` and its option.
+fn dump_command<'a>(alloc: Global) -> Result<Command<'a>, AllocError>
+    ensures app { IfOk result (λ command. app_of command ≡ dump) }
+    ensures local { IfOk result (λ command. (out-Command command).has_globals ≡ false) }
+{
+    let settings = settings_option(alloc);
+    let command = Command::new(alloc, "dump");
+    let command = command.arg(settings)?;
+    Ok(command)
+}
+
+/// The option `--peer ADDRESS`.
+fn peer_option<'a>(alloc: Global) -> Arg<'a>
+    ensures rule { rule_of result ≡ peer }
+    ensures local { result.global ≡ false }
+{
+    Arg::new(alloc, "peer").long("peer").action(ArgAction::Set)
+}
+
+/// The command `sync` and its options.
+fn sync_command<'a>(alloc: Global) -> Result<Command<'a>, AllocError>
+    ensures app { IfOk result (λ command. app_of command ≡ sync) }
+    ensures local { IfOk result (λ command. (out-Command command).has_globals ≡ false) }
+{
+    let settings = settings_option(alloc);
+    let peer = peer_option(alloc);
+    let command = Command::new(alloc, "sync");
+    let command = command.arg(settings)?.arg(peer)?;
+    Ok(command)
+}
+
+/// The program with its commands that answer clients.
+fn servers<'a>(alloc: Global) -> Result<Command<'a>, AllocError>
+    ensures { IfOk result (λ command. app_of command ≡ servers) }
+{
+    let answer = answer_command(alloc)?;
+    let serve = serve_command(alloc)?;
+    let whole = Command::new(alloc, "uahist");
+    let whole = whole.subcommand(answer)?.subcommand(serve)?;
+    Ok(whole)
+}
+
+/// The program's commands and their options.
+fn command<'a>(alloc: Global) -> Result<Command<'a>, AllocError>
+    ensures { IfOk result (λ command. app_of command ≡ uahist) }
+{
+    let dump = dump_command(alloc)?;
+    let sync = sync_command(alloc)?;
+    let whole = servers(alloc)?;
+    let whole = whole.subcommand(dump)?.subcommand(sync)?;
+    Ok(whole)
+}
+
+/// What a refusal of `clap`'s is called here.
+fn fault_of(kind: ErrorKind) -> LineFault
+    ensures { result ≡ LineFault.Words → kind ≡ ErrorKind.OutOfMemory → ⊥ }
+{
+    match kind {
+        ErrorKind::OutOfMemory => LineFault::OutOfMemory,
+        _ => LineFault::Words,
+    }
+}
+
+/// Reads the options of `answer`.
+fn read_answer<'a>(answer: &ArgMatches<'a>) -> Result<Line<'a>, LineFault>
+    ensures ok { IfOk result (IsAnswer (rows_of (found_of answer.now))) }
+    ensures words { OnErr result (GivesNoNumber (codes "now") (rows_of (found_of answer.now))) }
+{
+    let settings = answer.get_str("settings");
+    let hex = answer.get_flag("hex");
+    match answer.try_get_one("now") {
+        Ok(now) => Ok(Line::Answer { settings, hex, now }),
+        Err(_) => Err(LineFault::Words),
+    }
+}
+
+/// Reads the options of `serve`.
+fn read_serve<'a>(serve: &ArgMatches<'a>) -> Result<Line<'a>, LineFault>
+    ensures ok { IfOk result (IsServe (rows_of (found_of serve.now))) }
+    ensures words { OnErr result (IsNoServe (rows_of (found_of serve.now))) }
+{
+    let Some(settings) = serve.get_str("settings") else {
+        return Err(LineFault::Words);
+    };
+    match serve.try_get_one("connections") {
+        Ok(connections) => Ok(Line::Serve {
+            settings,
+            connections: connections.unwrap_or(u32::MAX),
+        }),
+        Err(_) => Err(LineFault::Words),
+    }
+}
+
+/// Reads the option of `dump`.
+fn read_dump<'a>(dump: &ArgMatches<'a>) -> Result<Line<'a>, LineFault>
+    ensures ok { IfOk result (IsDump (rows_of (found_of dump.now))) }
+    ensures words { OnErr result (first_of (codes "settings") (rows_of (found_of dump.now)) ≡ None) }
+{
+    match dump.get_str("settings") {
+        Some(settings) => Ok(Line::Dump { settings }),
+        None => Err(LineFault::Words),
+    }
+}
+
+/// Reads the options of `sync`.
+fn read_sync<'a>(sync: &ArgMatches<'a>) -> Result<Line<'a>, LineFault>
+    ensures ok { IfOk result (IsSync (rows_of (found_of sync.now))) }
+    ensures words { OnErr result (IsNoSync (rows_of (found_of sync.now))) }
+{
+    let Some(settings) = sync.get_str("settings") else {
+        return Err(LineFault::Words);
+    };
+    match sync.get_str("peer") {
+        Some(peer) => Ok(Line::Sync { settings, peer }),
+        None => Err(LineFault::Words),
+    }
+}
+
+/// Reads the command that the matches name.
+fn read_matches<'a>(matches: &ArgMatches<'a>) -> Result<Line<'a>, LineFault>
+    ensures ok { IfOk result (IsLine (subcommand_rows_of matches.now)) }
+    ensures words { OnErr result (IsNoCommand (subcommand_rows_of matches.now)) }
+{
+    if let Some(answer) = matches.subcommand_matches("answer") {
+        return read_answer(answer);
+    }
+    if let Some(serve) = matches.subcommand_matches("serve") {
+        return read_serve(serve);
+    }
+    if let Some(dump) = matches.subcommand_matches("dump") {
+        return read_dump(dump);
+    }
+    match matches.subcommand_matches("sync") {
+        None => Err(LineFault::Words),
+        Some(sync) => read_sync(sync),
+    }
+}
+
+/// Reads a command line, the program's name first, as `clap` reads it.
+///
+/// `Ok` has the command that `clap`'s matches name and the values that they give for it. Errors: `Words` where `clap`
+/// refuses the words, they name no command, or a value is no number; `OutOfMemory` where memory ran out.
+pub fn read_line<'a, S: AsStr>(alloc: Global, words: &'a [S]) -> Result<Line<'a>, LineFault>
+    ensures ok { IfOk result (IsLine (subcommand_of uahist (map S.text words.now))) }
+    ensures taken { IfOk result (λ line. fault_kinds uahist (map S.text words.now) ≡ []) }
+    ensures words { IsErrOf result LineFault.Words → takes uahist (map S.text words.now) ≡ true → IsNoCommand (subcommand_of uahist (map S.text words.now)) }
+{
+    let Ok(command) = command(alloc) else {
+        return Err(LineFault::OutOfMemory);
+    };
+    match command.try_get_matches_from(words) {
+        Ok(matches) => read_matches(&matches),
+        Err(error) => Err(fault_of(error.kind())),
+    }
+}

@@ -1,7 +1,0 @@
-use Rattle.std.proofs.Common.{◌≡◌, take}
-use Rattle.std.specs.List.{flat_map}
-use Rattle.sql_archive.specs.Currents.{helds_in}
-use Rattle.sql_archive.proofs.currents.helds_in.Given as goal
-
-abbrev pub invariant-loop-row : goal.invariant-loop-row
-invariant-loop-row l = l.all.items ≡ flat_map helds_in (take l.row-index l.rows)

@@ -1,0 +1,184 @@
+//! A node's live values, by the table of current values.
+
+ghost use Rattle.std.specs.Prelude.{◌≡◌, ◌∷◌, ◌⊎◌, [], None, Some, pos, map, take, IfOk};
+ghost use Rattle.std.specs.List.{flat_map};
+ghost use Rattle.sqlite.specs.State.{HasCleanDisk};
+ghost use Rattle.sqlite.specs.Held.{state};
+ghost use Rattle.sqlite_value.specs.Order.{column, bytes};
+ghost use Rattle.sqlite_value.specs.declared.value.Value.TheVariants as value;
+ghost use Rattle.sqlite_sql.specs.Query.{as_count};
+ghost use Rattle.ua_binary.specs.Binary.{node_id, IsNodeId};
+ghost use Rattle.ua_variant.specs.DataValue.{data_value};
+ghost use Rattle.records.specs.Moments.{ticks_of, pico_of};
+ghost use Rattle.archive.specs.Reading.{times};
+ghost use Rattle.sql_tables.specs.Rows.{content_in, IsFilled};
+ghost use Rattle.sql_tables.specs.Derived.{AreKept, current_columns};
+ghost use Rattle.sql_tables.specs.Currents.{is_live_after, is_live_before, current_order, AreNextCurrents, values_in, helds_in};
+ghost use Rattle.sql_tables.specs.State.{Idles, Asked};
+ghost use Rattle.sql_tables.specs.Words.{IsPage};
+ghost use Rattle.sql_reading.specs.Walking.{moment_at, IsPlace, stretch, values_at};
+
+use archive::{Direction, StoreFault};
+use records::{Held, Moment, RecordFault};
+use sql_tables::{Place, bytes_at, int_at, place_of, select, short_at};
+use sqlite::{Alter, Connection, Row, params};
+use std::alloc::Global;
+use ua_binary::{Cursor, NodeId};
+use ua_variant::{DataValue, read_data_value};
+
+/// Current values of a node beyond a near place and up to a far one: so many of them, or all where the
+/// count is below 0.
+#[derive(Clone, Copy, Debug)]
+struct Stretch {
+    near: Place,
+    far: Place,
+    count: i64,
+}
+
+/// The first live values of a node, by time, after a place.
+fn currents_after<S: Alter>(
+    conn: &mut Connection<S>,
+    node: &[u8],
+    along: &Stretch,
+) -> Result<Vec<Row>, StoreFault>
+    requires { HasCleanDisk (state S.Store conn.old) → Idles (state S.Store conn.old) }
+    ensures { Asked (state S.Store conn.old) (state S.Store conn.new) result (λ rows. IsPage (is_live_after node.now along.now.near.ticks along.now.near.pico along.now.far.ticks along.now.far.pico) current_order (as_count (value.Int along.now.count)) (map current_columns ((state S.Store conn.old).now.trees 4)) rows.items) }
+{
+    select(
+        conn,
+        "SELECT node, time, pico, tick, origin, live, extra, value FROM currents2 WHERE node = ?1 AND time >= ?2 AND (time > ?2 OR pico > ?3) AND time <= ?4 AND (time < ?4 OR pico <= ?5) AND live = 1 ORDER BY time, pico LIMIT ?6",
+        params![
+            node,
+            &along.near.ticks,
+            &along.near.pico,
+            &along.far.ticks,
+            &along.far.pico,
+            &along.count
+        ],
+    )
+}
+
+/// The last live values of a node, by time, before a place: the last one first.
+fn currents_before<S: Alter>(
+    conn: &mut Connection<S>,
+    node: &[u8],
+    along: &Stretch,
+) -> Result<Vec<Row>, StoreFault>
+    requires { HasCleanDisk (state S.Store conn.old) → Idles (state S.Store conn.old) }
+    ensures { Asked (state S.Store conn.old) (state S.Store conn.new) result (λ rows. IsPage (is_live_before node.now along.now.near.ticks along.now.near.pico along.now.far.ticks along.now.far.pico) (λ a b. current_order b a) (as_count (value.Int along.now.count)) (map current_columns ((state S.Store conn.old).now.trees 4)) rows.items) }
+{
+    select(
+        conn,
+        "SELECT node, time, pico, tick, origin, live, extra, value FROM currents2 WHERE node = ?1 AND time <= ?2 AND (time < ?2 OR pico < ?3) AND time >= ?4 AND (time > ?4 OR pico >= ?5) AND live = 1 ORDER BY time DESC, pico DESC LIMIT ?6",
+        params![
+            node,
+            &along.near.ticks,
+            &along.near.pico,
+            &along.far.ticks,
+            &along.far.pico,
+            &along.count
+        ],
+    )
+}
+
+/// The first live values of a node, in the direction, beyond a place.
+fn currents_next<S: Alter>(
+    conn: &mut Connection<S>,
+    node: &[u8],
+    along: &Stretch,
+    direction: Direction,
+) -> Result<Vec<Row>, StoreFault>
+    requires { HasCleanDisk (state S.Store conn.old) → Idles (state S.Store conn.old) }
+    ensures { Asked (state S.Store conn.old) (state S.Store conn.new) result (λ rows. AreNextCurrents direction node.now along.now.near.ticks along.now.near.pico along.now.far.ticks along.now.far.pico (as_count (value.Int along.now.count)) (map current_columns ((state S.Store conn.old).now.trees 4)) rows.items) }
+{
+    match direction {
+        Direction::Forward => currents_after(conn, node, along),
+        Direction::Backward => currents_before(conn, node, along),
+    }
+}
+
+/// The value of a row.
+fn value_at(alloc: Global, row: &Row) -> Result<DataValue, RecordFault>
+    ensures { IfOk result (λ v. values_in (data_value.read (bytes (column row.now 7))) ≡ v ∷ []) }
+{
+    let mut cursor = Cursor::new(bytes_at(row, 7)?);
+    Ok(read_data_value(alloc, &mut cursor)?)
+}
+
+/// The live value that a row of current values stands for.
+fn held_in(alloc: Global, row: &Row) -> Result<Held, RecordFault>
+    ensures { IfOk result (λ h. helds_in row.now ≡ h ∷ []) }
+{
+    let ticks = int_at(row, 1)?;
+    let pico = short_at(row, 2)?;
+    let extra = int_at(row, 6)? != 0;
+    let Some(time) = Moment::new(ticks, pico) else {
+        return Err(RecordFault::BadField);
+    };
+    let value = value_at(alloc, row)?;
+    Ok(Held { time, value, extra })
+}
+
+/// The live values that rows of current values stand for.
+fn helds_in(alloc: Global, rows: &[Row]) -> Result<Vec<Held>, RecordFault>
+    ensures { IfOk result (λ all. all.items ≡ flat_map helds_in rows.now) }
+{
+    let mut all = Vec::new(alloc);
+    for row in rows {
+        let one = held_in(alloc, row)?;
+        match all.push(one) {
+            Ok(()) => {}
+            Err(_) => return Err(RecordFault::OutOfMemory),
+        }
+    }
+    Ok(all)
+}
+
+/// So many as SQL counts them, or all where SQL has no such count.
+pub(crate) fn count_of(wanted: usize) -> i64
+    ensures { (as_count (value.Int result) ≡ None) ⊎ (as_count (value.Int result) ≡ Some wanted) }
+{
+    match i64::try_from(wanted) {
+        Ok(count) => count,
+        Err(_) => -1,
+    }
+}
+
+/// So many beyond a place, up to a far moment.
+fn stretch_of(near: Place, far: Moment, limit: usize) -> Stretch
+    ensures near { (result.near.ticks ≡ near.ticks) × (result.near.pico ≡ near.pico) }
+    ensures far { (result.far.ticks ≡ ticks_of far) × (result.far.pico ≡ pos (pico_of far)) }
+    ensures count { (as_count (value.Int result.count) ≡ None) ⊎ (as_count (value.Int result.count) ≡ Some limit) }
+{
+    Stretch {
+        near,
+        far: place_of(far),
+        count: count_of(limit),
+    }
+}
+
+/// The first `limit` of a node's live values beyond a place, up to a far time: one query.
+pub(crate) fn current_values<S: Alter>(
+    alloc: Global,
+    conn: &mut Connection<S>,
+    node: &NodeId,
+    bytes: &[u8],
+    start: Place,
+    far: Moment,
+    direction: Direction,
+    limit: usize,
+) -> Result<Vec<Held>, StoreFault>
+    requires idles { HasCleanDisk (state S.Store conn.old) → Idles (state S.Store conn.old) }
+    requires filled { HasCleanDisk (state S.Store conn.old) → IsFilled (state S.Store conn.old).now.trees }
+    requires kept { HasCleanDisk (state S.Store conn.old) → AreKept (state S.Store conn.old).now.trees }
+    requires spelled { bytes.now ≡ node_id.canon node.now }
+    requires lawful { IsNodeId node.now }
+    requires place { IsPlace direction start.pico }
+    ensures { Asked (state S.Store conn.old) (state S.Store conn.new) result (λ v. v.items ≡ take limit (flat_map (values_at (content_in (state S.Store conn.old).now.trees) node.now) (stretch direction (moment_at start.ticks start.pico) far (times (content_in (state S.Store conn.old).now.trees) node.now)))) }
+{
+    let along = stretch_of(start, far, limit);
+    let rows = currents_next(conn, bytes, &along, direction)?;
+    let mut found = helds_in(alloc, &rows)?;
+    found.truncate(limit);
+    Ok(found)
+}

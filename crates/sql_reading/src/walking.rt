@@ -1,0 +1,172 @@
+//! Going over the times of a node, in a direction, and the records of each.
+
+ghost use Rattle.std.specs.Prelude.{◌≡◌, ◌<◌, take, not, filter};
+ghost use Rattle.std.specs.List.{flat_map};
+ghost use Rattle.sqlite.specs.State.{HasCleanDisk};
+ghost use Rattle.sqlite.specs.Held.{state};
+ghost use Rattle.stamp.specs.Numbers.{number_of};
+ghost use Rattle.ua_binary.specs.Binary.{node_id, IsNodeId};
+ghost use Rattle.records.specs.Contents.{cut};
+ghost use Rattle.records.specs.Records.{story, is_beyond};
+ghost use Rattle.archive.specs.Reading.{times};
+ghost use Rattle.sql_tables.specs.Rows.{content_in, IsFilled};
+ghost use Rattle.sql_tables.specs.State.{Idles, Asked};
+ghost use Rattle.sql_reading.specs.Walking.{moment_at, IsPlace, IsTold, StandsFirst, IsAhead, stretch, values_at, entries_at};
+
+use crate::ahead::{Ahead, next_time, nothing_ahead, rows_to_ask, take_story};
+use crate::reads::Story;
+use crate::shown::{push_entries, push_value};
+use archive::{Direction, LogPlace, StoreFault};
+use records::{Entry, Held, Moment, Record};
+use sql_tables::{Place, place_of};
+use sqlite::{Alter, Connection};
+use stamp::Vector;
+use std::alloc::Global;
+use ua_binary::NodeId;
+
+/// Takes off the records of the first time that is held, and keeps those that a vector covers.
+fn covered_story<S: Alter>(
+    alloc: Global,
+    conn: &mut Connection<S>,
+    ahead: &mut Ahead,
+    node: &NodeId,
+    bytes: &[u8],
+    time: Moment,
+    direction: Direction,
+    within: &Vector,
+) -> Result<Vec<Record>, StoreFault>
+    requires idles { HasCleanDisk (state S.Store conn.old) → Idles (state S.Store conn.old) }
+    requires filled { HasCleanDisk (state S.Store conn.old) → IsFilled (state S.Store conn.old).now.trees }
+    requires spelled { bytes.now ≡ node_id.canon node.now }
+    requires lawful { IsNodeId node.now }
+    requires first { HasCleanDisk (state S.Store conn.old) → StandsFirst (content_in (state S.Store conn.old).now.trees) node.now direction time ahead.old.records.items ahead.old.ends }
+    ensures { Asked (state S.Store conn.old) (state S.Store conn.new) result (λ v. (v.items ≡ story (cut (content_in (state S.Store conn.old).now.trees) (number_of within.now)) node.now time) × IsAhead (content_in (state S.Store conn.old).now.trees) node.now direction time ahead.new.records.items ahead.new.ends) }
+{
+    let mut records = take_story(alloc, conn, ahead, node, bytes, time, direction)?;
+    keep_covered(&mut records, within);
+    Ok(records)
+}
+
+fn keep_covered(records: &mut Vec<Record>, within: &Vector)
+    ensures { records.new.items ≡ filter (λ r. not (is_beyond (number_of within.now) r)) records.old.items }
+{
+    records.retain(|r| within.covers(r.origin, r.number));
+}
+
+/// The first time of a node that is strictly beyond a place, and not beyond a far time, with the
+/// records that a vector covers. What is held ahead is then what stands beyond that time.
+fn next_story<S: Alter>(
+    alloc: Global,
+    conn: &mut Connection<S>,
+    ahead: &mut Ahead,
+    node: &NodeId,
+    bytes: &[u8],
+    place: &Place,
+    far: Moment,
+    direction: Direction,
+    count: u16,
+    within: &Vector,
+) -> Result<Option<Story>, StoreFault>
+    requires idles { HasCleanDisk (state S.Store conn.old) → Idles (state S.Store conn.old) }
+    requires filled { HasCleanDisk (state S.Store conn.old) → IsFilled (state S.Store conn.old).now.trees }
+    requires spelled { bytes.now ≡ node_id.canon node.now }
+    requires lawful { IsNodeId node.now }
+    requires place { IsPlace direction place.now.pico }
+    requires some { 0 < count }
+    requires ahead { HasCleanDisk (state S.Store conn.old) → IsAhead (content_in (state S.Store conn.old).now.trees) node.now direction (moment_at place.now.ticks place.now.pico) ahead.old.records.items ahead.old.ends }
+    ensures { Asked (state S.Store conn.old) (state S.Store conn.new) result (λ o. IsTold (content_in (state S.Store conn.old).now.trees) node.now (number_of within.now) direction (moment_at place.now.ticks place.now.pico) far o ahead.new.records.items ahead.new.ends) }
+{
+    let next = next_time(alloc, conn, ahead, node, bytes, place, direction, count)?;
+    let Some(time) = next else {
+        return Ok(None);
+    };
+    if direction.is_past(far, time) {
+        return Ok(None);
+    }
+    let records = covered_story(alloc, conn, ahead, node, bytes, time, direction, within)?;
+    Ok(Some(Story { time, records }))
+}
+
+/// The first `limit` of a node's values beyond a place, up to a far time.
+pub(crate) fn values<S: Alter>(
+    alloc: Global,
+    conn: &mut Connection<S>,
+    node: &NodeId,
+    bytes: &[u8],
+    start: Place,
+    far: Moment,
+    direction: Direction,
+    limit: usize,
+    within: &Vector,
+) -> Result<Vec<Held>, StoreFault>
+    requires idles { HasCleanDisk (state S.Store conn.old) → Idles (state S.Store conn.old) }
+    requires filled { HasCleanDisk (state S.Store conn.old) → IsFilled (state S.Store conn.old).now.trees }
+    requires spelled { bytes.now ≡ node_id.canon node.now }
+    requires lawful { IsNodeId node.now }
+    requires place { IsPlace direction start.pico }
+    ensures { Asked (state S.Store conn.old) (state S.Store conn.new) result (λ v. v.items ≡ take limit (flat_map (values_at (cut (content_in (state S.Store conn.old).now.trees) (number_of within.now)) node.now) (stretch direction (moment_at start.ticks start.pico) far (times (content_in (state S.Store conn.old).now.trees) node.now)))) }
+{
+    let mut found = Vec::new(alloc);
+    let mut ahead = nothing_ahead(alloc);
+    let mut place = start;
+    for _ in 0..u64::MAX {
+        if found.len() >= limit {
+            found.truncate(limit);
+            return Ok(found);
+        }
+        let count = rows_to_ask(found.len(), limit);
+        let next = next_story(
+            alloc, conn, &mut ahead, node, bytes, &place, far, direction, count, within,
+        )?;
+        let Some(story) = next else {
+            found.truncate(limit);
+            return Ok(found);
+        };
+        place = place_of(story.time);
+        push_value(&mut found, story.records)?;
+    }
+    Err(StoreFault::Refused)
+}
+
+/// The first `limit` of a node's modifications beyond a place, up to a far time, that stand behind
+/// another place, where one is given.
+pub(crate) fn entries<S: Alter>(
+    alloc: Global,
+    conn: &mut Connection<S>,
+    node: &NodeId,
+    bytes: &[u8],
+    start: Place,
+    far: Moment,
+    after: &Option<LogPlace>,
+    direction: Direction,
+    limit: usize,
+    within: &Vector,
+) -> Result<Vec<Entry>, StoreFault>
+    requires idles { HasCleanDisk (state S.Store conn.old) → Idles (state S.Store conn.old) }
+    requires filled { HasCleanDisk (state S.Store conn.old) → IsFilled (state S.Store conn.old).now.trees }
+    requires spelled { bytes.now ≡ node_id.canon node.now }
+    requires lawful { IsNodeId node.now }
+    requires place { IsPlace direction start.pico }
+    ensures { Asked (state S.Store conn.old) (state S.Store conn.new) result (λ v. v.items ≡ take limit (flat_map (entries_at (cut (content_in (state S.Store conn.old).now.trees) (number_of within.now)) node.now after.now direction) (stretch direction (moment_at start.ticks start.pico) far (times (content_in (state S.Store conn.old).now.trees) node.now)))) }
+{
+    let mut found = Vec::new(alloc);
+    let mut ahead = nothing_ahead(alloc);
+    let mut place = start;
+    for _ in 0..u64::MAX {
+        if found.len() >= limit {
+            found.truncate(limit);
+            return Ok(found);
+        }
+        let count = rows_to_ask(found.len(), limit);
+        let next = next_story(
+            alloc, conn, &mut ahead, node, bytes, &place, far, direction, count, within,
+        )?;
+        let Some(story) = next else {
+            found.truncate(limit);
+            return Ok(found);
+        };
+        place = place_of(story.time);
+        push_entries(alloc, &mut found, &story.records, direction, after)?;
+    }
+    Err(StoreFault::Refused)
+}

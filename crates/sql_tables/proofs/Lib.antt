@@ -1,0 +1,16 @@
+pub mod Texts
+pub mod WriteLemmas
+pub mod ApartLemmas
+pub mod DerivedLemmas
+pub mod RemoveLemmas
+pub mod ChangeLemmas
+pub mod MadeLemmas
+pub mod KeepLemmas
+pub mod KeptLemmas
+pub mod AgreeLemmas
+pub mod AgreedLemmas
+pub mod FreeLemmas
+pub mod QueryLemmas
+pub mod RowLemmas
+pub mod LearnLemmas
+pub mod AskLemmas

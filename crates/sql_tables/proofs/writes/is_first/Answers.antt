@@ -1,0 +1,22 @@
+use Rattle.std.proofs.Common.{◌≡◌, refl, arith, []}
+use Rattle.sqlite.specs.Held.{state}
+use Rattle.sql_tables.proofs.FreeLemmas.{none_at, some_at_plain}
+use Rattle.sql_tables.proofs.writes.is_first.Goals as goal
+
+pub select-requires-clause-plain : goal.select-requires-clause-plain
+select-requires-clause-plain g c = some_at_plain
+
+pub returns : goal.returns
+returns g c =
+    let e = c.in_ok-rows.ensures in
+    let old = state g.S.Store c.args.conn.now in
+    let r = c.args.r.now in
+    record {
+      answer = λ clean first.
+          let empty : c.in_ok-rows.rows.items ≡ [] = (rw c.deref.ensures.value at c.are_none.ensures) first in
+          none_at old (state g.S.Store c.select.new.conn) r.node.items r.time r.pico c.in_ok-rows.rows.items (c.requires (omega (arith, e.crash.clean, clean))).tables
+          (rw (c.params-to_sql.ensures, c.params-to_sql-2.ensures, c.params-to_sql-3.ensures) at (e.answer clean)) empty;
+      kept = λ clean ok. e.kept clean refl;
+      met = tt;
+      crash = e.crash;
+    }

@@ -1,0 +1,105 @@
+//! Statements over a connection, and what their faults tell.
+
+ghost use Rattle.std.specs.Prelude.{◌≡◌, ◌≢◌, ◌⊎◌, ⊤, IsTrue, IfOk, IfErr, OnOk};
+ghost use Rattle.sqlite.specs.State.{HasCleanDisk, IsUnchanged, Shown, Survives};
+ghost use Rattle.sqlite.specs.Held.{state};
+ghost use Rattle.sqlite.specs.Values.{bound};
+ghost use Rattle.sqlite.specs.Given.{IsPlain};
+ghost use Rattle.sqlite.specs.Listing.{understood};
+ghost use Rattle.archive.specs.Store.{IsOfOpening};
+ghost use Rattle.sql_schema.specs.Tables.{archive_schema};
+ghost use Rattle.sql_tables.specs.State.{Asked, Found, Holds, Idles, Rests};
+
+use archive::StoreFault;
+use sqlite::{Alter, Connection, Error, ErrorCode, Row};
+use sqlite_value::value::ValueRef;
+
+/// Whether the store is still open.
+fn is_alive<S: Alter>(conn: &mut Connection<S>) -> bool
+    ensures alive { HasCleanDisk (state S.Store conn.new) → IsTrue result → IsUnchanged (state S.Store conn.old) (state S.Store conn.new) }
+    ensures crash { Survives (state S.Store conn.old) (state S.Store conn.new) (λ _. ⊥) }
+{
+    conn.prepare("SELECT 1").is_ok()
+}
+
+/// What a failed call is told as: `Broken` where the connection is found shut.
+pub fn fault_of<S: Alter>(conn: &mut Connection<S>, error: Error) -> StoreFault
+    ensures alive { HasCleanDisk (state S.Store conn.new) → result ≢ StoreFault.Broken → IsUnchanged (state S.Store conn.old) (state S.Store conn.new) }
+    ensures met { IsOfOpening result → ⊥ }
+    ensures crash { Survives (state S.Store conn.old) (state S.Store conn.new) (λ _. ⊥) }
+{
+    if !is_alive(conn) {
+        return StoreFault::Broken;
+    }
+    refusal_of(error)
+}
+
+/// What an error is told as, as long as the store is open: want of memory, or a refusal.
+pub fn refusal_of(error: Error) -> StoreFault
+    ensures named { (result ≡ StoreFault.OutOfMemory) ⊎ (result ≡ StoreFault.Refused) }
+    ensures met { IsOfOpening result → ⊥ }
+{
+    match error {
+        Error::SqliteFailure(ErrorCode::OutOfMemory) => StoreFault::OutOfMemory,
+        _ => StoreFault::Refused,
+    }
+}
+
+/// Nothing, where the connection is still open, and else `Broken`.
+pub fn still_open<S: Alter>(conn: &mut Connection<S>) -> Result<(), StoreFault>
+    requires { HasCleanDisk (state S.Store conn.old) → Idles (state S.Store conn.old) }
+    ensures { Asked (state S.Store conn.old) (state S.Store conn.new) result (λ _. ⊤) }
+{
+    if is_alive(conn) {
+        Ok(())
+    } else {
+        Err(StoreFault::Broken)
+    }
+}
+
+/// The rows that a query shows.
+fn rows_of<S: Alter>(
+    conn: &mut Connection<S>,
+    sql: &str,
+    params: &[ValueRef<'_>],
+) -> Result<Vec<Row>, Error>
+    requires rests { HasCleanDisk (state S.Store conn.old) → Rests (state S.Store conn.old) }
+    requires plain { HasCleanDisk (state S.Store conn.old) → IsPlain (understood (state S.Store conn.old).now.schema sql.now) }
+    ensures rows { HasCleanDisk (state S.Store conn.new) → IfOk result (λ rows. Shown sql.now (bound params.now) (state S.Store conn.old) (state S.Store conn.new) rows.items) }
+    ensures same { HasCleanDisk (state S.Store conn.new) → OnOk result (IsUnchanged (state S.Store conn.old) (state S.Store conn.new)) }
+    ensures refused { HasCleanDisk (state S.Store conn.new) → IfErr result (λ _. IsTrue (state S.Store conn.new).is_open → Holds (state S.Store conn.old) (state S.Store conn.new)) }
+    ensures crash { Survives (state S.Store conn.old) (state S.Store conn.new) (λ _. ⊥) }
+{
+    conn.query_all(sql, params)
+}
+
+/// The rows that a query shows, whatever the tables. `Broken` tells that the store is shut, `OutOfMemory` and `Refused` that it may
+/// still be used; it is as it was.
+#[tactic(auto, using(crate::proofs::WriteLemmas::holds_as))]
+pub fn ask<S: Alter>(
+    conn: &mut Connection<S>,
+    sql: &str,
+    params: &[ValueRef<'_>],
+) -> Result<Vec<Row>, StoreFault>
+    requires rests { HasCleanDisk (state S.Store conn.old) → Rests (state S.Store conn.old) }
+    requires plain { HasCleanDisk (state S.Store conn.old) → IsPlain (understood (state S.Store conn.old).now.schema sql.now) }
+    ensures { Found (state S.Store conn.old) (state S.Store conn.new) result (λ rows. Shown sql.now (bound params.now) (state S.Store conn.old) (state S.Store conn.new) rows.items) }
+{
+    match rows_of(conn, sql, params) {
+        Ok(rows) => Ok(rows),
+        Err(error) => Err(fault_of(conn, error)),
+    }
+}
+
+/// The same over the tables of an archive.
+pub fn select<S: Alter>(
+    conn: &mut Connection<S>,
+    sql: &str,
+    params: &[ValueRef<'_>],
+) -> Result<Vec<Row>, StoreFault>
+    requires idles { HasCleanDisk (state S.Store conn.old) → Idles (state S.Store conn.old) }
+    requires plain { IsPlain (understood archive_schema sql.now) }
+    ensures { Asked (state S.Store conn.old) (state S.Store conn.new) result (λ rows. Shown sql.now (bound params.now) (state S.Store conn.old) (state S.Store conn.new) rows.items) }
+{
+    ask(conn, sql, params)
+}
