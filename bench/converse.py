@@ -14,7 +14,7 @@ import running
 
 top = os.path.dirname(running.here)
 NAME = "bench_converse"
-BELOW = "exchange sql_archive sql_reading sql_tables sql_schema archive records stamp ua_variant ua_binary uuid anyhow sqlite"
+BELOW = "exchange sql_archive sql_opening sql_reading sql_tables sql_schema archive records stamp ua_variant ua_binary uuid anyhow sqlite"
 # What is filled: the kind of archive, each how many-th record is a correction, its name, and how many records.
 KINDS = [("file", 10, "in files", [10_000, 100_000]), ("sql", 0, "in memory, no corrections", [10_000, 100_000]), ("sql", 10, "in memory", [10_000, 20_000])]
 

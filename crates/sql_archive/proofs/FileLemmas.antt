@@ -33,7 +33,7 @@ use Rattle.sqlite.specs.declared.file.Leftover.TheVariants as left
 use Rattle.records.specs.Contents.{Content}
 use Rattle.sql_schema.specs.Tables.{meta, no_schema, older_schema, schema1, archive_schema}
 use Rattle.std.proofs.lemmas.List.Sorted.{IsPermutation-trans}
-use Rattle.sql_archive.specs.Renewing.{cells1, content1_in, IsStored1, IsStoreOf1, IsRenewed}
+use Rattle.sql_opening.specs.Renewing.{cells1, content1_in, IsStored1, IsStoreOf1, IsRenewed}
 use Rattle.sql_tables.proofs.RowLemmas.{content_from}
 use Rattle.sql_tables.specs.Rows.{content_in, records_in, row_of, meta_row, meta_columns, IsStored, IsStoreOf, IsOlderStoreOf, meta_cells}
 use Rattle.sql_tables.specs.Derived.{AreKept}
@@ -44,9 +44,9 @@ use Rattle.std.specs.List.{flat_map}
 use Rattle.sql_archive.specs.Kept.{Stands}
 use Rattle.sql_tables.specs.State.{IsMigrated}
 use Rattle.archive.specs.declared.fault.StoreFault.{StoreFault}
-use Rattle.sql_archive.specs.Opening.{Starts, IsBegunIn, IsRefused, judged}
+use Rattle.sql_opening.specs.Opening.{Starts, IsBegunIn, IsRefused, judged}
 use Rattle.sql_archive.specs.Files.{Tells, Resumes, ResumesOnly, ResumesAmong, IsAnothers, EngineLeaves, KeepsFound, IsLeftOf}
-use Rattle.sql_archive.proofs.OpenLemmas.{nothing_in}
+use Rattle.sql_opening.proofs.OpenLemmas.{nothing_in}
 
 -- the content is that of the rows of records2
 same_content : (a b : Trees) → a 1 ≡ b 1 → content_in a ≡ content_in b

@@ -1,7 +1,5 @@
 pub mod StoreLemmas
-pub mod OpenLemmas
 pub mod LastLemmas
-pub mod FirstLemmas
-pub mod RenewLemmas
+pub mod BeginLemmas
 pub mod FileLemmas
 pub mod StartLemmas

@@ -11,9 +11,9 @@ use Rattle.sql_schema.specs.Tables.{no_schema, older_schema, archive_schema}
 use Rattle.sql_tables.specs.Rows.{meta_cells, meta_columns, IsStored}
 use Rattle.sql_tables.specs.Derived.{AreKept}
 use Rattle.sql_tables.specs.State.{IsNewArchive, IsMigrated, HasMeta}
-use Rattle.sql_archive.specs.Opening.{judged, Starts, IsBegunIn, IsMigratedIn, IsRenewedIn, IsRefused}
+use Rattle.sql_opening.specs.Opening.{judged, Starts, IsBegunIn, IsMigratedIn, IsRenewedIn, IsRefused}
 use Rattle.sql_archive.specs.Kept.{Kept}
-use Rattle.sql_archive.proofs.OpenLemmas.{new_is_own, own_row}
+use Rattle.sql_opening.proofs.OpenLemmas.{new_is_own, own_row}
 use Rattle.sql_tables.proofs.AskLemmas.{survives_itself}
 
 module _ {S : Type 0} (g : Ghosts S) (old mid : State) (result : Result (Kept S) (StoreFault × Held S)) where

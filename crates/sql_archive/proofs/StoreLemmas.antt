@@ -35,7 +35,8 @@ use Rattle.records.proofs.ChangeLemmas.{top_put}
 use Rattle.sql_tables.specs.Rows.{content_in, IsStored, IsStoreOf, meta_columns}
 use Rattle.sql_tables.specs.Derived.{AreKept}
 use Rattle.sql_tables.specs.State.{Stays, Asked}
-use Rattle.sql_archive.specs.Kept.{Kept, Remembers, Raises, Stands, Serves, LeavesStores, store_of}
+use Rattle.sql_archive.specs.Kept.{Kept, Stands, Serves, LeavesStores, store_of}
+use Rattle.sql_opening.specs.Latest.{Remembers, Raises}
 use Rattle.sql_tables.proofs.AskLemmas.{survives_itself, asked_nothing}
 use Rattle.sql_tables.proofs.RowLemmas.{content_is}
 

@@ -12,9 +12,9 @@ use Rattle.sqlite.specs.declared.file.Leftover.{Leftover}
 use Rattle.records.specs.Contents.{Content}
 use Rattle.sql_schema.specs.Tables.{no_schema, older_schema, schema1, archive_schema}
 use Rattle.sql_tables.specs.State.{IsNewArchive, IsMigrated}
-use Rattle.sql_archive.specs.Renewing.{cells1, content1_in, IsStoreOf1, IsRenewed}
+use Rattle.sql_opening.specs.Renewing.{cells1, content1_in, IsStoreOf1, IsRenewed}
 use Rattle.archive.specs.declared.fault.StoreFault.{StoreFault}
-use Rattle.sql_archive.specs.Opening.{judged}
+use Rattle.sql_opening.specs.Opening.{judged}
 use Rattle.sql_tables.specs.Rows.{content_in, IsStoreOf, IsOlderStoreOf, meta_cells}
 
 -- an opening finds these trees in the two files: the database that they hold, or none

@@ -1,14 +1,11 @@
 -- What an archive in a database keeps, and how it meets the contract of archives.
-use Rattle.std.specs.Prelude.{◌≡◌, ℕ, max, ℤ, List, Bool, false, if◌then◌else◌, refl}
-use Rattle.std.specs.Int.{int_max}
+use Rattle.std.specs.Prelude.{◌≡◌, ℕ, ℤ, List, Bool, false, refl}
 use Rattle.std.specs.Coded.{Coded, code_by, coded×, coded_ℕ, coded_ℤ, coded_bool, coded_list}
 use Rattle.sqlite.specs.Held.{Held, held_code, state}
 use Rattle.sqlite.specs.State.{State, HasCleanDisk}
 use Rattle.sqlite_trees.specs.declared.store.Store.{Ghosts}
 use Rattle.sqlite_trees.specs.Tree.{Trees}
-use Rattle.stamp.specs.Numbers.{number_of}
-use Rattle.records.specs.Contents.{Content, number_from, vec, top}
-use Rattle.records.specs.declared.record.Record.{Record}
+use Rattle.sql_opening.specs.Latest.{Remembers}
 use Rattle.archive.specs.Store.{Store, IsOfOpening}
 use Rattle.sql_tables.specs.Rows.{content_in, IsStored, IsStoreOf}
 use Rattle.sql_tables.specs.Derived.{AreKept}
@@ -30,16 +27,6 @@ kept_code {S} store =
     (coded× (held_code store) (coded× (coded_list coded_ℕ) (coded× coded_ℕ (coded× (coded_list coded_ℕ) (coded× coded_ℤ (coded× coded_ℕ coded_bool))))))
     (λ k. (k.conn, (k.id, (k.number, (k.numbers, (k.tick, (k.faults, k.broken)))))))
     (λ p. record { conn = p.0; id = p.1.0; number = p.1.1.0; numbers = p.1.1.1.0; tick = p.1.1.1.1.0; faults = p.1.1.1.1.1.0; broken = p.1.1.1.1.1.1 }) (λ _. refl)
-
--- these are the content's last numbers, and its greatest tick
-pub record Remembers (R : Content) (numbers : List ℕ) (tick : ℤ) : Type 0 where
-  pub lasts : (replica : ℕ) → number_of numbers replica ≡ vec R replica
-  pub newest : tick ≡ top R
-
--- the numbers and the tick, with a record's where it is added
-pub record Raises (r : Record) (added : Bool) (numbers : List ℕ) (tick : ℤ) (new_numbers : List ℕ) (new_tick : ℤ) : Type 0 where
-  pub lasts : (replica : ℕ) → number_of new_numbers replica ≡ (if added then max (number_of numbers replica) (number_from replica r) else number_of numbers replica)
-  pub newest : new_tick ≡ (if added then int_max tick r.tick else tick)
 
 -- a connection idles; its tables stand for a lawful content, of which these are the last numbers and the greatest tick
 pub record Stands (id : List ℕ) (own : ℕ) (numbers : List ℕ) (tick : ℤ) (s : State) : Type 0 where

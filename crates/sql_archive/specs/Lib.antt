@@ -1,4 +1,2 @@
 pub mod Kept
-pub mod Opening
 pub mod Files
-pub mod Renewing

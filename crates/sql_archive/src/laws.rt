@@ -11,7 +11,7 @@ ghost use Rattle.records.specs.Contents.{Content};
 ghost use Rattle.records.specs.Moments.{pico_of};
 ghost use Rattle.sql_schema.specs.Tables.{no_schema};
 ghost use Rattle.sql_archive.specs.Files.{Resumes, KeepsFound};
-ghost use Rattle.sql_archive.specs.Renewing.{cells1, IsStored1, IsStoreOf1, IsRenewed};
+ghost use Rattle.sql_opening.specs.Renewing.{cells1, IsStored1, IsStoreOf1, IsRenewed};
 ghost use Rattle.sql_tables.specs.Rows.{IsOlderStoreOf};
 ghost use Rattle.sql_tables.specs.State.{IsMigrated};
 ghost use Rattle.sql_archive.specs.Kept.{Kept};

@@ -1,13 +1,10 @@
 //! An archive over SQLite, in memory or in a file: one row for each record, in the tables of store format 2.
 #![tactic(auto)]
 
-mod checking;
 mod files;
-mod latest;
 mod laws;
 mod learning;
 mod migrating;
-mod opening;
 mod renewing;
 mod starting;
 mod store;

@@ -6,7 +6,7 @@ ghost use Rattle.sqlite.specs.Held.{state};
 ghost use Rattle.archive.specs.Store.{IsOfOpening};
 ghost use Rattle.sql_schema.specs.Tables.{no_schema};
 ghost use Rattle.sql_tables.specs.State.{IsNewArchive};
-ghost use Rattle.sql_archive.specs.Opening.{Starts, IsBegunIn, IsRefused};
+ghost use Rattle.sql_opening.specs.Opening.{Starts, IsBegunIn, IsRefused};
 
 use crate::migrating::take_over;
 use crate::renewing::take_over_first;

@@ -7,12 +7,11 @@ ghost use Rattle.archive.specs.Store.{fault_in};
 ghost use Rattle.archive.specs.Listed.{failures, is_broken};
 ghost use Rattle.sql_tables.specs.State.{Idles};
 
-use crate::latest::{Latest, latest_after};
 use crate::learning::{flat, learn_in};
-use crate::opening::open_all;
 use crate::starting::make;
 use archive::{Archive, Direction, LearnFault, LogPlace, StoreFault};
 use records::{Entry, Held, Moment, Record};
+use sql_opening::{Latest, latest_after, open_all};
 use sql_reading::{log_in, outside_in, range_in, records_at, records_since};
 use sql_tables::still_open;
 use sqlite::{Alter, Connection, MemStore};
@@ -231,7 +230,7 @@ impl<S: Alter> SqlArchive<S> {
     ghost use Rattle.archive.specs.declared.fault.StoreFault.TheVariants as store;
     ghost use Rattle.std.specs.Prelude.{IfErr, Err};
     ghost use Rattle.sqlite.specs.State.{Survives};
-    ghost use Rattle.sql_archive.specs.Opening.{judged};
+    ghost use Rattle.sql_opening.specs.Opening.{judged};
     ghost use Rattle.sql_tables.specs.Rows.{meta_cells, IsStored};
     ghost use Rattle.sql_tables.specs.Derived.{AreKept};
 

@@ -2,7 +2,7 @@ use Rattle.std.proofs.Common.{ap, arith}
 use Rattle.sqlite.specs.Effect.{Database}
 use Rattle.sqlite.specs.Held.{state}
 use Rattle.sql_tables.specs.Rows.{meta_cells}
-use Rattle.sql_archive.specs.Opening.{judged}
+use Rattle.sql_opening.specs.Opening.{judged}
 use Rattle.sql_archive.proofs.StartLemmas.{opened_moved, left_moved, never_comes}
 use Rattle.sql_archive.proofs.migrating.take_over.Goals as goal
 

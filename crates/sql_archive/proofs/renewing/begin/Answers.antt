@@ -2,9 +2,10 @@ use Rattle.std.proofs.Common.{pos, w64, SFits, arith}
 use Rattle.std.proofs.lemmas.Int.{to_z-of_z}
 use Rattle.sqlite.specs.State.{HasCleanDisk}
 use Rattle.sqlite.specs.Held.{state}
-use Rattle.sql_archive.specs.Renewing.{cells1}
+use Rattle.sql_opening.specs.Renewing.{cells1}
 use Rattle.sql_archive.proofs.StartLemmas.{never_another}
-use Rattle.sql_archive.proofs.RenewLemmas.{renewed_is_own, opened_turned, left_turned, begun_turned, crash_turned}
+use Rattle.sql_opening.proofs.RenewLemmas.{renewed_is_own}
+use Rattle.sql_archive.proofs.BeginLemmas.{opened_turned, left_turned, begun_turned, crash_turned}
 use Rattle.sql_archive.proofs.renewing.begin.Goals as goal
 
 pub returns-in-Ok-clause-renewed : goal.returns-in-Ok-clause-renewed

@@ -1,6 +1,6 @@
 use Rattle.sqlite.specs.Held.{state}
-use Rattle.sql_archive.specs.Opening.{IsRenewedIn}
-use Rattle.sql_archive.proofs.RenewLemmas.{opened_behind, left_behind}
+use Rattle.sql_opening.specs.Opening.{IsRenewedIn}
+use Rattle.sql_archive.proofs.BeginLemmas.{opened_behind, left_behind}
 use Rattle.sql_archive.proofs.renewing.take_over_first.Goals as goal
 
 pub returns-in-Ok-clause-opened : goal.returns-in-Ok-clause-opened

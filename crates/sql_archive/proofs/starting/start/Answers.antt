@@ -1,6 +1,6 @@
 use Rattle.std.proofs.Common.{◌∙◌, sym, inl, inr}
 use Rattle.sqlite.specs.Held.{state}
-use Rattle.sql_archive.specs.Opening.{IsBegunIn}
+use Rattle.sql_opening.specs.Opening.{IsBegunIn}
 use Rattle.sql_archive.proofs.StartLemmas.{started_new, started_old, refused_by, opened_quiet, left_quiet, opened_new, left_new, started_migrated, opened_migrated, left_migrated, started_renewed, opened_renewed, left_renewed}
 use Rattle.sql_archive.proofs.starting.start.Goals as goal
 

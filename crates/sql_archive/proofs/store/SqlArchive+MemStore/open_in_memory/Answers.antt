@@ -1,7 +1,7 @@
 use Rattle.sqlite.specs.Held.{state}
 use Rattle.sqlite.specs.Steps.{over_memory}
 use Rattle.sqlite.proofs.Callers.{memory_is_clean}
-use Rattle.sql_archive.proofs.OpenLemmas.{nothing_in}
+use Rattle.sql_opening.proofs.OpenLemmas.{nothing_in}
 use Rattle.sql_archive.proofs.store.SqlArchive+MemStore.open_in_memory.Goals as goal
 
 pub returns-in-Ok-make-clause-empty : goal.returns-in-Ok-make-clause-empty

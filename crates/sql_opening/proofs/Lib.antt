@@ -1,0 +1,3 @@
+pub mod OpenLemmas
+pub mod FirstLemmas
+pub mod RenewLemmas

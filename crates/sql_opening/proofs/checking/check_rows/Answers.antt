@@ -1,0 +1,65 @@
+use Rattle.std.proofs.Common.{◌≡◌, [], Result, Ok, Err, IfErr, IsTrue, None, IsPermutation, refl, ap, arith, rules, sym, subst, ◌∙◌}
+use Rattle.std.specs.Option.{option_copied}
+use Rattle.sqlite.specs.Given.{Advances, GivesOn, row_if}
+use Rattle.sqlite.specs.Effect.{Database}
+use Rattle.sqlite.specs.State.{State, HasCleanDisk, Survives, CommitsShowing, FailsToQuery}
+use Rattle.sqlite.specs.Held.{state}
+use Rattle.sqlite.proofs.StateLemmas.{survives_weaker}
+use Rattle.sqlite.proofs.Callers.{never_commits, begun_plain}
+use Rattle.sql_tables.specs.State.{Holds, IsKnown}
+use Rattle.sql_tables.specs.Words.{cells}
+use Rattle.sql_tables.proofs.Texts.{all_text}
+use Rattle.sql_tables.proofs.QueryLemmas.{all_plain, finds_all}
+use Rattle.sql_tables.proofs.WriteLemmas.{fails_query}
+use Rattle.sql_opening.proofs.checking.check_rows.Goals as goal
+
+commits_nothing : (old new : State) → (HasCleanDisk old → IsKnown old.now.schema) → Survives old new (CommitsShowing all_text [] old) → Survives old new (λ _. ⊥)
+commits_nothing old new known s = survives_weaker old new _ _ (λ clean db. never_commits all_text [] old db (all_plain old.now.schema (known (omega (arith, s.clean, clean))))) s
+
+each_err : {A E : Type 0} {P : Type 0} (r : Result A E) → P → IfErr r (λ _. P)
+each_err (Ok a) p = tt
+each_err (Err e) p = p
+
+pub returns-in_err-rows-clause-refused : goal.returns-in_err-rows-clause-refused
+returns-in_err-rows-clause-refused g c clean =
+    let old = state g.S.Store c.args.conn.now in
+    let new = state g.S.Store c.query.follows.lender-at-none in
+    let held = c.query.follows.holds-at-none in
+    let kept : Survives old new (CommitsShowing all_text [] old) = search rules in
+    let failed : FailsToQuery all_text [] old new c.in_err-rows.field-0.0 = (rw c.in_err-rows.was at held).err clean in
+    let early : HasCleanDisk old = omega (arith, kept.clean, clean) in
+    each_err {P = IsTrue new.is_open → Holds old new} _ (λ is_open. fails_query all_text [] old new _ (all_plain old.now.schema (c.requires.known early)) (c.requires.rests early) is_open failed)
+
+pub returns-in_err-rows-clause-crash : goal.returns-in_err-rows-clause-crash
+returns-in_err-rows-clause-crash g c =
+    let old = state g.S.Store c.args.conn.now in
+    let new = state g.S.Store c.query.follows.lender-at-none in
+    let held = c.query.follows.holds-at-none in
+    let kept : Survives old new (CommitsShowing all_text [] old) = search rules in
+    commits_nothing old new c.requires.known kept
+
+pub rows-init : goal.rows-init
+rows-init g c =
+    let old = state g.S.Store c.args.conn.now in
+    let made = c.in_ok-rows.ensures in (
+      refl,
+      commits_nothing old _ c.requires.known made.survives,
+      λ clean.
+          let begun = begun_plain g.S.Store all_text [] c.args.conn.now _ (all_plain old.now.schema (c.requires.known (omega (arith, made.survives.clean, clean)))) (made.begun clean) in
+          ([], begun.0, begun.1, c.start-walk.ensures),
+    )
+
+pub returns-in_default-clause-checked : goal.returns-in_default-clause-checked
+returns-in_default-clause-checked g c clean =
+    let old = state g.S.Store c.args.conn.now in
+    let mid = c.rows.rows.conn.now in
+    let now = c.advance.new.self.conn.now in
+    let moved = c.in_ok-advance.ensures in
+    let late : HasCleanDisk (state g.S.Store now) = search rules in
+    let was = c.rows.invariant.2 (omega (arith, moved.survives.clean, late)) in
+    let on : Advances g.S.Store mid now (row_if c.advance.new.self.has_row now) = moved.ok late in
+    let none : row_if c.advance.new.self.has_row now ≡ None = sym c.get.ensures ∙ ap option_copied c.in_default.is in
+    let shown = subst (GivesOn g.S.Store all_text [] mid now was.0) none (on all_text [] was.0 was.1) in
+    let known = c.requires.known (omega (arith, c.rows.invariant.1.clean, moved.survives.clean, late)) in
+    let tables = subst IsKnown (sym (ap (λ (d : Database). d.schema) was.2.0.now_is)) known in
+    (was.0, subst (λ (d : Database). IsPermutation (cells (d.trees 1)) was.0) was.2.0.now_is (finds_all (state g.S.Store mid) (state g.S.Store now) was.0 tables shown), was.3)

@@ -1,0 +1,18 @@
+use Rattle.std.proofs.Common.{◌≡◌, arith, subst, Ok, ap, sym, refl}
+use Rattle.sql_tables.specs.Rows.{content_in, meta_cells}
+use Rattle.sql_opening.specs.Latest.{Remembers}
+use Rattle.sql_tables.specs.State.{Found, IsKnown}
+use Rattle.sql_opening.specs.Opening.{judged}
+use Rattle.sqlite.specs.Held.{state}
+use Rattle.sqlite.specs.Effect.{Database}
+use Rattle.sql_opening.proofs.OpenLemmas.{opened_by}
+use Rattle.sql_opening.proofs.opening.open_tables.Goals as goal
+
+pub walk-requires-clause-known : goal.walk-requires-clause-known
+walk-requires-clause-known g c clean =
+    let e = c.in_ok-told.ensures in
+    subst IsKnown (sym (ap (λ (d : Database). d.schema) (e.kept clean refl).same)) (c.requires.known (omega (arith, e.crash.clean, clean)))
+
+pub returns-in-Ok : goal.returns-in-Ok
+returns-in-Ok g c =
+    opened_by c.args.id.now c.args.number (state g.S.Store c.args.conn.now) (state g.S.Store c.judge.new.conn) (state g.S.Store c.walk.new.conn) (λ d l. Remembers (content_in d) l.numbers l.tick) c.walk.result (subst (λ t. Found (state g.S.Store c.args.conn.now) (state g.S.Store c.judge.new.conn) (Ok t) (λ told. told ≡ judged c.args.id.now c.args.number (meta_cells (state g.S.Store c.args.conn.now).now.trees))) c.in-Ok.is c.in_ok-told.ensures) c.walk.ensures (λ clean. omega (arith, c.walk.ensures.crash.clean, clean))

@@ -1,0 +1,166 @@
+//! The records of a store that anybody may have written, gone over one row at a time.
+
+ghost use Rattle.std.specs.Prelude.{◌≡◌, [], ◌∷◌, ◌++◌, List, IfOk, IfErr, OnOk, IsTrue};
+ghost use Rattle.sqlite.specs.State.{HasCleanDisk, IsUnchanged, Survives};
+ghost use Rattle.sqlite.specs.Held.{state};
+ghost use Rattle.sqlite_value.specs.Order.{Row as Columns, column};
+ghost use Rattle.sqlite_value.specs.declared.value.Value.TheVariants as value;
+ghost use Rattle.archive.specs.Store.{IsOfOpening};
+ghost use Rattle.records.specs.Spelling.{IsRecord};
+ghost use Rattle.sql_tables.specs.Words.{cells_of};
+ghost use Rattle.sql_tables.specs.Rows.{row_of};
+ghost use Rattle.sql_tables.specs.State.{Holds, IsKnown, Rests, shown_of};
+ghost use Rattle.sql_opening.specs.Opening.{comes_next, HasWalked, HasChecked};
+
+use crate::latest::{Latest, raised};
+use archive::StoreFault;
+use records::{Record, RecordFault};
+use sql_tables::{Cells, bytes_at, decode, int_at, make_cells};
+use sqlite::{Alter, Connection, Error, Row};
+use stamp::Vector;
+use std::alloc::Global;
+
+/// An origin, a number and a tick.
+#[derive(Clone, Copy, Debug)]
+pub(crate) struct Mark {
+    pub(crate) origin: u8,
+    pub(crate) number: u64,
+    pub(crate) tick: i64,
+}
+
+/// Whether the record is the first of a later origin, or the next of the same one.
+fn comes_next(before: Mark, r: &Record) -> bool
+    ensures { result ≡ comes_next before r.now }
+{
+    if before.origin < r.origin.get() {
+        return r.number == 1;
+    }
+    before.origin == r.origin.get()
+        && r.number > before.number
+        && r.number - before.number == 1
+        && before.tick < r.tick
+}
+
+pub(crate) fn is_int(row: &Row, at: usize, n: i64) -> bool
+    ensures { IsTrue result → column row.now at ≡ value.Int n }
+{
+    match int_at(row, at) {
+        Ok(found) => found == n,
+        Err(_) => false,
+    }
+}
+
+pub(crate) fn is_bytes(row: &Row, at: usize, bytes: &[u8]) -> bool
+    ensures { IsTrue result → column row.now at ≡ value.Blob bytes.now }
+{
+    match bytes_at(row, at) {
+        Ok(found) => found == bytes,
+        Err(_) => false,
+    }
+}
+
+/// Whether a row is that of these cells.
+fn is_row(row: &Row, c: &Cells) -> bool
+    ensures { IsTrue result → shown_of row.now ≡ cells_of c.now.origin c.now.number c.now.tick c.now.node.items c.now.time c.now.pico c.now.asked c.now.who.items c.now.value.items }
+{
+    is_int(row, 0, c.origin)
+        && is_int(row, 1, c.number)
+        && is_int(row, 2, c.tick)
+        && is_bytes(row, 3, &c.node)
+        && is_int(row, 4, c.time)
+        && is_int(row, 5, c.pico)
+        && is_int(row, 6, c.asked)
+        && is_bytes(row, 7, &c.who)
+        && is_bytes(row, 8, &c.value)
+}
+
+/// The record of exactly this row.
+fn read_row(alloc: Global, row: &Row) -> Result<Record, StoreFault>
+    ensures read { IfOk result (λ r. IsRecord r × (shown_of row.now ≡ row_of r)) }
+    ensures met { IfErr result (λ fault. IsOfOpening fault → ⊥) }
+{
+    let r = match decode(alloc, row) {
+        Ok(r) => r,
+        Err(RecordFault::OutOfMemory) => return Err(StoreFault::OutOfMemory),
+        Err(_) => return Err(StoreFault::Refused),
+    };
+    let cells = make_cells(alloc, &r)?;
+    if !is_row(row, &cells) {
+        return Err(StoreFault::Refused);
+    }
+    Ok(r)
+}
+
+/// What was gone over: where the last record stands, and what an archive remembers of them.
+#[derive(Clone, Copy, Debug)]
+pub(crate) struct Walk {
+    pub(crate) last: Mark,
+    pub(crate) latest: Latest,
+}
+
+/// Nothing gone over yet.
+pub(crate) fn start() -> Walk
+    ensures { HasWalked [] result }
+{
+    Walk {
+        last: Mark {
+            origin: 0,
+            number: 0,
+            tick: 0,
+        },
+        latest: Latest {
+            numbers: Vector::new(),
+            tick: 0,
+        },
+    }
+}
+
+/// Goes on over one row more, which is that of the next record in turn; else it is refused.
+pub(crate) fn go_on(alloc: Global, walk: Walk, row: &Row) -> Result<Walk, StoreFault>
+    ensures walked { (rows : List Columns) → HasWalked rows walk → IfOk result (HasWalked (rows ++ row.now ∷ [])) }
+    ensures met { IfErr result (λ fault. IsOfOpening fault → ⊥) }
+{
+    let r = read_row(alloc, row)?;
+    if !comes_next(walk.last, &r) {
+        return Err(StoreFault::Refused);
+    }
+    Ok(Walk {
+        last: Mark {
+            origin: r.origin.get(),
+            number: r.number,
+            tick: r.tick,
+        },
+        latest: raised(walk.latest, &r),
+    })
+}
+
+/// Goes over all rows of records, in an archive's tables as they are or as they were, by origin and number, as long as they are those of records in turn.
+pub(crate) fn check_rows<S: Alter>(
+    alloc: Global,
+    conn: &mut Connection<S>,
+) -> Result<Result<Walk, StoreFault>, Error>
+    requires rests { HasCleanDisk (state S.Store conn.old) → Rests (state S.Store conn.old) }
+    requires known { HasCleanDisk (state S.Store conn.old) → IsKnown (state S.Store conn.old).now.schema }
+    ensures checked { HasCleanDisk (state S.Store conn.new) → IfOk result (λ told. IfOk told (HasChecked (state S.Store conn.old).now.trees)) }
+    ensures met { IfOk result (λ told. IfErr told (λ fault. IsOfOpening fault → ⊥)) }
+    ensures same { HasCleanDisk (state S.Store conn.new) → OnOk result (IsUnchanged (state S.Store conn.old) (state S.Store conn.new)) }
+    ensures refused { HasCleanDisk (state S.Store conn.new) → IfErr result (λ _. IsTrue (state S.Store conn.new).is_open → Holds (state S.Store conn.old) (state S.Store conn.new)) }
+    ensures crash { Survives (state S.Store conn.old) (state S.Store conn.new) (λ _. ⊥) }
+{
+    let mut walk = start();
+    let mut rows = conn.query(
+        "SELECT origin, number, tick, node, time, pico, asked, who, value FROM records2 ORDER BY origin, number",
+        &[],
+    )?;
+    'rows: for _ in 0..u64::MAX {
+        rows.advance()?;
+        let Some(row) = rows.get() else {
+            return Ok(Ok(walk));
+        };
+        match go_on(alloc, walk, row) {
+            Ok(more) => walk = more,
+            Err(fault) => return Ok(Err(fault)),
+        }
+    }
+    Ok(Err(StoreFault::Refused))
+}

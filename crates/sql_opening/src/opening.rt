@@ -1,0 +1,143 @@
+//! An opening of tables that anybody may have written: whose they are, and what their records are.
+
+ghost use Rattle.std.specs.Prelude.{◌≡◌, ◌<◌, length};
+ghost use Rattle.std.specs.List.{AllByRecursion};
+ghost use Rattle.sqlite.specs.State.{HasCleanDisk};
+ghost use Rattle.sqlite.specs.Held.{state};
+ghost use Rattle.sqlite_value.specs.Order.{column};
+ghost use Rattle.sql_tables.specs.Rows.{content_in, IsFilled, meta_cells};
+ghost use Rattle.sql_opening.specs.Latest.{Remembers};
+ghost use Rattle.sql_tables.specs.State.{Found, HasMeta, Idles, IsKnown, Rests};
+ghost use Rattle.sql_opening.specs.Opening.{has_number, has_bytes, judged_row, judged_as, Opens, OpensAll};
+
+use crate::checking::check_rows;
+use crate::latest::Latest;
+use archive::StoreFault;
+use sql_tables::{check_kept, fault_of, rows_of_meta};
+use sqlite::{Alter, Connection, Row};
+use sqlite_value::value::ValueRef;
+use stamp::ReplicaNo;
+use std::alloc::Global;
+use uuid::Uuid;
+
+/// The last numbers and the greatest tick of the records, where they are the rows of a lawful content;
+/// else it is refused. It goes over them one at a time.
+fn walk<S: Alter>(alloc: Global, conn: &mut Connection<S>) -> Result<Latest, StoreFault>
+    requires rests { HasCleanDisk (state S.Store conn.old) → Rests (state S.Store conn.old) }
+    requires known { HasCleanDisk (state S.Store conn.old) → IsKnown (state S.Store conn.old).now.schema }
+    ensures { Found (state S.Store conn.old) (state S.Store conn.new) result (λ l. IsFilled (state S.Store conn.old).now.trees × Remembers (content_in (state S.Store conn.old).now.trees) l.numbers l.tick) }
+{
+    match check_rows(alloc, conn) {
+        Ok(Ok(walk)) => Ok(walk.latest),
+        Ok(Err(fault)) => Err(fault),
+        Err(error) => Err(fault_of(conn, error)),
+    }
+}
+
+/// Whether a column is this number.
+fn has_number(row: &Row, at: usize, n: u64) -> bool
+    requires { at < length row.now }
+    ensures { result ≡ has_number (column row.now at) n }
+{
+    match row.get_ref(at) {
+        Ok(ValueRef::Int(found)) => match u64::try_from(found) {
+            Ok(m) => m == n,
+            Err(_) => false,
+        },
+        Ok(_) => false,
+        Err(_) => false,
+    }
+}
+
+/// Whether a column is these bytes.
+fn has_bytes(row: &Row, at: usize, bytes: &[u8]) -> bool
+    requires { at < length row.now }
+    ensures { result ≡ has_bytes (column row.now at) bytes.now }
+{
+    match row.get_ref(at) {
+        Ok(ValueRef::Blob(found)) => found == bytes,
+        Ok(_) => false,
+        Err(_) => false,
+    }
+}
+
+/// Whose store it is, by a row of meta.
+fn judge_row(row: &Row, id: &Uuid, number: ReplicaNo, format: u64) -> Result<(), StoreFault>
+    ensures { length row.now ≡ 4 → result ≡ judged_row format id.now number row.now }
+{
+    if row.column_count() != 4 {
+        return Err(StoreFault::Refused);
+    }
+    if !has_bytes(row, 2, id.as_bytes()) {
+        return Err(StoreFault::WrongArchive);
+    }
+    if !has_number(row, 3, u64::from(number.get())) {
+        return Err(StoreFault::WrongReplica);
+    }
+    if !(has_number(row, 0, 1) && has_number(row, 1, format)) {
+        return Err(StoreFault::Refused);
+    }
+    Ok(())
+}
+
+/// Whose store it is, by the rows of meta.
+fn judge_meta(rows: &[Row], id: &Uuid, number: ReplicaNo, format: u64) -> Result<(), StoreFault>
+    ensures { AllByRecursion (λ r. length r ≡ 4) rows.now → result ≡ judged_as format id.now number rows.now }
+{
+    match rows {
+        [row] => judge_row(row, id, number, format),
+        _ => Err(StoreFault::Refused),
+    }
+}
+
+/// Whose store of a format it is.
+pub(crate) fn judge<S: Alter>(
+    conn: &mut Connection<S>,
+    id: &Uuid,
+    number: ReplicaNo,
+    format: u64,
+) -> Result<Result<(), StoreFault>, StoreFault>
+    requires rests { HasCleanDisk (state S.Store conn.old) → Rests (state S.Store conn.old) }
+    requires known { HasCleanDisk (state S.Store conn.old) → HasMeta (state S.Store conn.old).now.schema }
+    ensures { Found (state S.Store conn.old) (state S.Store conn.new) result (λ told. told ≡ judged_as format id.now number (meta_cells (state S.Store conn.old).now.trees)) }
+{
+    let rows = rows_of_meta(conn)?;
+    Ok(judge_meta(&rows, id, number, format))
+}
+
+/// Opens `meta` and `records2` as they stand there, and tells the last numbers and the greatest tick of the records. Nothing is
+/// changed.
+///
+/// Errors: `WrongArchive` and `WrongReplica` as `meta` says, the archive first; `Refused` where `meta` has another format, or the rows
+/// aren't those of a lawful content, or can't be read; `OutOfMemory`; `Broken` where the store is shut.
+pub fn open_tables<S: Alter>(
+    alloc: Global,
+    conn: &mut Connection<S>,
+    id: &Uuid,
+    number: ReplicaNo,
+) -> Result<Latest, StoreFault>
+    requires rests { HasCleanDisk (state S.Store conn.old) → Rests (state S.Store conn.old) }
+    requires known { HasCleanDisk (state S.Store conn.old) → IsKnown (state S.Store conn.old).now.schema }
+    ensures { Opens id.now number (state S.Store conn.old) (state S.Store conn.new) (λ l. Remembers (content_in (state S.Store conn.old).now.trees) l.numbers l.tick) result }
+{
+    let told = judge(conn, id, number, 2)?;
+    match told {
+        Ok(()) => walk(alloc, conn),
+        Err(fault) => Err(fault),
+    }
+}
+
+/// The same of all tables of an archive: `Refused` also where the current values or the last numbers aren't those of the records.
+pub fn open_all<S: Alter>(
+    alloc: Global,
+    conn: &mut Connection<S>,
+    id: &Uuid,
+    number: ReplicaNo,
+) -> Result<Latest, StoreFault>
+    requires { HasCleanDisk (state S.Store conn.old) → Idles (state S.Store conn.old) }
+    ensures { OpensAll id.now number (state S.Store conn.old) (state S.Store conn.new) (λ l. Remembers (content_in (state S.Store conn.old).now.trees) l.numbers l.tick) result }
+{
+    let latest = open_tables(alloc, conn, id, number)?;
+    check_kept(conn)?;
+    Ok(latest)
+}
