@@ -186,7 +186,7 @@ pub(crate) fn refused_after(
     }
 }
 
-static OTHER_TABLES: [&[&str]; 5] = [
+static OTHER_TABLES: [&[&str]; 6] = [
     &[
         "DROP TABLE meta",
         "DROP TABLE records2",
@@ -196,20 +196,16 @@ static OTHER_TABLES: [&[&str]; 5] = [
     ],
     &["DROP TABLE records2"],
     &["DROP TABLE vectors"],
+    &["DROP TABLE vectors", "DROP TABLE currents2"],
     &["CREATE TABLE more (a INTEGER)"],
     &["CREATE INDEX more ON records2 (tick)"],
 ];
 
 static OTHER_META: [&[&str]; 2] = [&["DELETE FROM meta"], &["UPDATE meta SET format = 1"]];
 
-static OTHER_RECORDS: [&[&str]; 3] = [
+static OTHER_RECORDS: [&[&str]; 2] = [
     &["DELETE FROM records2 WHERE number = 2"],
     &["UPDATE records2 SET value = x'' WHERE number = 2"],
-    &[
-        "DROP TABLE vectors",
-        "DROP TABLE currents2",
-        "DELETE FROM records2 WHERE number = 2",
-    ],
 ];
 
 /// Current values that aren't those of the records.
@@ -342,90 +338,6 @@ fn current_values_and_last_numbers_stand_beside_the_records(rt: HostRuntime) -> 
         assert!(rt;
             shows(alloc, operated(alloc), *sql, *wanted) == Some(true),
             "{sql}"
-        );
-    }
-    Ok(())
-}
-
-static OLDER: [&str; 2] = ["DROP TABLE vectors", "DROP TABLE currents2"];
-
-/// The five records in a store as it was before it had tables of current values and of vectors.
-fn older(alloc: Global) -> Option<Files<Memory>> {
-    changed(alloc, filled(alloc).ok()?, &OLDER)
-}
-
-/// How many records an archive finds in the files of an older store, and the files behind it.
-fn taken_over(alloc: Global) -> Option<(usize, Files<Memory>)> {
-    let mut archive = open(alloc, older(alloc)?, Uuid::nil(), one().ok()?).ok()?;
-    let found = held(alloc, &mut archive)?;
-    Some((found, archive.close_files().ok()?))
-}
-
-#[test]
-fn a_store_of_two_tables_gets_the_others(rt: HostRuntime) -> Result<(), Fail> {
-    let alloc = rt.alloc();
-    let Some((found, files)) = taken_over(alloc) else {
-        return Err(Fail::from("refused"));
-    };
-    assert!(rt; found == 5);
-    let currents = shown(
-        alloc,
-        files,
-        "SELECT time, tick, live, extra FROM currents2 ORDER BY time",
-    );
-    let expected = [10, 102, 0, 1, 20, 103, 1, 0, 30, 104, 1, 0];
-    assert!(rt; currents.is_some_and(|numbers| numbers.as_slice() == expected.as_slice()));
-    Ok(())
-}
-
-/// The files that opening an older store gives back after these statements, where it is refused by this fault.
-fn left_by_refusal(alloc: Global, statements: &[&str], fault: StoreFault) -> Option<Files<Memory>> {
-    let files = changed(alloc, older(alloc)?, statements)?;
-    let Err((met, left)) = open(alloc, files, Uuid::nil(), one().ok()?) else {
-        return None;
-    };
-    if met == fault { Some(left) } else { None }
-}
-
-/// A gap in the records; another archive's store, and another replica's.
-const GAP: &[&str] = &["DELETE FROM records2 WHERE number = 2"];
-
-const ANOTHERS: &[&str] = &["UPDATE meta SET archive = x'01010101010101010101010101010101'"];
-
-const ANOTHER_REPLICAS: &[&str] = &["UPDATE meta SET replica = 2"];
-
-/// What an older store holds behind a refusal: what was done to it, the fault, a query, and the numbers that it shows.
-static REFUSED_OLDER: [(&[&str], StoreFault, &str, &[i64]); 3] = [
-    (
-        GAP,
-        StoreFault::Refused,
-        "SELECT number, tick, time, pico, asked FROM records2 ORDER BY number",
-        &[
-            1, 100, 10, 0, 1, 3, 102, 10, 0, 4, 4, 103, 20, 0, 1, 5, 104, 30, 0, 1,
-        ],
-    ),
-    (
-        ANOTHERS,
-        StoreFault::WrongArchive,
-        "SELECT 1 FROM sqlite_schema WHERE type = 'table'",
-        &[1, 1],
-    ),
-    (
-        ANOTHER_REPLICAS,
-        StoreFault::WrongReplica,
-        "SELECT one, format, replica FROM meta WHERE archive = x'00000000000000000000000000000000'",
-        &[1, 2, 2],
-    ),
-];
-
-#[test]
-fn a_refused_store_of_two_tables_stays_as_it_is(rt: HostRuntime) -> Result<(), Fail> {
-    let alloc = rt.alloc();
-    for (statements, fault, sql, wanted) in &REFUSED_OLDER {
-        let left = left_by_refusal(alloc, *statements, *fault);
-        assert!(rt;
-            shows(alloc, left, *sql, *wanted) == Some(true),
-            "{fault:?} {sql}"
         );
     }
     Ok(())

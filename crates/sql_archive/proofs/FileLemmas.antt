@@ -31,26 +31,21 @@ use Rattle.sqlite.specs.Closing.{IsCopied, files_left}
 use Rattle.sqlite.specs.declared.file.Leftover.{Leftover}
 use Rattle.sqlite.specs.declared.file.Leftover.TheVariants as left
 use Rattle.records.specs.Contents.{Content}
-use Rattle.sql_schema.specs.Tables.{meta, no_schema, older_schema, schema1, archive_schema}
+use Rattle.sql_schema.specs.Tables.{meta, no_schema, schema1, archive_schema}
 use Rattle.std.proofs.lemmas.List.Sorted.{IsPermutation-trans}
 use Rattle.sql_opening.specs.Renewing.{cells1, content1_in, IsStored1, IsStoreOf1, IsRenewed}
 use Rattle.sql_tables.proofs.RowLemmas.{content_from}
-use Rattle.sql_tables.specs.Rows.{content_in, records_in, row_of, meta_row, meta_columns, IsStored, IsStoreOf, IsOlderStoreOf, meta_cells}
+use Rattle.sql_tables.specs.Rows.{content_in, records_in, row_of, meta_row, IsStored, IsStoreOf, meta_cells}
 use Rattle.sql_tables.specs.Derived.{AreKept}
 use Rattle.sql_tables.specs.Words.{cells}
 use Rattle.records.specs.Lists.{sort_by}
 use Rattle.records.specs.Records.{name_cmp}
 use Rattle.std.specs.List.{flat_map}
 use Rattle.sql_archive.specs.Kept.{Stands}
-use Rattle.sql_tables.specs.State.{IsMigrated}
 use Rattle.archive.specs.declared.fault.StoreFault.{StoreFault}
 use Rattle.sql_opening.specs.Opening.{Starts, IsBegunIn, IsRefused, judged}
 use Rattle.sql_archive.specs.Files.{Tells, Resumes, ResumesOnly, ResumesAmong, IsAnothers, EngineLeaves, KeepsFound, IsLeftOf}
 use Rattle.sql_opening.proofs.OpenLemmas.{nothing_in}
-
--- the content is that of the rows of records2
-same_content : (a b : Trees) → a 1 ≡ b 1 → content_in a ≡ content_in b
-same_content a b same = ap (λ rows. sort_by name_cmp (flat_map records_in (cells rows))) same
 
 -- new tables hold the content of those of format 1
 renewed_content : (id : List ℕ) (own : ℕ) (replica : ℤ) (old new : Trees) → IsStored1 id own old → IsRenewed id replica (cells1 old) new → content_in new ≡ content1_in old
@@ -73,10 +68,9 @@ resumes image id own old new opens live found starts = record { db = old.committ
 
     go : Starts id own old.now new.now → Tells id own old.committed.trees (content_in new.now.trees)
     go (inl (inl made)) = inl (subst (Lists (old.committed.trees catalog_tree)) made.0 lists, nothing_in new.now.trees made.1.records)
-    go (inl (inr (inl moved))) = inr (inl (inr (subst (Lists (old.committed.trees catalog_tree)) moved.0 lists, subst (IsStored id own) same moved.1), same_content new.now.trees old.now.trees moved.2.records ∙ ap content_in same))
-    go (inl (inr (inr made))) = inr (inr ((subst (Lists (old.committed.trees catalog_tree)) made.0 lists, subst (IsStored1 id own) same made.1), renewed_content id own (pos own) old.now.trees new.now.trees made.1 made.2 ∙ ap content1_in same))
+    go (inl (inr made)) = inr (inr ((subst (Lists (old.committed.trees catalog_tree)) made.0 lists, subst (IsStored1 id own) same made.1), renewed_content id own (pos own) old.now.trees new.now.trees made.1 made.2 ∙ ap content1_in same))
     go (inr stood) =
-        inr (inl (inl (subst (Lists (old.committed.trees catalog_tree)) stood.0 lists, subst (IsStored id own) same stood.1, subst AreKept same stood.2), ap content_in (ap (λ (d : Database). d.trees) stood.3 ∙ same)))
+        inr (inl ((subst (Lists (old.committed.trees catalog_tree)) stood.0 lists, subst (IsStored id own) same stood.1, subst AreKept same stood.2), ap content_in (ap (λ (d : Database). d.trees) stood.3 ∙ same)))
 
 -- the files of another archive, or of another replica, say so
 pub another : (image : Image) (id : List ℕ) (own : ℕ) (fault : StoreFault) (old : State) → Opens old → IsLive old → FindsIn image old → IsRefused id own old.now fault → IsAnothers image id own fault
@@ -84,10 +78,7 @@ another image id own fault old opens live found refused = record {
   db = old.committed.trees;
   found = record { holds = found.holds; reads = found.reads };
   lists = elim refused.schema [
-    | inl known ↦ elim known [
-      | inl is ↦ inl (inl (subst (Lists (old.committed.trees catalog_tree)) is (found_lists old opens live)))
-      | inr was ↦ inl (inr (subst (Lists (old.committed.trees catalog_tree)) was (found_lists old opens live)))
-    ]
+    | inl is ↦ inl (subst (Lists (old.committed.trees catalog_tree)) is (found_lists old opens live))
     | inr first ↦ inr (subst (Lists (old.committed.trees catalog_tree)) first (found_lists old opens live))
   ];
   judged = subst (λ t. judged id own (meta_cells t) ≡ Err fault) same refused.judged;
@@ -96,18 +87,12 @@ another image id own fault old opens live found refused = record {
     same : old.now.trees ≡ old.committed.trees
     same = ap (λ (d : Database). d.trees) opens.clean
 
-no_older : no_schema ≡ older_schema → ⊥
-no_older e = let n : 0 ≡ 2 = ap (λ (s : Schema). length s.tables) e in absurd (omega (arith, n))
-
 no_first : no_schema ≡ schema1 → ⊥
 no_first e = let n : 0 ≡ 4 = ap (λ (s : Schema). length s.tables) e in absurd (omega (arith, n))
 
 -- the columns of the second table tell them apart
 apart_first : schema1 ≡ archive_schema → ⊥
 apart_first e = let n : 8 ≡ 9 = ap (λ (s : Schema). length (slice_index_or s.tables 1 meta).columns) e in absurd (omega (arith, n))
-
-older_first : older_schema ≡ schema1 → ⊥
-older_first e = let n : 2 ≡ 4 = ap (λ (s : Schema). length s.tables) e in absurd (omega (arith, n))
 
 two_schemas : no_schema ≡ archive_schema → ⊥
 two_schemas e = let n : 0 ≡ 4 = ap (λ (s : Schema). length s.tables) e in absurd (omega (arith, n))
@@ -138,7 +123,7 @@ closed_holds c files id own numbers tick stands live copied =
     let s = stands copied.was_clean in
     let same : (file_state c).now.trees ≡ (file_state c).committed.trees = sym (ap (λ (d : Database). d.trees) s.idles.settled) in
     let lists = subst (λ (t : Trees). Lists (t catalog_tree) archive_schema) same (subst (Lists ((file_state c).now.trees catalog_tree)) s.idles.tables (live s.idles.is_open).0.lists) in
-    ∥∥₁_map copied.seen.both (λ held. ((file_state c).committed.trees, held, inr (inl (inl (lists, subst (IsStored id own) same s.stored, subst AreKept same s.kept), ap content_in same))))
+    ∥∥₁_map copied.seen.both (λ held. ((file_state c).committed.trees, held, inr (inl ((lists, subst (IsStored id own) same s.stored, subst AreKept same s.kept), ap content_in same))))
 
 -- the files that a store gave back hold what a crash could leave
 pub left_holds : {D : Type 0} {g : Ghosts D} (was : Held (FileStore D g)) (it : FileStore D g) (files : Files D) → SeenMayStay g → IsQuiet view faults recovers is_shielded was.store it
@@ -186,12 +171,11 @@ archive_left {D} {g} image files id own was new stays opens live found survives 
     by : (db : Trees) → (file_state was).may_leave db ⊎ IsBegunIn id own (file_state was).now db → IsLeftOf id own old db
     by db (inl same) = inl (settled_at was.store stays db opens.is_open same)
     by db (inr (inl made)) = inr (inl (subst (Lists (old catalog_tree)) made.0 (found_lists (file_state was) opens live), made.1))
-    by db (inr (inr (inl moved))) = inr (inr (inl ((subst (Lists (old catalog_tree)) moved.0 (found_lists (file_state was) opens live), subst (IsStored id own) trees moved.1), subst (λ t. IsMigrated t db) trees moved.2)))
-    by db (inr (inr (inr made))) = inr (inr (inr ((subst (Lists (old catalog_tree)) made.0 (found_lists (file_state was) opens live), subst (IsStored1 id own) trees made.1), subst (λ t. IsRenewed id (pos own) (cells1 t) db) trees made.2)))
+    by db (inr (inr made)) = inr (inr ((subst (Lists (old catalog_tree)) made.0 (found_lists (file_state was) opens live), subst (IsStored1 id own) trees made.1), subst (λ t. IsRenewed id (pos own) (cells1 t) db) trees made.2))
 
--- files that held a database with tables hold it still, save where that was a store that was migrated
-pub still_held : (image left : Image) (id : List ℕ) (own : ℕ) → KeepsFound image id own left → (db : Trees) → HoldsDatabase image db → ¬ Lists (db catalog_tree) no_schema → ¬ IsOlderStoreOf id own db → ¬ IsStoreOf1 id own db → ∥ HoldsDatabase left db ∥₁
-still_held image left id own (old, found, holds) db held some newer later = ∥∥₁_map holds (λ it. by it.0 it.1 it.2)
+-- files that held a database with tables hold it still, save where that was a store of format 1
+pub still_held : (image left : Image) (id : List ℕ) (own : ℕ) → KeepsFound image id own left → (db : Trees) → HoldsDatabase image db → ¬ Lists (db catalog_tree) no_schema → ¬ IsStoreOf1 id own db → ∥ HoldsDatabase left db ∥₁
+still_held image left id own (old, found, holds) db held some later = ∥∥₁_map holds (λ it. by it.0 it.1 it.2)
   where
     is : old ≡ db
     is = found.holds db held
@@ -199,24 +183,9 @@ still_held image left id own (old, found, holds) db held some newer later = ∥�
     by : (now : Trees) → HoldsDatabase left now → IsLeftOf id own old now → HoldsDatabase left db
     by now held (inl same) = subst (HoldsDatabase left) (same ∙ is) held
     by now held (inr (inl new)) = absurd (some (subst (λ (t : Trees). Lists (t catalog_tree) no_schema) is new.0))
-    by now held (inr (inr (inl moved))) = absurd (newer (subst (IsOlderStoreOf id own) is moved.0))
-    by now held (inr (inr (inr made))) = absurd (later (subst (IsStoreOf1 id own) is made.0))
+    by now held (inr (inr made)) = absurd (later (subst (IsStoreOf1 id own) is made.0))
 
--- and that one holds what it held, in the tables of an archive
-pub still_stored : (image left : Image) (id : List ℕ) (own : ℕ) → KeepsFound image id own left → (db : Trees) → HoldsDatabase image db → IsOlderStoreOf id own db
-    → ∥ ((now : Trees) × HoldsDatabase left now × ((now ≡ db) ⊎ IsMigrated db now)) ∥₁
-still_stored image left id own (old, found, holds) db held older = ∥∥₁_map holds (λ it. (it.0, it.1, by it.0 it.2))
-  where
-    is : old ≡ db
-    is = found.holds db held
-
-    by : (now : Trees) → IsLeftOf id own old now → (now ≡ db) ⊎ IsMigrated db now
-    by now (inl same) = inl (same ∙ is)
-    by now (inr (inl new)) = absurd (no_older (lists_once (db catalog_tree) no_schema older_schema (subst (λ (t : Trees). Lists (t catalog_tree) no_schema) is new.0) older.0))
-    by now (inr (inr (inl moved))) = inr (subst (λ t. IsMigrated t now) is moved.1)
-    by now (inr (inr (inr made))) = absurd (older_first (lists_once (db catalog_tree) older_schema schema1 older.0 (subst (λ (t : Trees). Lists (t catalog_tree) schema1) is made.0.0)))
-
--- and so does a store of format 1
+-- and that one holds what it held, or the tables of an archive with the same records
 pub still_renewed : (image left : Image) (id : List ℕ) (own : ℕ) → KeepsFound image id own left → (db : Trees) → HoldsDatabase image db → IsStoreOf1 id own db
     → ∥ ((now : Trees) × HoldsDatabase left now × ((now ≡ db) ⊎ IsRenewed id (pos own) (cells1 db) now)) ∥₁
 still_renewed image left id own (old, found, holds) db held first = ∥∥₁_map holds (λ it. (it.0, it.1, by it.0 it.2))
@@ -227,24 +196,12 @@ still_renewed image left id own (old, found, holds) db held first = ∥∥₁_ma
     by : (now : Trees) → IsLeftOf id own old now → (now ≡ db) ⊎ IsRenewed id (pos own) (cells1 db) now
     by now (inl same) = inl (same ∙ is)
     by now (inr (inl new)) = absurd (no_first (lists_once (db catalog_tree) no_schema schema1 (subst (λ (t : Trees). Lists (t catalog_tree) no_schema) is new.0) first.0))
-    by now (inr (inr (inl moved))) = absurd (older_first (lists_once (db catalog_tree) older_schema schema1 (subst (λ (t : Trees). Lists (t catalog_tree) older_schema) is moved.0.0) first.0))
-    by now (inr (inr (inr made))) = inr (subst (λ t. IsRenewed id (pos own) (cells1 t) now) is made.1)
+    by now (inr (inr made)) = inr (subst (λ t. IsRenewed id (pos own) (cells1 t) now) is made.1)
 
 pub still_resumed : (image left : Image) (id : List ℕ) (own : ℕ) → KeepsFound image id own left → (other : List ℕ) (number : ℕ) (R : Content) → Resumes left other number R → ∥ Resumes image other number R ∥₁
 still_resumed image left id own (old, found, holds) other number R resumed =
     ∥∥₁_map holds (λ it. let r : Resumes image other number R = record { db = old; found = found; tells = by it.0 it.2 (subst (λ t. Tells other number t R) (resumed.found.holds it.0 it.1) resumed.tells) } in r)
   where
-    -- what meta and records2 stand for they stood for
-    stored_as : (now : Trees) → IsMigrated old now → IsStored other number now → IsStored other number old
-    stored_as now moved stored = record {
-      content = stored.content;
-      lawful = stored.lawful;
-      stands = record {
-        meta = ap (map meta_columns) (sym moved.meta) ∙ stored.stands.meta;
-        records = subst (λ rows. IsPermutation (map row_of stored.content) (cells rows)) moved.records stored.stands.records;
-      };
-    }
-
     -- the new tables are of the archive and replica that those of format 1 were of
     first_of : (now : Trees) → IsStoreOf1 id own old × IsRenewed id (pos own) (cells1 old) now → meta_cells now ≡ meta_row other number ∷ [] → IsStored1 other number old
     first_of now made meta =
@@ -258,11 +215,6 @@ still_resumed image left id own (old, found, holds) other number R resumed =
     by now (inr (inl new)) (inl none) = inl (new.0, none.1)
     by now (inr (inl new)) (inr (inl all)) = inl (new.0, all.1 ∙ nothing_in now new.1.records)
     by now (inr (inl new)) (inr (inr first)) = absurd (apart_first (lists_once (now catalog_tree) schema1 archive_schema first.0.0 new.1.lists))
-    by now (inr (inr (inl moved))) (inl none) = absurd (two_schemas (lists_once (now catalog_tree) no_schema archive_schema none.0 moved.1.lists))
-    by now (inr (inr (inl moved))) (inr (inl (inl store, is))) = inr (inl (inr (moved.0.0, stored_as now moved.1 store.1), is ∙ same_content now old moved.1.records))
-    by now (inr (inr (inl moved))) (inr (inl (inr older, is))) = inr (inl (inr (moved.0.0, stored_as now moved.1 older.1), is ∙ same_content now old moved.1.records))
-    by now (inr (inr (inl moved))) (inr (inr first)) = absurd (apart_first (lists_once (now catalog_tree) schema1 archive_schema first.0.0 moved.1.lists))
-    by now (inr (inr (inr made))) (inl none) = absurd (two_schemas (lists_once (now catalog_tree) no_schema archive_schema none.0 made.1.lists))
-    by now (inr (inr (inr made))) (inr (inl (inl store, is))) = inr (inr ((made.0.0, first_of now made store.1.stands.meta), is ∙ renewed_content id own (pos own) old now made.0.1 made.1))
-    by now (inr (inr (inr made))) (inr (inl (inr older, is))) = inr (inr ((made.0.0, first_of now made older.1.stands.meta), is ∙ renewed_content id own (pos own) old now made.0.1 made.1))
-    by now (inr (inr (inr made))) (inr (inr first)) = absurd (apart_first (lists_once (now catalog_tree) schema1 archive_schema first.0.0 made.1.lists))
+    by now (inr (inr made)) (inl none) = absurd (two_schemas (lists_once (now catalog_tree) no_schema archive_schema none.0 made.1.lists))
+    by now (inr (inr made)) (inr (inl (store, is))) = inr (inr ((made.0.0, first_of now made store.1.stands.meta), is ∙ renewed_content id own (pos own) old now made.0.1 made.1))
+    by now (inr (inr made)) (inr (inr first)) = absurd (apart_first (lists_once (now catalog_tree) schema1 archive_schema first.0.0 made.1.lists))

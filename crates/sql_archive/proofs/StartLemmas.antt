@@ -1,5 +1,5 @@
 -- How an archive begins over a connection.
-use Rattle.std.proofs.Common.{◌≡◌, inl, inr, ℕ, pos, List, Result, Ok, Err, IfOk, IfErr, map, ap, subst, sym, ◌∙◌, arith}
+use Rattle.std.proofs.Common.{◌≡◌, inl, inr, ℕ, pos, List, Result, Ok, Err, IfOk, IfErr, sym, ◌∙◌, arith}
 use Rattle.sqlite_trees.specs.declared.store.Store.{Ghosts}
 use Rattle.sqlite_trees.specs.Tree.{Trees}
 use Rattle.sqlite.specs.Held.{Held, state}
@@ -7,13 +7,13 @@ use Rattle.sqlite.specs.State.{State, HasCleanDisk, Survives}
 use Rattle.sqlite.proofs.StateLemmas.{survives_then, survives_weaker}
 use Rattle.archive.specs.declared.fault.StoreFault.{StoreFault}
 use Rattle.archive.specs.Store.{IsOfOpening}
-use Rattle.sql_schema.specs.Tables.{no_schema, older_schema, archive_schema}
-use Rattle.sql_tables.specs.Rows.{meta_cells, meta_columns, IsStored}
+use Rattle.sql_schema.specs.Tables.{no_schema, archive_schema}
+use Rattle.sql_tables.specs.Rows.{meta_cells, IsStored}
 use Rattle.sql_tables.specs.Derived.{AreKept}
-use Rattle.sql_tables.specs.State.{IsNewArchive, IsMigrated, HasMeta}
-use Rattle.sql_opening.specs.Opening.{judged, Starts, IsBegunIn, IsMigratedIn, IsRenewedIn, IsRefused}
+use Rattle.sql_tables.specs.State.{IsNewArchive, HasMeta}
+use Rattle.sql_opening.specs.Opening.{judged, Starts, IsBegunIn, IsRenewedIn, IsRefused}
 use Rattle.sql_archive.specs.Kept.{Kept}
-use Rattle.sql_opening.proofs.OpenLemmas.{new_is_own, own_row}
+use Rattle.sql_opening.proofs.OpenLemmas.{new_is_own}
 use Rattle.sql_tables.proofs.AskLemmas.{survives_itself}
 
 module _ {S : Type 0} (g : Ghosts S) (old mid : State) (result : Result (Kept S) (StoreFault × Held S)) where
@@ -37,12 +37,6 @@ module _ {S : Type 0} (g : Ghosts S) (old mid : State) (result : Result (Kept S)
       → IfErr result (λ e. HasCleanDisk (state g e.1) → IsOfOpening e.0 → ⊥)
   never_wrong id own new = never_another id own (λ clean. new_is_own id own mid.now.trees (new clean))
 
-  -- and with those of a store that was migrated
-  pub never_moved : (id : List ℕ) (own : ℕ) → (HasCleanDisk mid → IsStored id own old.now.trees × IsMigrated old.now.trees mid.now.trees)
-      → IfErr result (λ e. HasCleanDisk (state g e.1) → IsOfOpening e.0 → judged id own (meta_cells mid.now.trees) ≡ Err e.0) → IfErr result (λ e. Survives mid (state g e.1) (λ _. ⊥))
-      → IfErr result (λ e. HasCleanDisk (state g e.1) → IsOfOpening e.0 → ⊥)
-  never_moved id own moved = never_another id own (λ clean. let m = moved clean in ap (λ rows. judged id own (map meta_columns rows)) m.1.meta ∙ (ap (judged id own) m.0.stands.meta ∙ own_row id own))
-
   -- what a crash leaves behind a step and a quiet one is what it leaves behind the step
   pub opened_then : (P : Trees → Type 0) → Survives old mid P → IfOk result (λ a. Survives mid (state g a.conn) (λ _. ⊥)) → IfOk result (λ a. Survives old (state g a.conn) P)
   opened_then P one = go result
@@ -57,19 +51,6 @@ module _ {S : Type 0} (g : Ghosts S) (old mid : State) (result : Result (Kept S)
       go : (r : Result (Kept S) (StoreFault × Held S)) → IfErr r (λ e. Survives mid (state g e.1) (λ _. ⊥)) → IfErr r (λ e. Survives old (state g e.1) P)
       go (Ok a) two = tt
       go (Err e) two = survives_then old mid (state g e.1) _ _ _ (λ clean db p. p) (λ clean db none. absurd none) one two
-
-module _ {S : Type 0} (g : Ghosts S) (old mid : State) (id : List ℕ) (own : ℕ) (facts : HasCleanDisk mid → (old.now.schema ≡ older_schema) × IsStored id own old.now.trees × (mid.now.trees ≡ old.now.trees)) where
-  -- what is migrated behind a quiet step is migrated
-  as_moved : (clean : HasCleanDisk mid) (db : Trees) → IsMigrated mid.now.trees db → IsMigratedIn id own old.now db
-  as_moved clean db moved = let f = facts clean in (f.0, f.1, subst (λ t. IsMigrated t db) f.2 moved)
-
-  pub opened_moved : (r : Result (Kept S) (StoreFault × Held S)) → Survives old mid (λ _. ⊥) → IfOk r (λ a. Survives mid (state g a.conn) (IsMigrated mid.now.trees)) → IfOk r (λ a. Survives old (state g a.conn) (IsMigratedIn id own old.now))
-  opened_moved (Ok a) one two = survives_then old mid (state g a.conn) _ _ _ (λ clean db none. absurd none) (λ clean db moved. as_moved (omega (arith, two.clean, clean)) db moved) one two
-  opened_moved (Err e) one two = tt
-
-  pub left_moved : (r : Result (Kept S) (StoreFault × Held S)) → Survives old mid (λ _. ⊥) → IfErr r (λ e. Survives mid (state g e.1) (IsMigrated mid.now.trees)) → IfErr r (λ e. Survives old (state g e.1) (IsMigratedIn id own old.now))
-  left_moved (Ok a) one two = tt
-  left_moved (Err e) one two = survives_then old mid (state g e.1) _ _ _ (λ clean db none. absurd none) (λ clean db moved. as_moved (omega (arith, two.clean, clean)) db moved) one two
 
 -- what never comes comes as meta says
 pub never_comes : {S : Type 0} (g : Ghosts S) (told : Result Unit StoreFault) (r : Result (Kept S) (StoreFault × Held S)) → IfErr r (λ e. HasCleanDisk (state g e.1) → IsOfOpening e.0 → ⊥) → IfErr r (λ e. HasCleanDisk (state g e.1) → IsOfOpening e.0 → told ≡ Err e.0)
@@ -116,28 +97,15 @@ module _ {S : Type 0} (g : Ghosts S) (old : State) where
   refused_by id own (Ok a) has wrong = tt
   refused_by id own (Err e) has wrong = λ clean of. record { schema = has; judged = wrong clean of }
 
-  -- and with those of a store as it was
-  pub started_migrated : (id : List ℕ) (own : ℕ) (r : Result (Kept S) (StoreFault × Held S)) → IfOk r (λ a. HasCleanDisk (state g a.conn) → IsMigratedIn id own old.now (state g a.conn).now.trees) → IfOk r (λ a. HasCleanDisk (state g a.conn) → Starts id own old.now (state g a.conn).now)
-  started_migrated id own (Ok a) made = λ clean. inl (inr (inl (made clean)))
-  started_migrated id own (Err e) made = tt
-
-  pub opened_migrated : (id : List ℕ) (own : ℕ) (r : Result (Kept S) (StoreFault × Held S)) → IfOk r (λ a. Survives old (state g a.conn) (IsMigratedIn id own old.now)) → IfOk r (λ a. Survives old (state g a.conn) (IsBegunIn id own old.now))
-  opened_migrated id own (Ok a) one = survives_weaker old (state g a.conn) _ _ (λ clean db made. inr (inl made)) one
-  opened_migrated id own (Err e) one = tt
-
-  pub left_migrated : (id : List ℕ) (own : ℕ) (r : Result (Kept S) (StoreFault × Held S)) → IfErr r (λ e. Survives old (state g e.1) (IsMigratedIn id own old.now)) → IfErr r (λ e. Survives old (state g e.1) (IsBegunIn id own old.now))
-  left_migrated id own (Ok a) one = tt
-  left_migrated id own (Err e) one = survives_weaker old (state g e.1) _ _ (λ clean db made. inr (inl made)) one
-
   -- and with those of a store of format 1
   pub started_renewed : (id : List ℕ) (own : ℕ) (r : Result (Kept S) (StoreFault × Held S)) → IfOk r (λ a. HasCleanDisk (state g a.conn) → IsRenewedIn id own old.now (state g a.conn).now.trees) → IfOk r (λ a. HasCleanDisk (state g a.conn) → Starts id own old.now (state g a.conn).now)
-  started_renewed id own (Ok a) made = λ clean. inl (inr (inr (made clean)))
+  started_renewed id own (Ok a) made = λ clean. inl (inr (made clean))
   started_renewed id own (Err e) made = tt
 
   pub opened_renewed : (id : List ℕ) (own : ℕ) (r : Result (Kept S) (StoreFault × Held S)) → IfOk r (λ a. Survives old (state g a.conn) (IsRenewedIn id own old.now)) → IfOk r (λ a. Survives old (state g a.conn) (IsBegunIn id own old.now))
-  opened_renewed id own (Ok a) one = survives_weaker old (state g a.conn) _ _ (λ clean db made. inr (inr made)) one
+  opened_renewed id own (Ok a) one = survives_weaker old (state g a.conn) _ _ (λ clean db made. inr made) one
   opened_renewed id own (Err e) one = tt
 
   pub left_renewed : (id : List ℕ) (own : ℕ) (r : Result (Kept S) (StoreFault × Held S)) → IfErr r (λ e. Survives old (state g e.1) (IsRenewedIn id own old.now)) → IfErr r (λ e. Survives old (state g e.1) (IsBegunIn id own old.now))
   left_renewed id own (Ok a) one = tt
-  left_renewed id own (Err e) one = survives_weaker old (state g e.1) _ _ (λ clean db made. inr (inr made)) one
+  left_renewed id own (Err e) one = survives_weaker old (state g e.1) _ _ (λ clean db made. inr made) one

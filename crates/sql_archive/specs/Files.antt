@@ -10,21 +10,21 @@ use Rattle.sqlite.specs.Files.{HoldsDatabase, AreFoundIn, LeavesFiles}
 use Rattle.sqlite.specs.Closing.{files_left}
 use Rattle.sqlite.specs.declared.file.Leftover.{Leftover}
 use Rattle.records.specs.Contents.{Content}
-use Rattle.sql_schema.specs.Tables.{no_schema, older_schema, schema1, archive_schema}
-use Rattle.sql_tables.specs.State.{IsNewArchive, IsMigrated}
+use Rattle.sql_schema.specs.Tables.{no_schema, schema1, archive_schema}
+use Rattle.sql_tables.specs.State.{IsNewArchive}
 use Rattle.sql_opening.specs.Renewing.{cells1, content1_in, IsStoreOf1, IsRenewed}
 use Rattle.archive.specs.declared.fault.StoreFault.{StoreFault}
 use Rattle.sql_opening.specs.Opening.{judged}
-use Rattle.sql_tables.specs.Rows.{content_in, IsStoreOf, IsOlderStoreOf, meta_cells}
+use Rattle.sql_tables.specs.Rows.{content_in, IsStoreOf, meta_cells}
 
 -- an opening finds these trees in the two files: the database that they hold, or none
 pub record IsFound (image : Image) (db : Trees) : Type 0 where
   pub holds : (held : Trees) → HoldsDatabase image held → db ≡ held
   pub reads : AreFoundIn image db
 
--- a store of this archive and replica, as it is, or as it was before current values and vectors had tables of their own, or of format 1, has this content in its tables
+-- a store of this archive and replica, as it is, or of format 1, has this content in its tables
 abbrev pub IsStoreWith : List ℕ → ℕ → Trees → Content → Type 0
-IsStoreWith id own db R = ((IsStoreOf id own db ⊎ IsOlderStoreOf id own db) × (R ≡ content_in db)) ⊎ (IsStoreOf1 id own db × (R ≡ content1_in db))
+IsStoreWith id own db R = (IsStoreOf id own db × (R ≡ content_in db)) ⊎ (IsStoreOf1 id own db × (R ≡ content1_in db))
 
 -- the content of a store: nothing where it has no tables; else it is one of this archive and replica, and its content is what its tables hold
 abbrev pub Tells : List ℕ → ℕ → Trees → Content → Type 0
@@ -48,7 +48,7 @@ ResumesAmong image Among = (id : List ℕ) (own : ℕ) (R : Content) → Resumes
 pub record IsAnothers (image : Image) (id : List ℕ) (own : ℕ) (fault : StoreFault) : Type 0 where
   pub db : Trees
   pub found : IsFound image db
-  pub lists : (Lists (db catalog_tree) archive_schema ⊎ Lists (db catalog_tree) older_schema) ⊎ Lists (db catalog_tree) schema1
+  pub lists : Lists (db catalog_tree) archive_schema ⊎ Lists (db catalog_tree) schema1
   pub judged : judged id own (meta_cells db) ≡ Err fault
 
 -- what the engine leaves of files that it can't open
@@ -57,8 +57,8 @@ EngineLeaves {D} g files left = (rest : Leftover D g) × ((left.log, left.db) �
 
 -- what an opening that was refused leaves of what it found
 abbrev pub IsLeftOf : List ℕ → ℕ → Trees → Trees → Type 0
-IsLeftOf id own found db = (db ≡ found) ⊎ ((Lists (found catalog_tree) no_schema × IsNewArchive id (pos own) db) ⊎ ((IsOlderStoreOf id own found × IsMigrated found db) ⊎ (IsStoreOf1 id own found × IsRenewed id (pos own) (cells1 found) db)))
+IsLeftOf id own found db = (db ≡ found) ⊎ ((Lists (found catalog_tree) no_schema × IsNewArchive id (pos own) db) ⊎ (IsStoreOf1 id own found × IsRenewed id (pos own) (cells1 found) db))
 
--- the files hold the database that was found there; or, where that had no table, a new archive; or, where it was a store of this archive and replica of an earlier form, the tables of an archive with the same records
+-- the files hold the database that was found there; or, where that had no table, a new archive; or, where it was a store of this archive and replica of format 1, the tables of an archive with the same records
 abbrev pub KeepsFound : Image → List ℕ → ℕ → Image → Type 0
 KeepsFound image id own left = (found : Trees) × IsFound image found × ∥ ((db : Trees) × HoldsDatabase left db × IsLeftOf id own found db) ∥₁

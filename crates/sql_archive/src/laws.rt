@@ -12,8 +12,6 @@ ghost use Rattle.records.specs.Moments.{pico_of};
 ghost use Rattle.sql_schema.specs.Tables.{no_schema};
 ghost use Rattle.sql_archive.specs.Files.{Resumes, KeepsFound};
 ghost use Rattle.sql_opening.specs.Renewing.{cells1, IsStored1, IsStoreOf1, IsRenewed};
-ghost use Rattle.sql_tables.specs.Rows.{IsOlderStoreOf};
-ghost use Rattle.sql_tables.specs.State.{IsMigrated};
 ghost use Rattle.sql_archive.specs.Kept.{Kept};
 
 use crate::store::SqlArchive;
@@ -25,12 +23,11 @@ pub fn memory_is_honest()
     ensures { (a : Kept MemStore) → (⟦<SqlArchive<MemStore> as Archive>⟧.state a).honest }
 {}
 
-/// Where an opening was refused, files that held a database with tables still hold it; save that a store of this
-/// archive and replica of an earlier form may have got the tables of today, with the same records. Whatever can be opened
+/// Where an opening was refused, files that held a database with tables still hold it; save that a store of format 1 of this
+/// archive and replica may have got the tables of today, with the same records. Whatever can be opened
 /// of them then could be opened before, with the same content.
 pub fn refused_openings_lose_nothing()
-    ensures held { (image left : Image) (id : List ℕ) (own : ℕ) → KeepsFound image id own left → (db : Trees) → HoldsDatabase image db → ¬ Lists (db catalog_tree) no_schema → ¬ IsOlderStoreOf id own db → ¬ IsStoreOf1 id own db → ∥ HoldsDatabase left db ∥₁ }
-    ensures stored { (image left : Image) (id : List ℕ) (own : ℕ) → KeepsFound image id own left → (db : Trees) → HoldsDatabase image db → IsOlderStoreOf id own db → ∥ ((now : Trees) × HoldsDatabase left now × ((now ≡ db) ⊎ IsMigrated db now)) ∥₁ }
+    ensures held { (image left : Image) (id : List ℕ) (own : ℕ) → KeepsFound image id own left → (db : Trees) → HoldsDatabase image db → ¬ Lists (db catalog_tree) no_schema → ¬ IsStoreOf1 id own db → ∥ HoldsDatabase left db ∥₁ }
     ensures renewed { (image left : Image) (id : List ℕ) (own : ℕ) → KeepsFound image id own left → (db : Trees) → HoldsDatabase image db → IsStoreOf1 id own db → ∥ ((now : Trees) × HoldsDatabase left now × ((now ≡ db) ⊎ IsRenewed id (pos own) (cells1 db) now)) ∥₁ }
     ensures resumed { (image left : Image) (id : List ℕ) (own : ℕ) → KeepsFound image id own left → (other : List ℕ) (number : ℕ) (R : Content) → Resumes left other number R → ∥ Resumes image other number R ∥₁ }
 {}

@@ -4,7 +4,6 @@
 mod files;
 mod laws;
 mod learning;
-mod migrating;
 mod renewing;
 mod starting;
 mod store;

@@ -8,7 +8,6 @@ ghost use Rattle.sql_schema.specs.Tables.{no_schema};
 ghost use Rattle.sql_tables.specs.State.{IsNewArchive};
 ghost use Rattle.sql_opening.specs.Opening.{Starts, IsBegunIn, IsRefused};
 
-use crate::migrating::take_over;
 use crate::renewing::take_over_first;
 use crate::store::SqlArchive;
 use archive::StoreFault;
@@ -45,8 +44,8 @@ pub(crate) fn make<S: Alter>(
 }
 
 /// Begins over a connection: in a store without tables they are made; else those that are there have to be
-/// the tables of a lawful content of this archive and replica, and nothing else. Where these are those that an
-/// archive had before current values and vectors had tables of their own, or those of format 1, it is migrated.
+/// the tables of a lawful content of this archive and replica, and nothing else. Where these are
+/// those of format 1, they are made anew.
 pub(crate) fn start<S: Alter>(
     alloc: Global,
     conn: Connection<S>,
@@ -64,7 +63,6 @@ pub(crate) fn start<S: Alter>(
     match standing_in(alloc, conn.schema()) {
         Ok(Standing::Empty) => make(alloc, conn, id, number),
         Ok(Standing::Archive) => SqlArchive::over(alloc, conn, id, number),
-        Ok(Standing::Older) => take_over(alloc, conn, id, number),
         Ok(Standing::First) => take_over_first(alloc, conn, id, number),
         Ok(Standing::Foreign) => Err((StoreFault::Refused, conn)),
         Err(_) => Err((StoreFault::OutOfMemory, conn)),

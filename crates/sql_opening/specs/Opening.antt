@@ -22,8 +22,8 @@ use Rattle.sql_opening.specs.Latest.{Remembers}
 use Rattle.sql_tables.specs.Derived.{AreKept}
 use Rattle.sql_tables.specs.Rows.{IsStored, meta_cells, row_of}
 use Rattle.sqlite.specs.Effect.{Database}
-use Rattle.sql_schema.specs.Tables.{no_schema, older_schema, schema1, archive_schema}
-use Rattle.sql_tables.specs.State.{Holds, Stays, HasMeta, IsNewArchive, IsMigrated, shown_of}
+use Rattle.sql_schema.specs.Tables.{no_schema, schema1, archive_schema}
+use Rattle.sql_tables.specs.State.{Holds, Stays, HasMeta, IsNewArchive, shown_of}
 
 abbrev pub mark_of : Record → Mark
 mark_of r = record { origin = r.origin; number = r.number; tick = r.tick }
@@ -115,17 +115,13 @@ pub record Opens1 (id : List ℕ) (own : ℕ) (old new : State) (result : Result
 abbrev pub IsMadeIn : List ℕ → ℕ → Database → Trees → Type 0
 IsMadeIn id own old db = (old.schema ≡ no_schema) × IsNewArchive id (pos own) db
 
--- tables of current values and of vectors are made beside those of a lawful content of this archive and replica that had none
-abbrev pub IsMigratedIn : List ℕ → ℕ → Database → Trees → Type 0
-IsMigratedIn id own old db = (old.schema ≡ older_schema) × IsStored id own old.trees × IsMigrated old.trees db
-
 -- the tables of an archive are made of those of format 1 of this archive and replica
 abbrev pub IsRenewedIn : List ℕ → ℕ → Database → Trees → Type 0
 IsRenewedIn id own old db = (old.schema ≡ schema1) × IsStored1 id own old.trees × IsRenewed id (pos own) (cells1 old.trees) db
 
 -- what an opening commits
 abbrev pub IsBegunIn : List ℕ → ℕ → Database → Trees → Type 0
-IsBegunIn id own old db = IsMadeIn id own old db ⊎ (IsMigratedIn id own old db ⊎ IsRenewedIn id own old db)
+IsBegunIn id own old db = IsMadeIn id own old db ⊎ IsRenewedIn id own old db
 
 -- an archive begins with what the opening made, or with the tables that stood there, which are those of a lawful content of this archive and replica
 abbrev pub Starts : List ℕ → ℕ → Database → Database → Type 0

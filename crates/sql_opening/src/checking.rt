@@ -9,7 +9,8 @@ ghost use Rattle.archive.specs.Store.{IsOfOpening};
 ghost use Rattle.records.specs.Spelling.{IsRecord};
 ghost use Rattle.sql_tables.specs.Words.{cells_of};
 ghost use Rattle.sql_tables.specs.Rows.{row_of};
-ghost use Rattle.sql_tables.specs.State.{Holds, IsKnown, Rests, shown_of};
+ghost use Rattle.sql_schema.specs.Tables.{archive_schema};
+ghost use Rattle.sql_tables.specs.State.{Holds, Rests, shown_of};
 ghost use Rattle.sql_opening.specs.Opening.{comes_next, HasWalked, HasChecked};
 
 use crate::latest::{Latest, raised};
@@ -140,7 +141,7 @@ pub(crate) fn check_rows<S: Alter>(
     conn: &mut Connection<S>,
 ) -> Result<Result<Walk, StoreFault>, Error>
     requires rests { HasCleanDisk (state S.Store conn.old) → Rests (state S.Store conn.old) }
-    requires known { HasCleanDisk (state S.Store conn.old) → IsKnown (state S.Store conn.old).now.schema }
+    requires known { HasCleanDisk (state S.Store conn.old) → (state S.Store conn.old).now.schema ≡ archive_schema }
     ensures checked { HasCleanDisk (state S.Store conn.new) → IfOk result (λ told. IfOk told (HasChecked (state S.Store conn.old).now.trees)) }
     ensures met { IfOk result (λ told. IfErr told (λ fault. IsOfOpening fault → ⊥)) }
     ensures same { HasCleanDisk (state S.Store conn.new) → OnOk result (IsUnchanged (state S.Store conn.old) (state S.Store conn.new)) }

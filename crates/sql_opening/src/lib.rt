@@ -3,12 +3,11 @@
 #![tactic(auto)]
 
 mod checking;
+mod filling;
 mod latest;
-mod migrating;
 mod opening;
 mod renewing;
 
 pub use latest::{Latest, latest_after};
-pub use migrating::migrate;
-pub use opening::{open_all, open_tables};
+pub use opening::open_all;
 pub use renewing::{Rows1, open_rows, turn};

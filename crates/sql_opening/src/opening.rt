@@ -7,7 +7,8 @@ ghost use Rattle.sqlite.specs.Held.{state};
 ghost use Rattle.sqlite_value.specs.Order.{column};
 ghost use Rattle.sql_tables.specs.Rows.{content_in, IsFilled, meta_cells};
 ghost use Rattle.sql_opening.specs.Latest.{Remembers};
-ghost use Rattle.sql_tables.specs.State.{Found, HasMeta, Idles, IsKnown, Rests};
+ghost use Rattle.sql_schema.specs.Tables.{archive_schema};
+ghost use Rattle.sql_tables.specs.State.{Found, HasMeta, Idles, Rests};
 ghost use Rattle.sql_opening.specs.Opening.{has_number, has_bytes, judged_row, judged_as, Opens, OpensAll};
 
 use crate::checking::check_rows;
@@ -24,7 +25,7 @@ use uuid::Uuid;
 /// else it is refused. It goes over them one at a time.
 fn walk<S: Alter>(alloc: Global, conn: &mut Connection<S>) -> Result<Latest, StoreFault>
     requires rests { HasCleanDisk (state S.Store conn.old) → Rests (state S.Store conn.old) }
-    requires known { HasCleanDisk (state S.Store conn.old) → IsKnown (state S.Store conn.old).now.schema }
+    requires known { HasCleanDisk (state S.Store conn.old) → (state S.Store conn.old).now.schema ≡ archive_schema }
     ensures { Found (state S.Store conn.old) (state S.Store conn.new) result (λ l. IsFilled (state S.Store conn.old).now.trees × Remembers (content_in (state S.Store conn.old).now.trees) l.numbers l.tick) }
 {
     match check_rows(alloc, conn) {
@@ -110,14 +111,14 @@ pub(crate) fn judge<S: Alter>(
 ///
 /// Errors: `WrongArchive` and `WrongReplica` as `meta` says, the archive first; `Refused` where `meta` has another format, or the rows
 /// aren't those of a lawful content, or can't be read; `OutOfMemory`; `Broken` where the store is shut.
-pub fn open_tables<S: Alter>(
+fn open_tables<S: Alter>(
     alloc: Global,
     conn: &mut Connection<S>,
     id: &Uuid,
     number: ReplicaNo,
 ) -> Result<Latest, StoreFault>
     requires rests { HasCleanDisk (state S.Store conn.old) → Rests (state S.Store conn.old) }
-    requires known { HasCleanDisk (state S.Store conn.old) → IsKnown (state S.Store conn.old).now.schema }
+    requires known { HasCleanDisk (state S.Store conn.old) → (state S.Store conn.old).now.schema ≡ archive_schema }
     ensures { Opens id.now number (state S.Store conn.old) (state S.Store conn.new) (λ l. Remembers (content_in (state S.Store conn.old).now.trees) l.numbers l.tick) result }
 {
     let told = judge(conn, id, number, 2)?;

@@ -17,7 +17,7 @@ ghost use Rattle.sql_opening.specs.Renewing.{cells1, current1, IsRead1, IsRenewe
 ghost use Rattle.sql_opening.specs.Opening.{Opens1};
 
 use crate::checking::{go_on, is_bytes, is_int, start};
-use crate::migrating::fill_beside;
+use crate::filling::fill_beside;
 use crate::opening::judge;
 use archive::StoreFault;
 use records::RecordFault;

@@ -2,18 +2,11 @@
 use Rattle.std.proofs.Common.{◌≡◌, refl, List, [], ◌∷◌, length, slice_index_or, arith}
 use Rattle.sqlite_schema.specs.declared.schema.Schema.{Schema}
 use Rattle.sqlite_tied.specs.Compute.{everything}
-use Rattle.sql_schema.specs.Tables.{first_table, second_table, third_table, fourth_table, second_table1, third_table1, older_indexes, key_indexes, indexes1, older_schema, schema1, archive_schema}
+use Rattle.sql_schema.specs.Tables.{first_table, second_table, third_table, fourth_table, second_table1, third_table1, key_indexes, indexes1, schema1, archive_schema}
 
 written_out : archive_schema ≡ record { tables = first_table ∷ second_table ∷ third_table ∷ fourth_table ∷ []; indexes = key_indexes; views = [] }
 unfolding everything
 written_out = refl
-
-older_written_out : older_schema ≡ record { tables = first_table ∷ second_table ∷ []; indexes = older_indexes; views = [] }
-unfolding everything
-older_written_out = refl
-
-pub is_older : (s : Schema) → s.tables ≡ first_table ∷ second_table ∷ [] → s.indexes ≡ older_indexes → s.views ≡ [] → s ≡ older_schema
-is_older s tables indexes views = rw (older_written_out, tables, indexes, views) refl
 
 pub is_whole : (s : Schema) → s.tables ≡ first_table ∷ second_table ∷ third_table ∷ fourth_table ∷ [] → s.indexes ≡ key_indexes → s.views ≡ [] → s ≡ archive_schema
 is_whole s tables indexes views = rw (written_out, tables, indexes, views) refl

@@ -85,12 +85,11 @@ no_schema = record { tables = []; indexes = []; views = [] }
 abbrev pub with_meta : Schema
 with_meta = created no_schema meta
 
--- the tables of a store as they were before current values and vectors had tables of their own
-abbrev pub older_schema : Schema
-older_schema = created with_meta records2
+abbrev pub with_records : Schema
+with_records = created with_meta records2
 
 abbrev pub with_currents : Schema
-with_currents = created older_schema currents2
+with_currents = created with_records currents2
 
 abbrev pub archive_schema : Schema
 archive_schema = created with_currents vectors
@@ -129,9 +128,6 @@ second_index = index_of (codes "sqlite_autoindex_records2_2") 3 1 (4 ∷ 5 ∷ 6
 
 abbrev pub third_index : Index
 third_index = index_of (codes "sqlite_autoindex_currents2_1") 5 4 (1 ∷ 2 ∷ 3 ∷ [])
-
-abbrev pub older_indexes : List Index
-older_indexes = first_index ∷ second_index ∷ []
 
 abbrev pub key_indexes : List Index
 key_indexes = first_index ∷ second_index ∷ third_index ∷ []

@@ -1,7 +1,7 @@
 //! Which tables a store has.
 
 ghost use Rattle.std.specs.Prelude.{◌≡◌, false, true, [], ◌∷◌, codes, IfOk, IsTrue};
-ghost use Rattle.sql_schema.specs.Tables.{strict, meta, records2, currents2, vectors, no_schema, older_schema, schema1, archive_schema, first_table, second_table, third_table, fourth_table, index_of, first_index, second_index, older_indexes, key_indexes};
+ghost use Rattle.sql_schema.specs.Tables.{strict, meta, records2, currents2, vectors, no_schema, schema1, archive_schema, first_table, second_table, third_table, fourth_table, index_of, first_index, second_index, key_indexes};
 
 use crate::standing_first::is_first;
 use sqlite_items::Items;
@@ -20,8 +20,6 @@ pub enum Standing {
     Empty,
     /// Those of an archive, and nothing else.
     Archive,
-    /// Those that it had before current values and vectors had tables of their own, and nothing else.
-    Older,
     /// Those of a store of format 1, and nothing else.
     First,
     /// Others.
@@ -330,16 +328,6 @@ pub(crate) fn is_index(index: &Index, name: &[u8], tree: u32, table: u32, column
         && index.is_unique
 }
 
-/// Whether these are the tables `meta` and `records2`.
-fn are_older_tables(alloc: Global, tables: &[Table]) -> Result<bool, AllocError>
-    ensures { IfOk result (λ same. IsTrue same → tables.now ≡ older_schema.tables) }
-{
-    match tables {
-        [meta, records] => Ok(is_meta(alloc, meta)? && is_records(alloc, records)?),
-        _ => Ok(false),
-    }
-}
-
 /// Whether these are the tables of an archive.
 fn are_tables(alloc: Global, tables: &[Table]) -> Result<bool, AllocError>
     ensures { IfOk result (λ same. IsTrue same → tables.now ≡ archive_schema.tables) }
@@ -369,15 +357,6 @@ fn are_of_records(names: &Index, moments: &Index) -> bool
         )
 }
 
-fn are_older_indexes(indexes: &[Index]) -> bool
-    ensures { IsTrue result → indexes.now ≡ older_indexes }
-{
-    match indexes {
-        [names, moments] => are_of_records(names, moments),
-        _ => false,
-    }
-}
-
 /// Whether these are the indexes of an archive.
 fn are_indexes(indexes: &[Index]) -> bool
     ensures { IsTrue result → indexes.now ≡ key_indexes }
@@ -389,17 +368,6 @@ fn are_indexes(indexes: &[Index]) -> bool
         }
         _ => false,
     }
-}
-
-/// Whether the tables are `meta` and `records2`, and nothing else is there.
-#[tactic(auto, using(crate::proofs::StandingLemmas::is_older))]
-fn is_older(alloc: Global, schema: &Schema) -> Result<bool, AllocError>
-    ensures { IfOk result (λ same. IsTrue same → schema.now ≡ older_schema) }
-{
-    if !are_older_tables(alloc, schema.tables.as_slice())? {
-        return Ok(false);
-    }
-    Ok(are_older_indexes(schema.indexes.as_slice()) && schema.views.is_empty())
 }
 
 /// Whether the tables are those of an archive, and nothing else is there.
@@ -424,7 +392,6 @@ fn is_empty(schema: &Schema) -> bool
 pub fn standing_in(alloc: Global, schema: &Schema) -> Result<Standing, AllocError>
     ensures empty { IfOk result (λ s. s ≡ Standing.Empty → schema.now ≡ no_schema) }
     ensures archive { IfOk result (λ s. s ≡ Standing.Archive → schema.now ≡ archive_schema) }
-    ensures older { IfOk result (λ s. s ≡ Standing.Older → schema.now ≡ older_schema) }
     ensures first { IfOk result (λ s. s ≡ Standing.First → schema.now ≡ schema1) }
 {
     if is_empty(schema) {
@@ -432,9 +399,6 @@ pub fn standing_in(alloc: Global, schema: &Schema) -> Result<Standing, AllocErro
     }
     if is_archive(alloc, schema)? {
         return Ok(Standing::Archive);
-    }
-    if is_older(alloc, schema)? {
-        return Ok(Standing::Older);
     }
     if is_first(alloc, schema)? {
         return Ok(Standing::First);

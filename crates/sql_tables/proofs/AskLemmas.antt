@@ -5,7 +5,7 @@ use Rattle.sqlite.specs.State.{State, HasCleanDisk, Survives}
 use Rattle.sqlite.proofs.StateLemmas.{survives_then}
 use Rattle.archive.specs.declared.fault.StoreFault.{StoreFault}
 use Rattle.archive.specs.Store.{IsOfOpening}
-use Rattle.sql_tables.specs.State.{Idles, Stays, Asked, Rests, Holds, Found, IsKnown}
+use Rattle.sql_tables.specs.State.{Idles, Stays, Asked, Rests, Holds, Found}
 
 pub survives_itself : (s : State) → Survives s s (λ _. ⊥)
 survives_itself s = record { clean = omega arith; shield = λ x. x; counts = omega arith; limit = refl; closes = λ _ o. inl o; crash = λ _ db m. inl m }
@@ -73,9 +73,6 @@ passed_fault a b fault P p own = record { answer = λ clean. tt; kept = λ clean
 
 pub rests_of : (s : State) → Idles s → Rests s
 rests_of s was = record { is_open = was.is_open; autocommit = was.autocommit; settled = was.settled }
-
-pub known_of : (s : State) → Idles s → IsKnown s.now.schema
-known_of s was = inl was.tables
 
 pub stays_of : (a b : State) → Idles a → Holds a b → Stays a b
 stays_of a b was h = record { idles = record { is_open = h.rests.is_open; autocommit = h.rests.autocommit; settled = h.rests.settled; tables = ap (λ (d : Database). d.schema) h.same ∙ was.tables }; same = h.same }

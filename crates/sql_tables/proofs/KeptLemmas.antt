@@ -23,7 +23,7 @@ use Rattle.records.proofs.LearnLemmas.{next_found}
 use Rattle.sql_tables.specs.Words.{cells, cells_of}
 use Rattle.sql_tables.specs.Derived.{AreKept, AreNumbered, IsCells, IsNextRow, currents_of, current_columns, is_current_of, is_of, is_newer, same, above, last_of, vectors_of, vector_columns}
 use Rattle.sql_tables.specs.Keeping.{AddsRecord, ChangesCurrents, Keeps, Fills, currents_where, is_vector_of}
-use Rattle.sql_tables.specs.State.{Adds, IsNewArchive, IsMigrated, KeepsOlder}
+use Rattle.sql_tables.specs.State.{Adds, IsNewArchive, IsCompleted, KeepsFirst}
 use Rattle.sql_tables.specs.Rows.{row_of, AreRecords, IsFilled}
 use Rattle.sql_tables.proofs.DerivedLemmas.{currents_changed, vectors_changed}
 
@@ -190,7 +190,7 @@ new_kept db new = record {
 }
 
 -- tables that were made and filled hold the rows that follow
-pub filled_kept : (old made new : Trees) → IsFilled old → KeepsOlder old made → made 4 ≡ [] → made 6 ≡ [] → Fills made new → IsMigrated old new
+pub filled_kept : (old made new : Trees) → IsFilled old → KeepsFirst old made → made 4 ≡ [] → made 6 ≡ [] → Fills made new → IsCompleted old new
 filled_kept old made new (R, l, stand) older none none_too fills =
     let typed : AllByRecursion IsCells (cells (made 1)) = subst (λ rs. AllByRecursion IsCells (cells rs)) (sym older.records) (filled_cells R old stand) in
     let between = fills.between in

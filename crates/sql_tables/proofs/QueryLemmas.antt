@@ -29,9 +29,9 @@ use Rattle.sqlite.specs.Listing.{understood, reads_listing}
 use Rattle.sqlite.specs.State.{State, Shown, ShowsRows, IsUnchanged}
 use Rattle.sqlite.specs.Clock.{timed}
 use Rattle.sqlite.proofs.Callers.{IsPlain, command_of, reads_as}
-use Rattle.sql_schema.specs.Tables.{older_schema, schema1, archive_schema}
+use Rattle.sql_schema.specs.Tables.{schema1, archive_schema}
 use Rattle.sql_tables.specs.Words.{columns_of, cells, is_at, is_named, is_behind, is_after, is_before, IsPage, name_order, moment_order, stamp_cmp}
-use Rattle.sql_tables.specs.State.{AreAt, HasMeta, IsKnown, shown_of}
+use Rattle.sql_tables.specs.State.{AreAt, HasMeta, shown_of}
 use Rattle.sql_tables.specs.Rows.{meta_columns, meta_cells}
 use Rattle.sql_tables.specs.Derived.{current_columns, vector_columns}
 use Rattle.sql_tables.specs.Keeping.{is_vector_of}
@@ -204,21 +204,16 @@ all_is : IsAllIn archive_schema
 unfolding understood everything
 all_is = (refl, refl, (refl, refl))
 
-all_was : IsAllIn older_schema
-unfolding understood everything
-all_was = (refl, refl, (refl, refl))
+all_in : (schema : Schema) → schema ≡ archive_schema → IsAllIn schema
+all_in schema is = subst IsAllIn (sym is) all_is
 
-all_in : (schema : Schema) → IsKnown schema → IsAllIn schema
-all_in schema (inl is) = subst IsAllIn (sym is) all_is
-all_in schema (inr was) = subst IsAllIn (sym was) all_was
-
-pub all_plain : (schema : Schema) → IsKnown schema → IsPlain (understood schema all_text)
+pub all_plain : (schema : Schema) → schema ≡ archive_schema → IsPlain (understood schema all_text)
 all_plain schema known = (all_in schema known).2
 
 pub every : (rows : List Row) → filter (λ _. true) rows ≡ rows
 every rows = filter_all (λ _. true) rows (all_of (λ _. true ≡ true) (λ _. refl) rows)
 
-pub finds_all : (old new : State) (rows : List Row) → IsKnown old.now.schema → Shown all_text [] old new rows → IsPermutation (cells (old.now.trees 1)) rows
+pub finds_all : (old new : State) (rows : List Row) → old.now.schema ≡ archive_schema → Shown all_text [] old new rows → IsPermutation (cells (old.now.trees 1)) rows
 finds_all old new rows has h =
     let got = reads_as all_text [] old new old.now.schema refl _ (all_in old.now.schema has).0 (all_in old.now.schema has).2 (all_in old.now.schema has).1 rows h in
     let all = answered 1 [] each by_name all_rows [] columns_of (λ _. true) (λ c. column c 0 ∷ column c 1 ∷ []) (λ r. refl) (λ r. refl) old.now.trees rows (got.answer Null) in
@@ -240,17 +235,12 @@ whose_is : IsWhoseIn archive_schema
 unfolding understood everything
 whose_is = (refl, refl, (refl, refl))
 
-whose_was : IsWhoseIn older_schema
-unfolding understood everything
-whose_was = (refl, refl, (refl, refl))
-
 whose_first : IsWhoseIn schema1
 unfolding understood everything
 whose_first = (refl, refl, (refl, refl))
 
 whose_in : (schema : Schema) → HasMeta schema → IsWhoseIn schema
-whose_in schema (inl (inl is)) = subst IsWhoseIn (sym is) whose_is
-whose_in schema (inl (inr was)) = subst IsWhoseIn (sym was) whose_was
+whose_in schema (inl is) = subst IsWhoseIn (sym is) whose_is
 whose_in schema (inr first) = subst IsWhoseIn (sym first) whose_first
 
 pub whose_plain : (schema : Schema) → HasMeta schema → IsPlain (understood schema whose_text)

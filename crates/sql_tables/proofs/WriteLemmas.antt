@@ -16,7 +16,7 @@ use Rattle.sqlite_schema.specs.declared.schema.Kind.TheVariants.{Integer}
 use Rattle.sqlite_schema.specs.declared.command.Source.TheVariants.{Values}
 use Rattle.sqlite_schema.specs.declared.command.Command.TheVariants.{Insert, CreateTable}
 use Rattle.sql_tables.specs.Keeping.{AddsRecord}
-use Rattle.sql_tables.specs.State.{KeepsOlder, AreEmpty, Rests, Holds, Idles, Stays, Making, Makes, IsNewArchive}
+use Rattle.sql_tables.specs.State.{KeepsFirst, AreEmpty, Rests, Holds, Idles, Stays, Making, Makes, IsNewArchive}
 use Rattle.sqlite_resolve.specs.Compile.{table_defined_by}
 use Rattle.sqlite_rules.specs.Edit.{edit_of, is_taken, are_fresh, numbered, with_rowid, put_all}
 use Rattle.sqlite_rules.specs.Cast.{cast, cast_row}
@@ -35,7 +35,7 @@ use Rattle.sqlite.specs.State.{State, mode_of, Writes, Executes, IsUnchanged, Is
 use Rattle.sqlite.specs.Clock.{timed}
 use Rattle.std.proofs.lemmas.Bool.{true≢false, eq-eqb}
 use Rattle.sqlite.proofs.Callers.{IsPlain, command_of, statement_of, runs_as, one_step}
-use Rattle.sql_schema.specs.Tables.{meta, records2, currents2, vectors, no_schema, with_meta, older_schema, with_currents, archive_schema}
+use Rattle.sql_schema.specs.Tables.{meta, records2, currents2, vectors, no_schema, with_meta, with_records, with_currents, archive_schema}
 use Rattle.sql_tables.specs.Words.{columns_of, cells, cells_of}
 use Rattle.sql_tables.proofs.Texts.{insert_text, fill_text, meta_text, records_text, currents_text, vectors_text, meta_is, records_is, currents_is, vectors_is}
 
@@ -86,13 +86,13 @@ makes_meta old new (Err e) was h = tt
 makes_meta old new (Ok count) was h =
     let all = creates no_schema meta_text meta create_meta.0 create_meta.1 create_meta.2 meta_is refl old new count was.has h.0 in inside_says no_schema with_meta 0 old new was.inside all.0 all.1 h.1
 
-pub makes_records : (old new : State) (r : Result ℕ Error) → Making with_meta old → ExecutesInside 0 records_text [] old new r → OnOk r (Makes old new older_schema 1 × (new.now.trees 0 ≡ old.now.trees 0))
+pub makes_records : (old new : State) (r : Result ℕ Error) → Making with_meta old → ExecutesInside 0 records_text [] old new r → OnOk r (Makes old new with_records 1 × (new.now.trees 0 ≡ old.now.trees 0))
 makes_records old new (Err e) was h = tt
 makes_records old new (Ok count) was h =
     let all = creates with_meta records_text records2 create_records.0 create_records.1 create_records.2 records_is refl old new count was.has h.0 in
-    (inside_says with_meta older_schema 1 old new was.inside all.0 all.1 h.1, all.2.0)
+    (inside_says with_meta with_records 1 old new was.inside all.0 all.1 h.1, all.2.0)
 
-create_currents : (command_of (understood older_schema currents_text) ≡ CreateTable) × (statement_of currents_text (understood older_schema currents_text) ≡ currents_text) × IsPlain (understood older_schema currents_text)
+create_currents : (command_of (understood with_records currents_text) ≡ CreateTable) × (statement_of currents_text (understood with_records currents_text) ≡ currents_text) × IsPlain (understood with_records currents_text)
 unfolding understood everything
 create_currents = (refl, refl, (refl, refl))
 
@@ -100,13 +100,13 @@ create_vectors : (command_of (understood with_currents vectors_text) ≡ CreateT
 unfolding understood everything
 create_vectors = (refl, refl, (refl, refl))
 
-pub makes_currents : (old new : State) (r : Result ℕ Error) → Making older_schema old → ExecutesInside 0 currents_text [] old new r → OnOk r (Makes old new with_currents 4 × KeepsOlder old.now.trees new.now.trees)
+pub makes_currents : (old new : State) (r : Result ℕ Error) → Making with_records old → ExecutesInside 0 currents_text [] old new r → OnOk r (Makes old new with_currents 4 × KeepsFirst old.now.trees new.now.trees)
 makes_currents old new (Err e) was h = tt
 makes_currents old new (Ok count) was h =
-    let all = creates older_schema currents_text currents2 create_currents.0 create_currents.1 create_currents.2 currents_is refl old new count was.has h.0 in
-    (inside_says older_schema with_currents 4 old new was.inside all.0 all.1 h.1, record { meta = all.2.0; records = all.2.1.0 })
+    let all = creates with_records currents_text currents2 create_currents.0 create_currents.1 create_currents.2 currents_is refl old new count was.has h.0 in
+    (inside_says with_records with_currents 4 old new was.inside all.0 all.1 h.1, record { meta = all.2.0; records = all.2.1.0 })
 
-pub makes_vectors : (old new : State) (r : Result ℕ Error) → Making with_currents old → ExecutesInside 0 vectors_text [] old new r → OnOk r (Makes old new archive_schema 6 × KeepsOlder old.now.trees new.now.trees × (new.now.trees 4 ≡ old.now.trees 4))
+pub makes_vectors : (old new : State) (r : Result ℕ Error) → Making with_currents old → ExecutesInside 0 vectors_text [] old new r → OnOk r (Makes old new archive_schema 6 × KeepsFirst old.now.trees new.now.trees × (new.now.trees 4 ≡ old.now.trees 4))
 makes_vectors old new (Err e) was h = tt
 makes_vectors old new (Ok count) was h =
     let all = creates with_currents vectors_text vectors create_vectors.0 create_vectors.1 create_vectors.2 vectors_is refl old new count was.has h.0 in

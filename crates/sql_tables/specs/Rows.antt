@@ -20,7 +20,7 @@ use Rattle.records.specs.declared.fault.RecordFault.{RecordFault}
 use Rattle.archive.specs.Store.{IsLawfulContent}
 use Rattle.sql_tables.specs.Words.{cells, cells_of}
 pub use Rattle.sql_tables.specs.Derived.{int_in}
-use Rattle.sql_schema.specs.Tables.{archive_schema, older_schema}
+use Rattle.sql_schema.specs.Tables.{archive_schema}
 use Rattle.sql_tables.specs.Derived.{AreKept}
 
 -- ---- records
@@ -78,10 +78,6 @@ pub record IsStored (id : List ℕ) (own : ℕ) (db : Trees) : Type 0 where
 -- a store of this archive and replica, as an opening takes it: the tables of an archive, and nothing else, stand for a lawful content
 abbrev pub IsStoreOf : List ℕ → ℕ → Trees → Type 0
 IsStoreOf id own db = Lists (db catalog_tree) archive_schema × IsStored id own db × AreKept db
-
--- the same as it was before current values and vectors had tables of their own
-abbrev pub IsOlderStoreOf : List ℕ → ℕ → Trees → Type 0
-IsOlderStoreOf id own db = Lists (db catalog_tree) older_schema × IsStored id own db
 
 -- records holds the rows of some lawful content
 abbrev pub IsFilled : Trees → Type 0

@@ -10,7 +10,7 @@ use Rattle.archive.specs.Store.{fault_in, IsOfOpening}
 use Rattle.archive.specs.Listed.{is_broken}
 use Rattle.sqlite_schema.specs.declared.schema.Schema.{Schema}
 use Rattle.sqlite_value.specs.declared.value.Value.TheVariants.{Null, Int, Blob as Bytes}
-use Rattle.sql_schema.specs.Tables.{archive_schema, older_schema, schema1}
+use Rattle.sql_schema.specs.Tables.{archive_schema, with_records, schema1}
 use Rattle.sql_tables.specs.Derived.{AreKept}
 use Rattle.sql_tables.specs.Words.{cells, is_at, stamp_cmp}
 
@@ -18,13 +18,9 @@ use Rattle.sql_tables.specs.Words.{cells, is_at, stamp_cmp}
 abbrev pub HasTables : State → Type 0
 HasTables s = s.now.schema ≡ archive_schema
 
--- the tables are those of an archive, or those that it had before current values and vectors had tables of their own
-abbrev pub IsKnown : Schema → Type 0
-IsKnown schema = (schema ≡ archive_schema) ⊎ (schema ≡ older_schema)
-
--- or those of a store of format 1
+-- the tables are those of an archive, or those of a store of format 1
 abbrev pub HasMeta : Schema → Type 0
-HasMeta schema = IsKnown schema ⊎ (schema ≡ schema1)
+HasMeta schema = (schema ≡ archive_schema) ⊎ (schema ≡ schema1)
 
 -- open, nothing pending, whatever the tables
 pub record Rests (s : State) : Type 0 where
@@ -76,7 +72,7 @@ pub record Makes (old new : State) (schema : Schema) (table : ℕ) : Type 0 wher
   pub committed : new.committed ≡ old.committed
 
 -- meta and records2 are what they were
-pub record KeepsOlder (old new : Trees) : Type 0 where
+pub record KeepsFirst (old new : Trees) : Type 0 where
   pub meta : new 0 ≡ old 0
   pub records : new 1 ≡ old 1
 
@@ -88,8 +84,8 @@ pub record AreEmpty (db : Trees) : Type 0 where
   pub vectors : db 6 ≡ []
 
 -- meta and records2 were made
-pub record MakesOlder (old new : State) : Type 0 where
-  pub making : Making older_schema new
+pub record MakesFirst (old new : State) : Type 0 where
+  pub making : Making with_records new
   pub meta : new.now.trees 0 ≡ []
   pub records : new.now.trees 1 ≡ []
   pub committed : new.committed ≡ old.committed
@@ -97,7 +93,7 @@ pub record MakesOlder (old new : State) : Type 0 where
 -- currents2 and vectors were made beside them
 pub record MakesBeside (old new : State) : Type 0 where
   pub making : Making archive_schema new
-  pub older : KeepsOlder old.now.trees new.now.trees
+  pub first : KeepsFirst old.now.trees new.now.trees
   pub currents : new.now.trees 4 ≡ []
   pub vectors : new.now.trees 6 ≡ []
   pub committed : new.committed ≡ old.committed
@@ -128,8 +124,8 @@ pub record Found {A : Type 0} (old new : State) (result : Result A StoreFault) (
   pub met : IfErr result (λ fault. IsOfOpening fault → ⊥)
   pub crash : Survives old new (λ _. ⊥)
 
--- new tables stand beside the old ones, which stay: the rows of currents2 and of vectors that follow from those of records2
-pub record IsMigrated (old new : Trees) : Type 0 where
+-- the rows of meta and of records2 stay, and those of currents2 and of vectors follow from them
+pub record IsCompleted (old new : Trees) : Type 0 where
   pub meta : new 0 ≡ old 0
   pub records : new 1 ≡ old 1
   pub kept : AreKept new

@@ -3,8 +3,8 @@
 ghost use Rattle.std.specs.Prelude.{◌≡◌, ◌≤◌, pos, false, [], OnOk, OnErr, IsTrue};
 ghost use Rattle.sqlite.specs.State.{HasCleanDisk, Survives, KeepsCommit};
 ghost use Rattle.sqlite.specs.Held.{state};
-ghost use Rattle.sql_schema.specs.Tables.{no_schema, with_meta, older_schema, with_currents, archive_schema};
-ghost use Rattle.sql_tables.specs.State.{Making, Makes, MakesOlder, MakesBeside, KeepsOlder, AreEmpty, IsNewArchive, Idles};
+ghost use Rattle.sql_schema.specs.Tables.{no_schema, with_meta, with_records, with_currents, archive_schema};
+ghost use Rattle.sql_tables.specs.State.{Making, Makes, MakesFirst, MakesBeside, KeepsFirst, AreEmpty, IsNewArchive, Idles};
 
 use sqlite::{Alter, Connection, Error, Transaction, params};
 use stamp::ReplicaNo;
@@ -32,7 +32,7 @@ fn make_meta<S: Alter>(tx: &mut Transaction<'_, S>) -> Result<usize, Error>
 
 fn make_records<S: Alter>(tx: &mut Transaction<'_, S>) -> Result<usize, Error>
     requires { HasCleanDisk (state S.Store tx.old.conn.now) → Making with_meta (state S.Store tx.old.conn.now) }
-    ensures made { HasCleanDisk (state S.Store tx.new.conn.now) → OnOk result (Makes (state S.Store tx.old.conn.now) (state S.Store tx.new.conn.now) older_schema 1 × ((state S.Store tx.new.conn.now).now.trees 0 ≡ (state S.Store tx.old.conn.now).now.trees 0)) }
+    ensures made { HasCleanDisk (state S.Store tx.new.conn.now) → OnOk result (Makes (state S.Store tx.old.conn.now) (state S.Store tx.new.conn.now) with_records 1 × ((state S.Store tx.new.conn.now).now.trees 0 ≡ (state S.Store tx.old.conn.now).now.trees 0)) }
     ensures kept { HasCleanDisk (state S.Store tx.new.conn.now) → KeepsCommit (state S.Store tx.old.conn.now) (state S.Store tx.new.conn.now) }
     ensures same { tx.new.conn.ghost_name ≡ tx.old.conn.ghost_name }
     ensures crash { Survives (state S.Store tx.old.conn.now) (state S.Store tx.new.conn.now) (λ _. ⊥) }
@@ -44,8 +44,8 @@ fn make_records<S: Alter>(tx: &mut Transaction<'_, S>) -> Result<usize, Error>
 }
 
 fn make_currents<S: Alter>(tx: &mut Transaction<'_, S>) -> Result<usize, Error>
-    requires { HasCleanDisk (state S.Store tx.old.conn.now) → Making older_schema (state S.Store tx.old.conn.now) }
-    ensures made { HasCleanDisk (state S.Store tx.new.conn.now) → OnOk result (Makes (state S.Store tx.old.conn.now) (state S.Store tx.new.conn.now) with_currents 4 × KeepsOlder (state S.Store tx.old.conn.now).now.trees (state S.Store tx.new.conn.now).now.trees) }
+    requires { HasCleanDisk (state S.Store tx.old.conn.now) → Making with_records (state S.Store tx.old.conn.now) }
+    ensures made { HasCleanDisk (state S.Store tx.new.conn.now) → OnOk result (Makes (state S.Store tx.old.conn.now) (state S.Store tx.new.conn.now) with_currents 4 × KeepsFirst (state S.Store tx.old.conn.now).now.trees (state S.Store tx.new.conn.now).now.trees) }
     ensures kept { HasCleanDisk (state S.Store tx.new.conn.now) → KeepsCommit (state S.Store tx.old.conn.now) (state S.Store tx.new.conn.now) }
     ensures same { tx.new.conn.ghost_name ≡ tx.old.conn.ghost_name }
     ensures crash { Survives (state S.Store tx.old.conn.now) (state S.Store tx.new.conn.now) (λ _. ⊥) }
@@ -58,7 +58,7 @@ fn make_currents<S: Alter>(tx: &mut Transaction<'_, S>) -> Result<usize, Error>
 
 fn make_vectors<S: Alter>(tx: &mut Transaction<'_, S>) -> Result<usize, Error>
     requires { HasCleanDisk (state S.Store tx.old.conn.now) → Making with_currents (state S.Store tx.old.conn.now) }
-    ensures made { HasCleanDisk (state S.Store tx.new.conn.now) → OnOk result (Makes (state S.Store tx.old.conn.now) (state S.Store tx.new.conn.now) archive_schema 6 × KeepsOlder (state S.Store tx.old.conn.now).now.trees (state S.Store tx.new.conn.now).now.trees × ((state S.Store tx.new.conn.now).now.trees 4 ≡ (state S.Store tx.old.conn.now).now.trees 4)) }
+    ensures made { HasCleanDisk (state S.Store tx.new.conn.now) → OnOk result (Makes (state S.Store tx.old.conn.now) (state S.Store tx.new.conn.now) archive_schema 6 × KeepsFirst (state S.Store tx.old.conn.now).now.trees (state S.Store tx.new.conn.now).now.trees × ((state S.Store tx.new.conn.now).now.trees 4 ≡ (state S.Store tx.old.conn.now).now.trees 4)) }
     ensures kept { HasCleanDisk (state S.Store tx.new.conn.now) → KeepsCommit (state S.Store tx.old.conn.now) (state S.Store tx.new.conn.now) }
     ensures same { tx.new.conn.ghost_name ≡ tx.old.conn.ghost_name }
     ensures crash { Survives (state S.Store tx.old.conn.now) (state S.Store tx.new.conn.now) (λ _. ⊥) }
@@ -70,8 +70,8 @@ fn make_vectors<S: Alter>(tx: &mut Transaction<'_, S>) -> Result<usize, Error>
 }
 
 /// Makes the tables of current values and of vectors, without rows, beside those of `meta` and of records, in a transaction.
-pub fn make_beside<S: Alter>(tx: &mut Transaction<'_, S>) -> Result<(), Error>
-    requires { HasCleanDisk (state S.Store tx.old.conn.now) → Making older_schema (state S.Store tx.old.conn.now) }
+fn make_beside<S: Alter>(tx: &mut Transaction<'_, S>) -> Result<(), Error>
+    requires { HasCleanDisk (state S.Store tx.old.conn.now) → Making with_records (state S.Store tx.old.conn.now) }
     ensures made { HasCleanDisk (state S.Store tx.new.conn.now) → OnOk result (MakesBeside (state S.Store tx.old.conn.now) (state S.Store tx.new.conn.now)) }
     ensures kept { HasCleanDisk (state S.Store tx.new.conn.now) → KeepsCommit (state S.Store tx.old.conn.now) (state S.Store tx.new.conn.now) }
     ensures same { tx.new.conn.ghost_name ≡ tx.old.conn.ghost_name }
@@ -83,9 +83,9 @@ pub fn make_beside<S: Alter>(tx: &mut Transaction<'_, S>) -> Result<(), Error>
 }
 
 /// Makes the tables of meta and of records, in a transaction.
-fn make_older<S: Alter>(tx: &mut Transaction<'_, S>) -> Result<(), Error>
+fn make_first<S: Alter>(tx: &mut Transaction<'_, S>) -> Result<(), Error>
     requires { HasCleanDisk (state S.Store tx.old.conn.now) → Making no_schema (state S.Store tx.old.conn.now) }
-    ensures made { HasCleanDisk (state S.Store tx.new.conn.now) → OnOk result (MakesOlder (state S.Store tx.old.conn.now) (state S.Store tx.new.conn.now)) }
+    ensures made { HasCleanDisk (state S.Store tx.new.conn.now) → OnOk result (MakesFirst (state S.Store tx.old.conn.now) (state S.Store tx.new.conn.now)) }
     ensures kept { HasCleanDisk (state S.Store tx.new.conn.now) → KeepsCommit (state S.Store tx.old.conn.now) (state S.Store tx.new.conn.now) }
     ensures same { tx.new.conn.ghost_name ≡ tx.old.conn.ghost_name }
     ensures crash { Survives (state S.Store tx.old.conn.now) (state S.Store tx.new.conn.now) (λ _. ⊥) }
@@ -126,7 +126,7 @@ pub fn make_tables<S: Alter>(
     ensures same { tx.new.conn.ghost_name ≡ tx.old.conn.ghost_name }
     ensures crash { Survives (state S.Store tx.old.conn.now) (state S.Store tx.new.conn.now) (λ _. ⊥) }
 {
-    make_older(tx)?;
+    make_first(tx)?;
     make_beside(tx)?;
     fill_meta(tx, archive, replica)?;
     Ok(())

@@ -12,7 +12,7 @@ mod writes;
 pub use agreeing::check_kept;
 pub use decoding::{bytes_at, decode, decode_all, int_at, number_at, short_at, tick_at};
 pub use keeping::add_record;
-pub use layout::{first_open, make_beside, make_tables, number_of};
+pub use layout::{first_open, make_tables, number_of};
 pub use queries::{
     Behind, Name, Next, Place, place_of, rows_at, rows_behind, rows_last, rows_named, rows_next,
     rows_of_meta,

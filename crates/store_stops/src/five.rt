@@ -111,29 +111,6 @@ pub(crate) fn open<D: Disk + Drop>(alloc: Global, files: Files<D>) -> Opened<D> 
     }
 }
 
-/// The files of a store that learned the five records and was closed.
-fn filled(alloc: Global) -> Option<Files<Memory>> {
-    let mut archive = open(alloc, empty(alloc)).ok()?;
-    if learn_five(alloc, &mut archive) != FIVE.len() {
-        return None;
-    }
-    archive.close_files().ok()
-}
-
-/// The five records in a store as it was before it had tables of current values and of vectors.
-pub(crate) fn older(alloc: Global) -> Option<Files<Memory>> {
-    let files = filled(alloc)?;
-    if !files.may_be_used() {
-        return None;
-    }
-    let Ok(mut conn) = Connection::open_files(alloc, files, Options::new(7)) else {
-        return None;
-    };
-    conn.execute("DROP TABLE vectors", &[]).ok()?;
-    conn.execute("DROP TABLE currents2", &[]).ok()?;
-    conn.close_files().ok()
-}
-
 /// A store of format 1, whose moments have no picoseconds, with the five records.
 static FORMAT_ONE: [&str; 8] = [
     "CREATE TABLE meta (one INTEGER PRIMARY KEY CHECK (one = 1), format INTEGER NOT NULL, archive BLOB NOT NULL, replica INTEGER NOT NULL) STRICT",

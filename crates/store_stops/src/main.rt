@@ -1,4 +1,4 @@
-//! Three runs over a store, each stopped at every call of its log and of its database file in turn. Behind each stop the
+//! Two runs over a store, each stopped at every call of its log and of its database file in turn. Behind each stop the
 //! machine crashes, and what is left is opened again. A line a run and file tells how many stops there were, and that each
 //! left what was learned, or one record more.
 #![tactic(auto)]
@@ -49,17 +49,11 @@ fn tell(rt: &impl Print, name: &str, told: Result<Count, u64>) -> io::Result<()>
 }
 
 /// A run and the file that is stopped, with their name.
-static RUNS: [(&str, Run, Fused); 6] = [
+static RUNS: [(&str, Run, Fused); 4] = [
     ("five records learned, log", Run::Learning, Fused::Log),
     (
         "five records learned, database",
         Run::Learning,
-        Fused::Database,
-    ),
-    ("two tables added, log", Run::AddingTables, Fused::Log),
-    (
-        "two tables added, database",
-        Run::AddingTables,
         Fused::Database,
     ),
     ("format 1 made anew, log", Run::Renewing, Fused::Log),

@@ -1,6 +1,6 @@
 //! Runs over a store, stopped at some call of a file.
 
-use crate::five::{empty, first, held, learn_five, older, open};
+use crate::five::{empty, first, held, learn_five, open};
 use sqlite::Files;
 use sqlite_disk::{Crash, Fuse, Memory};
 use std::alloc::Global;
@@ -17,8 +17,6 @@ pub(crate) enum Fused {
 pub(crate) enum Run {
     /// A new store is opened, learns five records and is closed.
     Learning,
-    /// An older store of the five records gets the tables that it lacks by an opening, and is closed.
-    AddingTables,
     /// A store of format 1 of the five records gets the tables of today by an opening, and is closed.
     Renewing,
 }
@@ -81,7 +79,6 @@ fn open_and_close(alloc: Global, files: Files<Fuse<Memory>>) -> Ran {
 fn run_to_a_stop(alloc: Global, run: Run, fused: Fused, calls: u64) -> Option<Ran> {
     match run {
         Run::Learning => Some(learn_all(alloc, fuse(empty(alloc), fused, calls))),
-        Run::AddingTables => Some(open_and_close(alloc, fuse(older(alloc)?, fused, calls))),
         Run::Renewing => Some(open_and_close(alloc, fuse(first(alloc)?, fused, calls))),
     }
 }

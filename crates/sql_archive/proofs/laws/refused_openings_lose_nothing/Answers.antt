@@ -1,4 +1,4 @@
-use Rattle.sql_archive.proofs.FileLemmas.{still_held, still_stored, still_renewed, still_resumed}
+use Rattle.sql_archive.proofs.FileLemmas.{still_held, still_renewed, still_resumed}
 use Rattle.sql_archive.proofs.laws.refused_openings_lose_nothing.Goals as goal
 
 pub returns-clause-held : goal.returns-clause-held
@@ -6,9 +6,6 @@ returns-clause-held c = still_held
 
 pub returns-clause-resumed : goal.returns-clause-resumed
 returns-clause-resumed c = still_resumed
-
-pub returns-clause-stored : goal.returns-clause-stored
-returns-clause-stored c = still_stored
 
 pub returns-clause-renewed : goal.returns-clause-renewed
 returns-clause-renewed c = still_renewed

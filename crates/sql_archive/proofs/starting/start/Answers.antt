@@ -1,7 +1,7 @@
 use Rattle.std.proofs.Common.{◌∙◌, sym, inl, inr}
 use Rattle.sqlite.specs.Held.{state}
 use Rattle.sql_opening.specs.Opening.{IsBegunIn}
-use Rattle.sql_archive.proofs.StartLemmas.{started_new, started_old, refused_by, opened_quiet, left_quiet, opened_new, left_new, started_migrated, opened_migrated, left_migrated, started_renewed, opened_renewed, left_renewed}
+use Rattle.sql_archive.proofs.StartLemmas.{started_new, started_old, refused_by, opened_quiet, left_quiet, opened_new, left_new, started_renewed, opened_renewed, left_renewed}
 use Rattle.sql_archive.proofs.starting.start.Goals as goal
 
 pub returns-in-Ok-Empty-clause-started : goal.returns-in-Ok-Empty-clause-started
@@ -14,7 +14,7 @@ returns-in-Ok-Archive-clause-started g c =
 
 pub returns-in-Ok-Archive-clause-wrong : goal.returns-in-Ok-Archive-clause-wrong
 returns-in-Ok-Archive-clause-wrong g c =
-    refused_by g.S.Store (state g.S.Store c.args.conn) c.args.id c.args.number c.over.result (inl (inl (sym c.schema.ensures.value ∙ c.in-Ok-Archive.ensures.archive c.in-Ok-Archive.field-0-is))) c.over.ensures.wrong
+    refused_by g.S.Store (state g.S.Store c.args.conn) c.args.id c.args.number c.over.result (inl (sym c.schema.ensures.value ∙ c.in-Ok-Archive.ensures.archive c.in-Ok-Archive.field-0-is)) c.over.ensures.wrong
 
 pub returns-in-Ok-Archive-clause-opened : goal.returns-in-Ok-Archive-clause-opened
 returns-in-Ok-Archive-clause-opened g c = opened_quiet g.S.Store (state g.S.Store c.args.conn) (IsBegunIn c.args.id c.args.number (state g.S.Store c.args.conn).now) c.over.result c.over.ensures.opened
@@ -29,22 +29,6 @@ returns-in-Ok-Empty-clause-opened g c =
 pub returns-in-Ok-Empty-clause-left : goal.returns-in-Ok-Empty-clause-left
 returns-in-Ok-Empty-clause-left g c =
     left_new g.S.Store (state g.S.Store c.args.conn) c.args.id c.args.number c.make.result (sym c.schema.ensures.value ∙ c.in-Ok-Empty.ensures.empty c.in-Ok-Empty.field-0-is) c.make.ensures.left
-
-pub take_over-requires-clause-rests : goal.take_over-requires-clause-rests
-take_over-requires-clause-rests g c clean = let o = c.requires.open clean in record { is_open = o.is_open; autocommit = o.autocommit; settled = sym o.clean }
-
-pub returns-in-Ok-Older-clause-started : goal.returns-in-Ok-Older-clause-started
-returns-in-Ok-Older-clause-started g c = started_migrated g.S.Store (state g.S.Store c.args.conn) c.args.id c.args.number c.take_over.result c.take_over.ensures.migrated
-
-pub returns-in-Ok-Older-clause-wrong : goal.returns-in-Ok-Older-clause-wrong
-returns-in-Ok-Older-clause-wrong g c =
-    refused_by g.S.Store (state g.S.Store c.args.conn) c.args.id c.args.number c.take_over.result (inl (inr (sym c.schema.ensures.value ∙ c.in-Ok-Older.ensures.older c.in-Ok-Older.field-0-is))) c.take_over.ensures.wrong
-
-pub returns-in-Ok-Older-clause-opened : goal.returns-in-Ok-Older-clause-opened
-returns-in-Ok-Older-clause-opened g c = opened_migrated g.S.Store (state g.S.Store c.args.conn) c.args.id c.args.number c.take_over.result c.take_over.ensures.opened
-
-pub returns-in-Ok-Older-clause-left : goal.returns-in-Ok-Older-clause-left
-returns-in-Ok-Older-clause-left g c = left_migrated g.S.Store (state g.S.Store c.args.conn) c.args.id c.args.number c.take_over.result c.take_over.ensures.left
 
 pub take_over_first-requires-clause-rests : goal.take_over_first-requires-clause-rests
 take_over_first-requires-clause-rests g c clean = let o = c.requires.open clean in record { is_open = o.is_open; autocommit = o.autocommit; settled = sym o.clean }

@@ -6,14 +6,15 @@ use Rattle.sqlite.specs.State.{State, HasCleanDisk, Survives, CommitsShowing, Fa
 use Rattle.sqlite.specs.Held.{state}
 use Rattle.sqlite.proofs.StateLemmas.{survives_weaker}
 use Rattle.sqlite.proofs.Callers.{never_commits, begun_plain}
-use Rattle.sql_tables.specs.State.{Holds, IsKnown}
+use Rattle.sql_schema.specs.Tables.{archive_schema}
+use Rattle.sql_tables.specs.State.{Holds}
 use Rattle.sql_tables.specs.Words.{cells}
 use Rattle.sql_tables.proofs.Texts.{all_text}
 use Rattle.sql_tables.proofs.QueryLemmas.{all_plain, finds_all}
 use Rattle.sql_tables.proofs.WriteLemmas.{fails_query}
 use Rattle.sql_opening.proofs.checking.check_rows.Goals as goal
 
-commits_nothing : (old new : State) → (HasCleanDisk old → IsKnown old.now.schema) → Survives old new (CommitsShowing all_text [] old) → Survives old new (λ _. ⊥)
+commits_nothing : (old new : State) → (HasCleanDisk old → old.now.schema ≡ archive_schema) → Survives old new (CommitsShowing all_text [] old) → Survives old new (λ _. ⊥)
 commits_nothing old new known s = survives_weaker old new _ _ (λ clean db. never_commits all_text [] old db (all_plain old.now.schema (known (omega (arith, s.clean, clean))))) s
 
 each_err : {A E : Type 0} {P : Type 0} (r : Result A E) → P → IfErr r (λ _. P)
@@ -61,5 +62,5 @@ returns-in_default-clause-checked g c clean =
     let none : row_if c.advance.new.self.has_row now ≡ None = sym c.get.ensures ∙ ap option_copied c.in_default.is in
     let shown = subst (GivesOn g.S.Store all_text [] mid now was.0) none (on all_text [] was.0 was.1) in
     let known = c.requires.known (omega (arith, c.rows.invariant.1.clean, moved.survives.clean, late)) in
-    let tables = subst IsKnown (sym (ap (λ (d : Database). d.schema) was.2.0.now_is)) known in
+    let tables = subst (λ x. x ≡ archive_schema) (sym (ap (λ (d : Database). d.schema) was.2.0.now_is)) known in
     (was.0, subst (λ (d : Database). IsPermutation (cells (d.trees 1)) was.0) was.2.0.now_is (finds_all (state g.S.Store mid) (state g.S.Store now) was.0 tables shown), was.3)

@@ -3,7 +3,7 @@ use Rattle.sqlite.specs.State.{HasCleanDisk}
 use Rattle.sqlite.specs.Held.{state}
 use Rattle.sql_tables.proofs.WriteLemmas.{keeps_commit}
 use Rattle.sql_tables.proofs.KeepLemmas.{fills_vectors}
-use Rattle.sql_opening.proofs.migrating.fill_vectors.Goals as goal
+use Rattle.sql_opening.proofs.filling.fill_vectors.Goals as goal
 
 pub returns-clause-made : goal.returns-clause-made
 returns-clause-made g c clean =
