@@ -9,6 +9,8 @@ mod exchanges;
 #[cfg(test)]
 mod format_one;
 #[cfg(test)]
+mod points;
+#[cfg(test)]
 mod reads;
 #[cfg(test)]
 mod store_files;

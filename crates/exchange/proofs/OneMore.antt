@@ -1,9 +1,9 @@
 -- One record of a replica, sent alone.
-use Rattle.std.proofs.Common.{◌≡◌, ℕ, ◌+◌, ◌-◌, ◌<◌, ◌≤◌, ◌==◌, min, length, Bool, true, false, List, [], ◌∷◌, take, refl, sym, ap, ◌∙◌, subst, inl, inr, arith}
-use Rattle.std.specs.Prelude.{if◌then◌else◌, filter}
+use Rattle.std.proofs.Common.{◌≡◌, ℕ, ◌-◌, ◌<◌, ◌≤◌, ◌==◌, length, Bool, List, [], ◌∷◌, take, refl, sym, ap, ◌∙◌, subst, inl, inr, arith}
+use Rattle.std.specs.Prelude.{if◌then◌else◌}
 use Rattle.std.proofs.lemmas.Bool.{cases_eq, eq-eqb, ne_eqb}
 use Rattle.records.specs.Lists.{Has}
-use Rattle.records.specs.Records.{missing, is_beyond, name_cmp}
+use Rattle.records.specs.Records.{missing}
 use Rattle.records.specs.Contents.{Content, vec, put, merged, finding, Adds, IsClosed}
 use Rattle.records.specs.declared.record.Record.{Record}
 use Rattle.records.proofs.ContentLemmas.{apart_from_rises, vec_bounds}

@@ -26,7 +26,7 @@ use Rattle.exchange.specs.declared.message.Title.{Title}
 use Rattle.exchange.specs.Frames.{kind_of, body_of, frame_of, IsTitle, IsSpelled}
 use Rattle.exchange.proofs.FrameLemmas.{read_other}
 use Rattle.exchange.proofs.HandleLemmas.{unbroken_before}
-use Rattle.exchange.specs.Dialogs.{title_by, Turn, failing, Way, Clear, Unread, Stopped, Starved, Met, IsWay, gone, Standing, unfit, received, answered, records_read, party_of, Writes, Takes, Greets}
+use Rattle.exchange.specs.Dialogs.{title_by, Turn, failing, Way, Clear, Unread, Stopped, Starved, Met, IsWay, gone, Standing, unfit, received, records_read, party_of, Writes, Takes, Greets}
 use Rattle.exchange.specs.Meetings.{IsBetween, AreJoined, CanMeet, IsOfOutside, IsOfMeeting, IsTold, Converses, Hands}
 use Rattle.exchange.proofs.DialogLemmas.{between_first}
 use Rattle.exchange.proofs.MeetLemmas.{no_ok, told_or, stays_none}

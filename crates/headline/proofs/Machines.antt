@@ -18,7 +18,7 @@ use Rattle.exchange.specs.Dialogs.{party_of, IsHeld}
 use Rattle.exchange.specs.Meetings.{CanMeet}
 use Rattle.exchange.specs.Running.{AreSites, IsSiteOf}
 use Rattle.exchange.specs.Worlds as worlds
-use Rattle.exchange.specs.Worlds.{Site, World, Event, Operates, Sends, Delivers, IsSite, IsSound, IsUpdated, AreUpdates, step, run}
+use Rattle.exchange.specs.Worlds.{Site, World, Event, IsSite, IsSound, AreUpdates, run}
 use Rattle.exchange.proofs.WorldLemmas.{get-set_same, get-set_other}
 use Rattle.exchange.proofs.HappenLemmas.{site_there, sites_set, set_same}
 use Rattle.exchange.proofs.ConverseLemmas.{IsParty}

@@ -22,7 +22,7 @@ use Rattle.hist_update.specs.Updates.{Updated, refused, unless, begin, run, all_
 use Rattle.hist_update.specs.Laws.{IsGood, HasRecordOf}
 use Rattle.hist_update.proofs.Answered.{came_to, all_within, all_stand}
 use Rattle.historian.specs.Answers as answer
-use Rattle.historian.specs.Answers.{Answer, Response}
+use Rattle.historian.specs.Answers.{Response}
 use Rattle.historian.specs.Reading as reading
 use Rattle.historian.specs.Updating.{node_asked, type_asked, asked_for, update_of, updated_unless, update_by, update_item, update_history}
 use Rattle.historian.specs.Requests as request

@@ -1,5 +1,5 @@
 -- Values as they are read.
-use Rattle.std.proofs.Common.{◌≡◌, ◌∙◌, ◌⊎◌, inl, inr, ℕ, ℤ, List, [], ◌∷◌, take, Option, Some, None, Ok, Err, IfOk, refl, sym, ap, subst}
+use Rattle.std.proofs.Common.{◌≡◌, ◌∙◌, ◌⊎◌, inl, inr, ℕ, ℤ, List, [], ◌∷◌, take, Option, Some, None, Ok, Err, IfOk, refl, sym, ap}
 use Rattle.std.specs.Prelude.{Result}
 use Rattle.stamp.specs.Numbers.{number_of}
 use Rattle.ua_binary.specs.declared.codes.Status.{Status}

@@ -35,12 +35,9 @@ use Rattle.sql_schema.specs.Tables.{meta, no_schema, schema1, archive_schema}
 use Rattle.std.proofs.lemmas.List.Sorted.{IsPermutation-trans}
 use Rattle.sql_opening.specs.Renewing.{cells1, content1_in, IsStored1, IsStoreOf1, IsRenewed}
 use Rattle.sql_tables.proofs.RowLemmas.{content_from}
-use Rattle.sql_tables.specs.Rows.{content_in, records_in, row_of, meta_row, IsStored, IsStoreOf, meta_cells}
+use Rattle.sql_tables.specs.Rows.{content_in, row_of, meta_row, IsStored, IsStoreOf, meta_cells}
 use Rattle.sql_tables.specs.Derived.{AreKept}
 use Rattle.sql_tables.specs.Words.{cells}
-use Rattle.records.specs.Lists.{sort_by}
-use Rattle.records.specs.Records.{name_cmp}
-use Rattle.std.specs.List.{flat_map}
 use Rattle.sql_archive.specs.Kept.{Stands}
 use Rattle.archive.specs.declared.fault.StoreFault.{StoreFault}
 use Rattle.sql_opening.specs.Opening.{Starts, IsBegunIn, IsRefused, judged}

@@ -9,7 +9,7 @@ use Rattle.uacp.specs.Greeting.{error}
 use Rattle.ua_settings.specs.Settings.{Values}
 use Rattle.ua_binary.specs.declared.codes.TheConstants.Status.{BAD_OUT_OF_MEMORY}
 use Rattle.records.specs.Contents.{Content}
-use Rattle.archive.specs.Store.{Store, Mark, Fine, faults_of, Passes}
+use Rattle.archive.specs.Store.{Store, Mark, Fine, faults_of}
 use Rattle.archive.specs.Steps.{Moves}
 use Rattle.archive.proofs.Acting.{moves-told, moves-as, faults-append}
 use Rattle.historian.specs.Services.{Site, site_of}

@@ -8,7 +8,7 @@ use Rattle.std.proofs.lemmas.List.{append-nil}
 use Rattle.stamp.specs.Numbers.{number_of}
 use Rattle.records.specs.Records.{missing}
 use Rattle.records.specs.Lists.{Has}
-use Rattle.records.specs.Contents.{Content, merged, put, finding, Adds, IsClosed}
+use Rattle.records.specs.Contents.{Content, merged, put, IsClosed}
 use Rattle.records.proofs.ContentLemmas.{has_from_append}
 use Rattle.records.proofs.PutLemmas.{has-put}
 use Rattle.records.proofs.LearnLemmas.{has-merged, next_found, closed-next}
@@ -26,7 +26,7 @@ use Rattle.exchange.specs.Fault.{exchange_number}
 use Rattle.exchange.specs.Batches.{batch_of, IsBatchFor}
 use Rattle.exchange.specs.Frames.{kind_of, body_of, frame_of, message_at, checked, IsSpelled}
 use Rattle.exchange.specs.Streams.{AreFrames}
-use Rattle.exchange.specs.Dialogs.{Turn, Way, Clear, Unread, Stopped, Starved, Met, title_by, failing, asking, carrying, pushing, ended_by, learnt, turned, gone, unfit, received, records_in, records_read, learned_at, answered_to, bytes_of, party_of, IsHeld, Writes}
+use Rattle.exchange.specs.Dialogs.{Turn, Way, Clear, Unread, Stopped, Starved, Met, title_by, failing, asking, carrying, pushing, ended_by, learnt, turned, gone, unfit, received, records_in, records_read, learned_at, answered_to, bytes_of, party_of, Writes}
 use Rattle.exchange.specs.Meetings.{IsBetween, CanMeet, checked_title}
 use Rattle.exchange.specs.Worlds.{Site, World, Event, Sends, Delivers, IsSite, sent, step, run}
 use Rattle.exchange.proofs.FrameLemmas.{read_own}

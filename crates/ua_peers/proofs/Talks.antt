@@ -18,7 +18,7 @@ use Rattle.exchange.specs.declared.fault.ExchangeFault.TheVariants as exchange
 use Rattle.exchange.specs.declared.message.State.{State}
 use Rattle.exchange.specs.declared.message.State.TheVariants.{Pulling, Pushing, Serving, Done, Failed}
 use Rattle.exchange.specs.Named.{Party, Message, end_frame}
-use Rattle.exchange.specs.Frames.{cut, Held, Gives, next_of, after_next}
+use Rattle.exchange.specs.Frames.{cut}
 use Rattle.exchange.specs.Streams.{Piece, AreFrames, header_of}
 use Rattle.exchange.specs.Dialogs.{Turn, Way, Clear, Unread, Stopped, Starved, Met, Standing, fault_on, received, records_read, learned_at, answered_to, answered, party_of, IsHeld, Writes, Takes, TellsFault}
 use Rattle.exchange.proofs.StreamLemmas.{given_frame}

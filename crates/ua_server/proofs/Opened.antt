@@ -1,5 +1,5 @@
 -- What is done over the archive of some settings.
-use Rattle.std.proofs.Common.{◌≡◌, ℕ, List, Option, Ok, Err, sym, subst}
+use Rattle.std.proofs.Common.{◌≡◌, ℕ, List, Option, Err, subst}
 use Rattle.std.specs.Prelude.{Result}
 use Rattle.archive.specs.Store.{Store}
 use Rattle.ua_server.specs.declared.program.ProgramFault.{ProgramFault}

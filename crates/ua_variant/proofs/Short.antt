@@ -1,5 +1,5 @@
 -- What is read of values is few enough to be written.
-use Rattle.std.proofs.Common.{◌≡◌, ℕ, ◌-◌, ◌<◌, ◌≤◌, ◌^◌, min, ltb, ◌==◌, List, length, Ok, arith}
+use Rattle.std.proofs.Common.{◌≡◌, ℕ, ◌-◌, ◌≤◌, min, ltb, ◌==◌, List, Ok, arith}
 use Rattle.std.specs.Int.{w16, w32, w64}
 use Rattle.ua_binary.specs.Format.{Format, byte, block, standing_for, flagged}
 use Rattle.ua_binary.specs.Binary.{boolean, sbyte, signed, unsigned, ticks, status, guid}
