@@ -4,7 +4,7 @@ use std::alloc::{AllocError, Global};
 use std::test::Fail;
 
 /// Of ns=1;s=T, from 5:00 to 5:07, two a page: the place behind 5:02, of five records of replica 1.
-static POINT: [u8; 81] = [
+pub(crate) static POINT: [u8; 81] = [
     3, 0, 0, 0, 0, 0, 0, 0, 0, 0, 0, 0, 0, 0, 0, 0, 0, 3, 1, 0, 1, 0, 0, 0, 0x54, 0, 0, 8, 0xD6,
     0xE8, 0x29, 0, 0, 0, 0, 0xF2, 0x2C, 0xE3, 0x2A, 0, 0, 0, 2, 0, 0, 0, 0, 2, 0, 0x94, 0x5C, 0x30,
     0x2A, 0, 0, 0, 0, 0, 0, 0, 0, 0, 0, 0, 0, 0, 0, 0, 0, 0, 0, 1, 1, 5, 0, 0, 0, 0, 0, 0, 0,

@@ -2,7 +2,7 @@ ghost use Rattle.std.specs.Prelude.{IsTrue};
 ghost use Rattle.ua_binary.specs.Binary.{IsShortNode};
 
 use crate::archives::{is_int, list_archive, node, scripted_archive, value};
-use crate::points::{NONE, Patch, patched};
+use crate::points::{NONE, POINT, Patch, patched};
 use HistoryUpdateType::{Delete, Insert, Update};
 use archive::{Archive, Failure, LearnFault, ListArchive, ScriptedArchive, StoreFault};
 use hist_read::{Query, read_node};
