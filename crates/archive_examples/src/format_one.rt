@@ -10,21 +10,37 @@ use std::test::Fail;
 use ua_binary::{NodeId, Text};
 use uuid::Uuid;
 
-/// An insert of 7 at 10, whose value has 5 picoseconds, and a delete at 10.
-static FORMAT_ONE: [&str; 8] = [
+/// The tables of replica 1's store, without records.
+static TABLES: [&str; 5] = [
     "CREATE TABLE meta (one INTEGER PRIMARY KEY CHECK (one = 1), format INTEGER NOT NULL, archive BLOB NOT NULL, replica INTEGER NOT NULL) STRICT",
     "CREATE TABLE records (origin INTEGER NOT NULL, number INTEGER NOT NULL, tick INTEGER NOT NULL, node BLOB NOT NULL, time INTEGER NOT NULL, asked INTEGER NOT NULL, who BLOB NOT NULL, value BLOB NOT NULL, PRIMARY KEY (origin, number), UNIQUE (node, time, tick, origin)) STRICT",
     "CREATE TABLE currents (node BLOB NOT NULL, time INTEGER NOT NULL, tick INTEGER NOT NULL, origin INTEGER NOT NULL, live INTEGER NOT NULL, extra INTEGER NOT NULL, value BLOB NOT NULL, PRIMARY KEY (node, time)) STRICT",
     "CREATE TABLE vectors (origin INTEGER PRIMARY KEY, number INTEGER NOT NULL, tick INTEGER NOT NULL) STRICT",
     "INSERT INTO meta VALUES (1, 1, x'00000000000000000000000000000000', 1)",
+];
+
+/// An insert of 7 at 10, whose value has 5 picoseconds, and a delete at 10.
+static TWO: [&str; 3] = [
     "INSERT INTO records VALUES (1, 1, 100, x'0301000100000054', 10, 1, x'616e6e', x'1106070000000500'), (1, 2, 101, x'0301000100000054', 10, 4, x'616e6e', x'00')",
     "INSERT INTO currents VALUES (x'0301000100000054', 10, 101, 1, 0, 1, x'00')",
     "INSERT INTO vectors VALUES (1, 2, 101)",
 ];
 
-/// The files of that store.
+/// The five updates of `store_files`.
+static FIVE: [&str; 3] = [
+    "INSERT INTO records VALUES (1, 1, 100, x'0301000100000054', 10, 1, x'616e6e', x'010607000000'), (1, 2, 101, x'0301000100000054', 10, 3, x'616e6e', x'010608000000'), (1, 3, 102, x'0301000100000054', 10, 4, x'616e6e', x'00'), (1, 4, 103, x'0301000100000054', 20, 1, x'616e6e', x'010609000000'), (1, 5, 104, x'0301000100000054', 30, 1, x'616e6e', x'010601000000')",
+    "INSERT INTO currents VALUES (x'0301000100000054', 10, 102, 1, 0, 1, x'00'), (x'0301000100000054', 20, 103, 1, 1, 0, x'010609000000'), (x'0301000100000054', 30, 104, 1, 1, 0, x'010601000000')",
+    "INSERT INTO vectors VALUES (1, 5, 104)",
+];
+
+/// The files of a store of the two.
 fn first(alloc: Global) -> Option<Files<Memory>> {
-    changed(alloc, empty(alloc), &FORMAT_ONE)
+    changed(alloc, changed(alloc, empty(alloc), &TABLES)?, &TWO)
+}
+
+/// The files of one of the five.
+pub(crate) fn first_of_five(alloc: Global) -> Option<Files<Memory>> {
+    changed(alloc, changed(alloc, empty(alloc), &TABLES)?, &FIVE)
 }
 
 /// The ticks of the modifications at node T, in order, and how many values are live there.

@@ -13,6 +13,8 @@ mod points;
 #[cfg(test)]
 mod reads;
 #[cfg(test)]
+mod stops;
+#[cfg(test)]
 mod store_files;
 #[cfg(test)]
 mod stores;

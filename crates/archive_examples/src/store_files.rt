@@ -15,7 +15,7 @@ use std::test::Fail;
 use uuid::Uuid;
 
 /// Five updates in the order of their names.
-static FIVE: [Row; 5] = [
+pub(crate) static FIVE: [Row; 5] = [
     (1, 1, 100, 10, Insert, Some(7)),
     (1, 2, 101, 10, Update, Some(8)),
     (1, 3, 102, 10, Delete, None),
@@ -54,7 +54,7 @@ pub(crate) fn open<D: Disk + Drop>(
 }
 
 /// How many of the updates are learned, up to the first that isn't.
-fn learn_five<A: Archive>(alloc: Global, archive: &mut A) -> usize {
+pub(crate) fn learn_five<A: Archive>(alloc: Global, archive: &mut A) -> usize {
     for (at, row) in FIVE.iter().enumerate() {
         if learn(alloc, archive, row) != Ok(true) {
             return at;
