@@ -9,8 +9,8 @@ Prints a table: seconds of a processor of the filling, and then, each as the dif
 the exchange; and the greatest kB of an exchange beside those of two filled archives. The program (bench/converse/main.txt) is made in
 a copy of the crates: the module that `rt try` makes of it, compiled at -O2 without what `rt try` checks. Needs gcc and GNU time.
 """
-import os, shutil, signal, subprocess, sys, tempfile, time
-import running
+import os, shutil, signal, sys, tempfile
+import running, unproved
 
 top = os.path.dirname(running.here)
 NAME = "bench_converse"
@@ -31,35 +31,10 @@ def copied(folder):
     return crate
 
 
-def module(crate, folder):
-    """The module that `rt try` makes of the program, kept before it goes on to check it."""
-    work = os.path.join(folder, "try")
-    os.makedirs(work)
-    said = open(os.path.join(folder, "said"), "wb")
-    environment = {**os.environ, "TMPDIR": work}
-    trying = subprocess.Popen(["rt", "try", "--steps", "1", "--", "sql", "one", "1", "0"], cwd=crate, env=environment, stdin=subprocess.DEVNULL, stdout=said, stderr=said)
-    try:
-        while trying.poll() is None:
-            for place, _, files in os.walk(work):
-                path = os.path.join(place, "module.bc")
-                # The first module only tries the checks. The compiler has begun once it opened the object: then the module is whole.
-                if "module.bc" in files and len(files) > 1 and os.path.getsize(path) > 100_000:
-                    return shutil.copy(path, folder)
-            time.sleep(0.05)
-        sys.exit(open(said.name).read())
-    finally:
-        trying.send_signal(signal.SIGTERM)
-        trying.wait()
-
-
 def built(folder):
     """The program, from the repository's crates."""
-    bitcode = module(copied(folder), folder)
-    kit = os.path.dirname(subprocess.run(["rt", "doc"], stdout=subprocess.PIPE, text=True, check=True).stdout.strip())
-    subprocess.run([os.path.join(kit, "toolchain", "bin", "clang"), "--target=x86_64-unknown-linux-gnu", "-O2", "-fPIE", "-Wno-override-module", "-c", "-x", "ir", bitcode, "-o", "program.o"], cwd=folder, check=True)
-    libraries = [os.path.join(kit, "c", name) for name in ("libos_c.a", "liblibc_c.a")]
-    subprocess.run(["gcc", "-o", "program", "program.o", *libraries, "-lm"], cwd=folder, check=True)
-    return os.path.join(folder, "program")
+    unproved.module(copied(folder), folder, ["sql", "one", "1", "0"])
+    return unproved.linked(folder, "module.bc", "-O2")
 
 
 def measured(program, archive, task, count, every):
