@@ -51,28 +51,36 @@ comes-refused s service status result refuses is = (
 )
 
 -- memory for the answers is wanting
-pub comes-starved : {X Y : Type 0} (s : Store) (service : Content → Served) (answer : List Y → Answer) (item : X → Content → Marked (Y × Content)) (xs : List X)
-    → ((R : Content) (marks : List Mark) → service R marks ≡ items answer item xs R marks) → Comes s s service (Err BAD_OUT_OF_MEMORY)
-comes-starved s service answer item xs is = (
+pub acts-wanting : {X Y : Type 0} (s : Store) (service : Content → Served) (answer : List Y → Answer) (item : X → Content → Marked (Y × Content)) (xs : List X)
+    → ((R : Content) (marks : List Mark) → service R marks ≡ items answer item xs R marks) → (used : List Mark) × Acts s s used service (Err BAD_OUT_OF_MEMORY)
+acts-wanting s service answer item xs is = (
   Starved ∷ [],
-  Err BAD_OUT_OF_MEMORY,
   moves-none-by s (Starved ∷ []) refl (λ R S. Does (service R) (Starved ∷ []) ((Err BAD_OUT_OF_MEMORY, S))) (λ R. record { does = λ later. is R (Starved ∷ later) }),
-  inl refl,
 )
 
+pub comes-starved : {X Y : Type 0} (s : Store) (service : Content → Served) (answer : List Y → Answer) (item : X → Content → Marked (Y × Content)) (xs : List X)
+    → ((R : Content) (marks : List Mark) → service R marks ≡ items answer item xs R marks) → Comes s s service (Err BAD_OUT_OF_MEMORY)
+comes-starved s service answer item xs is =
+    let acts = acts-wanting s service answer item xs is in
+    (acts.0, Err BAD_OUT_OF_MEMORY, acts.1, inl refl)
+
 -- all items were answered
-pub comes-items : {X Y : Type 0} (a b : Store) (service : Content → Served) (answer : List Y → Answer) (item : X → Content → Marked (Y × Content)) (xs : List X) (ys : List Y) (made : Made)
-    → ((R : Content) (marks : List Mark) → service R marks ≡ items answer item xs R marks) → ((used : List Mark) × Acts a b used (each item xs) ys) → answer ys ≡ answer_of made → Comes a b service (Ok made)
-comes-items {X} {Y} a b service answer item xs ys made is all told = (
+pub acts-items : {X Y : Type 0} (a b : Store) (service : Content → Served) (answer : List Y → Answer) (item : X → Content → Marked (Y × Content)) (xs : List X) (ys : List Y)
+    → ((R : Content) (marks : List Mark) → service R marks ≡ items answer item xs R marks) → ((used : List Mark) × Acts a b used (each item xs) ys) → (used : List Mark) × Acts a b used service (Ok (answer ys))
+acts-items {X} {Y} a b service answer item xs ys is all = (
   Fine ∷ all.0,
-  Ok (answer ys),
   moves-told a b all.0 (Fine ∷ all.0) (λ R S. Does (each item xs R) all.0 (ys, S)) (λ R S. Does (service R) (Fine ∷ all.0) (Ok (answer ys), S)) refl (λ R S d. record {
     does = λ later.
         is R (Fine ∷ (all.0 ++ later))
         ∙ ap (λ (r : (List Y × Content) × List Mark). let z : (Response × Content) × List Mark = ((Ok (answer r.0.0), r.0.1), r.1) in z) (d.does later);
   }) all.1,
-  ap Ok told,
 )
+
+pub comes-items : {X Y : Type 0} (a b : Store) (service : Content → Served) (answer : List Y → Answer) (item : X → Content → Marked (Y × Content)) (xs : List X) (ys : List Y) (made : Made)
+    → ((R : Content) (marks : List Mark) → service R marks ≡ items answer item xs R marks) → ((used : List Mark) × Acts a b used (each item xs) ys) → answer ys ≡ answer_of made → Comes a b service (Ok made)
+comes-items a b service answer item xs ys made is all told =
+    let acts = acts-items a b service answer item xs ys is all in
+    (acts.0, Ok (answer ys), acts.1, ap Ok told)
 
 -- ---- how many there are
 

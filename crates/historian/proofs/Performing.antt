@@ -19,7 +19,7 @@ use Rattle.historian.specs.declared.answer.Answer.{Answer as Made}
 use Rattle.historian.specs.Answers.{Answer, Response}
 use Rattle.historian.specs.Requests.{Call, call_in}
 use Rattle.historian.specs.Services.{Site, Outcome, called, in_session, served, answered_call, answered_request}
-use Rattle.historian.specs.Telling.{Asks, answer_of, Tells, Comes, Performs, PerformsHere}
+use Rattle.historian.specs.Telling.{Asks, answer_of, Tells, Comes, Performs, PerformsHere, Written, Responds}
 
 -- a call that was read is served
 pub does-read : (site : Site) (now : Ticks) (token : NodeId) (o : Option Call) (call : Call) (sessions : State) (R : Content) (used : List Mark) (outcome : Outcome) → o ≡ Some call
@@ -170,12 +170,12 @@ performs-inside site now token sessions asked call bytes user f used told result
     })
     tells
 
--- one that asks it
-pub performs-over : (a b : Store) (site : Site) (now : Ticks) (token : NodeId) (sessions : State) (asked : Service) (call : Call) (bytes : List ℕ) (user : List ℕ) (f : Content → List ℕ → Marked (Response × Content)) (used : List Mark)
-    (told : Response) (result : Result Made Status)
+-- one that asks it, where something holds of what it tells
+pub performs-with : (T : Response → Type 0) (a b : Store) (site : Site) (now : Ticks) (token : NodeId) (sessions : State) (asked : Service) (call : Call) (bytes : List ℕ) (user : List ℕ) (f : Content → List ℕ → Marked (Response × Content))
     → call_in asked bytes ≡ Some call → ((R : Content) (marks : List Mark) → served site now token call sessions R marks ≡ in_session sessions (user_at sessions token) (f R) R marks) → user_at sessions token ≡ Ok user
-    → Acts a b used (λ R. f R user) told → Tells told result → Performs a b (answered_call site now token (call_in asked bytes) sessions) sessions result
-performs-over a b site now token sessions asked call bytes user f used told result is same in_use acts tells = (
+    → ((used : List Mark) × (told : Response) × Acts a b used (λ R. f R user) told × T told)
+    → (used : List Mark) × (told : Response) × Acts a b used (answered_call site now token (call_in asked bytes) sessions) (told, sessions) × T told
+performs-with T a b site now token sessions asked call bytes user f is same in_use (used, told, acts, tells) = (
   Fine ∷ used,
   told,
   moves-told a b used (Fine ∷ used) (λ R S. Does (f R user) used (told, S)) (λ R S. Does (answered_call site now token (call_in asked bytes) sessions R) (Fine ∷ used) ((told, sessions), S)) refl
@@ -188,9 +188,29 @@ performs-over a b site now token sessions asked call bytes user f used told resu
   tells,
 )
 
+pub performs-over : (a b : Store) (site : Site) (now : Ticks) (token : NodeId) (sessions : State) (asked : Service) (call : Call) (bytes : List ℕ) (user : List ℕ) (f : Content → List ℕ → Marked (Response × Content)) (used : List Mark)
+    (told : Response) (result : Result Made Status)
+    → call_in asked bytes ≡ Some call → ((R : Content) (marks : List Mark) → served site now token call sessions R marks ≡ in_session sessions (user_at sessions token) (f R) R marks) → user_at sessions token ≡ Ok user
+    → Acts a b used (λ R. f R user) told → Tells told result → Performs a b (answered_call site now token (call_in asked bytes) sessions) sessions result
+performs-over a b site now token sessions asked call bytes user f used told result is same in_use acts tells =
+    performs-with (λ told. Tells told result) a b site now token sessions asked call bytes user f is same in_use (used, told, acts, tells)
+
 -- what it comes to is told
 pub performs-comes : (a b : Store) (site : Site) (now : Ticks) (token : NodeId) (sessions : State) (asked : Service) (call : Call) (bytes : List ℕ) (user : List ℕ) (f : Content → List ℕ → Marked (Response × Content)) (result : Result Made Status)
     → call_in asked bytes ≡ Some call → ((R : Content) (marks : List Mark) → served site now token call sessions R marks ≡ in_session sessions (user_at sessions token) (f R) R marks) → user_at sessions token ≡ Ok user
     → Comes a b (λ R. f R user) result → Performs a b (answered_call site now token (call_in asked bytes) sessions) sessions result
 performs-comes a b site now token sessions asked call bytes user f result is same in_use (used, told, acts, tells) =
     performs-over a b site now token sessions asked call bytes user f used told result is same in_use acts tells
+
+-- ---- written responses
+
+-- the answer of a service is written
+pub responds-finished : (a b : Store) (service : Content → Marked Outcome) (sessions : State) (now : Ticks) (handle : ℕ) (answer : Result Made Status) (result : Result (Unit {0}) Status) (bytes : List ℕ) → Performs a b service sessions answer
+    → ((told : Response) → Tells told answer → Written now handle told result bytes) → Responds a b service sessions now handle result bytes
+responds-finished a b service sessions now handle answer result bytes (used, told, acts, tells) finished = (used, told, acts, finished told tells)
+
+-- a service that is refused, or for which memory was wanting, writes none
+pub responds-refused : (a b : Store) (service : Content → Marked Outcome) (sessions : State) (now : Ticks) (handle : ℕ) (status : Status) (result : Result (Unit {0}) Status) (bytes : List ℕ) → Performs a b service sessions (Err status)
+    → result ≡ Err status → Responds a b service sessions now handle result bytes
+responds-refused a b service sessions now handle status result bytes (used, told, acts, tells) is =
+    subst (λ (r : Result (Unit {0}) Status). Responds a b service sessions now handle r bytes) (sym is) (used, told, acts, tells)

@@ -5,7 +5,6 @@ use Rattle.ua_binary.specs.declared.codes.TheConstants.Status.{BAD_OUT_OF_MEMORY
 use Rattle.ua_services.specs.Endpoints.{endpoint_fields, AreShortEndpoints}
 use Rattle.ua_services.specs.Sessions.{session_made, IsShortSession}
 use Rattle.ua_services.specs.Browsing.{AreShortBrowsed}
-use Rattle.ua_services.specs.Attributes.{AreShortValues}
 use Rattle.ua_services.specs.Updates.{AreShortUpdates}
 use Rattle.ua_services.specs.History.{AreShortHistoryReads}
 use Rattle.ua_session.specs.Sessions.{State}
@@ -13,12 +12,13 @@ use Rattle.records.specs.Contents.{Content}
 use Rattle.archive.specs.Store.{Store, Mark, faults_of}
 use Rattle.archive.specs.Steps.{Marked, Does, Acts}
 use Rattle.ua_binary.specs.declared.values.NodeIdRef.{NodeIdRef}
+use Rattle.ua_binary.specs.declared.values.Ticks.{Ticks}
 use Rattle.ua_binary.specs.Binary.{node_of}
 use Rattle.historian.specs.declared.service.Service.{Service}
 use Rattle.historian.specs.declared.service.Request.{Request as Opened}
 use Rattle.historian.specs.declared.answer.Answer.{Answer as Made}
 use Rattle.historian.specs.declared.answer.Answer.TheVariants as made
-use Rattle.historian.specs.Answers.{Answer, Endpoints, Created, Activated, Closed, Browsed, Values, Updated, Histories, Response}
+use Rattle.historian.specs.Answers.{Answer, Endpoints, Created, Activated, Closed, Browsed, Updated, Histories, Response, response}
 use Rattle.historian.specs.Requests.{Call, call_in, Request}
 use Rattle.historian.specs.Reading.{Served}
 use Rattle.historian.specs.Services.{Outcome}
@@ -50,7 +50,6 @@ answer_of (made.Created session) = Created (session_made session)
 answer_of made.Activated = Activated
 answer_of made.Closed = Closed
 answer_of (made.Browsed results) = Browsed results.items
-answer_of (made.Values values) = Values values.items
 answer_of (made.Updated results) = Updated results.items
 answer_of (made.Histories results) = Histories results.items
 
@@ -61,7 +60,6 @@ IsShort (made.Created session) = IsShortSession session
 IsShort made.Activated = Unit {0}
 IsShort made.Closed = Unit {0}
 IsShort (made.Browsed results) = AreShortBrowsed results.items
-IsShort (made.Values values) = AreShortValues values.items
 IsShort (made.Updated results) = AreShortUpdates results.items
 IsShort (made.Histories results) = AreShortHistoryReads results.items
 
@@ -81,3 +79,16 @@ Performs old new service sessions result = (used : List Mark) × (told : Respons
 -- the same of a service that asks no archive
 abbrev pub PerformsHere : (Content → Marked Outcome) → State → Result Made Status → Type 0
 PerformsHere service sessions result = (used : List Mark) × (told : Response) × (faults_of used ≡ []) × ((R : Content) → Does (service R) used ((told, sessions), R)) × Tells told result
+
+-- the response is written; or it is told why there is none, or that memory was wanting
+abbrev pub Written : Ticks → ℕ → Response → Result (Unit {0}) Status → List ℕ → Type 0
+Written now handle told (Ok _) bytes = bytes ≡ response now handle told
+Written now handle told (Err status) bytes = (told ≡ Err status) ⊎ (status ≡ BAD_OUT_OF_MEMORY)
+
+-- the same of what a service of an archive comes to over what is held
+abbrev pub ComesWritten : Store → Store → (Content → Served) → Ticks → ℕ → Result (Unit {0}) Status → List ℕ → Type 0
+ComesWritten old new service now handle result bytes = (used : List Mark) × (told : Response) × Acts old new used service told × Written now handle told result bytes
+
+-- and of a service that was performed over an archive
+abbrev pub Responds : Store → Store → (Content → Marked Outcome) → State → Ticks → ℕ → Result (Unit {0}) Status → List ℕ → Type 0
+Responds old new service sessions now handle result bytes = (used : List Mark) × (told : Response) × Acts old new used service (told, sessions) × Written now handle told result bytes

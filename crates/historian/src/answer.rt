@@ -10,9 +10,8 @@ use ua_services::{
     BrowseResult, CreateSessionResponse, EndpointDescription, HistoryReadResult,
     HistoryUpdateResult, put_activate_session_response, put_browse_response,
     put_create_session_response, put_get_endpoints_response, put_history_read_response,
-    put_history_update_response, put_read_response,
+    put_history_update_response,
 };
-use ua_variant::DataValue;
 
 /// What a service answers.
 #[derive(Debug, Drop)]
@@ -22,7 +21,6 @@ pub(crate) enum Answer {
     Activated,
     Closed,
     Browsed(Vec<BrowseResult>),
-    Values(Vec<DataValue>),
     Updated(Vec<HistoryUpdateResult>),
     Histories(Vec<HistoryReadResult>),
 }
@@ -38,7 +36,6 @@ impl Answer {
             Answer::Activated => 470,
             Answer::Closed => 476,
             Answer::Browsed(_) => 530,
-            Answer::Values(_) => 634,
             Answer::Updated(_) => 703,
             Answer::Histories(_) => 667,
         }
@@ -56,7 +53,6 @@ impl Answer {
             Answer::Activated => put_activate_session_response(out),
             Answer::Closed => Ok(()),
             Answer::Browsed(results) => put_browse_response(out, results),
-            Answer::Values(values) => put_read_response(out, values),
             Answer::Updated(results) => put_history_update_response(out, results),
             Answer::Histories(results) => put_history_read_response(out, results),
         }

@@ -4,10 +4,10 @@ ghost use Rattle.std.specs.Prelude.{◌≡◌, [], List, IfOk, OnOk};
 ghost use Rattle.ua_binary.specs.Binary.{node_of};
 ghost use Rattle.archive.specs.Store.{Mark};
 ghost use Rattle.archive.specs.Steps.{Acts};
-ghost use Rattle.historian.specs.Answers.{Response, response};
+ghost use Rattle.historian.specs.Answers.{Response, response, service_fault};
 ghost use Rattle.historian.specs.Requests.{call_in};
 ghost use Rattle.historian.specs.Services.{site_of, answered_call, answered_request};
-ghost use Rattle.historian.specs.Telling.{IsShort, Performs, asked_of};
+ghost use Rattle.historian.specs.Telling.{IsShort, Tells, Written, Responds, asked_of};
 
 use crate::answer::Answer;
 use crate::browsing::browse;
@@ -23,38 +23,60 @@ use ua_binary::{Cursor, NodeIdRef, Status, Ticks};
 use ua_session::Sessions;
 use ua_settings::Settings;
 
-/// Performs a service, by the token of the request's header and what stands behind that.
+/// Writes the response that tells an answer; or tells why there is none, or that memory was wanting.
+fn finish(
+    answer: Result<Answer, Status>,
+    now: Ticks,
+    handle: u32,
+    body: &mut Vec<u8>,
+) -> Result<(), Status>
+    requires short { IfOk answer IsShort }
+    requires empty { body.old.items ≡ [] }
+    ensures { (told : Response) → Tells told answer → Written now handle told result body.new.items }
+{
+    answer?.put(body, now, handle)?;
+    Ok(())
+}
+
+/// Performs a service, by the token of the request's header and what stands behind that, and writes its response.
 fn serve<A: Archive>(
     alloc: Global,
     settings: &Settings,
     archive: &mut A,
     sessions: &mut Sessions,
     now: Ticks,
+    handle: u32,
     service: Service,
     token: NodeIdRef<'_>,
     request: Cursor<'_>,
-) -> Result<Answer, Status>
-    ensures performs { Performs (A.state archive.old) (A.state archive.new)
-        (answered_call (site_of settings.now (A.state archive.old)) now (node_of token.entry) (call_in service request.entry) sessions.old) sessions.new result }
-    ensures short { IfOk result IsShort }
+    body: &mut Vec<u8>,
+) -> Result<(), Status>
+    requires { body.old.items ≡ [] }
+    ensures { Responds (A.state archive.old) (A.state archive.new)
+        (answered_call (site_of settings.now (A.state archive.old)) now (node_of token.entry) (call_in service request.entry) sessions.old) sessions.new now handle result body.new.items }
 {
-    match service {
+    let answer = match service {
         Service::GetEndpoints => get_endpoints(alloc, settings, request),
         Service::CreateSession => create_session(alloc, settings, sessions, request),
         Service::ActivateSession => activate_session(settings, sessions, token, request),
         Service::CloseSession => close_session(sessions, token, request),
         Service::Browse => browse(alloc, settings, sessions, token, request),
-        Service::Read => read(alloc, settings, archive, sessions, now, token, request),
+        Service::Read => {
+            return read(
+                alloc, settings, archive, sessions, now, handle, token, request, body,
+            );
+        }
         Service::HistoryRead => read_history(
             alloc, settings, archive, sessions, now, token, request,
         ),
         Service::HistoryUpdate => update_history(
             alloc, settings, archive, sessions, now, token, request,
         ),
-    }
+    };
+    finish(answer, now, handle, body)
 }
 
-/// Performs what a message asks.
+/// Performs what a message asks, and writes its response.
 fn perform<A: Archive>(
     alloc: Global,
     settings: &Settings,
@@ -62,10 +84,12 @@ fn perform<A: Archive>(
     sessions: &mut Sessions,
     now: Ticks,
     message: Message<'_>,
-) -> Result<Answer, Status>
-    ensures performs { Performs (A.state archive.old) (A.state archive.new) (answered_request (site_of settings.now (A.state archive.old)) now (asked_of message.entry.request) sessions.old) sessions.new result }
-    ensures short { IfOk result IsShort }
+    body: &mut Vec<u8>,
+) -> Result<(), Status>
+    requires { body.old.items ≡ [] }
+    ensures { Responds (A.state archive.old) (A.state archive.new) (answered_request (site_of settings.now (A.state archive.old)) now (asked_of message.entry.request) sessions.old) sessions.new now message.entry.handle result body.new.items }
 {
+    let handle = message.handle();
     match message.request {
         Ok(request) => serve(
             alloc,
@@ -73,11 +97,24 @@ fn perform<A: Archive>(
             archive,
             sessions,
             now,
+            handle,
             request.service,
             request.token,
             request.body,
+            body,
         ),
         Err(status) => Err(status),
+    }
+}
+
+/// Makes the ServiceFault (Part 4, 7.35) that tells a status, in place of what stands in `body`.
+fn refuse(body: &mut Vec<u8>, now: Ticks, handle: u32, status: Status) -> Result<(), AllocError>
+    ensures { OnOk result (body.new.items ≡ service_fault now handle status) }
+{
+    body.clear();
+    match put_service_fault(body, now, handle, status) {
+        Ok(()) => Ok(()),
+        Err(_) => Err(AllocError),
     }
 }
 
@@ -101,13 +138,9 @@ pub fn answer_message<A: Archive>(
         × OnOk result (body.new.items ≡ response now message.entry.handle told) }
 {
     let handle = message.handle();
-    let put = match perform(alloc, settings, archive, sessions, now, message) {
-        Ok(answer) => answer.put(body, now, handle),
-        Err(Status::BAD_OUT_OF_MEMORY) => return Err(AllocError),
-        Err(status) => put_service_fault(body, now, handle, status),
-    };
-    match put {
+    match perform(alloc, settings, archive, sessions, now, message, body) {
         Ok(()) => Ok(()),
-        Err(_) => Err(AllocError),
+        Err(Status::BAD_OUT_OF_MEMORY) => Err(AllocError),
+        Err(status) => refuse(body, now, handle, status),
     }
 }

@@ -1,13 +1,16 @@
 //! Read (Part 4, 5.11.2).
 
-ghost use Rattle.std.specs.Prelude.{◌≡◌, ◌⊎◌, ◌≤◌, ◌∷◌, [], List, map, take, length, All, IfOk, Ok, Err, vec_capacity};
+ghost use Rattle.std.specs.Prelude.{◌≡◌, ◌⊎◌, ◌++◌, ◌∷◌, [], List, map, take, length, Result, IfOk, IfErr, OnOk, Ok, Err};
+ghost use Rattle.std.specs.List.{flat_map};
 ghost use Rattle.std.specs.Option.{option_copied};
 ghost use Rattle.ua_binary.specs.Binary.{node_of, qualified_of};
-ghost use Rattle.ua_binary.specs.Format.{IsOrStarved};
+ghost use Rattle.ua_binary.specs.Format.{Puts};
+ghost use Rattle.ua_binary.specs.declared.codes.Status.{Status};
 ghost use Rattle.ua_binary.specs.Rules.{checked};
-ghost use Rattle.ua_variant.specs.DataValue.{IsShortData};
+ghost use Rattle.ua_variant.specs.Variant.{IsShortVariant};
+ghost use Rattle.ua_variant.specs.DataValue.{IsShortData, data_value};
+ghost use Rattle.ua_variant.specs.declared.data.DataValue.{DataValue as Data};
 ghost use Rattle.ua_services.specs.Attributes.{read_fields};
-ghost use Rattle.ua_space.specs.Attributes.{attribute_at, IsShortAnswered};
 ghost use Rattle.archive.specs.Fault.{status_told};
 ghost use Rattle.archive.specs.Reading.{range_of};
 ghost use Rattle.archive.specs.Store.{Store, Asks, Mark};
@@ -17,24 +20,29 @@ ghost use Rattle.hist_read.specs.Asking.{first_time};
 ghost use Rattle.hist_read.specs.Finding.{Finds};
 ghost use Rattle.hist_read.specs.Reads.{greatest_time};
 ghost use Rattle.historian.specs.declared.service.Service.TheVariants as service;
-ghost use Rattle.historian.specs.Reading.{is_whole, is_default, value_rules, valued, stored, latest, item_at, item_value, telling, item_told, value_step, read_item, read};
+ghost use Rattle.historian.specs.Reading.{is_whole, is_default, value_rules, valued, stored, latest, item_told, value_step, read_item, read};
 ghost use Rattle.historian.specs.Requests.{call_in};
 ghost use Rattle.historian.specs.Services.{Site, site_of, answered_call};
-ghost use Rattle.historian.specs.Telling.{IsShort, Comes, Performs};
+ghost use Rattle.historian.specs.Telling.{ComesWritten, Responds};
 
-use crate::answer::Answer;
 use crate::browsing::list_refusal;
 use crate::requests::read_request;
+use crate::responses::put_head;
 use archive::{Archive, Direction, Setback, StoreFault};
 use hist_read::{is_short_value, with_stamps};
 use records::{Held, Moment};
 use std::alloc::Global;
-use ua_binary::{Cursor, NodeId, NodeIdRef, QualifiedRef, Status, Ticks};
+use ua_binary::{
+    BinaryFault, Cursor, NodeId, NodeIdRef, QualifiedRef, Status, Ticks, put_count, put_i32,
+};
 use ua_services::{ReadValueId, TimestampsToReturn};
 use ua_session::Sessions;
 use ua_settings::Settings;
 use ua_space::{Answered, Space};
-use ua_variant::{DataValue, Variant};
+use ua_variant::{DataValue, Variant, put_data_value, put_value_at};
+
+/// The type id of a ReadResponse.
+const READ_RESPONSE: u32 = 634;
 
 /// The most items of a Read.
 const MOST_READ: usize = 1000;
@@ -82,20 +90,6 @@ pub(crate) fn judge_value(range: Option<&str>, encoding: QualifiedRef<'_>) -> Re
         return Err(Status::BAD_DATA_ENCODING_UNSUPPORTED);
     }
     Ok(())
-}
-
-/// A value that no archive keeps: as the attribute Value it is of this moment, and else it has none of its own.
-fn valued(now: Ticks, attribute: u32, value: Variant) -> DataValue
-    ensures { result ≡ valued now attribute value }
-{
-    DataValue {
-        value: Some(value),
-        status: None,
-        source_time: if attribute == VALUE { Some(now) } else { None },
-        source_pico: None,
-        server_time: None,
-        server_pico: None,
-    }
 }
 
 /// A live value, with its source time.
@@ -194,78 +188,119 @@ fn archived_value<A: Archive>(
     }
 }
 
-/// The value of an item, or why it is refused: `BAD_NODE_ID_UNKNOWN`, `BAD_ATTRIBUTE_ID_INVALID`,
+/// Appends the value of an attribute that no archive keeps, with the moments that are wanted: that of the server is this one,
+/// and so is that of the source of the attribute Value.
+fn put_valued(
+    stamps: TimestampsToReturn,
+    now: Ticks,
+    attribute: u32,
+    value: &Variant,
+    out: &mut Vec<u8>,
+) -> Result<(), BinaryFault>
+    requires { IsShortVariant value.now }
+    ensures { Puts BinaryFault.OutOfMemory result out.old.items out.new.items (data_value.canon (item_told stamps now (Ok (valued now attribute value.now)))) }
+{
+    let source = if attribute == VALUE { Some(now) } else { None };
+    match stamps {
+        TimestampsToReturn::Source => put_value_at(out, value, source, None),
+        TimestampsToReturn::Server => put_value_at(out, value, None, Some(now)),
+        TimestampsToReturn::Both => put_value_at(out, value, source, Some(now)),
+        TimestampsToReturn::Neither => put_value_at(out, value, None, None),
+    }
+}
+
+/// Appends what is told of an item that is refused.
+#[inline(never)]
+fn put_refused(status: Status, out: &mut Vec<u8>) -> Result<(), BinaryFault>
+    ensures { (stamps : _) (now : _) → Puts BinaryFault.OutOfMemory result out.old.items out.new.items (data_value.canon (item_told stamps now (Err status))) }
+{
+    put_data_value(out, &status_alone(status))
+}
+
+/// Appends the live value of an archived variable with the moments that are wanted, or why there is none.
+#[inline(never)]
+fn put_archived<A: Archive>(
+    alloc: Global,
+    archive: &mut A,
+    stamps: TimestampsToReturn,
+    now: Ticks,
+    node: NodeIdRef<'_>,
+    out: &mut Vec<u8>,
+) -> Result<(), BinaryFault>
+    ensures { (mark : Mark) × (value : Result Data Status) × Acts (A.state archive.old) (A.state archive.new) (mark ∷ []) (value_step (step status_told) (latest (node_of node.entry))) value
+        × Puts BinaryFault.OutOfMemory result out.old.items out.new.items (data_value.canon (item_told stamps now value)) }
+{
+    match archived_value(alloc, archive, node) {
+        Ok(value) => put_data_value(out, &shown(stamps, now, value)),
+        Err(status) => put_refused(status, out),
+    }
+}
+
+/// Appends what is told of an item: its value, or why it is refused: `BAD_NODE_ID_UNKNOWN`, `BAD_ATTRIBUTE_ID_INVALID`,
 /// `BAD_INDEX_RANGE_INVALID`, `BAD_DATA_ENCODING_UNSUPPORTED`, in this order, and then as of an archived variable; or what
 /// came in the way.
-fn item_value<A: Archive>(
+fn put_item<A: Archive>(
     alloc: Global,
     space: &Space,
     archive: &mut A,
+    stamps: TimestampsToReturn,
     now: Ticks,
-    item: ReadValueId<'_>,
-) -> Result<DataValue, Status>
-    ensures acts { (mark : Mark) × Acts (A.state archive.old) (A.state archive.new) (mark ∷ []) (value_step (telling (item_at space.now (read_fields item.entry))) (item_value now space.now (read_fields item.entry))) result }
-    ensures short { IfOk result IsShortData }
+    item: &ReadValueId<'_>,
+    out: &mut Vec<u8>,
+) -> Result<(), BinaryFault>
+    ensures { (mark : Mark) × (value : Data) × Acts (A.state archive.old) (A.state archive.new) (mark ∷ []) (read_item space.now now stamps (read_fields item.now)) value
+        × Puts BinaryFault.OutOfMemory result out.old.items out.new.items (data_value.canon value) }
 {
-    let answered = space.read_attribute(item.node_id, item.attribute_id)?;
-    judge_value(item.index_range, item.data_encoding)?;
-    match answered {
-        Answered::Value(value) => Ok(valued(now, item.attribute_id, value)),
-        Answered::Archived => archived_value(alloc, archive, item.node_id),
+    let answered = space.read_attribute(item.node_id, item.attribute_id);
+    match &answered {
+        Err(status) => put_refused(*status, out),
+        Ok(answered) => match judge_value(item.index_range, item.data_encoding) {
+            Err(status) => put_refused(status, out),
+            Ok(()) => match answered {
+                Answered::Value(value) => put_valued(stamps, now, item.attribute_id, value, out),
+                Answered::Archived => {
+                    put_archived(alloc, archive, stamps, now, item.node_id, out)
+                }
+            },
+        },
     }
 }
 
-/// What is told of an item.
-fn read_item<A: Archive>(
+/// Appends what is told of items, in order. All of them are read, also where memory for the bytes runs out.
+fn put_items<A: Archive>(
     alloc: Global,
     space: &Space,
     archive: &mut A,
-    now: Ticks,
     stamps: TimestampsToReturn,
-    item: ReadValueId<'_>,
-) -> DataValue
-    ensures acts { (mark : Mark) × Acts (A.state archive.old) (A.state archive.new) (mark ∷ []) (read_item space.now now stamps (read_fields item.entry)) result }
-    ensures short { IsShortData result }
-{
-    match item_value(alloc, space, archive, now, item) {
-        Ok(value) => shown(stamps, now, value),
-        Err(status) => status_alone(status),
-    }
-}
-
-/// What is told of items, in order.
-fn read_items<A: Archive>(
-    alloc: Global,
-    space: &Space,
-    archive: &mut A,
     now: Ticks,
-    stamps: TimestampsToReturn,
     items: &[ReadValueId<'_>],
-    values: &mut Vec<DataValue>,
-)
-    requires empty { values.old.items ≡ [] }
-    requires room { length items.now ≤ vec_capacity values.old }
-    ensures acts { (used : List Mark) × Acts (A.state archive.old) (A.state archive.new) used (each (read_item space.now now stamps) (map read_fields items.now)) values.new.items }
-    ensures count { length values.new.items ≡ length items.now }
-    ensures short { All IsShortData values.new.items }
+    out: &mut Vec<u8>,
+) -> Result<(), BinaryFault>
+    ensures told { (used : List Mark) × (values : List Data) × (length values ≡ length items.now) × Acts (A.state archive.old) (A.state archive.new) used (each (read_item space.now now stamps) (map read_fields items.now)) values
+        × OnOk result (out.new.items ≡ out.old.items ++ flat_map data_value.canon values) }
+    ensures err { IfErr result (λ fault. fault ≡ BinaryFault.OutOfMemory) }
 {
+    let mut put = Ok(());
     for item in items {
-        let value = read_item(alloc, space, archive, now, stamps, *item);
-        values.push(value).unwrap();
+        let one = put_item(alloc, space, archive, stamps, now, item, out);
+        put = put.and(one);
     }
+    put
 }
 
-/// What a Read of these items is answered.
-fn read_all<A: Archive>(
+/// Writes the response of a Read of these items, or tells why it is refused as a whole, or that memory was wanting.
+fn put_read<A: Archive>(
     alloc: Global,
     space: &Space,
     archive: &mut A,
     now: Ticks,
+    handle: u32,
     timestamps: Option<TimestampsToReturn>,
     nodes: &[ReadValueId<'_>],
-) -> Result<Answer, Status>
-    ensures comes { Comes (A.state archive.old) (A.state archive.new) (read space.now now (timestamps, map read_fields nodes.now)) result }
-    ensures short { IfOk result IsShort }
+    body: &mut Vec<u8>,
+) -> Result<(), Status>
+    requires { body.old.items ≡ [] }
+    ensures { ComesWritten (A.state archive.old) (A.state archive.new) (read space.now now (timestamps, map read_fields nodes.now)) now handle result body.new.items }
 {
     if let Some(status) = list_refusal(MOST_READ, nodes.len()) {
         return Err(status);
@@ -273,39 +308,43 @@ fn read_all<A: Archive>(
     let Some(stamps) = timestamps else {
         return Err(Status::BAD_TIMESTAMPS_TO_RETURN_INVALID);
     };
-    let Ok(mut values) = Vec::with_capacity(alloc, nodes.len()) else {
-        return Err(Status::BAD_OUT_OF_MEMORY);
-    };
-    read_items(alloc, space, archive, now, stamps, nodes, &mut values);
-    Ok(Answer::Values(values))
+    put_head(body, READ_RESPONSE, now, handle, Status::GOOD)?;
+    put_count(body, nodes.len())?;
+    put_items(alloc, space, archive, stamps, now, nodes, body)?;
+    put_i32(body, -1)?;
+    Ok(())
 }
 
 /// Read (Part 4, 5.11.2), in a session that was activated: 1 to 1,000 items. `BAD_NOTHING_TO_DO` for no item,
 /// `BAD_TOO_MANY_OPERATIONS` for more, then `BAD_TIMESTAMPS_TO_RETURN_INVALID`. Each item has a status of its own: that of its
 /// node, attribute, index range and data encoding, in this order; `BAD_WAITING_FOR_INITIAL_DATA` where an archived
 /// variable has no value; those of memory and of the store. The moment of the server is that of the request, and so is the
-/// source time of a value that no archive keeps.
+/// source time of a value that no archive keeps. Each value is written into the response as it is read.
 pub(crate) fn read<A: Archive>(
     alloc: Global,
     settings: &Settings,
     archive: &mut A,
     sessions: &Sessions,
     now: Ticks,
+    handle: u32,
     token: NodeIdRef<'_>,
     request: Cursor<'_>,
-) -> Result<Answer, Status>
-    ensures performs { Performs (A.state archive.old) (A.state archive.new)
-        (answered_call (site_of settings.now (A.state archive.old)) now (node_of token.entry) (call_in service.Read request.entry) sessions.now) sessions.now result }
-    ensures short { IfOk result IsShort }
+    body: &mut Vec<u8>,
+) -> Result<(), Status>
+    requires { body.old.items ≡ [] }
+    ensures { Responds (A.state archive.old) (A.state archive.new)
+        (answered_call (site_of settings.now (A.state archive.old)) now (node_of token.entry) (call_in service.Read request.entry) sessions.now) sessions.now now handle result body.new.items }
 {
     let asked = read_request(alloc, request)?;
     sessions.user_of(token)?;
-    read_all(
+    put_read(
         alloc,
         settings.space(),
         archive,
         now,
+        handle,
         asked.timestamps,
         &asked.nodes,
+        body,
     )
 }

@@ -11,6 +11,7 @@ const SERVICE_FAULT: u32 = 397;
 
 /// Appends what every response begins with: its type id, the moment, the request's handle and a status.
 /// The one error is `OutOfMemory`, which may leave a part.
+#[inline(always)]
 pub(crate) fn put_head(
     out: &mut Vec<u8>,
     type_id: u32,
@@ -28,6 +29,7 @@ pub(crate) fn put_head(
 
 /// Appends a ServiceFault with this status (Part 4, 7.35). The one error is `OutOfMemory`, which may leave a
 /// part.
+#[inline(always)]
 pub fn put_service_fault(
     out: &mut Vec<u8>,
     now: Ticks,

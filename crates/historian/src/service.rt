@@ -22,6 +22,7 @@ pub(crate) enum Service {
 }
 
 /// The service of a request by its type id, where it is served.
+#[inline(always)]
 pub(crate) fn service_of(type_id: NodeIdRef<'_>) -> Option<Service>
     ensures { result ≡ service_of (node_of type_id.entry) }
 {
@@ -66,6 +67,7 @@ impl<'a> Message<'a> {
     ///
     /// It is no request where the type id can't be read (`BAD_DECODING_ERROR`), where that is no service's
     /// (`BAD_SERVICE_UNSUPPORTED`), and where the header can't be read (`BAD_DECODING_ERROR`), in this order.
+    #[inline(always)]
     pub fn read(bytes: &'a [u8]) -> Message<'a>
         ensures handle { result.handle ≡ handle_of bytes.now }
         ensures request { asked_of result.request ≡ request_in bytes.now }
@@ -99,6 +101,7 @@ impl<'a> Message<'a> {
 }
 
 /// The request for a service, where it is served.
+#[inline(always)]
 fn request_for<'a>(
     service: Option<Service>,
     token: NodeIdRef<'a>,

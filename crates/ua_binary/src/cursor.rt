@@ -1,10 +1,10 @@
 //! Reading from the front of a slice (Part 6, 5.2).
 
-ghost use Rattle.std.specs.Prelude.{◌≡◌, List, ℕ, option_map, length, MatchOption, true, false};
+ghost use Rattle.std.specs.Prelude.{◌≡◌, ◌≤◌, List, ℕ, option_map, length, MatchOption, true, false};
 ghost use Rattle.std.specs.Option.{option_copied};
 ghost use Rattle.std.specs.Int.{w16, w32, w64};
 ghost use Rattle.ua_binary.specs.Format.{Reads, byte, block};
-ghost use Rattle.ua_binary.specs.Binary.{unsigned, signed, sbyte, boolean, byte_string, count_at, text, guid, ticks, status, node_id, node_of, localized, localized_of, is_text, qualified, qualified_of, body, body_of, extension, extension_of};
+ghost use Rattle.ua_binary.specs.Binary.{unsigned, signed, sbyte, boolean, byte_string, count_at, text, guid, ticks, status, node_id, node_form, node_of, localized, localized_of, is_text, qualified, qualified_of, body, body_of, extension, extension_of};
 
 use crate::codes::Status;
 use crate::fault::BinaryFault;
@@ -60,6 +60,7 @@ impl<'a> Cursor<'a> {
     }
 
     /// A Byte (Part 6, 5.2.2.2).
+    #[inline(always)]
     pub fn u8(&mut self) -> Result<u8, BinaryFault>
         ensures { Reads (λ x. x) result self.old self.new byte.read }
     {
@@ -74,6 +75,7 @@ impl<'a> Cursor<'a> {
 
     /// A UInt16, two bytes, the low one first.
     #[tactic(auto, unfolding(crate::specs::Binary::unsigned))]
+    #[inline(always)]
     pub fn u16(&mut self) -> Result<u16, BinaryFault>
         ensures { Reads (λ x. x) result self.old self.new (unsigned w16).read }
     {
@@ -87,6 +89,7 @@ impl<'a> Cursor<'a> {
 
     /// A UInt32, four bytes, the low one first.
     #[tactic(auto, unfolding(crate::specs::Binary::unsigned))]
+    #[inline(always)]
     pub fn u32(&mut self) -> Result<u32, BinaryFault>
         ensures { Reads (λ x. x) result self.old self.new (unsigned w32).read }
     {
@@ -100,6 +103,7 @@ impl<'a> Cursor<'a> {
 
     /// A UInt64, eight bytes, the low one first.
     #[tactic(auto, unfolding(crate::specs::Binary::unsigned))]
+    #[inline(always)]
     pub fn u64(&mut self) -> Result<u64, BinaryFault>
         ensures { Reads (λ x. x) result self.old self.new (unsigned w64).read }
     {
@@ -131,6 +135,7 @@ impl<'a> Cursor<'a> {
 
     /// An Int32, four bytes, the low one first.
     #[tactic(auto, unfolding(crate::specs::Binary::signed, crate::specs::Binary::unsigned))]
+    #[inline(always)]
     pub fn i32(&mut self) -> Result<i32, BinaryFault>
         ensures { Reads (λ x. x) result self.old self.new (signed w32).read }
     {
@@ -140,6 +145,7 @@ impl<'a> Cursor<'a> {
 
     /// An Int64, eight bytes, the low one first.
     #[tactic(auto, unfolding(crate::specs::Binary::signed, crate::specs::Binary::unsigned))]
+    #[inline(always)]
     pub fn i64(&mut self) -> Result<i64, BinaryFault>
         ensures { Reads (λ x. x) result self.old self.new (signed w64).read }
     {
@@ -164,6 +170,7 @@ impl<'a> Cursor<'a> {
     }
 
     /// The next `len` bytes as they are, or `Short`.
+    #[inline(always)]
     pub fn block(&mut self, len: usize) -> Result<&'a [u8], BinaryFault>
         ensures { Reads (λ x. x.now) result self.old self.new (block len).read }
     {
@@ -177,6 +184,7 @@ impl<'a> Cursor<'a> {
 
     /// A DateTime (Part 6, 5.2.2.5): an Int64 of steps of 100 ns since 1601-01-01 00:00 UTC.
     #[tactic(auto, unfolding(crate::specs::Binary::ticks))]
+    #[inline(always)]
     pub fn ticks(&mut self) -> Result<Ticks, BinaryFault>
         ensures { Reads (λ x. x) result self.old self.new ticks.read }
     {
@@ -185,6 +193,7 @@ impl<'a> Cursor<'a> {
 
     /// A StatusCode (Part 6, 5.2.2.11): a UInt32.
     #[tactic(auto, unfolding(crate::specs::Binary::status))]
+    #[inline(always)]
     pub fn status(&mut self) -> Result<Status, BinaryFault>
         ensures { Reads (λ x. x) result self.old self.new status.read }
     {
@@ -195,6 +204,7 @@ impl<'a> Cursor<'a> {
     /// negative count is `BadLength`, and one above the number of bytes left is `Short`, since each
     /// item takes a byte at least.
     #[tactic(auto, unfolding(crate::specs::Binary::count_at))]
+    #[inline(always)]
     pub fn count(&mut self) -> Result<usize, BinaryFault>
         ensures { Reads (λ x. x) result self.old self.new count_at }
     {
@@ -218,6 +228,7 @@ impl<'a> Cursor<'a> {
     /// A ByteString (Part 6, 5.2.2.7): an Int32 count and as many bytes, none where the count is -1.
     /// Another negative count is `BadLength`, and one past the end is `Short`.
     #[tactic(auto, unfolding(crate::specs::Binary::byte_string))]
+    #[inline(always)]
     pub fn bytes(&mut self) -> Result<Option<&'a [u8]>, BinaryFault>
         ensures { Reads (λ x. option_copied x) result self.old self.new byte_string.read }
     {
@@ -237,6 +248,7 @@ impl<'a> Cursor<'a> {
 
     /// A String (Part 6, 5.2.2.4): as a ByteString, and then `BadUtf8` where the bytes aren't UTF-8.
     #[tactic(auto, unfolding(crate::specs::Binary::text))]
+    #[inline(always)]
     pub fn text(&mut self) -> Result<Option<&'a str>, BinaryFault>
         ensures { Reads (λ x. option_copied x) result self.old self.new text.read }
     {
@@ -254,6 +266,7 @@ impl<'a> Cursor<'a> {
 
     /// A Guid (Part 6, 5.2.2.6): a UInt32, two UInt16 and eight bytes.
     #[tactic(auto, unfolding(crate::specs::Binary::guid))]
+    #[inline(never)]
     pub fn guid(&mut self) -> Result<Guid, BinaryFault>
         ensures { Reads (λ x. x) result self.old self.new guid.read }
     {
@@ -275,6 +288,7 @@ impl<'a> Cursor<'a> {
     /// A NodeId (Part 6, 5.2.2.9) in any of its six forms, which the first byte tells; another first
     /// byte is `BadEncodingByte`. A null text or byte id reads as an empty one.
     #[tactic(auto, unfolding(crate::specs::Binary::node_id))]
+    #[inline(always)]
     pub fn node_id(&mut self) -> Result<NodeIdRef<'a>, BinaryFault>
         ensures { Reads node_of result self.old self.new node_id.read }
     {
@@ -285,6 +299,20 @@ impl<'a> Cursor<'a> {
                 let namespace = next.u8()? as u16;
                 NodeIdRef::Numeric(namespace, next.u16()? as u32)
             }
+            form => next.node_form(form)?,
+        };
+        *self = next;
+        Ok(node)
+    }
+
+    /// What stands behind the byte that tells the form, where that isn't one of the two for small numbers.
+    #[inline(never)]
+    fn node_form(&mut self, form: u8) -> Result<NodeIdRef<'a>, BinaryFault>
+        requires { 2 ≤ form }
+        ensures { Reads node_of result self.old self.new (node_form form).read }
+    {
+        let mut next = self.fork();
+        let node = match form {
             2 => {
                 let namespace = next.u16()?;
                 NodeIdRef::Numeric(namespace, next.u32()?)
@@ -309,6 +337,7 @@ impl<'a> Cursor<'a> {
 
     /// A QualifiedName (Part 6, 5.2.2.13): a UInt16 and a String.
     #[tactic(auto, unfolding(crate::specs::Binary::qualified))]
+    #[inline(always)]
     pub fn qualified(&mut self) -> Result<QualifiedRef<'a>, BinaryFault>
         ensures { Reads qualified_of result self.old self.new qualified.read }
     {
@@ -322,6 +351,7 @@ impl<'a> Cursor<'a> {
     /// A LocalizedText (Part 6, 5.2.2.14): a mask, 1 for a locale and 2 for a text, and then those
     /// that are there. Another bit of the mask is `BadEncodingByte`; a null text reads as absent.
     #[tactic(auto, unfolding(crate::specs::Binary::localized))]
+    #[inline(never)]
     pub fn localized(&mut self) -> Result<LocalizedRef<'a>, BinaryFault>
         ensures { Reads localized_of result self.old self.new localized.read }
     {
@@ -339,6 +369,7 @@ impl<'a> Cursor<'a> {
     /// The body of an ExtensionObject (Part 6, 5.2.2.15), behind the id of its type: a byte for its kind,
     /// and the body: 0 for none, 1 for bytes, 2 for XML. Another kind is `BadEncodingByte`; a body of
     /// length -1 reads as an empty one.
+    #[inline(always)]
     pub fn body(&mut self) -> Result<BodyRef<'a>, BinaryFault>
         ensures { Reads body_of result self.old self.new body.read }
     {
@@ -355,6 +386,7 @@ impl<'a> Cursor<'a> {
 
     /// An ExtensionObject (Part 6, 5.2.2.15): the NodeId of its type, and its body, as `body` reads it.
     #[tactic(auto, unfolding(crate::specs::Binary::extension))]
+    #[inline(always)]
     pub fn extension(&mut self) -> Result<ExtensionRef<'a>, BinaryFault>
         ensures { Reads extension_of result self.old self.new extension.read }
     {
@@ -368,6 +400,7 @@ impl<'a> Cursor<'a> {
 
 /// The bytes as a text, where they are UTF-8.
 #[tactic(auto, using(crate::proofs::Utf8::tested))]
+#[inline(never)]
 fn utf8(bytes: &[u8]) -> Option<&str>
     ensures { MatchOption result (is_text (Some bytes.now) ≡ false) (λ s. (s.now ≡ bytes.now) × (is_text (Some s.now) ≡ true)) }
 {

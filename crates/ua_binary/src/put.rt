@@ -18,6 +18,7 @@ use crate::values::{
 };
 
 /// Takes back what a part of a writer put, where it failed: `len` is how long the vector was before.
+#[inline(always)]
 pub fn or_undone<E>(put: Result<(), E>, out: &mut Vec<u8>, len: usize) -> Result<(), E>
     ensures same { result ≡ put }
     ensures items { MatchResult put (λ _. out.new.items ≡ out.old.items) (λ _. out.new.items ≡ take len out.old.items) }
@@ -37,6 +38,7 @@ pub fn put_boolean(out: &mut Vec<u8>, v: bool) -> Result<(), BinaryFault>
 }
 
 /// A Byte (Part 6, 5.2.2.2).
+#[inline(always)]
 pub fn put_u8(out: &mut Vec<u8>, v: u8) -> Result<(), BinaryFault>
     ensures { Puts BinaryFault.OutOfMemory result out.old.items out.new.items (byte.canon v) }
 {
@@ -46,6 +48,7 @@ pub fn put_u8(out: &mut Vec<u8>, v: u8) -> Result<(), BinaryFault>
 
 /// A UInt16, the low byte first.
 #[tactic(auto, unfolding(crate::specs::Binary::unsigned))]
+#[inline(always)]
 pub fn put_u16(out: &mut Vec<u8>, v: u16) -> Result<(), BinaryFault>
     ensures { Puts BinaryFault.OutOfMemory result out.old.items out.new.items ((unsigned w16).canon v) }
 {
@@ -55,6 +58,7 @@ pub fn put_u16(out: &mut Vec<u8>, v: u16) -> Result<(), BinaryFault>
 
 /// A UInt32, the low byte first.
 #[tactic(auto, unfolding(crate::specs::Binary::unsigned))]
+#[inline(always)]
 pub fn put_u32(out: &mut Vec<u8>, v: u32) -> Result<(), BinaryFault>
     ensures { Puts BinaryFault.OutOfMemory result out.old.items out.new.items ((unsigned w32).canon v) }
 {
@@ -90,6 +94,7 @@ pub fn put_i16(out: &mut Vec<u8>, v: i16) -> Result<(), BinaryFault>
 
 /// An Int32, the low byte first.
 #[tactic(auto, unfolding(crate::specs::Binary::signed, crate::specs::Binary::unsigned))]
+#[inline(always)]
 pub fn put_i32(out: &mut Vec<u8>, v: i32) -> Result<(), BinaryFault>
     ensures { Puts BinaryFault.OutOfMemory result out.old.items out.new.items ((signed w32).canon v) }
 {
@@ -99,6 +104,7 @@ pub fn put_i32(out: &mut Vec<u8>, v: i32) -> Result<(), BinaryFault>
 
 /// An Int64, the low byte first.
 #[tactic(auto, unfolding(crate::specs::Binary::signed, crate::specs::Binary::unsigned))]
+#[inline(always)]
 pub fn put_i64(out: &mut Vec<u8>, v: i64) -> Result<(), BinaryFault>
     ensures { Puts BinaryFault.OutOfMemory result out.old.items out.new.items ((signed w64).canon v) }
 {
@@ -107,6 +113,7 @@ pub fn put_i64(out: &mut Vec<u8>, v: i64) -> Result<(), BinaryFault>
 }
 
 /// Bytes as they are, with no count: a Float (Part 6, 5.2.2.3) or a Double as its bytes.
+#[inline(always)]
 pub fn put_block(out: &mut Vec<u8>, v: &[u8]) -> Result<(), BinaryFault>
     ensures { Puts BinaryFault.OutOfMemory result out.old.items out.new.items v.now }
 {
@@ -116,6 +123,7 @@ pub fn put_block(out: &mut Vec<u8>, v: &[u8]) -> Result<(), BinaryFault>
 
 /// A DateTime (Part 6, 5.2.2.5).
 #[tactic(auto, unfolding(crate::specs::Binary::ticks))]
+#[inline(always)]
 pub fn put_ticks(out: &mut Vec<u8>, v: Ticks) -> Result<(), BinaryFault>
     ensures puts { Puts BinaryFault.OutOfMemory result out.old.items out.new.items (ticks.canon v) }
     ensures spelled { IfOk result (λ _. FitsSigned w64 v.0) }
@@ -125,6 +133,7 @@ pub fn put_ticks(out: &mut Vec<u8>, v: Ticks) -> Result<(), BinaryFault>
 
 /// A StatusCode (Part 6, 5.2.2.11).
 #[tactic(auto, unfolding(crate::specs::Binary::status))]
+#[inline(always)]
 pub fn put_status(out: &mut Vec<u8>, v: Status) -> Result<(), BinaryFault>
     ensures puts { Puts BinaryFault.OutOfMemory result out.old.items out.new.items (status.canon v) }
     ensures spelled { IfOk result (λ _. v.0 < 2 ^ 32) }
@@ -134,6 +143,7 @@ pub fn put_status(out: &mut Vec<u8>, v: Status) -> Result<(), BinaryFault>
 
 /// The count of an array (Part 6, 5.2.5), of at most 2^31 - 1 items.
 #[tactic(auto, unfolding(crate::specs::Binary::signed, crate::specs::Binary::unsigned))]
+#[inline(always)]
 pub fn put_count(out: &mut Vec<u8>, count: usize) -> Result<(), BinaryFault>
     requires { count < 2 ^ 31 }
     ensures { Puts BinaryFault.OutOfMemory result out.old.items out.new.items ((signed w32).canon (pos count)) }
@@ -232,6 +242,7 @@ pub fn put_guid(out: &mut Vec<u8>, v: &Guid) -> Result<(), BinaryFault>
 }
 
 #[tactic(auto, using(crate::proofs::Kept::kept), unfolding(crate::specs::Binary::node_id, crate::specs::Binary::unsigned))]
+#[inline(always)]
 fn put_node_id_parts(out: &mut Vec<u8>, v: NodeIdRef<'_>) -> Result<(), BinaryFault>
     requires { IsShortNode (node_of v) }
     ensures puts { PutsPart BinaryFault.OutOfMemory result out.old.items out.new.items (node_id.canon (node_of v.entry)) }
@@ -269,6 +280,7 @@ fn put_node_id_parts(out: &mut Vec<u8>, v: NodeIdRef<'_>) -> Result<(), BinaryFa
 }
 
 /// A NodeId (Part 6, 5.2.2.9) in its shortest form. A text or byte id has at most 2^31 - 1 bytes.
+#[inline(always)]
 pub fn put_node_id(out: &mut Vec<u8>, v: &NodeId) -> Result<(), BinaryFault>
     requires { IsShortNode v.now }
     ensures puts { Puts BinaryFault.OutOfMemory result out.old.items out.new.items (node_id.canon v.now) }
@@ -278,6 +290,7 @@ pub fn put_node_id(out: &mut Vec<u8>, v: &NodeId) -> Result<(), BinaryFault>
 }
 
 /// The same of a NodeId in the bytes that it was read from.
+#[inline(always)]
 pub fn put_node_id_ref(out: &mut Vec<u8>, v: NodeIdRef<'_>) -> Result<(), BinaryFault>
     requires { IsShortNode (node_of v) }
     ensures puts { Puts BinaryFault.OutOfMemory result out.old.items out.new.items (node_id.canon (node_of v.entry)) }

@@ -66,6 +66,7 @@ impl Channel {
     /// has bytes of a message; that chunk isn't taken, and the channel is as it was. After an opening
     /// or a whole message the channel is ready, so that `wrap` may be called.
     #[tactic(auto, using(crate::proofs::Takings::refusing))]
+    #[inline(always)]
     pub fn take<'a>(&mut self, chunk: Chunk<'a>) -> Result<Taken<'a>, ChannelFault>
         ensures takes { Takes self.old (piece_of chunk.entry) result self.new }
         ensures ready { IfOk result (λ taken. LeavesReady taken self.new) }
@@ -107,6 +108,7 @@ impl Channel {
     /// before the first. The channel is ready. The one error is `OutOfMemory`: then nothing was
     /// appended, and no sequence number used.
     #[tactic(auto, using(crate::proofs::Sendings::shortness))]
+    #[inline(always)]
     pub fn wrap(
         &mut self,
         request_id: u32,

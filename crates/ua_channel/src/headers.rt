@@ -92,6 +92,7 @@ pub(crate) fn read_sequence_header(cursor: &mut Cursor<'_>) -> Result<(u32, u32)
 
 /// The numbers of a MSG or CLO chunk.
 #[tactic(auto, unfolding(crate::specs::Headers::message_header))]
+#[inline(always)]
 pub(crate) fn read_message_header(cursor: &mut Cursor<'_>) -> Result<Numbers, BinaryFault>
     ensures { Reads (λ x. x) result cursor.old cursor.new message_header.read }
 {
@@ -113,6 +114,7 @@ pub(crate) fn read_message_header(cursor: &mut Cursor<'_>) -> Result<Numbers, Bi
 /// an ExtensionObject. A fault is that of the leftmost field that has no spelling, and leaves the
 /// cursor where it was. It takes no memory.
 #[tactic(auto, unfolding(crate::specs::Headers::request_header))]
+#[inline(always)]
 pub fn read_request_header<'a>(cursor: &mut Cursor<'a>) -> Result<RequestHeader<'a>, BinaryFault>
     ensures { Reads request_fields result cursor.old cursor.new request_header.read }
 {
@@ -173,6 +175,7 @@ pub(crate) fn read_open_request(cursor: &mut Cursor<'_>) -> Result<Asked, Binary
 /// The header of a response: its moment, the request's handle and a status, no diagnostics, a null array of texts and no
 /// additional header.
 #[tactic(auto, unfolding(crate::specs::Headers::response_header, ua_binary::specs::Binary::ticks, ua_binary::specs::Binary::status, ua_binary::specs::Binary::signed, ua_binary::specs::Binary::unsigned))]
+#[inline(always)]
 fn response_head(now: Ticks, handle: u32, status: Status) -> [u8; 24]
     ensures { result ≡ response_header.canon (now, (handle, status)) }
 {
@@ -188,6 +191,7 @@ fn response_head(now: Ticks, handle: u32, status: Status) -> [u8; 24]
 /// Appends the header of a response (Part 4, 7.34) that was made at this moment: 24 bytes, without
 /// diagnostics, texts or an additional header. The one error is `OutOfMemory`, which leaves the
 /// vector as it was.
+#[inline(always)]
 pub fn put_response_header(
     now: Ticks,
     handle: u32,

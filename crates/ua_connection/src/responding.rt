@@ -21,6 +21,7 @@ use ua_session::Sessions;
 use ua_settings::Settings;
 
 /// Makes a ServiceFault (Part 4, 7.35) in place of what stands in `body`. The one error is `OutOfMemory`.
+#[inline(never)]
 fn make_fault(
     body: &mut Vec<u8>,
     now: Ticks,
@@ -38,6 +39,7 @@ fn make_fault(
 }
 
 /// Makes of a body that isn't within what the client takes a ServiceFault that says so. The one error is `OutOfMemory`.
+#[inline(always)]
 fn fit(channel: &Channel, now: Ticks, handle: u32, body: &mut Vec<u8>) -> Result<(), ChannelFault>
     ensures ok { OnOk result (body.new.items ≡ fitted channel.now now handle body.old.items) }
     ensures err { IfErr result (λ fault. fault ≡ ChannelFault.OutOfMemory) }
@@ -49,6 +51,7 @@ fn fit(channel: &Channel, now: Ticks, handle: u32, body: &mut Vec<u8>) -> Result
 }
 
 /// Sends the response in `body`, or where it isn't within what the client takes a ServiceFault that says so.
+#[inline(always)]
 fn send_fitting(
     channel: &mut Channel,
     request_id: u32,
@@ -67,6 +70,7 @@ fn send_fitting(
 }
 
 /// Sends a ServiceFault that says that memory ran out.
+#[inline(never)]
 fn send_starved(
     channel: &mut Channel,
     request_id: u32,
@@ -91,6 +95,7 @@ fn send_starved(
 
 /// Answers a message by a response that is made in `body`, whatever stands there; where memory for its response is wanting, by a ServiceFault that says so, and what the service did
 /// stands.
+#[inline(always)]
 pub(crate) fn respond<A: Archive>(
     alloc: Global,
     settings: &Settings,

@@ -1,15 +1,17 @@
 -- Data values: the mask that is written names what is there, and the format is lawful.
-use Rattle.std.proofs.Common.{◌≡◌, ℕ, ◌<◌, ◌≤◌, ◌^◌, min, Bool, true, false, not, ltb, ◌&&◌, ◌++◌, Option, Some, None, IfSome, is_some, refl, arith}
+use Rattle.std.proofs.Common.{◌≡◌, ◌∙◌, ℕ, ◌+◌, ◌<◌, ◌≤◌, ◌^◌, min, Bool, true, false, not, ltb, ◌&&◌, ◌++◌, [], Option, Some, None, IfSome, is_some, refl, ap, append-nil, arith}
 use Rattle.std.proofs.lemmas.Bool.{ltb-true, le-ltb}
 use Rattle.ua_binary.specs.Format.{Format, IsLawful, byte, flagged}
 use Rattle.ua_binary.specs.Binary.{unsigned, ticks, status}
 use Rattle.ua_binary.proofs.Combined.{refused_lawful, byte_lawful, then_lawful, chosen_lawful, headed_lawful, standing_lawful, flagged_lawful, fitting_lawful, raised_lawful}
 use Rattle.ua_binary.proofs.Lawful.{u16_lawful, ticks_lawful, status_lawful}
+use Rattle.ua_binary.specs.declared.values.Ticks.{Ticks}
 use Rattle.ua_variant.specs.declared.data.DataValue.{DataValue}
+use Rattle.ua_variant.specs.declared.value.Variant.{Variant}
 use Rattle.ua_variant.specs.declared.fault.VariantFault.TheVariants.{BadEncodingByte}
 use Rattle.ua_variant.specs.Raise.{variant_fault}
 use Rattle.ua_variant.specs.Variant.{variant}
-use Rattle.ua_variant.specs.DataValue.{IsPicoseconds, picoseconds, has, mask_of, data_mask, data_of, parts_of, stamps, data_fields, IsDataValue, data_value}
+use Rattle.ua_variant.specs.DataValue.{flag, IsPicoseconds, picoseconds, has, mask_of, data_mask, data_of, parts_of, stamps, data_fields, IsDataValue, data_value}
 use Rattle.ua_variant.proofs.Lawful.{variant_lawful}
 
 -- ---- masks, all of them tried
@@ -87,6 +89,19 @@ fields_canon m v lt = let e : ltb 63 m ≡ false = le-ltb 63 m (omega (arith, lt
 pub canon_data : (v : DataValue) → data_value.canon v ≡ byte.canon (data_mask v) ++ ((flagged (is_some v.value) variant).canon v.value ++ ((flagged (is_some v.status) status).canon v.status ++ ((flagged (is_some v.source_time) ticks).canon v.source_time ++ ((flagged (is_some v.source_pico) picoseconds).canon v.source_pico ++ ((flagged (is_some v.server_time) ticks).canon v.server_time ++ (flagged (is_some v.server_pico) picoseconds).canon v.server_pico)))))
 unfolding data_value
 canon_data v = rw (fields_canon (data_mask v) v (mask_told v).small) refl
+
+-- a value with its moments alone
+pub canon_timed : (value : Variant) (source server : Option Ticks)
+    → data_value.canon (record { value = Some value; status = None; source_time = source; source_pico = None; server_time = server; server_pico = None })
+    ≡ byte.canon (1 + flag (is_some source) 4 + flag (is_some server) 8) ++ (variant.canon value ++ ((flagged (is_some source) ticks).canon source ++ (flagged (is_some server) ticks).canon server))
+canon_timed value source server =
+    let S = (flagged (is_some source) ticks).canon source in
+    let T = (flagged (is_some server) ticks).canon server in
+    let v : DataValue = record { value = Some value; status = None; source_time = source; source_pico = None; server_time = server; server_pico = None } in
+    let mask : data_mask v ≡ 1 + flag (is_some source) 4 + flag (is_some server) 8 = omega arith in
+    canon_data v
+    ∙ (ap (λ m. byte.canon m ++ (variant.canon value ++ (S ++ (T ++ [])))) mask
+    ∙ ap (λ l. byte.canon (1 + flag (is_some source) 4 + flag (is_some server) 8) ++ (variant.canon value ++ (S ++ l))) (append-nil T))
 
 -- ---- the law
 

@@ -1,6 +1,6 @@
 //! Data values: a value with its status and its moments.
 
-ghost use Rattle.std.specs.Prelude.{◌≡◌, ◌≤◌, ◌<◌, ◌^◌, List, ℕ, IfOk, IfSome, is_some, if◌then◌else◌};
+ghost use Rattle.std.specs.Prelude.{◌≡◌, ◌≤◌, ◌<◌, ◌^◌, List, ℕ, IfOk, IfSome, Some, None, is_some, if◌then◌else◌};
 ghost use Rattle.std.specs.Int.{w64};
 ghost use Rattle.std.specs.Int.RustNames.{FitsSigned};
 ghost use Rattle.ua_binary.specs.Format.{Puts, PutsPart, Reads, ReadsPart, ReadsUnless, flagged};
@@ -230,5 +230,39 @@ pub fn put_data_value(out: &mut Vec<u8>, v: &DataValue) -> Result<(), BinaryFaul
 {
     let len = out.len();
     let put = put_data_value_parts(out, v);
+    or_undone(put, out, len)
+}
+
+#[tactic(auto, using(ua_binary::proofs::Kept::kept, crate::proofs::Masks::canon_timed))]
+fn put_value_at_parts(
+    out: &mut Vec<u8>,
+    value: &Variant,
+    source_time: Option<Ticks>,
+    server_time: Option<Ticks>,
+) -> Result<(), BinaryFault>
+    requires { IsShortVariant value.now }
+    ensures { PutsPart BinaryFault.OutOfMemory result out.old.items out.new.items (data_value.canon (record { value = Some value.now; status = None; source_time = source_time; source_pico = None; server_time = server_time; server_pico = None })) }
+{
+    let mask = 1 + bit_where(source_time.is_some(), 4) + bit_where(server_time.is_some(), 8);
+    put_u8(out, mask)?;
+    put_variant(out, value)?;
+    put_time(out, source_time)?;
+    put_time(out, server_time)?;
+    Ok(())
+}
+
+/// Writes the data value (Part 6, 5.2.2.17) that has this value and these moments, and neither a status nor picoseconds. Its one
+/// error is `OutOfMemory`, and then the vector is as it was.
+pub fn put_value_at(
+    out: &mut Vec<u8>,
+    value: &Variant,
+    source_time: Option<Ticks>,
+    server_time: Option<Ticks>,
+) -> Result<(), BinaryFault>
+    requires { IsShortVariant value.now }
+    ensures { Puts BinaryFault.OutOfMemory result out.old.items out.new.items (data_value.canon (record { value = Some value.now; status = None; source_time = source_time; source_pico = None; server_time = server_time; server_pico = None })) }
+{
+    let len = out.len();
+    let put = put_value_at_parts(out, value, source_time, server_time);
     or_undone(put, out, len)
 }

@@ -11,7 +11,7 @@ mod try_clone;
 mod update_type;
 mod value;
 
-pub use data::{DataValue, put_data_value, read_data_value};
+pub use data::{DataValue, put_data_value, put_value_at, read_data_value};
 pub use fault::VariantFault;
 pub use laws::{equality_is_exact, formats_are_lawful, formats_are_prefix_free};
 pub use put::put_variant;

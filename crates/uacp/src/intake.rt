@@ -88,6 +88,7 @@ impl Intake {
 
     /// The next chunk, where it is whole, and `None` where less is there. It takes no memory.
     /// After `TypeInvalid`, `TooLarge` or `SizeTooSmall` every later call gives the same fault.
+    #[inline(always)]
     pub fn next_chunk(&mut self) -> Result<Option<Chunk<'_>>, UacpFault>
         ensures value { Gives self.old result }
         ensures* after_borrow { sem 𝓛 (Rests the_row self.entry (λ new. new ≡ after_next self.old (next_of self.old))) }

@@ -1,0 +1,143 @@
+use Rattle.std.proofs.Common.{◌≡◌, ◌∙◌, ◌++◌, [], ℕ, List, map, length, pos, negsuc, inr, Ok, Err, Some, None, refl, sym, ap, subst, append_assoc}
+use Rattle.std.specs.Prelude.{Option, Result}
+use Rattle.std.specs.Int.{w32}
+use Rattle.std.specs.List.{flat_map}
+use Rattle.std.proofs.lemmas.List.{length-map}
+use Rattle.std.proofs.lemmas.Result.{err_from_is_err_and}
+use Rattle.ua_binary.specs.Binary.{signed, array}
+use Rattle.ua_binary.specs.Fault.{status_of}
+use Rattle.ua_binary.specs.declared.fault.BinaryFault.{BinaryFault}
+use Rattle.ua_binary.specs.declared.fault.BinaryFault.TheVariants.{OutOfMemory}
+use Rattle.ua_binary.specs.declared.codes.Status.{Status}
+use Rattle.ua_binary.specs.declared.codes.TheConstants.Status.{GOOD, BAD_OUT_OF_MEMORY, BAD_TIMESTAMPS_TO_RETURN_INVALID}
+use Rattle.ua_binary.specs.declared.values.Ticks.{Ticks}
+use Rattle.ua_variant.specs.DataValue.{data_value}
+use Rattle.ua_variant.specs.declared.data.DataValue.{DataValue}
+use Rattle.ua_services.specs.Attributes.{ReadFields, ReadAsked, read_fields, read_response}
+use Rattle.ua_services.specs.declared.attributes.TimestampsToReturn.{TimestampsToReturn}
+use Rattle.ua_space.specs.declared.layout.Layout.{Layout}
+use Rattle.records.specs.Contents.{Content}
+use Rattle.archive.specs.Store.{Mark}
+use Rattle.historian.specs.Answers.{Response, Values, head, response}
+use Rattle.hist_update.specs.Codes.{list_refusal}
+use Rattle.historian.specs.Reading.{unless, items, read_item, read_by, read}
+use Rattle.historian.specs.Telling.{Written}
+use Rattle.historian.proofs.Items.{comes-refused, acts-wanting, acts-items}
+use Rattle.historian.proofs.reading.put_read.Goals as goal
+
+-- a Read that isn't refused asks for items
+asked_items : (space : Layout) (now : Ticks) (timestamps : Option TimestampsToReturn) (stamps : TimestampsToReturn) (nodes : List ReadFields) → list_refusal 1000 (length nodes) ≡ None → timestamps ≡ Some stamps
+    → (R : Content) (marks : List Mark) → read space now (timestamps, nodes) R marks ≡ items Values (read_item space now stamps) nodes R marks
+asked_items space now timestamps stamps nodes taken is R marks =
+    ap (λ (o : Option Status). unless o R (read_by space now timestamps nodes R) marks) taken
+    ∙ ap (λ (o : Option TimestampsToReturn). read_by space now o nodes R marks) is
+
+-- memory for the bytes was wanting
+starved : (now : Ticks) (handle : ℕ) (told : Response) (result : Result (Unit {0}) Status) (status : Status) (fault : BinaryFault) (bytes : List ℕ) → result ≡ Err status → status ≡ status_of fault → fault ≡ OutOfMemory
+    → Written now handle told result bytes
+starved now handle told result status fault bytes is from memory =
+    subst (λ (r : Result (Unit {0}) Status). Written now handle told r bytes) (sym is) (inr (from ∙ ap status_of memory))
+
+-- the bytes behind the head
+spelled : (values : List DataValue) → read_response.canon values ≡ ((signed w32).canon (pos (length values)) ++ flat_map data_value.canon values) ++ (signed w32).canon (negsuc 0)
+unfolding read_response array
+spelled values = refl
+
+whole : (now : Ticks) (handle : ℕ) (values : List DataValue) (count : ℕ) (first headed counted valued ended : List ℕ) → first ≡ [] → headed ≡ first ++ head 634 now handle GOOD → counted ≡ headed ++ (signed w32).canon (pos count)
+    → valued ≡ counted ++ flat_map data_value.canon values → ended ≡ valued ++ (signed w32).canon (negsuc 0) → length values ≡ count → ended ≡ response now handle (Ok (Values values))
+whole now handle values count first headed counted valued ended empty h n v e same =
+    let H = head 634 now handle GOOD in
+    let F = flat_map data_value.canon values in
+    let C = (signed w32).canon (pos (length values)) in
+    let N = (signed w32).canon (negsuc 0) in
+    let counts : (signed w32).canon (pos count) ≡ C = ap (λ n. (signed w32).canon (pos n)) (sym same) in
+    e
+    ∙ (ap (λ l. l ++ N) (v ∙ ap (λ l. l ++ F) (n ∙ (ap (λ l. l ++ (signed w32).canon (pos count)) (h ∙ ap (λ l. l ++ H) empty) ∙ ap (λ l. H ++ l) counts)))
+    ∙ (ap (λ l. l ++ N) (append_assoc H C F)
+    ∙ (append_assoc H (C ++ F) N
+    ∙ ap (λ l. H ++ l) (sym (spelled values)))))
+
+pub returns-in-Some : goal.returns-in-Some
+returns-in-Some g c =
+    let s = g.A.Archive.state c.args.archive.now in
+    let nodes = map read_fields c.args.nodes.now in
+    let refused : list_refusal 1000 (length nodes) ≡ Some c.in-Some.status = ap (list_refusal 1000) (length-map c.args.nodes.now read_fields) ∙ sym c.list_refusal.ensures ∙ c.in-Some.is in
+    let comes = comes-refused s (read c.args.space.now c.args.now (c.args.timestamps, nodes)) c.in-Some.status (Err c.in-Some.status)
+    (λ R marks. ap (λ (o : Option Status). unless o R (read_by c.args.space.now c.args.now c.args.timestamps nodes R) marks) refused) refl in
+    (comes.0, comes.1, comes.2, comes.3)
+
+pub returns-in_default-timestamps : goal.returns-in_default-timestamps
+returns-in_default-timestamps g c =
+    let s = g.A.Archive.state c.args.archive.now in
+    let nodes = map read_fields c.args.nodes.now in
+    let taken : list_refusal 1000 (length nodes) ≡ None = ap (list_refusal 1000) (length-map c.args.nodes.now read_fields) ∙ sym c.list_refusal.ensures ∙ c.in_default.is in
+    let comes = comes-refused s (read c.args.space.now c.args.now (c.args.timestamps, nodes)) BAD_TIMESTAMPS_TO_RETURN_INVALID (Err BAD_TIMESTAMPS_TO_RETURN_INVALID)
+    (λ R marks.
+    ap (λ (o : Option Status). unless o R (read_by c.args.space.now c.args.now c.args.timestamps nodes R) marks) taken
+    ∙ ap (λ (o : Option TimestampsToReturn). read_by c.args.space.now c.args.now o nodes R marks) c.in_default-timestamps.is) refl in
+    (comes.0, comes.1, comes.2, comes.3)
+
+pub returns-in_err-put_head : goal.returns-in_err-put_head
+returns-in_err-put_head g c =
+    let s = g.A.Archive.state c.args.archive.now in
+    let nodes = map read_fields c.args.nodes.now in
+    let stamps = c.in-Some-timestamps.stamps in
+    let taken : list_refusal 1000 (length nodes) ≡ None = ap (list_refusal 1000) (length-map c.args.nodes.now read_fields) ∙ sym c.list_refusal.ensures ∙ c.in_default.is in
+    let acts = acts-wanting s (read c.args.space.now c.args.now (c.args.timestamps, nodes)) Values (read_item c.args.space.now c.args.now stamps) nodes
+    (asked_items c.args.space.now c.args.now c.args.timestamps stamps nodes taken c.in-Some-timestamps.is) in
+    let p = err_from_is_err_and c.from_residual.result c.from_residual.ensures.1 in
+    (acts.0, Err BAD_OUT_OF_MEMORY, acts.1, starved c.args.now c.args.handle (Err BAD_OUT_OF_MEMORY) c.from_residual.result p.0 c.in_err-put_head.field-0.0 c.put_head.new.out.items p.1 p.2 c.in_err-put_head.ensures.err)
+
+pub returns-in_err-put_count : goal.returns-in_err-put_count
+returns-in_err-put_count g c =
+    let s = g.A.Archive.state c.args.archive.now in
+    let nodes = map read_fields c.args.nodes.now in
+    let stamps = c.in-Some-timestamps.stamps in
+    let taken : list_refusal 1000 (length nodes) ≡ None = ap (list_refusal 1000) (length-map c.args.nodes.now read_fields) ∙ sym c.list_refusal.ensures ∙ c.in_default.is in
+    let acts = acts-wanting s (read c.args.space.now c.args.now (c.args.timestamps, nodes)) Values (read_item c.args.space.now c.args.now stamps) nodes
+    (asked_items c.args.space.now c.args.now c.args.timestamps stamps nodes taken c.in-Some-timestamps.is) in
+    let p = err_from_is_err_and c.from_residual-in_err-put_count.result c.from_residual-in_err-put_count.ensures.1 in
+    (acts.0, Err BAD_OUT_OF_MEMORY, acts.1, starved c.args.now c.args.handle (Err BAD_OUT_OF_MEMORY) c.from_residual-in_err-put_count.result p.0 c.in_err-put_count.field-0.0 c.put_count.new.out.items p.1 p.2 c.in_err-put_count.ensures.0)
+
+pub returns-in_err-put_items : goal.returns-in_err-put_items
+returns-in_err-put_items g c =
+    let a = g.A.Archive.state c.args.archive.now in
+    let b = g.A.Archive.state c.put_items.new.archive in
+    let nodes = map read_fields c.args.nodes.now in
+    let stamps = c.in-Some-timestamps.stamps in
+    let taken : list_refusal 1000 (length nodes) ≡ None = ap (list_refusal 1000) (length-map c.args.nodes.now read_fields) ∙ sym c.list_refusal.ensures ∙ c.in_default.is in
+    let (used, values, count, all, shown) = c.put_items.ensures.told in
+    let acts = acts-items a b (read c.args.space.now c.args.now (c.args.timestamps, nodes)) Values (read_item c.args.space.now c.args.now stamps) nodes values
+    (asked_items c.args.space.now c.args.now c.args.timestamps stamps nodes taken c.in-Some-timestamps.is) (used, all) in
+    let p = err_from_is_err_and c.from_residual-in_err-put_items.result c.from_residual-in_err-put_items.ensures.1 in
+    (acts.0, Ok (Values values), acts.1, starved c.args.now c.args.handle (Ok (Values values)) c.from_residual-in_err-put_items.result p.0 c.in_err-put_items.field-0.0 c.put_items.new.out.items p.1 p.2 c.in_err-put_items.ensures.err)
+
+pub returns-in_err-put_i32 : goal.returns-in_err-put_i32
+returns-in_err-put_i32 g c =
+    let a = g.A.Archive.state c.args.archive.now in
+    let b = g.A.Archive.state c.put_items.new.archive in
+    let nodes = map read_fields c.args.nodes.now in
+    let stamps = c.in-Some-timestamps.stamps in
+    let taken : list_refusal 1000 (length nodes) ≡ None = ap (list_refusal 1000) (length-map c.args.nodes.now read_fields) ∙ sym c.list_refusal.ensures ∙ c.in_default.is in
+    let (used, values, count, all, shown) = c.put_items.ensures.told in
+    let acts = acts-items a b (read c.args.space.now c.args.now (c.args.timestamps, nodes)) Values (read_item c.args.space.now c.args.now stamps) nodes values
+    (asked_items c.args.space.now c.args.now c.args.timestamps stamps nodes taken c.in-Some-timestamps.is) (used, all) in
+    let p = err_from_is_err_and c.from_residual-in_err-put_i32.result c.from_residual-in_err-put_i32.ensures.1 in
+    (acts.0, Ok (Values values), acts.1, starved c.args.now c.args.handle (Ok (Values values)) c.from_residual-in_err-put_i32.result p.0 c.in_err-put_i32.field-0.0 c.put_i32.new.out.items p.1 p.2 c.in_err-put_i32.ensures.0)
+
+pub returns : goal.returns
+returns g c =
+    let a = g.A.Archive.state c.args.archive.now in
+    let b = g.A.Archive.state c.put_items.new.archive in
+    let nodes = map read_fields c.args.nodes.now in
+    let stamps = c.in-Some-timestamps.stamps in
+    let taken : list_refusal 1000 (length nodes) ≡ None = ap (list_refusal 1000) (length-map c.args.nodes.now read_fields) ∙ sym c.list_refusal.ensures ∙ c.in_default.is in
+    let (used, values, count, all, shown) = c.in_ok-put_items.ensures.told in
+    let acts = acts-items a b (read c.args.space.now c.args.now (c.args.timestamps, nodes)) Values (read_item c.args.space.now c.args.now stamps) nodes values
+    (asked_items c.args.space.now c.args.now c.args.timestamps stamps nodes taken c.in-Some-timestamps.is) (used, all) in (
+      acts.0,
+      Ok (Values values),
+      acts.1,
+      whole c.args.now c.args.handle values (length c.args.nodes.now) c.args.body.now.items c.put_head.new.out.items c.put_count.new.out.items c.put_items.new.out.items c.put_i32.new.out.items
+          c.requires c.in_ok-put_head.ensures.ok c.in_ok-put_count.ensures shown c.in_ok-put_i32.ensures count,
+    )
