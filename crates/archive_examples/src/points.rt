@@ -1,4 +1,5 @@
 //! Continuation points: which bytes are one, and that each has one spelling.
+
 use hist_read::{put_continuation, read_continuation};
 use std::alloc::{AllocError, Global};
 use std::test::Fail;
@@ -9,6 +10,7 @@ pub(crate) static POINT: [u8; 81] = [
     0xE8, 0x29, 0, 0, 0, 0, 0xF2, 0x2C, 0xE3, 0x2A, 0, 0, 0, 2, 0, 0, 0, 0, 2, 0, 0x94, 0x5C, 0x30,
     0x2A, 0, 0, 0, 0, 0, 0, 0, 0, 0, 0, 0, 0, 0, 0, 0, 0, 0, 0, 1, 1, 5, 0, 0, 0, 0, 0, 0, 0,
 ];
+
 /// The bytes from one index to another are this one.
 pub(crate) type Patch = (usize, usize, u8);
 
