@@ -4,7 +4,8 @@
     bench/streams.py KIND COUNT > stream
 
 KIND is `unknown` (a service that isn't served), `state` (Read of the server's state), `chunks` (Read of one node's
-state a thousand times over, in 57 chunks), and of a plant with a variable ns=1;s=T, an Int32: `insert` (one value more),
+state a thousand times over, in 57 chunks), `decode` (a HistoryUpdate of a hundred values of a node that isn't there),
+and of a plant with a variable ns=1;s=T, an Int32: `insert` (one value more),
 `insert100` (a hundred values more), `update` (the same value again), `raw` (a page of 1,000 values of the 100,000 that
 are written first), `modified` (the same of modifications).
 """
@@ -34,6 +35,8 @@ for k in range(count):
     elif kind == "chunks":
         items = opcua.array([node(2259) + opcua.u32(13) + opcua.text(None) + opcua.qualified()] * 1000)
         out.write(client.chunks(631, b"\0" * 8 + opcua.u32(2) + items, 320))
+    elif kind == "decode":
+        out.write(hundred(100 * k))
     elif kind == "insert":
         out.write(client.update(tag, 1, [value_at(int32(k), first + k)]))
     elif kind == "insert100":

@@ -1,6 +1,9 @@
-//! What `uahist answer --now 116444736000000000` does with a client that reads the server's state, in plain Rust, unproved: the
-//! measure that the proved program is held against. It cuts and checks chunks, joins messages, reads each field of a request with
-//! its limits, and answers in chunks; one buffer each for input, message, body and output is used again.
+//! What `uahist answer --now 116444736000000000` does with a client that reads the server's state, or updates the history of nodes
+//! that aren't there, in plain Rust, unproved: the measure that the proved program is held against. It cuts and checks chunks,
+//! joins messages, reads each field of a request with its limits, and answers in chunks; one buffer each for input, message, body
+//! and output is used again.
+#![allow(dead_code)] // what is decoded isn't looked at: no node has a history here
+
 use std::io::{Read, Write};
 
 const NOW: i64 = 116_444_736_000_000_000;
@@ -98,6 +101,189 @@ fn put(out: &mut Vec<u8>, parts: &[&[u8]]) {
 
 fn header(out: &mut Vec<u8>, type_id: u16, handle: u32, status: u32) {
     put(out, &[&[1, 0], &type_id.to_le_bytes(), &NOW.to_le_bytes(), &handle.to_le_bytes(), &status.to_le_bytes(), &[0], &(-1i32).to_le_bytes(), &[0, 0, 0]]);
+}
+
+/// One value (Part 6, 5.2.2), or values of one type.
+enum Value {
+    Boolean(bool),
+    SByte(i8),
+    Byte(u8),
+    Int16(i16),
+    UInt16(u16),
+    Int32(i32),
+    UInt32(u32),
+    Int64(i64),
+    UInt64(u64),
+    Float([u8; 4]),
+    Double([u8; 8]),
+    String(Option<String>),
+    DateTime(i64),
+    Guid([u8; 16]),
+    ByteString(Option<Vec<u8>>),
+    NodeId(OwnNode),
+    StatusCode(u32),
+    QualifiedName(u16, Option<String>),
+    LocalizedText(Option<String>, Option<String>),
+}
+
+enum OwnNode {
+    Number(u16, u32),
+    Name(u16, String),
+    Guid(u16, [u8; 16]),
+    Opaque(u16, Vec<u8>),
+}
+
+enum Variant {
+    Null,
+    Scalar(Value),
+    Array(Vec<Value>),
+}
+
+struct DataValue {
+    value: Option<Variant>,
+    status: Option<u32>,
+    source_time: Option<i64>,
+    source_pico: Option<u16>,
+    server_time: Option<i64>,
+    server_pico: Option<u16>,
+}
+
+enum Details<'a> {
+    Update { node: Node<'a>, perform: u32, values: Vec<DataValue> },
+    DeleteRaw { node: Node<'a>, modified: bool, start: i64, end: i64 },
+    DeleteAt { node: Node<'a>, times: Vec<i64> },
+    Other,
+}
+
+impl<'a> Cursor<'a> {
+    fn own_node(&mut self) -> Option<OwnNode> {
+        match self.u8()? {
+            0 => Some(OwnNode::Number(0, u32::from(self.u8()?))),
+            1 => { let ns = self.u8()?; Some(OwnNode::Number(u16::from(ns), u32::from(self.u16()?))) }
+            2 => { let ns = self.u16()?; Some(OwnNode::Number(ns, self.u32()?)) }
+            3 => { let ns = self.u16()?; Some(OwnNode::Name(ns, self.text()?.unwrap_or("").to_owned())) }
+            4 => { let ns = self.u16()?; Some(OwnNode::Guid(ns, self.take(16)?.try_into().ok()?)) }
+            5 => { let ns = self.u16()?; Some(OwnNode::Opaque(ns, self.bytes()?.unwrap_or(&[]).to_owned())) }
+            _ => None,
+        }
+    }
+    fn own_text(&mut self) -> Option<Option<String>> { Some(self.text()?.map(str::to_owned)) }
+    fn scalar(&mut self, number: u8) -> Option<Value> {
+        Some(match number {
+            1 => Value::Boolean(self.u8()? != 0),
+            2 => Value::SByte(self.u8()? as i8),
+            3 => Value::Byte(self.u8()?),
+            4 => Value::Int16(self.u16()? as i16),
+            5 => Value::UInt16(self.u16()?),
+            6 => Value::Int32(self.u32()? as i32),
+            7 => Value::UInt32(self.u32()?),
+            8 => Value::Int64(self.i64()?),
+            9 => Value::UInt64(self.i64()? as u64),
+            10 => Value::Float(self.take(4)?.try_into().ok()?),
+            11 => Value::Double(self.take(8)?.try_into().ok()?),
+            12 => Value::String(self.own_text()?),
+            13 => Value::DateTime(self.i64()?),
+            14 => Value::Guid(self.take(16)?.try_into().ok()?),
+            15 => Value::ByteString(self.bytes()?.map(<[u8]>::to_owned)),
+            17 => Value::NodeId(self.own_node()?),
+            19 => Value::StatusCode(self.u32()?),
+            20 => Value::QualifiedName(self.u16()?, self.own_text()?),
+            21 => {
+                let mask = self.u8()?;
+                if mask > 3 {
+                    return None;
+                }
+                let locale = if mask & 1 != 0 { self.own_text()? } else { None };
+                let text = if mask & 2 != 0 { self.own_text()? } else { None };
+                Value::LocalizedText(locale, text)
+            }
+            _ => return None,
+        })
+    }
+    fn variant(&mut self) -> Option<Variant> {
+        match self.u8()? {
+            0 => Some(Variant::Null),
+            number if number < 128 => Some(Variant::Scalar(self.scalar(number)?)),
+            number => Some(Variant::Array(self.list(|cursor| cursor.scalar(number - 128))?)),
+        }
+    }
+    fn data_value(&mut self) -> Option<DataValue> {
+        let mask = self.u8()?;
+        if mask > 63 {
+            return None;
+        }
+        Some(DataValue {
+            value: if mask & 1 != 0 { Some(self.variant()?) } else { None },
+            status: if mask & 2 != 0 { Some(self.u32()?) } else { None },
+            source_time: if mask & 4 != 0 { Some(self.i64()?) } else { None },
+            source_pico: if mask & 16 != 0 { Some(self.u16()?.min(9999)) } else { None },
+            server_time: if mask & 8 != 0 { Some(self.i64()?) } else { None },
+            server_pico: if mask & 32 != 0 { Some(self.u16()?.min(9999)) } else { None },
+        })
+    }
+    /// A list, of which the first 1,001 are kept.
+    fn list<T>(&mut self, mut item: impl FnMut(&mut Cursor<'a>) -> Option<T>) -> Option<Vec<T>> {
+        let count = self.count()?;
+        if count > self.0.len() {
+            return None;
+        }
+        let mut items = Vec::with_capacity(count.min(1001));
+        for _ in 0..count {
+            let one = item(self)?;
+            if items.len() < 1001 {
+                items.push(one);
+            }
+        }
+        Some(items)
+    }
+    fn details(&mut self) -> Option<Details<'a>> {
+        let type_id = self.node()?;
+        if !matches!(type_id, Node::Number(0, 682 | 688 | 691)) {
+            match self.u8()? {
+                0 => {}
+                1 | 2 => { self.bytes()?; }
+                _ => return None,
+            }
+            return Some(Details::Other);
+        }
+        if self.u8()? != 1 {
+            return None;
+        }
+        let mut body = Cursor(self.bytes()?.unwrap_or(&[]));
+        let node = body.node()?;
+        let details = match type_id {
+            Node::Number(0, 682) => Details::Update { node, perform: body.u32()?, values: body.list(Cursor::data_value)? },
+            Node::Number(0, 688) => Details::DeleteRaw { node, modified: body.u8()? != 0, start: body.i64()?, end: body.i64()? },
+            _ => Details::DeleteAt { node, times: body.list(Cursor::i64)? },
+        };
+        body.0.is_empty().then_some(details)
+    }
+}
+
+/// What is told of updates where no node has a history, or a service's refusal.
+fn update(cursor: &mut Cursor, body: &mut Vec<u8>, handle: u32) -> Result<(), u32> {
+    const BAD: u32 = 0x8007_0000;
+    let details = cursor.list(Cursor::details).ok_or(BAD)?;
+    if !cursor.0.is_empty() {
+        return Err(BAD);
+    }
+    if details.is_empty() {
+        return Err(0x800F_0000);
+    }
+    if details.len() > 100 {
+        return Err(0x8010_0000);
+    }
+    header(body, 703, handle, 0);
+    put(body, &[&(details.len() as u32).to_le_bytes()]);
+    for details in &details {
+        let status = match std::hint::black_box(details) {
+            Details::Other => 0x8071_0000u32,
+            _ => 0x8034_0000,
+        };
+        put(body, &[&status.to_le_bytes(), &0u32.to_le_bytes(), &(-1i32).to_le_bytes()]);
+    }
+    put(body, &[&(-1i32).to_le_bytes()]);
+    Ok(())
 }
 
 /// The values read, or a service's refusal.
@@ -206,7 +392,8 @@ impl Twin {
                 Ok(())
             }
             Node::Number(0, 631) if known && self.user => read(&mut cursor, &mut self.body, handle),
-            Node::Number(0, 631) => Err(0x8025_0000),
+            Node::Number(0, 700) if known && self.user => update(&mut cursor, &mut self.body, handle),
+            Node::Number(0, 631 | 700) => Err(0x8025_0000),
             Node::Number(_, _) | Node::Name(_, _) => Err(0x800B_0000),
             Node::Other(_) => Err(BAD),
         };

@@ -201,11 +201,11 @@ fn two_updates_in_both_orders(rt: HostRuntime) -> Result<(), Fail> {
 }
 
 /// Whether a record is written as these bytes.
-fn is_written(alloc: Global, record: &Record, bytes: &[u8]) -> bool
-    requires { IsRecord record.now }
+fn is_written(alloc: Global, written: &Record, bytes: &[u8]) -> bool
+    requires { IsRecord written.now }
 {
     let mut out = Vec::new(alloc);
-    put_record(&mut out, record).is_ok() && out.as_slice() == bytes
+    put_record(&mut out, written).is_ok() && out.as_slice() == bytes
 }
 
 /// Whether a record is copied.
@@ -215,12 +215,12 @@ fn is_copied(record: &Record) -> Result<bool, AllocError> {
 }
 
 /// Whether a record is written as these bytes, counted, lawful and copied.
-fn is_kept(alloc: Global, record: &Record, bytes: &[u8]) -> Result<bool, AllocError>
-    requires { IsRecord record.now }
+fn is_kept(alloc: Global, written: &Record, bytes: &[u8]) -> Result<bool, AllocError>
+    requires { IsRecord written.now }
 {
-    let copied = is_copied(record)?;
-    let counted = record.encoded_size() == bytes.len();
-    Ok(copied && counted && record.is_lawful() && is_written(alloc, record, bytes))
+    let copied = is_copied(written)?;
+    let counted = written.encoded_size() == bytes.len();
+    Ok(copied && counted && written.is_lawful() && is_written(alloc, written, bytes))
 }
 
 /// Whether the bytes are read as a record that is written as these bytes, and copied.

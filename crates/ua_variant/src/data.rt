@@ -30,6 +30,7 @@ pub struct DataValue {
     pub server_pico: Option<u16>,
 }
 
+#[inline(always)]
 fn read_value(
     alloc: Global,
     cursor: &mut Cursor,
@@ -103,6 +104,7 @@ fn read_stamps(cursor: &mut Cursor, mask: u8) -> Result<Stamps, BinaryFault>
 /// Picoseconds of 10,000 or more read as 9,999; a bit of the mask without a meaning is
 /// `BadEncodingByte`. An error leaves the cursor where it was. What is read may be written.
 #[tactic(auto, unfolding(crate::specs::DataValue::data_value))]
+#[inline(always)]
 pub fn read_data_value(alloc: Global, cursor: &mut Cursor) -> Result<DataValue, VariantFault>
     ensures reads { ReadsUnless VariantFault.OutOfMemory (λ v. v) result cursor.old cursor.new data_value.read }
     ensures short { IfOk result IsShortData }

@@ -16,6 +16,7 @@ use ua_binary::{
 };
 
 #[tactic(auto, unfolding(crate::specs::Scalar::scalar))]
+#[inline(always)]
 fn read_scalar(alloc: Global, cursor: &mut Cursor, number: u8) -> Result<Scalar, BinaryFault>
     ensures { ReadsUnless BinaryFault.OutOfMemory (λ v. v) result cursor.old cursor.new (scalar number).read }
 {
@@ -75,6 +76,7 @@ fn read_values(alloc: Global, cursor: &mut Cursor, number: u8) -> Result<Array, 
 /// `TypeUnsupported` by the first byte alone. An error leaves the cursor where it was. What is read may
 /// be written.
 #[tactic(auto, unfolding(crate::specs::Variant::variant))]
+#[inline(always)]
 pub fn read_variant(alloc: Global, cursor: &mut Cursor) -> Result<Variant, VariantFault>
     ensures reads { ReadsUnless VariantFault.OutOfMemory (λ v. v) result cursor.old cursor.new variant.read }
     ensures short { IfOk result IsShortVariant }
