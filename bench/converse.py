@@ -4,7 +4,8 @@
     bench/converse.py [RECORDS ..]
 
 One of two replicas is filled with so many records, values of five variables, and calls the other (brought), or is called by it
-(fetched). Over stores in files, each tenth record a correction; in memory, where none is; and in memory, where each tenth is.
+(fetched). Over stores in files, and in files in memory, each tenth record a correction; in memory, where none is; and in memory,
+where each tenth is.
 Prints a table: seconds of a processor of the filling, and then, each as the difference to it, of filling the other one too, and of
 the exchange; and the greatest kB of an exchange beside those of two filled archives. The program (bench/converse/main.txt) is made in
 a copy of the crates: the module that `rt try` makes of it, compiled at -O2 without what `rt try` checks. Needs gcc and GNU time.
@@ -14,9 +15,10 @@ import running, unproved
 
 top = os.path.dirname(running.here)
 NAME = "bench_converse"
-BELOW = "exchange sql_archive sql_opening sql_reading sql_tables sql_schema archive records stamp ua_variant ua_binary uuid anyhow sqlite"
+BELOW = "exchange sql_archive sql_opening sql_reading sql_tables sql_schema archive records stamp ua_variant ua_binary uuid anyhow sqlite sqlite_disk"
 # What is filled: the kind of archive, each how many-th record is a correction, its name, and how many records.
-KINDS = [("file", 10, "in files", [10_000, 100_000]), ("sql", 0, "in memory, no corrections", [10_000, 100_000]), ("sql", 10, "in memory", [10_000, 20_000])]
+KINDS = [("file", 10, "in files", [10_000, 100_000]), ("disk", 10, "in files in memory", [10_000, 100_000]),
+         ("sql", 0, "in memory, no corrections", [10_000, 100_000]), ("sql", 10, "in memory", [10_000, 20_000])]
 
 
 def copied(folder):

@@ -243,7 +243,8 @@ fn put_value_at_parts(
     server_time: Option<Ticks>,
 ) -> Result<(), BinaryFault>
     requires { IsShortVariant value.now }
-    ensures { PutsPart BinaryFault.OutOfMemory result out.old.items out.new.items (data_value.canon (record { value = Some value.now; status = None; source_time = source_time; source_pico = None; server_time = server_time; server_pico = None })) }
+    ensures puts { PutsPart BinaryFault.OutOfMemory result out.old.items out.new.items (data_value.canon (record { value = Some value.now; status = None; source_time = source_time; source_pico = None; server_time = server_time; server_pico = None })) }
+    ensures spelled { IfOk result (λ _. IsDataValue (record { value = Some value.now; status = None; source_time = source_time; source_pico = None; server_time = server_time; server_pico = None })) }
 {
     let mask = 1 + bit_where(source_time.is_some(), 4) + bit_where(server_time.is_some(), 8);
     put_u8(out, mask)?;
@@ -254,7 +255,7 @@ fn put_value_at_parts(
 }
 
 /// Writes the data value (Part 6, 5.2.2.17) that has this value and these moments, and neither a status nor picoseconds. Its one
-/// error is `OutOfMemory`, and then the vector is as it was.
+/// error is `OutOfMemory`, and then the vector is as it was. What was written has a spelling, so it is read again.
 pub fn put_value_at(
     out: &mut Vec<u8>,
     value: &Variant,
@@ -262,7 +263,8 @@ pub fn put_value_at(
     server_time: Option<Ticks>,
 ) -> Result<(), BinaryFault>
     requires { IsShortVariant value.now }
-    ensures { Puts BinaryFault.OutOfMemory result out.old.items out.new.items (data_value.canon (record { value = Some value.now; status = None; source_time = source_time; source_pico = None; server_time = server_time; server_pico = None })) }
+    ensures puts { Puts BinaryFault.OutOfMemory result out.old.items out.new.items (data_value.canon (record { value = Some value.now; status = None; source_time = source_time; source_pico = None; server_time = server_time; server_pico = None })) }
+    ensures spelled { IfOk result (λ _. IsDataValue (record { value = Some value.now; status = None; source_time = source_time; source_pico = None; server_time = server_time; server_pico = None })) }
 {
     let len = out.len();
     let put = put_value_at_parts(out, value, source_time, server_time);
