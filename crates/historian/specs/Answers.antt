@@ -54,6 +54,17 @@ body_of (Values values) = read_response.canon values
 body_of (Updated results) = history_update_response.canon (map update_fields results)
 body_of (Histories results) = history_read_response.canon (map history_fields results)
 
+-- that has a spelling, so it is read again
+abbrev pub IsSpelled : Answer → Type 0
+IsSpelled (Endpoints endpoints) = get_endpoints_response.Fits endpoints
+IsSpelled (Created made) = create_session_response.Fits made
+IsSpelled Activated = activate_session_response.Fits tt
+IsSpelled Closed = Unit {0}
+IsSpelled (Browsed results) = browse_response.Fits (map browsed_fields results)
+IsSpelled (Values values) = read_response.Fits values
+IsSpelled (Updated results) = history_update_response.Fits (map update_fields results)
+IsSpelled (Histories results) = history_read_response.Fits (map history_fields results)
+
 -- what each response begins with: a type id, the moment, the request's handle, a status
 abbrev pub head : ℕ → Ticks → ℕ → Status → List ℕ
 head type now handle status = node_id.canon (Numeric 0 type) ++ response_header.canon (now, (handle, status))

@@ -1,5 +1,5 @@
 -- How the services' functions tell what they came to.
-use Rattle.std.specs.Prelude.{◌≡◌, ◌⊎◌, ℕ, List, [], map, Option, Some, None, Result, Ok, Err}
+use Rattle.std.specs.Prelude.{◌≡◌, ◌⊎◌, ℕ, List, [], map, Option, Some, None, Result, Ok, Err, IfOk}
 use Rattle.ua_binary.specs.declared.codes.Status.{Status}
 use Rattle.ua_binary.specs.declared.codes.TheConstants.Status.{BAD_OUT_OF_MEMORY, BAD_DECODING_ERROR, BAD_SERVICE_UNSUPPORTED}
 use Rattle.ua_services.specs.Endpoints.{endpoint_fields, AreShortEndpoints}
@@ -18,7 +18,7 @@ use Rattle.historian.specs.declared.service.Service.{Service}
 use Rattle.historian.specs.declared.service.Request.{Request as Opened}
 use Rattle.historian.specs.declared.answer.Answer.{Answer as Made}
 use Rattle.historian.specs.declared.answer.Answer.TheVariants as made
-use Rattle.historian.specs.Answers.{Answer, Endpoints, Created, Activated, Closed, Browsed, Updated, Histories, Response, response}
+use Rattle.historian.specs.Answers.{Answer, Endpoints, Created, Activated, Closed, Browsed, Updated, Histories, Response, IsSpelled, response}
 use Rattle.historian.specs.Requests.{Call, call_in, Request}
 use Rattle.historian.specs.Reading.{Served}
 use Rattle.historian.specs.Services.{Outcome}
@@ -80,9 +80,9 @@ Performs old new service sessions result = (used : List Mark) × (told : Respons
 abbrev pub PerformsHere : (Content → Marked Outcome) → State → Result Made Status → Type 0
 PerformsHere service sessions result = (used : List Mark) × (told : Response) × (faults_of used ≡ []) × ((R : Content) → Does (service R) used ((told, sessions), R)) × Tells told result
 
--- the response is written; or it is told why there is none, or that memory was wanting
+-- the response is written, and has a spelling; or it is told why there is none, or that memory was wanting
 abbrev pub Written : Ticks → ℕ → Response → Result (Unit {0}) Status → List ℕ → Type 0
-Written now handle told (Ok _) bytes = bytes ≡ response now handle told
+Written now handle told (Ok _) bytes = (bytes ≡ response now handle told) × IfOk told IsSpelled
 Written now handle told (Err status) bytes = (told ≡ Err status) ⊎ (status ≡ BAD_OUT_OF_MEMORY)
 
 -- the same of what a service of an archive comes to over what is held

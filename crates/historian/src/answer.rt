@@ -1,7 +1,7 @@
 //! What the services answer, and the responses that tell it (Part 4, 7.34).
 
-ghost use Rattle.std.specs.Prelude.{◌≡◌, ◌++◌, Ok, OnOk, IfErr};
-ghost use Rattle.historian.specs.Answers.{type_of, body_of, response};
+ghost use Rattle.std.specs.Prelude.{◌≡◌, ◌++◌, Ok, OnOk, IfOk, IfErr};
+ghost use Rattle.historian.specs.Answers.{type_of, body_of, IsSpelled, response};
 ghost use Rattle.historian.specs.Telling.{answer_of, IsShort};
 
 use crate::responses::put_head;
@@ -41,10 +41,12 @@ impl Answer {
         }
     }
 
-    /// Appends what the response has behind its header. The one error is `OutOfMemory`.
+    /// Appends what the response has behind its header, which has a spelling. The one error is `OutOfMemory`.
+    #[tactic(auto, unfolding(ua_services::specs::Endpoints::get_endpoints_response, ua_services::specs::Sessions::create_session_response, ua_services::specs::Sessions::activate_session_response, ua_services::specs::Browsing::browse_response, ua_services::specs::Updates::history_update_response, ua_services::specs::History::history_read_response))]
     fn put_body(&self, out: &mut Vec<u8>) -> Result<(), BinaryFault>
         requires { IsShort self.now }
         ensures ok { OnOk result (out.new.items ≡ out.old.items ++ body_of (answer_of self.now)) }
+        ensures spelled { IfOk result (λ _. IsSpelled (answer_of self.now)) }
         ensures err { IfErr result (λ fault. fault ≡ BinaryFault.OutOfMemory) }
     {
         match self {
@@ -58,11 +60,12 @@ impl Answer {
         }
     }
 
-    /// Appends the response to a request with this handle. The one error is `OutOfMemory`, which may leave
-    /// a part.
+    /// Appends the response to a request with this handle, whose body has a spelling. The one error is `OutOfMemory`, which may
+    /// leave a part.
     pub(crate) fn put(&self, out: &mut Vec<u8>, now: Ticks, handle: u32) -> Result<(), BinaryFault>
         requires { IsShort self.now }
         ensures ok { OnOk result (out.new.items ≡ out.old.items ++ response now handle (Ok (answer_of self.now))) }
+        ensures spelled { IfOk result (λ _. IsSpelled (answer_of self.now)) }
         ensures err { IfErr result (λ fault. fault ≡ BinaryFault.OutOfMemory) }
     {
         put_head(out, self.type_id(), now, handle, Status::GOOD)?;

@@ -4,7 +4,7 @@ ghost use Rattle.std.specs.Prelude.{◌≡◌, [], List, IfOk, OnOk};
 ghost use Rattle.ua_binary.specs.Binary.{node_of};
 ghost use Rattle.archive.specs.Store.{Mark};
 ghost use Rattle.archive.specs.Steps.{Acts};
-ghost use Rattle.historian.specs.Answers.{Response, response, service_fault};
+ghost use Rattle.historian.specs.Answers.{Response, IsSpelled, response, service_fault};
 ghost use Rattle.historian.specs.Requests.{call_in};
 ghost use Rattle.historian.specs.Services.{site_of, answered_call, answered_request};
 ghost use Rattle.historian.specs.Telling.{IsShort, Tells, Written, Responds, asked_of};
@@ -122,7 +122,8 @@ fn refuse(body: &mut Vec<u8>, now: Ticks, handle: u32, status: Status) -> Result
 ///
 /// Where the type id can't be read, the service isn't served, or the header or the body can't be read, where the session
 /// isn't there or wasn't activated, and where the service refuses the request as a whole, the response is a ServiceFault
-/// that says so. The one error is want of memory for the response; what the service did stands then.
+/// that says so. What is written has a spelling, so it is read again. The one error is want of memory for the response; what
+/// the service did stands then.
 pub fn answer_message<A: Archive>(
     alloc: Global,
     settings: &Settings,
@@ -135,7 +136,7 @@ pub fn answer_message<A: Archive>(
     requires { body.old.items ≡ [] }
     ensures { (used : List Mark) × (told : Response)
         × Acts (A.state archive.old) (A.state archive.new) used (answered_request (site_of settings.now (A.state archive.old)) now (asked_of message.entry.request) sessions.old) (told, sessions.new)
-        × OnOk result (body.new.items ≡ response now message.entry.handle told) }
+        × OnOk result ((body.new.items ≡ response now message.entry.handle told) × IfOk told IsSpelled) }
 {
     let handle = message.handle();
     match perform(alloc, settings, archive, sessions, now, message, body) {

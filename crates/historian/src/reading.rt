@@ -1,14 +1,14 @@
 //! Read (Part 4, 5.11.2).
 
 ghost use Rattle.std.specs.Prelude.{◌≡◌, ◌⊎◌, ◌++◌, ◌∷◌, [], List, map, take, length, Result, IfOk, IfErr, OnOk, Ok, Err};
-ghost use Rattle.std.specs.List.{flat_map};
+ghost use Rattle.std.specs.List.{AllByRecursion, flat_map};
 ghost use Rattle.std.specs.Option.{option_copied};
 ghost use Rattle.ua_binary.specs.Binary.{node_of, qualified_of};
 ghost use Rattle.ua_binary.specs.Format.{Puts};
 ghost use Rattle.ua_binary.specs.declared.codes.Status.{Status};
 ghost use Rattle.ua_binary.specs.Rules.{checked};
 ghost use Rattle.ua_variant.specs.Variant.{IsShortVariant};
-ghost use Rattle.ua_variant.specs.DataValue.{IsShortData, data_value};
+ghost use Rattle.ua_variant.specs.DataValue.{IsDataValue, IsShortData, data_value};
 ghost use Rattle.ua_variant.specs.declared.data.DataValue.{DataValue as Data};
 ghost use Rattle.ua_services.specs.Attributes.{read_fields};
 ghost use Rattle.archive.specs.Fault.{status_told};
@@ -198,7 +198,8 @@ fn put_valued(
     out: &mut Vec<u8>,
 ) -> Result<(), BinaryFault>
     requires { IsShortVariant value.now }
-    ensures { Puts BinaryFault.OutOfMemory result out.old.items out.new.items (data_value.canon (item_told stamps now (Ok (valued now attribute value.now)))) }
+    ensures puts { Puts BinaryFault.OutOfMemory result out.old.items out.new.items (data_value.canon (item_told stamps now (Ok (valued now attribute value.now)))) }
+    ensures spelled { IfOk result (λ _. IsDataValue (item_told stamps now (Ok (valued now attribute value.now)))) }
 {
     let source = if attribute == VALUE { Some(now) } else { None };
     match stamps {
@@ -212,7 +213,8 @@ fn put_valued(
 /// Appends what is told of an item that is refused.
 #[inline(never)]
 fn put_refused(status: Status, out: &mut Vec<u8>) -> Result<(), BinaryFault>
-    ensures { (stamps : _) (now : _) → Puts BinaryFault.OutOfMemory result out.old.items out.new.items (data_value.canon (item_told stamps now (Err status))) }
+    ensures puts { (stamps : _) (now : _) → Puts BinaryFault.OutOfMemory result out.old.items out.new.items (data_value.canon (item_told stamps now (Err status))) }
+    ensures spelled { (stamps : _) (now : _) → IfOk result (λ _. IsDataValue (item_told stamps now (Err status))) }
 {
     put_data_value(out, &status_alone(status))
 }
@@ -228,7 +230,8 @@ fn put_archived<A: Archive>(
     out: &mut Vec<u8>,
 ) -> Result<(), BinaryFault>
     ensures { (mark : Mark) × (value : Result Data Status) × Acts (A.state archive.old) (A.state archive.new) (mark ∷ []) (value_step (step status_told) (latest (node_of node.entry))) value
-        × Puts BinaryFault.OutOfMemory result out.old.items out.new.items (data_value.canon (item_told stamps now value)) }
+        × Puts BinaryFault.OutOfMemory result out.old.items out.new.items (data_value.canon (item_told stamps now value))
+        × IfOk result (λ _. IsDataValue (item_told stamps now value)) }
 {
     match archived_value(alloc, archive, node) {
         Ok(value) => put_data_value(out, &shown(stamps, now, value)),
@@ -249,7 +252,8 @@ fn put_item<A: Archive>(
     out: &mut Vec<u8>,
 ) -> Result<(), BinaryFault>
     ensures { (mark : Mark) × (value : Data) × Acts (A.state archive.old) (A.state archive.new) (mark ∷ []) (read_item space.now now stamps (read_fields item.now)) value
-        × Puts BinaryFault.OutOfMemory result out.old.items out.new.items (data_value.canon value) }
+        × Puts BinaryFault.OutOfMemory result out.old.items out.new.items (data_value.canon value)
+        × IfOk result (λ _. IsDataValue value) }
 {
     let answered = space.read_attribute(item.node_id, item.attribute_id);
     match &answered {
@@ -277,7 +281,7 @@ fn put_items<A: Archive>(
     out: &mut Vec<u8>,
 ) -> Result<(), BinaryFault>
     ensures told { (used : List Mark) × (values : List Data) × (length values ≡ length items.now) × Acts (A.state archive.old) (A.state archive.new) used (each (read_item space.now now stamps) (map read_fields items.now)) values
-        × OnOk result (out.new.items ≡ out.old.items ++ flat_map data_value.canon values) }
+        × OnOk result ((out.new.items ≡ out.old.items ++ flat_map data_value.canon values) × AllByRecursion IsDataValue values) }
     ensures err { IfErr result (λ fault. fault ≡ BinaryFault.OutOfMemory) }
 {
     let mut put = Ok(());

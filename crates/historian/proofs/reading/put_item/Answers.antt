@@ -27,7 +27,7 @@ returns-in-Err g c =
     let value = item_told c.args.stamps now (Err status) in
     let told = subst (λ (r : Result Answered Status). IsOrStarved BAD_OUT_OF_MEMORY (attribute_at space item.0 item.1.0) r) c.in-Err.is c.read_attribute-answered.ensures.told in
     let acts = item-refused s now space item status (Err status) told refl in
-    (acts.0, value, item-told s s c.args.stamps now (telling (item_at space item)) (item_value now space item) acts.0 (Err status) value refl acts.1, c.put_refused.ensures c.args.stamps now)
+    (acts.0, value, item-told s s c.args.stamps now (telling (item_at space item)) (item_value now space item) acts.0 (Err status) value refl acts.1, c.put_refused.ensures.puts c.args.stamps now, c.put_refused.ensures.spelled c.args.stamps now)
 
 pub returns-in-Err-judge_value : goal.returns-in-Err-judge_value
 returns-in-Err-judge_value g c =
@@ -39,7 +39,7 @@ returns-in-Err-judge_value g c =
     let value = item_told c.args.stamps now (Err status) in
     let judged : checked (value_rules item.1.1.0 item.1.1.1) ≡ Err status = sym c.judge_value.ensures ∙ c.in-Err-judge_value.is in
     let acts = item-unfit s now space item c.in-Ok.answered status (Err status) (there space item c.in-Ok.answered c.read_attribute-answered.result c.in-Ok.is c.read_attribute-answered.ensures.told) judged refl in
-    (Fine, value, item-told s s c.args.stamps now (telling (item_at space item)) (item_value now space item) Fine (Err status) value refl acts, c.put_refused-in-Err-judge_value.ensures c.args.stamps now)
+    (Fine, value, item-told s s c.args.stamps now (telling (item_at space item)) (item_value now space item) Fine (Err status) value refl acts, c.put_refused-in-Err-judge_value.ensures.puts c.args.stamps now, c.put_refused-in-Err-judge_value.ensures.spelled c.args.stamps now)
 
 pub returns-in-Value : goal.returns-in-Value
 returns-in-Value g c =
@@ -51,7 +51,7 @@ returns-in-Value g c =
     let value = item_told c.args.stamps now given in
     let judged : checked (value_rules item.1.1.0 item.1.1.1) ≡ Ok tt = sym c.judge_value.ensures ∙ c.in-Ok-judge_value.is in
     let acts = item-valued s now space item c.in-Ok.answered given (there space item c.in-Ok.answered c.read_attribute-answered.result c.in-Ok.is c.read_attribute-answered.ensures.told) judged (λ R. sym (ap (value_of now item R) c.in-Value.is)) in
-    (acts.0, value, item-told s s c.args.stamps now (telling (item_at space item)) (item_value now space item) acts.0 given value refl acts.1, c.put_valued.ensures)
+    (acts.0, value, item-told s s c.args.stamps now (telling (item_at space item)) (item_value now space item) acts.0 given value refl acts.1, c.put_valued.ensures.puts, c.put_valued.ensures.spelled)
 
 pub returns : goal.returns
 returns g c =
@@ -60,8 +60,8 @@ returns g c =
     let space = c.args.space.now in
     let now = c.args.now in
     let item = read_fields c.args.item.now in
-    let (mark, given, acts, puts) = c.put_archived.ensures in
+    let (mark, given, acts, puts, spelled) = c.put_archived.ensures in
     let value = item_told c.args.stamps now given in
     let judged : checked (value_rules item.1.1.0 item.1.1.1) ≡ Ok tt = sym c.judge_value.ensures ∙ c.in-Ok-judge_value.is in
     let at = there space item c.in-Ok.answered c.read_attribute-answered.result c.in-Ok.is c.read_attribute-answered.ensures.told ∙ ap Ok c.in-Archived.is in
-    (mark, value, item-told a b c.args.stamps now (telling (item_at space item)) (item_value now space item) mark given value refl (item-archived a b now space item mark given at judged acts), puts)
+    (mark, value, item-told a b c.args.stamps now (telling (item_at space item)) (item_value now space item) mark given value refl (item-archived a b now space item mark given at judged acts), puts, spelled)

@@ -1,7 +1,7 @@
-use Rattle.std.proofs.Common.{◌≡◌, ◌∙◌, ◌++◌, [], ℕ, List, map, length, pos, negsuc, inr, Ok, Err, Some, None, refl, sym, ap, subst, append_assoc}
+use Rattle.std.proofs.Common.{◌≡◌, ◌∙◌, ◌++◌, [], ℕ, List, map, length, pos, negsuc, arith, inr, Ok, Err, Some, None, refl, sym, ap, subst, append_assoc}
 use Rattle.std.specs.Prelude.{Option, Result}
 use Rattle.std.specs.Int.{w32}
-use Rattle.std.specs.List.{flat_map}
+use Rattle.std.specs.List.{AllByRecursion, flat_map}
 use Rattle.std.proofs.lemmas.List.{length-map}
 use Rattle.std.proofs.lemmas.Result.{err_from_is_err_and}
 use Rattle.ua_binary.specs.Binary.{signed, array}
@@ -11,9 +11,9 @@ use Rattle.ua_binary.specs.declared.fault.BinaryFault.TheVariants.{OutOfMemory}
 use Rattle.ua_binary.specs.declared.codes.Status.{Status}
 use Rattle.ua_binary.specs.declared.codes.TheConstants.Status.{GOOD, BAD_OUT_OF_MEMORY, BAD_TIMESTAMPS_TO_RETURN_INVALID}
 use Rattle.ua_binary.specs.declared.values.Ticks.{Ticks}
-use Rattle.ua_variant.specs.DataValue.{data_value}
+use Rattle.ua_variant.specs.DataValue.{data_value, IsDataValue}
 use Rattle.ua_variant.specs.declared.data.DataValue.{DataValue}
-use Rattle.ua_services.specs.Attributes.{ReadFields, ReadAsked, read_fields, read_response}
+use Rattle.ua_services.specs.Attributes.{ReadFields, read_fields, read_response}
 use Rattle.ua_services.specs.declared.attributes.TimestampsToReturn.{TimestampsToReturn}
 use Rattle.ua_space.specs.declared.layout.Layout.{Layout}
 use Rattle.records.specs.Contents.{Content}
@@ -22,7 +22,7 @@ use Rattle.historian.specs.Answers.{Response, Values, head, response}
 use Rattle.hist_update.specs.Codes.{list_refusal}
 use Rattle.historian.specs.Reading.{unless, items, read_item, read_by, read}
 use Rattle.historian.specs.Telling.{Written}
-use Rattle.historian.proofs.Items.{comes-refused, acts-wanting, acts-items}
+use Rattle.historian.proofs.Items.{comes-refused, acts-wanting, acts-items, few_taken}
 use Rattle.historian.proofs.reading.put_read.Goals as goal
 
 -- a Read that isn't refused asks for items
@@ -56,6 +56,11 @@ whole now handle values count first headed counted valued ended empty h n v e sa
     ∙ (ap (λ l. l ++ N) (append_assoc H C F)
     ∙ (append_assoc H (C ++ F) N
     ∙ ap (λ l. H ++ l) (sym (spelled values)))))
+
+-- they are few, so there is a spelling of all
+few_spelled : (nodes : List ReadFields) (values : List DataValue) → list_refusal 1000 (length nodes) ≡ None → length values ≡ length nodes → AllByRecursion IsDataValue values → read_response.Fits values
+unfolding read_response data_value
+few_spelled nodes values taken count spelled = let few = few_taken 1000 (length nodes) taken in (omega (arith, few, count), spelled)
 
 pub returns-in-Some : goal.returns-in-Some
 returns-in-Some g c =
@@ -138,6 +143,9 @@ returns g c =
       acts.0,
       Ok (Values values),
       acts.1,
-      whole c.args.now c.args.handle values (length c.args.nodes.now) c.args.body.now.items c.put_head.new.out.items c.put_count.new.out.items c.put_items.new.out.items c.put_i32.new.out.items
-          c.requires c.in_ok-put_head.ensures.ok c.in_ok-put_count.ensures shown c.in_ok-put_i32.ensures count,
+      (
+        whole c.args.now c.args.handle values (length c.args.nodes.now) c.args.body.now.items c.put_head.new.out.items c.put_count.new.out.items c.put_items.new.out.items c.put_i32.new.out.items
+            c.requires c.in_ok-put_head.ensures.ok c.in_ok-put_count.ensures shown.0 c.in_ok-put_i32.ensures count,
+        few_spelled nodes values taken (count ∙ sym (length-map c.args.nodes.now read_fields)) shown.1,
+      ),
     )

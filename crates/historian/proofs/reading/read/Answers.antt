@@ -1,4 +1,4 @@
-use Rattle.std.proofs.Common.{◌∙◌, List, map, Err, refl, sym, ap, subst}
+use Rattle.std.proofs.Common.{List, map, Err, refl, sym, ap, subst}
 use Rattle.std.proofs.lemmas.Result.{err_from_is_err_and}
 use Rattle.ua_binary.specs.Binary.{node_of}
 use Rattle.ua_services.specs.declared.attributes.ReadRequest.{ReadRequest}

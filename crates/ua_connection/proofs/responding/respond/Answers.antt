@@ -18,7 +18,7 @@ returns-in-Ok-send_fitting-clause-answered g c client =
     let P : Result Request Status → Type 0 = λ r. Acts (state c.args.archive.now) (state c.answer_message.new.archive) done.0 (answered_request site c.args.now r c.args.sessions.now) (done.1, c.answer_message.new.sessions) in
     let handle : c.handle-handle.result ≡ handle_of c.args.message.now = c.handle-handle.ensures ∙ c.read-request.ensures.handle in
     sends-response (state c.args.archive.now) (state c.answer_message.new.archive) site client c.args.sessions.now c.args.channel.now c.send_fitting.new.channel c.args.request_id c.args.message.now c.args.now c.handle-handle.result
-    done.0 done.1 c.answer_message.new.sessions c.args.out.now.items c.send_fitting.new.out.items c.answer_message.new.body.items handle (done.3 ∙ ap (λ (h : ℕ). response c.args.now h done.1) c.read-request.ensures.handle)
+    done.0 done.1 c.answer_message.new.sessions c.args.out.now.items c.send_fitting.new.out.items c.answer_message.new.body.items handle (done.3.0 ∙ ap (λ (h : ℕ). response c.args.now h done.1) c.read-request.ensures.handle)
     (subst P c.read-request.ensures.request done.2) c.in-Ok-send_fitting.ensures.0 c.in-Ok-send_fitting.ensures.1
 
 pub returns-in-Err-send_fitting-clause-answered : goal.returns-in-Err-send_fitting-clause-answered
