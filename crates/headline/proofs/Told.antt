@@ -182,8 +182,8 @@ AllHeld site now token ds sessions R results S =
     × ((i : ℕ) (d : Details) (result : HistoryUpdateResult) → slice_get ds i ≡ Some d → slice_get results i ≡ Some result → (T : Content) × IsWithin R T × IsHeldFor site.own site.settings.space user now T d result S)
 
 session_held : (site : Site) (now : Ticks) (token : NodeId) (ds : List Details) (sessions : State) (R : Content) (marks : List Mark) (results : List HistoryUpdateResult) (user : Result (List ℕ) SessionFault) → user_at sessions token ≡ user
-    → (in_session sessions user (λ user. update_history site.own site.settings.space user now ds R) R marks).0.0.0 ≡ Ok (answer.Updated results)
-    → AllHeld site now token ds sessions R results (in_session sessions user (λ user. update_history site.own site.settings.space user now ds R) R marks).0.1
+    → (in_session token sessions user (λ user. update_history site.own site.settings.space user now ds R) R marks).0.0.0 ≡ Ok (answer.Updated results)
+    → AllHeld site now token ds sessions R results (in_session token sessions user (λ user. update_history site.own site.settings.space user now ds R) R marks).0.1
 session_held site now token ds sessions R marks results (Err fault) e f = absurd (cc)
 session_held site now token ds sessions R marks results (Ok user) e f =
     (user, e, history_held site.own site.settings.space user now ds R (list_refusal 100 (length ds)) marks results f)

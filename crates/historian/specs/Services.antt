@@ -6,6 +6,7 @@ use Rattle.ua_binary.specs.declared.codes.TheConstants.Status.{BAD_OUT_OF_MEMORY
 use Rattle.ua_binary.specs.declared.values.NodeId.{NodeId}
 use Rattle.ua_binary.specs.declared.values.Ticks.{Ticks}
 use Rattle.ua_session.specs.declared.fault.SessionFault.{SessionFault}
+use Rattle.ua_session.specs.declared.fault.SessionFault.TheVariants.{NotActivated}
 use Rattle.ua_session.specs.Fault.{code_of}
 use Rattle.ua_session.specs.Users.{Claim}
 use Rattle.ua_session.specs.Sessions.{State, create_answer, activate_answer, close_answer, user_at, with_new, with_user, without_session}
@@ -61,9 +62,14 @@ close token sessions = called sessions (λ _. (Closed, record sessions { alive =
 
 -- ---- services
 
-abbrev pub in_session : State → Result (List ℕ) SessionFault → (List ℕ → Marked (Response × Content)) → Content → Marked Outcome
-in_session sessions (Err fault) service R = give ((Err (code_of fault), sessions), R)
-in_session sessions (Ok user) service R = and_then (service user) (λ told. give ((told.0, sessions), told.1))
+-- a session that nobody activated is closed where a service is asked for in it (Part 4, 5.7.3)
+abbrev pub left_outside : State → NodeId → SessionFault → State
+left_outside sessions token NotActivated = record sessions { alive = without_session token sessions.alive }
+left_outside sessions token fault = sessions
+
+abbrev pub in_session : NodeId → State → Result (List ℕ) SessionFault → (List ℕ → Marked (Response × Content)) → Content → Marked Outcome
+in_session token sessions (Err fault) service R = give ((Err (code_of fault), left_outside sessions token fault), R)
+in_session token sessions (Ok user) service R = and_then (service user) (λ told. give ((told.0, sessions), told.1))
 
 -- what a service answers, and what it leaves; the last four want a session that was activated
 abbrev pub served : Site → Ticks → NodeId → Call → State → Content → Marked Outcome
@@ -71,10 +77,10 @@ served site now token (GetEndpoints profiles) sessions R = give ((Ok (Endpoints 
 served site now token (CreateSession timeout) sessions R = step (λ mark. (create site.settings timeout sessions mark, R))
 served site now token (ActivateSession claim) sessions R = step (λ mark. (activate site.settings token claim sessions mark, R))
 served site now token CloseSession sessions R = give (close token sessions, R)
-served site now token (Browse nodes) sessions R = in_session sessions (user_at sessions token) (λ user. give (browse site.settings.space nodes, R)) R
-served site now token (Read asked) sessions R = in_session sessions (user_at sessions token) (λ user. read site.settings.space now asked R) R
-served site now token (HistoryRead asked) sessions R = in_session sessions (user_at sessions token) (λ user. read_history site.id site.settings.space asked R) R
-served site now token (HistoryUpdate details) sessions R = in_session sessions (user_at sessions token) (λ user. update_history site.own site.settings.space user now details R) R
+served site now token (Browse nodes) sessions R = in_session token sessions (user_at sessions token) (λ user. give (browse site.settings.space nodes, R)) R
+served site now token (Read asked) sessions R = in_session token sessions (user_at sessions token) (λ user. read site.settings.space now asked R) R
+served site now token (HistoryRead asked) sessions R = in_session token sessions (user_at sessions token) (λ user. read_history site.id site.settings.space asked R) R
+served site now token (HistoryUpdate details) sessions R = in_session token sessions (user_at sessions token) (λ user. update_history site.own site.settings.space user now details R) R
 
 -- ---- messages
 

@@ -13,6 +13,7 @@ ghost use Rattle.historian.specs.Telling.{IsShort, Tells, PerformsHere};
 
 use crate::answer::Answer;
 use crate::requests::browse_request;
+use crate::sessions::enter;
 use std::alloc::Global;
 use ua_binary::{Cursor, Listing, NodeIdRef, Status};
 use ua_services::{BrowseDescription, BrowseResult};
@@ -96,15 +97,15 @@ fn browse_all(
 pub(crate) fn browse(
     alloc: Global,
     settings: &Settings,
-    sessions: &Sessions,
+    sessions: &mut Sessions,
     token: NodeIdRef<'_>,
     request: Cursor<'_>,
 ) -> Result<Answer, Status>
     ensures performs { (site : Site) (now : _) → site.settings ≡ settings.now
-        → PerformsHere (answered_call site now (node_of token.entry) (call_in service.Browse request.entry) sessions.now) sessions.now result }
+        → PerformsHere (answered_call site now (node_of token.entry) (call_in service.Browse request.entry) sessions.old) sessions.new result }
     ensures short { IfOk result IsShort }
 {
     let asked = browse_request(alloc, request)?;
-    sessions.user_of(token)?;
+    enter(sessions, token)?;
     browse_all(alloc, settings.space(), &asked.nodes)
 }

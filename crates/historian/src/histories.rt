@@ -18,6 +18,7 @@ use crate::answer::Answer;
 use crate::browsing::list_refusal;
 use crate::reading::judge_value;
 use crate::requests::history_read_request;
+use crate::sessions::enter;
 use archive::Archive;
 use hist_read::{Query, read_node};
 use std::alloc::Global;
@@ -180,17 +181,17 @@ pub(crate) fn read_history<A: Archive>(
     alloc: Global,
     settings: &Settings,
     archive: &mut A,
-    sessions: &Sessions,
+    sessions: &mut Sessions,
     now: Ticks,
     token: NodeIdRef<'_>,
     request: Cursor<'_>,
 ) -> Result<Answer, Status>
     ensures performs { Performs (A.state archive.old) (A.state archive.new)
-        (answered_call (site_of settings.now (A.state archive.old)) now (node_of token.entry) (call_in service.HistoryRead request.entry) sessions.now) sessions.now result }
+        (answered_call (site_of settings.now (A.state archive.old)) now (node_of token.entry) (call_in service.HistoryRead request.entry) sessions.old) sessions.new result }
     ensures short { IfOk result IsShort }
 {
     let asked = history_read_request(alloc, request)?;
-    sessions.user_of(token)?;
+    enter(sessions, token)?;
     read_all(
         alloc,
         settings,

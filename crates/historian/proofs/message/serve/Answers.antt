@@ -24,7 +24,7 @@ returns g c =
       | in-CreateSession w ↦ rw (w.archive-is, w.sessions-is, w.answer-is, w.in-CreateSession.is) (performs-here a (does service.CreateSession) w.create_session-answer.new.sessions w.create_session-answer.result (w.create_session-answer.ensures.performs site c.args.now token refl))
       | in-ActivateSession w ↦ rw (w.archive-is, w.sessions-is, w.answer-is, w.in-ActivateSession.is) (performs-here a (does service.ActivateSession) w.activate_session-answer.new.sessions w.activate_session-answer.result (w.activate_session-answer.ensures.performs site c.args.now refl))
       | in-CloseSession w ↦ rw (w.archive-is, w.sessions-is, w.answer-is, w.in-CloseSession.is) (performs-here a (does service.CloseSession) w.close_session-answer.new.sessions w.close_session-answer.result (w.close_session-answer.ensures.performs site c.args.now))
-      | in-Browse w ↦ rw (w.archive-is, w.sessions-is, w.answer-is, w.in-Browse.is) (performs-here a (does service.Browse) S w.browse-answer.result (w.browse-answer.ensures.performs site c.args.now refl))
+      | in-Browse w ↦ rw (w.archive-is, w.sessions-is, w.answer-is, w.in-Browse.is) (performs-here a (does service.Browse) w.browse-answer.new.sessions w.browse-answer.result (w.browse-answer.ensures.performs site c.args.now refl))
       | in-HistoryRead w ↦ rw (w.archive-is, w.sessions-is, w.answer-is, w.in-HistoryRead.is) (w.read_history-answer.ensures.performs)
       | in-HistoryUpdate w ↦ rw (w.archive-is, w.sessions-is, w.answer-is, w.in-HistoryUpdate.is) (w.update_history-answer.ensures.performs)
     ] in
