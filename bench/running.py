@@ -1,9 +1,10 @@
 """Runs of the built program for the scripts beside it: each with what it ended by, its time and its greatest memory."""
-import os, re, signal, socket, subprocess, tempfile, threading, time
+import itertools, os, random, re, signal, socket, subprocess, tempfile, threading, time
 from opcua import EPOCH
 
 here = os.path.dirname(os.path.abspath(__file__))
 NOW = EPOCH + 10 ** 12
+PORTS = itertools.cycle(random.sample(range(10_000, 30_000), 20_000))
 
 # The ways in which the program may end (README): the exit status, and what it says on standard error.
 STATED = [
@@ -73,9 +74,16 @@ def ended(process, stdout, stderr, begin, most):
 
 
 def free_port():
-    with socket.socket() as probe:
-        probe.bind(("127.0.0.1", 0))
-        return probe.getsockname()[1]
+    """A port that nobody listens at: below those that callers are given, and none that was given out shortly before, so that a
+    late call of one run meets no server of another."""
+    while True:
+        port = next(PORTS)
+        with socket.socket() as probe:
+            try:
+                probe.bind(("127.0.0.1", port))
+                return port
+            except OSError:
+                continue
 
 
 def listens(port, process=None, most=10):
