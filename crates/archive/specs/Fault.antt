@@ -35,13 +35,10 @@ of_record fault = store.Refused
 
 -- want of memory, the store's too, and other faults of the store (Part 4, 7.39)
 abbrev pub status_of : StoreFault → Status
-status_of store.OutOfMemory = BAD_OUT_OF_MEMORY
-status_of fault = BAD_RESOURCE_UNAVAILABLE
+status_of fault = elim fault [ store.OutOfMemory ↦ BAD_OUT_OF_MEMORY | _ ↦ BAD_RESOURCE_UNAVAILABLE ]
 
 abbrev pub status_told : Mark → Option Status
-status_told Fine = None
-status_told Starved = Some BAD_OUT_OF_MEMORY
-status_told (Met fault) = Some (status_of fault)
+status_told mark = elim mark [ Fine ↦ None | Starved ↦ Some BAD_OUT_OF_MEMORY | Met fault ↦ Some (status_of fault) ]
 
 abbrev pub mark_of : Setback → Mark
 mark_of setback.Starved = Starved

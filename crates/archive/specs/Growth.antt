@@ -11,15 +11,11 @@ use Rattle.records.specs.declared.record.Record.{Record}
 
 -- how many bytes a node's id has, where it is a text or a byte string
 abbrev pub id_length : NodeId → ℕ
-id_length (Named ns name) = length name
-id_length (Opaque ns id) = length id
-id_length node = 0
+id_length node = elim node [ Named ns name ↦ length name | Opaque ns id ↦ length id | _ ↦ 0 ]
 
 -- an insert needs that no value is live, a replacement and a delete that one is (Part 11, PerformUpdateType)
 abbrev pub is_possible : HistoryUpdateType → (live : Bool) → Bool
-is_possible Insert live = not live
-is_possible Update live = true
-is_possible asked live = live
+is_possible asked live = elim asked [ Insert ↦ not live | Update ↦ true | _ ↦ live ]
 
 -- the record of an update that the replica of this number makes where R is held: the next of its records, with a tick above all that are held, of what is possible there
 pub record IsUpdateOf (own : ℕ) (R : Content) (r : Record) : Type 0 where

@@ -37,17 +37,14 @@ log R node = flat_map (λ t. reverse (entries R node t)) (times R node)
 
 -- backward is the other way round: times descend, and within a time the oldest stands first
 abbrev pub in_direction : {X : Type 0} → Direction → List X → List X
-in_direction Forward xs = xs
-in_direction Backward xs = reverse xs
+in_direction d xs = elim d [ Forward ↦ xs | Backward ↦ reverse xs ]
 
 abbrev pub opposite : Direction → Direction
-opposite Forward = Backward
-opposite Backward = Forward
+opposite d = elim d [ Forward ↦ Backward | Backward ↦ Forward ]
 
 -- in the direction, the time is strictly beyond the limit
 abbrev pub is_past : Direction → ℤ → ℤ → Bool
-is_past Forward limit time = int_lt limit time
-is_past Backward limit time = int_lt time limit
+is_past d limit time = elim d [ Forward ↦ int_lt limit time | Backward ↦ int_lt time limit ]
 
 -- both ends are in it
 abbrev pub is_between : ℤ → ℤ → ℤ → Bool

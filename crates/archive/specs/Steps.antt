@@ -15,8 +15,7 @@ give a marks = (a, marks)
 
 -- one step, by its mark; where none is left, nothing came in its way
 abbrev pub step : {A : Type 0} → (Mark → A) → Marked A
-step f [] = (f Fine, [])
-step f (mark ∷ marks) = (f mark, marks)
+step f v = elim v [ [] ↦ (f Fine, []) | mark ∷ marks ↦ (f mark, marks) ]
 
 -- a step that takes memory alone, and why there is none; a fault of the store doesn't come in its way, and is left for later steps
 abbrev pub memory : Marked (Option Status)

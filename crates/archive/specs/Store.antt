@@ -52,8 +52,7 @@ pub data Mark : Type 0 where
   Met : StoreFault → Mark
 
 abbrev pub faults_in : Mark → List StoreFault
-faults_in (Met fault) = fault ∷ []
-faults_in mark = []
+faults_in mark = elim mark [ Met fault ↦ fault ∷ [] | _ ↦ [] ]
 
 -- the faults of the store among what came in the way of some steps, in order
 abbrev pub faults_of : List Mark → List StoreFault
@@ -71,8 +70,7 @@ failed_by [] failed = failed
 failed_by (fault ∷ faults) failed = failed_by faults (raised 1 failed)
 
 abbrev pub is_break : StoreFault → Bool
-is_break Broken = true
-is_break fault = false
+is_break fault = elim fault [ Broken ↦ true | _ ↦ false ]
 
 -- faults of opening alone
 abbrev pub IsOfOpening : StoreFault → Type 0

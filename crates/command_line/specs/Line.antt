@@ -1,5 +1,5 @@
 -- The command line.
-use Rattle.std.specs.Prelude.{◌≡◌, ◌≢◌, ◌<◌, ◌^◌, ◌⊎◌, ℕ, ℤ, List, Bool, true, false, Option, None, Some, option_copied, codes}
+use Rattle.std.specs.Prelude.{◌≡◌, ◌<◌, ◌^◌, ◌⊎◌, ℕ, ℤ, List, Bool, true, false, Option, None, Some, option_copied, codes}
 use Rattle.std.specs.Int.{w64}
 use Rattle.std.specs.Int.RustNames.{FitsSigned}
 use Rattle.std.specs.Str.Parse.{IsNumeral, digits_value, signed_digits_value, without_leading_plus, without_leading_sign}
@@ -56,62 +56,44 @@ pub record IsFlag (id : Text) (rows : List Row) (flag : Bool) : Type 0 where
   pub unset : one_of id rows ≡ Some (codes "false") → flag ≡ false
   pub absent : one_of id rows ≡ None → flag ≡ false
 
--- a number is the one that its text spells in decimal digits, and none where it is absent
+-- no line is so
+abbrev pub NoLine : (Line → Type 0) → Type 0
+NoLine P = (line : Line) → P line → ⊥
+
+-- a number is the one of 64 bits that its text spells in decimal digits, and none where it is absent
 pub record IsNumber (id : Text) (rows : List Row) (number : Option ℤ) : Type 0 where
-  pub given : (text : Text) → one_of id rows ≡ Some text → number ≡ Some (signed_digits_value 10 text)
+  pub given : (text : Text) → one_of id rows ≡ Some text → (number ≡ Some (signed_digits_value 10 text)) × IsNumeral 10 (without_leading_sign text) × FitsSigned w64 (signed_digits_value 10 text)
   pub absent : one_of id rows ≡ None → number ≡ None
 
 -- what the rows of `answer` give
 abbrev pub IsAnswer : List Row → Line → Type 0
-IsAnswer rows (Answer path flag reading) = (option_copied path ≡ first_of (codes "settings") rows) × IsFlag (codes "hex") rows flag × IsNumber (codes "now") rows reading
-IsAnswer rows line = ⊥
+IsAnswer rows line = elim line [ Answer path flag reading ↦ (option_copied path ≡ first_of (codes "settings") rows) × IsFlag (codes "hex") rows flag × IsNumber (codes "now") rows reading | _ ↦ ⊥ ]
 
--- a count is the one that its text spells in decimal digits, and the greatest where it is absent
+-- a count is the one of 32 bits that its text spells in decimal digits, and the greatest where it is absent
 pub record IsCount (id : Text) (rows : List Row) (count : ℕ) : Type 0 where
-  pub given : (text : Text) → one_of id rows ≡ Some text → count ≡ digits_value 10 (without_leading_plus text)
+  pub given : (text : Text) → one_of id rows ≡ Some text → (count ≡ digits_value 10 (without_leading_plus text)) × IsNumeral 10 (without_leading_plus text) × (digits_value 10 (without_leading_plus text) < 2 ^ 32)
   pub absent : one_of id rows ≡ None → count ≡ 4294967295
 
 -- what the rows of `serve` give
 abbrev pub IsServe : List Row → Line → Type 0
-IsServe rows (Serve path count) = (first_of (codes "settings") rows ≡ Some path.now) × IsCount (codes "connections") rows count
-IsServe rows line = ⊥
+IsServe rows line = elim line [ Serve path count ↦ (first_of (codes "settings") rows ≡ Some path.now) × IsCount (codes "connections") rows count | _ ↦ ⊥ ]
 
 -- what the rows of `dump` give
 abbrev pub IsDump : List Row → Line → Type 0
-IsDump rows (Dump path) = first_of (codes "settings") rows ≡ Some path.now
-IsDump rows line = ⊥
+IsDump rows line = elim line [ Dump path ↦ first_of (codes "settings") rows ≡ Some path.now | _ ↦ ⊥ ]
 
 -- what the rows of `sync` give
 abbrev pub IsSync : List Row → Line → Type 0
-IsSync rows (Sync path address) = (first_of (codes "settings") rows ≡ Some path.now) × (first_of (codes "peer") rows ≡ Some address.now)
-IsSync rows line = ⊥
+IsSync rows line = elim line [ Sync path address ↦ (first_of (codes "settings") rows ≡ Some path.now) × (first_of (codes "peer") rows ≡ Some address.now) | _ ↦ ⊥ ]
 
 -- the command that the matches name, with the values that they give
 abbrev pub IsLine : Option (Text × List Row) → Line → Type 0
 IsLine None line = ⊥
 IsLine (Some (name, rows)) line = ((name ≡ codes "answer") × IsAnswer rows line) ⊎ (((name ≡ codes "serve") × IsServe rows line) ⊎ (((name ≡ codes "dump") × IsDump rows line) ⊎ ((name ≡ codes "sync") × IsSync rows line)))
 
--- a text is given that spells no number of 64 bits
-abbrev pub GivesNoNumber : Text → List Row → Type 0
-GivesNoNumber id rows = (text : Text) × (one_of id rows ≡ Some text) × (IsNumeral 10 (without_leading_sign text) × FitsSigned w64 (signed_digits_value 10 text) → ⊥)
-
--- a text is given that spells no number of 32 bits
-abbrev pub GivesNoCount : Text → List Row → Type 0
-GivesNoCount id rows = (text : Text) × (one_of id rows ≡ Some text) × (IsNumeral 10 (without_leading_plus text) × (digits_value 10 (without_leading_plus text) < 2 ^ 32) → ⊥)
-
--- the rows of `serve` give no settings, or a value that is no number
-abbrev pub IsNoServe : List Row → Type 0
-IsNoServe rows = (first_of (codes "settings") rows ≡ None) ⊎ GivesNoCount (codes "connections") rows
-
--- the rows of `sync` give no settings, or no address
-abbrev pub IsNoSync : List Row → Type 0
-IsNoSync rows = (first_of (codes "settings") rows ≡ None) ⊎ (first_of (codes "peer") rows ≡ None)
-
--- the matches name no command, or don't give what the command needs
+-- no command has these matches: they name none, or don't give what it needs, or give a text that spells no number of its width
 abbrev pub IsNoCommand : Option (Text × List Row) → Type 0
-IsNoCommand None = Unit {0}
-IsNoCommand (Some (name, rows)) = ((name ≢ codes "answer") × (name ≢ codes "serve") × (name ≢ codes "dump") × (name ≢ codes "sync"))
-    ⊎ (((name ≡ codes "answer") × GivesNoNumber (codes "now") rows) ⊎ (((name ≡ codes "serve") × IsNoServe rows) ⊎ (((name ≡ codes "dump") × (first_of (codes "settings") rows ≡ None)) ⊎ ((name ≡ codes "sync") × IsNoSync rows))))
+IsNoCommand matches = NoLine (IsLine matches)
 
 -- the text that tells a refused command line
 abbrev pub line_text_of : LineFault → List ℕ

@@ -1,11 +1,11 @@
 //! The command line.
 
-ghost use Rattle.std.specs.Prelude.{◌≡◌, [], map, codes, IfOk, OnErr, IsErrOf, None, true, false};
-ghost use Rattle.clap.specs.Words.{app_of, rule_of, rows_of, found_of, first_of, subcommand_of, subcommand_rows_of};
+ghost use Rattle.std.specs.Prelude.{◌≡◌, [], map, IfOk, OnErr, IsErrOf, None, true, false};
+ghost use Rattle.clap.specs.Words.{app_of, rule_of, rows_of, found_of, subcommand_of, subcommand_rows_of};
 ghost use Rattle.clap.specs.declared.builder.command.Command.TheViews.{out-Command};
 ghost use Rattle.clap.specs.Takes.{takes};
 ghost use Rattle.clap.specs.Faults.{fault_of as fault_kinds};
-ghost use Rattle.command_line.specs.Line.{IsAnswer, IsServe, IsDump, IsSync, IsLine, GivesNoNumber, IsNoServe, IsNoSync, IsNoCommand, answer, connections, dump, now, peer, serve, servers, settings, sync, uahist};
+ghost use Rattle.command_line.specs.Line.{IsAnswer, IsServe, IsDump, IsSync, IsLine, NoLine, IsNoCommand, answer, connections, dump, now, peer, serve, servers, settings, sync, uahist};
 
 use clap::builder::ValueParser;
 use clap::error::ErrorKind;
@@ -209,7 +209,7 @@ fn fault_of(kind: ErrorKind) -> LineFault
 /// Reads the options of `answer`.
 fn read_answer<'a>(answer: &ArgMatches<'a>) -> Result<Line<'a>, LineFault>
     ensures ok { IfOk result (IsAnswer (rows_of (found_of answer.now))) }
-    ensures words { OnErr result (GivesNoNumber (codes "now") (rows_of (found_of answer.now))) }
+    ensures words { OnErr result (NoLine (IsAnswer (rows_of (found_of answer.now)))) }
 {
     let settings = answer.get_str("settings");
     let hex = answer.get_flag("hex");
@@ -222,7 +222,7 @@ fn read_answer<'a>(answer: &ArgMatches<'a>) -> Result<Line<'a>, LineFault>
 /// Reads the options of `serve`.
 fn read_serve<'a>(serve: &ArgMatches<'a>) -> Result<Line<'a>, LineFault>
     ensures ok { IfOk result (IsServe (rows_of (found_of serve.now))) }
-    ensures words { OnErr result (IsNoServe (rows_of (found_of serve.now))) }
+    ensures words { OnErr result (NoLine (IsServe (rows_of (found_of serve.now)))) }
 {
     let Some(settings) = serve.get_str("settings") else {
         return Err(LineFault::Words);
@@ -239,7 +239,7 @@ fn read_serve<'a>(serve: &ArgMatches<'a>) -> Result<Line<'a>, LineFault>
 /// Reads the option of `dump`.
 fn read_dump<'a>(dump: &ArgMatches<'a>) -> Result<Line<'a>, LineFault>
     ensures ok { IfOk result (IsDump (rows_of (found_of dump.now))) }
-    ensures words { OnErr result (first_of (codes "settings") (rows_of (found_of dump.now)) ≡ None) }
+    ensures words { OnErr result (NoLine (IsDump (rows_of (found_of dump.now)))) }
 {
     match dump.get_str("settings") {
         Some(settings) => Ok(Line::Dump { settings }),
@@ -250,7 +250,7 @@ fn read_dump<'a>(dump: &ArgMatches<'a>) -> Result<Line<'a>, LineFault>
 /// Reads the options of `sync`.
 fn read_sync<'a>(sync: &ArgMatches<'a>) -> Result<Line<'a>, LineFault>
     ensures ok { IfOk result (IsSync (rows_of (found_of sync.now))) }
-    ensures words { OnErr result (IsNoSync (rows_of (found_of sync.now))) }
+    ensures words { OnErr result (NoLine (IsSync (rows_of (found_of sync.now)))) }
 {
     let Some(settings) = sync.get_str("settings") else {
         return Err(LineFault::Words);

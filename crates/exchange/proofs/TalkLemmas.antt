@@ -19,7 +19,7 @@ use Rattle.exchange.specs.declared.message.Message.TheVariants as message
 use Rattle.exchange.specs.declared.message.State.{State}
 use Rattle.exchange.specs.declared.message.State.TheVariants as state
 use Rattle.exchange.specs.declared.message.Party.{Party}
-use Rattle.exchange.specs.Fault.{store_fault_of, store_fault_told}
+use Rattle.exchange.specs.Fault.{store_fault_of}
 use Rattle.exchange.specs.Batches.{IsOfAnswer}
 use Rattle.exchange.specs.declared.message.Message.{Message}
 use Rattle.exchange.specs.declared.message.Title.{Title}
@@ -140,7 +140,7 @@ module _ (a0 b0 a : Store) (there : List ℕ) where
     refused = λ h k none. (refl, greets.stays, stays_none b0);
     long = λ h k meet e. absurd (not_long fault (of_answer fault greets.kept.0) (err_is fault exchange.TooLong e));
     told = λ h k meet. all_told (store_fault_of fault);
-    faults = option_to_list (store_fault_told {A = Unit {0}} (Err fault));
+    faults = option_to_list (store_fault_of fault);
     passes = greets.passes;
     others = [];
     passes_other = passes-none b0;

@@ -1,8 +1,8 @@
 -- A dialog between two replicas: what an end makes of each frame that it takes, and what it answers. Both ends of a dialog, over memory or over
 -- a connection, are these.
 use Rattle.std.specs.Prelude.{◌≡◌, ◌⊎◌, ⊤, ℕ, zero, suc, ◌+◌, ◌-◌, ◌^◌, ◌<◌, min, nat_le, Bool, true, false, List, [], ◌∷◌, ◌++◌, take, length, Option, None, Some, unwrap_or, Result, Ok, Err, IfOk, IfErr, IfSome, if◌then◌else◌, option_to_list}
-use Rattle.std.specs.Option.{option_map_or, option_or}
-use Rattle.std.specs.Result.{result_unwrap_or}
+use Rattle.std.specs.Option.{option_map_or, option_or, option_and_then}
+use Rattle.std.specs.Result.{result_unwrap_or, result_err}
 use Rattle.stamp.specs.Numbers.{number_of}
 use Rattle.records.specs.Contents.{Content, numbers_of, finding, learned, merged}
 use Rattle.records.specs.declared.record.Record.{Record}
@@ -21,7 +21,7 @@ use Rattle.exchange.specs.declared.message.Message.{Message}
 use Rattle.exchange.specs.declared.message.Message.TheVariants.{Asks, Carries, Ends}
 use Rattle.exchange.specs.declared.message.State.{State}
 use Rattle.exchange.specs.declared.message.State.TheVariants.{Pulling, Pushing, Serving, Done, Failed}
-use Rattle.exchange.specs.Fault.{exchange_number, store_fault_told}
+use Rattle.exchange.specs.Fault.{exchange_number, store_fault_of}
 use Rattle.exchange.specs.Batches.{batch_of, IsOfAnswer}
 use Rattle.exchange.specs.Merging.{learned_of, MayBeLeft}
 use Rattle.exchange.specs.declared.message.Party.{Party}
@@ -61,26 +61,22 @@ carrying p state R batch = record { result = Ok state; reply = Some (Carries (ti
 
 -- what the peer lacks goes out, or the end, where it lacks nothing
 abbrev pub pushing : Party → Content → List Record → Turn
-pushing p R [] = record { result = Ok Done; reply = Some (Ends 0); content = R; code = None }
-pushing p R (r ∷ rs) = carrying p Pushing R (r ∷ rs)
+pushing p R list = elim list [ [] ↦ record { result = Ok Done; reply = Some (Ends 0); content = R; code = None } | r ∷ rs ↦ carrying p Pushing R (r ∷ rs) ]
 
 -- the peer ended the dialog
 abbrev pub ended_by : Content → ℕ → Turn
-ended_by R zero = record { result = Ok Done; reply = None; content = R; code = None }
-ended_by R (suc n) = record { result = Ok Failed; reply = None; content = R; code = Some (suc n) }
+ended_by R v = elim v [ zero ↦ record { result = Ok Done; reply = None; content = R; code = None } | suc n ↦ record { result = Ok Failed; reply = None; content = R; code = Some (suc n) } ]
 
 -- why the records of a batch aren't all learned, if they aren't; so many were before
 abbrev pub refusal_by : Option ExchangeFault → ℕ → Result Bool LearnFault → Option ExchangeFault
-refusal_by later k (Ok added) = later
-refusal_by later k (Err cause) = Some (Learn k cause)
+refusal_by later k result = elim result [ Ok added ↦ later | Err cause ↦ Some (Learn k cause) ]
 
 abbrev pub refusal : ℕ → Content → List Record → Option ExchangeFault
 refusal k R [] = None
 refusal k R (r ∷ rs) = refusal_by (refusal (suc k) (unwrap_or (learned R r) R) rs) k (answer_to (finding R r))
 
 abbrev pub learnt : Party → State → Content → Option ExchangeFault → Turn
-learnt p state R None = asking p state R
-learnt p state R (Some fault) = failing R fault
+learnt p state R given = elim given [ None ↦ asking p state R | Some fault ↦ failing R fault ]
 
 -- a batch is learned, and the own vector answers it
 abbrev pub learning : Party → State → Content → List Record → Turn
@@ -88,13 +84,11 @@ learning p state R rs = learnt p state (merged rs R) (refusal 0 R rs)
 
 -- the initiator pulls until nothing comes, and then pushes
 abbrev pub pulled : Party → Content → Title → List Record → Turn
-pulled p R t [] = pushing p R (batch_of R (number_of t.vector))
-pulled p R t (r ∷ rs) = learning p Pulling R (r ∷ rs)
+pulled p R t list = elim list [ [] ↦ pushing p R (batch_of R (number_of t.vector)) | r ∷ rs ↦ learning p Pulling R (r ∷ rs) ]
 
 -- the initiator isn't told that all is well
 abbrev pub broken_off : Content → ℕ → Turn
-broken_off R zero = failing R Frame
-broken_off R (suc n) = ended_by R (suc n)
+broken_off R v = elim v [ zero ↦ failing R Frame | suc n ↦ ended_by R (suc n) ]
 
 -- what an end in this state makes of what the peer says, where nothing comes in the way
 abbrev pub turned : Party → State → Content → Message → Turn
@@ -125,23 +119,18 @@ pub data Way : Type 0 where
 
 -- a batch is stopped at one of its records
 abbrev pub IsWay : List Record → Way → Type 0
-IsWay rs (Stopped learned fault) = learned < length rs
-IsWay rs way = ⊤
+IsWay rs way = elim way [ Stopped learned fault ↦ learned < length rs | _ ↦ ⊤ ]
 
 -- the fault of the store in it
 abbrev pub fault_on : Way → Option StoreFault
-fault_on (Stopped learned fault) = Some fault
-fault_on (Met fault) = Some fault
-fault_on way = None
+fault_on way = elim way [ Stopped learned fault ↦ Some fault | Met fault ↦ Some fault | _ ↦ None ]
 
 abbrev pub is_bare : Message → Bool
 is_bare (Carries t []) = true
 is_bare m = false
 
 abbrev pub records_in : Message → List Record
-records_in (Asks t) = []
-records_in (Carries t rs) = rs
-records_in (Ends n) = []
+records_in v = elim v [ Asks t ↦ [] | Carries t rs ↦ rs | Ends n ↦ [] ]
 
 abbrev pub gone : Way → Content → List Record → Turn → Turn
 gone Clear R rs turn = turn
@@ -168,8 +157,7 @@ capped n = min n (2 ^ 32 - 1)
 
 -- a count behind a turn: one that met a fault doesn't count
 abbrev pub counted_by : Result State ExchangeFault → ℕ → ℕ → ℕ
-counted_by (Ok state) count more = capped (count + more)
-counted_by (Err fault) count more = count
+counted_by result count more = elim result [ Ok state ↦ capped (count + more) | Err fault ↦ count ]
 
 -- how an end stands between two frames
 pub record Standing : Type 0 where
@@ -186,9 +174,7 @@ pub record Standing : Type 0 where
   pub sent : ℕ
 
 abbrev pub is_over : State → Bool
-is_over Done = true
-is_over Failed = true
-is_over state = false
+is_over state = elim state [ Done ↦ true | Failed ↦ true | _ ↦ false ]
 
 -- the end of the dialog may come at any time; else each state waits for its own
 abbrev pub is_due : State → FrameKind → Bool
@@ -208,8 +194,7 @@ abbrev pub received : Party → Standing → FrameKind → List ℕ → Result M
 received p s kind body = option_map_or (λ fault. Err fault) (unfit s kind) (message_at p kind body)
 
 abbrev pub answered_to : Party → State → Content → Way → Result Message ExchangeFault → Turn
-answered_to p state R way (Ok m) = gone way R (records_in m) (turned p state R m)
-answered_to p state R way (Err fault) = gone way R [] (failing R fault)
+answered_to p state R way result = elim result [ Ok m ↦ gone way R (records_in m) (turned p state R m) | Err fault ↦ gone way R [] (failing R fault) ]
 
 -- how many of its records are learned
 abbrev pub learned_at : Party → State → Content → Way → Result Message ExchangeFault → ℕ
@@ -221,8 +206,7 @@ abbrev pub answered : Party → Standing → Content → Way → FrameKind → L
 answered p s R way kind body = answered_to p s.state R way (received p s kind body)
 
 abbrev pub taken_after : Option ExchangeFault → ℕ → ℕ
-taken_after None n = n + 1
-taken_after (Some fault) n = n
+taken_after given n = elim given [ None ↦ n + 1 | Some fault ↦ n ]
 
 -- how an end that held this stands behind the turn that a frame of this kind came to
 abbrev pub standing_after : Standing → Content → FrameKind → Turn → Standing
@@ -278,8 +262,7 @@ Writes turn result old new =
     ⊎ ((fault : ExchangeFault) × (turn.result ≡ Err fault) × (result ≡ Err OutOfMemory) × (new ≡ old))
 
 abbrev pub records_read : Result Message ExchangeFault → List Record
-records_read (Ok m) = records_in m
-records_read (Err fault) = []
+records_read result = elim result [ Ok m ↦ records_in m | Err fault ↦ [] ]
 
 -- by what came in its way, an end made this of a frame
 pub record Takes (old new : Store) (before after : Standing) (kind : FrameKind) (body out written : List ℕ) (result : Result State ExchangeFault) : Type 0 where
@@ -307,7 +290,7 @@ pub record Greets (old new : Store) (out written : List ℕ) (result : Result (U
   pub kept : IfErr result (λ fault. IsOfAnswer fault × (written ≡ out))
   pub ended : old.broken ≡ true → result ≡ Err (exchange.Store Broken)
   pub stays : Stays old new
-  pub passes : Passes old new (option_to_list (store_fault_told result))
+  pub passes : Passes old new (option_to_list (option_and_then store_fault_of (result_err result)))
 
 -- a fault is told to the peer, or memory for that is wanting
 abbrev pub TellsFault : ExchangeFault → Result State ExchangeFault → List ℕ → List ℕ → Type 0

@@ -93,19 +93,13 @@ message_at p End body = whole Frame code body >>= λ n. Ok (Ends n)
 -- ---- frames
 
 abbrev pub letters : FrameKind → List ℕ
-letters Vector = codes "RXVF"
-letters Records = codes "RXDF"
-letters End = codes "RXEF"
+letters v = elim v [ Vector ↦ codes "RXVF" | Records ↦ codes "RXDF" | End ↦ codes "RXEF" ]
 
 abbrev pub kind_of : Message → FrameKind
-kind_of (Asks t) = Vector
-kind_of (Carries t rs) = Records
-kind_of (Ends n) = End
+kind_of v = elim v [ Asks t ↦ Vector | Carries t rs ↦ Records | Ends n ↦ End ]
 
 abbrev pub body_of : Message → List ℕ
-body_of (Asks t) = title.canon t
-body_of (Carries t rs) = (title ▸ count).canon (t, length rs) ++ flat_map framed.canon rs
-body_of (Ends n) = code.canon n
+body_of v = elim v [ Asks t ↦ title.canon t | Carries t rs ↦ (title ▸ count).canon (t, length rs) ++ flat_map framed.canon rs | Ends n ↦ code.canon n ]
 
 -- the frame that says it
 abbrev pub frame_of : Message → List ℕ

@@ -32,8 +32,8 @@ use Rattle.headline.specs.Told.{operations_of, IsHeldFor}
 within_on : (R S T : Content) → IsWithin R S → IsWithin S T → IsWithin R T
 within_on R S T a b r h = b r (a r h)
 
-record_within : (S T : Content) (q : Request) (own : ℕ) (op : Operation) → IsWithin S T → HasRecordOf S q own op → HasRecordOf T q own op
-record_within S T q own op within has = (has.0, within has.0 has.1, has.2)
+record_within : (R S T : Content) (q : Request) (own : ℕ) (op : Operation) → IsWithin S T → HasRecordOf R S q own op → HasRecordOf R T q own op
+record_within R S T q own op within has = (has.0, within has.0 has.1, has.2, has.3)
 
 -- ---- operations
 
@@ -45,15 +45,15 @@ told_asked own q (op ∷ ops) R [] (suc k) code e = told_asked own q ops (left_b
 told_asked own q (op ∷ ops) R (m ∷ marks) (suc k) code e = told_asked own q ops (left_by R (outcome R own q op) m) marks k code e
 
 -- each operation of a Good code has its record
-abbrev Stand : ℕ → Request → List Operation → Updated → Type 0
-Stand own q ops u = (k : ℕ) (code : Status) → slice_get u.0.operation_results k ≡ Some code → IsGood code → (op : Operation) × (slice_get ops k ≡ Some op) × HasRecordOf u.1 q own op
+abbrev Stand : Content → ℕ → Request → List Operation → Updated → Type 0
+Stand R own q ops u = (k : ℕ) (code : Status) → slice_get u.0.operation_results k ≡ Some code → IsGood code → (op : Operation) × (slice_get ops k ≡ Some op) × HasRecordOf R u.1 q own op
 
 -- whatever marks are given, it is so, and nothing is lost
 record Does (own : ℕ) (q : Request) (ops : List Operation) (R : Content) (more : Marked Updated) : Type 0 where
-  stand : (marks : List Mark) → Stand own q ops (more marks).0
+  stand : (marks : List Mark) → Stand R own q ops (more marks).0
   within : (marks : List Mark) → IsWithin R (more marks).0.1
 
-refuses : (own : ℕ) (q : Request) (ops : List Operation) (R : Content) (code : Status) → Stand own q ops (refused code, R)
+refuses : (own : ℕ) (q : Request) (ops : List Operation) (R : Content) (code : Status) → Stand R own q ops (refused code, R)
 refuses own q ops R code k told e good = absurd (none-some told e)
 
 does_unless : (own : ℕ) (q : Request) (ops : List Operation) (R : Content) (reason : Option Status) (more : Marked Updated) → Does own q ops R more → Does own q ops R (unless reason R more)
@@ -140,7 +140,7 @@ module _ (own : ℕ) (space : Layout) (user : List ℕ) (now : Ticks) where
 
   held_later : (S T U : Content) (d : Details) (result : HistoryUpdateResult) → IsWithin T U → IsHeldFor own space user now S d result T → IsHeldFor own space user now S d result U
   held_later S T U d result within is = record {
-    held = λ k code e good. let x = is.held k code e good in (x.0, x.1, x.2, x.3, x.4, x.5, record_within T U (asked_for user now x.0) own x.2 within x.6);
+    held = λ k code e good. let x = is.held k code e good in (x.0, x.1, x.2, x.3, x.4, x.5, record_within S T U (asked_for user now x.0) own x.2 within x.6);
   }
 
   each_held : (ds : List Details) (R : Content) (marks : List Mark) (i : ℕ) (d : Details) (result : HistoryUpdateResult) → slice_get ds i ≡ Some d

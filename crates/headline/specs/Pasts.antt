@@ -19,8 +19,7 @@ pub record IsBeginning (w : World) : Type 0 where
 
 -- what the types of a request and of an operation see to, and the conditions of an update
 abbrev pub IsLawfulEvent : Event → Type 0
-IsLawfulEvent (Operates replica request operation) = IsRequest request × IsSpelled request × IsOperation operation
-IsLawfulEvent event = ⊤
+IsLawfulEvent event = elim event [ Operates replica request operation ↦ IsRequest request × IsSpelled request × IsOperation operation | _ ↦ ⊤ ]
 
 -- a world as it began, and what happened since: updates, and deliveries of what was sent, in any order, any number of times
 pub record Past : Type 0 where

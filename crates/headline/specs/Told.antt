@@ -21,8 +21,8 @@ operations_of type R (DeleteRawModified d) = map DeleteAt (doomed R d.0 d.1.1.0.
 operations_of type R (DeleteAtTime d) = deletes_at d.1
 operations_of type R Other = []
 
--- where a user asked at this moment for the details, over R, each operation whose code is Good in the result has its record in S
+-- where a user asked at this moment for the details, over R, each operation whose code is Good in the result has its record in S, one that is new behind R
 pub record IsHeldFor (own : ℕ) (space : Layout) (user : List ℕ) (now : Ticks) (R : Content) (details : Details) (result : HistoryUpdateResult) (S : Content) : Type 0 where
   pub held : (k : ℕ) (code : Status) → slice_get result.operation_results k ≡ Some code → IsGood code
       → (node : NodeId) × (type : ValueType) × (operation : Operation) × (node_asked details ≡ Some node) × (type_asked space (Some node) ≡ Ok type) × (slice_get (operations_of type R details) k ≡ Some operation)
-      × HasRecordOf S (asked_for user now node) own operation
+      × HasRecordOf R S (asked_for user now node) own operation

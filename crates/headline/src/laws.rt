@@ -166,8 +166,9 @@ pub fn machines_are_replicas_of_a_past<A: Archive>()
 {}
 
 /// What a client is told is Good is held: where the message of an activated session is a HistoryUpdate and is answered by results, each operation whose code is
-/// Good has its record in what is held behind it, asked for by the session's user at the message's moment. The operations are those that the details ask
-/// where something is held that has all that was held before the message, for the details before them were done.
+/// Good has its record in what is held behind it, asked for by the session's user: a new one, whose tick is above all that were held before the details it is of,
+/// and of the message's moment or a later one. The operations are those that the details ask where something is held that has all that was held before the
+/// message, for the details before them were done.
 #[tactic(auto, using(crate::proofs::Told::good_held))]
 pub fn what_is_told_as_good_is_held()
     ensures { (site : Server) (now : Time) (message : List ℕ) (token : NodeId) (details : List Details) (sessions : Sessions) (R : Content) (marks : List Mark) (results : List HistoryUpdateResult)

@@ -12,16 +12,21 @@ use Rattle.records.specs.Same.{is_same, same_node, node_code}
 use Rattle.records.proofs.Same.{Decides-is_same}
 use Rattle.ua_variant.proofs.Equal.{IsExact, pairs, through}
 use Rattle.ua_binary.specs.contracts.values.TicksPartialEq as ticks
+use base.Stored.{Coded}
+use Rattle.ua_services.specs.contracts.history.ReadRawModifiedDetails as row
 use Rattle.ua_services.specs.contracts.history.ReadRawModifiedDetailsPartialEq as details
 use Rattle.ua_services.specs.declared.history.ReadRawModifiedDetails.{ReadRawModifiedDetails as Details}
 use Rattle.ua_binary.specs.declared.codes.TheConstants.Status.{BAD_CONTINUATION_POINT_INVALID}
 use Rattle.ua_services.specs.History.{raw_of, raw_fields}
 use Rattle.hist_read.specs.Point.{Point}
-use Rattle.hist_read.specs.Node.{IsOfRead, Behind, agrees, details_code}
+use Rattle.hist_read.specs.Node.{IsOfRead, Behind, agrees}
 
 -- what a point tells of where reading goes on, as `place_in` has it
 abbrev pub place_told : List ℕ → NodeId → Details → Option Point → Result (Option Behind) Status
 place_told id node q point = ok_or point BAD_CONTINUATION_POINT_INVALID >>= λ p. if agrees id node q p then Ok (Some (p.position, p.vector)) else Err BAD_CONTINUATION_POINT_INVALID
+
+abbrev details_code : Coded Details
+details_code = row.the_row.coded
 
 moments : IsExact (ticks.TheImpl.eq-value).it
 moments a b = search rules

@@ -59,14 +59,10 @@ whole R node query =
 -- ---- pages
 
 abbrev pub values_in : HistoryData → List DataValue
-values_in Nothing = []
-values_in (Raw shown) = shown
-values_in (Modified shown infos) = shown
+values_in v = elim v [ Nothing ↦ [] | Raw shown ↦ shown | Modified shown infos ↦ shown ]
 
 abbrev pub infos_in : HistoryData → List ModificationInfo
-infos_in Nothing = []
-infos_in (Raw shown) = []
-infos_in (Modified shown infos) = infos
+infos_in v = elim v [ Nothing ↦ [] | Raw shown ↦ [] | Modified shown infos ↦ infos ]
 
 -- what was answered, and over which content
 pub record Page : Type 0 where

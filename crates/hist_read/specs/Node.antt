@@ -2,7 +2,6 @@
 use Rattle.std.specs.Prelude.{◌≡◌, ◌==◌, nat_eq, nat_le, Bool, not, ◌&&◌, ◌||◌, ℕ, if◌then◌else◌, List, [], ◌∷◌, map, Option, Some, None, option_map, Result, Ok, Err}
 use Rattle.std.specs.Option.{option_map_or, ok_or}
 use Rattle.std.specs.Cmp.Lexicographic.{pointwise}
-use base.Stored.{Coded}
 use Rattle.stamp.specs.Numbers.{number_of}
 use Rattle.ua_binary.specs.Format.{◌>>=◌}
 use Rattle.ua_binary.specs.declared.values.NodeId.{NodeId}
@@ -31,15 +30,12 @@ use Rattle.hist_read.specs.Showing.{shown, shown_entry, info}
 abbrev pub is_enough : Details → Bool
 is_enough q = if is_given q.start_time.0 then is_given q.end_time.0 || not (q.num_values_per_node == 0) else is_given q.end_time.0 && not (q.num_values_per_node == 0)
 
-abbrev pub details_code : Coded Details
-details_code = details.the_row.coded
-
 abbrev pub IsOfRead : List ℕ → NodeId → Details → Point → Type 0
 IsOfRead id node q p = (p.archive ≡ id) × (p.node ≡ node) × (p.details ≡ q)
 
 -- the point is one of this archive, of this node, and of what is asked
 abbrev pub agrees : List ℕ → NodeId → Details → Point → Bool
-agrees id node q p = pointwise nat_eq p.archive id && (same_node p.node node && is_same details_code p.details q)
+agrees id node q p = pointwise nat_eq p.archive id && (same_node p.node node && is_same details.the_row.coded p.details q)
 
 -- where reading goes on: behind this place, of what the vector of the first page covers
 abbrev pub Behind : Type 0
@@ -64,8 +60,7 @@ abbrev pub refused : Status → HistoryReadResult
 refused status = record { status = status; continuation_point = None; history_data = Nothing }
 
 abbrev pub status_for : {X : Type 0} → List X → Status
-status_for [] = GOOD_NO_DATA
-status_for (x ∷ xs) = GOOD
+status_for list = elim list [ [] ↦ GOOD_NO_DATA | x ∷ xs ↦ GOOD ]
 
 -- the continuation point of a place, of reading what this vector covers
 abbrev pub point_at : List ℕ → NodeId → Details → List ℕ → Position → List ℕ
@@ -100,8 +95,7 @@ abbrev pub told : HistoryReadResult → Mark → HistoryReadResult
 told answer mark = option_map_or refused (status_told mark) answer
 
 abbrev pub read_from : List ℕ → NodeId → Query → Content → Result (Option Behind) Status → Marked (HistoryReadResult × Content)
-read_from id node query R (Err status) = give (refused status, R)
-read_from id node query R (Ok behind) = step (λ mark. (told (page_from R id node query behind) mark, R))
+read_from id node query R result = elim result [ Err status ↦ give (refused status, R) | Ok behind ↦ step (λ mark. (told (page_from R id node query behind) mark, R)) ]
 
 -- a read of a node's history, by what comes in its way: first what is refused whatever is held, and then a page, which is one step; the content stays
 abbrev pub read_node : List ℕ → NodeId → Query → Option (List ℕ) → Content → Marked (HistoryReadResult × Content)

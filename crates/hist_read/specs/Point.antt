@@ -56,8 +56,7 @@ details = fitting IsDetails (standing_for raw_of raw_fields (flag ▸ ticks ▸ 
 -- ---- where the page ended
 
 abbrev pub number_of_phase : Phase → ℕ
-number_of_phase Near = 1
-number_of_phase Body = 2
+number_of_phase phase = elim phase [ Near ↦ 1 | Body ↦ 2 ]
 
 unfoldable pub phase : Format BinaryFault Phase
 phase = fitting (λ _. Unit {0}) (standing_for (λ n. if n == 1 then Near else Body) number_of_phase (passing (λ n. nat_le 1 n && nat_le n 2) BadEncodingByte byte))
@@ -94,8 +93,7 @@ position = fitting IsPosition (standing_for
 
 -- the near bound may have been the last item only where raw values are asked for with their bounds
 abbrev pub is_phase_for : Details → Phase → Bool
-is_phase_for d Near = d.return_bounds && not d.is_read_modified
-is_phase_for d Body = true
+is_phase_for d phase = elim phase [ Near ↦ d.return_bounds && not d.is_read_modified | Body ↦ true ]
 
 -- a modification has its record's stamp, a raw value none
 abbrev pub is_stamp_for : Details → Option Stamp → Bool
@@ -109,10 +107,6 @@ abbrev pub suits : Details → Position → Bool
 suits d p = is_phase_for d p.phase && (is_stamp_for d p.stamp && is_given_for d p.given)
 
 -- ---- the whole
-
--- the vector of the first page
-abbrev pub first_vector : Format BinaryFault (List ℕ)
-first_vector = raised (λ fault. BadEncodingByte) vector
 
 -- a continuation point's fields behind its first byte
 pub record Point : Type 0 where
@@ -140,7 +134,7 @@ point = fitting IsPoint (passing (λ p. suits p.details p.position) BadEncodingB
     (standing_for
     (λ fields. record { archive = fields.1.0; node = fields.1.1.0; details = fields.1.1.1.0; position = fields.1.1.1.1.0; vector = fields.1.1.1.1.1 })
     (λ p. (3, (p.archive, (p.node, (p.details, (p.position, p.vector))))))
-    (passing (λ n. n == 3) BadEncodingByte byte ▸ block 16 ▸ short_node ▸ details ▸ position ▸ first_vector)))
+    (passing (λ n. n == 3) BadEncodingByte byte ▸ block 16 ▸ short_node ▸ details ▸ position ▸ raised (λ _. BadEncodingByte) vector)))
 
 -- the continuation point that all of these bytes spell, if any
 abbrev pub point_in : List ℕ → Option Point

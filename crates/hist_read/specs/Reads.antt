@@ -42,8 +42,7 @@ is_from d limit time = int_eq time limit || is_past d limit time
 
 -- from the origin, which is in it, to the far limit, which isn't; all moments of the one time where both are equal
 abbrev pub in_body_of : Direction → ℤ → Option ℤ → ℤ → Bool
-in_body_of d o None time = is_from d o time
-in_body_of d o (Some f) time = if int_eq o f then is_between o (last_within o) time else is_from d o time && is_past d time f
+in_body_of d o given time = elim given [ None ↦ is_from d o time | Some f ↦ if int_eq o f then is_between o (last_within o) time else is_from d o time && is_past d time f ]
 
 abbrev pub in_body : Details → ℤ → Bool
 in_body q = in_body_of (direction q) (origin_time q) (far_limit q)
@@ -68,8 +67,7 @@ abbrev pub near : Content → NodeId → Details → Item
 near R node q = value_or_missing (origin_time q) (nearest_from R node (opposite (direction q)) (origin_time q))
 
 abbrev pub item_time : Item → ℤ
-item_time (Value h) = h.time
-item_time (Missing time) = time
+item_time item = elim item [ Value h ↦ h.time | Missing time ↦ time ]
 
 -- the time of the last item, else this one
 abbrev pub last_time : ℤ → List Item → ℤ
@@ -96,17 +94,14 @@ is_near_alone q = q.return_bounds && q.num_values_per_node == 1
 
 -- the near bound, where it wasn't given yet
 abbrev pub near_part : Content → NodeId → Details → Option Position → List Item
-near_part R node q None = if q.return_bounds then near R node q ∷ [] else []
-near_part R node q (Some p) = []
+near_part R node q given = elim given [ None ↦ if q.return_bounds then near R node q ∷ [] else [] | Some p ↦ [] ]
 
 -- beyond which time the values are still to come; with bounds the value at the origin is the near bound's
 abbrev pub limit_behind : Details → Phase → ℤ → ℤ
-limit_behind q Near time = origin_time q
-limit_behind q Body time = time
+limit_behind q phase time = elim phase [ Near ↦ origin_time q | Body ↦ time ]
 
 abbrev pub limit_at : Details → Option Position → Option ℤ
-limit_at q None = if q.return_bounds then Some (origin_time q) else None
-limit_at q (Some p) = Some (limit_behind q p.phase p.time)
+limit_at q given = elim given [ None ↦ if q.return_bounds then Some (origin_time q) else None | Some p ↦ Some (limit_behind q p.phase p.time) ]
 
 -- beyond a limit, where there is one
 abbrev pub is_past_any : Direction → Option ℤ → ℤ → Bool

@@ -3,10 +3,10 @@
 
 ghost use Rattle.std.specs.Prelude.{◌≡◌, ◌⊎◌, ◌↔◌, IsTrue, IfOk, IfSome, length, pos, ◌≤ℤ◌, option_map, Ok, Err, if◌then◌else◌};
 ghost use Rattle.hist_read.specs.Asking.{first_time};
-ghost use Rattle.ua_binary.specs.Format.{block, Reads, Puts, PutsPart};
+ghost use Rattle.ua_binary.specs.Format.{block, raised, Reads, Puts, PutsPart};
 ghost use Rattle.ua_binary.specs.Binary.{node_of, IsNodeId};
 ghost use Rattle.ua_binary.specs.declared.fault.BinaryFault.TheVariants as fault;
-ghost use Rattle.hist_read.specs.Point.{flag, short_form, short_node, is_phase_for, is_stamp_for, is_given_for, suits, are_stamp, stamp_of, number_of_phase, phase, time, stamp, details, position, IsStamp, IsPosition, IsPoint, point_of, point_in, point, first_vector};
+ghost use Rattle.hist_read.specs.Point.{flag, short_form, short_node, is_phase_for, is_stamp_for, is_given_for, suits, are_stamp, stamp_of, number_of_phase, phase, time, stamp, details, position, IsStamp, IsPosition, IsPoint, point_of, point_in, point};
 ghost use Rattle.stamp.specs.Numbers.{IsVector};
 ghost use Rattle.stamp.specs.Vector.{vector};
 
@@ -395,7 +395,7 @@ fn read_place<'a>(cursor: &mut Cursor<'a>) -> Result<Place<'a>, BinaryFault>
 
 /// The vector of the first page.
 fn read_vector(cursor: &mut Cursor<'_>) -> Result<Vector, BinaryFault>
-    ensures { Reads (λ v. v) result cursor.old cursor.new first_vector.read }
+    ensures { Reads (λ v. v) result cursor.old cursor.new (raised (λ _. fault.BadEncodingByte) vector).read }
 {
     match Vector::read(cursor) {
         Ok(vector) => Ok(vector),

@@ -23,8 +23,8 @@ use Rattle.archive.specs.Store.{Mark, Fine, Starved, Met, MayBeFound}
 use Rattle.records.specs.Moments.{ticks_of}
 use Rattle.hist_update.specs.Outcome.{Operation, Write, DeleteAt, Change, Outcome, Refused, Added, change_by, sized, fits, source_time, is_too_long, writing, deletion, outcome, outcome_of, judged, stamped, conflict, done, is_live}
 use Rattle.hist_update.specs.Updates.{code_by, left_by, update_all}
-use Rattle.hist_update.specs.Laws.{IsBad, IsGood, IsRecordOf, IsAnsweredGood, HasRecordOf}
-use Rattle.hist_update.proofs.NewRecords.{made, new_next}
+use Rattle.hist_update.specs.Laws.{IsBad, IsGood, IsRecordOf, IsNewBehind, IsAnsweredGood, HasRecordOf}
+use Rattle.hist_update.proofs.NewRecords.{made, new_next, new_above, new_timed}
 
 -- ---- the codes
 
@@ -121,6 +121,9 @@ record_made R own request op code r e =
       change = subst (λ (z : Record). change_by request own op ≡ Ok (record { time = z.time; asked = z.asked; value = z.value })) (sym m.is) m.asked;
     }
 
+record_new : (R : Content) (own : ℕ) (request : Request) (op : Operation) (code : Status) (r : Record) → outcome R own request op ≡ Added code r → IsNewBehind R request r
+record_new R own request op code r e = record { above = λ s h. new_above R own request op code r s e h; timed = new_timed R own request op code r e }
+
 pub bad_kept : (R : Content) (own : ℕ) (request : Request) (op : Operation) (m : Mark) → IsBad (code_by (outcome R own request op) m) → left_by R (outcome R own request op) m ≡ R
 bad_kept R own request op Starved h = refl
 bad_kept R own request op (Met f) h = refl
@@ -131,7 +134,7 @@ bad_kept R own request op Fine h = go (outcome R own request op) refl h
     go (Added c r) e k = not_both c k (added_good R own request op c r e)
 
 abbrev pub IsDone : Content → ℕ → Request → Operation → Mark → Outcome → Type 0
-IsDone R own request op m o = (r : Record) × (o ≡ Added (code_by o m) r) × (left_by R o m ≡ put r R) × IsRecordOf request own op r
+IsDone R own request op m o = (r : Record) × (o ≡ Added (code_by o m) r) × (left_by R o m ≡ put r R) × IsRecordOf request own op r × IsNewBehind R request r
 
 pub good_done : (R : Content) (own : ℕ) (request : Request) (op : Operation) (m : Mark) → IsGood (code_by (outcome R own request op) m) → IsDone R own request op m (outcome R own request op)
 good_done R own request op Starved h = not_both BAD_OUT_OF_MEMORY (omega arith) h
@@ -140,7 +143,7 @@ good_done R own request op Fine h = go (outcome R own request op) refl h
   where
     go : (o : Outcome) → outcome R own request op ≡ o → IsGood (code_by o Fine) → IsDone R own request op Fine o
     go (Refused c) e k = not_both c (refused_bad R own request op c e) k
-    go (Added c r) e k = (r, refl, refl, record_made R own request op c r e)
+    go (Added c r) e k = (r, refl, refl, record_made R own request op c r e, record_new R own request op c r e)
 
 pub bad_or_good : (R : Content) (own : ℕ) (request : Request) (op : Operation) (m : Mark) → IsBad (code_by (outcome R own request op) m) ⊎ IsGood (code_by (outcome R own request op) m)
 bad_or_good R own request op Starved = inl (omega arith)
@@ -170,25 +173,31 @@ all_within own request (op ∷ ops) R (m ∷ marks) r h = all_within own request
 
 -- the first of them, where its code is Good
 first_stands : (own : ℕ) (request : Request) (op : Operation) (ops : List Operation) (R : Content) (m : Mark) (marks : List Mark) → IsGood (code_by (outcome R own request op) m)
-    → HasRecordOf (came_to own request ops (left_by R (outcome R own request op) m) marks).1 request own op
+    → HasRecordOf R (came_to own request ops (left_by R (outcome R own request op) m) marks).1 request own op
 first_stands own request op ops R m marks good =
     let d = good_done R own request op m good in
     let there : Has (left_by R (outcome R own request op) m) d.0 = subst (λ S. Has S d.0) (sym d.2) (has-put d.0 R d.0 (inl refl)) in
-    (d.0, all_within own request ops (left_by R (outcome R own request op) m) marks d.0 there, d.3)
+    (d.0, all_within own request ops (left_by R (outcome R own request op) m) marks d.0 there, d.3, d.4)
+
+-- what is new behind more is new behind what was there before
+older : (R S T : Content) (own : ℕ) (request : Request) (op : Operation) → IsWithin R S → HasRecordOf S T request own op → HasRecordOf R T request own op
+older R S T own request op within h = (h.0, h.1, h.2, record { above = λ s k. h.3.above s (within s k); timed = h.3.timed })
 
 pub all_stand : (own : ℕ) (request : Request) (ops : List Operation) (R : Content) (marks : List Mark) (k : ℕ) (op : Operation) → IsAnsweredGood ops (came_to own request ops R marks).0 k op
-    → HasRecordOf (came_to own request ops R marks).1 request own op
+    → HasRecordOf R (came_to own request ops R marks).1 request own op
 all_stand own request [] R marks k op a = absurd (none-some _ a.asked)
 all_stand own request (o ∷ ops) R [] zero op a =
     let good : IsGood (code_by (outcome R own request o) Fine) = subst IsGood (sym (same_Some _ _ a.told)) a.good in
-    subst (HasRecordOf (came_to own request ops (left_by R (outcome R own request o) Fine) []).1 request own) (same_Some _ _ a.asked) (first_stands own request o ops R Fine [] good)
+    subst (HasRecordOf R (came_to own request ops (left_by R (outcome R own request o) Fine) []).1 request own) (same_Some _ _ a.asked) (first_stands own request o ops R Fine [] good)
 all_stand own request (o ∷ ops) R (m ∷ marks) zero op a =
     let good : IsGood (code_by (outcome R own request o) m) = subst IsGood (sym (same_Some _ _ a.told)) a.good in
-    subst (HasRecordOf (came_to own request ops (left_by R (outcome R own request o) m) marks).1 request own) (same_Some _ _ a.asked) (first_stands own request o ops R m marks good)
+    subst (HasRecordOf R (came_to own request ops (left_by R (outcome R own request o) m) marks).1 request own) (same_Some _ _ a.asked) (first_stands own request o ops R m marks good)
 all_stand own request (o ∷ ops) R [] (suc k) op a =
-    all_stand own request ops (left_by R (outcome R own request o) Fine) [] k op (record { asked = a.asked; code = a.code; told = a.told; good = a.good })
+    older R (left_by R (outcome R own request o) Fine) _ own request op (left_within R (outcome R own request o) Fine)
+    (all_stand own request ops (left_by R (outcome R own request o) Fine) [] k op (record { asked = a.asked; code = a.code; told = a.told; good = a.good }))
 all_stand own request (o ∷ ops) R (m ∷ marks) (suc k) op a =
-    all_stand own request ops (left_by R (outcome R own request o) m) marks k op (record { asked = a.asked; code = a.code; told = a.told; good = a.good })
+    older R (left_by R (outcome R own request o) m) _ own request op (left_within R (outcome R own request o) m)
+    (all_stand own request ops (left_by R (outcome R own request o) m) marks k op (record { asked = a.asked; code = a.code; told = a.told; good = a.good }))
 
 left_closed : (R : Content) (own : ℕ) (request : Request) (op : Operation) (m : Mark) → IsClosed R → IsClosed (left_by R (outcome R own request op) m)
 left_closed R own request op Starved closed = closed
@@ -215,19 +224,19 @@ updated_within R S own request ops used codes d =
     subst (λ (z : List Status × Content). IsWithin R z.1) (did (update_all own request ops R) used (codes, S) d) (all_within own request ops R (used ++ []))
 
 pub good_stands : (R S : Content) (own : ℕ) (request : Request) (ops : List Operation) (used : List Mark) (codes : List Status) (k : ℕ) (op : Operation)
-    → Does (update_all own request ops R) used (codes, S) → IsAnsweredGood ops codes k op → HasRecordOf S request own op
+    → Does (update_all own request ops R) used (codes, S) → IsAnsweredGood ops codes k op → HasRecordOf R S request own op
 good_stands R S own request ops used codes k op d =
-    subst (λ (z : List Status × Content). IsAnsweredGood ops z.0 k op → HasRecordOf z.1 request own op) (did (update_all own request ops R) used (codes, S) d)
+    subst (λ (z : List Status × Content). IsAnsweredGood ops z.0 k op → HasRecordOf R z.1 request own op) (did (update_all own request ops R) used (codes, S) d)
     (all_stand own request ops R (used ++ []) k op)
 
 -- what an opening may find has it too
-pub found_too : (S left : Content) (own : ℕ) (request : Request) (op : Operation) (broken : Bool) → MayBeFound broken S left → HasRecordOf S request own op → HasRecordOf left request own op
-found_too S left own request op broken (inl e) h = subst (λ T. HasRecordOf T request own op) (sym e) h
-found_too S left own request op broken (inr more) h = (h.0, subst (λ T. Has T h.0) (sym more.3) (has-put more.1 S h.0 (inr h.1)), h.2)
+pub found_too : (R S left : Content) (own : ℕ) (request : Request) (op : Operation) (broken : Bool) → MayBeFound broken S left → HasRecordOf R S request own op → HasRecordOf R left request own op
+found_too R S left own request op broken (inl e) h = subst (λ T. HasRecordOf R T request own op) (sym e) h
+found_too R S left own request op broken (inr more) h = (h.0, subst (λ T. Has T h.0) (sym more.3) (has-put more.1 S h.0 (inr h.1)), h.2, h.3)
 
 pub good_found : (R S left : Content) (own : ℕ) (request : Request) (ops : List Operation) (used : List Mark) (codes : List Status) (k : ℕ) (op : Operation) (broken : Bool)
-    → Does (update_all own request ops R) used (codes, S) → IsAnsweredGood ops codes k op → MayBeFound broken S left → HasRecordOf left request own op
-good_found R S left own request ops used codes k op broken d a m = found_too S left own request op broken m (good_stands R S own request ops used codes k op d a)
+    → Does (update_all own request ops R) used (codes, S) → IsAnsweredGood ops codes k op → MayBeFound broken S left → HasRecordOf R left request own op
+good_found R S left own request ops used codes k op broken d a m = found_too R S left own request op broken m (good_stands R S own request ops used codes k op d a)
 
 pub updated_closed : (R S : Content) (own : ℕ) (request : Request) (ops : List Operation) (used : List Mark) (codes : List Status) → Does (update_all own request ops R) used (codes, S) → IsClosed R → IsClosed S
 updated_closed R S own request ops used codes d closed =

@@ -5,7 +5,9 @@ use Rattle.std.specs.declared.cmp.Ordering.TheVariants.{Less}
 use Rattle.std.specs.Ordering.{nat_cmp, ordering_then}
 use Rattle.std.specs.Cmp.{int_cmp_is}
 use Rattle.std.proofs.lemmas.Int.{ints}
-use Rattle.stamp.specs.Limits.{lift}
+use Rattle.std.specs.Prelude.{pos, ◌≤ℤ◌}
+use Rattle.std.specs.Int.{int_min}
+use Rattle.stamp.specs.Limits.{greatest, lift}
 use Rattle.records.specs.declared.record.Record.{Record}
 use Rattle.records.specs.declared.shown.Held.{Held}
 use Rattle.records.specs.Lists.{Has, last}
@@ -18,7 +20,7 @@ use Rattle.records.proofs.LatestLemmas.{latest_last, latest_written, latest_dele
 use Rattle.ua_binary.specs.declared.codes.Status.{Status}
 use Rattle.hist_update.specs.declared.request.Request.{Request}
 use Rattle.hist_update.specs.Outcome.{Operation, Change, Outcome, Refused, Added, change_by, outcome, outcome_of, judged, stamped, conflict, done, is_live, record_by}
-use Rattle.hist_update.proofs.Operating.{lifted, is_new}
+use Rattle.hist_update.proofs.Operating.{lifted, lifted_timed, is_new}
 
 -- ---- how a record came to be
 
@@ -81,6 +83,11 @@ new_above R own request op code r s e h =
     let above = (lifted request.reading (top R) m.tick m.lifts).above in
     let below = top_bounds R s h in
     subst (λ (z : Record). s.tick <ℤ z.tick) (sym m.is) (omega (arith, ints, above, below))
+
+pub new_timed : (R : Content) (own : ℕ) (request : Request) (op : Operation) (code : Status) (r : Record) → outcome R own request op ≡ Added code r → int_min request.reading (pos greatest) ≤ℤ r.tick
+new_timed R own request op code r e =
+    let m = made R own request op code r e in
+    subst (λ (z : Record). int_min request.reading (pos greatest) ≤ℤ z.tick) (sym m.is) (lifted_timed request.reading (top R) m.tick m.lifts)
 
 below_less : (s r : Record) → s.tick <ℤ r.tick → stamp_cmp s r ≡ Less
 below_less s r lt = ap (λ (o : Ordering). ordering_then o (nat_cmp s.origin r.origin)) (sym (int_cmp_is s.tick r.tick Less lt))

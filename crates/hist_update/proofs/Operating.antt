@@ -111,6 +111,14 @@ lifted now most t e = go (int_lt most (pos greatest)) refl e
         let low = lt_from_test _ _ p in
         record { above = grind (arith, ints, clamps, same, low); within = grind (arith, ints, clamps, same, low); below = low }
 
+-- the tick is that of the moment or a later one, as far as ticks go
+pub lifted_timed : (now most t : ℤ) → lift now most ≡ Some t → int_min now (pos greatest) ≤ℤ t
+lifted_timed now most t e = go (int_lt most (pos greatest)) e
+  where
+    go : (x : Bool) → (if x then Some (int_max (most +ℤ pos 1) (int_min now (pos greatest))) else None) ≡ Some t → int_min now (pos greatest) ≤ℤ t
+    go false h = absurd (none-some _ h)
+    go true h = let same : int_max (most +ℤ pos 1) (int_min now (pos greatest)) ≡ t = same_Some _ _ h in grind (arith, ints, clamps, same)
+
 -- what a change becomes is its origin's next record, above every tick held
 pub record IsNew (R : Content) (own : ℕ) (t : ℤ) : Type 0 where
   pub number : vec R own + 1 ≤ greatest

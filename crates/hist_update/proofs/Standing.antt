@@ -29,26 +29,26 @@ always_past : (P : Updated → Type 0) (first : Marked (Option Status)) (R : Con
 always_past P first R more fails goes marks = let r = first marks in always_unless P r.0 R more fails goes r.1
 
 -- each operation of a Good code has its record
-abbrev Stand : ℕ → Request → List Operation → Updated → Type 0
-Stand own request ops u = (k : ℕ) (op : Operation) → IsAnsweredGood ops u.0.operation_results k op → HasRecordOf u.1 request own op
+abbrev Stand : Content → ℕ → Request → List Operation → Updated → Type 0
+Stand R own request ops u = (k : ℕ) (op : Operation) → IsAnsweredGood ops u.0.operation_results k op → HasRecordOf R u.1 request own op
 
-none_stand : (own : ℕ) (request : Request) (ops : List Operation) (R : Content) (code : Status) → Stand own request ops (refused code, R)
+none_stand : (own : ℕ) (request : Request) (ops : List Operation) (R : Content) (code : Status) → Stand R own request ops (refused code, R)
 none_stand own request ops R code k op a = absurd (none-some _ a.told)
 
-begun_stand : (own : ℕ) (request : Request) (status : List Status → Status) (ops : List Operation) (R : Content) → Always (Stand own request ops) (begin own request status ops R)
+begun_stand : (own : ℕ) (request : Request) (status : List Status → Status) (ops : List Operation) (R : Content) → Always (Stand R own request ops) (begin own request status ops R)
 begun_stand own request status ops R =
-    always_past (Stand own request ops) memory R (run own request status ops R) (none_stand own request ops R) (λ marks k op a. all_stand own request ops R marks k op (record { asked = a.asked; code = a.code; told = a.told; good = a.good }))
+    always_past (Stand R own request ops) memory R (run own request status ops R) (none_stand own request ops R) (λ marks k op a. all_stand own request ops R marks k op (record { asked = a.asked; code = a.code; told = a.told; good = a.good }))
 
 begun_within : (own : ℕ) (request : Request) (status : List Status → Status) (ops : List Operation) (R : Content) → Always (λ u. IsWithin R u.1) (begin own request status ops R)
 begun_within own request status ops R = always_past (λ u. IsWithin R u.1) memory R (run own request status ops R) (λ code r h. h) (λ marks. all_within own request ops R marks)
 
 -- of what it did
-stood : (own : ℕ) (request : Request) (ops : List Operation) (marked : Marked Updated) (used : List Mark) (result : HistoryUpdateResult) (S left : Content) (k : ℕ) (op : Operation) (broken : Bool)
-    → Always (Stand own request ops) marked → Does marked used (result, S) → IsAnsweredGood ops result.operation_results k op → MayBeFound broken S left
-    → HasRecordOf S request own op × HasRecordOf left request own op
-stood own request ops marked used result S left k op broken always d a m =
-    let here : HasRecordOf S request own op = subst (Stand own request ops) (did marked used (result, S) d) (always (used ++ [])) k op a in
-    (here, found_too S left own request op broken m here)
+stood : (R : Content) (own : ℕ) (request : Request) (ops : List Operation) (marked : Marked Updated) (used : List Mark) (result : HistoryUpdateResult) (S left : Content) (k : ℕ) (op : Operation) (broken : Bool)
+    → Always (Stand R own request ops) marked → Does marked used (result, S) → IsAnsweredGood ops result.operation_results k op → MayBeFound broken S left
+    → HasRecordOf R S request own op × HasRecordOf R left request own op
+stood R own request ops marked used result S left k op broken always d a m =
+    let here : HasRecordOf R S request own op = subst (Stand R own request ops) (did marked used (result, S) d) (always (used ++ [])) k op a in
+    (here, found_too R S left own request op broken m here)
 
 kept : (R S : Content) (marked : Marked Updated) (used : List Mark) (result : HistoryUpdateResult) → Always (λ u. IsWithin R u.1) marked → Does marked used (result, S) → IsWithin R S
 kept R S marked used result always d = subst (λ (u : Updated). IsWithin R u.1) (did marked used (result, S) d) (always (used ++ []))
@@ -57,30 +57,30 @@ kept R S marked used result always d = subst (λ (u : Updated). IsWithin R u.1) 
 
 pub writes_stand : (R S left : Content) (own : ℕ) (request : Request) (type : ValueType) (perform : ℤ) (values : List DataValue) (used : List Mark) (result : HistoryUpdateResult) (k : ℕ) (op : Operation) (broken : Bool)
     → Does (update_data own request type perform values R) used (result, S) → IsAnsweredGood (writes (asked_by perform) type values) result.operation_results k op → MayBeFound broken S left
-    → HasRecordOf S request own op × HasRecordOf left request own op
+    → HasRecordOf R S request own op × HasRecordOf R left request own op
 writes_stand R S left own request type perform values used result k op broken d =
     let ops = writes (asked_by perform) type values in
-    stood own request ops (update_data own request type perform values R) used result S left k op broken
-    (always_unless (Stand own request ops) (data_refusal (asked_by perform) (length values)) R (begin own request all_good ops R) (none_stand own request ops R) (begun_stand own request all_good ops R)) d
+    stood R own request ops (update_data own request type perform values R) used result S left k op broken
+    (always_unless (Stand R own request ops) (data_refusal (asked_by perform) (length values)) R (begin own request all_good ops R) (none_stand own request ops R) (begun_stand own request all_good ops R)) d
 
 pub deletes_stand : (R S left : Content) (own : ℕ) (request : Request) (times : List Ticks) (used : List Mark) (result : HistoryUpdateResult) (k : ℕ) (op : Operation) (broken : Bool)
     → Does (delete_at own request times R) used (result, S) → IsAnsweredGood (deletes_at times) result.operation_results k op → MayBeFound broken S left
-    → HasRecordOf S request own op × HasRecordOf left request own op
+    → HasRecordOf R S request own op × HasRecordOf R left request own op
 deletes_stand R S left own request times used result k op broken d =
     let ops = deletes_at times in
-    stood own request ops (delete_at own request times R) used result S left k op broken
-    (always_unless (Stand own request ops) (list_refusal 1000 (length times)) R (begin own request all_good ops R) (none_stand own request ops R) (begun_stand own request all_good ops R)) d
+    stood R own request ops (delete_at own request times R) used result S left k op broken
+    (always_unless (Stand R own request ops) (list_refusal 1000 (length times)) R (begin own request all_good ops R) (none_stand own request ops R) (begun_stand own request all_good ops R)) d
 
 pub stretches_stand : (R S left : Content) (own : ℕ) (request : Request) (modified : Bool) (start end_ : Ticks) (used : List Mark) (result : HistoryUpdateResult) (k : ℕ) (op : Operation) (broken : Bool)
     → Does (delete_raw own request modified start end_ R) used (result, S) → IsAnsweredGood (map DeleteAt (doomed R request.node start.0 end_.0)) result.operation_results k op → MayBeFound broken S left
-    → HasRecordOf S request own op × HasRecordOf left request own op
+    → HasRecordOf R S request own op × HasRecordOf R left request own op
 stretches_stand R S left own request modified start end_ used result k op broken d =
     let times = doomed R request.node start.0 end_.0 in
     let ops = map DeleteAt times in
-    let all = always_unless (Stand own request ops) (listing_refusal times) R (begin own request first_other ops R) (none_stand own request ops R) (begun_stand own request first_other ops R) in
-    stood own request ops (delete_raw own request modified start end_ R) used result S left k op broken
-    (always_unless (Stand own request ops) (stretch_refusal modified start.0 end_.0) R (past (step status_told) R (delete_listed own request times R)) (none_stand own request ops R)
-    (always_past (Stand own request ops) (step status_told) R (delete_listed own request times R) (none_stand own request ops R) all)) d
+    let all = always_unless (Stand R own request ops) (listing_refusal times) R (begin own request first_other ops R) (none_stand own request ops R) (begun_stand own request first_other ops R) in
+    stood R own request ops (delete_raw own request modified start end_ R) used result S left k op broken
+    (always_unless (Stand R own request ops) (stretch_refusal modified start.0 end_.0) R (past (step status_told) R (delete_listed own request times R)) (none_stand own request ops R)
+    (always_past (Stand R own request ops) (step status_told) R (delete_listed own request times R) (none_stand own request ops R) all)) d
 
 pub writes_keep : (R S : Content) (own : ℕ) (request : Request) (type : ValueType) (perform : ℤ) (values : List DataValue) (used : List Mark) (result : HistoryUpdateResult)
     → Does (update_data own request type perform values R) used (result, S) → IsWithin R S

@@ -1,8 +1,9 @@
 -- What is said of updates in general.
-use Rattle.std.specs.Prelude.{◌≡◌, ◌⊎◌, ℕ, ◌≤◌, ◌<◌, ℤ, ◌≤ℤ◌, ◌<ℤ◌, false, true, List, slice_get, Some, Ok}
-use Rattle.std.specs.Int.{w64}
+use Rattle.std.specs.Prelude.{◌≡◌, ◌⊎◌, ℕ, ◌≤◌, ◌<◌, ℤ, pos, ◌≤ℤ◌, ◌<ℤ◌, false, true, List, slice_get, Some, Ok}
+use Rattle.std.specs.Int.{w64, int_min}
 use Rattle.std.specs.Int.RustNames.{FitsSigned}
 use Rattle.std.specs.Str.{is_utf8}
+use Rattle.stamp.specs.Limits.{greatest}
 use Rattle.ua_binary.specs.Binary.{IsNodeId}
 use Rattle.ua_binary.specs.declared.codes.Status.{Status}
 use Rattle.ua_binary.specs.declared.values.NodeId.{NodeId}
@@ -36,9 +37,14 @@ pub record IsAnsweredGood (operations : List Operation) (codes : List Status) (k
   pub told : slice_get codes k ≡ Some code
   pub good : IsGood code
 
--- the content has the record of what the operation asks for
-abbrev pub HasRecordOf : Content → Request → ℕ → Operation → Type 0
-HasRecordOf S request own operation = (r : Record) × Has S r × IsRecordOf request own operation r
+-- it is new behind this content, above every tick that is held there, and of the request's moment or later, as far as ticks go
+pub record IsNewBehind (R : Content) (request : Request) (r : Record) : Type 0 where
+  pub above : (s : Record) → Has R s → s.tick <ℤ r.tick
+  pub timed : int_min request.reading (pos greatest) ≤ℤ r.tick
+
+-- the second content has the record of what the operation asks for, and it is new behind the first
+abbrev pub HasRecordOf : (before after : Content) → Request → ℕ → Operation → Type 0
+HasRecordOf before after request own operation = (r : Record) × Has after r × IsRecordOf request own operation r × IsNewBehind before request r
 
 -- what the types of a request and of an operation see to, and the conditions on values
 pub record IsSpelled (request : Request) : Type 0 where
@@ -46,8 +52,7 @@ pub record IsSpelled (request : Request) : Type 0 where
   pub user : is_utf8 request.user ≡ true
 
 abbrev pub IsOperation : Operation → Type 0
-IsOperation (Write asked type v) = (is_delete asked ≡ false) × IsDataValue v
-IsOperation (DeleteAt time) = FitsSigned w64 (ticks_of time)
+IsOperation operation = elim operation [ Write asked type v ↦ (is_delete asked ≡ false) × IsDataValue v | DeleteAt time ↦ FitsSigned w64 (ticks_of time) ]
 
 -- the moments from start up to but without end, or all moments of the one time where both are equal
 abbrev pub IsInStretch : ℤ → ℤ → ℤ → Type 0

@@ -1,5 +1,5 @@
 -- What one operation of an update comes to over a content (Part 11, HistoryUpdate): a code, and the record that it adds, if any.
-use Rattle.std.specs.Prelude.{ℕ, ◌≤◌, ◌+◌, nat_lt, ℤ, pos, int_lt, Bool, true, false, if◌then◌else◌, length, Option, Some, None, is_some, unwrap_or, Result, Ok, Err}
+use Rattle.std.specs.Prelude.{ℕ, ◌≤◌, ◌+◌, nat_lt, ℤ, pos, int_lt, Bool, true, if◌then◌else◌, length, Option, Some, None, is_some, unwrap_or, Result, Ok, Err}
 use Rattle.std.specs.Option.{option_and_then, ok_or}
 use Rattle.stamp.specs.Limits.{lift}
 use Rattle.ua_binary.specs.Format.{◌>>=◌}
@@ -9,13 +9,13 @@ use Rattle.ua_variant.specs.declared.data.DataValue.{DataValue}
 use Rattle.ua_variant.specs.declared.value.Variant.{Variant}
 use Rattle.ua_variant.specs.declared.value.ValueType.{ValueType}
 use Rattle.records.specs.Contents.{Content, vec, top, put}
-use Rattle.records.specs.Records.{current}
+use Rattle.records.specs.Records.{current, is_delete}
 use Rattle.records.specs.Moments.{moment, ticks_of}
 use Rattle.records.specs.Spelling.{empty, fields, longest}
 use Rattle.records.specs.declared.record.Record.{Record}
 use Rattle.ua_variant.specs.declared.update_type.HistoryUpdateType.{HistoryUpdateType}
-use Rattle.ua_variant.specs.declared.update_type.HistoryUpdateType.TheVariants.{Insert, Replace, Delete}
-use Rattle.archive.specs.Growth.{id_length}
+use Rattle.ua_variant.specs.declared.update_type.HistoryUpdateType.TheVariants.{Delete}
+use Rattle.archive.specs.Growth.{id_length, is_possible}
 use Rattle.hist_update.specs.declared.request.Request.{Request}
 use Rattle.ua_binary.specs.declared.codes.Status.{Status}
 use Rattle.ua_binary.specs.declared.codes.TheConstants.Status.{GOOD, GOOD_ENTRY_INSERTED, GOOD_ENTRY_REPLACED, BAD_RESOURCE_UNAVAILABLE, BAD_ENCODING_LIMITS_EXCEEDED, BAD_INVALID_TIMESTAMP, BAD_TYPE_MISMATCH, BAD_ENTRY_EXISTS, BAD_NO_ENTRY_EXISTS}
@@ -52,8 +52,7 @@ source_time v = option_and_then (λ t. if int_lt t.0 (pos 1) then None else Some
 
 -- a value that isn't there fits each type, as a null one does
 abbrev pub fits : ValueType → Option Variant → Bool
-fits type None = true
-fits type (Some v) = has_type v type
+fits type given = elim given [ None ↦ true | Some v ↦ has_type v type ]
 
 -- the change's record has too many bytes; its number and its tick take eight each, whatever they are
 abbrev pub is_too_long : Request → ℕ → Change → Bool
@@ -84,28 +83,21 @@ pub data Outcome : Type 0 where
   Refused : Status → Outcome
   Added : Status → Record → Outcome
 
--- an insert onto a live value, and a replacement or a delete of none, are refused
+-- an insert onto a live value, and a replacement or a delete of none, are not possible
 abbrev pub conflict : HistoryUpdateType → (live : Bool) → Option Status
-conflict Insert true = Some BAD_ENTRY_EXISTS
-conflict Replace false = Some BAD_NO_ENTRY_EXISTS
-conflict Delete false = Some BAD_NO_ENTRY_EXISTS
-conflict asked live = None
+conflict asked live = if is_possible asked live then None else Some (if live then BAD_ENTRY_EXISTS else BAD_NO_ENTRY_EXISTS)
 
 abbrev pub done : HistoryUpdateType → (live : Bool) → Status
-done Delete live = GOOD
-done asked false = GOOD_ENTRY_INSERTED
-done asked true = GOOD_ENTRY_REPLACED
+done asked live = if is_delete asked then GOOD else if live then GOOD_ENTRY_REPLACED else GOOD_ENTRY_INSERTED
 
 abbrev pub is_live : Content → NodeId → ℤ → Bool
 is_live R node time = is_some (current R node time)
 
 abbrev pub stamped : Content → ℕ → Request → Change → Status → Option ℤ → Outcome
-stamped R own request change code None = Refused BAD_RESOURCE_UNAVAILABLE
-stamped R own request change code (Some tick) = Added code (record_by request own (vec R own + 1) tick change)
+stamped R own request change code given = elim given [ None ↦ Refused BAD_RESOURCE_UNAVAILABLE | Some tick ↦ Added code (record_by request own (vec R own + 1) tick change) ]
 
 abbrev pub judged : Content → ℕ → Request → Change → (live : Bool) → Option Status → Outcome
-judged R own request change live (Some code) = Refused code
-judged R own request change live None = stamped R own request change (done change.asked live) (lift request.reading (top R))
+judged R own request change live given = elim given [ Some code ↦ Refused code | None ↦ stamped R own request change (done change.asked live) (lift request.reading (top R)) ]
 
 abbrev pub outcome_of : Content → ℕ → Request → Result Change Status → Outcome
 outcome_of R own request (Err code) = Refused code
@@ -115,10 +107,8 @@ abbrev pub outcome : Content → ℕ → Request → Operation → Outcome
 outcome R own request operation = outcome_of R own request (change_by request own operation)
 
 abbrev pub code_in : Outcome → Status
-code_in (Refused code) = code
-code_in (Added code r) = code
+code_in outcome = elim outcome [ Refused code ↦ code | Added code r ↦ code ]
 
 -- the content that it leaves
 abbrev pub after : Content → Outcome → Content
-after R (Refused code) = R
-after R (Added code r) = put r R
+after R outcome = elim outcome [ Refused code ↦ R | Added code r ↦ put r R ]

@@ -29,8 +29,7 @@ code_by o mark = unwrap_or (status_told mark) (code_in o)
 
 -- an operation that something came in the way of changes nothing
 abbrev pub left_by : Content → Outcome → Mark → Content
-left_by R o Fine = after R o
-left_by R o mark = R
+left_by R o mark = elim mark [ Fine ↦ after R o | _ ↦ R ]
 
 -- one operation is one step: its code, and what it leaves
 abbrev pub update_one : ℕ → Request → Operation → Content → Marked (Status × Content)
@@ -55,8 +54,7 @@ refused code = record { status = code; operation_results = [] }
 
 -- where there is no reason to refuse it, it goes on
 abbrev pub unless : Option Status → Content → Marked Updated → Marked Updated
-unless (Some code) R more = give (refused code, R)
-unless None R more = more
+unless given R more = elim given [ Some code ↦ give (refused code, R) | None ↦ more ]
 
 -- a step first: what is told of what comes in its way refuses the update as a whole, and else it goes on
 abbrev pub past : Marked (Option Status) → Content → Marked Updated → Marked Updated
@@ -113,8 +111,7 @@ stretch_refusal modified start end_ =
 
 -- why it is refused for what was listed
 abbrev pub listing_refusal : List ℤ → Option Status
-listing_refusal [] = Some BAD_NO_DATA
-listing_refusal (t ∷ times) = if nat_lt 1000 (length (t ∷ times)) then Some BAD_TOO_MANY_OPERATIONS else None
+listing_refusal list = elim list [ [] ↦ Some BAD_NO_DATA | t ∷ times ↦ if nat_lt 1000 (length (t ∷ times)) then Some BAD_TOO_MANY_OPERATIONS else None ]
 
 -- the moments that were listed are deleted at, and the first code that isn't Good is the status
 abbrev pub delete_listed : ℕ → Request → List ℤ → Content → Marked Updated

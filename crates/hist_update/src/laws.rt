@@ -22,7 +22,7 @@ ghost use Rattle.hist_update.specs.declared.request.Request.{Request as Asker};
 ghost use Rattle.hist_update.specs.Codes.{asked_by};
 ghost use Rattle.hist_update.specs.Outcome.{Operation, DeleteAt, IsRequest, Added, outcome, is_live};
 ghost use Rattle.hist_update.specs.Updates.{code_by, left_by, update_all, update_data, delete_at, delete_raw, writes, deletes_at, doomed};
-ghost use Rattle.hist_update.specs.Laws.{IsBad, IsGood, IsRecordOf, IsAnsweredGood, HasRecordOf, IsSpelled, IsOperation, IsDoomed};
+ghost use Rattle.hist_update.specs.Laws.{IsBad, IsGood, IsRecordOf, IsNewBehind, IsAnsweredGood, HasRecordOf, IsSpelled, IsOperation, IsDoomed};
 
 /// A new record is its origin's next, its tick is above every tick held, and it is the last of its
 /// story: so what was written is the live value, and behind a delete there is none.
@@ -42,7 +42,7 @@ pub fn new_records_come_last()
 pub fn codes_tell_what_was_done()
     ensures bad { (R : Content) (own : ℕ) (q : Asker) (op : Operation) (m : Mark) → IsBad (code_by (outcome R own q op) m) → left_by R (outcome R own q op) m ≡ R }
     ensures good { (R : Content) (own : ℕ) (q : Asker) (op : Operation) (m : Mark) → IsGood (code_by (outcome R own q op) m)
-        → (r : Record) × (outcome R own q op ≡ Added (code_by (outcome R own q op) m) r) × (left_by R (outcome R own q op) m ≡ put r R) × IsRecordOf q own op r }
+        → (r : Record) × (outcome R own q op ≡ Added (code_by (outcome R own q op) m) r) × (left_by R (outcome R own q op) m ≡ put r R) × IsRecordOf q own op r × IsNewBehind R q r }
     ensures either { (R : Content) (own : ℕ) (q : Asker) (op : Operation) (m : Mark) → IsBad (code_by (outcome R own q op) m) ⊎ IsGood (code_by (outcome R own q op) m) }
 {}
 
@@ -60,29 +60,29 @@ pub fn codes_tell_what_stood()
 {}
 
 /// What was held before some operations is held behind them, and so is the record of each operation that
-/// was answered Good. What an opening may find behind them has it too, also where one of them broke the
-/// store.
+/// was answered Good: a new one, above every tick that was held before. What an opening may find behind
+/// them has it too, also where one of them broke the store.
 pub fn updates_lose_nothing()
     ensures within { (R S : Content) (own : ℕ) (q : Asker) (ops : List Operation) (used : List Mark) (codes : List Code) → Does (update_all own q ops R) used (codes, S) → IsWithin R S }
     ensures stands { (R S : Content) (own : ℕ) (q : Asker) (ops : List Operation) (used : List Mark) (codes : List Code) (k : ℕ) (op : Operation)
-        → Does (update_all own q ops R) used (codes, S) → IsAnsweredGood ops codes k op → HasRecordOf S q own op }
+        → Does (update_all own q ops R) used (codes, S) → IsAnsweredGood ops codes k op → HasRecordOf R S q own op }
     ensures found { (R S left : Content) (own : ℕ) (q : Asker) (ops : List Operation) (used : List Mark) (codes : List Code) (k : ℕ) (op : Operation) (broken : Bool)
-        → Does (update_all own q ops R) used (codes, S) → IsAnsweredGood ops codes k op → MayBeFound broken S left → HasRecordOf left q own op }
+        → Does (update_all own q ops R) used (codes, S) → IsAnsweredGood ops codes k op → MayBeFound broken S left → HasRecordOf R left q own op }
 {}
 
 /// Every update that is answered Good stands: whichever of the three calls it was one of, what is held
-/// behind the call has its record, and so has what an opening may find then. What was held before the
-/// call is held too.
+/// behind the call has its record, a new one of the call's moment or later, and so has what an opening
+/// may find then. What was held before the call is held too.
 pub fn every_good_update_stands()
     ensures writes { (R S left : Content) (own : ℕ) (q : Asker) (type : Kind) (perform : ℤ) (values : List Data) (used : List Mark) (result : Answer) (k : ℕ) (op : Operation) (broken : Bool)
         → Does (update_data own q type perform values R) used (result, S) → IsAnsweredGood (writes (asked_by perform) type values) result.operation_results k op → MayBeFound broken S left
-        → HasRecordOf S q own op × HasRecordOf left q own op }
+        → HasRecordOf R S q own op × HasRecordOf R left q own op }
     ensures deletes { (R S left : Content) (own : ℕ) (q : Asker) (times : List Time) (used : List Mark) (result : Answer) (k : ℕ) (op : Operation) (broken : Bool)
         → Does (delete_at own q times R) used (result, S) → IsAnsweredGood (deletes_at times) result.operation_results k op → MayBeFound broken S left
-        → HasRecordOf S q own op × HasRecordOf left q own op }
+        → HasRecordOf R S q own op × HasRecordOf R left q own op }
     ensures stretches { (R S left : Content) (own : ℕ) (q : Asker) (modified : Bool) (start end_ : Time) (used : List Mark) (result : Answer) (k : ℕ) (op : Operation) (broken : Bool)
         → Does (delete_raw own q modified start end_ R) used (result, S) → IsAnsweredGood (map DeleteAt (doomed R q.node start.0 end_.0)) result.operation_results k op → MayBeFound broken S left
-        → HasRecordOf S q own op × HasRecordOf left q own op }
+        → HasRecordOf R S q own op × HasRecordOf R left q own op }
     ensures kept { (R S : Content) (own : ℕ) (q : Asker) (type : Kind) (perform : ℤ) (values : List Data) (used : List Mark) (result : Answer)
         → Does (update_data own q type perform values R) used (result, S) → IsWithin R S }
     ensures kept_by_deletes { (R S : Content) (own : ℕ) (q : Asker) (times : List Time) (used : List Mark) (result : Answer) → Does (delete_at own q times R) used (result, S) → IsWithin R S }

@@ -34,14 +34,7 @@ Response = Result Answer Status
 
 -- the type id of the structure that carries it
 abbrev pub type_of : Answer → ℕ
-type_of (Endpoints endpoints) = 431
-type_of (Created made) = 464
-type_of Activated = 470
-type_of Closed = 476
-type_of (Browsed results) = 530
-type_of (Values values) = 634
-type_of (Updated results) = 703
-type_of (Histories results) = 667
+type_of answer = elim answer [ Endpoints _ ↦ 431 | Created _ ↦ 464 | Activated ↦ 470 | Closed ↦ 476 | Browsed _ ↦ 530 | Values _ ↦ 634 | Updated _ ↦ 703 | Histories _ ↦ 667 ]
 
 -- what that has behind its header
 abbrev pub body_of : Answer → List ℕ
@@ -74,5 +67,4 @@ abbrev pub service_fault : Ticks → ℕ → Status → List ℕ
 service_fault now handle status = head 397 now handle status
 
 abbrev pub response : Ticks → ℕ → Response → List ℕ
-response now handle (Ok answer) = head (type_of answer) now handle GOOD ++ body_of answer
-response now handle (Err status) = service_fault now handle status
+response now handle v = elim v [ Ok answer ↦ head (type_of answer) now handle GOOD ++ body_of answer | Err status ↦ service_fault now handle status ]

@@ -12,8 +12,7 @@ use Rattle.ua_space.specs.References.{browse_at}
 use Rattle.historian.specs.Answers.{Response, Browsed}
 
 abbrev pub browse_result : Result (List ReferenceDescription) Status → BrowseResult
-browse_result (Ok references) = record { status = GOOD; references = references }
-browse_result (Err status) = record { status = status; references = [] }
+browse_result result = elim result [ Ok references ↦ record { status = GOOD; references = references } | Err status ↦ record { status = status; references = [] } ]
 
 -- a node is browsed by its own description
 abbrev pub browse_node : Layout → BrowseFields → BrowseResult

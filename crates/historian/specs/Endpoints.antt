@@ -1,5 +1,5 @@
 -- What the server tells of itself: its one endpoint, without security (Part 4, 5.5.4, 7.2, 7.14 and 7.42).
-use Rattle.std.specs.Prelude.{ℕ, List, [], ◌∷◌, ◌++◌, codes, nat_eq, Bool, Option, None, Some, unwrap_or, true, if◌then◌else◌}
+use Rattle.std.specs.Prelude.{ℕ, List, [], ◌∷◌, ◌++◌, codes, length, nat_eq, nat_lt, Bool, Option, None, Some, unwrap_or, true, if◌then◌else◌}
 use Rattle.std.specs.List.{list_any}
 use Rattle.std.specs.Cmp.Lexicographic.{pointwise}
 use Rattle.ua_channel.specs.Headers.{policy_none}
@@ -7,7 +7,7 @@ use Rattle.ua_services.specs.Endpoints.{ApplicationFields, TokenFields, Endpoint
 use Rattle.ua_services.specs.declared.endpoints.ApplicationType.TheVariants.{Server}
 use Rattle.ua_services.specs.declared.endpoints.MessageSecurityMode.TheVariants as mode
 use Rattle.ua_services.specs.declared.endpoints.UserTokenType.TheVariants.{Anonymous, UserName}
-use Rattle.ua_session.specs.Users.{Allowed, has_some_named}
+use Rattle.ua_session.specs.Users.{Allowed}
 use Rattle.ua_settings.specs.Settings.{Values}
 
 -- the one transport profile that is served: UA TCP, UA Binary (Part 7)
@@ -25,7 +25,7 @@ anonymous_tokens allowed = if allowed.anonymous then (Some (codes "anonymous"), 
 
 -- a way in by name and password, where there is a user with a name
 abbrev pub named_tokens : Allowed → List TokenFields
-named_tokens allowed = if has_some_named allowed then (Some (codes "username"), token_number UserName) ∷ [] else []
+named_tokens allowed = if nat_lt 0 (length allowed.named) then (Some (codes "username"), token_number UserName) ∷ [] else []
 
 abbrev pub endpoint_of : Values → EndpointFields
 endpoint_of settings =
@@ -36,8 +36,7 @@ is_served_profile profile = pointwise nat_eq (unwrap_or profile []) transport_pr
 
 -- a client that names no transport profile takes any
 abbrev pub takes_transport : List (Option (List ℕ)) → Bool
-takes_transport [] = true
-takes_transport (profile ∷ profiles) = list_any is_served_profile (profile ∷ profiles)
+takes_transport list = elim list [ [] ↦ true | profile ∷ profiles ↦ list_any is_served_profile (profile ∷ profiles) ]
 
 -- the endpoints for a client that takes these transport profiles
 abbrev pub endpoints_for : Values → List (Option (List ℕ)) → List EndpointFields

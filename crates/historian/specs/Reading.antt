@@ -45,8 +45,7 @@ abbrev pub Served : Type 0
 Served = Marked (Response × Content)
 
 abbrev pub unless : Option Status → Content → Served → Served
-unless (Some status) R more = give (Err status, R)
-unless None R more = more
+unless given R more = elim given [ Some status ↦ give (Err status, R) | None ↦ more ]
 
 -- one step for the memory of the answers, and then the items in order, each over what those before it left
 abbrev pub items : {X Y : Type 0} → (List Y → Answer) → (X → Content → Marked (Y × Content)) → List X → Content → Served
@@ -56,9 +55,7 @@ items answer item xs R = and_then memory (λ reason. unless reason R (and_then (
 
 -- null or empty stands for the whole value
 abbrev pub is_whole : Option (List ℕ) → Bool
-is_whole None = true
-is_whole (Some []) = true
-is_whole (Some (byte ∷ bytes)) = false
+is_whole given = elim given [ None ↦ true | Some [] ↦ true | Some (byte ∷ bytes) ↦ false ]
 
 -- the default encoding; the namespace isn't looked at
 abbrev pub is_default : QualifiedName → Bool
@@ -75,41 +72,33 @@ valued now attribute value = record empty { value = Some value; source_time = if
 
 -- a live value as it is stored, with its source time
 abbrev pub stored : List Held → Result DataValue Status
-stored [] = Err BAD_WAITING_FOR_INITIAL_DATA
-stored (h ∷ held) = Ok (at_time h.time h.value)
+stored list = elim list [ [] ↦ Err BAD_WAITING_FOR_INITIAL_DATA | h ∷ held ↦ Ok (at_time h.time h.value) ]
 
 -- the value of an archived variable is the live one of the greatest source time
 abbrev pub latest : NodeId → Content → Result DataValue Status
 latest node R = stored (range_of R node first_time greatest_time Backward)
 
 abbrev pub value_of : Ticks → ReadFields → Content → Answered → Result DataValue Status
-value_of now item R (Value value) = Ok (valued now item.1.0 value)
-value_of now item R Archived = latest item.0 R
+value_of now item R v = elim v [ Value value ↦ Ok (valued now item.1.0 value) | Archived ↦ latest item.0 R ]
 
 -- what gives the value of an item: by node and attribute, then index range, then data encoding
 abbrev pub item_at : Layout → ReadFields → Result Answered Status
-item_at space item =
-    attribute_at space item.0 item.1.0 >>= λ answered.
-    checked (value_rules item.1.1.0 item.1.1.1) >>= λ _.
-    Ok answered
+item_at space item = attribute_at space item.0 item.1.0 >>= λ answered. checked (value_rules item.1.1.0 item.1.1.1) >>= λ _. Ok answered
 
 abbrev pub item_value : Ticks → Layout → ReadFields → Content → Result DataValue Status
 item_value now space item R = item_at space item >>= value_of now item R
 
 -- want of memory may come in the way of any item, and a fault of the store where the archive gives the value
 abbrev pub telling : Result Answered Status → Marked (Option Status)
-telling (Ok Archived) = step status_told
-telling answered = memory
+telling answered = elim answered [ Ok Archived ↦ step status_told | _ ↦ memory ]
 
 -- what came in the way of an item is told in the place of its value
 abbrev pub unless_met : Option Status → Result DataValue Status → Result DataValue Status
-unless_met (Some status) value = Err status
-unless_met None value = value
+unless_met given value = elim given [ Some status ↦ Err status | None ↦ value ]
 
 -- a refused item is its status alone; others have the moments that are wanted, where that of the server is the moment of the read
 abbrev pub item_told : TimestampsToReturn → Ticks → Result DataValue Status → DataValue
-item_told stamps now (Err status) = with_status (Some status) empty
-item_told stamps now (Ok value) = with_stamps stamps (record value { server_time = Some now; server_pico = None })
+item_told stamps now result = elim result [ Err status ↦ with_status (Some status) empty | Ok value ↦ with_stamps stamps (record value { server_time = Some now; server_pico = None }) ]
 
 -- what a value comes to, by what is told of what comes in its way, in one step
 abbrev pub value_step : Marked (Option Status) → (Content → Result DataValue Status) → Content → Marked (Result DataValue Status × Content)
@@ -121,8 +110,7 @@ read_item space now stamps item R =
     and_then (telling (item_at space item)) (λ reason. give (item_told stamps now (unless_met reason (item_value now space item R)), R))
 
 abbrev pub read_by : Layout → Ticks → Option TimestampsToReturn → List ReadFields → Content → Served
-read_by space now None nodes R = give (Err BAD_TIMESTAMPS_TO_RETURN_INVALID, R)
-read_by space now (Some stamps) nodes R = items Values (read_item space now stamps) nodes R
+read_by space now given nodes R = elim given [ None ↦ give (Err BAD_TIMESTAMPS_TO_RETURN_INVALID, R) | Some stamps ↦ items Values (read_item space now stamps) nodes R ]
 
 -- 1,000 items at most
 abbrev pub read : Layout → Ticks → ReadAsked → Content → Served
@@ -145,13 +133,11 @@ released release result = if release && not (is_bad result.status) then record {
 
 -- the read of a node, unless memory is wanting
 abbrev pub node_read : List ℕ → Query → Bool → HistoryReadFields → Content → Option Status → Marked (HistoryReadResult × Content)
-node_read id query release item R (Some status) = give (refused status, R)
-node_read id query release item R None = and_then (read_node id item.0 query item.1.1.1 R) (λ p. give (released release p.0, p.1))
+node_read id query release item R given = elim given [ Some status ↦ give (refused status, R) | None ↦ and_then (read_node id item.0 query item.1.1.1 R) (λ p. give (released release p.0, p.1)) ]
 
 -- one step for the memory of the node's id, and then the read of the node
 abbrev pub history_by : List ℕ → Query → Bool → HistoryReadFields → Content → Result (Unit {0}) Status → Marked (HistoryReadResult × Content)
-history_by id query release item R (Err status) = give (refused status, R)
-history_by id query release item R (Ok _) = and_then memory (node_read id query release item R)
+history_by id query release item R result = elim result [ Err status ↦ give (refused status, R) | Ok _ ↦ and_then memory (node_read id query release item R) ]
 
 abbrev pub read_history_of : List ℕ → Layout → Query → Bool → HistoryReadFields → Content → Marked (HistoryReadResult × Content)
 read_history_of id space query release item R = history_by id query release item R (checked (history_rules space item))
@@ -164,8 +150,7 @@ query_of Other (Some stamps) = Err BAD_HISTORY_OPERATION_UNSUPPORTED
 query_of (ReadRawModified details) (Some stamps) = Ok (record { details = details; stamps = stamps })
 
 abbrev pub histories_by : List ℕ → Layout → Bool → List HistoryReadFields → Content → Result Query Status → Served
-histories_by id space release nodes R (Err status) = give (Err status, R)
-histories_by id space release nodes R (Ok query) = items Histories (read_history_of id space query release) nodes R
+histories_by id space release nodes R result = elim result [ Err status ↦ give (Err status, R) | Ok query ↦ items Histories (read_history_of id space query release) nodes R ]
 
 -- 100 nodes at most
 abbrev pub read_history : List ℕ → Layout → HistoryAsked → Content → Served

@@ -36,24 +36,16 @@ pub data Call : Type 0 where
 -- the services that are served, by the type ids of their requests, which are in namespace 0
 abbrev pub service_numbered : ℕ → Option Service
 service_numbered number =
-    if number == 428 then Some service.GetEndpoints else
-    if number == 461 then Some service.CreateSession else
-    if number == 467 then Some service.ActivateSession else
-    if number == 473 then Some service.CloseSession else
-    if number == 527 then Some service.Browse else
-    if number == 631 then Some service.Read else
-    if number == 664 then Some service.HistoryRead else
-    if number == 700 then Some service.HistoryUpdate else None
+    if number == 428 then Some service.GetEndpoints else if number == 461 then Some service.CreateSession else if number == 467 then Some service.ActivateSession else
+    if number == 473 then Some service.CloseSession else if number == 527 then Some service.Browse else if number == 631 then Some service.Read else
+    if number == 664 then Some service.HistoryRead else if number == 700 then Some service.HistoryUpdate else None
 
 abbrev pub service_of : NodeId → Option Service
-service_of (Numeric namespace number) = if namespace == 0 then service_numbered number else None
-service_of _ = None
+service_of id = elim id [ Numeric namespace number ↦ if namespace == 0 then service_numbered number else None | _ ↦ None ]
 
 -- what all of some bytes spell
 abbrev pub filling : {E A B : Type 0} → (A → B) → Reading E A → Option B
-filling call (Ok (value, [])) = Some (call value)
-filling call (Ok (value, byte ∷ rest)) = None
-filling call (Err fault) = None
+filling call v = elim v [ Ok (value, []) ↦ Some (call value) | Ok (value, byte ∷ rest) ↦ None | Err fault ↦ None ]
 
 -- what a service is asked by the bytes behind the header, if they are a request for it
 abbrev pub call_in : Service → List ℕ → Option Call
@@ -82,9 +74,7 @@ decoded = with_fault (λ _. BAD_DECODING_ERROR)
 -- the request that a message is, or why it is none: its type id, the service of that, its header, and what it asks
 abbrev pub request_in : List ℕ → Result Request Status
 request_in message =
-    decoded (node_id.read message) >>= λ id.
-    ok_or (service_of id.0) BAD_SERVICE_UNSUPPORTED >>= λ service.
-    decoded (request_header.read id.1) >>= λ header.
+    decoded (node_id.read message) >>= λ id. ok_or (service_of id.0) BAD_SERVICE_UNSUPPORTED >>= λ service. decoded (request_header.read id.1) >>= λ header.
     Ok (header.0.0, call_in service header.1)
 
 -- the handle that the answer to a message repeats: that of its header, 0 where that can't be read

@@ -37,8 +37,7 @@ Outcome = (Response × State) × Content
 
 -- unless memory is wanting
 abbrev pub unless_starved : {A : Type 0} → Result A Status → Mark → Result A Status
-unless_starved result Starved = Err BAD_OUT_OF_MEMORY
-unless_starved result mark = result
+unless_starved result mark = elim mark [ Starved ↦ Err BAD_OUT_OF_MEMORY | _ ↦ result ]
 
 -- ---- calls of the sessions
 
@@ -64,8 +63,7 @@ close token sessions = called sessions (λ _. (Closed, record sessions { alive =
 
 -- a session that nobody activated is closed where a service is asked for in it (Part 4, 5.7.3)
 abbrev pub left_outside : State → NodeId → SessionFault → State
-left_outside sessions token NotActivated = record sessions { alive = without_session token sessions.alive }
-left_outside sessions token fault = sessions
+left_outside sessions token fault = elim fault [ NotActivated ↦ record sessions { alive = without_session token sessions.alive } | _ ↦ sessions ]
 
 abbrev pub in_session : NodeId → State → Result (List ℕ) SessionFault → (List ℕ → Marked (Response × Content)) → Content → Marked Outcome
 in_session token sessions (Err fault) service R = give ((Err (code_of fault), left_outside sessions token fault), R)
@@ -86,16 +84,14 @@ served site now token (HistoryUpdate details) sessions R = in_session token sess
 
 -- what is asked, or why nothing is
 abbrev pub asked : Site → Ticks → NodeId → Result Call Status → State → Content → Marked Outcome
-asked site now token (Err status) sessions R = give ((Err status, sessions), R)
-asked site now token (Ok call) sessions R = served site now token call sessions R
+asked site now token result sessions R = elim result [ Err status ↦ give ((Err status, sessions), R) | Ok call ↦ served site now token call sessions R ]
 
 -- a call is read, unless memory for that is wanting, and served
 abbrev pub answered_call : Site → Ticks → NodeId → Option Call → State → Content → Marked Outcome
 answered_call site now token call sessions R = and_then (step (unless_starved (ok_or call BAD_DECODING_ERROR))) (λ call. asked site now token call sessions R)
 
 abbrev pub answered_request : Site → Ticks → Result Request Status → State → Content → Marked Outcome
-answered_request site now (Err status) sessions R = give ((Err status, sessions), R)
-answered_request site now (Ok request) sessions R = answered_call site now request.0 request.1 sessions R
+answered_request site now result sessions R = elim result [ Err status ↦ give ((Err status, sessions), R) | Ok request ↦ answered_call site now request.0 request.1 sessions R ]
 
 -- a message
 abbrev pub answered : Site → Ticks → List ℕ → State → Content → Marked Outcome

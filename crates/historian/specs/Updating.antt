@@ -20,10 +20,7 @@ use Rattle.historian.specs.Reading.{Served, unless, items}
 
 -- the node of which details ask an update; none for details of another type
 abbrev pub node_asked : Details → Option NodeId
-node_asked (UpdateData d) = Some d.0
-node_asked (DeleteRawModified d) = Some d.0
-node_asked (DeleteAtTime d) = Some d.0
-node_asked Other = None
+node_asked details = elim details [ UpdateData d ↦ Some d.0 | DeleteRawModified d ↦ Some d.0 | DeleteAtTime d ↦ Some d.0 | Other ↦ None ]
 
 -- the type of the archived variable of which they ask it, or why it is refused
 abbrev pub type_asked : Layout → Option NodeId → Result ValueType Status
@@ -40,13 +37,11 @@ update_of own request type (DeleteAtTime d) R = delete_at own (request d.0) d.1 
 update_of own request type Other R = give (refused BAD_HISTORY_OPERATION_UNSUPPORTED, R)
 
 abbrev pub updated_unless : ℕ → (NodeId → Request) → ValueType → Details → Content → Option Status → Marked Updated
-updated_unless own request type details R (Some status) = give (refused status, R)
-updated_unless own request type details R None = update_of own request type details R
+updated_unless own request type details R given = elim given [ Some status ↦ give (refused status, R) | None ↦ update_of own request type details R ]
 
 -- one step for the memory of the request, and then the update
 abbrev pub update_by : ℕ → (NodeId → Request) → Details → Content → Result ValueType Status → Marked Updated
-update_by own request details R (Err status) = give (refused status, R)
-update_by own request details R (Ok type) = and_then memory (updated_unless own request type details R)
+update_by own request details R result = elim result [ Err status ↦ give (refused status, R) | Ok type ↦ and_then memory (updated_unless own request type details R) ]
 
 -- this user asks at this moment for an update of a node
 abbrev pub asked_for : List ℕ → Ticks → NodeId → Request

@@ -115,9 +115,7 @@ finding R r =
     else Adds
 
 abbrev pub after_finding : Content → Record → Finding → Option Content
-after_finding R r Adds = Some (put r R)
-after_finding R r Holds = Some R
-after_finding R r refusal = None
+after_finding R r refusal = elim refusal [ Adds ↦ Some (put r R) | Holds ↦ Some R | _ ↦ None ]
 
 -- the content after a record is learned; none where it is refused
 abbrev pub learned : Content → Record → Option Content

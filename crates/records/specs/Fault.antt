@@ -9,13 +9,11 @@ use Rattle.records.specs.declared.fault.RecordFault.TheVariants.{Binary, BadFiel
 
 -- a fault of the encoding as one of a record
 abbrev pub binary_fault : BinaryFault → RecordFault
-binary_fault binary.OutOfMemory = OutOfMemory
-binary_fault fault = Binary
+binary_fault fault = elim fault [ binary.OutOfMemory ↦ OutOfMemory | _ ↦ Binary ]
 
 -- the same of a value's fault
 abbrev pub value_fault : VariantFault → RecordFault
-value_fault value.OutOfMemory = OutOfMemory
-value_fault fault = Binary
+value_fault fault = elim fault [ value.OutOfMemory ↦ OutOfMemory | _ ↦ Binary ]
 
 -- the number that scripts and logs show
 abbrev pub fault_number : RecordFault → ℕ

@@ -10,13 +10,11 @@ moment ticks pico = ticks *ℤ pos 10000 +ℤ pos pico
 
 -- its ticks: the quotient, rounded down
 abbrev pub ticks_of : ℤ → ℤ
-ticks_of (pos n) = pos (n / 10000)
-ticks_of (negsuc n) = negsuc (n / 10000)
+ticks_of v = elim v [ pos n ↦ pos (n / 10000) | negsuc n ↦ negsuc (n / 10000) ]
 
 -- its picoseconds: what is left
 abbrev pub pico_of : ℤ → ℕ
-pico_of (pos n) = n % 10000
-pico_of (negsuc n) = 9999 - n % 10000
+pico_of v = elim v [ pos n ↦ n % 10000 | negsuc n ↦ 9999 - n % 10000 ]
 
 pub ticks_only : (z t : ℤ) (p : ℕ) → p ≤ 9999 → z ≡ moment t p → ticks_of z ≡ t
 ticks_only (pos n) t p h e = omega (arith, ints)

@@ -22,8 +22,7 @@ abbrev pub stamp_cmp : Record → Record → Ordering
 stamp_cmp = then_cmp (on (λ r. r.tick) int_cmp) (on (λ r. r.origin) nat_cmp)
 
 abbrev pub is_delete : HistoryUpdateType → Bool
-is_delete Delete = true
-is_delete asked = false
+is_delete asked = elim asked [ Delete ↦ true | _ ↦ false ]
 
 abbrev pub is_at : NodeId → ℤ → Record → Bool
 is_at node time r = same_node r.node node && int_eq r.time time
@@ -34,15 +33,13 @@ story records node time = sort_by stamp_cmp (filter (is_at node time) records)
 
 -- the record, where it is a write
 abbrev pub write : Option Record → Option Record
-write None = None
-write (Some r) = if is_delete r.asked then None else Some r
+write given = elim given [ None ↦ None | Some r ↦ if is_delete r.asked then None else Some r ]
 
 -- ---- the live value
 
 -- the record's value as the live one; extra where it isn't the only record of its story
 abbrev pub held_of : Bool → Option Record → Option Held
-held_of extra None = None
-held_of extra (Some r) = Some (record { time = r.time; value = r.value; extra = extra })
+held_of extra given = elim given [ None ↦ None | Some r ↦ Some (record { time = r.time; value = r.value; extra = extra }) ]
 
 -- what a story leaves: the value of its last record, where that is a write
 abbrev pub held : List Record → Option Held
@@ -63,8 +60,7 @@ kind (Some w) asked = Replace
 
 -- the value that it shows: the one that it took the place of; else its own; a delete of nothing shows none
 abbrev pub value_shown : Option Record → Record → Option DataValue
-value_shown (Some w) r = Some w.value
-value_shown None r = if is_delete r.asked then None else Some r.value
+value_shown given r = elim given [ Some w ↦ Some w.value | None ↦ if is_delete r.asked then None else Some r.value ]
 
 -- a record as it is shown, behind the write right before it
 abbrev pub entry : Option Record → Record → Entry

@@ -74,8 +74,7 @@ abbrev pub asked : Format RecordFault HistoryUpdateType
 asked = standing_for asked_of_number update_number (passing (λ n. nat_le 1 n && nat_le n 4) BadField (raised binary_fault byte))
 
 abbrev pub is_user : Option (List ℕ) → Bool
-is_user None = false
-is_user (Some name) = nat_le (length name) 256
+is_user given = elim given [ None ↦ false | Some name ↦ nat_le (length name) 256 ]
 
 -- a text that isn't null, of at most 256 bytes
 abbrev pub user : Format RecordFault (List ℕ)

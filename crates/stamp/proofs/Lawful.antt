@@ -3,21 +3,21 @@ use Rattle.std.proofs.Common.{◌≡◌, ℕ, zero, suc, ◌+◌, ◌-◌, ◌<�
 use Rattle.std.proofs.lemmas.Bool.{cases_Bool, ltb-true, ltb-false}
 use Rattle.std.proofs.lemmas.Bool.Decides.{nat_tests}
 use Rattle.std.proofs.lemmas.List.{set_at, length_push}
-use Rattle.std.specs.Prelude.{nat_lt, nat_le, ◌&&◌, replicate, slice_set}
+use Rattle.std.specs.Prelude.{nat_lt, nat_le, ◌&&◌, drop, replicate, slice_set}
 use Rattle.ua_binary.specs.Format.{IsLawful}
 use Rattle.ua_binary.specs.Binary.{unsigned}
 use Rattle.ua_binary.proofs.Combined.{nothing_lawful, byte_lawful, then_lawful, headed_lawful, standing_lawful, passing_lawful, fitting_lawful, raised_lawful}
 use Rattle.ua_binary.proofs.Lawful.{u64_lawful}
 use Rattle.stamp.specs.Limits.{greatest}
 use Rattle.stamp.specs.Numbers.{IsVector, zeros, entries_from, entries, filled}
-use Rattle.stamp.specs.Vector.{entry_above, rest_of, entries_above, entry_count, vector}
+use Rattle.stamp.specs.Vector.{entry_above, entries_above, entry_count, vector}
 
 entry_lawful : (last : ℕ) → IsLawful (entry_above last)
 entry_lawful last = then_lawful (passing_lawful _ _ (passing_lawful _ _ (raised_lawful _ byte_lawful))) (passing_lawful _ _ (raised_lawful _ u64_lawful))
 
 entries_lawful : (n last : ℕ) → IsLawful (entries_above last n)
 entries_lawful zero last = nothing_lawful []
-entries_lawful (suc n) last = headed_lawful _ _ (entry_lawful last) (λ e. standing_lawful (λ es. e ∷ es) rest_of (entries_lawful n e.0))
+entries_lawful (suc n) last = headed_lawful _ _ (entry_lawful last) (λ e. standing_lawful (λ es. e ∷ es) (drop 1) (entries_lawful n e.0))
 
 -- what the numbers of a vector may be
 abbrev AreSmall : List ℕ → Type 0

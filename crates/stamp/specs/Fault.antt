@@ -7,11 +7,7 @@ use Rattle.stamp.specs.declared.fault.VectorFault.TheVariants.{NotAscending, Bad
 
 -- a fault of the encoding as one of a vector
 abbrev pub vector_fault : BinaryFault → VectorFault
-vector_fault binary.Short = Binary
-vector_fault binary.BadLength = Binary
-vector_fault binary.BadUtf8 = Binary
-vector_fault binary.BadEncodingByte = Binary
-vector_fault binary.OutOfMemory = OutOfMemory
+vector_fault fault = elim fault [ binary.OutOfMemory ↦ OutOfMemory | _ ↦ Binary ]
 
 -- the number that scripts and logs show
 abbrev pub fault_number : VectorFault → ℕ

@@ -1,6 +1,6 @@
 -- A vector as bytes: how many replicas have a number above 0, and then each of them with its
 -- number, ascending.
-use Rattle.std.specs.Prelude.{◌≡◌, ◌≢◌, ℕ, zero, suc, nat_lt, nat_le, ◌&&◌, List, [], ◌∷◌, length}
+use Rattle.std.specs.Prelude.{◌≡◌, ◌≢◌, ℕ, zero, suc, nat_lt, nat_le, ◌&&◌, List, [], ◌∷◌, length, drop, slice_get, unwrap_or}
 use Rattle.std.specs.List.{AllByRecursion}
 use Rattle.std.specs.Int.{w64}
 use Rattle.ua_binary.specs.Format.{Format, nothing, byte, ◌▸◌, headed, standing_for, passing, fitting, raised}
@@ -23,18 +23,10 @@ number = passing (λ n. nat_le 1 n && nat_le n greatest) BadNumber (raised vecto
 abbrev pub entry_above : ℕ → Format VectorFault (ℕ × ℕ)
 entry_above last = replica_above last ▸ number
 
-abbrev pub first_of : List (ℕ × ℕ) → ℕ × ℕ
-first_of [] = (0, 0)
-first_of (e ∷ es) = e
-
-abbrev pub rest_of : List (ℕ × ℕ) → List (ℕ × ℕ)
-rest_of [] = []
-rest_of (e ∷ es) = es
-
 -- so many entries, each above the one before it, the first above this replica
 abbrev pub entries_above : ℕ → ℕ → Format VectorFault (List (ℕ × ℕ))
 entries_above last zero = nothing []
-entries_above last (suc n) = headed first_of (entry_above last) (λ e. standing_for (λ es. e ∷ es) rest_of (entries_above e.0 n))
+entries_above last (suc n) = headed (λ es. unwrap_or (slice_get es 0) (0, 0)) (entry_above last) (λ e. standing_for (λ es. e ∷ es) (drop 1) (entries_above e.0 n))
 
 -- how many entries there are: at most one for each replica
 abbrev pub entry_count : Format VectorFault ℕ

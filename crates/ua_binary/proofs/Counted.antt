@@ -10,7 +10,7 @@ use Rattle.ua_binary.specs.declared.fault.BinaryFault.{BinaryFault}
 use Rattle.ua_binary.specs.declared.fault.BinaryFault.TheVariants.{BadLength, BadUtf8, BadEncodingByte}
 use Rattle.ua_binary.specs.declared.values.NodeId.TheVariants.{Numeric, Named, Global, Opaque}
 use Rattle.ua_binary.specs.Format.{IsLawful, Format, nothing, refused, byte, block, ◌▸◌, chosen, headed, standing_for, passing, flagged, fitting, raised, ItemsSpelled, items}
-use Rattle.ua_binary.specs.Binary.{unsigned, signed, counted, count_of, IsCounted, byte_string, is_text, text, IsText, guid, two_byte_node, four_byte_node, numeric_node, named_node, global_node, opaque_node, node_form, node_form_of, IsNodeId, IsShortNode, node_id, localized, localized_fields, localized_mask, IsLocalized, IsShortLocalized, qualified, IsQualified, counted_items, array_spelled, array}
+use Rattle.ua_binary.specs.Binary.{unsigned, signed, counted, count_of, IsCounted, byte_string, is_text, text, IsText, guid, named_parts, opaque_parts, two_byte_node, four_byte_node, numeric_node, global_node, node_form, node_form_of, IsNodeId, IsShortNode, node_id, localized, localized_fields, localized_mask, IsLocalized, IsShortLocalized, qualified, IsQualified, counted_items, array}
 
 -- each value that has a spelling is so
 pub record SpellsOnly {E A : Type 0} (f : Format E A) (P : A → Type 0) : Type 0 where
@@ -116,13 +116,13 @@ four_byte_only = standing_only (λ p. Numeric p.0 p.1) _ (any_only (byte ▸ uns
 numeric_only : SpellsOnly numeric_node IsShortNode
 numeric_only = standing_only (λ p. Numeric p.0 p.1) _ (any_only (unsigned w16 ▸ unsigned w32)) (λ _ _. tt)
 
-named_only : SpellsOnly named_node IsShortNode
+named_only : SpellsOnly (standing_for (λ p. Named p.0 (unwrap_or p.1 [])) named_parts (unsigned w16 ▸ text)) IsShortNode
 named_only = standing_only (λ p. Named p.0 (unwrap_or p.1 [])) _ (then_only (any_only (unsigned w16)) text_only) (λ p h. or_empty p.1 h.1)
 
 global_only : SpellsOnly global_node IsShortNode
 global_only = standing_only (λ p. Global p.0 p.1) _ (any_only (unsigned w16 ▸ guid)) (λ _ _. tt)
 
-opaque_only : SpellsOnly opaque_node IsShortNode
+opaque_only : SpellsOnly (standing_for (λ p. Opaque p.0 (unwrap_or p.1 [])) opaque_parts (unsigned w16 ▸ byte_string)) IsShortNode
 opaque_only = standing_only (λ p. Opaque p.0 (unwrap_or p.1 [])) _ (then_only (any_only (unsigned w16)) byte_string_only) (λ p h. or_empty p.1 h.1)
 
 node_form_only : (form : ℕ) → SpellsOnly (node_form form) IsShortNode
@@ -163,9 +163,7 @@ counted_items_only told p (negsuc (suc n)) lt = refused_only (told BadLength)
 
 pub array_only : {E A : Type 0} {P : A → Type 0} (told : BinaryFault → E) {f : Format E A} → SpellsOnly f P → SpellsOnly (array told f) (IsFew P)
 unfolding array
-array_only {P = P} told {f} p =
-    let q : SpellsOnly (array_spelled told f) (IsFew P) = headed_only _ (counted_items told f) (raised_only told count_only) (counted_items_only told p) in
-    record { holds = q.holds }
+array_only told {f} p = headed_only _ (counted_items told f) (raised_only told count_only) (counted_items_only told p)
 
 -- ---- what is read
 

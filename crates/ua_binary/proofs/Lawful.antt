@@ -1,5 +1,5 @@
 -- Each format of the binary encoding is lawful.
-use Rattle.std.proofs.Common.{◌≡◌, ℕ, zero, suc, ◌*◌, ◌<◌, ◌^◌, ℤ, pos, negsuc, Bool, true, false, cond, ltb, List, [], ◌++◌, length, Option, Some, None, Ok, Err, refl, sym, ap, ◌∙◌, arith, not, ◌&&◌, ◌==◌, inl, inr}
+use Rattle.std.proofs.Common.{◌≡◌, ℕ, zero, suc, ◌*◌, ◌<◌, ◌^◌, ℤ, pos, negsuc, Bool, true, false, cond, ltb, List, [], length, Option, Some, None, Ok, Err, refl, sym, ap, arith, not, ◌&&◌, ◌==◌, inl, inr}
 use Rattle.std.proofs.lemmas.Bool.{cases_Bool, eqb-true, ltb-true}
 use Rattle.std.specs.Int.{Width, w8, w16, w32, w64, byte_len, from_le_bytes, to_le_bytes, cast_unsigned}
 use Rattle.std.specs.Int.RustNames.{FitsSigned}
@@ -13,7 +13,7 @@ use Rattle.ua_binary.specs.declared.values.Body.{Body}
 use Rattle.ua_binary.specs.declared.values.Body.TheVariants.{Absent, Binary, Xml}
 use Rattle.ua_binary.specs.declared.values.LocalizedText.{LocalizedText}
 use Rattle.ua_binary.specs.Format.{◌>>=◌, Reading, Format, IsLawful, byte, block, passing, with_fault, items_at}
-use Rattle.ua_binary.specs.Binary.{unsigned, signed, sbyte, ticks, status, boolean, counted, count_of, IsCounted, byte_string, is_text, text, IsText, guid, guid_of, guid_fields, IsGuid, node_form, node_form_of, IsNodeId, node_id, localized, localized_fields, localized_mask, IsLocalized, counted_number, count_at, counted_items, array_spelled, array, qualified, IsQualified, IsExtension, body_form, body_kind, IsBody, body, extension}
+use Rattle.ua_binary.specs.Binary.{unsigned, signed, sbyte, ticks, status, boolean, counted, count_of, IsCounted, byte_string, is_text, text, IsText, guid, guid_of, IsGuid, node_form, node_form_of, IsNodeId, node_id, localized, localized_fields, localized_mask, IsLocalized, counted_number, count_at, counted_items, array, qualified, IsQualified, IsExtension, body_form, body_kind, IsBody, body, extension}
 use Rattle.ua_binary.proofs.Elements.{IsItemLawful, item}
 use Rattle.ua_binary.proofs.Combined.{nothing_lawful, refused_lawful, byte_lawful, block_lawful, then_lawful, chosen_lawful, headed_lawful, standing_lawful, passing_lawful, flagged_lawful, fitting_lawful, raised_lawful, IsNonEmpty, counted_items_lawful}
 
@@ -86,7 +86,7 @@ text_lawful = fitting_lawful IsText text_fits (passing_lawful is_text BadUtf8 by
 
 pub guid_lawful : IsLawful guid
 unfolding guid unsigned
-guid_lawful = fitting_lawful IsGuid (λ v h. ((h.0, (h.1, (h.2, h.3))), refl)) (standing_lawful guid_of guid_fields (then_lawful (unsigned_lawful w32 wide32) (then_lawful (unsigned_lawful w16 wide16) (then_lawful (unsigned_lawful w16 wide16) (block_lawful 8)))))
+guid_lawful = fitting_lawful IsGuid (λ v h. ((h.0, (h.1, (h.2, h.3))), refl)) (standing_lawful guid_of _ (then_lawful (unsigned_lawful w32 wide32) (then_lawful (unsigned_lawful w16 wide16) (then_lawful (unsigned_lawful w16 wide16) (block_lawful 8)))))
 
 -- ---- node ids
 
@@ -192,19 +192,14 @@ array_is_read : {E A : Type 0} (told : BinaryFault → E) (f : Format E A) (r : 
 array_is_read told f (Err e) = refl
 array_is_read told f (Ok n) = array_of_number told f n.0 n.1
 
-pub array_read : {E A : Type 0} (told : BinaryFault → E) (f : Format E A) (bytes : List ℕ) → (array_spelled told f).read bytes ≡ (array told f).read bytes
+-- an array is read by its count first and then by its items
+pub array_read : {E A : Type 0} (told : BinaryFault → E) (f : Format E A) (bytes : List ℕ) → (array told f).read bytes ≡ (with_fault told (count_at bytes) >>= λ n. items_at f.read n.0 n.1)
 unfolding array count_at
 array_read told f bytes = array_is_read told f ((signed w32).read bytes)
 
 pub array_lawful : {E A : Type 0} (told : BinaryFault → E) {f : Format E A} → IsNonEmpty f → IsLawful f → IsLawful (array told f)
 unfolding array
-array_lawful told {f} some p =
-    let q : IsLawful (array_spelled told f) = headed_lawful _ (counted_items told f) (raised_lawful told (signed_lawful w32 wide32)) (counted_items_are_lawful told f some p) in
-    record {
-      found = λ bytes v rest e. q.found bytes v rest (array_read told f bytes ∙ e);
-      only = λ front v rest s. sym (array_read told f (front ++ rest)) ∙ q.only front v rest s;
-      written = q.written;
-    }
+array_lawful told {f} some p = headed_lawful _ (counted_items told f) (raised_lawful told (signed_lawful w32 wide32)) (counted_items_are_lawful told f some p)
 
 pub u16_lawful : IsLawful (unsigned w16)
 u16_lawful = unsigned_lawful w16 wide16

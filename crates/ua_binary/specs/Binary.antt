@@ -23,7 +23,7 @@ use Rattle.ua_binary.specs.declared.values.BodyRef.{BodyRef}
 use Rattle.ua_binary.specs.declared.values.BodyRef.TheVariants as held
 use Rattle.ua_binary.specs.declared.values.ExtensionObject.{ExtensionObject}
 use Rattle.ua_binary.specs.declared.values.ExtensionRef.{ExtensionRef}
-use Rattle.ua_binary.specs.Format.{◌>>=◌, Reading, Format, nothing, refused, byte, block, ◌▸◌, chosen, headed, standing_for, passing, flagged, fitting, with_fault, raised, items, items_at, at_least}
+use Rattle.ua_binary.specs.Format.{◌>>=◌, Reading, Format, nothing, refused, byte, block, ◌▸◌, chosen, headed, standing_for, passing, flagged, fitting, raised, items, at_least}
 
 -- ---- numbers (5.2.2.1, 5.2.2.2, 5.2.2.5, 5.2.2.11)
 
@@ -55,14 +55,11 @@ boolean = fitting (λ _. Unit {0}) (standing_for (λ b. not (b == 0)) (λ v. if 
 
 -- what follows a count: as many bytes; nothing after -1, which is null; below -1 it is no count
 abbrev pub counted : ℤ → Format BinaryFault (Option (List ℕ))
-counted (pos n) = flagged true (block n)
-counted (negsuc zero) = nothing None
-counted (negsuc (suc n)) = refused BadLength
+counted v = elim v [ pos n ↦ flagged true (block n) | negsuc zero ↦ nothing None | negsuc (suc n) ↦ refused BadLength ]
 
 -- the count that is written
 abbrev pub count_of : Option (List ℕ) → ℤ
-count_of None = negsuc 0
-count_of (Some bytes) = pos (length bytes)
+count_of given = elim given [ None ↦ negsuc 0 | Some bytes ↦ pos (length bytes) ]
 
 -- few enough to be counted
 abbrev pub IsCounted : Option (List ℕ) → Type 0
@@ -74,8 +71,7 @@ byte_string = fitting IsCounted (headed count_of (signed w32) counted)
 
 -- the bytes, where there are any, are UTF-8
 abbrev pub is_text : Option (List ℕ) → Bool
-is_text None = true
-is_text (Some bytes) = is_utf8 bytes
+is_text given = elim given [ None ↦ true | Some bytes ↦ is_utf8 bytes ]
 
 -- few enough bytes to be counted, and UTF-8
 abbrev pub IsText : Option (List ℕ) → Type 0
@@ -90,16 +86,13 @@ text = fitting IsText (passing is_text BadUtf8 byte_string)
 abbrev pub guid_of : ℕ × (ℕ × (ℕ × List ℕ)) → Guid
 guid_of p = record { first = p.0; second = p.1.0; third = p.1.1.0; last = p.1.1.1 }
 
-abbrev pub guid_fields : Guid → ℕ × (ℕ × (ℕ × List ℕ))
-guid_fields g = (g.first, (g.second, (g.third, g.last)))
-
 -- each part has its size
 abbrev pub IsGuid : Guid → Type 0
 IsGuid g = (g.first < 2 ^ 32) × (g.second < 2 ^ 16) × (g.third < 2 ^ 16) × (length g.last ≡ 8)
 
 -- a UInt32, two UInt16 and eight bytes
 unfoldable pub guid : Format BinaryFault Guid
-guid = fitting IsGuid (standing_for guid_of guid_fields (unsigned w32 ▸ unsigned w16 ▸ unsigned w16 ▸ block 8))
+guid = fitting IsGuid (standing_for guid_of (λ g. (g.first, (g.second, (g.third, g.last)))) (unsigned w32 ▸ unsigned w16 ▸ unsigned w16 ▸ block 8))
 
 -- ---- node ids (5.2.2.9)
 
@@ -112,20 +105,16 @@ node_of (lent.Opaque ns id) = Opaque ns id.now
 
 -- the namespace and the id of a numeric node; any other has no number
 abbrev pub numbers_of : NodeId → ℕ × ℕ
-numbers_of (Numeric ns id) = (ns, id)
-numbers_of _ = (0, 0)
+numbers_of v = elim v [ Numeric ns id ↦ (ns, id) | _ ↦ (0, 0) ]
 
 abbrev pub named_parts : NodeId → ℕ × Option (List ℕ)
-named_parts (Named ns name) = (ns, Some name)
-named_parts _ = (0, None)
+named_parts id = elim id [ Named ns name ↦ (ns, Some name) | _ ↦ (0, None) ]
 
 abbrev pub global_parts : NodeId → ℕ × Guid
-global_parts (Global ns id) = (ns, id)
-global_parts _ = (0, guid_of (0, (0, (0, []))))
+global_parts v = elim v [ Global ns id ↦ (ns, id) | _ ↦ (0, guid_of (0, (0, (0, [])))) ]
 
 abbrev pub opaque_parts : NodeId → ℕ × Option (List ℕ)
-opaque_parts (Opaque ns id) = (ns, Some id)
-opaque_parts _ = (0, None)
+opaque_parts v = elim v [ Opaque ns id ↦ (ns, Some id) | _ ↦ (0, None) ]
 
 -- a Byte is the id, in namespace 0
 abbrev pub two_byte_node : Format BinaryFault NodeId
@@ -139,35 +128,22 @@ four_byte_node = standing_for (λ p. Numeric p.0 p.1) numbers_of (byte ▸ unsig
 abbrev pub numeric_node : Format BinaryFault NodeId
 numeric_node = standing_for (λ p. Numeric p.0 p.1) numbers_of (unsigned w16 ▸ unsigned w32)
 
--- a UInt16 is the namespace, and a String the id; a null one is empty
-abbrev pub named_node : Format BinaryFault NodeId
-named_node = standing_for (λ p. Named p.0 (unwrap_or p.1 [])) named_parts (unsigned w16 ▸ text)
-
 -- a UInt16 is the namespace, and a Guid the id
 abbrev pub global_node : Format BinaryFault NodeId
 global_node = standing_for (λ p. Global p.0 p.1) global_parts (unsigned w16 ▸ guid)
 
--- a UInt16 is the namespace, and a ByteString the id; a null one is empty
-abbrev pub opaque_node : Format BinaryFault NodeId
-opaque_node = standing_for (λ p. Opaque p.0 (unwrap_or p.1 [])) opaque_parts (unsigned w16 ▸ byte_string)
-
--- the form that the first byte tells
+-- the form that the first byte tells; a String or ByteString behind a namespace is the id too, and a null one is empty
 abbrev pub node_form : ℕ → Format BinaryFault NodeId
 node_form form =
-    chosen (form == 0) two_byte_node (
-    chosen (form == 1) four_byte_node (
-    chosen (form == 2) numeric_node (
-    chosen (form == 3) named_node (
+    chosen (form == 0) two_byte_node (chosen (form == 1) four_byte_node (chosen (form == 2) numeric_node (
+    chosen (form == 3) (standing_for (λ p. Named p.0 (unwrap_or p.1 [])) named_parts (unsigned w16 ▸ text)) (
     chosen (form == 4) global_node (
-    chosen (form == 5) opaque_node (
+    chosen (form == 5) (standing_for (λ p. Opaque p.0 (unwrap_or p.1 [])) opaque_parts (unsigned w16 ▸ byte_string)) (
     refused BadEncodingByte))))))
 
 -- the first byte that is written: of the shortest form
 abbrev pub node_form_of : NodeId → ℕ
-node_form_of (Numeric ns id) = if ns == 0 && nat_lt id 256 then 0 else if nat_lt ns 256 && nat_lt id 65536 then 1 else 2
-node_form_of (Named ns name) = 3
-node_form_of (Global ns id) = 4
-node_form_of (Opaque ns id) = 5
+node_form_of v = elim v [ Numeric ns id ↦ if ns == 0 && nat_lt id 256 then 0 else if nat_lt ns 256 && nat_lt id 65536 then 1 else 2 | Named ns name ↦ 3 | Global ns id ↦ 4 | Opaque ns id ↦ 5 ]
 
 -- the numbers are those of their types, and the bytes few enough to be counted
 abbrev pub IsNodeId : NodeId → Type 0
@@ -229,32 +205,20 @@ body_of (held.Xml b) = Xml b.now
 abbrev pub extension_of : ExtensionRef → ExtensionObject
 extension_of r = record { type_id = node_of r.type_id; body = body_of r.body }
 
--- a ByteString in the binary encoding; a null one is empty
-abbrev pub binary_body : Format BinaryFault Body
-binary_body = standing_for (λ b. Binary (unwrap_or b [])) (λ v. elim v [ Binary b ↦ Some b | _ ↦ None ]) byte_string
-
--- the bytes of an XML text; a null one is empty
-abbrev pub xml_body : Format BinaryFault Body
-xml_body = standing_for (λ b. Xml (unwrap_or b [])) (λ v. elim v [ Xml b ↦ Some b | _ ↦ None ]) byte_string
-
--- what the kind of a body calls for
+-- what the kind of a body calls for: a ByteString in the binary encoding, or the bytes of an XML text; a null one is empty
 abbrev pub body_form : ℕ → Format BinaryFault Body
 body_form kind =
     chosen (kind == 0) (nothing Absent) (
-    chosen (kind == 1) binary_body (
-    chosen (kind == 2) xml_body (
+    chosen (kind == 1) (standing_for (λ b. Binary (unwrap_or b [])) (λ v. elim v [ Binary b ↦ Some b | _ ↦ None ]) byte_string) (
+    chosen (kind == 2) (standing_for (λ b. Xml (unwrap_or b [])) (λ v. elim v [ Xml b ↦ Some b | _ ↦ None ]) byte_string) (
     refused BadEncodingByte)))
 
 -- the kind that is written
 abbrev pub body_kind : Body → ℕ
-body_kind Absent = 0
-body_kind (Binary b) = 1
-body_kind (Xml b) = 2
+body_kind body = elim body [ Absent ↦ 0 | Binary b ↦ 1 | Xml b ↦ 2 ]
 
 abbrev pub IsBody : Body → Type 0
-IsBody Absent = Unit {0}
-IsBody (Binary b) = length b < 2 ^ 31
-IsBody (Xml b) = length b < 2 ^ 31
+IsBody body = elim body [ Absent ↦ Unit {0} | Binary b ↦ length b < 2 ^ 31 | Xml b ↦ length b < 2 ^ 31 ]
 
 -- a kind, and the body that it calls for
 abbrev pub body : Format BinaryFault Body
@@ -271,9 +235,7 @@ extension = fitting IsExtension (standing_for (λ p. record { type_id = p.0; bod
 
 -- the count that a number tells: 0 for -1, and at most as many as there are bytes left
 abbrev pub counted_number : ℤ → List ℕ → Reading BinaryFault ℕ
-counted_number (pos n) rest = if nat_lt (length rest) n then Err Short else Ok (n, rest)
-counted_number (negsuc zero) rest = Ok (0, rest)
-counted_number (negsuc (suc n)) rest = Err BadLength
+counted_number v rest = elim v [ pos n ↦ if nat_lt (length rest) n then Err Short else Ok (n, rest) | negsuc zero ↦ Ok (0, rest) | negsuc (suc n) ↦ Err BadLength ]
 
 -- the count of an array: a number of 32 bits, and what it tells
 unfoldable pub count_at : List ℕ → Reading BinaryFault ℕ
@@ -281,31 +243,17 @@ count_at bytes = (signed w32).read bytes >>= λ n. counted_number n.0 n.1
 
 -- as many items as a number tells; told says how a fault of the encoding is told
 abbrev pub counted_items : {E A : Type 0} → (BinaryFault → E) → Format E A → ℤ → Format E (List A)
-counted_items told f (pos n) = at_least n (told Short) (items n f)
-counted_items told f (negsuc zero) = nothing []
-counted_items told f (negsuc (suc n)) = refused (told BadLength)
+counted_items told f v = elim v [ pos n ↦ at_least n (told Short) (items n f) | negsuc zero ↦ nothing [] | negsuc (suc n) ↦ refused (told BadLength) ]
 
 -- a number of 32 bits, and as many items
-abbrev pub array_spelled : {E A : Type 0} → (BinaryFault → E) → Format E A → Format E (List A)
-array_spelled told f = headed (λ vs. pos (length vs)) (raised told (signed w32)) (counted_items told f)
-
--- the same, read by the count first and then by the items
 unfoldable pub array : {E A : Type 0} → (BinaryFault → E) → Format E A → Format E (List A)
-array told f = record {
-  Spells = (array_spelled told f).Spells;
-  read = λ bytes. with_fault told (count_at bytes) >>= λ n. items_at f.read n.0 n.1;
-  canon = (array_spelled told f).canon;
-  Fits = (array_spelled told f).Fits;
-}
+array told f = headed (λ vs. pos (length vs)) (raised told (signed w32)) (counted_items told f)
 
 -- ---- what a writer asks
 
 -- each text and byte string has few enough bytes to be counted
 abbrev pub IsShortNode : NodeId → Type 0
-IsShortNode (Numeric ns id) = Unit {0}
-IsShortNode (Named ns name) = length name < 2 ^ 31
-IsShortNode (Global ns id) = Unit {0}
-IsShortNode (Opaque ns id) = length id < 2 ^ 31
+IsShortNode v = elim v [ Numeric ns id ↦ Unit {0} | Named ns name ↦ length name < 2 ^ 31 | Global ns id ↦ Unit {0} | Opaque ns id ↦ length id < 2 ^ 31 ]
 
 abbrev pub IsShortLocalized : LocalizedText → Type 0
 IsShortLocalized v = IsCounted v.locale × IsCounted v.text

@@ -1,6 +1,6 @@
 -- The headers of a channel's chunks (Part 6, 6.7.2), those of requests and responses (Part 4, 7.33 and 7.34), and the opening of a
 -- channel (Part 4, 5.6.2).
-use Rattle.std.specs.Prelude.{◌+◌, ℕ, ℤ, pos, List, [], ◌∷◌, ◌++◌, length, codes, Option, None, Bool, false, ◌&&◌, ◌==◌, ◌<◌, ◌^◌}
+use Rattle.std.specs.Prelude.{◌+◌, ℕ, pos, List, [], ◌∷◌, ◌++◌, length, codes, Option, None, Bool, false, ◌&&◌, ◌==◌, ◌<◌, ◌^◌}
 use Rattle.std.specs.Option.{option_copied}
 use Rattle.std.specs.Int.{w32}
 use Rattle.std.specs.Int.RustNames.{FitsSigned}
@@ -17,7 +17,7 @@ use Rattle.ua_binary.specs.Binary.{unsigned, signed, text, byte_string, node_id,
 use Rattle.uacp.specs.declared.types.Kind.{Kind}
 use Rattle.uacp.specs.declared.types.Letter.{Letter}
 use Rattle.uacp.specs.Greeting.{fixed, fixed_number}
-use Rattle.uacp.specs.Stream.{letters}
+use Rattle.uacp.specs.Chunks.{letters}
 use Rattle.ua_channel.specs.declared.headers.Numbers.{Numbers}
 use Rattle.ua_channel.specs.declared.headers.Asked.{Asked}
 use Rattle.ua_channel.specs.declared.headers.RequestHeader.{RequestHeader}
@@ -28,19 +28,10 @@ use Rattle.ua_channel.specs.declared.headers.RequestHeader.{RequestHeader}
 unfoldable pub policy_none : List ℕ
 policy_none = codes "http://opcfoundation.org/UA/SecurityPolicy#None"
 
-abbrev pub SecurityFields : Type 0
-SecurityFields = ℕ × (Option (List ℕ) × (Option (List ℕ) × Option (List ℕ)))
-
-abbrev pub security_of : SecurityFields → ℕ × Option (List ℕ)
-security_of fields = (fields.0, fields.1.0)
-
-abbrev pub security_fields : ℕ × Option (List ℕ) → SecurityFields
-security_fields v = (v.0, (v.1, (None, None)))
-
 -- of an OPN chunk: channel id and policy; the sender's certificate and the receiver's thumbprint aren't kept, and null ones are written
 unfoldable pub security_header : Format BinaryFault (ℕ × Option (List ℕ))
 security_header = fitting (λ v. (v.0 < 2 ^ 32) × IsText v.1)
-    (standing_for security_of security_fields (unsigned w32 ▸ text ▸ byte_string ▸ byte_string))
+    (standing_for (λ fields. (fields.0, fields.1.0)) (λ v. (v.0, (v.1, (None, None)))) (unsigned w32 ▸ text ▸ byte_string ▸ byte_string))
 
 -- of an OPN chunk, behind it: sequence number and request id
 unfoldable pub sequence_header : Format BinaryFault (ℕ × ℕ)
@@ -80,35 +71,20 @@ response_header = standing_for (λ fields. (fields.0, (fields.1.0, fields.1.1.0)
 
 -- the type id of an OpenSecureChannel request
 abbrev pub is_opening : NodeId → Bool
-is_opening (Numeric namespace id) = namespace == 0 && id == 446
-is_opening _ = false
-
--- type id, request header, version, request type, mode, nonce, lifetime
-abbrev pub AskedFields : Type 0
-AskedFields = NodeId × (RequestFields × (ℕ × (ℤ × (ℤ × (Option (List ℕ) × ℕ)))))
-
--- the handle of the header, and what is asked; neither the version nor the nonce is kept
-abbrev pub asked_of : AskedFields → Asked
-asked_of fields = record { handle = fields.1.0.1.1.0; request_type = fields.1.1.1.0; mode = fields.1.1.1.1.0; lifetime = fields.1.1.1.1.1.1 }
-
--- with no session token, the least moment, no audit entry, no additional header, version 0 and no nonce
-abbrev pub asked_fields : Asked → AskedFields
-asked_fields v =
-    (Numeric 0 446, ((Numeric 0 0, (record { 0 = pos 0 }, (v.handle, (0, (None, (0, record { type_id = Numeric 0 0; body = Absent })))))), (0, (v.request_type, (v.mode, (None, v.lifetime))))))
+is_opening v = elim v [ Numeric namespace id ↦ namespace == 0 && id == 446 | _ ↦ false ]
 
 abbrev pub IsAsked : Asked → Type 0
 IsAsked v = (v.handle < 2 ^ 32) × FitsSigned w32 v.request_type × FitsSigned w32 v.mode × (v.lifetime < 2 ^ 32)
 
--- the request for a channel
+-- the request for a channel: type id, request header, version, request type, mode, nonce, lifetime; of the header only the handle is kept, and neither the version
+-- nor the nonce; written are no session token, the least moment, no audit entry, no additional header, version 0 and no nonce
 unfoldable pub open_request : Format BinaryFault Asked
-open_request = fitting IsAsked (standing_for asked_of asked_fields
+open_request = fitting IsAsked (standing_for
+    (λ fields. record { handle = fields.1.0.1.1.0; request_type = fields.1.1.1.0; mode = fields.1.1.1.1.0; lifetime = fields.1.1.1.1.1.1 })
+    (λ v. (Numeric 0 446, ((Numeric 0 0, (record { 0 = pos 0 }, (v.handle, (0, (None, (0, record { type_id = Numeric 0 0; body = Absent })))))), (0, (v.request_type, (v.mode, (None, v.lifetime)))))))
     (passing is_opening BadEncodingByte node_id ▸ request_header ▸ unsigned w32 ▸ signed w32 ▸ signed w32 ▸ byte_string ▸ unsigned w32))
 
--- response header, token id, the moment of its making, lifetime
-abbrev pub OpenedFields : Type 0
-OpenedFields = (Ticks × (ℕ × Status)) × (ℕ × (Ticks × ℕ))
-
--- its answer: type id 449, response header, version 0, channel id 1, token id, the moment of its making, lifetime, a null nonce
-unfoldable pub open_response : Format BinaryFault OpenedFields
+-- its answer, told by response header, token id, the moment of its making, lifetime: type id 449, response header, version 0, channel id 1, token id, the moment of its making, lifetime, a null nonce
+unfoldable pub open_response : Format BinaryFault ((Ticks × (ℕ × Status)) × (ℕ × (Ticks × ℕ)))
 open_response = standing_for (λ fields. (fields.1.0, (fields.1.1.1.1.0, (fields.1.1.1.1.1.0, fields.1.1.1.1.1.1.0)))) (λ v. (tt, (v.0, (tt, (tt, (v.1.0, (v.1.1.0, (v.1.1.1, tt))))))))
     (fixed (node_id.canon (Numeric 0 449)) ▸ response_header ▸ fixed_number 0 ▸ fixed_number 1 ▸ unsigned w32 ▸ ticks ▸ unsigned w32 ▸ fixed_number 4294967295)

@@ -120,8 +120,7 @@ heard_of past = record {
 
 -- the first sequence number is taken as it comes; the next one is greater by one, or, near the end of the numbers, begins anew below 1,024
 abbrev pub follows : Option ℕ → ℕ → Bool
-follows None number = true
-follows (Some last) number = (number == last + 1) || (nat_lt 4294966271 last && nat_lt number 1024)
+follows given number = elim given [ None ↦ true | Some last ↦ (number == last + 1) || (nat_lt 4294966271 last && nat_lt number 1024) ]
 
 -- the tokens of k openings are 1 to k; the newest is k, and it or the one before it is right
 abbrev pub is_token : ℕ → ℕ → Bool
@@ -134,22 +133,15 @@ is_of_open heard request = (heard.chunks == 0) || (heard.request == request)
 -- of a MSG or CLO chunk
 abbrev pub number_rules : Heard → Numbers → List (Bool × ChannelFault)
 number_rules heard numbers =
-    (not (heard.openings == 0), ChannelId)
-    ∷ (numbers.channel_id == 1, ChannelId)
-    ∷ (is_token heard.openings numbers.token, Token)
-    ∷ (follows heard.last numbers.number, Sequence)
-    ∷ (is_of_open heard numbers.request_id, Sequence)
-    ∷ []
+    (not (heard.openings == 0), ChannelId) ∷ (numbers.channel_id == 1, ChannelId) ∷ (is_token heard.openings numbers.token, Token)
+    ∷ (follows heard.last numbers.number, Sequence) ∷ (is_of_open heard numbers.request_id, Sequence) ∷ []
 
 -- of a MSG chunk besides: at most 64 chunks and 4,194,304 bytes a message; what gives a message up counts toward neither
 abbrev pub size_rules : Heard → Letter → List ℕ → List (Bool × ChannelFault)
-size_rules heard Abort body = []
-size_rules heard Final body = (nat_lt heard.chunks 64, TooManyChunks) ∷ (nat_le (length heard.bytes + length body) 4194304, TooLarge) ∷ []
-size_rules heard More body = (nat_lt heard.chunks 64, TooManyChunks) ∷ (nat_le (length heard.bytes + length body) 4194304, TooLarge) ∷ []
+size_rules heard letter body = elim letter [ Abort ↦ [] | _ ↦ (nat_lt heard.chunks 64, TooManyChunks) ∷ (nat_le (length heard.bytes + length body) 4194304, TooLarge) ∷ [] ]
 
 abbrev pub is_policy : Option (List ℕ) → Bool
-is_policy None = false
-is_policy (Some uri) = bytes_eq uri policy_none
+is_policy given = elim given [ None ↦ false | Some uri ↦ bytes_eq uri policy_none ]
 
 -- of an OPN chunk, by its security header
 abbrev pub security_rules : Heard → ℕ × Option (List ℕ) → List (Bool × ChannelFault)
@@ -189,24 +181,16 @@ opening_judged heard body =
 -- a MSG chunk
 abbrev pub message_judged : Heard → Letter → List ℕ → Result Placed ChannelFault
 message_judged heard letter body =
-    decoded (message_header.read body) >>= λ header.
-    checked (number_rules heard header.0) >>= λ _.
-    checked (size_rules heard letter header.1) >>= λ _.
+    decoded (message_header.read body) >>= λ header. checked (number_rules heard header.0) >>= λ _. checked (size_rules heard letter header.1) >>= λ _.
     Ok (Says letter header.0 header.1)
 
 -- a CLO chunk, whose body isn't read
 abbrev pub closing_judged : Heard → List ℕ → Result Placed ChannelFault
-closing_judged heard body =
-    decoded (message_header.read body) >>= λ header.
-    checked (number_rules heard header.0) >>= λ _.
-    Ok (Closes header.0)
+closing_judged heard body = decoded (message_header.read body) >>= λ header. checked (number_rules heard header.0) >>= λ _. Ok (Closes header.0)
 
 -- a chunk of a channel that hasn't ended; a Hello is no chunk of one
 abbrev pub judged_by : Heard → Kind → Letter → List ℕ → Result Placed ChannelFault
-judged_by heard Hello letter body = Err Decoding
-judged_by heard Open letter body = opening_judged heard body
-judged_by heard Close letter body = closing_judged heard body
-judged_by heard Message letter body = message_judged heard letter body
+judged_by heard kind letter body = elim kind [ Hello ↦ Err Decoding | Open ↦ opening_judged heard body | Close ↦ closing_judged heard body | Message ↦ message_judged heard letter body ]
 
 -- the chunk as it is read, where it is well placed, or else its first fault
 abbrev pub judged : Heard → Piece → Result Placed ChannelFault

@@ -11,7 +11,8 @@ use Rattle.uacp.specs.declared.types.Kind.TheVariants.{Open, Message}
 use Rattle.uacp.specs.declared.types.Letter.{Letter}
 use Rattle.uacp.specs.declared.types.Letter.TheVariants.{Final, More}
 use Rattle.uacp.specs.Split.{pieces_of}
-use Rattle.uacp.specs.Stream.{Piece, letters}
+use Rattle.uacp.specs.Stream.{Piece}
+use Rattle.uacp.specs.Chunks.{letters}
 use Rattle.ua_channel.specs.declared.taken.OpenRequest.{OpenRequest}
 use Rattle.ua_channel.specs.Headers.{policy_none, security_header, sequence_header, message_header, open_response, chunk_of}
 use Rattle.ua_channel.specs.Taking.{State}
@@ -48,8 +49,7 @@ message_chunk letter token number request piece =
 
 -- the last piece's chunk is final
 abbrev pub letter_before : List (List ℕ) → Letter
-letter_before [] = Final
-letter_before (piece ∷ pieces) = More
+letter_before list = elim list [ [] ↦ Final | piece ∷ pieces ↦ More ]
 
 -- a chunk for each piece, their numbers running on from this one
 abbrev pub chunks_of : ℕ → ℕ → ℕ → List (List ℕ) → List ℕ

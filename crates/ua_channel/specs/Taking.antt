@@ -40,13 +40,8 @@ with_none_open heard = record heard { chunks = 0; request = 0; bytes = [] }
 abbrev pub after : Heard → Placed → Heard
 after heard (Opens sequence asked) = with_none_open (record heard { openings = heard.openings + 1; last = Some sequence.0 })
 after heard (Says Final numbers body) = with_none_open (record heard { last = Some numbers.number; token = max heard.token numbers.token })
-after heard (Says More numbers body) = record heard {
-  last = Some numbers.number;
-  token = max heard.token numbers.token;
-  chunks = heard.chunks + 1;
-  request = numbers.request_id;
-  bytes = heard.bytes ++ body;
-}
+after heard (Says More numbers body) =
+    record heard { last = Some numbers.number; token = max heard.token numbers.token; chunks = heard.chunks + 1; request = numbers.request_id; bytes = heard.bytes ++ body }
 after heard (Says Abort numbers body) = with_none_open (record heard { last = Some numbers.number; token = max heard.token numbers.token })
 after heard (Closes numbers) = with_none_open (record heard { last = Some numbers.number; ended = true })
 

@@ -2,7 +2,7 @@
 
 ghost use Rattle.std.specs.Prelude.{◌≡◌, ◌≤◌, ◌∷◌, [], length};
 ghost use Rattle.ua_binary.specs.Format.{PutsPart};
-ghost use Rattle.uacp.specs.Stream.{mark_of};
+ghost use Rattle.uacp.specs.Chunks.{mark_of};
 ghost use Rattle.ua_channel.specs.Sending.{number_after, lifetime_of, opened_chunk, message_head, message_chunk, letter_before, AreShort, IsNumber, PutsChunks};
 
 use crate::headers::{Opened, put_open_response_parts, put_security_header_parts};

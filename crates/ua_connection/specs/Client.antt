@@ -63,11 +63,8 @@ ends standing out ending = record { out = out; ending = Some ending; state = sta
 
 -- this is written, and the connection goes on with one chunk more that was taken, and this channel
 abbrev pub goes : Standing → List ℕ → Option State → Reply Standing Ending
-goes standing out channel = record {
-  out = out;
-  ending = None;
-  state = record standing { client = record standing.client { greeted = true; taken = standing.client.taken + 1; channel = channel } };
-}
+goes standing out channel =
+    record { out = out; ending = None; state = record standing { client = record standing.client { greeted = true; taken = standing.client.taken + 1; channel = channel } } }
 
 -- an ERR with this code ends the connection; where memory for it is wanting too, nothing is written
 abbrev pub refuse : Standing → Status → Answering
@@ -75,16 +72,13 @@ refuse standing code = made (give (ends standing (error.canon code) (Ok (Refused
 
 -- ---- the greeting
 
-abbrev pub with_limit : ℕ → Standing → Standing
-with_limit limit standing = record standing { client = record standing.client { limit = limit } }
-
 abbrev pub acknowledged : Standing → HelloNumbers → Result Ack UacpFault → Answering
 acknowledged standing hello (Err fault) = refuse standing (code_of fault)
-acknowledged standing hello (Ok ack) = made (give (goes (with_limit ack.receive_size standing) (acknowledge.canon ack) (Some (fresh hello ack)))) (refuse standing BAD_OUT_OF_MEMORY)
+acknowledged standing hello (Ok ack) =
+    made (give (goes (record standing { client = record standing.client { limit = ack.receive_size } }) (acknowledge.canon ack) (Some (fresh hello ack)))) (refuse standing BAD_OUT_OF_MEMORY)
 
 abbrev pub greeted : Standing → Result HelloNumbers UacpFault → Answering
-greeted standing (Err fault) = refuse standing (code_of fault)
-greeted standing (Ok hello) = acknowledged standing hello (ack_of hello)
+greeted standing result = elim result [ Err fault ↦ refuse standing (code_of fault) | Ok hello ↦ acknowledged standing hello (ack_of hello) ]
 
 -- ---- the channel
 
@@ -127,12 +121,10 @@ answered_placed site standing state (Err fault) = refuse standing (channel.code_
 
 -- there is a channel from the Acknowledge on, and nothing but a Hello comes before it
 abbrev pub answered_on : Site → Standing → Option State → Piece → Answering
-answered_on site standing None piece = refuse standing BAD_TCP_MESSAGE_TYPE_INVALID
-answered_on site standing (Some state) piece = answered_placed site standing state (judged state.heard piece)
+answered_on site standing given piece = elim given [ None ↦ refuse standing BAD_TCP_MESSAGE_TYPE_INVALID | Some state ↦ answered_placed site standing state (judged state.heard piece) ]
 
 abbrev pub answered_piece : Site → Standing → Kind → Piece → Answering
-answered_piece site standing Hello piece = greeted standing (hello_at piece.body)
-answered_piece site standing kind piece = answered_on site standing standing.client.channel piece
+answered_piece site standing kind piece = elim kind [ Hello ↦ greeted standing (hello_at piece.body) | _ ↦ answered_on site standing standing.client.channel piece ]
 
 -- ---- connections
 
@@ -154,13 +146,10 @@ answer site standing item = made (answered_item site standing item) (refuse stan
 
 -- what stands first in bytes of which there are some, and how many bytes it has
 abbrev pub found : List ℕ → Result (Option Header) UacpFault → Item × ℕ
-found bytes (Ok None) = (partial, length bytes)
-found bytes (Ok (Some header)) = (whole (piece_at header bytes), header.size)
-found bytes (Err fault) = (ill fault, length bytes)
+found bytes result = elim result [ Ok None ↦ (partial, length bytes) | Ok (Some header) ↦ (whole (piece_at header bytes), header.size) | Err fault ↦ (ill fault, length bytes) ]
 
 abbrev pub next : Standing → List ℕ → Option (Item × ℕ)
-next standing [] = None
-next standing (b ∷ bytes) = Some (found (b ∷ bytes) (cut standing.client.greeted standing.client.limit (b ∷ bytes)))
+next standing list = elim list [ [] ↦ None | b ∷ bytes ↦ Some (found (b ∷ bytes) (cut standing.client.greeted standing.client.limit (b ∷ bytes))) ]
 
 -- the connection of a client
 abbrev pub chunks : Site → Protocol Standing Item Ending

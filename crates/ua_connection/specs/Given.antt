@@ -1,5 +1,5 @@
 -- What an answering gets from outside: what comes in the way of its steps, and the time.
-use Rattle.std.specs.Prelude.{◌≡◌, ℤ, pos, Bool, true, false, List, [], ◌∷◌, ◌++◌, if◌then◌else◌}
+use Rattle.std.specs.Prelude.{◌≡◌, ℤ, pos, true, false, List, [], ◌∷◌, ◌++◌, if◌then◌else◌}
 use Rattle.ua_binary.specs.declared.values.Ticks.{Ticks}
 use Rattle.archive.specs.Store.{Mark, Starved}
 use Rattle.archive.specs.Steps.{Marked, step}
@@ -28,18 +28,13 @@ and_then first more outside = let a = first outside in more a.0 a.1
 abbrev pub by_marks : {A : Type 0} → Marked A → Given A
 by_marks marked outside = let a = marked outside.marks in (a.0, record outside { marks = a.1 })
 
-abbrev pub is_starved : Mark → Bool
-is_starved Starved = true
-is_starved mark = false
-
 -- a step that takes memory: the first where memory is there, the second where it is wanting
 abbrev pub made : {A : Type 0} → Given A → Given A → Given A
-made went starved = and_then (by_marks (step is_starved)) (λ starves. if starves then starved else went)
+made went starved = and_then (by_marks (step (λ mark. elim mark [ Starved ↦ true | _ ↦ false ]))) (λ starves. if starves then starved else went)
 
 -- the next reading; where none is left it is 0
 abbrev pub next_reading : List ℤ → (Ticks × List ℤ)
-next_reading [] = (record { 0 = pos 0 }, [])
-next_reading (now ∷ readings) = (record { 0 = now }, readings)
+next_reading list = elim list [ [] ↦ (record { 0 = pos 0 }, []) | now ∷ readings ↦ (record { 0 = now }, readings) ]
 
 abbrev pub clock : Given Ticks
 clock outside = let r = next_reading outside.readings in (r.0, record outside { readings = r.1 })

@@ -18,9 +18,7 @@ use Rattle.ua_connection.specs.Serving.{Serves}
 
 -- a connection ended so
 abbrev pub EndsAs : (Ending → Type 0) → Result (Unit {0}) HexFault → Type 0
-EndsAs P (Ok done) = (served : Served) × P (Ok served)
-EndsAs P (Err hexed.BadHex) = ⊥
-EndsAs P (Err (hexed.Serve fault)) = P (Err fault)
+EndsAs P result = elim result [ Ok done ↦ (served : Served) × P (Ok served) | Err hexed.BadHex ↦ ⊥ | Err (hexed.Serve fault) ↦ P (Err fault) ]
 
 -- the input was this text, as far as its bytes are known
 abbrev pub WasText : Option (List ℕ) → List ℕ → Type 0

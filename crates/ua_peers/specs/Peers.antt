@@ -71,23 +71,18 @@ faults_met taken = flat_map (λ t. option_to_list (fault_on t.way)) taken
 
 -- the dialog goes on behind it
 abbrev pub is_open : Result State ExchangeFault → Bool
-is_open (Ok state) = not (is_over state)
-is_open (Err fault) = false
+is_open result = elim result [ Ok state ↦ not (is_over state) | Err fault ↦ false ]
 
 abbrev pub AreOpen : List Taken → Type 0
 AreOpen taken = AllByRecursion (λ t. is_open t.result ≡ true) taken
 
 -- a fault is told to the peer, or memory for that was wanting, and nothing was written
 abbrev pub failed_as : (silent : Bool) → ExchangeFault → Result Parted ServeFault
-failed_as true fault = Err OutOfMemory
-failed_as false fault = Ok (parted.Failed fault)
+failed_as test fault = elim test [ true ↦ Err OutOfMemory | false ↦ Ok (parted.Failed fault) ]
 
 -- the end that this is, if it is one, where the peer ended the dialog by this number
 abbrev pub ended_as : Option ℕ → (silent : Bool) → Result State ExchangeFault → Option (Result Parted ServeFault)
-ended_as code silent (Ok Done) = Some (Ok parted.Done)
-ended_as code silent (Ok Failed) = Some (Ok (parted.Refused (unwrap_or code 0)))
-ended_as code silent (Ok state) = None
-ended_as code silent (Err fault) = Some (failed_as silent fault)
+ended_as code silent result = elim result [ Ok Done ↦ Some (Ok parted.Done) | Ok Failed ↦ Some (Ok (parted.Refused (unwrap_or code 0))) | Ok state ↦ None | Err fault ↦ Some (failed_as silent fault) ]
 
 abbrev pub is_silent : List ℕ → Bool
 is_silent said = length said == 0

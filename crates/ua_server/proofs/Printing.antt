@@ -1,5 +1,6 @@
 -- What a command does.
 use Rattle.std.proofs.Common.{◌≡◌, ℕ, Bool, true, List, [], Some, None, Ok, Err, refl, subst, inl, inr, option_copied}
+use Rattle.std.specs.Result.{result_map_both}
 use Rattle.clap.specs.Words.{Row, Text}
 use Rattle.std.specs.Prelude.{Option, Result}
 use Rattle.ua_connection.specs.declared.hexed.HexFault.{HexFault}
@@ -19,7 +20,7 @@ use Rattle.command_line.specs.Line.{IsLine, IsNoCommand}
 use Rattle.clap.specs.declared.error.ErrorKind.{ErrorKind}
 use Rattle.ua_settings.specs.Settings.{Values}
 use Rattle.archive.specs.Store.{Store}
-use Rattle.ua_server.specs.Program.{IsUnbegun, SettingsAt, Machine, By, Calls, CallsPeer, Scene, program_result, dump_result, PrintsSynced, IsRefused, DoesLine, Runs}
+use Rattle.ua_server.specs.Program.{IsUnbegun, SettingsAt, Machine, By, Calls, CallsPeer, Scene, PrintsSynced, IsRefused, DoesLine, Runs, dump_fault, fault_of}
 use Rattle.ua_server.specs.Network.{Means}
 use Rattle.std.specs.declared.net.socket_addr.SocketAddr.{SocketAddr}
 use Rattle.command_line.specs.declared.line.Line.{Line as CommandLine}
@@ -50,12 +51,12 @@ by-line machine path does refused line Q never told (Err fault, set, so) =
     let u = unset machine.reads machine.unasked path line (subst (λ f. SettingsAt machine.reads machine.unasked path (Err f)) t.0 set) in
     (u.0, t.1, u.1, so.0)
 
-answered-line : (answered : Result (Unit {0}) HexFault) (line : LineFault) → Err (Line line) ≡ program_result answered → ⊥
+answered-line : (answered : Result (Unit {0}) HexFault) (line : LineFault) → Err (Line line) ≡ result_map_both (λ done. done) fault_of answered → ⊥
 answered-line (Ok done) line same = cc
 answered-line (Err hexed.BadHex) line same = cc
 answered-line (Err (hexed.Serve cause)) line same = cc
 
-dumped-line : (dumped : Result (Unit {0}) DumpFault) (line : LineFault) → Err (Line line) ≡ dump_result dumped → ⊥
+dumped-line : (dumped : Result (Unit {0}) DumpFault) (line : LineFault) → Err (Line line) ≡ result_map_both (λ done. done) dump_fault dumped → ⊥
 dumped-line (Ok done) line same = cc
 dumped-line (Err (dump.Store fault)) line same = cc
 dumped-line (Err dump.Write) line same = cc

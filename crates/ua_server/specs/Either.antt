@@ -1,5 +1,6 @@
 -- What a connection is answered, a client's or a peer's.
-use Rattle.std.specs.Prelude.{◌≡◌, ℕ, ◌<◌, ◌≤◌, ◌||◌, Bool, true, false, List, [], length, Option, Result, Ok, Err, ◌⊎◌, codes}
+use Rattle.std.specs.Prelude.{◌≡◌, ℕ, ◌<◌, ◌≤◌, ◌||◌, Bool, true, false, List, [], length, Option, Result, Err, ◌⊎◌, codes}
+use Rattle.std.specs.Result.{result_map_both}
 use Rattle.std.specs.Io.KnownBytes.{Consumes, IsAtEnd}
 use Rattle.archive.specs.Store.{Store, Stays, Passes}
 use Rattle.exchange.specs.Frames.{begins}
@@ -18,14 +19,6 @@ use Rattle.ua_connection.specs.Serving.{ServesBehind}
 abbrev pub Ends : Type 0
 Ends = Result Ended ServeFault
 
-abbrev pub peer_ended : Result Parted ServeFault → Ends
-peer_ended (Ok parted) = Ok (Peer parted)
-peer_ended (Err fault) = Err fault
-
-abbrev pub client_ended : Ending → Ends
-client_ended (Ok served) = Ok (Client served)
-client_ended (Err fault) = Err fault
-
 -- a peer's connection begins with the letters of a frame that asks or brings
 abbrev pub is_peers : List ℕ → Bool
 is_peers first = begins first (codes "RXV") || begins first (codes "RXD")
@@ -37,9 +30,9 @@ AreFirst unread left first = Consumes unread left first × (length first ≤ 3) 
 -- behind these bytes a dialog with a peer was had, as the end that answers; or a client was served
 abbrev pub GoesAs : (peers : Bool) → Values → (old new : Store) → (first : List ℕ) → (unread left before after : Option (List ℕ)) → Outside → Ends → Type 0
 GoesAs true settings old new first unread left before after used ending =
-    (parted : Result Parted ServeFault) × (ending ≡ peer_ended parted) × (used ≡ record { marks = []; readings = [] }) × MeetsBehind responding old new first unread left before after parted
+    (parted : Result Parted ServeFault) × (ending ≡ result_map_both Peer (λ fault. fault) parted) × (used ≡ record { marks = []; readings = [] }) × MeetsBehind responding old new first unread left before after parted
 GoesAs false settings old new first unread left before after used ending =
-    (served : Ending) × (ending ≡ client_ended served) × ServesBehind settings old new first unread left before after used served
+    (served : Ending) × (ending ≡ result_map_both Client (λ fault. fault) served) × ServesBehind settings old new first unread left before after used served
 
 -- a read failed before three bytes were there: nothing was written, and nothing done
 pub record BreaksOff (old new : Store) (unread left before after : Option (List ℕ)) (used : Outside) (ending : Ends) : Type 0 where

@@ -50,8 +50,7 @@ Connects {L} {R} {W} means settings old new ending = (came : Option (R × W)) ×
 
 -- what is told of an end: nothing, or of a fault its line, or a first part of that where it can't be written
 abbrev pub Tells : {E : Type 0} → (E → Option (List ℕ)) → Ends → Tally E → Tally E → Type 0
-Tells told (Ok ended) old new = new ≡ old
-Tells told (Err fault) old new = IsTold told old new (error_lines (Connection fault))
+Tells told v old new = elim v [ Ok ended ↦ new ≡ old | Err fault ↦ IsTold told old new (error_lines (Connection fault)) ]
 
 -- so many connections were served, each over what the one before it left, and of each end it was told
 abbrev pub ServesEach : {L R W A C E : Type 0} → Means L R W A C → (E → Option (List ℕ)) → Values → ℕ → Around L A C → Tally E → Around L A C → Tally E → Type 0

@@ -1,5 +1,6 @@
 -- What a run of the program does.
 use Rattle.std.specs.Prelude.{◌≡◌, ◌≤◌, ℕ, ℤ, List, [], length, Option, None, Some, IfSome, option_copied, Result, Ok, Err, IfOk, MatchResult, Bool, true, ◌⊎◌}
+use Rattle.std.specs.Result.{result_map_both}
 use Rattle.std.specs.Io.KnownBytes.{Appends}
 use Rattle.std.specs.declared.net.socket_addr.SocketAddr.{SocketAddr}
 use Rattle.toml.specs.Parse.{parse_document}
@@ -49,19 +50,15 @@ OpensArchive opened untouched held settings (Some path) opening = opened path se
 
 -- memory for the server was wanting, and nothing was done
 abbrev pub IsUnbegun : LineFault → Type 0
-IsUnbegun Words = ⊥
-IsUnbegun NoMemory = Unit {0}
+IsUnbegun fault = elim fault [ Words ↦ ⊥ | NoMemory ↦ Unit {0} ]
 
 -- the settings without a file
 abbrev pub IsBare : Result Values ProgramFault → Type 0
-IsBare (Ok settings) = settings ≡ bare
-IsBare (Err (Line fault)) = IsUnbegun fault
-IsBare (Err fault) = ⊥
+IsBare result = elim result [ Ok settings ↦ settings ≡ bare | Err (Line fault) ↦ IsUnbegun fault | Err fault ↦ ⊥ ]
 
 -- what tells where settings are refused has at most 180 bytes; want of memory has no place
 abbrev pub IsPlace : SettingsFault → Option (List ℕ) → Type 0
-IsPlace refused.OutOfMemory place = place ≡ None
-IsPlace fault place = IfSome place (λ told. length told ≤ 180)
+IsPlace fault place = elim fault [ refused.OutOfMemory ↦ place ≡ None | _ ↦ IfSome place (λ told. length told ≤ 180) ]
 
 -- the settings that a text gives; where they are refused, the place may be told
 abbrev pub IsSetIn : List ℕ → Result Values ProgramFault → Type 0
@@ -71,24 +68,17 @@ IsSetIn text (Err fault) = ⊥
 
 -- by the text of a file, where it can be read
 abbrev pub IsSetBy : Option (List ℕ) → Result Values ProgramFault → Type 0
-IsSetBy None result = result ≡ Err File
-IsSetBy (Some text) result = IsSetIn text result
+IsSetBy given result = elim given [ None ↦ result ≡ Err File | Some text ↦ IsSetIn text result ]
 
 -- the settings of a server that is given this path, by what was read at it; without a path no file was asked for
 abbrev pub SettingsAt : (List ℕ → Option (List ℕ) → Type 0) → (unasked : Type 0) → Option (List ℕ) → Result Values ProgramFault → Type 0
-SettingsAt reads unasked None result = IsBare result × unasked
-SettingsAt reads unasked (Some path) result = (text : Option (List ℕ)) × reads path text × IsSetBy text result
+SettingsAt reads unasked given result = elim given [ None ↦ IsBare result × unasked | Some path ↦ (text : Option (List ℕ)) × reads path text × IsSetBy text result ]
 
 -- ---- a command
 
 -- what a fault of a connection is called by the program
 abbrev pub fault_of : HexFault → ProgramFault
-fault_of hexed.BadHex = BadHex
-fault_of (hexed.Serve fault) = Connection fault
-
-abbrev pub program_result : Result (Unit {0}) HexFault → Result (Unit {0}) ProgramFault
-program_result (Ok done) = Ok done
-program_result (Err fault) = Err (fault_of fault)
+fault_of v = elim v [ hexed.BadHex ↦ BadHex | hexed.Serve fault ↦ Connection fault ]
 
 -- the machine that a program runs on: how its files give their texts and their archives, and what archives hold; and what it is to it that none was asked
 -- for its text, or opened
@@ -112,7 +102,7 @@ By machine path does refused = (settings : Result Values ProgramFault) × Settin
 abbrev pub AnswersBy : {K : Type 0} → Machine K → Option (List ℕ) → Bool → Option ℤ → Option (List ℕ) → Option (List ℕ) → Option (List ℕ) → Option (List ℕ) → Outside → Result (Unit {0}) ProgramFault → Type 0
 AnswersBy {K} machine path hex now input left old written used result =
     By machine path
-    (λ settings first. (last : K) × (answered : Result (Unit {0}) HexFault) × AnswersAt settings (machine.held first) (machine.held last) hex now input left old written used answered × (result ≡ program_result answered))
+    (λ settings first. (last : K) × (answered : Result (Unit {0}) HexFault) × AnswersAt settings (machine.held first) (machine.held last) hex now input left old written used answered × (result ≡ result_map_both (λ done. done) fault_of answered))
     (λ fault. (result ≡ Err fault) × (left ≡ input) × (written ≡ old))
 
 -- connections are served, or nothing is done
@@ -123,24 +113,19 @@ ServesBy {K} machine means listened told path count network after clock later be
     (λ fault. (result ≡ Err fault) × (after ≡ network) × (later ≡ clock) × (errors ≡ before))
 
 -- what a dump is called by the program
-abbrev pub dump_result : Result (Unit {0}) DumpFault → Result (Unit {0}) ProgramFault
-dump_result (Ok done) = Ok done
-dump_result (Err (dump.Store fault)) = Err (program.Store fault)
-dump_result (Err dump.Write) = Err (Connection Write)
-dump_result (Err dump.OutOfMemory) = Err (Connection OutOfMemory)
+abbrev pub dump_fault : DumpFault → ProgramFault
+dump_fault fault = elim fault [ dump.Store fault ↦ program.Store fault | dump.Write ↦ Connection Write | dump.OutOfMemory ↦ Connection OutOfMemory ]
 
 -- the archive is dumped, or nothing is written
 abbrev pub DumpsBy : {K : Type 0} → Machine K → List ℕ → Option (List ℕ) → Option (List ℕ) → Result (Unit {0}) ProgramFault → Type 0
 DumpsBy {K} machine path old written result =
     By machine (Some path)
-    (λ settings first. (last : K) × (dumped : Result (Unit {0}) DumpFault) × Dumps (machine.held first) (machine.held last) old written dumped × (result ≡ dump_result dumped))
+    (λ settings first. (last : K) × (dumped : Result (Unit {0}) DumpFault) × Dumps (machine.held first) (machine.held last) old written dumped × (result ≡ result_map_both (λ done. done) dump_fault dumped))
     (λ fault. (result ≡ Err fault) × (written ≡ old))
 
 -- what the fault of a dialog with a peer that was called is called by the program
 abbrev pub sync_fault : SyncFault → ProgramFault
-sync_fault (sync.Connection fault) = program.Call fault
-sync_fault (sync.Exchange fault) = program.Exchange fault
-sync_fault (sync.Peer number) = program.Peer number
+sync_fault v = elim v [ sync.Connection fault ↦ program.Call fault | sync.Exchange fault ↦ program.Exchange fault | sync.Peer number ↦ program.Peer number ]
 
 -- of a dialog that came to its end the line was printed, a first part of it where the writer failed, nothing where memory for it was wanting; of another one
 -- nothing was printed, and its fault is told
@@ -209,8 +194,7 @@ DoesLine machine calls means listened told (Sync path peer) old new result =
 
 -- a line is refused for want of memory, or where clap refuses it or its matches name no command
 abbrev pub IsRefused : Bool → Option (Text × List Row) → LineFault → Type 0
-IsRefused taken matches Words = taken ≡ true → IsNoCommand matches
-IsRefused taken matches NoMemory = Unit {0}
+IsRefused taken matches fault = elim fault [ Words ↦ taken ≡ true → IsNoCommand matches | NoMemory ↦ Unit {0} ]
 
 -- A run by the faults that clap finds in a command line, by whether it takes it, and by its matches. What is done is done for a line without
 -- faults; where the line is refused nothing is read, printed or told, the network isn't used, and no file is asked for or opened.

@@ -17,16 +17,10 @@ use Rattle.ua_settings.specs.declared.fault.SettingsFault.{SettingsFault}
 use Rattle.ua_settings.specs.declared.fault.SettingsFault.TheVariants as refused
 
 abbrev pub fault_status : ProgramFault → ℕ
-fault_status (Line fault) = 2
-fault_status File = 2
-fault_status (Settings fault place) = 2
-fault_status (Store fault) = 3
-fault_status BadHex = 2
-fault_status fault = 1
+fault_status fault = elim fault [ Line fault ↦ 2 | File ↦ 2 | Settings fault place ↦ 2 | Store fault ↦ 3 | BadHex ↦ 2 | _ ↦ 1 ]
 
 abbrev pub status_of : Result (Unit {0}) ProgramFault → ℕ
-status_of (Ok done) = 0
-status_of (Err fault) = fault_status fault
+status_of result = elim result [ Ok done ↦ 0 | Err fault ↦ fault_status fault ]
 
 -- the text that tells refused settings
 abbrev pub refusal_text : SettingsFault → List ℕ
@@ -47,10 +41,7 @@ store_text store.Broken = codes "store refused (5)"
 
 -- the text that tells a fault of a connection
 abbrev pub connection_text : ServeFault → List ℕ
-connection_text Read = codes "connection ended (1)"
-connection_text Write = codes "connection ended (2)"
-connection_text TooLong = codes "connection ended (3)"
-connection_text OutOfMemory = codes "connection ended (4)"
+connection_text fault = elim fault [ Read ↦ codes "connection ended (1)" | Write ↦ codes "connection ended (2)" | TooLong ↦ codes "connection ended (3)" | OutOfMemory ↦ codes "connection ended (4)" ]
 
 -- the text that tells why an exchange ended, by its number; a peer may give a number that is none
 abbrev pub exchange_text : ℕ → List ℕ
@@ -79,8 +70,7 @@ text_of (Peer number) = exchange_text number
 
 -- where settings are refused
 abbrev pub place_of : ProgramFault → Option (List ℕ)
-place_of (Settings fault place) = place
-place_of fault = None
+place_of fault = elim fault [ Settings fault place ↦ place | _ ↦ None ]
 
 -- the line that tells how many records a call of a peer moved
 abbrev pub synced_line : Synced → List ℕ
@@ -91,8 +81,7 @@ abbrev pub told_line : List ℕ → List ℕ
 told_line text = codes "uahist: " ++ (text ++ 10 ∷ [])
 
 abbrev pub place_line : Option (List ℕ) → List ℕ
-place_line None = []
-place_line (Some place) = told_line place
+place_line given = elim given [ None ↦ [] | Some place ↦ told_line place ]
 
 -- what standard error has of a fault: a line, and a second one where settings are refused
 abbrev pub error_lines : ProgramFault → List ℕ

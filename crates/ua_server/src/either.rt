@@ -1,12 +1,14 @@
 //! A connection of which the first letters tell whose it is.
 
 ghost use Rattle.std.specs.Prelude.{◌≡◌, ◌≤◌, ◌<◌, length, take, IfOk, OnOk, OnErr, IsErrOf, Err, ℕ, List};
+ghost use Rattle.ua_server.specs.declared.either.Ended.TheVariants.{Client, Peer};
+ghost use Rattle.std.specs.Result.{result_map_both};
 ghost use Rattle.std.specs.Io.KnownBytes.{Consumes, IsAtEnd};
 ghost use Rattle.counted_io.specs.Bytes.{counted};
 ghost use Rattle.ua_connection.specs.Given.{Outside};
 ghost use Rattle.ua_connection.specs.Serving.{ServesBehind};
 ghost use Rattle.ua_peers.specs.Peers.{MeetsBehind, responding};
-ghost use Rattle.ua_server.specs.Either.{peer_ended, client_ended, is_peers, ServesEither};
+ghost use Rattle.ua_server.specs.Either.{is_peers, ServesEither};
 
 use archive::Archive;
 use counted_io::{Counted, ServeFault};
@@ -64,7 +66,7 @@ fn meet_peer<R: Read, W: Write, A: Archive>(
     writer: &mut Counted<W>,
 ) -> Result<Ended, ServeFault>
     requires { length first.now < 8 }
-    ensures meets { (parted : _) × (result ≡ peer_ended parted)
+    ensures meets { (parted : _) × (result ≡ result_map_both Peer (λ fault. fault) parted)
         × MeetsBehind responding (A.state replica.old.archive) (A.state replica.new.archive) first.now (R.remaining reader.old.inner) (R.remaining reader.new.inner) (W.contents writer.old.inner) (W.contents writer.new.inner) parted }
     ensures read { IsErrOf result ServeFault.Read → reader.new.faults ≡ counted reader.old.faults }
     ensures write { IsErrOf result ServeFault.Write → writer.new.faults ≡ counted writer.old.faults }
@@ -88,7 +90,7 @@ fn serve_client<R: Read, W: Write, C: Clock, A: Archive>(
     clock: &mut C,
 ) -> Result<Ended, ServeFault>
     requires { length first.now < 8 }
-    ensures serves { (used : Outside) × C.gave clock.old used.readings clock.new × (served : _) × (result ≡ client_ended served)
+    ensures serves { (used : Outside) × C.gave clock.old used.readings clock.new × (served : _) × (result ≡ result_map_both Client (λ fault. fault) served)
         × ServesBehind settings.now (A.state archive.old) (A.state archive.new) first.now (R.remaining reader.old.inner) (R.remaining reader.new.inner) (W.contents writer.old.inner) (W.contents writer.new.inner) used served }
     ensures read { IsErrOf result ServeFault.Read → reader.new.faults ≡ counted reader.old.faults }
     ensures write { IsErrOf result ServeFault.Write → writer.new.faults ≡ counted writer.old.faults }

@@ -1,12 +1,13 @@
 //! The program, over any reader and writers.
 
 ghost use Rattle.std.specs.Prelude.{◌≡◌, ◌+◌, ℕ, ℤ, List, [], ◌∷◌, ◌++◌, IfOk, IfErr, OnOk, OnErr, IsErrOf, map, option_copied, string_bytes};
+ghost use Rattle.std.specs.Result.{result_map_both};
 ghost use Rattle.std.specs.Io.KnownBytes.{Appends};
 ghost use Rattle.counted_io.specs.Bytes.{counted, AppendsPart};
 ghost use Rattle.ua_connection.specs.Given.{Outside};
 ghost use Rattle.ua_connection.specs.Single.{AnswersAt};
 ghost use Rattle.ua_server.specs.Telling.{status_of, IsTold, refusal_text, store_text, connection_text, exchange_text, told_line, place_line, error_lines, synced_line};
-ghost use Rattle.ua_server.specs.Program.{OpensArchive, fault_of, program_result, AnswersBy, ServesBy, dump_result, DumpsBy, sync_fault, PrintsSynced, CallsPeer, SyncsBy, DoesLine, Runs};
+ghost use Rattle.ua_server.specs.Program.{OpensArchive, fault_of, AnswersBy, ServesBy, DumpsBy, sync_fault, PrintsSynced, CallsPeer, SyncsBy, DoesLine, Runs, dump_fault};
 ghost use Rattle.ua_server.specs.Dumping.{Dumps};
 ghost use Rattle.clap.specs.Words.{subcommand_of};
 ghost use Rattle.clap.specs.Takes.{takes};
@@ -202,7 +203,7 @@ fn answer_over<A: Archive, R: Read, W: Write, C: Clock>(
     ensures read { IsErrOf result (ProgramFault.Connection ServeFault.Read) → input.new.faults ≡ counted input.old.faults }
     ensures write { IsErrOf result (ProgramFault.Connection ServeFault.Write) → output.new.faults ≡ counted output.old.faults }
     ensures does { (used : Outside) × C.gave clock.old used.readings clock.new × (answered : _)
-        × AnswersAt settings.now (A.state archive.old) (A.state archive.new) hex now (R.remaining input.old.inner) (R.remaining input.new.inner) (W.contents output.old.inner) (W.contents output.new.inner) used answered × (result ≡ program_result answered) }
+        × AnswersAt settings.now (A.state archive.old) (A.state archive.new) hex now (R.remaining input.old.inner) (R.remaining input.new.inner) (W.contents output.old.inner) (W.contents output.new.inner) used answered × (result ≡ result_map_both (λ done. done) fault_of answered) }
 {
     match answer_at(alloc, settings, archive, hex, now, input, output, clock) {
         Ok(()) => Ok(()),
@@ -287,7 +288,7 @@ fn dump_over<A: Archive, W: Write>(
 ) -> Result<(), ProgramFault>
     ensures read { IsErrOf result (ProgramFault.Connection ServeFault.Read) → ⊥ }
     ensures write { IsErrOf result (ProgramFault.Connection ServeFault.Write) → output.new.faults ≡ counted output.old.faults }
-    ensures dumps { (dumped : _) × Dumps (A.state archive.old) (A.state archive.new) (W.contents output.old.inner) (W.contents output.new.inner) dumped × (result ≡ dump_result dumped) }
+    ensures dumps { (dumped : _) × Dumps (A.state archive.old) (A.state archive.new) (W.contents output.old.inner) (W.contents output.new.inner) dumped × (result ≡ result_map_both (λ done. done) dump_fault dumped) }
 {
     match dump(alloc, archive, output) {
         Ok(()) => Ok(()),

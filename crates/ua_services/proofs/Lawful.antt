@@ -10,7 +10,7 @@ use Rattle.ua_binary.proofs.Lawful.{u32_lawful, i32_lawful, boolean_lawful, text
 use Rattle.ua_services.specs.Endpoints.{application_description, IsApplication, user_token_policy, access, IsAccess, endpoint_description, get_endpoints_request, get_endpoints_response}
 use Rattle.ua_services.specs.Unkept.{unkept}
 use Rattle.ua_services.specs.Structure.{is_type}
-use Rattle.ua_services.specs.Sessions.{user_identity, identity_type, identity_form, unknown_identity, anonymous_identity_token, user_name_identity_token, signature_data, signed_software_certificate, no_signature, create_session_request, create_session_response, IsSessionMade, activate_session_request, activate_session_response, close_session_request}
+use Rattle.ua_services.specs.Sessions.{user_identity, identity_type, anonymous_form, user_name_form, unknown_form, identity_form, anonymous_identity_token, user_name_identity_token, signature_data, signed_software_certificate, no_signature, create_session_request, create_session_response, IsSessionMade, activate_session_request, activate_session_response, close_session_request}
 use Rattle.ua_services.specs.Endpoints.{no_application}
 use Rattle.ua_services.proofs.Unkept.{unkept_lawful, past_lawful, closed_lawful, many_lawful, many_fits, unkept_array_lawful, null_lawful, structure_lawful}
 
@@ -66,11 +66,17 @@ user_name_token_lawful : IsLawful user_name_identity_token
 unfolding user_name_identity_token
 user_name_token_lawful = past_lawful no_text_lawful (then_lawful text_lawful (then_lawful byte_string_lawful text_lawful))
 
+anonymous_lawful : IsLawful anonymous_form
+anonymous_lawful = standing_lawful _ _ (structure_lawful anonymous_token_lawful)
+
+user_name_lawful : IsLawful user_name_form
+user_name_lawful = standing_lawful _ _ (structure_lawful user_name_token_lawful)
+
+unknown_lawful : (id : NodeId) → IsLawful (unknown_form id)
+unknown_lawful id = standing_lawful _ (λ _. Absent) body_lawful
+
 identity_form_lawful : (id : NodeId) → IsLawful (identity_form id)
-identity_form_lawful id =
-    chosen_lawful (is_type 321 id) (standing_lawful _ _ (structure_lawful anonymous_token_lawful)) (
-    chosen_lawful (is_type 324 id) (standing_lawful _ _ (structure_lawful user_name_token_lawful))
-    (standing_lawful (unknown_identity id) (λ _. Absent) body_lawful))
+identity_form_lawful id = chosen_lawful (is_type 321 id) anonymous_lawful (chosen_lawful (is_type 324 id) user_name_lawful (unknown_lawful id))
 
 pub identity_lawful : IsLawful user_identity
 unfolding user_identity

@@ -1,14 +1,16 @@
 -- The formats of Browse and Read are lawful.
-use Rattle.std.proofs.Common.{None}
+use Rattle.std.proofs.Common.{None, pos}
+use Rattle.std.specs.Prelude.{replicate}
 use Rattle.ua_binary.specs.Format.{IsLawful}
 use Rattle.ua_binary.specs.Binary.{unsigned, signed, boolean, status, node_id, qualified, localized, byte_string}
 use Rattle.ua_binary.proofs.Combined.{block_lawful, then_lawful, standing_lawful, fitting_lawful, raised_lawful}
 use Rattle.ua_binary.proofs.Elements.{IsItemLawful, then_item, fitting_item}
 use Rattle.ua_binary.proofs.Lawful.{u32_lawful, i32_lawful, boolean_lawful, ticks_lawful, text_lawful, byte_string_lawful, status_item, node_id_lawful, node_id_item, qualified_lawful, localized_lawful, array_of_items}
+use Rattle.ua_binary.specs.declared.values.NodeId.TheVariants.{Numeric}
 use Rattle.ua_variant.specs.Raise.{variant_fault}
 use Rattle.ua_variant.specs.DataValue.{data_value}
-use Rattle.ua_services.specs.Browsing.{browse_direction, direction_of, direction_number, browse_description, no_view, browse_request, reference_description, browse_result, browse_response}
-use Rattle.ua_services.specs.Attributes.{timestamps, timestamps_of, timestamps_number, read_value_id, no_age, read_request, data_values, read_response}
+use Rattle.ua_services.specs.Browsing.{browse_direction, direction_of, direction_number, browse_description, browse_request, reference_description, browse_result, browse_response}
+use Rattle.ua_services.specs.Attributes.{timestamps, timestamps_of, timestamps_number, read_value_id, read_request, data_values, read_response}
 use Rattle.ua_services.proofs.Firsts.{first_lawful}
 use Rattle.ua_services.proofs.Unkept.{unkept_lawful, past_lawful, closed_lawful, many_lawful, array_fits, many_fits, null_lawful}
 use Rattle.ua_services.proofs.UpdatesLawful.{data_value_item}
@@ -26,7 +28,7 @@ browse_lawful = browse_item.lawful
 
 pub browse_asked_lawful : IsLawful browse_request
 unfolding browse_request
-browse_asked_lawful = past_lawful (unkept_lawful no_view (then_lawful node_id_lawful (then_lawful ticks_lawful u32_lawful))) (past_lawful (unkept_lawful 0 u32_lawful) (first_lawful 1001 (λ e. e) browse_item))
+browse_asked_lawful = past_lawful (unkept_lawful (Numeric 0 0, (record { 0 = pos 0 }, 0)) (then_lawful node_id_lawful (then_lawful ticks_lawful u32_lawful))) (past_lawful (unkept_lawful 0 u32_lawful) (first_lawful 1001 (λ e. e) browse_item))
 
 pub reference_item : IsItemLawful reference_description
 unfolding reference_description node_id boolean qualified localized signed
@@ -60,7 +62,7 @@ read_lawful = read_item.lawful
 
 pub read_asked_lawful : IsLawful read_request
 unfolding read_request
-read_asked_lawful = past_lawful (unkept_lawful no_age (block_lawful 8)) (then_lawful timestamps_lawful (first_lawful 1001 (λ e. e) read_item))
+read_asked_lawful = past_lawful (unkept_lawful (replicate 8 0) (block_lawful 8)) (then_lawful timestamps_lawful (first_lawful 1001 (λ e. e) read_item))
 
 pub data_values_lawful : IsLawful data_values
 data_values_lawful = array_of_items variant_fault data_value_item

@@ -1,5 +1,5 @@
 -- What a Read asks and answers (Part 4, 5.11.2).
-use Rattle.std.specs.Prelude.{◌<◌, ◌^◌, ℕ, ℤ, pos, List, [], ◌∷◌, length, map, All, Option, Some, None, if◌then◌else◌}
+use Rattle.std.specs.Prelude.{◌<◌, ◌^◌, ℕ, ℤ, pos, List, length, map, replicate, All, Option, Some, None, if◌then◌else◌}
 use Rattle.std.specs.Option.{option_copied}
 use Rattle.std.specs.Ordering.{int_eq}
 use Rattle.std.specs.Int.{w32}
@@ -26,11 +26,7 @@ abbrev pub timestamps_of : ℤ → Option TimestampsToReturn
 timestamps_of n = if int_eq n (pos 0) then Some Source else if int_eq n (pos 1) then Some Server else if int_eq n (pos 2) then Some Both else if int_eq n (pos 3) then Some Neither else None
 
 abbrev pub timestamps_number : Option TimestampsToReturn → ℤ
-timestamps_number (Some Source) = pos 0
-timestamps_number (Some Server) = pos 1
-timestamps_number (Some Both) = pos 2
-timestamps_number (Some Neither) = pos 3
-timestamps_number None = pos 4
+timestamps_number given = elim given [ Some Source ↦ pos 0 | Some Server ↦ pos 1 | Some Both ↦ pos 2 | Some Neither ↦ pos 3 | None ↦ pos 4 ]
 
 unfoldable pub timestamps : Format BinaryFault (Option TimestampsToReturn)
 timestamps = standing_for timestamps_of timestamps_number (signed w32)
@@ -52,12 +48,9 @@ abbrev pub read_asked : ReadRequest → ReadAsked
 read_asked r = (r.timestamps, map read_fields r.nodes.items)
 
 -- the eight bytes of the Double 0
-abbrev pub no_age : List ℕ
-no_age = 0 ∷ 0 ∷ 0 ∷ 0 ∷ 0 ∷ 0 ∷ 0 ∷ 0 ∷ []
-
 -- greatest age, moments, what is read: of which 1,001 are kept
 unfoldable pub read_request : Format BinaryFault ReadAsked
-read_request = unkept no_age (block 8) ▹ timestamps ▸ first_of 1001 (λ e. e) read_value_id
+read_request = unkept (replicate 8 0) (block 8) ▹ timestamps ▸ first_of 1001 (λ e. e) read_value_id
 
 -- ---- the response
 

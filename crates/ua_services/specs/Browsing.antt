@@ -6,7 +6,6 @@ use Rattle.std.specs.Int.RustNames.{FitsSigned}
 use Rattle.ua_binary.specs.declared.fault.BinaryFault.{BinaryFault}
 use Rattle.ua_binary.specs.declared.values.NodeId.{NodeId}
 use Rattle.ua_binary.specs.declared.values.NodeId.TheVariants.{Numeric}
-use Rattle.ua_binary.specs.declared.values.Ticks.{Ticks}
 use Rattle.ua_binary.specs.declared.codes.Status.{Status}
 use Rattle.ua_binary.specs.declared.values.QualifiedName.{QualifiedName}
 use Rattle.ua_binary.specs.declared.values.LocalizedText.{LocalizedText}
@@ -28,10 +27,7 @@ abbrev pub direction_of : ℤ → Option BrowseDirection
 direction_of n = if int_eq n (pos 0) then Some Forward else if int_eq n (pos 1) then Some Inverse else if int_eq n (pos 2) then Some Both else None
 
 abbrev pub direction_number : Option BrowseDirection → ℤ
-direction_number (Some Forward) = pos 0
-direction_number (Some Inverse) = pos 1
-direction_number (Some Both) = pos 2
-direction_number None = pos 3
+direction_number given = elim given [ Some Forward ↦ pos 0 | Some Inverse ↦ pos 1 | Some Both ↦ pos 2 | None ↦ pos 3 ]
 
 unfoldable pub browse_direction : Format BinaryFault (Option BrowseDirection)
 browse_direction = standing_for direction_of direction_number (signed w32)
@@ -46,29 +42,15 @@ browse_fields d = (node_of d.node_id, (d.direction, (node_of d.reference_type_id
 unfoldable pub browse_description : Format BinaryFault BrowseFields
 browse_description = node_id ▸ browse_direction ▸ node_id ▸ boolean ▸ unsigned w32 ▸ unsigned w32
 
--- the id of a view, a moment, a version
-abbrev pub view_description : Format BinaryFault (NodeId × (Ticks × ℕ))
-view_description = node_id ▸ ticks ▸ unsigned w32
-
-abbrev pub no_view : NodeId × (Ticks × ℕ)
-no_view = (Numeric 0 0, (record { 0 = pos 0 }, 0))
-
--- the view, the most references, what is browsed: of which 1,001 are kept
+-- the view (its id, a moment, a version), the most references, what is browsed: of which 1,001 are kept
 unfoldable pub browse_request : Format BinaryFault (List BrowseFields)
-browse_request = unkept no_view view_description ▹ unkept 0 (unsigned w32) ▹ first_of 1001 (λ e. e) browse_description
+browse_request =
+    unkept (Numeric 0 0, (record { 0 = pos 0 }, 0)) (node_id ▸ ticks ▸ unsigned w32) ▹ unkept 0 (unsigned w32) ▹ first_of 1001 (λ e. e) browse_description
 
 -- ---- the response
 
 abbrev pub class_number : NodeClass → ℕ
-class_number Unspecified = 0
-class_number Object = 1
-class_number Variable = 2
-class_number Method = 4
-class_number ObjectType = 8
-class_number VariableType = 16
-class_number ReferenceType = 32
-class_number DataType = 64
-class_number View = 128
+class_number class = elim class [ Unspecified ↦ 0 | Object ↦ 1 | Variable ↦ 2 | Method ↦ 4 | ObjectType ↦ 8 | VariableType ↦ 16 | ReferenceType ↦ 32 | DataType ↦ 64 | View ↦ 128 ]
 
 -- reference type, whether it is a forward one, node, browse name, display name, class, type definition
 abbrev pub ReferenceFields : Type 0
@@ -87,14 +69,11 @@ abbrev pub IsShortReference : ReferenceDescription → Type 0
 IsShortReference r = IsShortNode r.reference_type_id × IsShortNode r.node_id × IsCounted r.browse_name.name × IsShortLocalized r.display_name × IsShortNode r.type_definition
 
 -- the status of a browse, and the references
-abbrev pub BrowsedFields : Type 0
-BrowsedFields = Status × List ReferenceFields
-
-abbrev pub browsed_fields : BrowseResult → BrowsedFields
+abbrev pub browsed_fields : BrowseResult → Status × List ReferenceFields
 browsed_fields r = (r.status, map reference_fields r.references)
 
 -- status, continuation point, references
-unfoldable pub browse_result : Format BinaryFault BrowsedFields
+unfoldable pub browse_result : Format BinaryFault (Status × List ReferenceFields)
 browse_result = fitting (λ v. (v.0.0 < 2 ^ 32) × AreFew reference_description v.1) (status ▸ unkept None byte_string ▹ many reference_description)
 
 abbrev pub IsShortBrowsed : BrowseResult → Type 0
@@ -107,5 +86,5 @@ abbrev pub AreBrowsed : List BrowseResult → Type 0
 AreBrowsed results = AreFew browse_result (map browsed_fields results)
 
 -- the results, diagnostics
-unfoldable pub browse_response : Format BinaryFault (List BrowsedFields)
+unfoldable pub browse_response : Format BinaryFault (List (Status × List ReferenceFields))
 browse_response = fitting (AreFew browse_result) (many browse_result ◃ null)

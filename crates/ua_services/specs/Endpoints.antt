@@ -22,20 +22,13 @@ use Rattle.ua_services.specs.declared.endpoints.GetEndpointsRequest.{GetEndpoint
 -- ---- enumerations
 
 abbrev pub application_number : ApplicationType → ℤ
-application_number Server = pos 0
-application_number Client = pos 1
-application_number ClientAndServer = pos 2
-application_number DiscoveryServer = pos 3
+application_number v = elim v [ Server ↦ pos 0 | Client ↦ pos 1 | ClientAndServer ↦ pos 2 | DiscoveryServer ↦ pos 3 ]
 
 abbrev pub mode_number : MessageSecurityMode → ℤ
-mode_number mode.Invalid = pos 0
-mode_number mode.None = pos 1
-mode_number mode.Sign = pos 2
-mode_number mode.SignAndEncrypt = pos 3
+mode_number v = elim v [ mode.Invalid ↦ pos 0 | mode.None ↦ pos 1 | mode.Sign ↦ pos 2 | mode.SignAndEncrypt ↦ pos 3 ]
 
 abbrev pub token_number : UserTokenType → ℤ
-token_number Anonymous = pos 0
-token_number UserName = pos 1
+token_number v = elim v [ Anonymous ↦ pos 0 | UserName ↦ pos 1 ]
 
 -- ---- applications
 
@@ -124,14 +117,11 @@ AreEndpoints endpoints = AreFew endpoint_description (map endpoint_fields endpoi
 -- ---- GetEndpoints
 
 -- the URL that the client used, and the transport profiles that it takes
-abbrev pub EndpointsAsked : Type 0
-EndpointsAsked = Option (List ℕ) × List (Option (List ℕ))
-
-abbrev pub endpoints_asked : GetEndpointsRequest → EndpointsAsked
+abbrev pub endpoints_asked : GetEndpointsRequest → Option (List ℕ) × List (Option (List ℕ))
 endpoints_asked r = (option_copied r.endpoint_url, map option_copied r.profile_uris.items)
 
 -- URL, locales, transport profiles
-unfoldable pub get_endpoints_request : Format BinaryFault EndpointsAsked
+unfoldable pub get_endpoints_request : Format BinaryFault (Option (List ℕ) × List (Option (List ℕ)))
 get_endpoints_request = text ▸ unkept_array text ▹ many text
 
 -- the endpoints

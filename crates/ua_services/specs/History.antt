@@ -44,11 +44,9 @@ raw_fields d = (d.is_read_modified, (d.start_time, (d.end_time, (d.num_values_pe
 unfoldable pub read_raw_modified_details : Format BinaryFault ReadRawModifiedDetails
 read_raw_modified_details = standing_for raw_of raw_fields (boolean ▸ ticks ▸ ticks ▸ unsigned w32 ▸ boolean)
 
-abbrev pub no_range : ReadRawModifiedDetails
-no_range = raw_of (false, (record { 0 = pos 0 }, (record { 0 = pos 0 }, (0, false))))
-
 abbrev pub read_raw_modified_form : Format BinaryFault HistoryReadDetails
-read_raw_modified_form = standing_for ReadRawModified (λ v. elim v [ ReadRawModified d ↦ d | _ ↦ no_range ]) (structure read_raw_modified_details)
+read_raw_modified_form =
+    standing_for ReadRawModified (λ v. elim v [ ReadRawModified d ↦ d | _ ↦ raw_of (false, (record { 0 = pos 0 }, (record { 0 = pos 0 }, (0, false)))) ]) (structure read_raw_modified_details)
 
 abbrev pub other_read_form : Format BinaryFault HistoryReadDetails
 other_read_form = standing_for (λ _. Other) (λ _. Absent) body
@@ -59,8 +57,7 @@ read_details_form id = chosen (is_type 649 id) read_raw_modified_form other_read
 
 -- the type that is written
 abbrev pub read_details_type : HistoryReadDetails → NodeId
-read_details_type (ReadRawModified _) = Numeric 0 649
-read_details_type Other = Numeric 0 0
+read_details_type v = elim v [ ReadRawModified _ ↦ Numeric 0 649 | Other ↦ Numeric 0 0 ]
 
 -- a type, and what it calls for
 unfoldable pub history_read_details : Format BinaryFault HistoryReadDetails
@@ -120,9 +117,7 @@ pub data History : Type 0 where
   Modified : List DataValue × List InfoFields → History
 
 abbrev pub history_of : HistoryData → History
-history_of owned.Nothing = Nothing
-history_of (owned.Raw values) = Raw values
-history_of (owned.Modified values infos) = Modified (values, map info_fields infos)
+history_of v = elim v [ owned.Nothing ↦ Nothing | owned.Raw values ↦ Raw values | owned.Modified values infos ↦ Modified (values, map info_fields infos) ]
 
 -- what the type calls for: 658 HistoryData, 11227 HistoryModifiedData, another nothing
 abbrev pub history_form : NodeId → Format VariantFault History
@@ -133,9 +128,7 @@ history_form id =
 
 -- the type that is written
 abbrev pub history_type : History → NodeId
-history_type Nothing = Numeric 0 0
-history_type (Raw _) = Numeric 0 658
-history_type (Modified _) = Numeric 0 11227
+history_type v = elim v [ Nothing ↦ Numeric 0 0 | Raw _ ↦ Numeric 0 658 | Modified _ ↦ Numeric 0 11227 ]
 
 -- the bytes of the body
 abbrev pub history_bytes : History → List ℕ
@@ -182,10 +175,6 @@ AreShortHistoryReads results = (length results < 2 ^ 31) × All IsShortHistoryRe
 abbrev pub AreHistoryReads : List HistoryReadResult → Type 0
 AreHistoryReads results = AreFew history_read_result (map history_fields results)
 
--- an array of results
-abbrev pub history_results : Format VariantFault (List HistoryFields)
-history_results = array variant_fault history_read_result
-
 -- the results, diagnostics
 unfoldable pub history_read_response : Format VariantFault (List HistoryFields)
-history_read_response = fitting (AreFew history_read_result) (history_results ◃ raise null)
+history_read_response = fitting (AreFew history_read_result) (array variant_fault history_read_result ◃ raise null)

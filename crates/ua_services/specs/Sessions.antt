@@ -5,7 +5,6 @@ use Rattle.std.specs.Int.{w32}
 use Rattle.ua_binary.specs.declared.fault.BinaryFault.{BinaryFault}
 use Rattle.ua_binary.specs.declared.values.NodeId.{NodeId}
 use Rattle.ua_binary.specs.declared.values.NodeId.TheVariants.{Numeric}
-use Rattle.ua_binary.specs.declared.values.Body.{Body}
 use Rattle.ua_binary.specs.declared.values.Body.TheVariants.{Absent}
 use Rattle.ua_binary.specs.Format.{Format, block, ◌▸◌, chosen, headed, standing_for, fitting}
 use Rattle.ua_binary.specs.Binary.{unsigned, boolean, text, byte_string, node_id, IsNodeId, status, body, IsShortNode}
@@ -22,31 +21,20 @@ use Rattle.ua_services.specs.declared.sessions.CreateSessionResponse.{CreateSess
 unfoldable pub anonymous_identity_token : Format BinaryFault (Unit {0})
 anonymous_identity_token = unkept None text
 
--- name, password, algorithm of encryption
-abbrev pub UserParts : Type 0
-UserParts = Option (List ℕ) × (Option (List ℕ) × Option (List ℕ))
-
-abbrev pub user_parts : Claim → UserParts
-user_parts (Named name password algorithm) = (name, (password, algorithm))
-user_parts _ = (None, (None, None))
-
--- policy id, user name, password, algorithm of encryption
-unfoldable pub user_name_identity_token : Format BinaryFault UserParts
+-- policy id, which isn't kept, user name, password, algorithm of encryption
+unfoldable pub user_name_identity_token : Format BinaryFault (Option (List ℕ) × (Option (List ℕ) × Option (List ℕ)))
 user_name_identity_token = unkept None text ▹ text ▸ byte_string ▸ text
-
--- of a type that isn't known here: the null type without a body is nobody's
-abbrev pub unknown_identity : NodeId → Body → Claim
-unknown_identity id Absent = if is_type 0 id then Anonymous else Other
-unknown_identity id _ = Other
 
 abbrev pub anonymous_form : Format BinaryFault Claim
 anonymous_form = standing_for (λ _. Anonymous) (λ _. tt) (structure anonymous_identity_token)
 
 abbrev pub user_name_form : Format BinaryFault Claim
-user_name_form = standing_for (λ p. Named p.0 p.1.0 p.1.1) user_parts (structure user_name_identity_token)
+user_name_form = standing_for (λ p. Named p.0 p.1.0 p.1.1) (λ claim. elim claim [ Named name password algorithm ↦ (name, (password, algorithm)) | _ ↦ (None, (None, None)) ])
+    (structure user_name_identity_token)
 
+-- of a type that isn't known here: the null type without a body is nobody's
 abbrev pub unknown_form : NodeId → Format BinaryFault Claim
-unknown_form id = standing_for (unknown_identity id) (λ _. Absent) body
+unknown_form id = standing_for (λ kept. elim kept [ Absent ↦ if is_type 0 id then Anonymous else Other | _ ↦ Other ]) (λ _. Absent) body
 
 -- what the type calls for: 321 an AnonymousIdentityToken, 324 a UserNameIdentityToken; each fills its body
 abbrev pub identity_form : NodeId → Format BinaryFault Claim
@@ -54,9 +42,7 @@ identity_form id = chosen (is_type 321 id) anonymous_form (chosen (is_type 324 i
 
 -- the type that is written: the null one of nobody, and that of a certificate for what is something else
 abbrev pub identity_type : Claim → NodeId
-identity_type Anonymous = Numeric 0 0
-identity_type (Named _ _ _) = Numeric 0 324
-identity_type Other = Numeric 0 327
+identity_type claim = elim claim [ Anonymous ↦ Numeric 0 0 | Named _ _ _ ↦ Numeric 0 324 | Other ↦ Numeric 0 327 ]
 
 -- a type, and what it calls for
 unfoldable pub user_identity : Format BinaryFault Claim
@@ -78,14 +64,11 @@ no_signature = (None, None)
 -- ---- CreateSession
 
 -- the URL of the endpoint, the name of the session, the timeout as its bytes
-abbrev pub SessionAsked : Type 0
-SessionAsked = Option (List ℕ) × (Option (List ℕ) × List ℕ)
-
-abbrev pub session_asked : CreateSessionRequest → SessionAsked
+abbrev pub session_asked : CreateSessionRequest → Option (List ℕ) × (Option (List ℕ) × List ℕ)
 session_asked r = (option_copied r.endpoint_url, (option_copied r.session_name, r.timeout))
 
 -- the client, URI of the server, URL of the endpoint, name, nonce, certificate, timeout, greatest response
-unfoldable pub create_session_request : Format BinaryFault SessionAsked
+unfoldable pub create_session_request : Format BinaryFault (Option (List ℕ) × (Option (List ℕ) × List ℕ))
 create_session_request =
     unkept no_application application_description ▹ unkept None text ▹ text ▸ text ▸ unkept None byte_string ▹ unkept None byte_string ▹ block 8 ◃ unkept 0 (unsigned w32)
 

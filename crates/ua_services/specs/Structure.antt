@@ -12,8 +12,7 @@ use Rattle.ua_variant.specs.Variant.{raise}
 
 -- the type with this id in namespace 0
 abbrev pub is_type : ℕ → NodeId → Bool
-is_type n (Numeric namespace id) = namespace == 0 && id == n
-is_type n _ = false
+is_type n v = elim v [ Numeric namespace id ↦ namespace == 0 && id == n | _ ↦ false ]
 
 -- the bytes of a binary body: kind 1, and a ByteString, of which a null one is empty; a body of another kind is none
 unfoldable pub binary_body : Format BinaryFault (List ℕ)

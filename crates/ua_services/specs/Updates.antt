@@ -38,32 +38,26 @@ unfoldable pub update_data_details : Format VariantFault DataUpdate
 update_data_details = raise node_id ▸ raise (signed w32) ▸ first_of 1001 variant_fault data_value
 
 -- a node, whether modified values are meant, and a range of time
-abbrev pub RawDeletion : Type 0
-RawDeletion = NodeId × (Bool × (Ticks × Ticks))
-
-abbrev pub raw_deletion : DeleteRawModifiedDetails → RawDeletion
+abbrev pub raw_deletion : DeleteRawModifiedDetails → NodeId × (Bool × (Ticks × Ticks))
 raw_deletion d = (node_of d.node_id, (d.is_delete_modified, (d.start_time, d.end_time)))
 
 -- node, whether modified values are meant, start, end
-unfoldable pub delete_raw_modified_details : Format BinaryFault RawDeletion
+unfoldable pub delete_raw_modified_details : Format BinaryFault (NodeId × (Bool × (Ticks × Ticks)))
 delete_raw_modified_details = node_id ▸ boolean ▸ ticks ▸ ticks
 
 -- a node, and times
-abbrev pub DeletionAt : Type 0
-DeletionAt = NodeId × List Ticks
-
-abbrev pub deletion_at : DeleteAtTimeDetails → DeletionAt
+abbrev pub deletion_at : DeleteAtTimeDetails → NodeId × List Ticks
 deletion_at d = (node_of d.node_id, d.times)
 
 -- node, times: of which 1,001 are kept
-unfoldable pub delete_at_time_details : Format BinaryFault DeletionAt
+unfoldable pub delete_at_time_details : Format BinaryFault (NodeId × List Ticks)
 delete_at_time_details = node_id ▸ first_of 1001 (λ e. e) ticks
 
 -- what one of the details asks
 pub data Details : Type 0 where
   UpdateData : DataUpdate → Details
-  DeleteRawModified : RawDeletion → Details
-  DeleteAtTime : DeletionAt → Details
+  DeleteRawModified : NodeId × (Bool × (Ticks × Ticks)) → Details
+  DeleteAtTime : NodeId × List Ticks → Details
   -- of another type
   Other : Details
 
@@ -77,14 +71,11 @@ details_of lent.Other = Other
 abbrev pub no_node : NodeId
 no_node = Numeric 0 0
 
-abbrev pub no_time : Ticks
-no_time = record { 0 = pos 0 }
-
 abbrev pub update_data_form : Format VariantFault Details
 update_data_form = standing_for UpdateData (λ v. elim v [ UpdateData d ↦ d | _ ↦ (no_node, (pos 0, [])) ]) (structure_with_values update_data_details)
 
 abbrev pub delete_raw_modified_form : Format BinaryFault Details
-delete_raw_modified_form = standing_for DeleteRawModified (λ v. elim v [ DeleteRawModified d ↦ d | _ ↦ (no_node, (false, (no_time, no_time))) ]) (structure delete_raw_modified_details)
+delete_raw_modified_form = standing_for DeleteRawModified (λ v. elim v [ DeleteRawModified d ↦ d | _ ↦ (no_node, (false, (record { 0 = pos 0 }, record { 0 = pos 0 }))) ]) (structure delete_raw_modified_details)
 
 abbrev pub delete_at_time_form : Format BinaryFault Details
 delete_at_time_form = standing_for DeleteAtTime (λ v. elim v [ DeleteAtTime d ↦ d | _ ↦ (no_node, []) ]) (structure delete_at_time_details)
@@ -95,17 +86,11 @@ other_form = standing_for (λ _. Other) (λ _. Absent) body
 -- what the type calls for: 682, 688 and 691 a structure that fills the body; the body of another type isn't looked into
 abbrev pub details_form : NodeId → Format VariantFault Details
 details_form id =
-    chosen (is_type 682 id) update_data_form (
-    chosen (is_type 688 id) (raise delete_raw_modified_form) (
-    chosen (is_type 691 id) (raise delete_at_time_form)
-    (raise other_form)))
+    chosen (is_type 682 id) update_data_form (chosen (is_type 688 id) (raise delete_raw_modified_form) (chosen (is_type 691 id) (raise delete_at_time_form) (raise other_form)))
 
 -- the type that is written
 abbrev pub details_type : Details → NodeId
-details_type (UpdateData _) = Numeric 0 682
-details_type (DeleteRawModified _) = Numeric 0 688
-details_type (DeleteAtTime _) = Numeric 0 691
-details_type Other = no_node
+details_type details = elim details [ UpdateData _ ↦ Numeric 0 682 | DeleteRawModified _ ↦ Numeric 0 688 | DeleteAtTime _ ↦ Numeric 0 691 | Other ↦ no_node ]
 
 -- a type, and what it calls for
 unfoldable pub history_update_details : Format VariantFault Details
@@ -123,14 +108,11 @@ unfoldable pub history_update_request : Format VariantFault (List Details)
 history_update_request = first_of 101 variant_fault history_update_details
 
 -- the status of one of the details, and the codes of its operations
-abbrev pub UpdateFields : Type 0
-UpdateFields = Status × List Status
-
-abbrev pub update_fields : HistoryUpdateResult → UpdateFields
+abbrev pub update_fields : HistoryUpdateResult → Status × List Status
 update_fields r = (r.status, r.operation_results)
 
 -- status, codes, diagnostics
-unfoldable pub history_update_result : Format BinaryFault UpdateFields
+unfoldable pub history_update_result : Format BinaryFault (Status × List Status)
 history_update_result = fitting (λ v. (v.0.0 < 2 ^ 32) × AreFew status v.1) (status ▸ many status ◃ null)
 
 abbrev pub IsShortUpdate : HistoryUpdateResult → Type 0
@@ -143,5 +125,5 @@ abbrev pub AreUpdated : List HistoryUpdateResult → Type 0
 AreUpdated results = AreFew history_update_result (map update_fields results)
 
 -- the results, diagnostics
-unfoldable pub history_update_response : Format BinaryFault (List UpdateFields)
+unfoldable pub history_update_response : Format BinaryFault (List (Status × List Status))
 history_update_response = fitting (AreFew history_update_result) (many history_update_result ◃ null)

@@ -1,10 +1,13 @@
 //! What a Browse asks and answers (Part 4, 5.9.2).
 
-ghost use Rattle.std.specs.Prelude.{◌≡◌, map, IfOk};
-ghost use Rattle.ua_binary.specs.Format.{Puts, PutsPart, Reads, ReadsUnless};
-ghost use Rattle.ua_binary.specs.Binary.{ticks};
+ghost use Rattle.std.specs.Prelude.{◌≡◌, List, pos, map, IfOk};
+ghost use Rattle.std.specs.Int.{w32};
+ghost use Rattle.ua_binary.specs.Format.{Puts, PutsPart, Reads, ReadsUnless, ◌▸◌};
+ghost use Rattle.ua_binary.specs.Binary.{node_id, ticks, unsigned};
+ghost use Rattle.ua_binary.specs.declared.codes.Status.{Status};
+ghost use Rattle.ua_binary.specs.declared.values.NodeId.TheVariants.{Numeric};
 ghost use Rattle.ua_services.specs.Unkept.{unkept};
-ghost use Rattle.ua_services.specs.Browsing.{direction_of, browse_direction, BrowseFields, browse_fields, browse_description, view_description, no_view, browse_request, ReferenceFields, reference_fields, reference_description, IsShortReference, BrowsedFields, browsed_fields, browse_result, IsShortBrowsed, AreShortBrowsed, AreBrowsed, browse_response};
+ghost use Rattle.ua_services.specs.Browsing.{direction_of, browse_direction, BrowseFields, browse_fields, browse_description, browse_request, ReferenceFields, reference_fields, reference_description, IsShortReference, browsed_fields, browse_result, IsShortBrowsed, AreShortBrowsed, AreBrowsed, browse_response};
 
 use crate::first::{OF_A_THOUSAND, read_first};
 use crate::many::{many_size, put_many, put_null_array};
@@ -122,7 +125,7 @@ fn read_direction(cursor: &mut Cursor<'_>) -> Result<Option<BrowseDirection>, Bi
 
 /// A view (Part 4, 7.45): its id, a moment and a version.
 fn skip_view(cursor: &mut Cursor<'_>) -> Result<(), BinaryFault>
-    ensures { Reads (λ x. x) result cursor.old cursor.new (unkept no_view view_description).read }
+    ensures { Reads (λ x. x) result cursor.old cursor.new (unkept (Numeric 0 0, (record { 0 = pos 0 }, 0)) (node_id ▸ ticks ▸ unsigned w32)).read }
 {
     let mut next = cursor.fork();
     next.node_id()?;
@@ -254,7 +257,7 @@ impl Encode for ReferenceDescription {
 impl Encode for BrowseResult {
     type Fault = BinaryFault;
 
-    ghost Value = { BrowsedFields };
+    ghost Value = { Status × List ReferenceFields };
 
     ghost view = { browsed_fields };
 

@@ -72,7 +72,7 @@ fn read_items<'a, T: Decode<'a> + Drop>(
 /// An array, of which the first `most` items are kept: every item is read and judged, and those behind
 /// them are dropped. A refusal leaves the cursor where it was, and is that of the count, of the first
 /// item that is refused, also behind the kept ones, or `OutOfMemory`.
-#[tactic(auto, unfolding(ua_binary::specs::Binary::array, crate::specs::Unkept::first_of))]
+#[tactic(auto, using(ua_binary::proofs::Lawful::array_read), unfolding(crate::specs::Unkept::first_of))]
 pub(crate) fn read_first<'a, T: Decode<'a> + Drop>(
     alloc: Global,
     cursor: &mut Cursor<'a>,

@@ -4,9 +4,10 @@ ghost use Rattle.std.specs.Prelude.{◌≡◌, ◌<◌, ◌^◌, ◌++◌, ◌�
 ghost use Rattle.std.specs.Option.{option_copied};
 ghost use Rattle.std.specs.Int.{w32};
 ghost use Rattle.ua_binary.specs.Format.{Puts, PutsPart, Reads, ReadsUnless, saturated};
-ghost use Rattle.ua_binary.specs.Binary.{node_id, signed};
+ghost use Rattle.ua_binary.specs.Binary.{array, node_id, signed};
+ghost use Rattle.ua_variant.specs.Raise.{variant_fault};
 ghost use Rattle.ua_services.specs.Attributes.{data_values, AreShortValues};
-ghost use Rattle.ua_services.specs.History.{read_raw_modified_form, other_read_form, history_read_details, continuation_point, HistoryReadFields, history_read_fields, history_read_value_id, history_asked, history_read_request, InfoFields, info_fields, IsShortInfo, modification_info, history_of, history_bytes, IsHistory, history_data, IsShortHistory, history_fields, IsHistoryRead, history_read_result, IsShortHistoryRead, AreShortHistoryReads, AreHistoryReads, history_results, history_read_response};
+ghost use Rattle.ua_services.specs.History.{read_raw_modified_form, other_read_form, history_read_details, continuation_point, HistoryReadFields, history_read_fields, history_read_value_id, history_asked, history_read_request, InfoFields, info_fields, IsShortInfo, modification_info, history_of, history_bytes, IsHistory, history_data, IsShortHistory, history_fields, IsHistoryRead, history_read_result, IsShortHistoryRead, AreShortHistoryReads, AreHistoryReads, history_read_response};
 ghost use Rattle.ua_binary.specs.declared.values.NodeId.TheVariants.{Numeric};
 
 use crate::attributes::{TimestampsToReturn, data_values_size, put_data_values, read_timestamps};
@@ -384,7 +385,7 @@ fn put_history_results_parts(
     results: &[HistoryReadResult],
 ) -> Result<(), BinaryFault>
     requires { AreShortHistoryReads results.now }
-    ensures puts { PutsPart BinaryFault.OutOfMemory result out.old.items out.new.items (history_results.canon (map history_fields results.now)) }
+    ensures puts { PutsPart BinaryFault.OutOfMemory result out.old.items out.new.items ((array variant_fault history_read_result).canon (map history_fields results.now)) }
     ensures spelled { IfOk result (λ _. AreHistoryReads results.now) }
 {
     put_count(out, results.len())?;
@@ -397,7 +398,7 @@ fn put_history_results_parts(
 /// An array of results.
 fn put_history_results(out: &mut Vec<u8>, results: &[HistoryReadResult]) -> Result<(), BinaryFault>
     requires { AreShortHistoryReads results.now }
-    ensures puts { Puts BinaryFault.OutOfMemory result out.old.items out.new.items (history_results.canon (map history_fields results.now)) }
+    ensures puts { Puts BinaryFault.OutOfMemory result out.old.items out.new.items ((array variant_fault history_read_result).canon (map history_fields results.now)) }
     ensures spelled { IfOk result (λ _. AreHistoryReads results.now) }
 {
     let len = out.len();

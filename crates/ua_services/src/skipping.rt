@@ -9,7 +9,7 @@ ghost use Rattle.ua_services.specs.Sessions.{signature_data, no_signature, signe
 use ua_binary::{BinaryFault, Cursor};
 
 /// An array of texts.
-#[tactic(auto, using(crate::proofs::Skipped::skipped), unfolding(ua_binary::specs::Binary::array))]
+#[tactic(auto, using(ua_binary::proofs::Lawful::array_read, crate::proofs::Skipped::skipped))]
 pub(crate) fn skip_texts(cursor: &mut Cursor<'_>) -> Result<(), BinaryFault>
     ensures { Reads (λ x. x) result cursor.old cursor.new (unkept_array text).read }
 {
@@ -34,7 +34,7 @@ fn skip_certificate(cursor: &mut Cursor<'_>) -> Result<(), BinaryFault>
 }
 
 /// An array of software certificates (Part 4, 7.38).
-#[tactic(auto, using(crate::proofs::Skipped::skipped), unfolding(ua_binary::specs::Binary::array))]
+#[tactic(auto, using(ua_binary::proofs::Lawful::array_read, crate::proofs::Skipped::skipped))]
 pub(crate) fn skip_certificates(cursor: &mut Cursor<'_>) -> Result<(), BinaryFault>
     ensures { Reads (λ x. x) result cursor.old cursor.new (unkept_array signed_software_certificate).read }
 {

@@ -1,9 +1,10 @@
 //! What a HistoryUpdate asks and answers (Part 4, 5.11.5; Part 11, 6.8).
 
-ghost use Rattle.std.specs.Prelude.{◌≡◌, map, IfOk};
+ghost use Rattle.std.specs.Prelude.{◌≡◌, List, map, IfOk};
+ghost use Rattle.ua_binary.specs.declared.codes.Status.{Status};
 ghost use Rattle.ua_binary.specs.Format.{Puts, PutsPart, Reads, ReadsUnless};
 ghost use Rattle.std.specs.List.{AllByRecursion};
-ghost use Rattle.ua_services.specs.Updates.{Details, HasShortValues, details_of, update_data_form, delete_raw_modified_form, delete_at_time_form, other_form, history_update_details, history_update_request, UpdateFields, update_fields, history_update_result, IsShortUpdate, AreShortUpdates, AreUpdated, history_update_response};
+ghost use Rattle.ua_services.specs.Updates.{Details, HasShortValues, details_of, update_data_form, delete_raw_modified_form, delete_at_time_form, other_form, history_update_details, history_update_request, update_fields, history_update_result, IsShortUpdate, AreShortUpdates, AreUpdated, history_update_response};
 
 use crate::first::{OF_A_HUNDRED, OF_A_THOUSAND, read_first};
 use crate::many::{many_size, put_many, put_null_array};
@@ -207,7 +208,7 @@ impl TryClone for HistoryUpdateResult {
 impl Encode for HistoryUpdateResult {
     type Fault = BinaryFault;
 
-    ghost Value = { UpdateFields };
+    ghost Value = { Status × List Status };
 
     ghost view = { update_fields };
 

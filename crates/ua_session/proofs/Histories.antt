@@ -11,8 +11,8 @@ use Rattle.ua_session.specs.declared.fault.SessionFault.TheVariants.{TooMany, Id
 use Rattle.ua_session.specs.declared.session.Session.{Session}
 use Rattle.ua_session.specs.declared.identity.User.{User}
 use Rattle.ua_session.specs.Users.{Allowed, Claim, Anonymous, Named as ByName, Other, nobody, has_name, judgement_of_user, judgement_of_name, unless_encrypted, judgement}
-use Rattle.ua_binary.specs.Format.{IsOrStarved}
-use Rattle.ua_session.specs.Sessions.{State, fresh, session_id_of, token_of, is_named, is_full, if_open, user_of_session, with_new, with_user, without_session}
+use Rattle.ua_binary.specs.Format.{◌>>=◌, IsOrStarved}
+use Rattle.ua_session.specs.Sessions.{State, fresh, session_id_of, token_of, is_named, is_full, with_new, with_user, without_session}
 use Rattle.ua_session.specs.History.{Deed, Made, Activated, Closed, made_count, closed_count, was_closed, last_user, IsAlive, session_of, IsValid, HasRoom, Event, Create, Activate, Close, Ask, Does, Runs, after, IsAnswered, AreAnswered}
 use Rattle.ua_session.proofs.Alive.{at, changed, Apart, at_same-with_user, at_other-with_user, at_same-without_session, at_other-without_session, length-without_session, length-with_user, apart-with_user, apart-without_session, at-append, apart-append}
 
@@ -297,7 +297,7 @@ creating past old false (Err OutOfMemory) is full answer = has_room past old is 
 creating past old false (Err fault) is full answer = cc
 
 activating : (past : List Deed) (old : State) (token : NodeId) (allowed : Allowed) (claim : Claim) (o : Option Session) (j : Result (List ℕ) SessionFault) (result : Result (List ℕ) SessionFault)
-    → Represents past old → find (is_named token) old.alive ≡ o → judgement allowed claim ≡ j → IsOrStarved OutOfMemory (if_open o j) result → IsAnswered past (Activate token allowed claim result)
+    → Represents past old → find (is_named token) old.alive ≡ o → judgement allowed claim ≡ j → IsOrStarved OutOfMemory (ok_or o IdInvalid >>= λ _. j) result → IsAnswered past (Activate token allowed claim result)
 activating past old token allowed claim None j (Ok user) is found judges answer = absurd cc
 activating past old token allowed claim None j (Err IdInvalid) is found judges answer = invalid past old token is found
 activating past old token allowed claim None j (Err fault) is found judges answer = absurd cc
@@ -310,7 +310,7 @@ activating past old token allowed claim (Some session) (Err cause) (Err OutOfMem
 activating past old token allowed claim (Some session) (Err cause) (Err fault) is found judges answer = ((valid past old token session is found).0, judges ∙ sym answer)
 
 closing : (past : List Deed) (old : State) (token : NodeId) (o : Option Session) (result : Result (Unit {0}) SessionFault)
-    → Represents past old → find (is_named token) old.alive ≡ o → result ≡ if_open o (Ok tt) → IsAnswered past (Close token result)
+    → Represents past old → find (is_named token) old.alive ≡ o → result ≡ (ok_or o IdInvalid >>= λ _. Ok tt) → IsAnswered past (Close token result)
 closing past old token None (Ok done) is found answer = absurd cc
 closing past old token None (Err IdInvalid) is found answer = invalid past old token is found
 closing past old token None (Err fault) is found answer = absurd cc
@@ -326,7 +326,7 @@ asked past token (Some user) (Ok name) is last answer = (is, sym last ∙ sym (a
 asked past token (Some user) (Err fault) is last answer = absurd cc
 
 asking : (past : List Deed) (old : State) (token : NodeId) (o : Option Session) (result : Result (List ℕ) SessionFault)
-    → Represents past old → find (is_named token) old.alive ≡ o → result ≡ user_of_session o → IsAnswered past (Ask token result)
+    → Represents past old → find (is_named token) old.alive ≡ o → result ≡ (ok_or o IdInvalid >>= λ session. ok_or session.user NotActivated) → IsAnswered past (Ask token result)
 asking past old token None (Ok user) is found answer = absurd cc
 asking past old token None (Err IdInvalid) is found answer = invalid past old token is found
 asking past old token None (Err fault) is found answer = absurd cc
@@ -352,13 +352,13 @@ leaves-closed past old token session is found =
     let Q : ℕ → Type 0 = λ k. Represents (Closed k ∷ past) (record old { alive = without_session (token_of (session_of token)) old.alive }) in
     subst P (sym named.is_token) (subst Q (half (session_of token)) (represents-closed past old (2 * session_of token + 1) session is named.there))
 
-goes-activate : (past : List Deed) (old : State) (token : NodeId) (user : List ℕ) (o : Option Session) (j : Result (List ℕ) SessionFault) → Represents past old → find (is_named token) old.alive ≡ o → IsOrStarved OutOfMemory (if_open o j) (Ok user)
+goes-activate : (past : List Deed) (old : State) (token : NodeId) (user : List ℕ) (o : Option Session) (j : Result (List ℕ) SessionFault) → Represents past old → find (is_named token) old.alive ≡ o → IsOrStarved OutOfMemory (ok_or o IdInvalid >>= λ _. j) (Ok user)
     → Represents (Activated (session_of token) user ∷ past) (record old { alive = with_user token user old.alive })
 goes-activate past old token user None j is found answer = absurd cc
 goes-activate past old token user (Some session) j is found answer = leaves-activated past old token user session is found
 
 goes-close : (past : List Deed) (old : State) (token : NodeId) (done : Unit {0}) (o : Option Session) → Represents past old → find (is_named token) old.alive ≡ o
-    → (let r : Result (Unit {0}) SessionFault = Ok done in r ≡ if_open o (Ok tt)) → Represents (Closed (session_of token) ∷ past) (record old { alive = without_session token old.alive })
+    → (let r : Result (Unit {0}) SessionFault = Ok done in r ≡ (ok_or o IdInvalid >>= λ _. Ok tt)) → Represents (Closed (session_of token) ∷ past) (record old { alive = without_session token old.alive })
 goes-close past old token done None is found answer = absurd cc
 goes-close past old token done (Some session) is found answer = leaves-closed past old token session is found
 

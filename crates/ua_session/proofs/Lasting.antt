@@ -7,8 +7,8 @@ use Rattle.ua_binary.specs.declared.values.NodeId.{NodeId}
 use Rattle.ua_session.specs.declared.fault.SessionFault.TheVariants.{OutOfMemory, TooMany, IdInvalid, NotActivated}
 use Rattle.ua_session.specs.declared.session.Session.{Session}
 use Rattle.ua_session.specs.Users.{Allowed, Claim, judgement}
-use Rattle.ua_binary.specs.Format.{IsOrStarved}
-use Rattle.ua_session.specs.Sessions.{State, fresh, session_id_of, token_of, is_named, is_full, user_of_session, user_at, with_new}
+use Rattle.ua_binary.specs.Format.{◌>>=◌, IsOrStarved}
+use Rattle.ua_session.specs.Sessions.{State, fresh, session_id_of, token_of, is_named, is_full, user_at, with_new}
 use Rattle.ua_session.specs.History.{Deed, Made, Activated, Closed, made_count, was_closed, last_user, IsAlive, session_of, IsValid, Event, Create, Activate, Close, Ask, Does, Runs, after, IsAnswered, LeaveAlone}
 use Rattle.ua_session.proofs.Alive.{length-with_user, length-le-without_session}
 use Rattle.ua_session.proofs.Histories.{Represents, represents-fresh, half, valid, invalid, answering, leaving}
@@ -85,7 +85,7 @@ has-after past (Close other (Err fault)) events token user answered alone has = 
 has-after past (Ask other result) events token user answered alone has = (has, alone)
 
 -- what a token has is what is answered for it
-has-answer : (past : List Deed) (state : State) (token : NodeId) (user : Option (List ℕ)) (o : Option Session) → Represents past state → Has past token user → find (is_named token) state.alive ≡ o → user_of_session o ≡ ok_or user NotActivated
+has-answer : (past : List Deed) (state : State) (token : NodeId) (user : Option (List ℕ)) (o : Option Session) → Represents past state → Has past token user → find (is_named token) state.alive ≡ o → (ok_or o IdInvalid >>= λ session. ok_or session.user NotActivated) ≡ ok_or user NotActivated
 has-answer past state token user None is has found = absurd (invalid past state token is found has.valid_still)
 has-answer past state token user (Some session) is has found =
     let same : session.user ≡ user = (valid past state token session is found).1 ∙ has.last in
@@ -144,7 +144,7 @@ closed-stays k past (Close other (Ok done)) close_answer = or_right (eqb (sessio
 closed-stays k past (Close other (Err fault)) close_answer = close_answer
 closed-stays k past (Ask other result) close_answer = close_answer
 
-closed-answer : (past : List Deed) (state : State) (token : NodeId) (o : Option Session) → Represents past state → was_closed (session_of token) past ≡ true → find (is_named token) state.alive ≡ o → user_of_session o ≡ Err IdInvalid
+closed-answer : (past : List Deed) (state : State) (token : NodeId) (o : Option Session) → Represents past state → was_closed (session_of token) past ≡ true → find (is_named token) state.alive ≡ o → (ok_or o IdInvalid >>= λ session. ok_or session.user NotActivated) ≡ Err IdInvalid
 closed-answer past state token None is close_answer found = refl
 closed-answer past state token (Some session) is close_answer found =
     let open_still = (valid past state token session is found).0.is_alive.unclosed in

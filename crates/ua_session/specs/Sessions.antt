@@ -1,7 +1,7 @@
 -- What the sessions of a connection are, and what each call answers and leaves (Part 4, 5.7).
-use Rattle.std.specs.Prelude.{◌≡◌, ◌≤◌, ◌+◌, ◌*◌, ℕ, Bool, false, List, [], ◌∷◌, ◌++◌, length, ◌==◌, ◌&&◌, ◌||◌, nat_le, Option, None, Some, IfSome, Result, Ok, Err, MatchResult, find, if◌then◌else◌}
+use Rattle.std.specs.Prelude.{◌≡◌, ◌≤◌, ◌+◌, ◌*◌, ℕ, Bool, false, List, [], ◌∷◌, ◌++◌, length, ◌==◌, ◌&&◌, ◌||◌, nat_le, None, Some, IfSome, Result, Ok, Err, MatchResult, find, if◌then◌else◌}
 use Rattle.std.specs.Option.{ok_or}
-use Rattle.ua_binary.specs.Format.{IsOrStarved}
+use Rattle.ua_binary.specs.Format.{◌>>=◌, IsOrStarved}
 use Rattle.ua_binary.specs.declared.values.NodeId.{NodeId}
 use Rattle.ua_binary.specs.declared.values.NodeId.TheVariants.{Numeric}
 use Rattle.ua_session.specs.declared.fault.SessionFault.{SessionFault}
@@ -18,8 +18,7 @@ token_of k = Numeric 1 (2 * k + 1)
 
 -- whether this is the session's token
 abbrev pub is_named : NodeId → Session → Bool
-is_named (Numeric namespace number) session = namespace == 1 && number == session.token
-is_named _ session = false
+is_named id session = elim id [ Numeric namespace number ↦ namespace == 1 && number == session.token | _ ↦ false ]
 
 -- how many sessions were made, and those that are open, the oldest first
 pub record State : Type 0 where
@@ -40,25 +39,16 @@ is_full state = nat_le 16 (length state.alive) || nat_le 1000000 state.made
 abbrev pub create_answer : State → Result (NodeId × NodeId) SessionFault
 create_answer state = if is_full state then Err TooMany else Ok (session_id_of (state.made + 1), token_of (state.made + 1))
 
--- an answer for a session that is open
-abbrev pub if_open : {A : Type 0} → Option Session → Result A SessionFault → Result A SessionFault
-if_open None answer = Err IdInvalid
-if_open (Some session) answer = answer
-
--- as whom the session is activated
+-- as whom an open session is activated
 abbrev pub activate_answer : State → NodeId → Allowed → Claim → Result (List ℕ) SessionFault
-activate_answer state token allowed claim = if_open (find (is_named token) state.alive) (judgement allowed claim)
+activate_answer state token allowed claim = ok_or (find (is_named token) state.alive) IdInvalid >>= λ _. judgement allowed claim
 
 abbrev pub close_answer : State → NodeId → Result (Unit {0}) SessionFault
-close_answer state token = if_open (find (is_named token) state.alive) (Ok tt)
+close_answer state token = ok_or (find (is_named token) state.alive) IdInvalid >>= λ _. Ok tt
 
--- the user of a session, where it has one
-abbrev pub user_of_session : Option Session → Result (List ℕ) SessionFault
-user_of_session None = Err IdInvalid
-user_of_session (Some session) = ok_or session.user NotActivated
-
+-- the user of an open session, where it has one
 abbrev pub user_at : State → NodeId → Result (List ℕ) SessionFault
-user_at state token = user_of_session (find (is_named token) state.alive)
+user_at state token = ok_or (find (is_named token) state.alive) IdInvalid >>= λ session. ok_or session.user NotActivated
 
 -- ---- what a call leaves
 

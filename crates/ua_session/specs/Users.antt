@@ -1,5 +1,5 @@
 -- Which users there are, and as whom an identity is allowed (Part 4, 5.7.3).
-use Rattle.std.specs.Prelude.{◌≡◌, ◌≢◌, ◌≤◌, ℕ, Bool, true, List, [], ◌∷◌, ◌++◌, length, codes, nat_eq, nat_lt, Option, None, Some, Result, Ok, Err, find, unwrap_or, if◌then◌else◌}
+use Rattle.std.specs.Prelude.{◌≡◌, ◌≢◌, ◌≤◌, ℕ, Bool, true, List, [], ◌∷◌, ◌++◌, length, codes, nat_eq, Option, None, Some, Result, Ok, Err, find, unwrap_or, if◌then◌else◌}
 use Rattle.std.specs.List.{AllByRecursion}
 use Rattle.std.specs.Borrow.{Bor}
 use Rattle.std.specs.Option.{option_copied}
@@ -15,10 +15,6 @@ use Rattle.ua_session.specs.declared.identity.Identity.TheVariants as lent
 pub record Allowed : Type 0 where
   pub anonymous : Bool
   pub named : List User
-
--- whether there is a user with a name
-abbrev pub has_some_named : Allowed → Bool
-has_some_named allowed = nat_lt 0 (length allowed.named)
 
 -- with one user more, the last
 abbrev pub with_added : Allowed → List ℕ → List ℕ → Allowed
@@ -50,18 +46,15 @@ has_name name user = pointwise nat_eq user.name name
 
 -- the user's name where the password is the user's, every byte of it
 abbrev pub judgement_of_user : Option User → List ℕ → Result (List ℕ) SessionFault
-judgement_of_user None password = Err IdentityRejected
-judgement_of_user (Some user) password = if pointwise nat_eq user.password password then Ok user.name else Err IdentityRejected
+judgement_of_user given password = elim given [ None ↦ Err IdentityRejected | Some user ↦ if pointwise nat_eq user.password password then Ok user.name else Err IdentityRejected ]
 
 -- of equal names the first one counts, and a null name is nobody's
 abbrev pub judgement_of_name : List User → Option (List ℕ) → List ℕ → Result (List ℕ) SessionFault
-judgement_of_name users None password = Err IdentityRejected
-judgement_of_name users (Some name) password = judgement_of_user (find (has_name name) users) password
+judgement_of_name users given password = elim given [ None ↦ Err IdentityRejected | Some name ↦ judgement_of_user (find (has_name name) users) password ]
 
 -- the answer where nothing was encrypted: the algorithm is empty
 abbrev pub unless_encrypted : List ℕ → Result (List ℕ) SessionFault → Result (List ℕ) SessionFault
-unless_encrypted [] answer = answer
-unless_encrypted (byte ∷ algorithm) answer = Err IdentityInvalid
+unless_encrypted list answer = elim list [ [] ↦ answer | byte ∷ algorithm ↦ Err IdentityInvalid ]
 
 -- as whom an identity is allowed, or why it isn't; a null password and a null algorithm count as empty ones
 abbrev pub judgement : Allowed → Claim → Result (List ℕ) SessionFault

@@ -1,6 +1,6 @@
 //! Who may activate a session, and as whom.
 
-ghost use Rattle.std.specs.Prelude.{◌≡◌, ◌≤◌, ◌<◌, [], length, find, IfOk, IfErr, IfSome, OnOk};
+ghost use Rattle.std.specs.Prelude.{◌≡◌, ◌≤◌, ◌<◌, [], length, nat_lt, find, IfOk, IfErr, IfSome, OnOk};
 ghost use Rattle.std.specs.List.{AllByRecursion};
 ghost use Rattle.std.specs.Option.{option_copied};
 ghost use Rattle.ua_session.specs.Users.{answer_of, judgement_of_name, has_name, HasShortName, IsUserName};
@@ -34,7 +34,7 @@ impl Model for Users {
 }
 
 impl Users {
-    ghost use Rattle.ua_session.specs.Users.{claim_of, judgement, with_added, has_some_named};
+    ghost use Rattle.ua_session.specs.Users.{claim_of, judgement, with_added};
 
     /// No user with a name yet; a user without one is allowed or not. It takes no memory.
     pub fn new(alloc: Global, anonymous: bool) -> Self
@@ -56,7 +56,7 @@ impl Users {
 
     /// Whether there is a user with a name.
     pub fn has_named(&self) -> bool
-        ensures { result ≡ has_some_named self.now }
+        ensures { result ≡ nat_lt 0 (length self.now.named) }
     {
         !self.named.is_empty()
     }

@@ -1,5 +1,6 @@
 -- A sound document's plan is one that makes a space.
 use Rattle.std.proofs.Common.{◌≡◌, ◌≤◌, ◌<◌, ◌^◌, ℕ, Bool, true, List, [], ◌∷◌, map, length, codes, refl, ap, sym, subst, ◌∙◌, arith, inl, inr, Option, None, Some, IfSome, IfOk, IfErr, Result, Ok, Err, nat_eq, option_copied, Bor, is_ok}
+use Rattle.std.specs.Result.{result_map_both}
 use Rattle.std.proofs.lemmas.Bool.{and_parts, leb-true, false≢true}
 use Rattle.std.specs.List.{list_any, AllByRecursion}
 use Rattle.std.specs.Cmp.Lexicographic.{pointwise}
@@ -19,7 +20,7 @@ use Rattle.ua_settings.specs.declared.fault.SettingsFault.{SettingsFault}
 use Rattle.ua_settings.specs.declared.fault.SettingsFault.TheVariants.{OutOfMemory}
 use Rattle.ua_settings.specs.declared.keys.Section.TheVariants.{User, Folder, Variable}
 use Rattle.ua_settings.specs.File.{tables, text_at, is_name, is_short, names_in}
-use Rattle.ua_settings.specs.Reading.{Entry, entry_of, folder_in, variable_in, table_at, truth_at, user_in, values_of_tables, users_in, space_of, space_fault, IsPlanOf, IsSpaceOf, IsSpaceOrStarved, IsAcceptedOrStarved}
+use Rattle.ua_settings.specs.Reading.{Entry, entry_of, folder_in, variable_in, table_at, truth_at, user_in, values_of_tables, users_in, space_fault, IsPlanOf, IsSpaceOf, IsSpaceOrStarved, IsAcceptedOrStarved}
 use Rattle.ua_settings.specs.Settings.{Values}
 use Rattle.ua_settings.specs.Sound.{IsSound, IsSoundFolder, IsSoundVariable}
 use Rattle.ua_settings.proofs.Mapped.{any_of_mapped}
@@ -120,13 +121,13 @@ values_same : (document archive server : Members) (users : Allowed) (space : Lay
 values_same document archive server users space a s u = ap (λ t. values_of_tables t server users space) a ∙ ap (λ t. values_of_tables (table_at (codes "archive") document) t users space) s ∙ ap (λ t. values_of_tables (table_at (codes "archive") document) (table_at (codes "server") document) t space) u
 
 built : (document : Members) (plan : Plan) (made : Result Layout BuildFault) → IsPlanOf document plan → made ≡ planned plan → (result : Result Layout BuildFault)
-    → IsOrStarved build.OutOfMemory made result → IsSpaceOrStarved document (space_of result)
-built document plan (Ok answer) is_plan same (Ok space) is = inr (plan, is_plan, ap space_of (ap Ok is ∙ same))
+    → IsOrStarved build.OutOfMemory made result → IsSpaceOrStarved document (result_map_both (λ space. space) space_fault result)
+built document plan (Ok answer) is_plan same (Ok space) is = inr (plan, is_plan, ap (result_map_both (λ space. space) space_fault) (ap Ok is ∙ same))
 built document plan (Ok answer) is_plan same (Err fault) is = inl (ap (λ f. Err (space_fault f)) is)
-built document plan (Err refusal) is_plan same result is = inr (plan, is_plan, ap space_of (is ∙ same))
+built document plan (Err refusal) is_plan same result is = inr (plan, is_plan, ap (result_map_both (λ space. space) space_fault) (is ∙ same))
 
 pub space_built : (document : Members) (plan : Plan) (result : Result Layout BuildFault) → IsPlanOf document plan
-    → IsOrStarved build.OutOfMemory (planned plan) result → IsSpaceOrStarved document (space_of result)
+    → IsOrStarved build.OutOfMemory (planned plan) result → IsSpaceOrStarved document (result_map_both (λ space. space) space_fault result)
 space_built document plan result is_plan is = built document plan (planned plan) is_plan refl result is
 
 has_space : (document : Members) (space : Layout) → IsSpaceOrStarved document (Ok space) → IsSpaceOf document (Ok space)

@@ -1,5 +1,6 @@
 -- A document in which nothing is wrong is sound.
 use Rattle.std.proofs.Common.{◌≡◌, ◌&&◌, ◌+◌, ℕ, Bool, true, false, not, cond, List, [], ◌∷◌, find, codes, refl, Option, None, Some, IfSome, option_map, option_and_then, unwrap_or, is_some, is_none, nat_eq}
+use Rattle.std.specs.Option.{option_to_list}
 use Rattle.std.proofs.lemmas.Bool.{false≢true, and_parts}
 use Rattle.std.specs.List.{list_any, AllByRecursion}
 use Rattle.std.specs.Cmp.Lexicographic.{pointwise}
@@ -8,7 +9,7 @@ use Rattle.ua_settings.specs.declared.keys.Section.{Section}
 use Rattle.ua_settings.specs.declared.keys.Section.TheVariants.{Document, Archive, Server, User, Folder, Variable}
 use Rattle.ua_settings.specs.declared.keys.Wrong.{Wrong}
 use Rattle.ua_settings.specs.declared.keys.Wrong.TheVariants.{Unknown, Missing, Bad}
-use Rattle.ua_settings.specs.File.{Names, Spot, rules, test, is_id, is_name, is_short, is_replica, is_missing, is_bad, name_of, text_at, listed, tables, names_in, wrong_key, wrong_from, wrong_in, wrong_at, or_later, or_else, refused}
+use Rattle.ua_settings.specs.File.{Names, Spot, rules, test, is_id, is_name, is_short, is_replica, is_missing, is_bad, name_of, text_at, tables, names_in, wrong_key, wrong_from, wrong_in, wrong_at, or_later, or_else, refused}
 use Rattle.ua_settings.specs.Sound.{IsSound, IsSoundArchive, IsSoundServer, IsSoundUser, IsSoundFolder, IsSoundVariable}
 
 -- ---- nothing is found
@@ -112,7 +113,7 @@ optional_held p (Some v) good = some_held p (as_str v) (was_true (test p (as_str
     some_held p None good = tt
     some_held p (Some text) good = good
 
-only_one : {A : Type 0} (P : A → Type 0) (value : Option A) (d : A) → is_some value ≡ true → AllByRecursion P (listed value) → P (unwrap_or value d)
+only_one : {A : Type 0} (P : A → Type 0) (value : Option A) (d : A) → is_some value ≡ true → AllByRecursion P (option_to_list value) → P (unwrap_or value d)
 only_one P None d there all = absurd (false≢true there)
 only_one P (Some v) d there all = all.0
 

@@ -1,5 +1,6 @@
 -- What a settings file says (TOML 1.1): its tables, their keys, what each key must hold, and where a file is wrong.
 use Rattle.std.specs.Prelude.{◌+◌, ◌==◌, ◌&&◌, ℕ, ℤ, pos, negsuc, Bool, true, false, not, List, [], ◌∷◌, length, map, find, codes, nat_eq, nat_le, Option, None, Some, is_some, is_none, option_map, option_and_then, unwrap_or}
+use Rattle.std.specs.Option.{option_to_list}
 use Rattle.std.specs.List.{list_any, count_by, filter_map}
 use Rattle.std.specs.Cmp.Lexicographic.{pointwise}
 use Rattle.toml.specs.Data.{Data, Items, no_items, item, Members, no_members, member, get_member, as_str, as_integer, as_bool, as_array, as_table}
@@ -43,18 +44,13 @@ abbrev pub keys_in : Members → List (List ℕ)
 keys_in no_members = []
 keys_in (member key value members) = key ∷ keys_in members
 
-abbrev pub listed : {A : Type 0} → Option A → List A
-listed None = []
-listed (Some a) = a ∷ []
-
 -- the table that a value is, where it is one
 abbrev pub one_table : Option Data → List Members
-one_table value = listed (option_and_then as_table value)
+one_table value = option_to_list (option_and_then as_table value)
 
 -- the values of an array
 abbrev pub items_of : Option Items → List Data
-items_of None = []
-items_of (Some items) = items_in items
+items_of given = elim given [ None ↦ [] | Some items ↦ items_in items ]
 
 -- the tables among the values of an array
 abbrev pub many_tables : Option Data → List Members
@@ -84,8 +80,7 @@ abbrev pub names_in : Members → Names
 names_in document = record { users = map (text_at (codes "name")) (tables document User); folders = map (text_at (codes "id")) (tables document Folder) }
 
 abbrev pub test : {A : Type 0} → (A → Bool) → Option A → Bool
-test p None = false
-test p (Some a) = p a
+test p given = elim given [ None ↦ false | Some a ↦ p a ]
 
 abbrev pub is_short : List ℕ → Bool
 is_short text = nat_le (length text) 65536
@@ -100,8 +95,7 @@ is_user_name users name = is_name name && (not (pointwise nat_eq name (codes "an
 
 -- 1 to 64
 abbrev pub is_replica : ℤ → Bool
-is_replica (pos n) = nat_le 1 n && nat_le n 64
-is_replica (negsuc n) = false
+is_replica v = elim v [ pos n ↦ nat_le 1 n && nat_le n 64 | negsuc n ↦ false ]
 
 abbrev pub is_id : List ℕ → Bool
 is_id text = is_some (parsed text)
@@ -149,8 +143,7 @@ pub record Spot : Type 0 where
 
 -- the key where there is one, else what is found later
 abbrev pub or_later : Section → ℕ → Option (List ℕ) → Option Spot → Option Spot
-or_later section number (Some key) later = Some (record { section = section; number = number; key = key })
-or_later section number None later = later
+or_later section number given later = elim given [ Some key ↦ Some (record { section = section; number = number; key = key }) | None ↦ later ]
 
 -- the first wrong key of these tables of a section, of which the first has this number
 abbrev pub wrong_from : Names → Wrong → Section → ℕ → List Members → Option Spot
@@ -161,8 +154,7 @@ abbrev pub wrong_in : Members → Wrong → Section → Option Spot
 wrong_in document wrong section = wrong_from (names_in document) wrong section 1 (tables document section)
 
 abbrev pub or_else : {A : Type 0} → Option A → Option A → Option A
-or_else (Some a) later = Some a
-or_else None later = later
+or_else given later = elim given [ Some a ↦ Some a | None ↦ later ]
 
 abbrev pub first_of : {A B : Type 0} → (A → Option B) → List A → Option B
 first_of f [] = None

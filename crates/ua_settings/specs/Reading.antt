@@ -1,5 +1,7 @@
 -- What settings a file gives.
 use Rattle.std.specs.Prelude.{◌≡◌, ◌⊎◌, ℕ, ℤ, pos, negsuc, Bool, false, List, [], map, codes, Option, None, Some, option_and_then, option_copied, unwrap_or, Result, Ok, Err}
+use Rattle.ua_binary.specs.Format.{◌>>=◌}
+use Rattle.std.specs.Result.{result_map_both}
 use Rattle.toml.specs.Data.{Members, no_members, get_member, as_str, as_integer, as_bool, as_table}
 use Rattle.uuid.specs.Text.{parsed}
 use Rattle.ua_session.specs.Users.{Allowed}
@@ -28,9 +30,7 @@ abbrev pub truth_at : List ℕ → Members → Bool
 truth_at key members = unwrap_or (option_and_then as_bool (get_member key members)) false
 
 abbrev pub natural : Option ℤ → ℕ
-natural (Some (pos n)) = n
-natural (Some (negsuc n)) = 0
-natural None = 0
+natural given = elim given [ Some (pos n) ↦ n | Some (negsuc n) ↦ 0 | None ↦ 0 ]
 
 abbrev pub number_at : List ℕ → Members → ℕ
 number_at key members = natural (option_and_then as_integer (get_member key members))
@@ -85,13 +85,9 @@ abbrev pub space_fault : BuildFault → SettingsFault
 space_fault build.OutOfMemory = OutOfMemory
 space_fault fault = Space fault
 
-abbrev pub space_of : Result Layout BuildFault → Result Layout SettingsFault
-space_of (Ok space) = Ok space
-space_of (Err fault) = Err (space_fault fault)
-
 -- the space of a plan of a document, or why there is none
 abbrev pub IsSpaceOf : Members → Result Layout SettingsFault → Type 0
-IsSpaceOf document result = (plan : Plan) × IsPlanOf document plan × (result ≡ space_of (planned plan))
+IsSpaceOf document result = (plan : Plan) × IsPlanOf document plan × (result ≡ result_map_both (λ space. space) space_fault (planned plan))
 
 abbrev pub IsSpaceOrStarved : Members → Result Layout SettingsFault → Type 0
 IsSpaceOrStarved document result = (result ≡ Err OutOfMemory) ⊎ IsSpaceOf document result
@@ -99,26 +95,19 @@ IsSpaceOrStarved document result = (result ≡ Err OutOfMemory) ⊎ IsSpaceOf do
 -- ---- what a file gives
 
 abbrev pub fault_of : Wrong → SettingsFault
-fault_of Unknown = UnknownKey
-fault_of Missing = MissingKey
-fault_of Bad = BadValue
-
-abbrev pub with_space : Members → Result Layout SettingsFault → Result Values SettingsFault
-with_space document (Ok space) = Ok (values_in document space)
-with_space document (Err fault) = Err fault
+fault_of v = elim v [ Unknown ↦ UnknownKey | Missing ↦ MissingKey | Bad ↦ BadValue ]
 
 -- where nothing is wrong, the settings with the space of the document's plan
 abbrev pub IsAccepted : Members → Option (Wrong × Spot) → Result Values SettingsFault → Type 0
 IsAccepted document (Some (wrong, spot)) result = result ≡ Err (fault_of wrong)
-IsAccepted document None result = (space : Result Layout SettingsFault) × IsSpaceOf document space × (result ≡ with_space document space)
+IsAccepted document None result = (space : Result Layout SettingsFault) × IsSpaceOf document space × (result ≡ (space >>= λ layout. Ok (values_in document layout)))
 
 abbrev pub IsAcceptedOrStarved : Members → Result Values SettingsFault → Type 0
 IsAcceptedOrStarved document result = (result ≡ Err OutOfMemory) ⊎ IsAccepted document None result
 
 -- what a text gives, by the document that it is
 abbrev pub IsRead : Option Members → Result Values SettingsFault → Type 0
-IsRead None result = result ≡ Err NotToml
-IsRead (Some document) result = IsAccepted document (refused document) result
+IsRead given result = elim given [ None ↦ result ≡ Err NotToml | Some document ↦ IsAccepted document (refused document) result ]
 
 -- that, or memory ran out
 abbrev pub IsReadOrStarved : Option Members → Result Values SettingsFault → Type 0

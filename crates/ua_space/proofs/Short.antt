@@ -23,7 +23,7 @@ use Rattle.ua_space.specs.declared.plan.VariablePlan.{VariablePlan}
 use Rattle.ua_space.specs.Plan.{HasShortPlan, HasPlannedId, folder_of, variable_of, layout_of, planned, is_too_large}
 use Rattle.ua_space.specs.Space.{Node, Root, Objects, NamespaceArray, State, OfFolder, OfVariable, FolderType, BaseDataVariableType, id_of, name_of, node_at, nodes, is_same_id, HasShortId, HasShortTexts, HasShortName, IsShortLayout, browse_name_of, display_name_of, has_folder_id}
 use Rattle.ua_space.specs.Attributes.{Table, common_attributes, own_attributes, attributes, entry_at, IsShortAnswered}
-use Rattle.ua_space.specs.References.{Link, objects_below, holds, children, type_definition, folder_node, parent, organizes, is_defined_by, references, is_followed, told, type_id, no_node, no_name, no_text, definition_id}
+use Rattle.ua_space.specs.References.{Link, objects_below, holds, children, type_definition, folder_node, parent, organizes, is_defined_by, references, is_followed, told, type_id, no_node, definition_id}
 
 -- its texts can be counted
 abbrev pub IsShort : Node → Type 0
@@ -212,11 +212,11 @@ told_short mask link short = (type_short (has mask 1), id_counted link.target sh
     type_short true = tt
     type_short false = tt
 
-    name_short : (b : Bool) → IsCounted (if b then browse_name_of link.target else no_name).name
+    name_short : (b : Bool) → IsCounted (if b then browse_name_of link.target else record { namespace = 0; name = None }).name
     name_short true = name_counted link.target short
     name_short false = tt
 
-    text_short : (b : Bool) → IsShortLocalized (if b then display_name_of link.target else no_text)
+    text_short : (b : Bool) → IsShortLocalized (if b then display_name_of link.target else record { locale = None; text = None })
     text_short true = (tt, name_counted link.target short)
     text_short false = (tt, tt)
 

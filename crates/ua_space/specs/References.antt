@@ -4,8 +4,6 @@ use Rattle.std.specs.List.{list_any}
 use Rattle.std.specs.Cmp.Lexicographic.{pointwise}
 use Rattle.ua_binary.specs.declared.values.NodeId.{NodeId}
 use Rattle.ua_binary.specs.declared.values.NodeId.TheVariants.{Numeric}
-use Rattle.ua_binary.specs.declared.values.QualifiedName.{QualifiedName}
-use Rattle.ua_binary.specs.declared.values.LocalizedText.{LocalizedText}
 use Rattle.ua_variant.specs.DataValue.{has}
 use Rattle.ua_binary.specs.declared.codes.Status.{Status}
 use Rattle.ua_binary.specs.declared.codes.TheConstants.Status.{BAD_NODE_ID_UNKNOWN, BAD_BROWSE_DIRECTION_INVALID, BAD_REFERENCE_TYPE_ID_INVALID}
@@ -36,37 +34,25 @@ link_of link = record { reference_type = link.reference_type; is_forward = link.
 
 -- the objects that hang below a node, in the order of the plan
 abbrev pub objects_below : Layout → Node → List Node
-objects_below space Root = Objects ∷ []
-objects_below space Objects = map OfFolder space.folders
-objects_below space _ = []
+objects_below space node = elim node [ Root ↦ Objects ∷ [] | Objects ↦ map OfFolder space.folders | _ ↦ [] ]
 
 -- whether a variable hangs below a node: below its folder, or below Objects where it has none
 abbrev pub holds : Node → Variable → Bool
-holds Objects variable = is_none variable.folder
-holds (OfFolder folder) variable = elim (variable.folder) [ None ↦ false | Some id ↦ pointwise nat_eq id folder.id ]
-holds _ variable = false
+holds node variable = elim node [ Objects ↦ is_none variable.folder | OfFolder folder ↦ elim (variable.folder) [ None ↦ false | Some id ↦ pointwise nat_eq id folder.id ] | _ ↦ false ]
 
 -- what hangs below a node: objects before variables, each in the order of the plan
 abbrev pub children : Layout → Node → List Node
 children space node = objects_below space node ++ map OfVariable (filter (holds node) space.variables)
 
 abbrev pub type_definition : Node → Option Node
-type_definition Root = Some FolderType
-type_definition Objects = Some FolderType
-type_definition (OfFolder folder) = Some FolderType
-type_definition (OfVariable variable) = Some BaseDataVariableType
-type_definition _ = None
+type_definition node = elim node [ Root ↦ Some FolderType | Objects ↦ Some FolderType | OfFolder folder ↦ Some FolderType | OfVariable variable ↦ Some BaseDataVariableType | _ ↦ None ]
 
 -- the folder of this id; none: Objects
 abbrev pub folder_node : Layout → Option (List ℕ) → Option Node
-folder_node space None = Some Objects
-folder_node space (Some id) = option_map OfFolder (find (has_folder_id id) space.folders)
+folder_node space given = elim given [ None ↦ Some Objects | Some id ↦ option_map OfFolder (find (has_folder_id id) space.folders) ]
 
 abbrev pub parent : Layout → Node → Option Node
-parent space Objects = Some Root
-parent space (OfFolder folder) = Some Objects
-parent space (OfVariable variable) = folder_node space variable.folder
-parent space _ = None
+parent space node = elim node [ Objects ↦ Some Root | OfFolder folder ↦ Some Objects | OfVariable variable ↦ folder_node space variable.folder | _ ↦ None ]
 
 abbrev pub organizes : Bool → Node → Link
 organizes is_forward node = record { reference_type = Organizes; is_forward = is_forward; target = node }
@@ -81,15 +67,13 @@ references space node = map (organizes true) (children space node) ++ map is_def
 -- ---- which references a browse follows
 
 abbrev pub type_number : ReferenceType → ℕ
-type_number Organizes = 35
-type_number HasTypeDefinition = 40
+type_number type = elim type [ Organizes ↦ 35 | HasTypeDefinition ↦ 40 ]
 
 abbrev pub type_id : ReferenceType → NodeId
 type_id reference_type = Numeric 0 (type_number reference_type)
 
 abbrev pub in_standard : NodeId → Option ℕ
-in_standard (Numeric namespace id) = if namespace == 0 then Some id else None
-in_standard _ = None
+in_standard v = elim v [ Numeric namespace id ↦ if namespace == 0 then Some id else None | _ ↦ None ]
 
 -- No type, then References, NonHierarchicalReferences, HierarchicalReferences, HasChild, Organizes, HasTypeDefinition,
 -- Aggregates, HasSubtype, HasProperty and HasComponent (Part 5).
@@ -101,21 +85,15 @@ is_reference_type id = elim (in_standard id) [ None ↦ false | Some number ↦ 
 
 -- of which types a type is a subtype: HierarchicalReferences and References, NonHierarchicalReferences and References
 abbrev pub supertypes : ReferenceType → List ℕ
-supertypes Organizes = 33 ∷ 31 ∷ []
-supertypes HasTypeDefinition = 32 ∷ 31 ∷ []
+supertypes type = elim type [ Organizes ↦ 33 ∷ 31 ∷ [] | HasTypeDefinition ↦ 32 ∷ 31 ∷ [] ]
 
 -- the asked type is no type at all, or this one, or one of which this is a subtype, where subtypes count
 abbrev pub is_of_type : NodeId → Bool → ReferenceType → Bool
-is_of_type id subtypes reference_type = elim (in_standard id) [
-  | None ↦ false
-  | Some number ↦
-      number == 0 || number == type_number reference_type || subtypes && list_any (nat_eq number) (supertypes reference_type)
-]
+is_of_type id subtypes reference_type =
+    elim (in_standard id) [ None ↦ false | Some number ↦ number == 0 || number == type_number reference_type || subtypes && list_any (nat_eq number) (supertypes reference_type) ]
 
 abbrev pub is_along : BrowseDirection → Bool → Bool
-is_along Forward is_forward = is_forward
-is_along Inverse is_forward = not is_forward
-is_along Both is_forward = true
+is_along direction is_forward = elim direction [ Forward ↦ is_forward | Inverse ↦ not is_forward | Both ↦ true ]
 
 -- each class is a bit, and no bit at all asks for all classes
 abbrev pub is_of_class : ℕ → NodeClass → Bool
@@ -129,12 +107,6 @@ is_followed direction d link = is_along direction link.is_forward && is_of_type 
 abbrev pub no_node : NodeId
 no_node = Numeric 0 0
 
-abbrev pub no_name : QualifiedName
-no_name = record { namespace = 0; name = None }
-
-abbrev pub no_text : LocalizedText
-no_text = record { locale = None; text = None }
-
 abbrev pub definition_id : Node → NodeId
 definition_id node = elim (type_definition node) [ None ↦ no_node | Some type ↦ id_of type ]
 
@@ -145,8 +117,8 @@ told mask link = record {
   is_forward = has mask 2 && link.is_forward;
   node_id = id_of link.target;
   node_class = if has mask 4 then class_of link.target else Unspecified;
-  browse_name = if has mask 8 then browse_name_of link.target else no_name;
-  display_name = if has mask 16 then display_name_of link.target else no_text;
+  browse_name = if has mask 8 then browse_name_of link.target else record { namespace = 0; name = None };
+  display_name = if has mask 16 then display_name_of link.target else record { locale = None; text = None };
   type_definition = if has mask 32 then definition_id link.target else no_node;
 }
 

@@ -73,9 +73,7 @@ name_of node = (facts node).1.1
 
 -- folders and variables are in the plan's namespace, the others in that of the standard
 abbrev pub namespace_of : Node → ℕ
-namespace_of (OfFolder folder) = 1
-namespace_of (OfVariable variable) = 1
-namespace_of _ = 0
+namespace_of node = elim node [ OfFolder folder ↦ 1 | OfVariable variable ↦ 1 | _ ↦ 0 ]
 
 abbrev pub browse_name_of : Node → QualifiedName
 browse_name_of node = record { namespace = namespace_of node; name = Some (name_of node) }
@@ -107,8 +105,7 @@ node_at space id = node_in (nodes space) id
 
 -- the type of the variable of the plan that has this id
 abbrev pub type_of_node : Option Node → Option ValueType
-type_of_node (Some (OfVariable variable)) = Some variable.value_type
-type_of_node _ = None
+type_of_node given = elim given [ Some (OfVariable variable) ↦ Some variable.value_type | _ ↦ None ]
 
 abbrev pub value_type_at : Layout → NodeId → Option ValueType
 value_type_at space id = type_of_node (node_at space id)

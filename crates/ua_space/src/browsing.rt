@@ -122,7 +122,7 @@ pub(crate) fn tell(
 impl Link<'_> {
     ghost use Rattle.ua_services.specs.declared.browsing.NodeClass.TheVariants.{Unspecified};
     ghost use Rattle.ua_space.specs.Space.{node_of, class_of, browse_name_of, display_name_of};
-    ghost use Rattle.ua_space.specs.References.{type_id, definition_id, no_node, no_name, no_text, told, link_of};
+    ghost use Rattle.ua_space.specs.References.{type_id, definition_id, no_node, told, link_of};
 
     /// The fields whose bits are set.
     fn told(self, alloc: Global, mask: u32) -> Result<ReferenceDescription, BinaryFault>
@@ -167,7 +167,7 @@ impl Link<'_> {
 
     /// The browse name of the target, where it is wanted.
     fn wanted_name(self, alloc: Global, wanted: bool) -> Result<QualifiedName, BinaryFault>
-        ensures { IsOrStarved BinaryFault.OutOfMemory (Ok (if wanted then browse_name_of (node_of self.entry.target) else no_name)) result }
+        ensures { IsOrStarved BinaryFault.OutOfMemory (Ok (if wanted then browse_name_of (node_of self.entry.target) else record { namespace = 0; name = None })) result }
     {
         if wanted {
             self.target.browse_name().to_owned(alloc)
@@ -181,7 +181,7 @@ impl Link<'_> {
 
     /// The display name of the target, where it is wanted.
     fn wanted_text(self, alloc: Global, wanted: bool) -> Result<LocalizedText, BinaryFault>
-        ensures { IsOrStarved BinaryFault.OutOfMemory (Ok (if wanted then display_name_of (node_of self.entry.target) else no_text)) result }
+        ensures { IsOrStarved BinaryFault.OutOfMemory (Ok (if wanted then display_name_of (node_of self.entry.target) else record { locale = None; text = None })) result }
     {
         if wanted {
             self.target.display_name().to_owned(alloc)

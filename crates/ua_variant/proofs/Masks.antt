@@ -11,7 +11,7 @@ use Rattle.ua_variant.specs.declared.value.Variant.{Variant}
 use Rattle.ua_variant.specs.declared.fault.VariantFault.TheVariants.{BadEncodingByte}
 use Rattle.ua_variant.specs.Raise.{variant_fault}
 use Rattle.ua_variant.specs.Variant.{variant}
-use Rattle.ua_variant.specs.DataValue.{flag, IsPicoseconds, picoseconds, has, mask_of, data_mask, data_of, parts_of, stamps, data_fields, IsDataValue, data_value}
+use Rattle.ua_variant.specs.DataValue.{flag, IsPicoseconds, picoseconds, has, data_mask, data_of, parts_of, stamps, data_fields, IsDataValue, data_value}
 use Rattle.ua_variant.proofs.Lawful.{variant_lawful}
 
 -- ---- masks, all of them tried
@@ -38,6 +38,9 @@ of_each : (p : Bool → Bool) → each p ≡ true → (b : Bool) → p b ≡ tru
 unfolding each
 of_each p e true = (both_hold (p true) (p false) e).0
 of_each p e false = (both_hold (p true) (p false) e).1
+
+abbrev mask_of : Bool → Bool → Bool → Bool → Bool → Bool → ℕ
+mask_of a b c d e f = flag a 1 + flag b 2 + flag c 4 + flag d 16 + flag e 8 + flag f 32
 
 -- the mask is small, and each bit is set where it is there
 tried : ℕ → Bool → Bool → Bool → Bool → Bool → Bool → Bool

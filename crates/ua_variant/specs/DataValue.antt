@@ -28,13 +28,10 @@ StampParts = Option Status × (Option Ticks × (Option ℕ × (Option Ticks × O
 abbrev pub stamps_of : Stamps → StampParts
 stamps_of s = (s.status, (s.source_time, (s.source_pico, (s.server_time, s.server_pico))))
 
-abbrev pub Parts : Type 0
-Parts = Option Variant × StampParts
-
-abbrev pub data_of : Parts → DataValue
+abbrev pub data_of : Option Variant × StampParts → DataValue
 data_of p = record { value = p.0; status = p.1.0; source_time = p.1.1.0; source_pico = p.1.1.1.0; server_time = p.1.1.1.1.0; server_pico = p.1.1.1.1.1 }
 
-abbrev pub parts_of : DataValue → Parts
+abbrev pub parts_of : DataValue → Option Variant × StampParts
 parts_of v = (v.value, (v.status, (v.source_time, (v.source_pico, (v.server_time, v.server_pico)))))
 
 -- a bit of a mask
@@ -45,13 +42,10 @@ has mask bit = not (bit_and mask bit == 0)
 abbrev pub flag : Bool → ℕ → ℕ
 flag there bit = if there then bit else 0
 
-abbrev pub mask_of : Bool → Bool → Bool → Bool → Bool → Bool → ℕ
-mask_of value status source_time source_pico server_time server_pico =
-    flag value 1 + flag status 2 + flag source_time 4 + flag source_pico 16 + flag server_time 8 + flag server_pico 32
-
 -- the mask that is written
 abbrev pub data_mask : DataValue → ℕ
-data_mask v = mask_of (is_some v.value) (is_some v.status) (is_some v.source_time) (is_some v.source_pico) (is_some v.server_time) (is_some v.server_pico)
+data_mask v =
+    flag (is_some v.value) 1 + flag (is_some v.status) 2 + flag (is_some v.source_time) 4 + flag (is_some v.source_pico) 16 + flag (is_some v.server_time) 8 + flag (is_some v.server_pico) 32
 
 -- those behind the value that a mask names, in this order
 abbrev pub stamps : ℕ → Format BinaryFault StampParts
@@ -59,19 +53,13 @@ stamps mask = flagged (has mask 2) status ▸ flagged (has mask 4) ticks ▸ fla
 
 -- those that the mask names, the value first; another bit has no meaning
 abbrev pub data_fields : ℕ → Format VariantFault DataValue
-data_fields mask =
-    chosen (nat_lt 63 mask) (refused BadEncodingByte) (
-    standing_for data_of parts_of (flagged (has mask 1) variant ▸ raise (stamps mask)))
+data_fields mask = chosen (nat_lt 63 mask) (refused BadEncodingByte) (standing_for data_of parts_of (flagged (has mask 1) variant ▸ raise (stamps mask)))
 
 -- what has a spelling
 abbrev pub IsDataValue : DataValue → Type 0
 IsDataValue v =
-    IfSome v.value IsVariant
-    × IfSome v.status (λ c. c.0 < 2 ^ 32)
-    × IfSome v.source_time (λ t. FitsSigned w64 t.0)
-    × IfSome v.source_pico IsPicoseconds
-    × IfSome v.server_time (λ t. FitsSigned w64 t.0)
-    × IfSome v.server_pico IsPicoseconds
+    IfSome v.value IsVariant × IfSome v.status (λ c. c.0 < 2 ^ 32) × IfSome v.source_time (λ t. FitsSigned w64 t.0) × IfSome v.source_pico IsPicoseconds
+    × IfSome v.server_time (λ t. FitsSigned w64 t.0) × IfSome v.server_pico IsPicoseconds
 
 -- a mask, and what it names
 unfoldable pub data_value : Format VariantFault DataValue

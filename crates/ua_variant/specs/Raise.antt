@@ -9,11 +9,7 @@ use Rattle.ua_variant.specs.declared.fault.VariantFault.TheVariants.{Short, BadL
 
 -- a fault of the binary encoding as one of this crate
 abbrev pub variant_fault : BinaryFault → VariantFault
-variant_fault binary.Short = Short
-variant_fault binary.BadLength = BadLength
-variant_fault binary.BadUtf8 = BadUtf8
-variant_fault binary.BadEncodingByte = BadEncodingByte
-variant_fault binary.OutOfMemory = OutOfMemory
+variant_fault fault = elim fault [ binary.Short ↦ Short | binary.BadLength ↦ BadLength | binary.BadUtf8 ↦ BadUtf8 | binary.BadEncodingByte ↦ BadEncodingByte | binary.OutOfMemory ↦ OutOfMemory ]
 
 -- the number that scripts and logs show
 abbrev pub number_of : VariantFault → ℕ

@@ -1,15 +1,15 @@
 -- One value of each type (Part 6, 5.2.2).
 use Rattle.std.specs.Prelude.{◌≡◌, ℕ, Bool, ◌==◌, ◌||◌}
-use Rattle.ua_binary.specs.Format.{Format, refused, chosen, standing_for, fitting}
+use Rattle.ua_binary.specs.Format.{Format, refused, standing_for, fitting}
 use Rattle.ua_binary.specs.declared.fault.BinaryFault.{BinaryFault}
 use Rattle.ua_binary.specs.declared.fault.BinaryFault.TheVariants.{BadEncodingByte}
-use Rattle.ua_variant.specs.Types.{by_type, if_else}
+use Rattle.ua_variant.specs.Types.{by_type}
 use Rattle.ua_variant.specs.declared.value.Scalar.{Scalar}
 use Rattle.ua_variant.specs.declared.value.Scalar.TheVariants.{Boolean, SByte, Byte, Int16, UInt16, Int32, UInt32, Int64, UInt64, Float, Double, String, DateTime, Guid, ByteString, NodeId, StatusCode, QualifiedName, LocalizedText}
 
 -- what each type number calls for
 abbrev pub scalar_form : ℕ → Format BinaryFault Scalar
-scalar_form = by_type chosen (λ _ to from _ _ f _. standing_for to from f) (refused BadEncodingByte)
+scalar_form = by_type (λ _ to from _ _ f _. standing_for to from f) (refused BadEncodingByte)
 
 -- whether a type has this number
 unfoldable pub is_type : ℕ → Bool
@@ -39,11 +39,11 @@ scalar_number (LocalizedText v) = 21
 
 -- the numbers are those of their types, the texts are UTF-8, and their bytes few enough to be counted
 abbrev pub IsScalar : Scalar → Type 0
-IsScalar v = by_type if_else (λ _ _ from _ _ f _. f.Fits (from v)) ⊥ (scalar_number v)
+IsScalar v = by_type (λ _ _ from _ _ f _. f.Fits (from v)) ⊥ (scalar_number v)
 
 -- each text and byte string has few enough bytes to be counted
 abbrev pub IsShortScalar : Scalar → Type 0
-IsShortScalar v = by_type if_else (λ _ _ from _ _ _ IsShort. IsShort (from v)) ⊥ (scalar_number v)
+IsShortScalar v = by_type (λ _ _ from _ _ _ IsShort. IsShort (from v)) ⊥ (scalar_number v)
 
 -- a value of the type of this number
 unfoldable pub scalar : ℕ → Format BinaryFault Scalar

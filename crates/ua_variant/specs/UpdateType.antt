@@ -4,7 +4,4 @@ use Rattle.ua_variant.specs.declared.update_type.HistoryUpdateType.{HistoryUpdat
 use Rattle.ua_variant.specs.declared.update_type.HistoryUpdateType.TheVariants.{Insert, Replace, Update, Delete}
 
 abbrev pub update_number : HistoryUpdateType → ℕ
-update_number Insert = 1
-update_number Replace = 2
-update_number Update = 3
-update_number Delete = 4
+update_number asked = elim asked [ Insert ↦ 1 | Replace ↦ 2 | Update ↦ 3 | Delete ↦ 4 ]

@@ -27,15 +27,11 @@ variant_form first =
 
 -- the first byte that is written
 abbrev pub variant_number : Variant → ℕ
-variant_number Null = 0
-variant_number (Scalar s) = scalar_number s
-variant_number (Array a) = 128 + array_number a
+variant_number value = elim value [ Null ↦ 0 | Scalar s ↦ scalar_number s | Array a ↦ 128 + array_number a ]
 
 -- what has a spelling
 abbrev pub IsVariant : Variant → Type 0
-IsVariant Null = Unit {0}
-IsVariant (Scalar s) = IsScalar s
-IsVariant (Array a) = IsValues a
+IsVariant value = elim value [ Null ↦ Unit {0} | Scalar s ↦ IsScalar s | Array a ↦ IsValues a ]
 
 -- a first byte, and what it calls for
 unfoldable pub variant : Format VariantFault Variant
@@ -49,6 +45,4 @@ IsShortVariant (Array a) = IsShortValues a
 
 -- a null value fits each type
 abbrev pub has_type : Variant → ValueType → Bool
-has_type Null t = true
-has_type (Scalar s) t = not t.array && scalar_number s == t.number
-has_type (Array a) t = t.array && array_number a == t.number
+has_type value t = elim value [ Null ↦ true | Scalar s ↦ not t.array && scalar_number s == t.number | Array a ↦ t.array && array_number a == t.number ]

@@ -1,29 +1,38 @@
 use Rattle.std.proofs.Common.{◌≡◌, ℤ, List, Some, None, refl, ◌∙◌, ap, subst, sym, codes}
 use Rattle.std.specs.Prelude.{Option, Result, Ok, Err}
 use Rattle.std.specs.Int.{w64}
-use Rattle.std.specs.Str.Parse.{ParsesSigned, ExplainsSignedError, HasSignedDigitsIfOk, signed_digits_value}
+use Rattle.std.specs.Str.Parse.{ParsesSigned, ExplainsSignedError, HasSignedDigitsIfOk, IsNumeral, signed_digits_value, without_leading_sign}
+use Rattle.std.specs.Int.RustNames.{FitsSigned}
 use Rattle.std.specs.declared.num.ParseIntError.{ParseIntError}
 use Rattle.clap.specs.Matches.{TriesOne}
 use Rattle.clap.specs.Words.{Row, Text, found_of, one_of, one_text, rows_of}
 use Rattle.clap.proofs.WalkLemmas.{first_value-rows, one_text-rows}
-use Rattle.command_line.specs.Line.{IsFlag, IsNumber, GivesNoNumber}
+use Rattle.command_line.specs.Line.{IsFlag, IsNumber, IsAnswer, NoLine}
+use Rattle.command_line.specs.declared.line.Line.TheVariants.{Answer, Serve, Dump, Sync}
 use Rattle.command_line.proofs.line.read_answer.Goals as goal
 
 -- the number that was read is the one that the text spells
 number_of : {E : Type 0} (gives : Text → Result ℤ E → Type 0) → ((text : Text) (r : Result ℤ E) → gives text r → ParsesSigned w64 10 text r)
-    → (text : Text) (result : Result (Option ℤ) E) (number : Option ℤ) → TriesOne gives text result → result ≡ Ok number → number ≡ Some (signed_digits_value 10 text)
-number_of gives parses text (Ok (Some v)) number tries is = let same : number ≡ Some v = cc in same ∙ ap (λ n. Some n) (parses text (Ok v) tries).1
+    → (text : Text) (result : Result (Option ℤ) E) (number : Option ℤ) → TriesOne gives text result → result ≡ Ok number
+    → (number ≡ Some (signed_digits_value 10 text)) × IsNumeral 10 (without_leading_sign text) × FitsSigned w64 (signed_digits_value 10 text)
+number_of gives parses text (Ok (Some v)) number tries is = let same : number ≡ Some v = cc in let p = parses text (Ok v) tries in (same ∙ ap (λ n. Some n) p.1, p.0.0, p.0.1)
 number_of gives parses text (Ok None) number tries is = absurd tries
 number_of gives parses text (Err e) number tries is = absurd cc
 
--- and where none could be read, the text spells none
+-- and where none could be read, the text spells none, so no line of `answer` has it
+not_answer : (rows : List Row) (text : Text) → one_of (codes "now") rows ≡ Some text → (IsNumeral 10 (without_leading_sign text) × FitsSigned w64 (signed_digits_value 10 text) → ⊥) → NoLine (IsAnswer rows)
+not_answer rows text is spells_none (Answer path flag reading) h = let k = h.2.given text is in spells_none (k.1, k.2)
+not_answer rows text is spells_none (Serve path count) h = h
+not_answer rows text is spells_none (Dump path) h = h
+not_answer rows text is spells_none (Sync path address) h = h
+
 no_number : {E : Type 0} (gives : Text → Result ℤ E → Type 0) → ((text : Text) (r : Result ℤ E) → gives text r → ParsesSigned w64 10 text r)
     → (rows : List Row) (one : Option Text) (result : Result (Option ℤ) E) (fault : E) → one_of (codes "now") rows ≡ one → (one ≡ None → result ≡ Ok None)
-    → ((text : Text) → one ≡ Some text → TriesOne gives text result) → result ≡ Err fault → GivesNoNumber (codes "now") rows
+    → ((text : Text) → one ≡ Some text → TriesOne gives text result) → result ≡ Err fault → NoLine (IsAnswer rows)
 no_number gives parses rows None result fault is none tries fails = let wrong = none refl in absurd cc
 no_number {E} gives parses rows (Some text) result fault is none tries fails =
     let P : Result (Option ℤ) E → Type 0 = TriesOne gives text in
-    (text, is, parses text (Err fault) (subst P fails (tries text refl)))
+    not_answer rows text is (parses text (Err fault) (subst P fails (tries text refl)))
 
 -- what a 64-bit number is read by
 abbrev gives : Text → Result ℤ ParseIntError → Type 0

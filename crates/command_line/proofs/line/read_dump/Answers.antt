@@ -1,13 +1,21 @@
-use Rattle.std.proofs.Common.{◌≡◌, Some, None, ◌∙◌, ap, sym, codes}
+use Rattle.std.proofs.Common.{◌≡◌, List, Some, None, ◌∙◌, ap, sym, codes}
 use Rattle.std.specs.Prelude.{Option, option_map}
 use Rattle.clap.specs.Matches.{first_value}
-use Rattle.clap.specs.Words.{found_of}
+use Rattle.clap.specs.Words.{Row, first_of, found_of, rows_of}
+use Rattle.command_line.specs.Line.{IsDump, NoLine}
+use Rattle.command_line.specs.declared.line.Line.TheVariants.{Answer, Serve, Dump, Sync}
 use Rattle.clap.proofs.WalkLemmas.{first_value-rows}
 use Rattle.command_line.proofs.line.read_dump.Goals as goal
 
 -- what is known of an option's value, said of the option
 mapped : {T U : Type 0} (f : T → U) (o p : Option T) (m : Option U) → option_map f o ≡ m → o ≡ p → m ≡ option_map f p
 mapped f o p m same e = sym same ∙ ap (option_map f) e
+
+not_set : (rows : List Row) → first_of (codes "settings") rows ≡ None → NoLine (IsDump rows)
+not_set rows none (Dump path) h = let wrong = sym none ∙ h in cc
+not_set rows none (Answer path flag reading) h = h
+not_set rows none (Serve path count) h = h
+not_set rows none (Sync path address) h = h
 
 pub returns-in-Some-clause-ok : goal.returns-in-Some-clause-ok
 returns-in-Some-clause-ok c =
@@ -17,4 +25,4 @@ returns-in-Some-clause-ok c =
 pub returns-in-None-clause-words : goal.returns-in-None-clause-words
 returns-in-None-clause-words c =
     let found = found_of c.args.dump.now in
-    sym (first_value-rows found (codes "settings")) ∙ mapped _ c.get_str.result None (first_value found (codes "settings")) c.get_str.ensures c.in-None.is
+    not_set (rows_of found) (sym (first_value-rows found (codes "settings")) ∙ mapped _ c.get_str.result None (first_value found (codes "settings")) c.get_str.ensures c.in-None.is)

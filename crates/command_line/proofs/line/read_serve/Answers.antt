@@ -1,12 +1,13 @@
-use Rattle.std.proofs.Common.{◌≡◌, ℕ, List, Some, None, refl, ◌∙◌, ap, subst, sym, codes, inl, inr}
+use Rattle.std.proofs.Common.{◌≡◌, ◌<◌, ◌^◌, ℕ, List, Some, None, refl, ◌∙◌, ap, subst, sym, codes}
 use Rattle.std.specs.Prelude.{Option, Result, Ok, Err, option_map}
 use Rattle.std.specs.Option.{unwrap_or}
-use Rattle.std.specs.Str.Parse.{ParsesUnsigned, ExplainsUnsignedError, HasUnsignedDigitsIfOk, digits_value, without_leading_plus}
+use Rattle.std.specs.Str.Parse.{ParsesUnsigned, ExplainsUnsignedError, HasUnsignedDigitsIfOk, IsNumeral, digits_value, without_leading_plus}
 use Rattle.std.specs.declared.num.ParseIntError.{ParseIntError}
 use Rattle.clap.specs.Matches.{TriesOne, first_value}
-use Rattle.clap.specs.Words.{Row, Text, found_of, one_of, one_text, rows_of}
+use Rattle.clap.specs.Words.{Row, Text, first_of, found_of, one_of, one_text, rows_of}
 use Rattle.clap.proofs.WalkLemmas.{first_value-rows, one_text-rows}
-use Rattle.command_line.specs.Line.{IsCount, GivesNoCount}
+use Rattle.command_line.specs.Line.{IsCount, IsServe, NoLine}
+use Rattle.command_line.specs.declared.line.Line.TheVariants.{Answer, Serve, Dump, Sync}
 use Rattle.command_line.proofs.line.read_serve.Goals as goal
 
 -- what a 32-bit number is read by
@@ -14,18 +15,31 @@ abbrev gives : Text → Result ℕ ParseIntError → Type 0
 gives text r = ParsesUnsigned 32 10 text r × ExplainsUnsignedError 10 text r × HasUnsignedDigitsIfOk text r
 
 -- the number that was read is the one that the text spells
-count_of : (text : Text) (result : Result (Option ℕ) ParseIntError) (count : Option ℕ) → TriesOne gives text result → result ≡ Ok count → unwrap_or count 4294967295 ≡ digits_value 10 (without_leading_plus text)
-count_of text (Ok (Some v)) count tries is = let same : count ≡ Some v = cc in ap (λ o. unwrap_or o 4294967295) same ∙ tries.0.1
+count_of : (text : Text) (result : Result (Option ℕ) ParseIntError) (count : Option ℕ) → TriesOne gives text result → result ≡ Ok count
+    → (unwrap_or count 4294967295 ≡ digits_value 10 (without_leading_plus text)) × IsNumeral 10 (without_leading_plus text) × (digits_value 10 (without_leading_plus text) < 2 ^ 32)
+count_of text (Ok (Some v)) count tries is = let same : count ≡ Some v = cc in (ap (λ o. unwrap_or o 4294967295) same ∙ tries.0.1, tries.0.0.0, tries.0.0.1)
 count_of text (Ok None) count tries is = absurd tries
 count_of text (Err e) count tries is = absurd cc
 
--- and where none could be read, the text spells none
+-- and where none could be read, the text spells none, so no line of `serve` has it
+not_counted : (rows : List Row) (text : Text) → one_of (codes "connections") rows ≡ Some text → (IsNumeral 10 (without_leading_plus text) × (digits_value 10 (without_leading_plus text) < 2 ^ 32) → ⊥) → NoLine (IsServe rows)
+not_counted rows text is spells_none (Serve path count) h = let k = h.1.given text is in spells_none (k.1, k.2)
+not_counted rows text is spells_none (Answer path flag reading) h = h
+not_counted rows text is spells_none (Dump path) h = h
+not_counted rows text is spells_none (Sync path address) h = h
+
+not_set : (rows : List Row) → first_of (codes "settings") rows ≡ None → NoLine (IsServe rows)
+not_set rows none (Serve path count) h = let wrong = sym none ∙ h.0 in cc
+not_set rows none (Answer path flag reading) h = h
+not_set rows none (Dump path) h = h
+not_set rows none (Sync path address) h = h
+
 no_count : (rows : List Row) (one : Option Text) (result : Result (Option ℕ) ParseIntError) (fault : ParseIntError) → one_of (codes "connections") rows ≡ one → (one ≡ None → result ≡ Ok None)
-    → ((text : Text) → one ≡ Some text → TriesOne gives text result) → result ≡ Err fault → GivesNoCount (codes "connections") rows
+    → ((text : Text) → one ≡ Some text → TriesOne gives text result) → result ≡ Err fault → NoLine (IsServe rows)
 no_count rows None result fault is none tries fails = let wrong = none refl in absurd cc
 no_count rows (Some text) result fault is none tries fails =
     let P : Result (Option ℕ) ParseIntError → Type 0 = TriesOne gives text in
-    (text, is, (subst P fails (tries text refl)).0)
+    not_counted rows text is (subst P fails (tries text refl)).0
 
 none_of : (result : Result (Option ℕ) ParseIntError) (count : Option ℕ) → result ≡ Ok None → result ≡ Ok count → unwrap_or count 4294967295 ≡ 4294967295
 none_of result count none is = let same : count ≡ None = cc in ap (λ o. unwrap_or o 4294967295) same
@@ -37,13 +51,15 @@ mapped f o p m same e = sym same ∙ ap (option_map f) e
 pub returns-in_default-clause-words : goal.returns-in_default-clause-words
 returns-in_default-clause-words c =
     let found = found_of c.args.serve.now in
-    inl (sym (first_value-rows found (codes "settings")) ∙ mapped _ c.get_str.result None (first_value found (codes "settings")) c.get_str.ensures c.in_default.is)
+    not_set (rows_of found) (sym (first_value-rows found (codes "settings")) ∙ mapped _ c.get_str.result None (first_value found (codes "settings")) c.get_str.ensures c.in_default.is)
 
 pub returns-in-Ok-clause-ok : goal.returns-in-Ok-clause-ok
 returns-in-Ok-clause-ok c =
     let found = found_of c.args.serve.now in
     let count : IsCount (codes "connections") (rows_of found) c.unwrap_or.result = record {
-      given = λ text e. c.unwrap_or.ensures ∙ count_of text c.try_get_one.result c.in-Ok.connections (c.try_get_one.ensures.value text (one_text-rows found (codes "connections") ∙ e)) c.in-Ok.is;
+      given = λ text e.
+          let k = count_of text c.try_get_one.result c.in-Ok.connections (c.try_get_one.ensures.value text (one_text-rows found (codes "connections") ∙ e)) c.in-Ok.is in
+          (c.unwrap_or.ensures ∙ k.0, k.1, k.2);
       absent = λ e. c.unwrap_or.ensures ∙ none_of c.try_get_one.result c.in-Ok.connections (c.try_get_one.ensures.none (one_text-rows found (codes "connections") ∙ e)) c.in-Ok.is;
     } in
     (sym (first_value-rows found (codes "settings")) ∙ mapped _ c.get_str.result (Some c.in-Some.settings) (first_value found (codes "settings")) c.get_str.ensures c.in-Some.is, count)
@@ -51,5 +67,5 @@ returns-in-Ok-clause-ok c =
 pub returns-in-Err-clause-words : goal.returns-in-Err-clause-words
 returns-in-Err-clause-words c =
     let found = found_of c.args.serve.now in
-    inr (no_count (rows_of found) (one_text found (codes "connections")) c.try_get_one.result c.in-Err.field-0 (sym (one_text-rows found (codes "connections")))
-    c.try_get_one.ensures.none c.try_get_one.ensures.value c.in-Err.is)
+    no_count (rows_of found) (one_text found (codes "connections")) c.try_get_one.result c.in-Err.field-0 (sym (one_text-rows found (codes "connections")))
+    c.try_get_one.ensures.none c.try_get_one.ensures.value c.in-Err.is

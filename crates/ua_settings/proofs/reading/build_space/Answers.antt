@@ -1,7 +1,8 @@
 use Rattle.std.proofs.Common.{codes, ap, refl, subst, ◌∙◌}
+use Rattle.std.specs.Result.{result_map_both}
 use Rattle.ua_settings.specs.File.{text_at}
 use Rattle.toml.specs.View.{table_view}
-use Rattle.ua_settings.specs.Reading.{IsSpaceOrStarved, space_of}
+use Rattle.ua_settings.specs.Reading.{IsSpaceOrStarved, space_fault}
 use Rattle.ua_settings.proofs.Plans.{ids_planned, folders_planned, plan_short, space_built}
 use Rattle.ua_settings.proofs.reading.build_space.Goals as goal
 
@@ -18,7 +19,7 @@ build-requires-clause-texts c =
 
 pub returns-in-Ok : goal.returns-in-Ok
 returns-in-Ok c =
-    subst (λ result. IsSpaceOrStarved (table_view c.args.document.now) (space_of result)) c.in-Ok.is
+    subst (λ result. IsSpaceOrStarved (table_view c.args.document.now) (result_map_both (λ space. space) space_fault result)) c.in-Ok.is
     (space_built (table_view c.args.document.now) (record { namespace = c.text.result; folders = c.args.folders; variables = c.args.variables }) c.build.result
     (record { namespace = c.text.ensures ∙ ap (text_at (codes "namespace")) c.requires.same; folders = c.requires.folders; variables = c.requires.variables })
     c.build.ensures)
@@ -26,7 +27,7 @@ returns-in-Ok c =
 pub returns-in-Err : goal.returns-in-Err
 returns-in-Err c =
     rw c.space_fault.ensures
-    (subst (λ result. IsSpaceOrStarved (table_view c.args.document.now) (space_of result)) c.in-Err.is
+    (subst (λ result. IsSpaceOrStarved (table_view c.args.document.now) (result_map_both (λ space. space) space_fault result)) c.in-Err.is
     (space_built (table_view c.args.document.now) (record { namespace = c.text.result; folders = c.args.folders; variables = c.args.variables }) c.build.result
     (record { namespace = c.text.ensures ∙ ap (text_at (codes "namespace")) c.requires.same; folders = c.requires.folders; variables = c.requires.variables })
     c.build.ensures))
