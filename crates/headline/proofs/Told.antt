@@ -1,5 +1,5 @@
 -- What a response tells as Good is held.
-use Rattle.std.proofs.Common.{◌≡◌, ℕ, zero, suc, List, [], ◌∷◌, map, length, Option, Some, None, Result, Ok, Err, refl, sym, ap, ◌∙◌, subst}
+use Rattle.std.proofs.Common.{◌≡◌, ℕ, zero, suc, List, [], ◌∷◌, map, length, Option, Some, None, Result, Ok, Err, refl, sym, ap, ◌∙◌, subst, inl, inr}
 use Rattle.std.specs.Prelude.{slice_get}
 use Rattle.std.proofs.lemmas.Option.{none-some, same_Some}
 use Rattle.ua_binary.specs.declared.codes.Status.{Status}
@@ -19,15 +19,15 @@ use Rattle.hist_update.specs.declared.request.Request.{Request}
 use Rattle.hist_update.specs.Codes.{asked_by, list_refusal, first_other}
 use Rattle.hist_update.specs.Outcome.{Operation, DeleteAt, outcome}
 use Rattle.hist_update.specs.Updates.{Updated, refused, unless, begin, run, all_good, data_refusal, writes, deletes_at, doomed, stretch_refusal, listing_refusal, delete_listed, left_by}
-use Rattle.hist_update.specs.Laws.{IsGood, HasRecordOf}
-use Rattle.hist_update.proofs.Answered.{came_to, all_within, all_stand}
+use Rattle.hist_update.specs.Laws.{IsGood, HasRecordOf, AddsFor}
+use Rattle.hist_update.proofs.Answered.{came_to, all_within, all_stand, all_add}
 use Rattle.historian.specs.Answers as answer
 use Rattle.historian.specs.Answers.{Response}
 use Rattle.historian.specs.Reading as reading
 use Rattle.historian.specs.Updating.{node_asked, type_asked, asked_for, update_of, updated_unless, update_by, update_item, update_history}
 use Rattle.historian.specs.Requests as request
 use Rattle.historian.specs.Services.{Site, answered, answered_request, in_session}
-use Rattle.headline.specs.Told.{operations_of, IsHeldFor}
+use Rattle.headline.specs.Told.{operations_of, IsHeldFor, AddsFrom, AddsAll}
 
 within_on : (R S T : Content) → IsWithin R S → IsWithin S T → IsWithin R T
 within_on R S T a b r h = b r (a r h)
@@ -52,18 +52,20 @@ Stand R own q ops u = (k : ℕ) (code : Status) → slice_get u.0.operation_resu
 record Does (own : ℕ) (q : Request) (ops : List Operation) (R : Content) (more : Marked Updated) : Type 0 where
   stand : (marks : List Mark) → Stand R own q ops (more marks).0
   within : (marks : List Mark) → IsWithin R (more marks).0.1
+  adds : (marks : List Mark) → AddsFor q own ops (more marks).0.0 R (more marks).0.1
 
 refuses : (own : ℕ) (q : Request) (ops : List Operation) (R : Content) (code : Status) → Stand R own q ops (refused code, R)
 refuses own q ops R code k told e good = absurd (none-some told e)
 
 does_unless : (own : ℕ) (q : Request) (ops : List Operation) (R : Content) (reason : Option Status) (more : Marked Updated) → Does own q ops R more → Does own q ops R (unless reason R more)
-does_unless own q ops R (Some code) more does = record { stand = λ marks. refuses own q ops R code; within = λ marks r h. h }
+does_unless own q ops R (Some code) more does = record { stand = λ marks. refuses own q ops R code; within = λ marks r h. h; adds = λ marks. inr (refl, refl) }
 does_unless own q ops R None more does = does
 
 does_past : (own : ℕ) (q : Request) (ops : List Operation) (R : Content) (first : Marked (Option Status)) (more : Marked Updated) → Does own q ops R more → Does own q ops R (Rattle.hist_update.specs.Updates.past first R more)
 does_past own q ops R first more does = record {
   stand = λ marks. (does_unless own q ops R (first marks).0 more does).stand (first marks).1;
   within = λ marks. (does_unless own q ops R (first marks).0 more does).within (first marks).1;
+  adds = λ marks. (does_unless own q ops R (first marks).0 more does).adds (first marks).1;
 }
 
 does_run : (own : ℕ) (q : Request) (status : List Status → Status) (ops : List Operation) (R : Content) → Does own q ops R (run own q status ops R)
@@ -72,6 +74,7 @@ does_run own q status ops R = record {
       let op = told_asked own q ops R marks k code e in
       (op.0, op.1, all_stand own q ops R marks k op.0 (record { asked = op.1; code = code; told = e; good = good }));
   within = λ marks. all_within own q ops R marks;
+  adds = λ marks. inl (all_add own q ops R marks);
 }
 
 does_begin : (own : ℕ) (q : Request) (status : List Status → Status) (ops : List Operation) (R : Content) → Does own q ops R (begin own q status ops R)
@@ -103,9 +106,10 @@ does_update own user now type Other node R e = absurd (none-some node e)
 record Holds (own : ℕ) (space : Layout) (user : List ℕ) (now : Ticks) (R : Content) (details : Details) (u : Updated) : Type 0 where
   held : IsHeldFor own space user now R details u.0 u.1
   within : IsWithin R u.1
+  adds : AddsFrom own space user now R details u.0 u.1
 
 none_held : (own : ℕ) (space : Layout) (user : List ℕ) (now : Ticks) (R : Content) (details : Details) (code : Status) → Holds own space user now R details (refused code, R)
-none_held own space user now R details code = record { held = record { held = λ k told e good. absurd (none-some told e) }; within = λ r h. h }
+none_held own space user now R details code = record { held = record { held = λ k told e good. absurd (none-some told e) }; within = λ r h. h; adds = inr (refl, refl) }
 
 module _ (own : ℕ) (space : Layout) (user : List ℕ) (now : Ticks) where
   holds_typed : (details : Details) (node : NodeId) (type : ValueType) (R : Content) (reason : Option Status) (marks : List Mark) → node_asked details ≡ Some node → type_asked space (Some node) ≡ Ok type
@@ -116,6 +120,7 @@ module _ (own : ℕ) (space : Layout) (user : List ℕ) (now : Ticks) where
       record {
         held = record { held = λ k code e good. let op = does.stand marks k code e good in (node, type, op.0, asked, typed, op.1, op.2) };
         within = does.within marks;
+        adds = inl (node, type, asked, typed, does.adds marks);
       }
 
   holds_by : (details : Details) (R : Content) (marks : List Mark) (asked : Option NodeId) (type : Result ValueType Status) → node_asked details ≡ asked → type_asked space asked ≡ type
@@ -156,6 +161,12 @@ module _ (own : ℕ) (space : Layout) (user : List ℕ) (now : Ticks) where
       let more = each_held ds here.0.1 here.1 i d result at told in
       (more.0, within_on R here.0.1 more.0 (holds_item x R marks).within more.1, more.2)
 
+  each_adds : (ds : List Details) (R : Content) (marks : List Mark) → AddsAll own space user now ds (each (update_item own space user now) ds R marks).0.0 R (each (update_item own space user now) ds R marks).0.1
+  each_adds [] R marks = (refl, refl)
+  each_adds (d ∷ ds) R marks =
+      let here = update_item own space user now d R marks in
+      (here.0.1, (holds_item d R marks).adds, each_adds ds here.0.1 here.1)
+
   same_results : (a b : List HistoryUpdateResult) → ◌≡◌ {A = Response} (Ok (answer.Updated a)) (Ok (answer.Updated b)) → a ≡ b
   same_results a b e = cc
 
@@ -174,19 +185,33 @@ module _ (own : ℕ) (space : Layout) (user : List ℕ) (now : Ticks) where
   history_held ds R (Some code) marks results e i d result at told = absurd (cc)
   history_held ds R None marks results e i d result at told = items_held ds R (memory marks).0 (memory marks).1 results e i d result at told
 
+  items_added : (ds : List Details) (R : Content) (reason : Option Status) (marks : List Mark) (results : List HistoryUpdateResult)
+      → (reading.unless reason R (and_then (each (update_item own space user now) ds R) (λ p marks. ((Ok (answer.Updated p.0), p.1), marks))) marks).0.0 ≡ Ok (answer.Updated results)
+      → AddsAll own space user now ds results R (reading.unless reason R (and_then (each (update_item own space user now) ds R) (λ p marks. ((Ok (answer.Updated p.0), p.1), marks))) marks).0.1
+  items_added ds R (Some code) marks results e = absurd (cc)
+  items_added ds R None marks results e =
+      subst (λ (l : List HistoryUpdateResult). AddsAll own space user now ds l R (each (update_item own space user now) ds R marks).0.1) (same_results _ _ e) (each_adds ds R marks)
+
+  history_added : (ds : List Details) (R : Content) (reason : Option Status) (marks : List Mark) (results : List HistoryUpdateResult)
+      → (reading.unless reason R (reading.items answer.Updated (update_item own space user now) ds R) marks).0.0 ≡ Ok (answer.Updated results)
+      → AddsAll own space user now ds results R (reading.unless reason R (reading.items answer.Updated (update_item own space user now) ds R) marks).0.1
+  history_added ds R (Some code) marks results e = absurd (cc)
+  history_added ds R None marks results e = items_added ds R (memory marks).0 (memory marks).1 results e
+
 -- ---- a message
 
 abbrev AllHeld : Site → Ticks → NodeId → List Details → State → Content → List HistoryUpdateResult → Content → Type 0
 AllHeld site now token ds sessions R results S =
     (user : List ℕ) × (user_at sessions token ≡ Ok user)
     × ((i : ℕ) (d : Details) (result : HistoryUpdateResult) → slice_get ds i ≡ Some d → slice_get results i ≡ Some result → (T : Content) × IsWithin R T × IsHeldFor site.own site.settings.space user now T d result S)
+    × AddsAll site.own site.settings.space user now ds results R S
 
 session_held : (site : Site) (now : Ticks) (token : NodeId) (ds : List Details) (sessions : State) (R : Content) (marks : List Mark) (results : List HistoryUpdateResult) (user : Result (List ℕ) SessionFault) → user_at sessions token ≡ user
     → (in_session token sessions user (λ user. update_history site.own site.settings.space user now ds R) R marks).0.0.0 ≡ Ok (answer.Updated results)
     → AllHeld site now token ds sessions R results (in_session token sessions user (λ user. update_history site.own site.settings.space user now ds R) R marks).0.1
 session_held site now token ds sessions R marks results (Err fault) e f = absurd (cc)
 session_held site now token ds sessions R marks results (Ok user) e f =
-    (user, e, history_held site.own site.settings.space user now ds R (list_refusal 100 (length ds)) marks results f)
+    (user, e, history_held site.own site.settings.space user now ds R (list_refusal 100 (length ds)) marks results f, history_added site.own site.settings.space user now ds R (list_refusal 100 (length ds)) marks results f)
 
 pub good_held : (site : Site) (now : Ticks) (message : List ℕ) (token : NodeId) (ds : List Details) (sessions : State) (R : Content) (marks : List Mark) (results : List HistoryUpdateResult)
     → request.request_in message ≡ Ok (token, Some (request.HistoryUpdate ds)) → (answered site now message sessions R marks).0.0.0 ≡ Ok (answer.Updated results)

@@ -36,7 +36,7 @@ ghost use Rattle.exchange.specs.Worlds.{Site, World, IsSite, Sends, Delivers, ru
 ghost use Rattle.headline.specs.Pasts.{Past, IsPast, IsAt, Was, world_at, HaveLearnedSame, AreEven, Covers, WasAnswered, WasRecorded};
 ghost use Rattle.headline.specs.Answers.{Asked, answer_of, results_of, bytes_of, AreFromEither, IsReplicaOf, IsAnswered, IsFree};
 ghost use Rattle.headline.specs.Joins.{IsLeastAbove};
-ghost use Rattle.headline.specs.Told.{IsHeldFor};
+ghost use Rattle.headline.specs.Told.{IsHeldFor, AddsAll};
 ghost use Rattle.headline.specs.Machines.{IsMachine, AreNew, AreOf, GoOn, Serves, Meet, Restarts};
 ghost use Rattle.headline.specs.Readings.{IsReading, Reaches, at_one_time, IsOfRaw, ShowsModification, IsOwn, ShowsAsLive, ShowsNoneAt, HasLater, ShowWhole, HavePages};
 
@@ -168,11 +168,13 @@ pub fn machines_are_replicas_of_a_past<A: Archive>()
 /// What a client is told is Good is held: where the message of an activated session is a HistoryUpdate and is answered by results, each operation whose code is
 /// Good has its record in what is held behind it, asked for by the session's user: a new one, whose tick is above all that were held before the details it is of,
 /// and of the message's moment or a later one. The operations are those that the details ask where something is held that has all that was held before the
-/// message, for the details before them were done.
+/// message, for the details before them were done. And nothing else is added: what is held behind the message is what was held before it and these records,
+/// one for each such operation, in order.
 #[tactic(auto, using(crate::proofs::Told::good_held))]
 pub fn what_is_told_as_good_is_held()
     ensures { (site : Server) (now : Time) (message : List ℕ) (token : NodeId) (details : List Details) (sessions : Sessions) (R : Content) (marks : List Mark) (results : List HistoryUpdateResult)
         → request_in message ≡ Ok (token, Some (HistoryUpdate details)) → (answered site now message sessions R marks).0.0.0 ≡ Ok (Updated results)
         → (user : List ℕ) × (user_at sessions token ≡ Ok user) × ((i : ℕ) (d : Details) (result : HistoryUpdateResult) → slice_get details i ≡ Some d → slice_get results i ≡ Some result
-        → (S : Content) × IsWithin R S × IsHeldFor site.own site.settings.space user now S d result (answered site now message sessions R marks).0.1) }
+        → (S : Content) × IsWithin R S × IsHeldFor site.own site.settings.space user now S d result (answered site now message sessions R marks).0.1)
+        × AddsAll site.own site.settings.space user now details results R (answered site now message sessions R marks).0.1 }
 {}

@@ -23,7 +23,7 @@ use Rattle.archive.specs.Store.{Mark, Fine, Starved, Met, MayBeFound}
 use Rattle.records.specs.Moments.{ticks_of}
 use Rattle.hist_update.specs.Outcome.{Operation, Write, DeleteAt, Change, Outcome, Refused, Added, change_by, sized, fits, source_time, is_too_long, writing, deletion, outcome, outcome_of, judged, stamped, conflict, done, is_live}
 use Rattle.hist_update.specs.Updates.{code_by, left_by, update_all}
-use Rattle.hist_update.specs.Laws.{IsBad, IsGood, IsRecordOf, IsNewBehind, IsAnsweredGood, HasRecordOf}
+use Rattle.hist_update.specs.Laws.{IsBad, IsGood, IsRecordOf, IsNewBehind, IsAnsweredGood, HasRecordOf, AddsEach}
 use Rattle.hist_update.proofs.NewRecords.{made, new_next, new_above, new_timed}
 
 -- ---- the codes
@@ -213,6 +213,23 @@ all_closed own request [] R marks closed = closed
 all_closed own request (op ∷ ops) R [] closed = all_closed own request ops (left_by R (outcome R own request op) Fine) [] (left_closed R own request op Fine closed)
 all_closed own request (op ∷ ops) R (m ∷ marks) closed = all_closed own request ops (left_by R (outcome R own request op) m) marks (left_closed R own request op m closed)
 
+-- the first of them adds its record, where its code is Good, and no other
+one_adds : (own : ℕ) (request : Request) (op : Operation) (ops : List Operation) (R : Content) (m : Mark) (marks : List Mark)
+    → ((T : Content) → AddsEach request own ops (came_to own request ops T marks).0 T (came_to own request ops T marks).1)
+    → AddsEach request own (op ∷ ops) (code_by (outcome R own request op) m ∷ (came_to own request ops (left_by R (outcome R own request op) m) marks).0) R (came_to own request ops (left_by R (outcome R own request op) m) marks).1
+one_adds own request op ops R m marks more =
+    let T = left_by R (outcome R own request op) m in
+    let behind : Content → Type 0 = λ U. AddsEach request own ops (came_to own request ops T marks).0 U (came_to own request ops T marks).1 in
+    elim (bad_or_good R own request op m) [
+      | inl bad ↦ inl (bad, subst behind (bad_kept R own request op m bad) (more T))
+      | inr good ↦ let d = good_done R own request op m good in inr (good, d.0, d.3, d.4, subst behind d.2 (more T))
+    ]
+
+pub all_add : (own : ℕ) (request : Request) (ops : List Operation) (R : Content) (marks : List Mark) → AddsEach request own ops (came_to own request ops R marks).0 R (came_to own request ops R marks).1
+all_add own request [] R marks = (refl, refl)
+all_add own request (op ∷ ops) R [] = one_adds own request op ops R Fine [] (λ T. all_add own request ops T [])
+all_add own request (op ∷ ops) R (m ∷ marks) = one_adds own request op ops R m marks (λ T. all_add own request ops T marks)
+
 -- ---- by what they came to
 
 -- what steps do, without marks behind them
@@ -222,6 +239,10 @@ did {A} marked used a d = ap (λ (z : A × List Mark). z.0) (d.does [])
 pub updated_within : (R S : Content) (own : ℕ) (request : Request) (ops : List Operation) (used : List Mark) (codes : List Status) → Does (update_all own request ops R) used (codes, S) → IsWithin R S
 updated_within R S own request ops used codes d =
     subst (λ (z : List Status × Content). IsWithin R z.1) (did (update_all own request ops R) used (codes, S) d) (all_within own request ops R (used ++ []))
+
+pub updated_adds : (R S : Content) (own : ℕ) (request : Request) (ops : List Operation) (used : List Mark) (codes : List Status) → Does (update_all own request ops R) used (codes, S) → AddsEach request own ops codes R S
+updated_adds R S own request ops used codes d =
+    subst (λ (z : List Status × Content). AddsEach request own ops z.0 R z.1) (did (update_all own request ops R) used (codes, S) d) (all_add own request ops R (used ++ []))
 
 pub good_stands : (R S : Content) (own : ℕ) (request : Request) (ops : List Operation) (used : List Mark) (codes : List Status) (k : ℕ) (op : Operation)
     → Does (update_all own request ops R) used (codes, S) → IsAnsweredGood ops codes k op → HasRecordOf R S request own op

@@ -1,5 +1,5 @@
 -- Every update that is answered Good stands, whichever call it was one of.
-use Rattle.std.proofs.Common.{ℕ, ℤ, Bool, List, [], ◌++◌, map, length, Option, Some, None, subst}
+use Rattle.std.proofs.Common.{ℕ, ℤ, Bool, List, [], ◌++◌, map, length, Option, Some, None, refl, subst, inl, inr}
 use Rattle.std.proofs.lemmas.Option.{none-some}
 use Rattle.ua_binary.specs.declared.codes.Status.{Status}
 use Rattle.ua_binary.specs.declared.values.Ticks.{Ticks}
@@ -14,8 +14,8 @@ use Rattle.hist_update.specs.declared.request.Request.{Request}
 use Rattle.hist_update.specs.Codes.{asked_by, list_refusal, first_other}
 use Rattle.hist_update.specs.Outcome.{Operation, DeleteAt}
 use Rattle.hist_update.specs.Updates.{Updated, refused, unless, past, run, begin, all_good, data_refusal, writes, update_data, deletes_at, delete_at, doomed, stretch_refusal, listing_refusal, delete_listed, delete_raw}
-use Rattle.hist_update.specs.Laws.{IsAnsweredGood, HasRecordOf}
-use Rattle.hist_update.proofs.Answered.{all_within, all_stand, did, found_too}
+use Rattle.hist_update.specs.Laws.{IsAnsweredGood, HasRecordOf, AddsFor}
+use Rattle.hist_update.proofs.Answered.{all_within, all_stand, all_add, did, found_too}
 
 -- whatever marks are given, what it comes to is so
 abbrev Always : (Updated → Type 0) → Marked Updated → Type 0
@@ -52,6 +52,21 @@ stood R own request ops marked used result S left k op broken always d a m =
 
 kept : (R S : Content) (marked : Marked Updated) (used : List Mark) (result : HistoryUpdateResult) → Always (λ u. IsWithin R u.1) marked → Does marked used (result, S) → IsWithin R S
 kept R S marked used result always d = subst (λ (u : Updated). IsWithin R u.1) (did marked used (result, S) d) (always (used ++ []))
+
+-- each operation of a Good code added its record, and nothing else was added
+abbrev Adds : Content → ℕ → Request → List Operation → Updated → Type 0
+Adds R own request ops u = AddsFor request own ops u.0 R u.1
+
+none_adds : (R : Content) (own : ℕ) (request : Request) (ops : List Operation) (code : Status) → Adds R own request ops (refused code, R)
+none_adds R own request ops code = inr (refl, refl)
+
+begun_adds : (own : ℕ) (request : Request) (status : List Status → Status) (ops : List Operation) (R : Content) → Always (Adds R own request ops) (begin own request status ops R)
+begun_adds own request status ops R =
+    always_past (Adds R own request ops) memory R (run own request status ops R) (none_adds R own request ops) (λ marks. inl (all_add own request ops R marks))
+
+added : (R S : Content) (own : ℕ) (request : Request) (ops : List Operation) (marked : Marked Updated) (used : List Mark) (result : HistoryUpdateResult) → Always (Adds R own request ops) marked → Does marked used (result, S)
+    → AddsFor request own ops result R S
+added R S own request ops marked used result always d = subst (Adds R own request ops) (did marked used (result, S) d) (always (used ++ []))
 
 -- ---- the three calls
 
@@ -104,3 +119,27 @@ stretches_keep R S own request modified start end_ used result =
     kept R S (delete_raw own request modified start end_ R) used result
     (always_unless (λ u. IsWithin R u.1) (stretch_refusal modified start.0 end_.0) R (past (step status_told) R (delete_listed own request times R)) (λ code r h. h)
     (always_past (λ u. IsWithin R u.1) (step status_told) R (delete_listed own request times R) (λ code r h. h) all))
+
+pub writes_add : (R S : Content) (own : ℕ) (request : Request) (type : ValueType) (perform : ℤ) (values : List DataValue) (used : List Mark) (result : HistoryUpdateResult)
+    → Does (update_data own request type perform values R) used (result, S) → AddsFor request own (writes (asked_by perform) type values) result R S
+writes_add R S own request type perform values used result =
+    let ops = writes (asked_by perform) type values in
+    added R S own request ops (update_data own request type perform values R) used result
+    (always_unless (Adds R own request ops) (data_refusal (asked_by perform) (length values)) R (begin own request all_good ops R) (none_adds R own request ops) (begun_adds own request all_good ops R))
+
+pub deletes_add : (R S : Content) (own : ℕ) (request : Request) (times : List Ticks) (used : List Mark) (result : HistoryUpdateResult) → Does (delete_at own request times R) used (result, S)
+    → AddsFor request own (deletes_at times) result R S
+deletes_add R S own request times used result =
+    let ops = deletes_at times in
+    added R S own request ops (delete_at own request times R) used result
+    (always_unless (Adds R own request ops) (list_refusal 1000 (length times)) R (begin own request all_good ops R) (none_adds R own request ops) (begun_adds own request all_good ops R))
+
+pub stretches_add : (R S : Content) (own : ℕ) (request : Request) (modified : Bool) (start end_ : Ticks) (used : List Mark) (result : HistoryUpdateResult)
+    → Does (delete_raw own request modified start end_ R) used (result, S) → AddsFor request own (map DeleteAt (doomed R request.node start.0 end_.0)) result R S
+stretches_add R S own request modified start end_ used result =
+    let times = doomed R request.node start.0 end_.0 in
+    let ops = map DeleteAt times in
+    let all = always_unless (Adds R own request ops) (listing_refusal times) R (begin own request first_other ops R) (none_adds R own request ops) (begun_adds own request first_other ops R) in
+    added R S own request ops (delete_raw own request modified start end_ R) used result
+    (always_unless (Adds R own request ops) (stretch_refusal modified start.0 end_.0) R (past (step status_told) R (delete_listed own request times R)) (none_adds R own request ops)
+    (always_past (Adds R own request ops) (step status_told) R (delete_listed own request times R) (none_adds R own request ops) all))

@@ -1,5 +1,5 @@
 -- What is said of updates in general.
-use Rattle.std.specs.Prelude.{◌≡◌, ◌⊎◌, ℕ, ◌≤◌, ◌<◌, ℤ, pos, ◌≤ℤ◌, ◌<ℤ◌, false, true, List, slice_get, Some, Ok}
+use Rattle.std.specs.Prelude.{◌≡◌, ◌⊎◌, ℕ, ◌≤◌, ◌<◌, ℤ, pos, ◌≤ℤ◌, ◌<ℤ◌, false, true, List, [], ◌∷◌, slice_get, Some, Ok}
 use Rattle.std.specs.Int.{w64, int_min}
 use Rattle.std.specs.Int.RustNames.{FitsSigned}
 use Rattle.std.specs.Str.{is_utf8}
@@ -7,9 +7,10 @@ use Rattle.stamp.specs.Limits.{greatest}
 use Rattle.ua_binary.specs.Binary.{IsNodeId}
 use Rattle.ua_binary.specs.declared.codes.Status.{Status}
 use Rattle.ua_binary.specs.declared.values.NodeId.{NodeId}
+use Rattle.ua_services.specs.declared.updates.HistoryUpdateResult.{HistoryUpdateResult}
 use Rattle.ua_variant.specs.DataValue.{IsDataValue}
 use Rattle.records.specs.Moments.{ticks_of}
-use Rattle.records.specs.Contents.{Content}
+use Rattle.records.specs.Contents.{Content, put}
 use Rattle.records.specs.Lists.{Has}
 use Rattle.records.specs.Records.{is_delete}
 use Rattle.records.specs.declared.record.Record.{Record}
@@ -45,6 +46,19 @@ pub record IsNewBehind (R : Content) (request : Request) (r : Record) : Type 0 w
 -- the second content has the record of what the operation asks for, and it is new behind the first
 abbrev pub HasRecordOf : (before after : Content) → Request → ℕ → Operation → Type 0
 HasRecordOf before after request own operation = (r : Record) × Has after r × IsRecordOf request own operation r × IsNewBehind before request r
+
+-- One operation after the other: where its code is Bad nothing was added, and where it is Good its record was, which is new behind
+-- what was held then. Nothing else was.
+abbrev pub AddsEach : Request → ℕ → List Operation → List Status → Content → Content → Type 0
+AddsEach request own [] codes R S = (codes ≡ []) × (S ≡ R)
+AddsEach request own (operation ∷ operations) [] R S = ⊥
+AddsEach request own (operation ∷ operations) (code ∷ codes) R S =
+    (IsBad code × AddsEach request own operations codes R S)
+    ⊎ (IsGood code × (r : Record) × IsRecordOf request own operation r × IsNewBehind R request r × AddsEach request own operations codes (put r R) S)
+
+-- the same of a call's result; one that is refused as a whole has no codes and added nothing
+abbrev pub AddsFor : Request → ℕ → List Operation → HistoryUpdateResult → Content → Content → Type 0
+AddsFor request own operations result R S = AddsEach request own operations result.operation_results R S ⊎ ((result.operation_results ≡ []) × (S ≡ R))
 
 -- what the types of a request and of an operation see to, and the conditions on values
 pub record IsSpelled (request : Request) : Type 0 where

@@ -22,7 +22,7 @@ ghost use Rattle.hist_update.specs.declared.request.Request.{Request as Asker};
 ghost use Rattle.hist_update.specs.Codes.{asked_by};
 ghost use Rattle.hist_update.specs.Outcome.{Operation, DeleteAt, IsRequest, Added, outcome, is_live};
 ghost use Rattle.hist_update.specs.Updates.{code_by, left_by, update_all, update_data, delete_at, delete_raw, writes, deletes_at, doomed};
-ghost use Rattle.hist_update.specs.Laws.{IsBad, IsGood, IsRecordOf, IsNewBehind, IsAnsweredGood, HasRecordOf, IsSpelled, IsOperation, IsDoomed};
+ghost use Rattle.hist_update.specs.Laws.{IsBad, IsGood, IsRecordOf, IsNewBehind, IsAnsweredGood, HasRecordOf, AddsEach, AddsFor, IsSpelled, IsOperation, IsDoomed};
 
 /// A new record is its origin's next, its tick is above every tick held, and it is the last of its
 /// story: so what was written is the live value, and behind a delete there is none.
@@ -59,11 +59,12 @@ pub fn codes_tell_what_stood()
     ensures replacement { (R : Content) (own : ℕ) (q : Asker) (op : Operation) (code : Code) (r : Record) → outcome R own q op ≡ Added code r → r.asked ≡ Replace → is_live R r.node r.time ≡ true }
 {}
 
-/// What was held before some operations is held behind them, and so is the record of each operation that
-/// was answered Good: a new one, above every tick that was held before. What an opening may find behind
+/// What was held before some operations is held behind them, and each operation that was answered Good has
+/// added its record, one after the other, and nothing else has. So that record is held: a new one, above every tick that was held before. What an opening may find behind
 /// them has it too, also where one of them broke the store.
 pub fn updates_lose_nothing()
     ensures within { (R S : Content) (own : ℕ) (q : Asker) (ops : List Operation) (used : List Mark) (codes : List Code) → Does (update_all own q ops R) used (codes, S) → IsWithin R S }
+    ensures added { (R S : Content) (own : ℕ) (q : Asker) (ops : List Operation) (used : List Mark) (codes : List Code) → Does (update_all own q ops R) used (codes, S) → AddsEach q own ops codes R S }
     ensures stands { (R S : Content) (own : ℕ) (q : Asker) (ops : List Operation) (used : List Mark) (codes : List Code) (k : ℕ) (op : Operation)
         → Does (update_all own q ops R) used (codes, S) → IsAnsweredGood ops codes k op → HasRecordOf R S q own op }
     ensures found { (R S left : Content) (own : ℕ) (q : Asker) (ops : List Operation) (used : List Mark) (codes : List Code) (k : ℕ) (op : Operation) (broken : Bool)
@@ -72,7 +73,8 @@ pub fn updates_lose_nothing()
 
 /// Every update that is answered Good stands: whichever of the three calls it was one of, what is held
 /// behind the call has its record, a new one of the call's moment or later, and so has what an opening
-/// may find then. What was held before the call is held too.
+/// may find then. What was held before the call is held too, and nothing is added but one record for each
+/// operation that is answered Good.
 pub fn every_good_update_stands()
     ensures writes { (R S left : Content) (own : ℕ) (q : Asker) (type : Kind) (perform : ℤ) (values : List Data) (used : List Mark) (result : Answer) (k : ℕ) (op : Operation) (broken : Bool)
         → Does (update_data own q type perform values R) used (result, S) → IsAnsweredGood (writes (asked_by perform) type values) result.operation_results k op → MayBeFound broken S left
@@ -83,6 +85,12 @@ pub fn every_good_update_stands()
     ensures stretches { (R S left : Content) (own : ℕ) (q : Asker) (modified : Bool) (start end_ : Time) (used : List Mark) (result : Answer) (k : ℕ) (op : Operation) (broken : Bool)
         → Does (delete_raw own q modified start end_ R) used (result, S) → IsAnsweredGood (map DeleteAt (doomed R q.node start.0 end_.0)) result.operation_results k op → MayBeFound broken S left
         → HasRecordOf R S q own op × HasRecordOf R left q own op }
+    ensures added { (R S : Content) (own : ℕ) (q : Asker) (type : Kind) (perform : ℤ) (values : List Data) (used : List Mark) (result : Answer)
+        → Does (update_data own q type perform values R) used (result, S) → AddsFor q own (writes (asked_by perform) type values) result R S }
+    ensures added_by_deletes { (R S : Content) (own : ℕ) (q : Asker) (times : List Time) (used : List Mark) (result : Answer) → Does (delete_at own q times R) used (result, S)
+        → AddsFor q own (deletes_at times) result R S }
+    ensures added_by_stretches { (R S : Content) (own : ℕ) (q : Asker) (modified : Bool) (start end_ : Time) (used : List Mark) (result : Answer)
+        → Does (delete_raw own q modified start end_ R) used (result, S) → AddsFor q own (map DeleteAt (doomed R q.node start.0 end_.0)) result R S }
     ensures kept { (R S : Content) (own : ℕ) (q : Asker) (type : Kind) (perform : ℤ) (values : List Data) (used : List Mark) (result : Answer)
         → Does (update_data own q type perform values R) used (result, S) → IsWithin R S }
     ensures kept_by_deletes { (R S : Content) (own : ℕ) (q : Asker) (times : List Time) (used : List Mark) (result : Answer) → Does (delete_at own q times R) used (result, S) → IsWithin R S }
