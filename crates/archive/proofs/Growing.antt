@@ -1,6 +1,7 @@
 -- What some updates make of a content.
 use Rattle.std.proofs.Common.{◌≡◌, ℕ, List, [], ◌∷◌, unwrap_or, refl, subst}
-use Rattle.records.specs.Contents.{Content, Finding, Adds, Holds, Clash, Gap, TickTooFar, TickNotRising, finding, after_finding, learned, put}
+use Rattle.records.specs.Contents.{Content, Finding, Adds, Holds, Clash, Gap, TickTooFar, TickNotRising, finding, learned, put}
+use Rattle.records.proofs.ContentsParts.{after_finding}
 use Rattle.records.specs.declared.record.Record.{Record}
 use Rattle.archive.specs.Growth.{IsUpdateOf, GrowsBy, Grows}
 

@@ -14,3 +14,4 @@ pub mod Narrow
 pub mod Vectors
 pub mod Growing
 pub mod Acting
+pub mod ReadingParts

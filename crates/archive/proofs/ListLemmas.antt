@@ -12,7 +12,8 @@ use Rattle.records.specs.Lists.{Has}
 use Rattle.records.proofs.PutLemmas.{top_positive}
 use Rattle.archive.specs.Listed.{tick_from}
 use Rattle.records.specs.Records.{name_cmp}
-use Rattle.records.specs.Contents.{Content, number_from, vec, top, last_tick, put}
+use Rattle.records.specs.Contents.{Content, vec, top, last_tick, put}
+use Rattle.records.proofs.ContentsParts.{number_from}
 
 vec_push : (xs : Content) (r : Record) (origin : ℕ) → vec (xs ++ r ∷ []) origin ≡ max (vec xs origin) (number_from origin r)
 vec_push [] r origin = grind arith

@@ -6,7 +6,8 @@ use Rattle.std.proofs.lemmas.Option.{none-some}
 use Rattle.records.specs.Spelling.{IsLawfulRecord}
 use Rattle.records.proofs.PutLemmas.{has_from_put}
 use Rattle.records.proofs.LearnLemmas.{next_found, closed-next}
-use Rattle.records.specs.Contents.{Content, Finding, Adds, Holds, Clash, Gap, TickTooFar, TickNotRising, finding, after_finding, put}
+use Rattle.records.specs.Contents.{Content, Finding, Adds, Holds, Clash, Gap, TickTooFar, TickNotRising, finding, put}
+use Rattle.records.proofs.ContentsParts.{after_finding}
 use Rattle.records.specs.declared.record.Record.{Record}
 use Rattle.archive.specs.declared.fault.StoreFault.{StoreFault}
 use Rattle.archive.specs.declared.fault.StoreFault.TheVariants.{OutOfMemory}

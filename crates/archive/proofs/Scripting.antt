@@ -5,7 +5,8 @@ use Rattle.std.specs.List.{list_any, AllByRecursion}
 use Rattle.std.proofs.lemmas.Option.{none-some}
 use Rattle.std.proofs.lemmas.Bool.{true≢false}
 use Rattle.records.specs.declared.record.Record.{Record}
-use Rattle.records.specs.Contents.{Finding, Adds, Holds, Clash, Gap, TickTooFar, TickNotRising, finding, after_finding}
+use Rattle.records.specs.Contents.{Finding, Adds, Holds, Clash, Gap, TickTooFar, TickNotRising, finding}
+use Rattle.records.proofs.ContentsParts.{after_finding}
 use Rattle.archive.specs.declared.fault.StoreFault.{StoreFault}
 use Rattle.archive.specs.declared.fault.StoreFault.TheVariants.{OutOfMemory, Broken}
 use Rattle.archive.specs.declared.fault.LearnFault.{LearnFault}

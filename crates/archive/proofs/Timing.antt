@@ -3,7 +3,7 @@ use Rattle.std.proofs.Common.{◌≡◌, ℕ, zero, suc, ℤ, Bool, true, false,
 use Rattle.std.specs.Ordering.{int_cmp}
 use Rattle.ua_binary.specs.declared.values.NodeId.{NodeId}
 use Rattle.records.specs.Lists.{Has, Rises}
-use Rattle.records.specs.Same.{node_code}
+use Rattle.records.proofs.SameParts.{node_code}
 use Rattle.records.specs.Contents.{Content}
 use Rattle.records.specs.Records.{is_delete, write, held_of, story, current, entries_after, entries}
 use Rattle.records.specs.declared.record.Record.{Record}

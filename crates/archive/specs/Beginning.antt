@@ -3,9 +3,5 @@ use Rattle.std.specs.Prelude.{◌≡◌, ℕ, false, List, []}
 use Rattle.archive.specs.Store.{Store}
 
 -- an archive of this id and replica, in use, that holds nothing
-pub record HoldsNothing (archive : List ℕ) (replica : ℕ) (s : Store) : Type 0 where
-  pub id : s.id ≡ archive
-  pub own : s.own ≡ replica
-  pub honest : s.honest
-  pub whole : s.broken ≡ false
-  pub empty : s.content ≡ []
+abbrev pub HoldsNothing : List ℕ → ℕ → Store → Type 0
+HoldsNothing archive replica s = record { id : s.id ≡ archive; own : s.own ≡ replica; honest : s.honest; whole : s.broken ≡ false; empty : s.content ≡ [] }

@@ -13,11 +13,7 @@ use Rattle.archive.specs.declared.setback.Setback.TheVariants as setback
 use Rattle.archive.specs.Store.{Mark, Fine, Starved, Met}
 
 abbrev pub store_number : StoreFault → ℕ
-store_number store.OutOfMemory = 1
-store_number store.Refused = 2
-store_number store.WrongReplica = 3
-store_number store.WrongArchive = 4
-store_number store.Broken = 5
+store_number fault = elim fault [ store.OutOfMemory ↦ 1 | store.Refused ↦ 2 | store.WrongReplica ↦ 3 | store.WrongArchive ↦ 4 | store.Broken ↦ 5 ]
 
 abbrev pub learn_number : LearnFault → ℕ
 learn_number (learn.Gap held got) = 1

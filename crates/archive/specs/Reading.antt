@@ -39,9 +39,6 @@ log R node = flat_map (λ t. reverse (entries R node t)) (times R node)
 abbrev pub in_direction : {X : Type 0} → Direction → List X → List X
 in_direction d xs = elim d [ Forward ↦ xs | Backward ↦ reverse xs ]
 
-abbrev pub opposite : Direction → Direction
-opposite d = elim d [ Forward ↦ Backward | Backward ↦ Forward ]
-
 -- in the direction, the time is strictly beyond the limit
 abbrev pub is_past : Direction → ℤ → ℤ → Bool
 is_past d limit time = elim d [ Forward ↦ int_lt limit time | Backward ↦ int_lt time limit ]

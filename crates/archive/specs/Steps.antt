@@ -3,7 +3,7 @@ use Rattle.std.specs.Prelude.{◌≡◌, ◌⊎◌, List, [], ◌∷◌, ◌++�
 use Rattle.ua_binary.specs.declared.codes.Status.{Status}
 use Rattle.ua_binary.specs.declared.codes.TheConstants.Status.{BAD_OUT_OF_MEMORY}
 use Rattle.records.specs.Contents.{Content}
-use Rattle.archive.specs.Store.{Store, Mark, Fine, Starved, faults_of, Passes, HasContent}
+use Rattle.archive.specs.Store.{Store, Mark, Fine, Starved, faults_of, Passes, HasContent, Met}
 use Rattle.archive.specs.Growth.{Grows}
 
 -- what depends on what comes in the way of its steps: by a mark for each of them, its value, and the marks that are left
@@ -19,9 +19,7 @@ step f v = elim v [ [] ↦ (f Fine, []) | mark ∷ marks ↦ (f mark, marks) ]
 
 -- a step that takes memory alone, and why there is none; a fault of the store doesn't come in its way, and is left for later steps
 abbrev pub memory : Marked (Option Status)
-memory (Starved ∷ marks) = (Some BAD_OUT_OF_MEMORY, marks)
-memory (Fine ∷ marks) = (None, marks)
-memory marks = (None, marks)
+memory list = elim list [ Starved ∷ marks ↦ (Some BAD_OUT_OF_MEMORY, marks) | Fine ∷ marks ↦ (None, marks) | Met fault ∷ marks ↦ (None, Met fault ∷ marks) | [] ↦ (None, []) ]
 
 -- some steps, and then those that their value leads to
 abbrev pub and_then : {A B : Type 0} → Marked A → (A → Marked B) → Marked B
@@ -29,11 +27,8 @@ and_then first more marks = let a = first marks in more a.0 a.1
 
 -- the steps of each item of a list, over what those before it left: the values, and what is left
 abbrev pub each : {X Y S : Type 0} → (X → S → Marked (Y × S)) → List X → S → Marked (List Y × S)
-each f [] s marks = (([], s), marks)
-each f (x ∷ xs) s marks =
-    let here = f x s marks in
-    let later = each f xs here.0.1 here.1 in
-    ((here.0.0 ∷ later.0.0, later.0.1), later.1)
+each f [] s = give ([], s)
+each f (x ∷ xs) s = and_then (f x s) (λ here. and_then (each f xs here.1) (λ later. give (here.0 ∷ later.0, later.1)))
 
 -- by these marks, which are as many as it has steps, the value is a
 pub record Does {A : Type 0} (marked : Marked A) (used : List Mark) (a : A) : Type 0 where

@@ -47,8 +47,7 @@ Rests s = s.honest → s.broken ≡ false → IsSettled s
 
 -- nothing came in the way of a step, or memory was wanting, or the store met a fault
 pub data Mark : Type 0 where
-  Fine : Mark
-  Starved : Mark
+  Fine Starved : Mark
   Met : StoreFault → Mark
 
 abbrev pub faults_in : Mark → List StoreFault
@@ -120,12 +119,7 @@ store_fault_in result = None
 
 -- what a finding is answered: whether the record is added, or why it is refused
 abbrev pub answer_to : Finding → Result Bool LearnFault
-answer_to Adds = Ok true
-answer_to Holds = Ok false
-answer_to Clash = Err refused.Clash
-answer_to (Gap held got) = Err (refused.Gap held got)
-answer_to TickTooFar = Err refused.TickTooFar
-answer_to TickNotRising = Err refused.TickNotRising
+answer_to finding = elim finding [ Adds ↦ Ok true | Holds ↦ Ok false | Clash ↦ Err refused.Clash | Gap held got ↦ Err (refused.Gap held got) | TickTooFar ↦ Err refused.TickTooFar | TickNotRising ↦ Err refused.TickNotRising ]
 
 -- a record is learned: what it meets is answered, and the content is the old one, with the record where that is added; a fault of the store
 -- leaves the content as it was

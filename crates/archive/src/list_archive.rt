@@ -7,7 +7,7 @@ ghost use Rattle.records.specs.Lists.{Has, IsApart};
 ghost use Rattle.records.specs.declared.record.Record.{Record};
 ghost use Rattle.stamp.specs.Limits.{greatest};
 ghost use Rattle.records.specs.Records.{stamp_cmp, name_cmp, current, entries, story, missing, is_beyond};
-ghost use Rattle.records.specs.Contents.{Content, vec, top, last_tick, put, finding, number_from, cut};
+ghost use Rattle.records.specs.Contents.{Content, vec, top, last_tick, put, finding, cut};
 ghost use Rattle.records.specs.Same.{same_record, same_node};
 ghost use Rattle.archive.specs.Reading.{is_of, times, lives, log, in_direction, is_between, is_past, follows, range_of, log_of, outside_of};
 ghost use Rattle.archive.specs.Store.{IsLawfulContent, answer_to};

@@ -1,5 +1,6 @@
 //! How history is read: directions, and places among modifications.
 
+ghost use Rattle.archive.specs.declared.reading.Direction.TheVariants.{Backward, Forward};
 ghost use Rattle.std.specs.Prelude.{◌≡◌};
 
 use records::Moment;
@@ -24,11 +25,11 @@ pub struct LogPlace {
 }
 
 impl Direction {
-    ghost use Rattle.archive.specs.Reading.{opposite, is_past};
+    ghost use Rattle.archive.specs.Reading.{is_past};
 
     /// The other way.
     pub fn opposite(self) -> Direction
-        ensures { result ≡ opposite self }
+        ensures { result ≡ (elim self [ Forward ↦ Backward | Backward ↦ Forward ]) }
     {
         match self {
             Direction::Forward => Direction::Backward,

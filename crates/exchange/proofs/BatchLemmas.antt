@@ -5,7 +5,8 @@ use Rattle.std.proofs.lemmas.Bool.{cases_Bool}
 use Rattle.std.proofs.lemmas.Bool.Decides.{nat_tests}
 use Rattle.std.proofs.lemmas.List.{take_all, length-append}
 use Rattle.ua_binary.specs.Format.{saturated}
-use Rattle.stamp.specs.Numbers.{number_of, IsVector, entries_from, entries}
+use Rattle.stamp.specs.Numbers.{number_of, IsVector, entries}
+use Rattle.stamp.proofs.NumbersParts.{entries_from}
 use Rattle.stamp.specs.Vector.{vector, entry_above}
 use Rattle.stamp.proofs.Putting.{entry_bytes, canon_vector}
 use Rattle.records.specs.Records.{missing}

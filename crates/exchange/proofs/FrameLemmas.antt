@@ -1,6 +1,6 @@
 -- What a frame says is what it was made of.
-use Rattle.std.proofs.Common.{◌≡◌, ℕ, suc, ◌+◌, ◌-◌, ◌<◌, ◌≤◌, ◌^◌, true, false, nat_le, nat_lt, List, [], ◌∷◌, ◌++◌, length, take, drop, Some, Result, Ok, Err, refl, sym, ap, ◌∙◌, subst, arith, inl, inr}
-use Rattle.std.specs.Prelude.{◌&&◌, ◌==◌, not}
+use Rattle.std.proofs.Common.{◌≡◌, ℕ, suc, ◌+◌, ◌-◌, ◌<◌, ◌≤◌, ◌^◌, Bool, true, false, cond, nat_le, nat_lt, List, [], ◌∷◌, ◌++◌, length, take, drop, Some, Result, Ok, Err, refl, sym, ap, ◌∙◌, arith, inl, inr}
+use Rattle.std.specs.Prelude.{◌&&◌, ◌==◌, not, if◌then◌else◌}
 use Rattle.std.specs.Result.{result_map_both}
 use Rattle.std.specs.List.{flat_map, AllByRecursion}
 use Rattle.std.specs.Int.{w32}
@@ -8,19 +8,19 @@ use Rattle.std.specs.Str.{bytes_eq}
 use Rattle.std.proofs.lemmas.Bool.{le-ltb, true≢false, cases_Bool, eq-eqb}
 use Rattle.std.proofs.lemmas.Slice.Eq.{bytes_eq-Decides}
 use Rattle.std.proofs.lemmas.Bool.Decides.{nat_tests}
-use Rattle.ua_binary.proofs.Spelled.{whole_only}
+use Rattle.ua_binary.proofs.Spelled.{whole_found, whole_only, inside_lawful}
 use Rattle.stamp.specs.Limits.{IsReplica}
 use Rattle.std.proofs.lemmas.List.{length-append, take_all}
 use Rattle.std.proofs.lemmas.Nat.{from_le_bytes-to_le_bytes_4}
 use Rattle.stamp.proofs.Lawful.{vector_lawful}
 use Rattle.stamp.specs.Vector.{vector}
-use Rattle.ua_binary.specs.Format.{IsLawful, ◌▸◌, items, whole}
+use Rattle.ua_binary.specs.Format.{◌>>=◌, Format, IsLawful, Reading, ◌▸◌, with_fault, items, whole}
 use Rattle.ua_binary.specs.Binary.{unsigned}
-use Rattle.ua_binary.proofs.Combined.{bind_ok, ok_is, Found, byte_lawful, block_lawful, then_lawful, headed_lawful, standing_lawful, passing_lawful, fitting_lawful, raised_lawful, items_lawful}
+use Rattle.ua_binary.proofs.Combined.{byte_lawful, block_lawful, then_lawful, headed_lawful, standing_lawful, passing_lawful, fitting_lawful, raised_lawful, items_lawful}
 use Rattle.ua_binary.proofs.Lawful.{u32_lawful}
 use Rattle.records.specs.declared.record.Record.{Record}
 use Rattle.records.specs.declared.fault.RecordFault.{RecordFault}
-use Rattle.records.specs.Spelling.{record_form, IsRecord, IsLawfulRecord}
+use Rattle.records.specs.Spelling.{record_form, record_at, IsRecord, IsLawfulRecord}
 use Rattle.records.proofs.Spelled.{record_lawful, record_found, record_only}
 use Rattle.exchange.specs.declared.fault.ExchangeFault.{ExchangeFault}
 use Rattle.exchange.specs.declared.fault.ExchangeFault.TheVariants.{Frame, PeerFormat, WrongArchive, SelfPeer}
@@ -31,7 +31,8 @@ use Rattle.exchange.specs.declared.message.Title.{Title}
 use Rattle.exchange.specs.declared.message.Message.{Message}
 use Rattle.exchange.specs.declared.message.Message.TheVariants.{Asks, Carries, Ends}
 use Rattle.exchange.specs.Batches.{most, longest_frame, records_length, frame_length}
-use Rattle.exchange.specs.Frames.{record_in, title, title_of, title_fields, count, sized, framed, code, message_at, letters, kind_of, body_of, frame_of, cut, checked, IsTitle, IsSpelled}
+use Rattle.exchange.specs.Frames.{ill, title, count, sized, framed, code, message_at, letters, kind_of, body_of, frame_of, cut, checked, IsTitle, IsSpelled}
+use Rattle.exchange.proofs.FramesParts.{title_fields, title_of}
 use Rattle.exchange.specs.Meetings.{checked_title}
 use Rattle.exchange.proofs.BatchLemmas.{vector_short}
 
@@ -67,25 +68,37 @@ count_lawful = passing_lawful _ _ (raised_lawful _ u32_lawful)
 sized_lawful : IsLawful sized
 sized_lawful = headed_lawful length _ (raised_lawful _ u32_lawful) (λ n. raised_lawful _ (block_lawful n))
 
-fault_ok : (r : Result Record RecordFault) (x : Record) → result_map_both (λ y. y) (λ fault. Frame) r ≡ Ok x → r ≡ Ok x
-fault_ok (Ok a) x e = ap Ok (ok_is a x e)
-fault_ok (Err f) x e = cc
+ill_whole : {E A : Type 0} (f : Format E A) (bytes : List ℕ) (e : ExchangeFault) → whole Frame (ill f) bytes ≡ Err e → e ≡ Frame
+ill_whole {E} {A} f bytes e h = go (f.read bytes) h
+  where
+    test : (b : Bool) (a : A) → cond b (Ok a) (Err Frame) ≡ Err e → e ≡ Frame
+    test true a is = absurd cc
+    test false a is = cc
+
+    go : (r : Reading E A) → (with_fault (λ _. Frame) r >>= λ a. if length a.1 == 0 then Ok a.0 else Err Frame) ≡ Err e → e ≡ Frame
+    go (Ok a) is = test (length a.1 == 0) a.0 is
+    go (Err fault) is = cc
+
+-- what all of some bytes are read as, by the rules of a record one after the other
+pub record_whole : (bytes : List ℕ) → whole Frame (ill record_form) bytes ≡ result_map_both (λ r. r) (λ fault. Frame) (record_at bytes)
+record_whole bytes = go (record_at bytes) refl (whole Frame (ill record_form) bytes) refl
+  where
+    go : (r : Result Record RecordFault) → record_at bytes ≡ r → (w : Result Record ExchangeFault) → whole Frame (ill record_form) bytes ≡ w → w ≡ result_map_both (λ r. r) (λ fault. Frame) r
+    go (Ok r) is w found = sym found ∙ whole_only Frame (raised_lawful (λ _. Frame) record_lawful) bytes r (record_found bytes r is)
+    go (Err f) is (Ok v) found = let none : Err f ≡ Ok v = sym is ∙ record_only bytes v (whole_found Frame (raised_lawful (λ _. Frame) record_lawful) bytes v found) in absurd cc
+    go (Err f) is (Err e) found = ap Err (ill_whole record_form bytes e found)
 
 sized_fits : (r : Record) → IsRecord r → sized.Fits (record_form.canon r)
 unfolding record_form unsigned
 sized_fits r is = (omega (arith, is.0.size), refl)
 
+record_itself : (r : Record) → IsRecord r → record_form.Fits r
+unfolding record_form
+record_itself r is = is
+
 pub framed_lawful : IsLawful framed
-unfolding framed record_form
-framed_lawful = record {
-  found = λ bytes r rest e.
-      let b = bind_ok (sized.read bytes) _ (r, rest) e in
-      let c = bind_ok (record_in b.0.0) _ (r, rest) b.2 in
-      let x = sized_lawful.found bytes b.0.0 b.0.1 b.1 in
-      subst (Found framed bytes) (ok_is (c.0, b.0.1) (r, rest) c.2) (x.0, x.1, (b.0.0, x.2, record_found b.0.0 c.0 (fault_ok _ _ c.1)));
-  only = λ front r rest s. rw (sized_lawful.only front s.0 rest s.1, record_only s.0 r s.2) refl;
-  written = λ r fits. (record_form.canon r, sized_lawful.written (record_form.canon r) (sized_fits r fits), record_lawful.written r fits);
-}
+unfolding framed
+framed_lawful = fitting_lawful IsRecord (λ r is. (record_itself r is, sized_fits r is)) (inside_lawful Frame sized_lawful (raised_lawful (λ _. Frame) record_lawful))
 
 -- ---- a message is read of its own body
 

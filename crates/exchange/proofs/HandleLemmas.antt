@@ -8,7 +8,8 @@ use Rattle.std.specs.Option.{option_map_or, option_and_then}
 use Rattle.std.specs.Result.{is_ok}
 use Rattle.std.specs.List.{list_any}
 use Rattle.stamp.specs.Numbers.{number_of, IsVector}
-use Rattle.records.specs.Contents.{Content, vec, put, Finding, Adds, Holds, Clash, Gap, TickTooFar, TickNotRising, finding, after_finding, learned, merged}
+use Rattle.records.specs.Contents.{Content, vec, put, Finding, Adds, Holds, Clash, Gap, TickTooFar, TickNotRising, finding, learned, merged}
+use Rattle.records.proofs.ContentsParts.{after_finding}
 use Rattle.records.specs.declared.record.Record.{Record}
 use Rattle.archive.specs.declared.fault.StoreFault.{StoreFault}
 use Rattle.archive.specs.declared.fault.StoreFault.TheVariants.{Broken}
@@ -32,7 +33,8 @@ use Rattle.exchange.specs.Merging.{learned_all, IsRefusal, Meets, learned_of, Ma
 use Rattle.exchange.proofs.MergeLemmas.{merged_stops}
 use Rattle.exchange.specs.declared.message.Party.{Party}
 use Rattle.records.specs.Contents.{numbers_of}
-use Rattle.exchange.specs.Dialogs.{ended_by, broken_off, is_bare, refusal, refusal_by, learnt, title_by, Turn, failing, asking, carrying, pushing, learning, pulled, Way, Clear, Unread, Stopped, Starved, Met, IsWay, gone, learned_in, fault_on, party_of, IsHeld, Tells, IsSpelledReply, Handles, carries_none, capped, behind}
+use Rattle.exchange.specs.Dialogs.{ended_by, broken_off, is_bare, refusal, title_by, Turn, failing, carrying, pushing, learning, Way, Clear, Unread, Stopped, Starved, Met, IsWay, gone, learned_in, fault_on, party_of, IsHeld, Tells, IsSpelledReply, Handles, carries_none, capped, behind}
+use Rattle.exchange.proofs.DialogsParts.{asking, refusal_by, learnt, pulled}
 use Rattle.archive.proofs.Vectors.{told_is}
 
 abbrev pub reply_by : State → Message → Reply

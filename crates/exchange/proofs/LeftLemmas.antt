@@ -5,7 +5,8 @@ use Rattle.std.proofs.lemmas.Option.{none-some, same_Some}
 use Rattle.std.specs.Prelude.{unwrap_or}
 use Rattle.std.specs.Option.{option_map_or}
 use Rattle.records.specs.Lists.{Has}
-use Rattle.records.specs.Contents.{Content, put, Finding, Adds, Holds, Clash, Gap, TickTooFar, TickNotRising, finding, after_finding, learned, merged}
+use Rattle.records.specs.Contents.{Content, put, Finding, Adds, Holds, Clash, Gap, TickTooFar, TickNotRising, finding, learned, merged}
+use Rattle.records.proofs.ContentsParts.{after_finding}
 use Rattle.records.specs.declared.record.Record.{Record}
 use Rattle.archive.specs.declared.fault.LearnFault.{LearnFault}
 use Rattle.archive.specs.declared.fault.LearnFault.TheVariants as refused
@@ -18,7 +19,8 @@ use Rattle.exchange.specs.declared.message.State.{State}
 use Rattle.exchange.specs.declared.message.State.TheVariants as state
 use Rattle.exchange.specs.declared.message.Party.{Party}
 use Rattle.exchange.specs.Merging.{learned_of}
-use Rattle.exchange.specs.Dialogs.{refusal, refusal_by, learnt, learning, turned, ended_by, Way, Clear, Unread, Stopped, Starved, Met, learned_at, records_in, records_read, answered_to}
+use Rattle.exchange.specs.Dialogs.{refusal, learning, turned, ended_by, Way, Clear, Unread, Stopped, Starved, Met, learned_at, records_in, records_read, answered_to}
+use Rattle.exchange.proofs.DialogsParts.{refusal_by, learnt}
 use Rattle.exchange.proofs.HandleLemmas.{learnt_content, pushed_content, broken_kept}
 
 pub merged_none : (n : ℕ) (R : Content) → merged (take n []) R ≡ R

@@ -13,7 +13,8 @@ use Rattle.exchange.specs.declared.message.Header.{Header}
 use Rattle.exchange.specs.declared.message.Message.{Message}
 use Rattle.exchange.specs.declared.message.State.{State}
 use Rattle.exchange.specs.Frames.{kind_of, body_of, frame_of, cut, Held, Gives, IsSpelled}
-use Rattle.exchange.specs.Dialogs.{Turn, failing, turned, Way, Clear, Unread, Stopped, Starved, Met, gone, fault_on, records_in, Standing, received, answered, standing_after, party_of, bytes_of, Writes, Takes}
+use Rattle.exchange.specs.Dialogs.{Turn, failing, turned, Way, Clear, Unread, Stopped, Starved, Met, gone, fault_on, records_in, Standing, received, answered, standing_after, party_of, Writes, Takes}
+use Rattle.exchange.proofs.DialogsParts.{bytes_of}
 use Rattle.exchange.specs.Meetings.{IsOfOutside, Hands, IsTold}
 use Rattle.exchange.proofs.FrameLemmas.{cut_own, body_own}
 

@@ -28,7 +28,8 @@ use Rattle.hist_update.specs.declared.request.Request.{Request}
 use Rattle.hist_update.specs.Codes.{asked_by, list_refusal}
 use Rattle.hist_update.specs.Outcome.{Operation, Write, DeleteAt, outcome, after}
 use Rattle.hist_update.specs.Laws.{IsBad}
-use Rattle.hist_update.specs.Updates.{code_by, left_by, unless, begin, all_good, data_refusal, writes, deletes_at, update_data, delete_at}
+use Rattle.hist_update.specs.Updates.{code_by, left_by, unless, begin, data_refusal, writes, deletes_at, update_data, delete_at}
+use Rattle.hist_update.proofs.UpdatesParts.{all_good}
 use Rattle.hist_update.proofs.Answered.{bad_kept}
 use Rattle.exchange.specs.declared.world.Halted.{Halted}
 use Rattle.exchange.specs.Merging.{AreLearned, Meets, IsRefusal}

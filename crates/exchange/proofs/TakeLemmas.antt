@@ -19,7 +19,8 @@ use Rattle.exchange.specs.declared.message.State.TheVariants as state
 use Rattle.exchange.specs.declared.dialog.Reply.{Reply}
 use Rattle.exchange.specs.declared.dialog.Progress.{Progress}
 use Rattle.exchange.specs.Frames.{frame_of, message_at}
-use Rattle.exchange.specs.Dialogs.{Turn, failing, turned, Unread, Starved, IsWay, gone, learned_in, learned_at, fault_on, records_in, records_read, Standing, unfit, received, answered, answered_to, standing_after, taken_after, party_of, bytes_of, IsHeld, Handles, Writes, Takes, Greets, Sends, SendsHandled, AnswersTo, Concludes, capped, counted_by, added_to, carried}
+use Rattle.exchange.specs.Dialogs.{Turn, failing, turned, Unread, Starved, IsWay, gone, learned_in, learned_at, fault_on, records_in, records_read, Standing, unfit, received, answered, answered_to, standing_after, party_of, IsHeld, Handles, Writes, Takes, Greets, Sends, SendsHandled, AnswersTo, Concludes, capped, counted_by, added_to, carried}
+use Rattle.exchange.proofs.DialogsParts.{bytes_of, taken_after}
 use Rattle.exchange.specs.Merging.{MayBeLeft}
 use Rattle.exchange.proofs.HandleLemmas.{title_in, title_is}
 

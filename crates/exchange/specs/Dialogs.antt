@@ -8,7 +8,6 @@ use Rattle.records.specs.Contents.{Content, numbers_of, finding, learned, merged
 use Rattle.records.specs.declared.record.Record.{Record}
 use Rattle.archive.specs.declared.fault.StoreFault.{StoreFault}
 use Rattle.archive.specs.declared.fault.StoreFault.TheVariants.{Broken}
-use Rattle.archive.specs.declared.fault.LearnFault.{LearnFault}
 use Rattle.archive.specs.declared.fault.LearnFault.TheVariants as refused
 use Rattle.archive.specs.Store.{Store, Passes, Stays, answer_to}
 use Rattle.exchange.specs.declared.fault.ExchangeFault.{ExchangeFault}
@@ -51,10 +50,6 @@ added_to R turn = length turn.content - length R
 abbrev pub failing : Content → ExchangeFault → Turn
 failing R fault = record { result = Err fault; reply = Some (Ends (exchange_number fault)); content = R; code = None }
 
--- the own vector goes out
-abbrev pub asking : Party → State → Content → Turn
-asking p state R = record { result = Ok state; reply = Some (Asks (title_by p R)); content = R; code = None }
-
 -- records go out
 abbrev pub carrying : Party → State → Content → List Record → Turn
 carrying p state R batch = record { result = Ok state; reply = Some (Carries (title_by p R) batch); content = R; code = None }
@@ -67,24 +62,13 @@ pushing p R list = elim list [ [] ↦ record { result = Ok Done; reply = Some (E
 abbrev pub ended_by : Content → ℕ → Turn
 ended_by R v = elim v [ zero ↦ record { result = Ok Done; reply = None; content = R; code = None } | suc n ↦ record { result = Ok Failed; reply = None; content = R; code = Some (suc n) } ]
 
--- why the records of a batch aren't all learned, if they aren't; so many were before
-abbrev pub refusal_by : Option ExchangeFault → ℕ → Result Bool LearnFault → Option ExchangeFault
-refusal_by later k result = elim result [ Ok added ↦ later | Err cause ↦ Some (Learn k cause) ]
-
 abbrev pub refusal : ℕ → Content → List Record → Option ExchangeFault
 refusal k R [] = None
-refusal k R (r ∷ rs) = refusal_by (refusal (suc k) (unwrap_or (learned R r) R) rs) k (answer_to (finding R r))
-
-abbrev pub learnt : Party → State → Content → Option ExchangeFault → Turn
-learnt p state R given = elim given [ None ↦ asking p state R | Some fault ↦ failing R fault ]
+refusal k R (r ∷ rs) = elim (answer_to (finding R r)) [ Ok added ↦ refusal (suc k) (unwrap_or (learned R r) R) rs | Err cause ↦ Some (Learn k cause) ]
 
 -- a batch is learned, and the own vector answers it
 abbrev pub learning : Party → State → Content → List Record → Turn
-learning p state R rs = learnt p state (merged rs R) (refusal 0 R rs)
-
--- the initiator pulls until nothing comes, and then pushes
-abbrev pub pulled : Party → Content → Title → List Record → Turn
-pulled p R t list = elim list [ [] ↦ pushing p R (batch_of R (number_of t.vector)) | r ∷ rs ↦ learning p Pulling R (r ∷ rs) ]
+learning p state R rs = elim (refusal 0 R rs) [ None ↦ record { result = Ok state; reply = Some (Asks (title_by p (merged rs R))); content = merged rs R; code = None } | Some fault ↦ failing (merged rs R) fault ]
 
 -- the initiator isn't told that all is well
 abbrev pub broken_off : Content → ℕ → Turn
@@ -92,28 +76,22 @@ broken_off R v = elim v [ zero ↦ failing R Frame | suc n ↦ ended_by R (suc n
 
 -- what an end in this state makes of what the peer says, where nothing comes in the way
 abbrev pub turned : Party → State → Content → Message → Turn
-turned p Pulling R (Asks t) = failing R Frame
-turned p Pulling R (Carries t rs) = pulled p R t rs
+turned p Pulling R (Carries t rs) = elim rs [ [] ↦ pushing p R (batch_of R (number_of t.vector)) | r ∷ rs ↦ learning p Pulling R (r ∷ rs) ]
 turned p Pulling R (Ends n) = broken_off R n
 turned p Pushing R (Asks t) = pushing p R (batch_of R (number_of t.vector))
-turned p Pushing R (Carries t rs) = failing R Frame
 turned p Pushing R (Ends n) = broken_off R n
 turned p Serving R (Asks t) = carrying p Serving R (batch_of R (number_of t.vector))
 turned p Serving R (Carries t rs) = learning p Serving R rs
 turned p Serving R (Ends n) = ended_by R n
-turned p Done R m = failing R Frame
-turned p Failed R m = failing R Frame
+turned p state R m = failing R Frame
 
 -- ---- what comes in the way
 
 pub data Way : Type 0 where
-  Clear : Way
-  -- memory was wanting before anything was done
-  Unread : Way
+  -- nothing; memory was wanting before anything was done; or it was wanting behind all that was to be learned
+  Clear Unread Starved : Way
   -- so many records were learned, and then the store failed
   Stopped : (learned : ℕ) → StoreFault → Way
-  -- memory was wanting behind all that was to be learned
-  Starved : Way
   -- or the store failed there
   Met : StoreFault → Way
 
@@ -178,9 +156,7 @@ is_over state = elim state [ Done ↦ true | Failed ↦ true | _ ↦ false ]
 
 -- the end of the dialog may come at any time; else each state waits for its own
 abbrev pub is_due : State → FrameKind → Bool
-is_due Pulling Vector = false
-is_due Pushing Records = false
-is_due state kind = true
+is_due state kind = elim state [ Pulling ↦ elim kind [ Vector ↦ false | _ ↦ true ] | Pushing ↦ elim kind [ Records ↦ false | _ ↦ true ] | _ ↦ true ]
 
 -- why a frame of this kind isn't taken; an end takes 1,000,000 frames at most
 abbrev pub unfit : Standing → FrameKind → Option ExchangeFault
@@ -205,22 +181,16 @@ learned_at p state R way (Err fault) = 0
 abbrev pub answered : Party → Standing → Content → Way → FrameKind → List ℕ → Turn
 answered p s R way kind body = answered_to p s.state R way (received p s kind body)
 
-abbrev pub taken_after : Option ExchangeFault → ℕ → ℕ
-taken_after given n = elim given [ None ↦ n + 1 | Some fault ↦ n ]
-
 -- how an end that held this stands behind the turn that a frame of this kind came to
 abbrev pub standing_after : Standing → Content → FrameKind → Turn → Standing
 standing_after s R kind turn = record {
   state = result_unwrap_or turn.result Failed;
-  taken = taken_after (unfit s kind) s.taken;
+  taken = elim (unfit s kind) [ None ↦ s.taken + 1 | Some fault ↦ s.taken ];
   code = option_or turn.code s.code;
   started = s.started;
   learned = counted_by turn.result s.learned (added_to R turn);
   sent = counted_by turn.result s.sent (carried turn.reply);
 }
-
-abbrev pub bytes_of : Option Message → List ℕ
-bytes_of message = option_map_or frame_of message []
 
 -- ---- the calls
 
@@ -258,7 +228,7 @@ pub record Handles (old new : Store) (rs : List Record) (turn : Content → Turn
 -- the reply is written; where memory for what tells a fault is wanting too, that is told instead, and nothing is written
 abbrev pub Writes : Turn → Result State ExchangeFault → List ℕ → List ℕ → Type 0
 Writes turn result old new =
-    ((result ≡ turn.result) × (new ≡ old ++ bytes_of turn.reply))
+    ((result ≡ turn.result) × (new ≡ old ++ option_map_or frame_of turn.reply []))
     ⊎ ((fault : ExchangeFault) × (turn.result ≡ Err fault) × (result ≡ Err OutOfMemory) × (new ≡ old))
 
 abbrev pub records_read : Result Message ExchangeFault → List Record
@@ -275,7 +245,7 @@ pub record Takes (old new : Store) (before after : Standing) (kind : FrameKind) 
       → MayBeLeft old (records_read (received (party_of old) before kind body)) (learned_at (party_of old) before.state old.content way (received (party_of old) before kind body)) left
   pub passes : Passes old new (option_to_list (fault_on way))
   -- whatever the store, frames are counted
-  pub counted : after.taken ≡ taken_after (unfit before kind) before.taken
+  pub counted : after.taken ≡ (elim (unfit before kind) [ None ↦ before.taken + 1 | Some fault ↦ before.taken ])
   -- and the dialog goes on only behind one that may be taken
   pub fit : IfOk result (λ _. unfit before kind ≡ None)
   pub started : after.started ≡ before.started
@@ -301,13 +271,13 @@ TellsFault fault result out written =
 -- a turn was made where this was held, and its answer written; or its fault is still to be told
 abbrev pub Sends : Content → Turn → Result Progress ExchangeFault → List ℕ → List ℕ → Type 0
 Sends R turn (Ok done) out written =
-    (turn.result ≡ Ok done.state) × (turn.code ≡ done.code) × (written ≡ out ++ bytes_of turn.reply) × (capped (added_to R turn) ≡ done.learned) × (carried turn.reply ≡ done.sent)
+    (turn.result ≡ Ok done.state) × (turn.code ≡ done.code) × (written ≡ out ++ option_map_or frame_of turn.reply []) × (capped (added_to R turn) ≡ done.learned) × (carried turn.reply ≡ done.sent)
 Sends R turn (Err fault) out written = (turn ≡ failing turn.content fault) × (written ≡ out)
 
 -- what was handled is written, or memory for that is wanting
 abbrev pub SendsHandled : Result Reply ExchangeFault → Result Progress ExchangeFault → List ℕ → List ℕ → Type 0
 SendsHandled (Ok reply) (Ok done) out written =
-    (done ≡ record { state = reply.state; code = reply.code; learned = reply.learned; sent = carried reply.message }) × (written ≡ out ++ bytes_of reply.message)
+    (done ≡ record { state = reply.state; code = reply.code; learned = reply.learned; sent = carried reply.message }) × (written ≡ out ++ option_map_or frame_of reply.message [])
 SendsHandled (Ok reply) (Err fault) out written = (fault ≡ OutOfMemory) × (written ≡ out)
 SendsHandled (Err fault) (Ok done) out written = ⊥
 SendsHandled (Err fault) (Err told) out written = (told ≡ fault) × (written ≡ out)

@@ -1,16 +1,15 @@
 -- Frames between replicas: three letters and an F, the size with these eight bytes, and the body.
-use Rattle.std.specs.Prelude.{◌≡◌, ⊤, ℕ, ◌+◌, ◌^◌, ◌≤◌, ◌<◌, nat_lt, nat_le, ◌==◌, not, ◌||◌, ◌&&◌, Bool, true, false, List, [], ◌++◌, length, take, drop, codes, nat_eq, Option, None, Some, Result, Ok, Err, if◌then◌else◌}
-use Rattle.std.specs.Result.{result_map_both}
+use Rattle.std.specs.Prelude.{◌≡◌, ⊤, ℕ, ◌+◌, ◌^◌, ◌≤◌, ◌<◌, nat_lt, nat_le, ◌==◌, not, ◌||◌, ◌&&◌, Bool, true, false, List, [], ◌∷◌, ◌++◌, length, take, drop, find, codes, nat_eq, Option, None, Some, Result, Ok, Err, if◌then◌else◌}
 use Rattle.std.specs.List.{starts_with, flat_map, AllByRecursion}
 use Rattle.std.specs.Int.{w32, from_le_bytes}
 use Rattle.std.specs.Str.{bytes_eq}
 use Rattle.stamp.specs.Limits.{IsReplica}
 use Rattle.stamp.specs.Numbers.{IsVector}
 use Rattle.stamp.specs.Vector.{vector}
-use Rattle.ua_binary.specs.Format.{Format, byte, block, ◌▸◌, headed, standing_for, passing, fitting, raised, items, whole, ◌>>=◌}
+use Rattle.ua_binary.specs.Format.{Format, byte, block, ◌▸◌, headed, standing_for, passing, fitting, raised, inside, items, whole, ◌>>=◌}
 use Rattle.ua_binary.specs.Binary.{unsigned}
 use Rattle.records.specs.declared.record.Record.{Record}
-use Rattle.records.specs.Spelling.{record_form, record_at, IsRecord, IsLawfulRecord}
+use Rattle.records.specs.Spelling.{record_form, IsRecord, IsLawfulRecord}
 use Rattle.exchange.specs.declared.fault.ExchangeFault.{ExchangeFault}
 use Rattle.exchange.specs.declared.fault.ExchangeFault.TheVariants.{Frame, WrongArchive, SelfPeer, PeerFormat}
 use Rattle.exchange.specs.declared.message.FrameKind.{FrameKind}
@@ -29,18 +28,8 @@ use Rattle.exchange.specs.Batches.{most, longest_frame, frame_length}
 abbrev pub ill : {E A : Type 0} → Format E A → Format ExchangeFault A
 ill f = raised (λ _. Frame) f
 
--- the format's number is 2; 1 is told apart
-abbrev pub version : Format ExchangeFault ℕ
-version = passing (λ n. n == 2) Frame (passing (λ n. not (n == 1)) PeerFormat (ill byte))
-
 abbrev pub sender : Format ExchangeFault ℕ
 sender = passing (λ n. nat_le 1 n && nat_le n 64) Frame (ill byte)
-
-abbrev pub title_of : ℕ × (List ℕ × (ℕ × List ℕ)) → Title
-title_of p = record { id = p.1.0; sender = p.1.1.0; vector = p.1.1.1 }
-
-abbrev pub title_fields : Title → ℕ × (List ℕ × (ℕ × List ℕ))
-title_fields t = (2, (t.id, (t.sender, t.vector)))
 
 pub record IsTitle (t : Title) : Type 0 where
   pub id : length t.id ≡ 16
@@ -49,7 +38,8 @@ pub record IsTitle (t : Title) : Type 0 where
 
 -- the format's number, the archive's id, the sender and its vector
 unfoldable pub title : Format ExchangeFault Title
-title = fitting IsTitle (standing_for title_of title_fields (version ▸ ill (block 16) ▸ sender ▸ ill vector))
+title = fitting IsTitle (standing_for (λ p. record { id = p.1.0; sender = p.1.1.0; vector = p.1.1.1 }) (λ t. (2, (t.id, (t.sender, t.vector))))
+    (passing (λ n. n == 2) Frame (passing (λ n. not (n == 1)) PeerFormat (ill byte)) ▸ ill (block 16) ▸ sender ▸ ill vector))
 
 -- how many records follow
 abbrev pub count : Format ExchangeFault ℕ
@@ -59,18 +49,9 @@ count = passing (λ n. nat_le n most) Frame (ill (unsigned w32))
 abbrev pub sized : Format ExchangeFault (List ℕ)
 sized = headed length (ill (unsigned w32)) (λ n. ill (block n))
 
--- all of the bytes are a record
-abbrev pub record_in : List ℕ → Result Record ExchangeFault
-record_in bytes = result_map_both (λ r. r) (λ fault. Frame) (record_at bytes)
-
 -- a record behind its length
 unfoldable pub framed : Format ExchangeFault Record
-framed = record {
-  Spells = λ bytes r. (body : List ℕ) × sized.Spells bytes body × record_form.Spells body r;
-  read = λ bytes. sized.read bytes >>= λ b. record_in b.0 >>= λ r. Ok (r, b.1);
-  canon = λ r. sized.canon (record_form.canon r);
-  Fits = IsRecord;
-}
+framed = fitting IsRecord (inside Frame sized (ill record_form))
 
 abbrev pub code : Format ExchangeFault ℕ
 code = ill (unsigned w32)
@@ -81,13 +62,10 @@ code = ill (unsigned w32)
 abbrev pub checked : Party → Title → Result (Unit {0}) ExchangeFault
 checked p t = if not (bytes_eq t.id p.id) then Err WrongArchive else if t.sender == p.own then Err SelfPeer else Ok tt
 
-abbrev pub records_at : Party → (Title × ℕ) → List ℕ → Result Message ExchangeFault
-records_at p head rest = checked p head.0 >>= λ _. whole Frame (items head.1 framed) rest >>= λ rs. Ok (Carries head.0 rs)
-
 -- all of the bytes; the fields are judged first, then the archive and the sender, and then the records
 abbrev pub message_at : Party → FrameKind → List ℕ → Result Message ExchangeFault
 message_at p Vector body = whole Frame title body >>= λ t. checked p t >>= λ _. Ok (Asks t)
-message_at p Records body = (title ▸ count).read body >>= λ h. records_at p h.0 h.1
+message_at p Records body = (title ▸ count).read body >>= λ h. checked p h.0.0 >>= λ _. whole Frame (items h.0.1 framed) h.1 >>= λ rs. Ok (Carries h.0.0 rs)
 message_at p End body = whole Frame code body >>= λ n. Ok (Ends n)
 
 -- ---- frames
@@ -108,12 +86,9 @@ frame_of m = letters (kind_of m) ++ ((unsigned w32).canon (8 + length (body_of m
 abbrev pub begins : List ℕ → List ℕ → Bool
 begins bytes word = starts_with nat_eq bytes word
 
+-- what the four letters say
 abbrev pub kind_at : List ℕ → Option FrameKind
-kind_at bytes =
-    if begins bytes (codes "RXVF") then Some Vector
-    else if begins bytes (codes "RXDF") then Some Records
-    else if begins bytes (codes "RXEF") then Some End
-    else None
+kind_at bytes = find (λ kind. begins bytes (letters kind)) (Vector ∷ Records ∷ End ∷ [])
 
 -- the size that the header says, itself included
 abbrev pub size_at : List ℕ → ℕ

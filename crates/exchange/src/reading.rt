@@ -6,10 +6,10 @@ ghost use Rattle.ua_binary.specs.Format.{Reads, ReadsPart, ReadsUnless, block, b
 ghost use Rattle.ua_binary.specs.Binary.{unsigned};
 ghost use Rattle.std.specs.Int.{w32};
 ghost use Rattle.stamp.specs.Vector.{vector};
-ghost use Rattle.records.specs.Spelling.{GivesUnless, IsRecord};
+ghost use Rattle.records.specs.Spelling.{GivesUnless, IsRecord, record_form};
 ghost use Rattle.exchange.specs.declared.fault.ExchangeFault.TheVariants as fault;
 ghost use Rattle.exchange.specs.declared.message.Party.{Party as Reader};
-ghost use Rattle.exchange.specs.Frames.{ill, record_in, title, count, sized, framed, code, checked, message_at, IsLearnable};
+ghost use Rattle.exchange.specs.Frames.{ill, title, count, sized, framed, code, checked, message_at, IsLearnable};
 
 use crate::fault::ExchangeFault;
 use crate::message::{FrameKind, Message, Party, Title};
@@ -117,8 +117,9 @@ fn read_sized<'a>(cursor: &mut Cursor<'a>) -> Result<&'a [u8], ExchangeFault>
 }
 
 /// The record that all of some bytes spell.
+#[tactic(auto, using(crate::proofs::FrameLemmas::record_whole))]
 fn record_in(alloc: Global, bytes: &[u8]) -> Result<Record, ExchangeFault>
-    ensures gives { GivesUnless fault.OutOfMemory result (record_in bytes.now) }
+    ensures gives { GivesUnless fault.OutOfMemory result (whole fault.Frame (ill record_form) bytes.now) }
     ensures lawful { IfOk result IsRecord }
 {
     match read_record(alloc, bytes) {

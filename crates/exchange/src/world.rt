@@ -1,5 +1,6 @@
 //! Worlds of archives that take updates and exchange records.
 
+ghost use Rattle.ua_binary.specs.declared.codes.TheConstants.Status.{GOOD};
 ghost use Rattle.std.specs.Prelude.{◌≡◌, ◌∷◌, [], List, IsTrue, false, map, take};
 ghost use Rattle.std.specs.List.{AllByRecursion};
 ghost use Rattle.stamp.specs.Numbers.{number_of};
@@ -7,7 +8,7 @@ ghost use Rattle.records.specs.Contents.{merged};
 ghost use Rattle.archive.specs.Store.{Mark};
 ghost use Rattle.archive.specs.Steps.{Acts};
 ghost use Rattle.hist_update.specs.Outcome.{IsRequest, after, outcome};
-ghost use Rattle.hist_update.specs.Updates.{begin, all_good};
+ghost use Rattle.hist_update.specs.Updates.{begin};
 ghost use Rattle.exchange.specs.Running.{operation_of, event_of, IsAsked, IsEvent, Turns, TurnsBy, IsSame, HasFirst, HasSome, EndsBy, came_in, Puts, Gives, Happens, RunsWorld, IsClear, code_of};
 ghost use Rattle.hist_update.specs.Laws.{IsBad};
 
@@ -100,7 +101,7 @@ fn perform<A: Archive>(
 ) -> HistoryUpdateResult
     requires request { IsRequest request.now }
     requires operation { IsAsked operation.now }
-    ensures { (used : List Mark) × Acts (A.state archive.old) (A.state archive.new) used (begin (A.state archive.old).own request.now all_good (operation_of operation.now ∷ [])) result }
+    ensures { (used : List Mark) × Acts (A.state archive.old) (A.state archive.new) used (begin (A.state archive.old).own request.now (λ codes. GOOD) (operation_of operation.now ∷ [])) result }
 {
     match operation {
         Operation::Write {

@@ -5,7 +5,7 @@ ghost use Rattle.std.specs.List.{flat_map, All, AllByRecursion};
 ghost use Rattle.stamp.specs.Vector.{vector};
 ghost use Rattle.records.specs.Spelling.{record_form};
 ghost use Rattle.ua_binary.specs.Format.{Puts, PutsPart};
-ghost use Rattle.records.specs.Spelling.{IsRecord, IsTick};
+ghost use Rattle.records.specs.Spelling.{IsRecord};
 ghost use Rattle.exchange.specs.declared.fault.ExchangeFault.TheVariants as fault;
 ghost use Rattle.exchange.specs.Frames.{title, framed, letters, kind_of, body_of, frame_of, IsTitle, IsSpelled};
 ghost use Rattle.exchange.specs.Batches.{records_length, frame_length, longest_frame};

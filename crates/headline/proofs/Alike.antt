@@ -11,7 +11,8 @@ use Rattle.archive.specs.declared.fault.StoreFault.TheVariants as store
 use Rattle.archive.specs.Store.{Store, Mark, Fine, Starved, Met}
 use Rattle.archive.specs.Steps.{Does}
 use Rattle.hist_read.specs.declared.query.Query.{Query}
-use Rattle.hist_read.specs.Node.{Behind, judged, told, page_from, read_from, read_node}
+use Rattle.hist_read.specs.Node.{Behind, judged, page_from, read_node}
+use Rattle.hist_read.proofs.NodeParts.{read_from, told}
 use Rattle.hist_read.specs.Chains.{Page, IsRead, Chain}
 use Rattle.exchange.specs.Worlds.{Site}
 use Rattle.headline.specs.Pasts.{Past, IsPast, Was, HaveLearnedSame}

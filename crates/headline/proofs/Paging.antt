@@ -22,7 +22,8 @@ use Rattle.hist_read.specs.Point.{Point, IsDetails, point_in}
 use Rattle.hist_read.specs.Reads.{raw, raw_position, modified, modified_position, next_place}
 use Rattle.hist_read.proofs.Agreeing.{place_told}
 use Rattle.hist_read.proofs.Results.{raw_result, modified_result}
-use Rattle.hist_read.specs.Node.{Behind, is_enough, agrees, judged, point_at, page_result, page_from, place_in, covers, refused, read_from}
+use Rattle.hist_read.specs.Node.{Behind, is_enough, judged, point_at, page_result, page_from, place_in, refused}
+use Rattle.hist_read.proofs.NodeParts.{read_from, covers, agrees}
 use Rattle.hist_read.specs.Chains.{Page, IsRead, Chain, whole, values_in, infos_in, joined_values, joined_infos, IsLater, IsAsked, contents_from}
 use Rattle.hist_read.proofs.Cutting.{vectors_below}
 use Rattle.exchange.specs.Worlds.{Site}

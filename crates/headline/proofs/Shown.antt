@@ -31,7 +31,8 @@ use Rattle.archive.proofs.Turning.{has-filter_map, has_from_filter_map, has-flat
 use Rattle.archive.proofs.Timing.{has_from_get, current_time, entry_time}
 use Rattle.hist_read.specs.declared.query.Query.{Query}
 use Rattle.hist_read.specs.Asking.{is_given, has_both, direction}
-use Rattle.hist_read.specs.Reads.{in_body, in_body_of, is_from, last_within, lives_in, body, values, near}
+use Rattle.hist_read.specs.Reads.{in_body, in_body_of, is_from, last_within, body, values, near}
+use Rattle.hist_read.proofs.ReadsParts.{lives_in}
 use Rattle.hist_read.specs.Showing.{shown, shown_entry, info}
 use Rattle.hist_read.specs.Chains.{Page, behind_origin, with_far, whole_raw, whole_modified, counted, whole, values_in, infos_in, joined_values, joined_infos}
 use Rattle.headline.specs.Readings.{Reaches, at_one_time, IsOfRaw, ShowsModification, IsOwn, shown_live, ShowsAsLive, ShowsNoneAt, HasLater}

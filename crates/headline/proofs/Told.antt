@@ -18,13 +18,15 @@ use Rattle.archive.specs.Steps.{Marked, step, memory, and_then, each}
 use Rattle.hist_update.specs.declared.request.Request.{Request}
 use Rattle.hist_update.specs.Codes.{asked_by, list_refusal, first_other}
 use Rattle.hist_update.specs.Outcome.{Operation, DeleteAt, outcome}
-use Rattle.hist_update.specs.Updates.{Updated, refused, unless, begin, run, all_good, data_refusal, writes, deletes_at, doomed, stretch_refusal, listing_refusal, delete_listed, left_by}
+use Rattle.hist_update.specs.Updates.{Updated, refused, unless, begin, data_refusal, writes, deletes_at, doomed, stretch_refusal, listing_refusal, delete_listed, left_by}
+use Rattle.hist_update.proofs.UpdatesParts.{all_good, run}
 use Rattle.hist_update.specs.Laws.{IsGood, HasRecordOf, AddsFor}
 use Rattle.hist_update.proofs.Answered.{came_to, all_within, all_stand, all_add}
 use Rattle.historian.specs.Answers as answer
 use Rattle.historian.specs.Answers.{Response}
 use Rattle.historian.specs.Reading as reading
-use Rattle.historian.specs.Updating.{node_asked, type_asked, asked_for, update_of, updated_unless, update_by, update_item, update_history}
+use Rattle.historian.specs.Updating.{node_asked, type_asked, asked_for, update_of, update_item, update_history}
+use Rattle.historian.proofs.UpdatingParts.{update_by, updated_unless}
 use Rattle.historian.specs.Requests as request
 use Rattle.historian.specs.Services.{Site, answered, answered_request, in_session}
 use Rattle.headline.specs.Told.{operations_of, IsHeldFor, AddsFrom, AddsAll}

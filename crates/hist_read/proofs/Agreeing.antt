@@ -8,7 +8,8 @@ use Rattle.std.proofs.lemmas.Bool.{cases_Bool, and_from, and_parts}
 use Rattle.std.specs.Cmp.{booleans_Decides, unsigned_Decides}
 use Rattle.std.specs.Cmp.Lexicographic.{pointwise}
 use Rattle.ua_binary.specs.declared.values.NodeId.{NodeId}
-use Rattle.records.specs.Same.{is_same, same_node, node_code}
+use Rattle.records.specs.Same.{is_same, same_node}
+use Rattle.records.proofs.SameParts.{node_code}
 use Rattle.records.proofs.Same.{Decides-is_same}
 use Rattle.ua_variant.proofs.Equal.{IsExact, pairs, through}
 use Rattle.ua_binary.specs.contracts.values.TicksPartialEq as ticks
@@ -19,7 +20,8 @@ use Rattle.ua_services.specs.declared.history.ReadRawModifiedDetails.{ReadRawMod
 use Rattle.ua_binary.specs.declared.codes.TheConstants.Status.{BAD_CONTINUATION_POINT_INVALID}
 use Rattle.ua_services.specs.History.{raw_of, raw_fields}
 use Rattle.hist_read.specs.Point.{Point}
-use Rattle.hist_read.specs.Node.{IsOfRead, Behind, agrees}
+use Rattle.hist_read.specs.Node.{IsOfRead, Behind}
+use Rattle.hist_read.proofs.NodeParts.{agrees}
 
 -- what a point tells of where reading goes on, as `place_in` has it
 abbrev pub place_told : List ℕ → NodeId → Details → Option Point → Result (Option Behind) Status

@@ -22,7 +22,8 @@ use Rattle.hist_read.specs.Asking.{is_given, has_both, first_time, origin_time}
 use Rattle.hist_read.specs.Point.{IsDetails, IsNext}
 use Rattle.hist_read.specs.Reads.{greatest_time, in_body, raw, raw_position, modified, modified_position, next_place}
 use Rattle.hist_read.specs.Showing.{shown, shown_entry, info}
-use Rattle.hist_read.specs.Node.{Behind, is_enough, judged, point_at, page_result, read_from}
+use Rattle.hist_read.specs.Node.{Behind, is_enough, judged, point_at, page_result}
+use Rattle.hist_read.proofs.NodeParts.{read_from}
 use Rattle.hist_read.proofs.Results.{raw_result, modified_result}
 use Rattle.hist_read.specs.Chains.{whole_raw, whole_modified, counted, whole, values_in, infos_in, Page, IsRead, Chain, joined_values, joined_infos, IsLater, IsAsked, contents_from}
 use Rattle.hist_read.proofs.Joining.{modified_join}

@@ -36,7 +36,8 @@ use Rattle.records.specs.declared.shown.Entry.{Entry}
 use Rattle.records.proofs.LatestLemmas.{story_has}
 use Rattle.records.proofs.Sizes.{fields_length}
 use Rattle.records.proofs.Sorting.{has_from_filter}
-use Rattle.archive.specs.Reading.{times, lives, log, in_direction, opposite, is_past, outside_of, follows}
+use Rattle.archive.specs.Reading.{times, lives, log, in_direction, is_past, outside_of, follows}
+use Rattle.archive.proofs.ReadingParts.{opposite}
 use Rattle.archive.specs.Store.{IsLawfulContent}
 use Rattle.archive.specs.declared.reading.Direction.{Direction}
 use Rattle.archive.specs.declared.reading.Direction.TheVariants.{Forward, Backward}
@@ -44,7 +45,8 @@ use Rattle.archive.proofs.Timing.{has_from_get}
 use Rattle.archive.proofs.Turning.{has_from_filter_map, has_from_flat_map, has_from_reverse, has-in_direction}
 use Rattle.hist_read.specs.declared.query.Query.{Query}
 use Rattle.hist_read.specs.Short.{IsWritable, AreWritable, IsWritableHistory}
-use Rattle.hist_read.specs.Node.{Behind, covers, refused, page_result, page_from}
+use Rattle.hist_read.specs.Node.{Behind, refused, page_result, page_from}
+use Rattle.hist_read.proofs.NodeParts.{covers}
 use Rattle.hist_read.proofs.Results.{raw_result, modified_result}
 use Rattle.hist_read.proofs.Cutting.{lawful_cut}
 use Rattle.hist_read.proofs.Lists.{all_start}
@@ -52,7 +54,8 @@ use Rattle.hist_read.specs.declared.point.Position.{Position}
 use Rattle.hist_read.specs.declared.item.Item.{Item}
 use Rattle.hist_read.specs.declared.item.Item.TheVariants.{Value, Missing}
 use Rattle.hist_read.specs.Asking.{far_limit, origin_time, direction}
-use Rattle.hist_read.specs.Reads.{nearest_from, value_or_missing, near, open_bound, far_value, far, last_within, is_near_alone, near_part, limit_at, is_past_any, in_body, lives_in, body, body_part, values, far_part, last_time, time_before, before_far, raw, modified, place_at, page_size, page}
+use Rattle.hist_read.specs.Reads.{nearest_from, value_or_missing, near, open_bound, far_value, far, last_within, is_near_alone, limit_at, is_past_any, in_body, body, body_part, values, last_time, time_before, before_far, raw, modified, place_at, page_size, page}
+use Rattle.hist_read.proofs.ReadsParts.{near_part, lives_in, far_part}
 use Rattle.hist_read.specs.Showing.{item_value, at_time, with_stamps, shown, shown_entry, info}
 use Rattle.hist_read.proofs.Nexts.{has_take, has_from_append, has_from_map}
 

@@ -12,7 +12,8 @@ use Rattle.archive.specs.Reading.{is_between, log_of, place_of}
 use Rattle.archive.specs.Store.{IsLawfulContent}
 use Rattle.archive.proofs.Resuming.{log_resumes}
 use Rattle.hist_read.specs.Asking.{first_time, direction}
-use Rattle.hist_read.specs.Reads.{greatest_time, in_body, place_at, modified, modified_position, page_size, page, is_spent, goes_on, next_place}
+use Rattle.hist_read.specs.Reads.{greatest_time, in_body, place_at, modified, modified_position, page_size, page, is_spent, next_place}
+use Rattle.hist_read.proofs.ReadsParts.{goes_on}
 use Rattle.ua_services.specs.declared.history.ReadRawModifiedDetails.{ReadRawModifiedDetails as Details}
 use Rattle.hist_read.specs.declared.point.Position.{Position}
 use Rattle.hist_read.proofs.Lives.{log_reads}

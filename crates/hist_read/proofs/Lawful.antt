@@ -23,7 +23,8 @@ use Rattle.ua_services.specs.declared.history.ReadRawModifiedDetails.{ReadRawMod
 use Rattle.stamp.specs.Vector.{vector}
 use Rattle.stamp.proofs.Lawful.{vector_lawful}
 use Rattle.ua_services.specs.History.{raw_of, raw_fields}
-use Rattle.hist_read.specs.Point.{flag, short_form, short_node, IsDetails, details, phase, time, stamp, IsStamp, stamp_of, stamp_fields, are_stamp, IsPosition, position, number_of_phase, IsPoint, Point, point}
+use Rattle.hist_read.specs.Point.{flag, short_form, short_node, IsDetails, details, phase, time, stamp, IsStamp, stamp_of, are_stamp, IsPosition, position, number_of_phase, IsPoint, Point, point}
+use Rattle.hist_read.proofs.PointParts.{stamp_fields}
 
 -- ---- spellings of which there is one
 

@@ -15,7 +15,8 @@ use Rattle.records.specs.declared.shown.Held.{Held}
 use Rattle.records.specs.declared.shown.Entry.{Entry}
 use Rattle.records.proofs.LatestLemmas.{story_has}
 use Rattle.records.proofs.Sorting.{has_from_filter}
-use Rattle.archive.specs.Reading.{times, lives, log, in_direction, opposite, is_past, outside_of, follows}
+use Rattle.archive.specs.Reading.{times, lives, log, in_direction, is_past, outside_of, follows}
+use Rattle.archive.proofs.ReadingParts.{opposite}
 use Rattle.archive.specs.Store.{IsLawfulContent}
 use Rattle.archive.specs.declared.reading.Direction.{Direction}
 use Rattle.archive.proofs.Timing.{has_from_get, current_from}
@@ -23,7 +24,8 @@ use Rattle.archive.proofs.Turning.{has_from_flat_map, has_from_reverse, has-in_d
 use Rattle.hist_read.specs.Asking.{is_given, has_both, first_time, origin_time, direction}
 use Rattle.records.specs.Moments.{moment}
 use Rattle.hist_read.specs.Point.{IsNext, is_given_for}
-use Rattle.hist_read.specs.Reads.{greatest_time, nearest_from, value_or_missing, near, item_time, is_near_alone, near_part, limit_at, is_past_any, in_body, lives_in, body, body_part, values, far, far_part, last_time, time_before, before_far, raw, modified, place_at, given_before, page_size, is_spent, page, goes_on, given_after, raw_position, modified_position, next_place}
+use Rattle.hist_read.specs.Reads.{greatest_time, nearest_from, value_or_missing, near, item_time, is_near_alone, limit_at, is_past_any, in_body, body, body_part, values, far, last_time, time_before, before_far, raw, modified, place_at, given_before, page_size, is_spent, page, given_after, raw_position, modified_position, next_place}
+use Rattle.hist_read.proofs.ReadsParts.{near_part, goes_on, lives_in, far_part}
 use Rattle.ua_services.specs.declared.history.ReadRawModifiedDetails.{ReadRawModifiedDetails as Details}
 use Rattle.hist_read.specs.declared.point.Position.{Position}
 use Rattle.hist_read.specs.declared.item.Item.{Item}

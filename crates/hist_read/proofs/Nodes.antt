@@ -20,7 +20,8 @@ use Rattle.archive.proofs.Calls.{passes-leaves, in_use, left_in_use, leaves-then
 use Rattle.hist_read.specs.Finding.{Finds, fault_met}
 use Rattle.hist_read.specs.declared.query.Query.{Query}
 use Rattle.hist_read.specs.declared.point.Position.{Position}
-use Rattle.hist_read.specs.Node.{status_for, refused, told, covers, Behind, judged, page_result, page_from, read_from, read_node}
+use Rattle.hist_read.specs.Node.{status_for, refused, Behind, judged, page_result, page_from, read_node}
+use Rattle.hist_read.proofs.NodeParts.{read_from, covers, told}
 use Rattle.hist_read.proofs.Cutting.{cut_own}
 use Rattle.hist_read.proofs.Askings.{lawful_at}
 

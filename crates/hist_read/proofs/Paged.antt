@@ -9,7 +9,8 @@ use Rattle.records.specs.Lists.{last}
 use Rattle.ua_services.specs.declared.history.ReadRawModifiedDetails.{ReadRawModifiedDetails as Details}
 use Rattle.hist_read.specs.declared.point.Position.{Position}
 use Rattle.hist_read.specs.Asking.{has_both}
-use Rattle.hist_read.specs.Reads.{given_before, page_size, is_spent, page, goes_on, given_after, next_place}
+use Rattle.hist_read.specs.Reads.{given_before, page_size, is_spent, page, given_after, next_place}
+use Rattle.hist_read.proofs.ReadsParts.{goes_on}
 
 last_none : {X : Type 0} (xs : List X) → last xs ≡ None → xs ≡ []
 last_none [] e = refl

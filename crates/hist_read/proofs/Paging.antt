@@ -10,7 +10,8 @@ use Rattle.records.specs.Lists.{last}
 use Rattle.records.specs.declared.shown.Held.{Held}
 use Rattle.records.specs.declared.shown.Entry.{Entry}
 use Rattle.hist_read.specs.Asking.{has_both, direction, end_time}
-use Rattle.hist_read.specs.Reads.{near_part, body_part, far_part, far, far_value, value_or_missing, open_bound, values, last_time, time_before, before_far, raw, page_size, page, is_spent, goes_on, next_place, raw_position, modified, modified_position}
+use Rattle.hist_read.specs.Reads.{body_part, far, far_value, value_or_missing, open_bound, values, last_time, time_before, before_far, raw, page_size, page, is_spent, next_place, raw_position, modified, modified_position}
+use Rattle.hist_read.proofs.ReadsParts.{near_part, goes_on, far_part}
 use Rattle.hist_read.specs.Pages.{IsFound, has_far, far_item, far_of, row_of}
 use Rattle.ua_services.specs.declared.history.ReadRawModifiedDetails.{ReadRawModifiedDetails as Details}
 use Rattle.hist_read.specs.declared.point.Position.{Position}

@@ -18,7 +18,8 @@ use Rattle.archive.specs.declared.reading.Direction.TheVariants.{Forward, Backwa
 use Rattle.archive.proofs.Ranges.{range_goes}
 use Rattle.archive.proofs.Timing.{has_from_get}
 use Rattle.hist_read.specs.Asking.{has_both, first_time, direction}
-use Rattle.hist_read.specs.Reads.{greatest_time, in_body, body, is_near_alone, near_part, near, limit_at, is_past_any, body_part, values, far_part, far, item_time, last_time, time_before, before_far, raw, raw_position, page_size, page, is_spent, goes_on, next_place}
+use Rattle.hist_read.specs.Reads.{greatest_time, in_body, body, is_near_alone, near, limit_at, is_past_any, body_part, values, far, item_time, last_time, time_before, before_far, raw, raw_position, page_size, page, is_spent, next_place}
+use Rattle.hist_read.proofs.ReadsParts.{near_part, goes_on, far_part}
 use Rattle.ua_services.specs.declared.history.ReadRawModifiedDetails.{ReadRawModifiedDetails as Details}
 use Rattle.hist_read.specs.declared.point.Position.{Position}
 use Rattle.hist_read.specs.declared.item.Item.{Item}

@@ -30,8 +30,10 @@ use Rattle.hist_read.specs.declared.item.Item.{Item}
 use Rattle.hist_read.specs.declared.point.Position.{Position}
 use Rattle.hist_read.specs.Asking.{is_given, has_both, origin_time, direction}
 use Rattle.hist_read.specs.Point.{Point, point, IsDetails, IsPosition, IsPoint, IsNext, is_given_for, suits, is_phase_for, is_stamp_for}
-use Rattle.hist_read.specs.Reads.{greatest_time, in_body, in_body_of, is_from, last_within, lives_in, body, near, far, values, last_time, is_past_any, raw, modified}
-use Rattle.hist_read.specs.Node.{Behind, is_enough, judged, place_in, point_at, page_result, page_from, covers, refused, read_from}
+use Rattle.hist_read.specs.Reads.{greatest_time, in_body, in_body_of, is_from, last_within, body, near, far, values, last_time, is_past_any, raw, modified}
+use Rattle.hist_read.proofs.ReadsParts.{lives_in}
+use Rattle.hist_read.specs.Node.{Behind, is_enough, judged, place_in, point_at, page_result, page_from, refused}
+use Rattle.hist_read.proofs.NodeParts.{read_from, covers}
 use Rattle.hist_read.specs.Chains.{behind_origin, with_far, whole_raw, whole_modified, Page, IsRead, IsLater, IsAsked}
 use Rattle.hist_read.proofs.Lawful.{point_lawful}
 use Rattle.hist_read.proofs.Agreeing.{place_told, told_agreed}

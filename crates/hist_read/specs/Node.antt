@@ -15,7 +15,6 @@ use Rattle.ua_services.specs.declared.history.HistoryData.TheVariants.{Raw, Modi
 use Rattle.records.specs.Contents.{Content, numbers_of, cut}
 use Rattle.records.specs.Same.{is_same, same_node}
 use Rattle.archive.specs.Fault.{status_told}
-use Rattle.archive.specs.Store.{Mark}
 use Rattle.archive.specs.Steps.{Marked, give, step}
 use Rattle.hist_read.specs.declared.query.Query.{Query}
 use Rattle.hist_read.specs.declared.point.Position.{Position}
@@ -33,10 +32,6 @@ is_enough q = if is_given q.start_time.0 then is_given q.end_time.0 || not (q.nu
 abbrev pub IsOfRead : List ℕ → NodeId → Details → Point → Type 0
 IsOfRead id node q p = (p.archive ≡ id) × (p.node ≡ node) × (p.details ≡ q)
 
--- the point is one of this archive, of this node, and of what is asked
-abbrev pub agrees : List ℕ → NodeId → Details → Point → Bool
-agrees id node q p = pointwise nat_eq p.archive id && (same_node p.node node && is_same details.the_row.coded p.details q)
-
 -- where reading goes on: behind this place, of what the vector of the first page covers
 abbrev pub Behind : Type 0
 Behind = Position × List ℕ
@@ -45,7 +40,9 @@ Behind = Position × List ℕ
 abbrev pub place_in : List ℕ → NodeId → Details → Option (List ℕ) → Result (Option Behind) Status
 place_in id node q None = Ok None
 place_in id node q (Some bytes) =
-    ok_or (point_in bytes) BAD_CONTINUATION_POINT_INVALID >>= λ p. if agrees id node q p then Ok (Some (p.position, p.vector)) else Err BAD_CONTINUATION_POINT_INVALID
+    ok_or (point_in bytes) BAD_CONTINUATION_POINT_INVALID >>= λ p.
+    if pointwise nat_eq p.archive id && (same_node p.node node && is_same details.the_row.coded p.details q) then Ok (Some (p.position, p.vector))
+    else Err BAD_CONTINUATION_POINT_INVALID
 
 -- where reading goes on, or why the read is refused, whatever is held
 abbrev pub judged : List ℕ → NodeId → Details → Option (List ℕ) → Result (Option Behind) Status
@@ -78,25 +75,16 @@ page_result R v id node query p =
     if q.is_read_modified then page_of (λ es. Modified (map (shown_entry query.stamps) es) (map info es)) (modified_position q p) v id node q p (modified R node q p)
     else page_of (λ xs. Raw (map (shown query.stamps) xs)) (raw_position q p) v id node q p (raw R node q p)
 
--- each of its numbers is among those that the content has
-abbrev pub covers : Content → List ℕ → Bool
-covers R v = pointwise nat_le v (numbers_of R)
-
 -- a first page is one of the content, and carries its vector; a later one is one of what the vector of the first page covers, and carries that
 abbrev pub page_from : Content → List ℕ → NodeId → Query → Option Behind → HistoryReadResult
 page_from R id node query None = page_result R (numbers_of R) id node query None
 page_from R id node query (Some behind) =
-    if covers R behind.1 then page_result (cut R (number_of behind.1)) behind.1 id node query (Some behind.0) else refused BAD_CONTINUATION_POINT_INVALID
+    if pointwise nat_le behind.1 (numbers_of R) then page_result (cut R (number_of behind.1)) behind.1 id node query (Some behind.0)
+    else refused BAD_CONTINUATION_POINT_INVALID
 
 -- ---- a read
 
--- the answer, or what came in the way of the read
-abbrev pub told : HistoryReadResult → Mark → HistoryReadResult
-told answer mark = option_map_or refused (status_told mark) answer
-
-abbrev pub read_from : List ℕ → NodeId → Query → Content → Result (Option Behind) Status → Marked (HistoryReadResult × Content)
-read_from id node query R result = elim result [ Err status ↦ give (refused status, R) | Ok behind ↦ step (λ mark. (told (page_from R id node query behind) mark, R)) ]
-
 -- a read of a node's history, by what comes in its way: first what is refused whatever is held, and then a page, which is one step; the content stays
 abbrev pub read_node : List ℕ → NodeId → Query → Option (List ℕ) → Content → Marked (HistoryReadResult × Content)
-read_node id node query continuation R = read_from id node query R (judged id node query.details continuation)
+read_node id node query continuation R =
+    elim (judged id node query.details continuation) [ Err status ↦ give (refused status, R) | Ok behind ↦ step (λ mark. (option_map_or refused (status_told mark) (page_from R id node query behind), R)) ]

@@ -1,12 +1,12 @@
 -- How a page of raw values is made of what the archive answers.
-use Rattle.std.specs.Prelude.{◌≡◌, Vec, ℕ, ◌+◌, nat_le, ℤ, Bool, true, not, ◌&&◌, if◌then◌else◌, List, [], ◌∷◌, ◌++◌, take, length, Option}
+use Rattle.std.specs.Prelude.{◌≡◌, Vec, ℕ, ◌+◌, nat_le, ℤ, Bool, true, not, ◌&&◌, if◌then◌else◌, List, [], ◌∷◌, ◌++◌, take, length, Option, None, Some}
 use Rattle.std.specs.Global.{Global}
 use Rattle.std.specs.Option.{option_to_list}
 use Rattle.ua_binary.specs.declared.values.NodeId.{NodeId}
 use Rattle.records.specs.Contents.{Content}
 use Rattle.records.specs.declared.shown.Held.{Held}
 use Rattle.hist_read.specs.Asking.{has_both, end_time, direction}
-use Rattle.hist_read.specs.Reads.{is_near_alone, near_part, body_part, far_value, value_or_missing, open_bound, values, last_time, time_before, page_size, page, raw, next_place, raw_position, modified, modified_position}
+use Rattle.hist_read.specs.Reads.{is_near_alone, body_part, far_value, value_or_missing, open_bound, values, last_time, time_before, page_size, page, raw, next_place, raw_position, modified, modified_position, near}
 use Rattle.ua_services.specs.declared.history.ReadRawModifiedDetails.{ReadRawModifiedDetails as Details}
 use Rattle.hist_read.specs.declared.point.Position.{Position}
 use Rattle.hist_read.specs.declared.item.Item.{Item}
@@ -29,7 +29,7 @@ pub record IsFoundBehind (R : Content) (node : NodeId) (q : Details) (p : Option
 
 -- the near bound, one value more than the page has, and the value at the far limit
 pub record IsFound (R : Content) (node : NodeId) (q : Details) (p : Option Position) (found : Found) : Type 0 where
-  pub near : option_to_list found.near ≡ near_part R node q p
+  pub near : option_to_list found.near ≡ (elim p [ None ↦ if q.return_bounds then near R node q ∷ [] else [] | Some p ↦ [] ])
   pub body : found.body.items ≡ take (page_size q p + 1) (body_part R node q p)
   pub far : has_both q ≡ true → has_far q ≡ true → found.far ≡ far_value R node q (end_time q)
 

@@ -71,14 +71,11 @@ are_stamp fields = if fields.1 == 0 then int_eq fields.0 (pos 0) else (nat_le fi
 abbrev pub stamp_of : ℤ × ℕ → Option Stamp
 stamp_of fields = if fields.1 == 0 then None else Some (record { tick = fields.0; origin = fields.1 })
 
-abbrev pub stamp_fields : Option Stamp → ℤ × ℕ
-stamp_fields stamp = option_map_or (λ s. (s.tick, s.origin)) stamp (pos 0, 0)
-
 abbrev pub IsStamp : Option Stamp → Type 0
 IsStamp stamp = IfSome stamp (λ s. (pos 1 ≤ℤ s.tick) × (s.tick ≤ℤ pos greatest) × IsReplica s.origin)
 
 unfoldable pub stamp : Format BinaryFault (Option Stamp)
-stamp = fitting IsStamp (standing_for stamp_of stamp_fields (passing are_stamp BadEncodingByte (signed w64 ▸ byte)))
+stamp = fitting IsStamp (standing_for stamp_of (λ stamp. option_map_or (λ s. (s.tick, s.origin)) stamp (pos 0, 0)) (passing are_stamp BadEncodingByte (signed w64 ▸ byte)))
 
 abbrev pub IsPosition : Position → Type 0
 IsPosition p = (first_time ≤ℤ p.time) × FitsSigned w64 (ticks_of p.time) × IsStamp p.stamp × (p.given < 2 ^ 32)

@@ -11,13 +11,12 @@ use Rattle.records.specs.Lists.{last}
 use Rattle.records.specs.Records.{current}
 use Rattle.records.specs.declared.shown.Held.{Held}
 use Rattle.records.specs.declared.shown.Entry.{Entry}
-use Rattle.archive.specs.Reading.{lives, log, in_direction, opposite, is_between, is_past, follows, place_of, outside_of}
+use Rattle.archive.specs.Reading.{lives, log, in_direction, is_between, is_past, follows, place_of, outside_of}
 use Rattle.archive.specs.declared.reading.Direction.{Direction}
 use Rattle.archive.specs.declared.reading.Direction.TheVariants.{Forward, Backward}
 use Rattle.archive.specs.declared.reading.LogPlace.{LogPlace}
 use Rattle.hist_read.specs.Asking.{has_both, origin_time, far_limit, direction}
 use Rattle.ua_services.specs.declared.history.ReadRawModifiedDetails.{ReadRawModifiedDetails as Details}
-use Rattle.hist_read.specs.declared.point.Phase.{Phase}
 use Rattle.hist_read.specs.declared.point.Phase.TheVariants.{Near, Body}
 use Rattle.hist_read.specs.declared.point.Position.{Position}
 use Rattle.hist_read.specs.declared.item.Item.{Item}
@@ -47,11 +46,8 @@ in_body_of d o given time = elim given [ None ↦ is_from d o time | Some f ↦ 
 abbrev pub in_body : Details → ℤ → Bool
 in_body q = in_body_of (direction q) (origin_time q) (far_limit q)
 
-abbrev pub lives_in : Content → NodeId → Details → List Held
-lives_in R node q = in_direction (direction q) (lives R node)
-
 abbrev pub body : Content → NodeId → Details → List Held
-body R node q = filter (λ h. in_body q h.time) (lives_in R node q)
+body R node q = filter (λ h. in_body q h.time) (in_direction (direction q) (lives R node))
 
 -- ---- the bounds
 
@@ -64,7 +60,7 @@ value_or_missing time found = option_map_or (λ h. Value h) found (Missing time)
 
 -- the value at the origin, else the nearest one against the direction, else none there
 abbrev pub near : Content → NodeId → Details → Item
-near R node q = value_or_missing (origin_time q) (nearest_from R node (opposite (direction q)) (origin_time q))
+near R node q = value_or_missing (origin_time q) (nearest_from R node (elim (direction q) [ Forward ↦ Backward | Backward ↦ Forward ]) (origin_time q))
 
 abbrev pub item_time : Item → ℤ
 item_time item = elim item [ Value h ↦ h.time | Missing time ↦ time ]
@@ -92,16 +88,8 @@ far R node q before = option_map_or (λ f. value_or_missing f (far_value R node 
 abbrev pub is_near_alone : Details → Bool
 is_near_alone q = q.return_bounds && q.num_values_per_node == 1
 
--- the near bound, where it wasn't given yet
-abbrev pub near_part : Content → NodeId → Details → Option Position → List Item
-near_part R node q given = elim given [ None ↦ if q.return_bounds then near R node q ∷ [] else [] | Some p ↦ [] ]
-
--- beyond which time the values are still to come; with bounds the value at the origin is the near bound's
-abbrev pub limit_behind : Details → Phase → ℤ → ℤ
-limit_behind q phase time = elim phase [ Near ↦ origin_time q | Body ↦ time ]
-
 abbrev pub limit_at : Details → Option Position → Option ℤ
-limit_at q given = elim given [ None ↦ if q.return_bounds then Some (origin_time q) else None | Some p ↦ Some (limit_behind q p.phase p.time) ]
+limit_at q given = elim given [ None ↦ if q.return_bounds then Some (origin_time q) else None | Some p ↦ Some (elim p.phase [ Near ↦ origin_time q | Body ↦ p.time ]) ]
 
 -- beyond a limit, where there is one
 abbrev pub is_past_any : Direction → Option ℤ → ℤ → Bool
@@ -114,20 +102,18 @@ body_part R node q p = if is_near_alone q then [] else filter (λ h. is_past_any
 abbrev pub values : List Held → List Item
 values = map (λ h. Value h)
 
--- the far bound, behind items of which the last has this time
-abbrev pub far_part : Content → NodeId → Details → ℤ → List Item
-far_part R node q before = if q.return_bounds && not (is_near_alone q) then far R node q before ∷ [] else []
-
 -- the time of the item that was given last
 abbrev pub time_before : Details → Option Position → ℤ
 time_before q place = option_map_or (λ p. p.time) place (origin_time q)
 
 abbrev pub before_far : Content → NodeId → Details → Option Position → List Item
-before_far R node q p = near_part R node q p ++ values (body_part R node q p)
+before_far R node q p = (elim p [ None ↦ if q.return_bounds then near R node q ∷ [] else [] | Some p ↦ [] ]) ++ values (body_part R node q p)
 
 -- the items of a raw read that follow a place, or all of them
 abbrev pub raw : Content → NodeId → Details → Option Position → List Item
-raw R node q p = before_far R node q p ++ far_part R node q (last_time (time_before q p) (before_far R node q p))
+raw R node q p =
+    before_far R node q p
+    ++ (if q.return_bounds && not (is_near_alone q) then far R node q (last_time (time_before q p) (before_far R node q p)) ∷ [] else [])
 
 -- ---- modifications: what is still to come
 
@@ -158,10 +144,6 @@ is_spent q p = not (has_both q) && nat_le q.num_values_per_node (given_before p 
 abbrev pub page : {X : Type 0} → Details → Option Position → List X → List X
 page q p items = take (page_size q p) items
 
--- a further page exists where something follows and the total isn't spent
-abbrev pub goes_on : {X : Type 0} → Details → Option Position → List X → Bool
-goes_on q p items = nat_lt (page_size q p) (length items) && not (is_spent q p)
-
 -- how many items were given with this page
 abbrev pub given_after : Details → Option Position → ℕ
 given_after q p = if has_both q then 0 else given_before p + page_size q p
@@ -174,4 +156,4 @@ abbrev pub modified_position : Details → Option Position → Entry → Positio
 modified_position q p e = record { phase = Body; time = e.time; stamp = Some (place_of e).stamp; given = given_after q p }
 
 abbrev pub next_place : {X : Type 0} → (X → Position) → Details → Option Position → List X → Option Position
-next_place position_of q p items = if goes_on q p items then option_map position_of (last (page q p items)) else None
+next_place position_of q p items = if nat_lt (page_size q p) (length items) && not (is_spent q p) then option_map position_of (last (page q p items)) else None

@@ -18,10 +18,10 @@ abbrev pub with_extra : Option Status → Option Status
 with_extra s = Some (record { 0 = bit_or (option_map_or (λ c. c.0) s 0) 1032 })
 
 abbrev pub at_time : ℤ → DataValue → DataValue
-at_time time v = record { value = v.value; status = v.status; source_time = Some (record { 0 = ticks_of time }); source_pico = v.source_pico; server_time = v.server_time; server_pico = v.server_pico }
+at_time time v = record v { source_time = Some (record { 0 = ticks_of time }) }
 
 abbrev pub with_status : Option Status → DataValue → DataValue
-with_status status v = record { value = v.value; status = status; source_time = v.source_time; source_pico = v.source_pico; server_time = v.server_time; server_pico = v.server_pico }
+with_status status v = record v { status = status }
 
 -- a live value as it is stored, with its source time; a missing bound has its time alone
 abbrev pub item_value : Item → DataValue
@@ -30,10 +30,7 @@ item_value (Missing time) = at_time time (with_status (Some BAD_BOUND_NOT_FOUND)
 
 -- the times that were asked for; where neither is, none
 abbrev pub with_stamps : TimestampsToReturn → DataValue → DataValue
-with_stamps Source v = record { value = v.value; status = v.status; source_time = v.source_time; source_pico = v.source_pico; server_time = None; server_pico = None }
-with_stamps Server v = record { value = v.value; status = v.status; source_time = None; source_pico = None; server_time = v.server_time; server_pico = v.server_pico }
-with_stamps Both v = v
-with_stamps Neither v = record { value = v.value; status = v.status; source_time = None; source_pico = None; server_time = None; server_pico = None }
+with_stamps stamps v = elim stamps [ Source ↦ record v { server_time = None; server_pico = None } | Server ↦ record v { source_time = None; source_pico = None } | Both ↦ v | Neither ↦ record v { source_time = None; source_pico = None; server_time = None; server_pico = None } ]
 
 abbrev pub shown : TimestampsToReturn → Item → DataValue
 shown stamps x = with_stamps stamps (item_value x)

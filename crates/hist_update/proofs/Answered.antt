@@ -21,7 +21,8 @@ use Rattle.archive.specs.Fault.{status_of}
 use Rattle.archive.specs.Steps.{Marked, Does}
 use Rattle.archive.specs.Store.{Mark, Fine, Starved, Met, MayBeFound}
 use Rattle.records.specs.Moments.{ticks_of}
-use Rattle.hist_update.specs.Outcome.{Operation, Write, DeleteAt, Change, Outcome, Refused, Added, change_by, sized, fits, source_time, is_too_long, writing, deletion, outcome, outcome_of, judged, stamped, conflict, done, is_live}
+use Rattle.hist_update.specs.Outcome.{Operation, Write, DeleteAt, Change, Outcome, Refused, Added, change_by, sized, fits, source_time, writing, outcome, conflict, done, is_live, judged}
+use Rattle.hist_update.proofs.OutcomeParts.{deletion, stamped, is_too_long, outcome_of}
 use Rattle.hist_update.specs.Updates.{code_by, left_by, update_all}
 use Rattle.hist_update.specs.Laws.{IsBad, IsGood, IsRecordOf, IsNewBehind, IsAnsweredGood, HasRecordOf, AddsEach}
 use Rattle.hist_update.proofs.NewRecords.{made, new_next, new_above, new_timed}

@@ -16,7 +16,8 @@ use Rattle.archive.proofs.Acting.{moves-none, moves-stays, moves-told, moves-as,
 use Rattle.hist_update.specs.declared.request.Request.{Request}
 use Rattle.hist_update.specs.Codes.{list_refusal}
 use Rattle.hist_update.specs.Outcome.{Operation, Write}
-use Rattle.hist_update.specs.Updates.{Updated, told, refused, unless, past, run, begin, all_good, data_refusal, writes, deletes_at, delete_at, update_all, breaks, AreEnded, needs_store, needs_of}
+use Rattle.hist_update.specs.Updates.{Updated, refused, unless, past, begin, data_refusal, writes, deletes_at, delete_at, update_all, breaks, AreEnded, needs_store, needs_of}
+use Rattle.hist_update.proofs.UpdatesParts.{all_good, told, run}
 use Rattle.hist_update.specs.Operating.{Operations, Begins}
 
 -- it is refused: no step is made

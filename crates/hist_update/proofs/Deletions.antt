@@ -10,7 +10,8 @@ use Rattle.ua_variant.specs.DataValue.{data_value}
 use Rattle.records.specs.Spelling.{empty}
 use Rattle.records.proofs.Sizes.{fields_length}
 use Rattle.hist_update.specs.declared.request.Request.{Request}
-use Rattle.hist_update.specs.Outcome.{IsRequest, deletion, record_by, is_too_long}
+use Rattle.hist_update.specs.Outcome.{IsRequest, record_by}
+use Rattle.hist_update.proofs.OutcomeParts.{deletion, is_too_long}
 use Rattle.archive.specs.Growth.{id_length}
 
 form_0 : (ns id : ℕ) → length ((node_form 0).canon (Numeric ns id)) ≡ 1

@@ -28,7 +28,8 @@ use Rattle.records.proofs.Sizes.{fields_length}
 use Rattle.records.proofs.LearnLemmas.{next_found, not_lt_test}
 use Rattle.archive.specs.Growth.{is_possible, IsUpdateOf}
 use Rattle.hist_update.specs.declared.request.Request.{Request}
-use Rattle.hist_update.specs.Outcome.{Operation, Write, DeleteAt, Change, Added, IsRequest, source_pico, source_time, fits, is_too_long, writing, deletion, change_by, sized, conflict, done, is_live, stamped, judged, outcome, outcome_of, record_by}
+use Rattle.hist_update.specs.Outcome.{Operation, Write, DeleteAt, Change, Added, IsRequest, source_pico, source_time, fits, writing, change_by, sized, conflict, done, is_live, outcome, record_by, judged}
+use Rattle.hist_update.proofs.OutcomeParts.{deletion, stamped, is_too_long, outcome_of}
 use Rattle.hist_update.specs.Laws.{IsSpelled, IsOperation}
 
 -- the operation that adds a record where R is held, as its conditions ask

@@ -23,7 +23,8 @@ use Rattle.ua_binary.specs.Format.{◌>>=◌}
 use Rattle.ua_binary.specs.declared.codes.Status.{Status}
 use Rattle.ua_binary.specs.declared.codes.TheConstants.Status.{BAD_ENCODING_LIMITS_EXCEEDED, BAD_INVALID_TIMESTAMP, BAD_TYPE_MISMATCH}
 use Rattle.hist_update.specs.declared.request.Request.{Request}
-use Rattle.hist_update.specs.Outcome.{Operation, Write, DeleteAt, Change, Outcome, Refused, Added, IsRequest, change_by, sized, fits, source_time, source_pico, is_too_long, writing, deletion, outcome, record_by}
+use Rattle.hist_update.specs.Outcome.{Operation, Write, DeleteAt, Change, Outcome, Refused, Added, IsRequest, change_by, sized, fits, source_time, source_pico, writing, outcome, record_by}
+use Rattle.hist_update.proofs.OutcomeParts.{deletion, is_too_long}
 use Rattle.archive.specs.Steps.{Does}
 use Rattle.archive.specs.Store.{Mark, Fine, Starved, Met}
 use Rattle.hist_update.specs.Updates.{left_by, update_all}

@@ -13,3 +13,5 @@ pub mod Standing
 pub mod LawfulUpdates
 pub mod Grown
 pub mod LiveTimes
+pub mod OutcomeParts
+pub mod UpdatesParts

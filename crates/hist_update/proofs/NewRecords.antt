@@ -19,7 +19,8 @@ use Rattle.records.proofs.LearnLemmas.{closed-next}
 use Rattle.records.proofs.LatestLemmas.{latest_last, latest_written, latest_deleted}
 use Rattle.ua_binary.specs.declared.codes.Status.{Status}
 use Rattle.hist_update.specs.declared.request.Request.{Request}
-use Rattle.hist_update.specs.Outcome.{Operation, Change, Outcome, Refused, Added, change_by, outcome, outcome_of, judged, stamped, conflict, done, is_live, record_by}
+use Rattle.hist_update.specs.Outcome.{Operation, Change, Outcome, Refused, Added, change_by, outcome, conflict, done, is_live, record_by, judged}
+use Rattle.hist_update.proofs.OutcomeParts.{stamped, outcome_of}
 use Rattle.hist_update.proofs.Operating.{lifted, lifted_timed, is_new}
 
 -- ---- how a record came to be

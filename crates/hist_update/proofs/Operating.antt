@@ -18,7 +18,8 @@ use Rattle.ua_variant.specs.declared.value.ValueType.{ValueType}
 use Rattle.ua_variant.specs.DataValue.{IsShortData, IsPicoseconds}
 use Rattle.std.specs.Option.{option_and_then, ok_or}
 use Rattle.ua_binary.specs.Format.{◌>>=◌}
-use Rattle.records.specs.Contents.{Content, vec, top, last_tick, after_finding, put, IsClosed}
+use Rattle.records.specs.Contents.{Content, vec, top, last_tick, put, IsClosed}
+use Rattle.records.proofs.ContentsParts.{after_finding}
 use Rattle.records.proofs.Sizes.{fields_length}
 use Rattle.records.proofs.LearnLemmas.{finding_next, lt_from_test, le_from_not}
 use Rattle.records.proofs.PutLemmas.{last_tick_within}
@@ -42,7 +43,8 @@ use Rattle.hist_update.specs.declared.request.Request.{Request}
 use Rattle.hist_update.specs.declared.operate.Place.{Place}
 use Rattle.hist_update.specs.declared.operate.Undone.{Undone}
 use Rattle.hist_update.specs.declared.operate.Undone.TheVariants as undone
-use Rattle.hist_update.specs.Outcome.{Operation, Write, DeleteAt, IsRequest, deletion, writing, source_time, source_pico, fits, time_judged, Change, Outcome, Refused, Added, change_by, sized, outcome, outcome_of, judged, stamped, is_live, is_too_long, conflict, done, record_by, code_in, after}
+use Rattle.hist_update.specs.Outcome.{Operation, Write, DeleteAt, IsRequest, writing, source_time, source_pico, fits, time_judged, Change, Outcome, Refused, Added, change_by, sized, outcome, is_live, conflict, done, record_by, code_in, after, judged}
+use Rattle.hist_update.proofs.OutcomeParts.{deletion, stamped, is_too_long, outcome_of}
 use Rattle.hist_update.specs.Updates.{code_by, left_by, update_one}
 use Rattle.hist_update.specs.Operating.{Operates, IsPlace, candidate_of, is_long, refusal_by, refusal, told_of, Submits, IsDraft, IsNumber}
 use Rattle.hist_update.proofs.Asking.{moves-behind}

@@ -13,7 +13,8 @@ use Rattle.archive.specs.Store.{Mark, MayBeFound}
 use Rattle.hist_update.specs.declared.request.Request.{Request}
 use Rattle.hist_update.specs.Codes.{asked_by, list_refusal, first_other}
 use Rattle.hist_update.specs.Outcome.{Operation, DeleteAt}
-use Rattle.hist_update.specs.Updates.{Updated, refused, unless, past, run, begin, all_good, data_refusal, writes, update_data, deletes_at, delete_at, doomed, stretch_refusal, listing_refusal, delete_listed, delete_raw}
+use Rattle.hist_update.specs.Updates.{Updated, refused, unless, past, begin, data_refusal, writes, update_data, deletes_at, delete_at, doomed, stretch_refusal, listing_refusal, delete_listed, delete_raw}
+use Rattle.hist_update.proofs.UpdatesParts.{all_good, run}
 use Rattle.hist_update.specs.Laws.{IsAnsweredGood, HasRecordOf, AddsFor}
 use Rattle.hist_update.proofs.Answered.{all_within, all_stand, all_add, did, found_too}
 

@@ -1,6 +1,6 @@
 -- What one operation of an update comes to over a content (Part 11, HistoryUpdate): a code, and the record that it adds, if any.
 use Rattle.std.specs.Prelude.{ℕ, ◌≤◌, ◌+◌, nat_lt, ℤ, pos, int_lt, Bool, true, if◌then◌else◌, length, Option, Some, None, is_some, unwrap_or, Result, Ok, Err}
-use Rattle.std.specs.Option.{option_and_then, ok_or}
+use Rattle.std.specs.Option.{option_and_then, option_map_or, ok_or}
 use Rattle.stamp.specs.Limits.{lift}
 use Rattle.ua_binary.specs.Format.{◌>>=◌}
 use Rattle.ua_binary.specs.declared.values.NodeId.{NodeId}
@@ -26,10 +26,8 @@ pub data Operation : Type 0 where
   DeleteAt : ℤ → Operation
 
 -- what is to be changed, once that is clear
-pub record Change : Type 0 where
-  pub time : ℤ
-  pub asked : HistoryUpdateType
-  pub value : DataValue
+abbrev pub Change : Type 0
+Change = record { time : ℤ; asked : HistoryUpdateType; value : DataValue }
 
 -- the record of a change, made by this replica, with this number and tick
 abbrev pub record_by : Request → ℕ → ℕ → ℤ → Change → Record
@@ -54,28 +52,21 @@ source_time v = option_and_then (λ t. if int_lt t.0 (pos 1) then None else Some
 abbrev pub fits : ValueType → Option Variant → Bool
 fits type given = elim given [ None ↦ true | Some v ↦ has_type v type ]
 
--- the change's record has too many bytes; its number and its tick take eight each, whatever they are
-abbrev pub is_too_long : Request → ℕ → Change → Bool
-is_too_long request own change = nat_lt longest (length (fields.canon (record_by request own 1 (pos 1) change)))
-
 -- the record has the source time, and so its value doesn't
 abbrev pub writing : HistoryUpdateType → DataValue → ℤ → Change
 writing asked v time = record { time = time; asked = asked; value = record v { source_time = None } }
-
-abbrev pub deletion : ℤ → Change
-deletion time = record { time = time; asked = Delete; value = empty }
 
 -- the source time of a value that may be written to a node of this type
 abbrev pub time_judged : ValueType → DataValue → Result ℤ Status
 time_judged type v = ok_or (source_time v) BAD_INVALID_TIMESTAMP >>= λ time. if fits type v.value then Ok time else Err BAD_TYPE_MISMATCH
 
 abbrev pub sized : Request → ℕ → Change → Result Change Status
-sized request own change = if is_too_long request own change then Err BAD_ENCODING_LIMITS_EXCEEDED else Ok change
+sized request own change = if nat_lt longest (length (fields.canon (record_by request own 1 (pos 1) change))) then Err BAD_ENCODING_LIMITS_EXCEEDED else Ok change
 
 -- the change that an operation asks for
 abbrev pub change_by : Request → ℕ → Operation → Result Change Status
 change_by request own (Write asked type v) = time_judged type v >>= λ time. sized request own (writing asked v time)
-change_by request own (DeleteAt time) = if int_lt (ticks_of time) (pos 1) then Err BAD_INVALID_TIMESTAMP else Ok (deletion time)
+change_by request own (DeleteAt time) = if int_lt (ticks_of time) (pos 1) then Err BAD_INVALID_TIMESTAMP else Ok (record { time = time; asked = Delete; value = empty })
 
 -- ---- what a content makes of it
 
@@ -93,18 +84,15 @@ done asked live = if is_delete asked then GOOD else if live then GOOD_ENTRY_REPL
 abbrev pub is_live : Content → NodeId → ℤ → Bool
 is_live R node time = is_some (current R node time)
 
-abbrev pub stamped : Content → ℕ → Request → Change → Status → Option ℤ → Outcome
-stamped R own request change code given = elim given [ None ↦ Refused BAD_RESOURCE_UNAVAILABLE | Some tick ↦ Added code (record_by request own (vec R own + 1) tick change) ]
-
+-- a change is made, unless it isn't possible or no tick is left: its record is its origin's next, with the tick that follows all that are held
 abbrev pub judged : Content → ℕ → Request → Change → (live : Bool) → Option Status → Outcome
-judged R own request change live given = elim given [ Some code ↦ Refused code | None ↦ stamped R own request change (done change.asked live) (lift request.reading (top R)) ]
+judged R own request change live given = option_map_or Refused given (
+    option_map_or (λ tick. Added (done change.asked live) (record_by request own (vec R own + 1) tick change)) (lift request.reading (top R)) (Refused BAD_RESOURCE_UNAVAILABLE))
 
-abbrev pub outcome_of : Content → ℕ → Request → Result Change Status → Outcome
-outcome_of R own request (Err code) = Refused code
-outcome_of R own request (Ok change) = judged R own request change (is_live R request.node change.time) (conflict change.asked (is_live R request.node change.time))
-
+-- why it is refused, or the record to add
 abbrev pub outcome : Content → ℕ → Request → Operation → Outcome
-outcome R own request operation = outcome_of R own request (change_by request own operation)
+outcome R own request operation =
+    elim (change_by request own operation) [ Err code ↦ Refused code | Ok change ↦ judged R own request change (is_live R request.node change.time) (conflict change.asked (is_live R request.node change.time)) ]
 
 abbrev pub code_in : Outcome → Status
 code_in outcome = elim outcome [ Refused code ↦ code | Added code r ↦ code ]

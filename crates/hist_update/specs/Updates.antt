@@ -45,9 +45,6 @@ update_all own request = each (update_one own request)
 abbrev pub Updated : Type 0
 Updated = HistoryUpdateResult × Content
 
-abbrev pub told : (List Status → Status) → List Status → HistoryUpdateResult
-told status codes = record { status = status codes; operation_results = codes }
-
 -- refused as a whole
 abbrev pub refused : Status → HistoryUpdateResult
 refused code = record { status = code; operation_results = [] }
@@ -60,16 +57,9 @@ unless given R more = elim given [ Some code ↦ give (refused code, R) | None �
 abbrev pub past : Marked (Option Status) → Content → Marked Updated → Marked Updated
 past first R more = and_then first (λ reason. unless reason R more)
 
--- the operations of an update, whose status goes by their codes
-abbrev pub run : ℕ → Request → (List Status → Status) → List Operation → Content → Marked Updated
-run own request status operations R = and_then (update_all own request operations R) (λ p. give (told status p.0, p.1))
-
 -- a step for the memory of the codes, and then the operations
 abbrev pub begin : ℕ → Request → (List Status → Status) → List Operation → Content → Marked Updated
-begin own request status operations R = past memory R (run own request status operations R)
-
-abbrev pub all_good : List Status → Status
-all_good codes = GOOD
+begin own request status operations R = past memory R (and_then (update_all own request operations R) (λ p. give (record { status = status p.0; operation_results = p.0 }, p.1)))
 
 -- ---- writes of values (Part 11, UpdateDataDetails)
 
@@ -82,7 +72,7 @@ writes asked type values = option_map_or (λ kind. map (Write kind type) values)
 
 abbrev pub update_data : ℕ → Request → ValueType → ℤ → List DataValue → Content → Marked Updated
 update_data own request type perform values R =
-    unless (data_refusal (asked_by perform) (length values)) R (begin own request all_good (writes (asked_by perform) type values) R)
+    unless (data_refusal (asked_by perform) (length values)) R (begin own request (λ codes. GOOD) (writes (asked_by perform) type values) R)
 
 -- ---- deletes at source times, without picoseconds (Part 11, DeleteAtTimeDetails)
 
@@ -90,7 +80,7 @@ abbrev pub deletes_at : List Ticks → List Operation
 deletes_at times = map (λ t. DeleteAt (moment t.0 0)) times
 
 abbrev pub delete_at : ℕ → Request → List Ticks → Content → Marked Updated
-delete_at own request times R = unless (list_refusal 1000 (length times)) R (begin own request all_good (deletes_at times) R)
+delete_at own request times R = unless (list_refusal 1000 (length times)) R (begin own request (λ codes. GOOD) (deletes_at times) R)
 
 -- ---- deletes of all values of a stretch of time (Part 11, DeleteRawModifiedDetails)
 

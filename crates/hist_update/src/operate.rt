@@ -8,7 +8,7 @@ ghost use Rattle.records.specs.Contents.{vec, top};
 ghost use Rattle.archive.specs.Store.{Store, Asks};
 ghost use Rattle.archive.specs.declared.setback.Setback.TheVariants as setback;
 ghost use Rattle.ua_variant.specs.DataValue.{IsShortData, IsPicoseconds};
-ghost use Rattle.hist_update.specs.Outcome.{IsRequest, Write, DeleteAt, fits, source_time, source_pico, time_judged, conflict, done, is_live, writing, deletion, record_by};
+ghost use Rattle.hist_update.specs.Outcome.{IsRequest, Write, DeleteAt, fits, source_time, source_pico, time_judged, conflict, done, is_live, writing, record_by};
 ghost use Rattle.hist_update.specs.Operating.{Operates, IsPlace, IsNumber, candidate_of, IsDraft, is_long, refusal, Submits, code_told};
 ghost use Rattle.hist_update.specs.declared.operate.Undone.TheVariants as undone;
 

@@ -1,5 +1,6 @@
 //! Whole updates: lists of values or source times, and stretches of time.
 
+ghost use Rattle.ua_binary.specs.declared.codes.TheConstants.Status.{GOOD};
 ghost use Rattle.std.specs.Prelude.{◌≡◌, ◌≤◌, ◌≤ℤ◌, pos, List, [], map, take, length, IfSome, None, false, vec_capacity};
 ghost use Rattle.records.specs.Contents.{Content};
 ghost use Rattle.std.specs.List.{AllByRecursion};
@@ -14,7 +15,7 @@ ghost use Rattle.archive.specs.Store.{Mark, Asks, HasContent};
 ghost use Rattle.hist_update.specs.Codes.{asked_by, list_refusal, first_other};
 ghost use Rattle.hist_update.specs.Outcome.{IsRequest, Write, DeleteAt};
 ghost use Rattle.hist_update.specs.Operating.{Operations, Begins, BeginsListed};
-ghost use Rattle.hist_update.specs.Updates.{update_data, delete_at, delete_raw, refused, all_good, data_refusal, writes, deletes_at, last_of, stretch_refusal, listing_refusal, AreEnded, needs_of, needs_of_stretch};
+ghost use Rattle.hist_update.specs.Updates.{update_data, delete_at, delete_raw, refused, data_refusal, writes, deletes_at, last_of, stretch_refusal, listing_refusal, AreEnded, needs_of, needs_of_stretch};
 
 use crate::operate::{code_of, delete, write};
 use crate::request::Request;
@@ -99,7 +100,7 @@ fn write_all<A: Archive>(
     requires asked { is_delete asked ≡ false }
     requires values { AllByRecursion IsShortData values.now }
     requires few { length values.now ≤ 1000 }
-    ensures begins { Begins (A.state archive.old) (A.state archive.new) request.now all_good (map (Write asked value_type) values.now) result }
+    ensures begins { Begins (A.state archive.old) (A.state archive.new) request.now (λ codes. GOOD) (map (Write asked value_type) values.now) result }
     ensures short { IsShortUpdate result }
 {
     let Ok(mut codes) = Vec::with_capacity(alloc, values.len()) else {
@@ -186,7 +187,7 @@ fn delete_all<A: Archive>(
 ) -> HistoryUpdateResult
     requires request { IsRequest request.now }
     requires few { length times.now ≤ 1000 }
-    ensures begins { Begins (A.state archive.old) (A.state archive.new) request.now all_good (deletes_at times.now) result }
+    ensures begins { Begins (A.state archive.old) (A.state archive.new) request.now (λ codes. GOOD) (deletes_at times.now) result }
     ensures short { IsShortUpdate result }
 {
     let Ok(mut codes) = Vec::with_capacity(alloc, times.len()) else {

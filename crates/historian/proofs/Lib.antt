@@ -4,3 +4,7 @@ pub mod Values
 pub mod Items
 pub mod Variables
 pub mod Updates
+pub mod EndpointsParts
+pub mod ReadingParts
+pub mod ServicesParts
+pub mod UpdatingParts

@@ -5,7 +5,8 @@ use Rattle.std.specs.Borrow.{Bor}
 use Rattle.std.specs.List.{list_any}
 use Rattle.std.specs.Option.{option_copied}
 use Rattle.ua_settings.specs.Settings.{Values}
-use Rattle.historian.specs.Endpoints.{endpoint_of, endpoints_for, is_served_profile, takes_transport}
+use Rattle.historian.specs.Endpoints.{endpoint_of, takes_transport}
+use Rattle.historian.proofs.EndpointsParts.{is_served_profile, endpoints_for}
 
 any_copied : (profiles : List (Option (Bor (List ℕ)))) → list_any (λ p. is_served_profile (option_copied p)) profiles ≡ list_any is_served_profile (map option_copied profiles)
 any_copied [] = refl

@@ -29,7 +29,8 @@ use Rattle.archive.proofs.Acting.{moves-none-by, moves-as, acts-as, acts-stays}
 use Rattle.archive.proofs.Calls.{passes-leaves, in_use, asks-then}
 use Rattle.hist_read.specs.Asking.{first_time}
 use Rattle.hist_read.specs.Reads.{greatest_time}
-use Rattle.historian.specs.Reading.{stored, latest, value_of, value_rules, item_at, item_value, telling, unless_met, item_told, value_step}
+use Rattle.historian.specs.Reading.{latest, value_rules, item_at, unless_met, item_told, value_step}
+use Rattle.historian.proofs.ReadingParts.{stored, item_value, value_of, telling}
 
 -- ---- a listing over all that is held
 

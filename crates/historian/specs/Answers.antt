@@ -19,10 +19,9 @@ use Rattle.ua_services.specs.declared.history.HistoryReadResult.{HistoryReadResu
 
 -- what a service answers
 pub data Answer : Type 0 where
+  Activated Closed : Answer
   Endpoints : List EndpointFields → Answer
   Created : SessionMade → Answer
-  Activated : Answer
-  Closed : Answer
   Browsed : List BrowseResult → Answer
   Values : List DataValue → Answer
   Updated : List HistoryUpdateResult → Answer

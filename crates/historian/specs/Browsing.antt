@@ -1,22 +1,17 @@
 -- Browse (Part 4, 5.9.2).
-use Rattle.std.specs.Prelude.{List, [], map, length, Result, Ok, Err}
+use Rattle.std.specs.Prelude.{List, [], map, length, Ok, Err}
 use Rattle.std.specs.Option.{option_map_or}
-use Rattle.ua_binary.specs.declared.codes.Status.{Status}
 use Rattle.ua_binary.specs.declared.codes.TheConstants.Status.{GOOD}
 use Rattle.hist_update.specs.Codes.{list_refusal}
 use Rattle.ua_services.specs.Browsing.{BrowseFields}
 use Rattle.ua_services.specs.declared.browsing.BrowseResult.{BrowseResult}
-use Rattle.ua_services.specs.declared.browsing.ReferenceDescription.{ReferenceDescription}
 use Rattle.ua_space.specs.declared.layout.Layout.{Layout}
 use Rattle.ua_space.specs.References.{browse_at}
 use Rattle.historian.specs.Answers.{Response, Browsed}
 
-abbrev pub browse_result : Result (List ReferenceDescription) Status → BrowseResult
-browse_result result = elim result [ Ok references ↦ record { status = GOOD; references = references } | Err status ↦ record { status = status; references = [] } ]
-
 -- a node is browsed by its own description
 abbrev pub browse_node : Layout → BrowseFields → BrowseResult
-browse_node space d = browse_result (browse_at space d)
+browse_node space d = elim (browse_at space d) [ Ok references ↦ record { status = GOOD; references = references } | Err status ↦ record { status = status; references = [] } ]
 
 -- 1,000 nodes at most
 abbrev pub browse : Layout → List BrowseFields → Response

@@ -19,25 +19,16 @@ abbrev pub application_of : Values → ApplicationFields
 application_of settings =
     (Some settings.application, (Some (codes "urn:uahist"), (record { locale = None; text = Some (codes "uahist") }, (application_number Server, Some settings.url ∷ []))))
 
--- a way in without a name, where that is allowed
-abbrev pub anonymous_tokens : Allowed → List TokenFields
-anonymous_tokens allowed = if allowed.anonymous then (Some (codes "anonymous"), token_number Anonymous) ∷ [] else []
-
--- a way in by name and password, where there is a user with a name
-abbrev pub named_tokens : Allowed → List TokenFields
-named_tokens allowed = if nat_lt 0 (length allowed.named) then (Some (codes "username"), token_number UserName) ∷ [] else []
+-- a way in without a name, where that is allowed, and one by name and password, where there is a user with a name
+abbrev pub tokens_of : Allowed → List TokenFields
+tokens_of allowed =
+    (if allowed.anonymous then (Some (codes "anonymous"), token_number Anonymous) ∷ [] else [])
+    ++ (if nat_lt 0 (length allowed.named) then (Some (codes "username"), token_number UserName) ∷ [] else [])
 
 abbrev pub endpoint_of : Values → EndpointFields
 endpoint_of settings =
-    (Some settings.url, (application_of settings, (mode_number mode.None, (Some policy_none, (anonymous_tokens settings.users ++ named_tokens settings.users, (Some transport_profile, 0))))))
-
-abbrev pub is_served_profile : Option (List ℕ) → Bool
-is_served_profile profile = pointwise nat_eq (unwrap_or profile []) transport_profile
+    (Some settings.url, (application_of settings, (mode_number mode.None, (Some policy_none, (tokens_of settings.users, (Some transport_profile, 0))))))
 
 -- a client that names no transport profile takes any
 abbrev pub takes_transport : List (Option (List ℕ)) → Bool
-takes_transport list = elim list [ [] ↦ true | profile ∷ profiles ↦ list_any is_served_profile (profile ∷ profiles) ]
-
--- the endpoints for a client that takes these transport profiles
-abbrev pub endpoints_for : Values → List (Option (List ℕ)) → List EndpointFields
-endpoints_for settings profiles = if takes_transport profiles then endpoint_of settings ∷ [] else []
+takes_transport list = elim list [ [] ↦ true | profile ∷ profiles ↦ list_any (λ profile. pointwise nat_eq (unwrap_or profile []) transport_profile) (profile ∷ profiles) ]

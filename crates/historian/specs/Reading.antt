@@ -24,7 +24,6 @@ use Rattle.ua_space.specs.declared.layout.Layout.{Layout}
 use Rattle.ua_space.specs.Attributes.{attribute_at}
 use Rattle.ua_space.specs.Space.{node_at, value_type_at}
 use Rattle.records.specs.Contents.{Content}
-use Rattle.records.specs.declared.shown.Held.{Held}
 use Rattle.records.specs.Spelling.{empty}
 use Rattle.archive.specs.declared.reading.Direction.TheVariants.{Backward}
 use Rattle.archive.specs.Fault.{status_told}
@@ -70,27 +69,13 @@ value_rules range encoding = (is_whole range, BAD_INDEX_RANGE_INVALID) ∷ (is_d
 abbrev pub valued : Ticks → ℕ → Variant → DataValue
 valued now attribute value = record empty { value = Some value; source_time = if attribute == 13 then Some now else None }
 
--- a live value as it is stored, with its source time
-abbrev pub stored : List Held → Result DataValue Status
-stored list = elim list [ [] ↦ Err BAD_WAITING_FOR_INITIAL_DATA | h ∷ held ↦ Ok (at_time h.time h.value) ]
-
 -- the value of an archived variable is the live one of the greatest source time
 abbrev pub latest : NodeId → Content → Result DataValue Status
-latest node R = stored (range_of R node first_time greatest_time Backward)
-
-abbrev pub value_of : Ticks → ReadFields → Content → Answered → Result DataValue Status
-value_of now item R v = elim v [ Value value ↦ Ok (valued now item.1.0 value) | Archived ↦ latest item.0 R ]
+latest node R = elim (range_of R node first_time greatest_time Backward) [ [] ↦ Err BAD_WAITING_FOR_INITIAL_DATA | h ∷ held ↦ Ok (at_time h.time h.value) ]
 
 -- what gives the value of an item: by node and attribute, then index range, then data encoding
 abbrev pub item_at : Layout → ReadFields → Result Answered Status
 item_at space item = attribute_at space item.0 item.1.0 >>= λ answered. checked (value_rules item.1.1.0 item.1.1.1) >>= λ _. Ok answered
-
-abbrev pub item_value : Ticks → Layout → ReadFields → Content → Result DataValue Status
-item_value now space item R = item_at space item >>= value_of now item R
-
--- want of memory may come in the way of any item, and a fault of the store where the archive gives the value
-abbrev pub telling : Result Answered Status → Marked (Option Status)
-telling answered = elim answered [ Ok Archived ↦ step status_told | _ ↦ memory ]
 
 -- what came in the way of an item is told in the place of its value
 abbrev pub unless_met : Option Status → Result DataValue Status → Result DataValue Status
@@ -107,14 +92,13 @@ value_step told value R = and_then told (λ reason. give (unless_met reason (val
 -- each item is one step
 abbrev pub read_item : Layout → Ticks → TimestampsToReturn → ReadFields → Content → Marked (DataValue × Content)
 read_item space now stamps item R =
-    and_then (telling (item_at space item)) (λ reason. give (item_told stamps now (unless_met reason (item_value now space item R)), R))
-
-abbrev pub read_by : Layout → Ticks → Option TimestampsToReturn → List ReadFields → Content → Served
-read_by space now given nodes R = elim given [ None ↦ give (Err BAD_TIMESTAMPS_TO_RETURN_INVALID, R) | Some stamps ↦ items Values (read_item space now stamps) nodes R ]
+    and_then (elim (item_at space item) [ Ok Archived ↦ step status_told | _ ↦ memory ]) (λ reason.
+    give (item_told stamps now (unless_met reason (item_at space item >>= λ v. elim v [ Value value ↦ Ok (valued now item.1.0 value) | Archived ↦ latest item.0 R ])), R))
 
 -- 1,000 items at most
 abbrev pub read : Layout → Ticks → ReadAsked → Content → Served
-read space now asked R = unless (list_refusal 1000 (length asked.1)) R (read_by space now asked.0 asked.1 R)
+read space now asked R = unless (list_refusal 1000 (length asked.1)) R (
+    elim asked.0 [ None ↦ give (Err BAD_TIMESTAMPS_TO_RETURN_INVALID, R) | Some stamps ↦ items Values (read_item space now stamps) asked.1 R ])
 
 -- ---- HistoryRead
 
@@ -123,24 +107,14 @@ abbrev pub history_rules : Layout → HistoryReadFields → List (Bool × Status
 history_rules space item =
     (is_some (node_at space item.0), BAD_NODE_ID_UNKNOWN) ∷ (is_some (value_type_at space item.0), BAD_HISTORY_OPERATION_UNSUPPORTED) ∷ value_rules item.1.0 item.1.1.0
 
--- the severity of a code is that of its two highest bits
-abbrev pub is_bad : Status → Bool
-is_bad status = nat_le 2147483648 status.0
-
 -- where continuation points are only given back, what isn't refused shows nothing
 abbrev pub released : Bool → HistoryReadResult → HistoryReadResult
-released release result = if release && not (is_bad result.status) then record { status = GOOD; continuation_point = None; history_data = Nothing } else result
-
--- the read of a node, unless memory is wanting
-abbrev pub node_read : List ℕ → Query → Bool → HistoryReadFields → Content → Option Status → Marked (HistoryReadResult × Content)
-node_read id query release item R given = elim given [ Some status ↦ give (refused status, R) | None ↦ and_then (read_node id item.0 query item.1.1.1 R) (λ p. give (released release p.0, p.1)) ]
-
--- one step for the memory of the node's id, and then the read of the node
-abbrev pub history_by : List ℕ → Query → Bool → HistoryReadFields → Content → Result (Unit {0}) Status → Marked (HistoryReadResult × Content)
-history_by id query release item R result = elim result [ Err status ↦ give (refused status, R) | Ok _ ↦ and_then memory (node_read id query release item R) ]
+released release result = if release && not (nat_le 2147483648 result.status.0) then record { status = GOOD; continuation_point = None; history_data = Nothing } else result
 
 abbrev pub read_history_of : List ℕ → Layout → Query → Bool → HistoryReadFields → Content → Marked (HistoryReadResult × Content)
-read_history_of id space query release item R = history_by id query release item R (checked (history_rules space item))
+read_history_of id space query release item R =
+    and_then (elim (checked (history_rules space item)) [ Err status ↦ give (Some status) | Ok _ ↦ memory ]) (λ reason.
+    elim reason [ Some status ↦ give (refused status, R) | None ↦ and_then (read_node id item.0 query item.1.1.1 R) (λ p. give (released release p.0, p.1)) ])
 
 -- what is read of each node, or why the whole is refused
 abbrev pub query_of : HistoryReadDetails → Option TimestampsToReturn → Result Query Status
@@ -149,10 +123,7 @@ query_of details (Some Neither) = Err BAD_TIMESTAMPS_TO_RETURN_INVALID
 query_of Other (Some stamps) = Err BAD_HISTORY_OPERATION_UNSUPPORTED
 query_of (ReadRawModified details) (Some stamps) = Ok (record { details = details; stamps = stamps })
 
-abbrev pub histories_by : List ℕ → Layout → Bool → List HistoryReadFields → Content → Result Query Status → Served
-histories_by id space release nodes R result = elim result [ Err status ↦ give (Err status, R) | Ok query ↦ items Histories (read_history_of id space query release) nodes R ]
-
 -- 100 nodes at most
 abbrev pub read_history : List ℕ → Layout → HistoryAsked → Content → Served
-read_history id space asked R =
-    unless (list_refusal 100 (length asked.1.1.1)) R (histories_by id space asked.1.1.0 asked.1.1.1 R (query_of asked.0 asked.1.0))
+read_history id space asked R = unless (list_refusal 100 (length asked.1.1.1)) R (
+    elim (query_of asked.0 asked.1.0) [ Err status ↦ give (Err status, R) | Ok query ↦ items Histories (read_history_of id space query asked.1.1.0) asked.1.1.1 R ])

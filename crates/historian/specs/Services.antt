@@ -1,6 +1,6 @@
 -- What a message is answered over what the archive holds (Part 4, 5.5 to 5.7; 7.33 to 7.35): the answer of its service, or the code that refuses it,
 -- and the sessions and the content that this leaves.
-use Rattle.std.specs.Prelude.{ℕ, List, [], ◌∷◌, Option, Result, Ok, Err, ok_or}
+use Rattle.std.specs.Prelude.{ℕ, List, [], ◌∷◌, Option, Result, Ok, Err, ok_or, if◌then◌else◌}
 use Rattle.ua_binary.specs.declared.codes.Status.{Status}
 use Rattle.ua_binary.specs.declared.codes.TheConstants.Status.{BAD_OUT_OF_MEMORY, BAD_DECODING_ERROR}
 use Rattle.ua_binary.specs.declared.values.NodeId.{NodeId}
@@ -8,7 +8,6 @@ use Rattle.ua_binary.specs.declared.values.Ticks.{Ticks}
 use Rattle.ua_session.specs.declared.fault.SessionFault.{SessionFault}
 use Rattle.ua_session.specs.declared.fault.SessionFault.TheVariants.{NotActivated}
 use Rattle.ua_session.specs.Fault.{code_of}
-use Rattle.ua_session.specs.Users.{Claim}
 use Rattle.ua_session.specs.Sessions.{State, create_answer, activate_answer, close_answer, user_at, with_new, with_user, without_session}
 use Rattle.ua_settings.specs.Settings.{Values}
 use Rattle.records.specs.Contents.{Content}
@@ -16,7 +15,7 @@ use Rattle.archive.specs.Store.{Store, Mark, Fine, Starved}
 use Rattle.archive.specs.Steps.{Marked, give, step, and_then}
 use Rattle.historian.specs.Answers.{Answer, Endpoints, Created, Activated, Closed, Response}
 use Rattle.historian.specs.Requests.{Call, GetEndpoints, CreateSession, ActivateSession, CloseSession, Browse, Read, HistoryRead, HistoryUpdate, Request, request_in}
-use Rattle.historian.specs.Endpoints.{endpoint_of, endpoints_for}
+use Rattle.historian.specs.Endpoints.{endpoint_of, takes_transport}
 use Rattle.historian.specs.Browsing.{browse}
 use Rattle.historian.specs.Reading.{read, read_history}
 use Rattle.historian.specs.Updating.{update_history}
@@ -35,10 +34,6 @@ site_of settings store = record { settings = settings; own = store.own; id = sto
 abbrev pub Outcome : Type 0
 Outcome = (Response × State) × Content
 
--- unless memory is wanting
-abbrev pub unless_starved : {A : Type 0} → Result A Status → Mark → Result A Status
-unless_starved result mark = elim mark [ Starved ↦ Err BAD_OUT_OF_MEMORY | _ ↦ result ]
-
 -- ---- calls of the sessions
 
 -- what a call answers and leaves, unless memory for it is wanting; a refusal leaves the sessions as they are
@@ -46,18 +41,6 @@ abbrev pub called : {A : Type 0} → State → (A → Answer × State) → Resul
 called sessions done (Err fault) mark = (Err (code_of fault), sessions)
 called sessions done (Ok a) Starved = (Err BAD_OUT_OF_MEMORY, sessions)
 called sessions done (Ok a) mark = let d = done a in (Ok d.0, d.1)
-
--- a session more, with the timeout that was asked for
-abbrev pub create : Values → List ℕ → State → Mark → Response × State
-create settings timeout sessions = called sessions (λ ids. (Created (ids.0, (ids.1, (timeout, (endpoint_of settings ∷ [], 4194304)))), with_new sessions)) (create_answer sessions)
-
--- the token's session has the user whom the claim is allowed as
-abbrev pub activate : Values → NodeId → Claim → State → Mark → Response × State
-activate settings token claim sessions = called sessions (λ user. (Activated, record sessions { alive = with_user token user sessions.alive })) (activate_answer sessions token settings.users claim)
-
--- the token's session is gone; this takes no memory
-abbrev pub close : NodeId → State → Response × State
-close token sessions = called sessions (λ _. (Closed, record sessions { alive = without_session token sessions.alive })) (close_answer sessions token) Fine
 
 -- ---- services
 
@@ -69,16 +52,21 @@ abbrev pub in_session : NodeId → State → Result (List ℕ) SessionFault → 
 in_session token sessions (Err fault) service R = give ((Err (code_of fault), left_outside sessions token fault), R)
 in_session token sessions (Ok user) service R = and_then (service user) (λ told. give ((told.0, sessions), told.1))
 
--- what a service answers, and what it leaves; the last four want a session that was activated
+-- what a service answers, and what it leaves: a session more, a session's user, a session less, which takes no memory;
+-- the last four want a session that was activated
 abbrev pub served : Site → Ticks → NodeId → Call → State → Content → Marked Outcome
-served site now token (GetEndpoints profiles) sessions R = give ((Ok (Endpoints (endpoints_for site.settings profiles)), sessions), R)
-served site now token (CreateSession timeout) sessions R = step (λ mark. (create site.settings timeout sessions mark, R))
-served site now token (ActivateSession claim) sessions R = step (λ mark. (activate site.settings token claim sessions mark, R))
-served site now token CloseSession sessions R = give (close token sessions, R)
+served site now token (GetEndpoints profiles) sessions R = give ((Ok (Endpoints (if takes_transport profiles then endpoint_of site.settings ∷ [] else [])), sessions), R)
+served site now token (CreateSession timeout) sessions R = step (λ mark.
+    (called sessions (λ ids. (Created (ids.0, (ids.1, (timeout, (endpoint_of site.settings ∷ [], 4194304)))), with_new sessions)) (create_answer sessions) mark, R))
+served site now token (ActivateSession claim) sessions R = step (λ mark.
+    (called sessions (λ user. (Activated, record sessions { alive = with_user token user sessions.alive })) (activate_answer sessions token site.settings.users claim) mark, R))
+served site now token CloseSession sessions R =
+    give (called sessions (λ _. (Closed, record sessions { alive = without_session token sessions.alive })) (close_answer sessions token) Fine, R)
 served site now token (Browse nodes) sessions R = in_session token sessions (user_at sessions token) (λ user. give (browse site.settings.space nodes, R)) R
 served site now token (Read asked) sessions R = in_session token sessions (user_at sessions token) (λ user. read site.settings.space now asked R) R
 served site now token (HistoryRead asked) sessions R = in_session token sessions (user_at sessions token) (λ user. read_history site.id site.settings.space asked R) R
-served site now token (HistoryUpdate details) sessions R = in_session token sessions (user_at sessions token) (λ user. update_history site.own site.settings.space user now details R) R
+served site now token (HistoryUpdate details) sessions R =
+    in_session token sessions (user_at sessions token) (λ user. update_history site.own site.settings.space user now details R) R
 
 -- ---- messages
 
@@ -88,7 +76,8 @@ asked site now token result sessions R = elim result [ Err status ↦ give ((Err
 
 -- a call is read, unless memory for that is wanting, and served
 abbrev pub answered_call : Site → Ticks → NodeId → Option Call → State → Content → Marked Outcome
-answered_call site now token call sessions R = and_then (step (unless_starved (ok_or call BAD_DECODING_ERROR))) (λ call. asked site now token call sessions R)
+answered_call site now token call sessions R =
+    and_then (step (λ mark. elim mark [ Starved ↦ Err BAD_OUT_OF_MEMORY | _ ↦ ok_or call BAD_DECODING_ERROR ])) (λ call. asked site now token call sessions R)
 
 abbrev pub answered_request : Site → Ticks → Result Request Status → State → Content → Marked Outcome
 answered_request site now result sessions R = elim result [ Err status ↦ give ((Err status, sessions), R) | Ok request ↦ answered_call site now request.0 request.1 sessions R ]

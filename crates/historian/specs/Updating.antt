@@ -9,11 +9,11 @@ use Rattle.ua_binary.specs.declared.values.Ticks.{Ticks}
 use Rattle.ua_variant.specs.declared.value.ValueType.{ValueType}
 use Rattle.ua_services.specs.Updates.{Details, UpdateData, DeleteRawModified, DeleteAtTime, Other}
 use Rattle.ua_space.specs.declared.layout.Layout.{Layout}
-use Rattle.ua_space.specs.Space.{node_at, type_of_node}
+use Rattle.ua_space.specs.Space.{node_at, OfVariable}
 use Rattle.records.specs.Contents.{Content}
-use Rattle.archive.specs.Steps.{Marked, give, memory, and_then}
+use Rattle.archive.specs.Steps.{Marked, give, memory}
 use Rattle.hist_update.specs.declared.request.Request.{Request}
-use Rattle.hist_update.specs.Updates.{Updated, refused, update_data, delete_raw, delete_at}
+use Rattle.hist_update.specs.Updates.{Updated, refused, past, update_data, delete_raw, delete_at}
 use Rattle.historian.specs.Answers.{Updated as AllUpdated}
 use Rattle.hist_update.specs.Codes.{list_refusal}
 use Rattle.historian.specs.Reading.{Served, unless, items}
@@ -27,7 +27,7 @@ abbrev pub type_asked : Layout → Option NodeId → Result ValueType Status
 type_asked space asked =
     ok_or asked BAD_HISTORY_OPERATION_UNSUPPORTED >>= λ id.
     ok_or (node_at space id) BAD_NODE_ID_UNKNOWN >>= λ node.
-    ok_or (type_of_node (Some node)) BAD_HISTORY_OPERATION_UNSUPPORTED
+    ok_or (elim node [ OfVariable variable ↦ Some variable.value_type | _ ↦ None ]) BAD_HISTORY_OPERATION_UNSUPPORTED
 
 -- the update of a variable of this type
 abbrev pub update_of : ℕ → (NodeId → Request) → ValueType → Details → Content → Marked Updated
@@ -36,19 +36,13 @@ update_of own request type (DeleteRawModified d) R = delete_raw own (request d.0
 update_of own request type (DeleteAtTime d) R = delete_at own (request d.0) d.1 R
 update_of own request type Other R = give (refused BAD_HISTORY_OPERATION_UNSUPPORTED, R)
 
-abbrev pub updated_unless : ℕ → (NodeId → Request) → ValueType → Details → Content → Option Status → Marked Updated
-updated_unless own request type details R given = elim given [ Some status ↦ give (refused status, R) | None ↦ update_of own request type details R ]
-
--- one step for the memory of the request, and then the update
-abbrev pub update_by : ℕ → (NodeId → Request) → Details → Content → Result ValueType Status → Marked Updated
-update_by own request details R result = elim result [ Err status ↦ give (refused status, R) | Ok type ↦ and_then memory (updated_unless own request type details R) ]
-
 -- this user asks at this moment for an update of a node
 abbrev pub asked_for : List ℕ → Ticks → NodeId → Request
 asked_for user now node = record { node = node; user = user; reading = now.0 }
 
 abbrev pub update_item : ℕ → Layout → List ℕ → Ticks → Details → Content → Marked Updated
-update_item own space user now details R = update_by own (asked_for user now) details R (type_asked space (node_asked details))
+update_item own space user now details R =
+    elim (type_asked space (node_asked details)) [ Err status ↦ give (refused status, R) | Ok type ↦ past memory R (update_of own (asked_for user now) type details R) ]
 
 -- 100 details at most
 abbrev pub update_history : ℕ → Layout → List ℕ → Ticks → List Details → Content → Served

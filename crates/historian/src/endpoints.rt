@@ -1,10 +1,11 @@
 //! What the server tells of itself: its one endpoint, without security (Part 4, 5.5.4 and 7.14).
 
-ghost use Rattle.std.specs.Prelude.{◌≡◌, ◌∷◌, ◌++◌, [], ◌<◌, ◌+◌, ◌^◌, All, Some, map, length, IfOk, OnOk};
+ghost use Rattle.std.specs.Cmp.Lexicographic.{pointwise};
+ghost use Rattle.std.specs.Prelude.{◌≡◌, ◌∷◌, ◌++◌, [], ◌<◌, ◌+◌, ◌^◌, All, Some, map, length, IfOk, OnOk, nat_eq, unwrap_or};
 ghost use Rattle.std.specs.Option.{option_copied};
 ghost use Rattle.ua_channel.specs.Headers.{policy_none};
 ghost use Rattle.ua_services.specs.Endpoints.{application_fields, token_fields, token_number, endpoint_fields, IsShortApplication, IsShortToken, IsShortEndpoint, AreShortEndpoints};
-ghost use Rattle.historian.specs.Endpoints.{transport_profile, application_of, anonymous_tokens, named_tokens, endpoint_of, is_served_profile, takes_transport};
+ghost use Rattle.historian.specs.Endpoints.{transport_profile, application_of, tokens_of, endpoint_of, takes_transport};
 
 use std::alloc::{AllocError, Global};
 use ua_binary::{Listing, LocalizedText, Text};
@@ -76,7 +77,7 @@ fn add_token(
 /// The ways in which a user may say who it is: without a name where that is allowed, by a name where there is a user with
 /// one.
 fn tokens(alloc: Global, users: &Users) -> Result<Listing<UserTokenPolicy>, AllocError>
-    ensures fields { IfOk result (λ v. map token_fields v ≡ anonymous_tokens users.now ++ named_tokens users.now) }
+    ensures fields { IfOk result (λ v. map token_fields v ≡ tokens_of users.now) }
     ensures short { IfOk result (λ v. (length v < 2 ^ 31) × All IsShortToken v) }
 {
     let mut tokens = Vec::new(alloc);
@@ -126,7 +127,7 @@ pub(crate) fn all_endpoints(
 
 /// Whether it is the transport profile that is served.
 fn is_served_profile(profile: Option<&str>) -> bool
-    ensures { result ≡ is_served_profile (option_copied profile.entry) }
+    ensures { result ≡ pointwise nat_eq (unwrap_or (option_copied profile.entry) []) transport_profile }
 {
     profile.unwrap_or("") == transport_profile()
 }

@@ -9,7 +9,7 @@ ghost use Rattle.archive.specs.Store.{Mark};
 ghost use Rattle.archive.specs.Steps.{Acts, each};
 ghost use Rattle.hist_read.specs.Node.{refused};
 ghost use Rattle.historian.specs.declared.service.Service.TheVariants as service;
-ghost use Rattle.historian.specs.Reading.{history_rules, is_bad, released, read_history_of, query_of, read_history};
+ghost use Rattle.historian.specs.Reading.{history_rules, released, read_history_of, query_of, read_history};
 ghost use Rattle.historian.specs.Requests.{call_in};
 ghost use Rattle.historian.specs.Services.{site_of, answered_call};
 ghost use Rattle.historian.specs.Telling.{IsShort, Comes, Performs};

@@ -1,5 +1,7 @@
 //! Read (Part 4, 5.11.2).
 
+ghost use Rattle.ua_binary.specs.declared.codes.TheConstants.Status.{BAD_WAITING_FOR_INITIAL_DATA};
+ghost use Rattle.hist_read.specs.Showing.{at_time};
 ghost use Rattle.std.specs.Prelude.{◌≡◌, ◌⊎◌, ◌++◌, ◌∷◌, [], List, map, take, length, Result, IfOk, IfErr, OnOk, Ok, Err};
 ghost use Rattle.std.specs.List.{AllByRecursion, flat_map};
 ghost use Rattle.std.specs.Option.{option_copied};
@@ -20,7 +22,7 @@ ghost use Rattle.hist_read.specs.Asking.{first_time};
 ghost use Rattle.hist_read.specs.Finding.{Finds};
 ghost use Rattle.hist_read.specs.Reads.{greatest_time};
 ghost use Rattle.historian.specs.declared.service.Service.TheVariants as service;
-ghost use Rattle.historian.specs.Reading.{is_whole, is_default, value_rules, valued, stored, latest, item_told, value_step, read_item, read};
+ghost use Rattle.historian.specs.Reading.{is_whole, is_default, value_rules, valued, latest, item_told, value_step, read_item, read};
 ghost use Rattle.historian.specs.Requests.{call_in};
 ghost use Rattle.historian.specs.Services.{Site, site_of, answered_call};
 ghost use Rattle.historian.specs.Telling.{ComesWritten, Responds};
@@ -95,7 +97,7 @@ pub(crate) fn judge_value(range: Option<&str>, encoding: QualifiedRef<'_>) -> Re
 
 /// A live value, with its source time.
 fn at_time(held: Held) -> DataValue
-    ensures { Ok result ≡ stored (held ∷ []) }
+    ensures { Ok result ≡ (elim (held ∷ []) [ [] ↦ Err BAD_WAITING_FOR_INITIAL_DATA | h ∷ held ↦ Ok (at_time h.time h.value) ]) }
 {
     let Held { time, value, .. } = held;
     DataValue {
@@ -157,7 +159,7 @@ fn newest<A: Archive>(
 
 /// The first of these values, if it can be written.
 fn latest(mut lives: Vec<Held>) -> Result<DataValue, Status>
-    ensures told { (result ≡ stored lives.items) ⊎ (result ≡ Err Status.BAD_OUT_OF_MEMORY) }
+    ensures told { (result ≡ (elim lives.items [ [] ↦ Err BAD_WAITING_FOR_INITIAL_DATA | h ∷ held ↦ Ok (at_time h.time h.value) ])) ⊎ (result ≡ Err Status.BAD_OUT_OF_MEMORY) }
     ensures short { IfOk result IsShortData }
 {
     if lives.is_empty() {

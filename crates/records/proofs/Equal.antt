@@ -10,7 +10,8 @@ use Rattle.stamp.specs.contracts.stamps.ReplicaNoPartialEq as replica
 use Rattle.ua_variant.specs.contracts.update_type.HistoryUpdateTypePartialEq as asked
 use Rattle.records.specs.contracts.record.RecordPartialEq as whole
 use Rattle.records.specs.declared.record.Record.{Record}
-use Rattle.records.specs.Same.{same_record, same_node, record_code, node_code}
+use Rattle.records.specs.Same.{same_record, same_node}
+use Rattle.records.proofs.SameParts.{record_code, node_code}
 use Rattle.records.proofs.Same.{Decides-is_same}
 
 replicas : IsExact (replica.TheImpl.eq-value).it

@@ -9,7 +9,7 @@ use Rattle.records.specs.declared.shown.Held.{Held}
 use Rattle.ua_variant.specs.declared.update_type.HistoryUpdateType.{HistoryUpdateType}
 use Rattle.ua_variant.specs.declared.update_type.HistoryUpdateType.TheVariants.{Insert, Replace, Update, Delete}
 use Rattle.records.specs.Lists.{Has, last}
-use Rattle.records.specs.Same.{node_code}
+use Rattle.records.proofs.SameParts.{node_code}
 use Rattle.records.specs.Records.{stamp_cmp, is_at, story, held_of, is_delete, write, kind, entry, entries_after}
 use Rattle.records.specs.Contents.{Content, IsShownAt, IsFound}
 use Rattle.records.proofs.Sorting.{has-filter, has-sort_by}

@@ -8,7 +8,7 @@ use Rattle.records.specs.declared.shown.Held.{Held}
 use Rattle.ua_binary.specs.declared.values.NodeId.{NodeId}
 use Rattle.std.proofs.Common.{ℤ}
 use Rattle.records.specs.Lists.{Has, Rises, IsApart, sort_by, last}
-use Rattle.records.specs.Same.{node_code}
+use Rattle.records.proofs.SameParts.{node_code}
 use Rattle.records.specs.Records.{stamp_cmp, name_cmp, is_at, is_delete, is_beyond, held, story, current, entries_after, entries, missing}
 use Rattle.records.specs.Contents.{Content, IsLatest, HasOther}
 use Rattle.records.proofs.Same.{Decides-is_same}

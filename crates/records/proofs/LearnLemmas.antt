@@ -9,8 +9,10 @@ use Rattle.std.proofs.lemmas.Int.{ints}
 use Rattle.stamp.specs.Limits.{greatest}
 use Rattle.records.specs.declared.record.Record.{Record}
 use Rattle.records.specs.Lists.{Has}
-use Rattle.records.specs.Contents.{Content, IsWithin, vec, last_tick, IsClosed, put, IsNext, Finding, Adds, Holds, Clash, Gap, TickTooFar, TickNotRising, finding, after_finding, learned, merged}
-use Rattle.records.specs.Same.{same_record, record_code}
+use Rattle.records.specs.Contents.{Content, IsWithin, vec, last_tick, IsClosed, put, IsNext, Finding, Adds, Holds, Clash, Gap, TickTooFar, TickNotRising, finding, learned, merged}
+use Rattle.records.proofs.ContentsParts.{after_finding}
+use Rattle.records.specs.Same.{same_record}
+use Rattle.records.proofs.SameParts.{record_code}
 use Rattle.records.proofs.Same.{Decides-is_same}
 use Rattle.records.proofs.ContentLemmas.{vec_bounds}
 use Rattle.records.proofs.PutLemmas.{closed_put, has-put, has_from_put}

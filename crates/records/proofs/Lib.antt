@@ -20,3 +20,6 @@ pub mod InclusionLemmas
 pub mod LackLemmas
 pub mod PartLemmas
 pub mod RefusalLemmas
+pub mod ContentsParts
+pub mod SpellingParts
+pub mod SameParts

@@ -1,16 +1,16 @@
 -- The spelling of records is lawful.
-use Rattle.std.proofs.Common.{◌≡◌, ℕ, ◌+◌, ◌≤◌, ◌<◌, ◌^◌, ℤ, pos, ◌≤ℤ◌, int_le, Bool, true, false, cond, nat_le, List, [], ◌++◌, length, nat_lt, Option, Some, None, unwrap_or, Result, Ok, Err, refl, sym, ap, ◌∙◌, subst, arith, ◌&&◌}
+use Rattle.std.proofs.Common.{◌≡◌, ℕ, ◌≤◌, ◌<◌, ◌^◌, ℤ, pos, ◌≤ℤ◌, int_le, Bool, true, false, cond, nat_le, List, [], ◌++◌, length, nat_lt, Option, Some, None, unwrap_or, Result, Ok, Err, refl, sym, ap, ◌∙◌, subst, arith, ◌&&◌}
 use Rattle.std.specs.Str.{bytes_eq}
 use Rattle.std.specs.Int.{w64}
 use Rattle.std.specs.Int.RustNames.{FitsSigned}
 use Rattle.std.proofs.lemmas.Slice.Eq.{bytes_eq-Decides}
 use Rattle.std.proofs.lemmas.Bool.{ltb-false, le-ltb, leb-true, le-leb, and_from, and_parts, true≢false}
 use Rattle.std.proofs.lemmas.Int.{ints}
-use Rattle.std.proofs.lemmas.List.{length-append, append_cancel_right}
+use Rattle.std.proofs.lemmas.List.{append_cancel_right}
 use Rattle.stamp.specs.Limits.{greatest}
 use Rattle.ua_binary.specs.Format.{Format, IsLawful, ◌▸◌, standing_for, passing, raised, whole}
 use Rattle.ua_binary.specs.Binary.{IsCounted, node_id, text}
-use Rattle.ua_binary.proofs.Combined.{bind_ok, passed_ok, guard_ok, Found, byte_lawful, then_lawful, standing_lawful, passing_lawful, fitting_lawful, raised_lawful}
+use Rattle.ua_binary.proofs.Combined.{bind_ok, passed_ok, Found, byte_lawful, then_lawful, standing_lawful, passing_lawful, fitting_lawful, raised_lawful}
 use Rattle.ua_binary.proofs.Lawful.{u16_lawful, u64_lawful, i64_lawful, node_id_lawful, text_lawful}
 use Rattle.ua_binary.proofs.Spelled.{whole_found, whole_only}
 use Rattle.ua_binary.proofs.Counted.{SpellsOnly, any_only, then_only, standing_only, passing_only, raised_only, text_only, node_id_only, read_only}
@@ -23,23 +23,10 @@ use Rattle.records.specs.declared.fault.RecordFault.TheVariants.{Binary, BadFiel
 use Rattle.records.specs.Fault.{binary_fault}
 use Rattle.records.specs.Moments.{ticks_of, pico_of, ticks_again, whole_again, pico_within}
 use Rattle.ua_variant.specs.UpdateType.{update_number}
-use Rattle.records.specs.Spelling.{at_most, canonical, version, origin, number, tick, ticks, pico, node, time, asked_of_number, asked, is_user, user, is_value_for, value, front, record_of, parts_of, fields, longest, IsLawfulRecord, IsRecord, IsTick, HasSpelledParts, record_form, record_at, IsShortRecord}
+use Rattle.records.specs.Spelling.{canonical, version, origin, number, tick, ticks, pico, node, time, asked, user, is_value_for, value, front, parts_of, fields, longest, IsLawfulRecord, IsRecord, HasSpelledParts, record_form, record_at, IsShortRecord}
+use Rattle.records.proofs.SpellingParts.{IsTick, record_of, is_user, asked_of_number}
 
--- ---- two formats of formats
-
-pub at_most_lawful : {E A : Type 0} (n : ℕ) (e : E) {f : Format E A} → IsLawful f → IsLawful (at_most n e f)
-at_most_lawful n e {f} p = record {
-  found = λ bytes v rest h.
-      let a = bind_ok (f.read bytes) (λ a. cond (nat_lt (n + length a.1) (length bytes)) (Err e) (Ok a)) (v, rest) h in
-      let g = guard_ok (nat_lt (n + length a.0.1) (length bytes)) e a.0 (v, rest) a.2 in
-      let x = p.found bytes a.0.0 a.0.1 a.1 in
-      let long = ltb-false _ _ g.0 in
-      subst (Found (at_most n e f) bytes) g.1 (x.0, x.1, (x.2, omega (arith, ap length x.1, length-append x.0 a.0.1)));
-  only = λ front v rest s.
-      let short : nat_lt (n + length rest) (length (front ++ rest)) ≡ false = le-ltb _ _ (omega (arith, length-append front rest, s.1)) in
-      rw (p.only front v rest s.0, short) refl;
-  written = λ v fits. (p.written v fits.0, fits.1);
-}
+-- ---- a format of formats
 
 pub canonical_lawful : {E A : Type 0} (e : E) {f : Format E A} → IsLawful f → IsLawful (canonical e f)
 canonical_lawful e {f} p = record {
@@ -115,13 +102,13 @@ front_fits r h =
     let l : IsLawfulRecord r = h.0 in
     ((omega arith, refl), ((omega (arith, l.origin.1), one_to r.origin 64 l.origin.0 l.origin.1), ((omega (arith, l.number.1), one_to r.number greatest l.number.0 l.number.1), (tick_fits r.tick h.1, (l.node, later_fits r l)))))
 
-record_fits : (r : Record) → IsRecord r → fields.Fits r × (length (fields.canon r) ≤ longest)
+record_fits : (r : Record) → IsRecord r → fields.Fits r × (nat_le (length (fields.canon r)) longest ≡ true)
 unfolding fields Rattle.ua_variant.specs.DataValue.data_value
-record_fits r h = ((((front_fits r h, h.0.value), refl), h.0.suits), h.0.size)
+record_fits r h = ((((front_fits r h, h.0.value), refl), h.0.suits), le-leb _ _ h.0.size)
 
 pub record_lawful : IsLawful record_form
 unfolding record_form
-record_lawful = fitting_lawful IsRecord record_fits (canonical_lawful NotCanonical (at_most_lawful longest BadField fields_lawful))
+record_lawful = fitting_lawful IsRecord record_fits (canonical_lawful NotCanonical (passing_lawful _ BadField fields_lawful))
 
 -- ---- all of the bytes
 
@@ -136,13 +123,14 @@ record_found bytes r h =
     let b = passed_by (nat_lt longest (length bytes)) BadField (cond (bytes_eq bytes (fields.canon a.0)) (Ok a.0) (Err NotCanonical)) r a.2 in
     let g = passed_ok (bytes_eq bytes (fields.canon a.0)) NotCanonical a.0 r b.1 in
     let short = ltb-false _ _ b.0 in
-    subst (λ q. (fields.Spells bytes q × (length bytes ≤ longest)) × (bytes ≡ fields.canon q)) g.1
-    ((whole_found Binary fields_lawful bytes a.0 a.1, omega arith), (bytes_eq-Decides bytes (fields.canon a.0)).0 g.0)
+    let same = (bytes_eq-Decides bytes (fields.canon a.0)).0 g.0 in
+    subst (λ q. (fields.Spells bytes q × (nat_le (length (fields.canon q)) longest ≡ true)) × (bytes ≡ fields.canon q)) g.1
+    ((whole_found Binary fields_lawful bytes a.0 a.1, subst (λ b. nat_le (length b) longest ≡ true) same (le-leb _ _ short)), same)
 
 pub record_only : (bytes : List ℕ) (r : Record) → record_form.Spells bytes r → record_at bytes ≡ Ok r
 unfolding record_form
 record_only bytes r s =
-    let small : nat_lt longest (length bytes) ≡ false = le-ltb _ _ s.0.1 in
+    let small : nat_lt longest (length bytes) ≡ false = le-ltb _ _ (subst (λ b. length b ≤ longest) (sym s.1) (leb-true _ _ s.0.1)) in
     let same : bytes_eq bytes (fields.canon r) ≡ true = (bytes_eq-Decides bytes (fields.canon r)).1 s.1 in
     rw (whole_only Binary fields_lawful bytes r s.0.0, small, same) refl
 
@@ -244,7 +232,7 @@ record_read bytes r e parts =
         user = (t.0.1.1.1, parts.user);
         value = parts.value;
         suits = t.1;
-        size = subst (λ b. length b ≤ longest) s.1 s.0.1;
+        size = leb-true _ _ s.0.1;
       },
       t.0.1.0,
     )

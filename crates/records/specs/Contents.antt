@@ -20,13 +20,10 @@ Content = List Record
 
 -- ---- the numbers and ticks of a content
 
-abbrev pub number_from : ℕ → Record → ℕ
-number_from origin r = if r.origin == origin then r.number else 0
-
 -- an origin's greatest number, 0 where it has none
 abbrev pub vec : Content → ℕ → ℕ
 vec [] origin = 0
-vec (r ∷ R) origin = max (number_from origin r) (vec R origin)
+vec (r ∷ R) origin = max (if r.origin == origin then r.number else 0) (vec R origin)
 
 -- the numbers of replicas 1 to 64 in this order, as a vector has them
 unfoldable pub numbers_of : Content → List ℕ
@@ -98,12 +95,8 @@ AreNextInTurn R (r ∷ rs) = IsNext R r × AreNextInTurn (put r R) rs
 
 -- what a record that is to be learned meets in a content
 pub data Finding : Type 0 where
-  Adds : Finding
-  Holds : Finding
-  Clash : Finding
+  Adds Holds Clash TickTooFar TickNotRising : Finding
   Gap : (held got : ℕ) → Finding
-  TickTooFar : Finding
-  TickNotRising : Finding
 
 -- a number that is reached is held already, or clashes; else it has to be the next, and its tick in the limits and above the origin's last
 abbrev pub finding : Content → Record → Finding
@@ -114,12 +107,9 @@ finding R r =
     else if int_le r.tick (last_tick R r.origin) then TickNotRising
     else Adds
 
-abbrev pub after_finding : Content → Record → Finding → Option Content
-after_finding R r refusal = elim refusal [ Adds ↦ Some (put r R) | Holds ↦ Some R | _ ↦ None ]
-
 -- the content after a record is learned; none where it is refused
 abbrev pub learned : Content → Record → Option Content
-learned R r = after_finding R r (finding R r)
+learned R r = elim (finding R r) [ Adds ↦ Some (put r R) | Holds ↦ Some R | _ ↦ None ]
 
 -- the content after these are learned in order, up to the first that is refused
 abbrev pub merged : List Record → Content → Content

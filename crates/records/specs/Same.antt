@@ -17,14 +17,8 @@ same_tree _ _ = false
 abbrev pub is_same : {A : Type 0} → Coded A → A → A → Bool
 is_same c x y = same_tree (c.code x) (c.code y)
 
-abbrev pub node_code : Coded NodeId
-node_code = node.the_row.coded
-
-abbrev pub record_code : Coded Record
-record_code = whole.the_row.coded
-
 abbrev pub same_node : NodeId → NodeId → Bool
-same_node = is_same node_code
+same_node = is_same node.the_row.coded
 
 abbrev pub same_record : Record → Record → Bool
-same_record = is_same record_code
+same_record = is_same whole.the_row.coded

@@ -1,5 +1,5 @@
 -- A record as bytes, format 2: the byte 2, and its fields one after the other. Only the spelling that is written is one.
-use Rattle.std.specs.Prelude.{◌≡◌, ℕ, ◌+◌, ◌^◌, ◌<◌, ◌≤◌, nat_lt, nat_le, ◌==◌, ℤ, pos, ◌≤ℤ◌, int_le, Bool, true, false, not, ◌&&◌, ◌||◌, List, [], ◌++◌, length, Option, Some, None, IfSome, is_some, unwrap_or, Result, Ok, Err, if◌then◌else◌}
+use Rattle.std.specs.Prelude.{◌≡◌, ℕ, ◌^◌, ◌<◌, ◌≤◌, nat_lt, nat_le, ◌==◌, ℤ, pos, ◌≤ℤ◌, int_le, Bool, true, false, not, ◌&&◌, ◌||◌, List, [], ◌++◌, length, Some, None, IfSome, is_some, unwrap_or, Result, Ok, Err, if◌then◌else◌}
 use Rattle.std.specs.Int.{w16, w64}
 use Rattle.std.specs.Int.RustNames.{FitsSigned}
 use Rattle.std.specs.Str.{is_utf8, bytes_eq}
@@ -20,15 +20,6 @@ use Rattle.records.specs.Records.{is_delete}
 use Rattle.records.specs.Moments.{moment, ticks_of, pico_of}
 
 -- ---- two formats of formats
-
--- the spellings of at most so many bytes; a longer one is this fault
-abbrev pub at_most : {E A : Type 0} → ℕ → E → Format E A → Format E A
-at_most n e f = record {
-  Spells = λ bytes v. f.Spells bytes v × (length bytes ≤ n);
-  read = λ bytes. f.read bytes >>= λ a. if nat_lt (n + length a.1) (length bytes) then Err e else Ok a;
-  canon = f.canon;
-  Fits = λ v. f.Fits v × (length (f.canon v) ≤ n);
-}
 
 -- the spelling that is written, and no other; another is this fault
 abbrev pub canonical : {E A : Type 0} → E → Format E A → Format E A
@@ -67,18 +58,13 @@ pico = passing (λ n. nat_le n 9999) BadField (raised binary_fault (unsigned w16
 unfoldable pub time : Format RecordFault ℤ
 time = standing_for (λ p. moment p.0 p.1) (λ t. (ticks_of t, pico_of t)) (ticks ▸ pico)
 
-abbrev pub asked_of_number : ℕ → HistoryUpdateType
-asked_of_number n = if n == 1 then Insert else if n == 2 then Replace else if n == 3 then Update else Delete
-
 abbrev pub asked : Format RecordFault HistoryUpdateType
-asked = standing_for asked_of_number update_number (passing (λ n. nat_le 1 n && nat_le n 4) BadField (raised binary_fault byte))
-
-abbrev pub is_user : Option (List ℕ) → Bool
-is_user given = elim given [ None ↦ false | Some name ↦ nat_le (length name) 256 ]
+asked = standing_for (λ n. if n == 1 then Insert else if n == 2 then Replace else if n == 3 then Update else Delete) update_number
+    (passing (λ n. nat_le 1 n && nat_le n 4) BadField (raised binary_fault byte))
 
 -- a text that isn't null, of at most 256 bytes
 abbrev pub user : Format RecordFault (List ℕ)
-user = standing_for (λ name. unwrap_or name []) Some (passing is_user BadField (raised binary_fault text))
+user = standing_for (λ name. unwrap_or name []) Some (passing (λ given. elim given [ None ↦ false | Some name ↦ nat_le (length name) 256 ]) BadField (raised binary_fault text))
 
 -- a delete has the empty value; a write has one without source time, which is the record's
 abbrev pub is_value_for : HistoryUpdateType → DataValue → Bool
@@ -98,9 +84,6 @@ update = node ▸ time ▸ asked ▸ user
 abbrev pub front : Format RecordFault Front
 front = version ▸ origin ▸ number ▸ tick ▸ update
 
-abbrev pub record_of : Front × DataValue → Record
-record_of p = record { origin = p.0.1.0; number = p.0.1.1.0; tick = p.0.1.1.1.0; node = p.0.1.1.1.1.0; time = p.0.1.1.1.1.1.0; asked = p.0.1.1.1.1.1.1.0; user = p.0.1.1.1.1.1.1.1; value = p.1 }
-
 -- a value with nothing in it, that of a delete
 abbrev pub empty : DataValue
 empty = record { value = None; status = None; source_time = None; source_pico = None; server_time = None; server_pico = None }
@@ -110,7 +93,9 @@ parts_of r = ((2, (r.origin, (r.number, (r.tick, (r.node, (r.time, (r.asked, r.u
 
 -- the fields one after the other, in any of their spellings
 unfoldable pub fields : Format RecordFault Record
-fields = passing (λ r. is_value_for r.asked r.value) BadField (standing_for record_of parts_of (front ▸ value))
+fields = passing (λ r. is_value_for r.asked r.value) BadField (standing_for
+    (λ p. record { origin = p.0.1.0; number = p.0.1.1.0; tick = p.0.1.1.1.0; node = p.0.1.1.1.1.0; time = p.0.1.1.1.1.1.0; asked = p.0.1.1.1.1.1.1.0; user = p.0.1.1.1.1.1.1.1; value = p.1 })
+    parts_of (front ▸ value))
 
 -- ---- the record
 
@@ -145,16 +130,13 @@ pub record HasLimits (r : Record) : Type 0 where
   pub picoseconds : IfSome r.value.source_pico IsPicoseconds × IfSome r.value.server_pico IsPicoseconds
   pub suits : is_value_for r.asked r.value ≡ true
 
-abbrev pub IsTick : ℤ → Type 0
-IsTick t = (pos 1 ≤ℤ t) × (t ≤ℤ pos greatest)
-
 -- what has a spelling
 abbrev pub IsRecord : Record → Type 0
-IsRecord r = IsLawfulRecord r × IsTick r.tick
+IsRecord r = IsLawfulRecord r × ((pos 1 ≤ℤ r.tick) × (r.tick ≤ℤ pos greatest))
 
 -- the fields as they are written, and at most so many bytes of them
 unfoldable pub record_form : Format RecordFault Record
-record_form = fitting IsRecord (canonical NotCanonical (at_most longest BadField fields))
+record_form = fitting IsRecord (canonical NotCanonical (passing (λ r. nat_le (length (fields.canon r)) longest) BadField fields))
 
 -- the record that all of the bytes spell: the fields are judged first, then that nothing follows, then the size, and that they are spelled as they are written comes last
 abbrev pub record_at : List ℕ → Result Record RecordFault

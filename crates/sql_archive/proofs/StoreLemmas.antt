@@ -30,7 +30,8 @@ use Rattle.records.specs.Records.{name_cmp}
 use Rattle.archive.specs.Store.{answer_to}
 use Rattle.sql_tables.specs.Learning.{is_added}
 use Rattle.sql_tables.proofs.LearnLemmas.{kept_by, adds_by}
-use Rattle.records.specs.Contents.{vec, top, number_from, learned, after_finding}
+use Rattle.records.specs.Contents.{vec, top, learned}
+use Rattle.records.proofs.ContentsParts.{number_from, after_finding}
 use Rattle.records.proofs.ChangeLemmas.{top_put}
 use Rattle.sql_tables.specs.Rows.{content_in, IsStored, IsStoreOf, meta_columns}
 use Rattle.sql_tables.specs.Derived.{AreKept}

@@ -46,7 +46,8 @@ use Rattle.std.specs.Int.{int_max}
 use Rattle.std.proofs.lemmas.List.{map-append}
 use Rattle.std.proofs.lemmas.Int.{clamps}
 use Rattle.sqlite_keyed.proofs.ListLemmas.{all-append}
-use Rattle.records.specs.Contents.{number_from, top}
+use Rattle.records.specs.Contents.{top}
+use Rattle.records.proofs.ContentsParts.{number_from}
 use Rattle.sql_opening.specs.Latest.{Remembers, Raises}
 use Rattle.sql_opening.specs.declared.checking.Mark.{Mark}
 use Rattle.sql_opening.specs.declared.checking.Walk.{Walk}

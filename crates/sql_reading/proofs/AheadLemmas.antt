@@ -10,7 +10,8 @@ use Rattle.std.proofs.lemmas.List.{take-append-drop, reverse-reverse}
 use Rattle.ua_binary.specs.declared.values.NodeId.{NodeId}
 use Rattle.sqlite_trees.specs.Tree.{Trees}
 use Rattle.records.specs.Lists.{Has, Rises, IsApart}
-use Rattle.records.specs.Same.{same_node, node_code}
+use Rattle.records.specs.Same.{same_node}
+use Rattle.records.proofs.SameParts.{node_code}
 use Rattle.records.specs.Records.{stamp_cmp, story}
 use Rattle.records.specs.Contents.{Content}
 use Rattle.records.specs.declared.record.Record.{Record}

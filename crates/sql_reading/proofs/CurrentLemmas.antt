@@ -28,7 +28,8 @@ use Rattle.sqlite_sql.specs.declared.ops.CompareOp.TheVariants.{Ne, Gt, Ge, Lt, 
 use Rattle.sqlite_trees.specs.Tree.{Trees}
 use Rattle.sqlite_keyed.proofs.ListLemmas.{any_from_none, filter-map, filter_all}
 use Rattle.records.specs.Lists.{Has, Rises, IsApart, IsPairwise, sort_by, last}
-use Rattle.records.specs.Same.{same_node, node_code}
+use Rattle.records.specs.Same.{same_node}
+use Rattle.records.proofs.SameParts.{node_code}
 use Rattle.records.specs.Records as told
 use Rattle.records.specs.Contents.{Content, cut, vec, IsLatest, HasOther}
 use Rattle.records.specs.Moments.{moment, ticks_of, pico_of, whole_again, pico_within}

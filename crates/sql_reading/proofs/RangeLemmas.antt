@@ -13,7 +13,7 @@ use Rattle.std.proofs.lemmas.List.Elements.{filter-append}
 use Rattle.std.proofs.lemmas.Grind.{flat_map-append}
 use Rattle.ua_binary.specs.declared.values.NodeId.{NodeId}
 use Rattle.records.specs.Lists.{Has}
-use Rattle.records.specs.Same.{node_code}
+use Rattle.records.proofs.SameParts.{node_code}
 use Rattle.records.specs.Contents.{Content, cut}
 use Rattle.records.specs.Records.{is_beyond, held, story, current, entries, entries_after}
 use Rattle.records.specs.Moments.{ticks_of, whole_again, pico_within}

@@ -28,7 +28,8 @@ use Rattle.sqlite_keyed.specs.Lists as keyed
 use Rattle.sqlite_keyed.proofs.SortLemmas.{IsPermutation-sort_by, sorted_unique}
 use Rattle.sqlite_keyed.proofs.ListLemmas.{filter-map, IsPermutation-flat_map, IsPermutation-filter, ascending-map, ascending_weaker}
 use Rattle.records.specs.Lists.{Has, IsPairwise, sort_by, insert_sorted}
-use Rattle.records.specs.Same.{same_node, node_code, same_record, record_code}
+use Rattle.records.specs.Same.{same_node, same_record}
+use Rattle.records.proofs.SameParts.{record_code, node_code}
 use Rattle.records.specs.Records as told
 use Rattle.records.specs.Contents.{Content}
 use Rattle.records.specs.Spelling.{fields, longest}

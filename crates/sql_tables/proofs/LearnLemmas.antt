@@ -11,7 +11,8 @@ use Rattle.sqlite.proofs.StateLemmas.{survives_weaker, survives_then}
 use Rattle.records.specs.Lists.{insert_sorted}
 use Rattle.records.specs.Same.{same_record}
 use Rattle.records.specs.Records.{name_cmp}
-use Rattle.records.specs.Contents.{Content, Finding, Adds, Holds, Clash, Gap, TickTooFar, TickNotRising, finding, after_finding, put, vec}
+use Rattle.records.specs.Contents.{Content, Finding, Adds, Holds, Clash, Gap, TickTooFar, TickNotRising, finding, put, vec}
+use Rattle.records.proofs.ContentsParts.{after_finding}
 use Rattle.records.specs.Spelling.{IsLawfulRecord, IsShortRecord}
 use Rattle.records.specs.declared.record.Record.{Record}
 use Rattle.records.proofs.Spelled.{record_short}

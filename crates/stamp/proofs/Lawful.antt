@@ -9,8 +9,10 @@ use Rattle.ua_binary.specs.Binary.{unsigned}
 use Rattle.ua_binary.proofs.Combined.{nothing_lawful, byte_lawful, then_lawful, headed_lawful, standing_lawful, passing_lawful, fitting_lawful, raised_lawful}
 use Rattle.ua_binary.proofs.Lawful.{u64_lawful}
 use Rattle.stamp.specs.Limits.{greatest}
-use Rattle.stamp.specs.Numbers.{IsVector, zeros, entries_from, entries, filled}
-use Rattle.stamp.specs.Vector.{entry_above, entries_above, entry_count, vector}
+use Rattle.stamp.specs.Numbers.{IsVector, zeros, entries, filled}
+use Rattle.stamp.proofs.NumbersParts.{entries_from}
+use Rattle.stamp.specs.Vector.{entry_above, entries_above, vector}
+use Rattle.stamp.proofs.VectorParts.{entry_count}
 
 entry_lawful : (last : ℕ) → IsLawful (entry_above last)
 entry_lawful last = then_lawful (passing_lawful _ _ (passing_lawful _ _ (raised_lawful _ byte_lawful))) (passing_lawful _ _ (raised_lawful _ u64_lawful))

@@ -4,3 +4,5 @@ pub mod Lawful
 pub mod Filling
 pub mod Putting
 pub mod Telling
+pub mod NumbersParts
+pub mod VectorParts

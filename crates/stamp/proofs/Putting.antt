@@ -5,7 +5,8 @@ use Rattle.std.proofs.lemmas.Bool.Decides.{nat_tests}
 use Rattle.std.proofs.lemmas.List.{append-nil, length-take-le, length_push, take_more}
 use Rattle.std.specs.Prelude.{nat_lt}
 use Rattle.std.specs.List.{flat_map}
-use Rattle.stamp.specs.Numbers.{entries_from, entries}
+use Rattle.stamp.specs.Numbers.{entries}
+use Rattle.stamp.proofs.NumbersParts.{entries_from}
 use Rattle.stamp.specs.Vector.{entry_above, entries_above, vector}
 
 -- the entry of one number

@@ -16,13 +16,9 @@ pub record IsVector (numbers : List ℕ) : Type 0 where
 unfoldable pub zeros : List ℕ
 zeros = replicate 64 0
 
--- the replicas with a number above 0, each with its number, where this is the first replica's
-abbrev pub entries_from : ℕ → List ℕ → List (ℕ × ℕ)
-entries_from first numbers = filter (λ e. nat_lt 0 e.1) (enumerate_from first numbers)
-
 -- the replicas with a number above 0, ascending, each with its number
 abbrev pub entries : List ℕ → List (ℕ × ℕ)
-entries numbers = entries_from 1 numbers
+entries numbers = filter (λ e. nat_lt 0 e.1) (enumerate_from 1 numbers)
 
 -- the numbers with these entries put in
 abbrev pub filled : List ℕ → List (ℕ × ℕ) → List ℕ

@@ -11,30 +11,20 @@ use Rattle.stamp.specs.Limits.{greatest}
 use Rattle.stamp.specs.Fault.{vector_fault}
 use Rattle.stamp.specs.Numbers.{number_of, IsVector, zeros, entries, filled}
 
--- a byte that names a replica, above the one before it
-abbrev pub replica_above : ℕ → Format VectorFault ℕ
-replica_above last = passing (λ r. nat_lt last r) NotAscending (passing (λ r. nat_le 1 r && nat_le r 64) BadNumber (raised vector_fault byte))
-
--- a number above 0
-abbrev pub number : Format VectorFault ℕ
-number = passing (λ n. nat_le 1 n && nat_le n greatest) BadNumber (raised vector_fault (unsigned w64))
-
--- a replica above this one, and its number
+-- a byte that names a replica, above this one, and its number, above 0
 abbrev pub entry_above : ℕ → Format VectorFault (ℕ × ℕ)
-entry_above last = replica_above last ▸ number
+entry_above last =
+    passing (λ r. nat_lt last r) NotAscending (passing (λ r. nat_le 1 r && nat_le r 64) BadNumber (raised vector_fault byte))
+    ▸ passing (λ n. nat_le 1 n && nat_le n greatest) BadNumber (raised vector_fault (unsigned w64))
 
 -- so many entries, each above the one before it, the first above this replica
 abbrev pub entries_above : ℕ → ℕ → Format VectorFault (List (ℕ × ℕ))
 entries_above last zero = nothing []
 entries_above last (suc n) = headed (λ es. unwrap_or (slice_get es 0) (0, 0)) (entry_above last) (λ e. standing_for (λ es. e ∷ es) (drop 1) (entries_above e.0 n))
 
--- how many entries there are: at most one for each replica
-abbrev pub entry_count : Format VectorFault ℕ
-entry_count = passing (λ n. nat_le n 64) BadNumber (raised vector_fault byte)
-
 -- the count, and as many entries
 abbrev pub entry_list : Format VectorFault (List (ℕ × ℕ))
-entry_list = headed length entry_count (entries_above 0)
+entry_list = headed length (passing (λ n. nat_le n 64) BadNumber (raised vector_fault byte)) (entries_above 0)
 
 -- a replica that isn't named has the number 0
 unfoldable pub vector : Format VectorFault (List ℕ)

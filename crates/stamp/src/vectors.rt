@@ -1,15 +1,17 @@
 //! Vectors: how many records of each replica are held.
 
-ghost use Rattle.std.specs.Prelude.{◌≡◌, ◌≢◌, Ok, ◌↔◌, ◌≤◌, ◌<◌, ◌+◌, ℕ, max, IsTrue, IfOk, length, nat_eq};
+ghost use Rattle.stamp.specs.declared.fault.VectorFault.TheVariants.{BadNumber};
+ghost use Rattle.stamp.specs.Fault.{vector_fault};
+ghost use Rattle.std.specs.Prelude.{◌≡◌, ◌≢◌, Ok, ◌↔◌, ◌≤◌, ◌<◌, ◌+◌, ℕ, max, IsTrue, IfOk, length, nat_eq, nat_le};
 ghost use Rattle.std.specs.Cmp.{partial_equiv_from_equiv};
 ghost use Rattle.std.specs.Cmp.Lexicographic.{pointwise, nat_list_eq_equiv};
 ghost use Rattle.std.specs.List.{flat_map};
 ghost use Rattle.ua_binary.specs.declared.fault.BinaryFault.{BinaryFault};
-ghost use Rattle.ua_binary.specs.Format.{Reads, Puts, PutsPart, standing_for};
+ghost use Rattle.ua_binary.specs.Format.{Reads, Puts, PutsPart, standing_for, byte, passing, raised};
 ghost use Rattle.stamp.specs.declared.fault.VectorFault.{VectorFault};
 ghost use Rattle.stamp.specs.Limits.{greatest};
 ghost use Rattle.stamp.specs.Numbers.{number_of, IsVector, zeros, entries, filled};
-ghost use Rattle.stamp.specs.Vector.{vector, entry_count, entry_above, entries_above};
+ghost use Rattle.stamp.specs.Vector.{vector, entry_above, entries_above};
 
 use crate::fault::VectorFault;
 use crate::stamps::ReplicaNo;
@@ -186,7 +188,7 @@ fn place_of(replica: ReplicaNo) -> usize
 
 /// How many entries a vector has.
 fn read_count(cursor: &mut Cursor) -> Result<u8, VectorFault>
-    ensures { Reads (λ x. x) result cursor.old cursor.new entry_count.read }
+    ensures { Reads (λ x. x) result cursor.old cursor.new (passing (λ n. nat_le n 64) BadNumber (raised vector_fault byte)).read }
 {
     let mut next = cursor.fork();
     let count = next.u8()?;

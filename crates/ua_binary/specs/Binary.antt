@@ -53,21 +53,14 @@ boolean = fitting (λ _. Unit {0}) (standing_for (λ b. not (b == 0)) (λ v. if 
 
 -- ---- bytes and texts (5.2.2.4, 5.2.2.7)
 
--- what follows a count: as many bytes; nothing after -1, which is null; below -1 it is no count
-abbrev pub counted : ℤ → Format BinaryFault (Option (List ℕ))
-counted v = elim v [ pos n ↦ flagged true (block n) | negsuc zero ↦ nothing None | negsuc (suc n) ↦ refused BadLength ]
-
--- the count that is written
-abbrev pub count_of : Option (List ℕ) → ℤ
-count_of given = elim given [ None ↦ negsuc 0 | Some bytes ↦ pos (length bytes) ]
-
 -- few enough to be counted
 abbrev pub IsCounted : Option (List ℕ) → Type 0
 IsCounted v = IfSome v (λ bytes. length bytes < 2 ^ 31)
 
--- a count of 32 bits, and then what it calls for
+-- a count of 32 bits, and as many bytes; -1 is null, and below -1 it is no count
 unfoldable pub byte_string : Format BinaryFault (Option (List ℕ))
-byte_string = fitting IsCounted (headed count_of (signed w32) counted)
+byte_string = fitting IsCounted (headed (λ given. elim given [ None ↦ negsuc 0 | Some bytes ↦ pos (length bytes) ]) (signed w32)
+    (λ count. elim count [ pos n ↦ flagged true (block n) | negsuc zero ↦ nothing None | negsuc (suc n) ↦ refused BadLength ]))
 
 -- the bytes, where there are any, are UTF-8
 abbrev pub is_text : Option (List ℕ) → Bool
@@ -110,9 +103,6 @@ numbers_of v = elim v [ Numeric ns id ↦ (ns, id) | _ ↦ (0, 0) ]
 abbrev pub named_parts : NodeId → ℕ × Option (List ℕ)
 named_parts id = elim id [ Named ns name ↦ (ns, Some name) | _ ↦ (0, None) ]
 
-abbrev pub global_parts : NodeId → ℕ × Guid
-global_parts v = elim v [ Global ns id ↦ (ns, id) | _ ↦ (0, guid_of (0, (0, (0, [])))) ]
-
 abbrev pub opaque_parts : NodeId → ℕ × Option (List ℕ)
 opaque_parts v = elim v [ Opaque ns id ↦ (ns, Some id) | _ ↦ (0, None) ]
 
@@ -130,7 +120,7 @@ numeric_node = standing_for (λ p. Numeric p.0 p.1) numbers_of (unsigned w16 ▸
 
 -- a UInt16 is the namespace, and a Guid the id
 abbrev pub global_node : Format BinaryFault NodeId
-global_node = standing_for (λ p. Global p.0 p.1) global_parts (unsigned w16 ▸ guid)
+global_node = standing_for (λ p. Global p.0 p.1) (λ v. elim v [ Global ns id ↦ (ns, id) | _ ↦ (0, guid_of (0, (0, (0, [])))) ]) (unsigned w16 ▸ guid)
 
 -- the form that the first byte tells; a String or ByteString behind a namespace is the id too, and a null one is empty
 abbrev pub node_form : ℕ → Format BinaryFault NodeId
@@ -162,23 +152,15 @@ node_id = fitting IsNodeId (headed node_form_of byte node_form)
 abbrev pub localized_of : LocalizedRef → LocalizedText
 localized_of r = record { locale = option_copied r.locale; text = option_copied r.text }
 
--- 1 for a locale and 2 for a text
-abbrev pub localized_mask : LocalizedText → ℕ
-localized_mask v = (if is_some v.locale then 1 else 0) + (if is_some v.text then 2 else 0)
-
--- those that the mask names, the locale first; a null one is absent; another bit has no meaning
-abbrev pub localized_fields : ℕ → Format BinaryFault LocalizedText
-localized_fields mask =
-    chosen (nat_lt 3 mask) (refused BadEncodingByte) (
-    standing_for (λ p. record { locale = option_flatten p.0; text = option_flatten p.1 }) (λ v. (option_map Some v.locale, option_map Some v.text))
-    (flagged (not (bit_and mask 1 == 0)) text ▸ flagged (not (bit_and mask 2 == 0)) text))
-
 abbrev pub IsLocalized : LocalizedText → Type 0
 IsLocalized v = IsText v.locale × IsText v.text
 
--- a mask, and what it names
+-- a mask, 1 for a locale and 2 for a text, and what it names, the locale first; a null one is absent; another bit has no meaning
 unfoldable pub localized : Format BinaryFault LocalizedText
-localized = fitting IsLocalized (headed localized_mask byte localized_fields)
+localized = fitting IsLocalized (headed (λ v. (if is_some v.locale then 1 else 0) + (if is_some v.text then 2 else 0)) byte (λ mask.
+    chosen (nat_lt 3 mask) (refused BadEncodingByte) (
+    standing_for (λ p. record { locale = option_flatten p.0; text = option_flatten p.1 }) (λ v. (option_map Some v.locale, option_map Some v.text))
+    (flagged (not (bit_and mask 1 == 0)) text ▸ flagged (not (bit_and mask 2 == 0)) text))))
 
 -- ---- qualified names (5.2.2.13)
 
@@ -205,24 +187,16 @@ body_of (held.Xml b) = Xml b.now
 abbrev pub extension_of : ExtensionRef → ExtensionObject
 extension_of r = record { type_id = node_of r.type_id; body = body_of r.body }
 
--- what the kind of a body calls for: a ByteString in the binary encoding, or the bytes of an XML text; a null one is empty
-abbrev pub body_form : ℕ → Format BinaryFault Body
-body_form kind =
-    chosen (kind == 0) (nothing Absent) (
-    chosen (kind == 1) (standing_for (λ b. Binary (unwrap_or b [])) (λ v. elim v [ Binary b ↦ Some b | _ ↦ None ]) byte_string) (
-    chosen (kind == 2) (standing_for (λ b. Xml (unwrap_or b [])) (λ v. elim v [ Xml b ↦ Some b | _ ↦ None ]) byte_string) (
-    refused BadEncodingByte)))
-
--- the kind that is written
-abbrev pub body_kind : Body → ℕ
-body_kind body = elim body [ Absent ↦ 0 | Binary b ↦ 1 | Xml b ↦ 2 ]
-
 abbrev pub IsBody : Body → Type 0
 IsBody body = elim body [ Absent ↦ Unit {0} | Binary b ↦ length b < 2 ^ 31 | Xml b ↦ length b < 2 ^ 31 ]
 
--- a kind, and the body that it calls for
+-- a kind, and the body that it calls for: none, a ByteString in the binary encoding, or the bytes of an XML text; a null one is empty
 abbrev pub body : Format BinaryFault Body
-body = fitting IsBody (headed body_kind byte body_form)
+body = fitting IsBody (headed (λ v. elim v [ Absent ↦ 0 | Binary b ↦ 1 | Xml b ↦ 2 ]) byte (λ kind.
+    chosen (kind == 0) (nothing Absent) (
+    chosen (kind == 1) (standing_for (λ b. Binary (unwrap_or b [])) (λ v. elim v [ Binary b ↦ Some b | _ ↦ None ]) byte_string) (
+    chosen (kind == 2) (standing_for (λ b. Xml (unwrap_or b [])) (λ v. elim v [ Xml b ↦ Some b | _ ↦ None ]) byte_string) (
+    refused BadEncodingByte)))))
 
 abbrev pub IsExtension : ExtensionObject → Type 0
 IsExtension v = IsNodeId v.type_id × IsBody v.body
@@ -241,13 +215,9 @@ counted_number v rest = elim v [ pos n ↦ if nat_lt (length rest) n then Err Sh
 unfoldable pub count_at : List ℕ → Reading BinaryFault ℕ
 count_at bytes = (signed w32).read bytes >>= λ n. counted_number n.0 n.1
 
--- as many items as a number tells; told says how a fault of the encoding is told
-abbrev pub counted_items : {E A : Type 0} → (BinaryFault → E) → Format E A → ℤ → Format E (List A)
-counted_items told f v = elim v [ pos n ↦ at_least n (told Short) (items n f) | negsuc zero ↦ nothing [] | negsuc (suc n) ↦ refused (told BadLength) ]
-
--- a number of 32 bits, and as many items
+-- a number of 32 bits, and as many items, none for -1; told says how a fault of the encoding is told
 unfoldable pub array : {E A : Type 0} → (BinaryFault → E) → Format E A → Format E (List A)
-array told f = headed (λ vs. pos (length vs)) (raised told (signed w32)) (counted_items told f)
+array told f = headed (λ vs. pos (length vs)) (raised told (signed w32)) (λ count. elim count [ pos n ↦ at_least n (told Short) (items n f) | negsuc zero ↦ nothing [] | negsuc (suc n) ↦ refused (told BadLength) ])
 
 -- ---- what a writer asks
 

@@ -8,7 +8,8 @@ use Rattle.ua_binary.specs.declared.values.NodeId.TheVariants.{Numeric}
 use Rattle.ua_binary.specs.declared.values.Body.TheVariants.{Absent}
 use Rattle.ua_binary.proofs.Combined.{exactly_lawful, then_lawful, standing_lawful, passing_lawful, fitting_lawful}
 use Rattle.ua_binary.proofs.Lawful.{u32_lawful, i32_lawful, text_lawful, byte_string_lawful, node_id_lawful, ticks_lawful, status_lawful, extension_lawful}
-use Rattle.ua_channel.specs.Headers.{security_header, sequence_header, message_header, request_header, response_header, open_request, open_response, IsNumbers, IsAsked, is_opening}
+use Rattle.ua_channel.specs.Headers.{security_header, sequence_header, message_header, request_header, response_header, open_request, open_response, IsNumbers, IsAsked}
+use Rattle.ua_channel.proofs.HeadersParts.{is_opening}
 
 pub security_lawful : IsLawful security_header
 unfolding security_header unsigned text byte_string

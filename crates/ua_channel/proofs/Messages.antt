@@ -18,7 +18,8 @@ use Rattle.ua_channel.specs.declared.taken.Taken.{Taken}
 use Rattle.ua_channel.specs.declared.taken.Taken.TheVariants as taken
 use Rattle.ua_channel.specs.Headers.{security_header, sequence_header, message_header}
 use Rattle.ua_binary.specs.Rules.{checked}
-use Rattle.ua_channel.specs.Placed.{Placed, Opens, Says, Closes, Heard, heard_of, judged, judged_by, decoded, asked_at, security_rules, sequence_rules, asked_rules, number_rules, size_rules, open_run, bodies_of}
+use Rattle.ua_channel.specs.Placed.{Placed, Opens, Says, Closes, Heard, heard_of, judged, decoded, asked_at, asked_rules, number_rules, size_rules, open_run, bodies_of}
+use Rattle.ua_channel.proofs.PlacedParts.{sequence_rules, security_rules, judged_by}
 use Rattle.ua_channel.specs.Taking.{State, fresh, answer_of, after, HasRoomFor, Takes, LeavesReady}
 use Rattle.ua_channel.specs.Sending.{number_after, IsNumber}
 use Rattle.ua_channel.specs.Run.{Event, Took, Starved, Wrote, Runs, written_of_run, AreMore, IsBetween, AreTaken}

@@ -5,7 +5,7 @@ use Rattle.ua_binary.specs.declared.values.Ticks.{Ticks}
 use Rattle.ua_binary.specs.Binary.{unsigned, signed, text, byte_string, ticks, status, node_id}
 use Rattle.ua_channel.specs.declared.taken.OpenRequest.{OpenRequest}
 use Rattle.ua_channel.specs.Headers.{policy_none, security_header, sequence_header, message_header, response_header, open_response}
-use Rattle.ua_channel.specs.Sending.{lifetime_of}
+use Rattle.ua_channel.proofs.SendingParts.{lifetime_of}
 
 pub message_size : (token number request : ℕ) (piece : List ℕ)
     → 8 + length (message_header.canon (record { channel_id = 1; token = token; number = number; request_id = request }) ++ piece) ≡ 24 + length piece

@@ -15,7 +15,8 @@ use Rattle.ua_channel.specs.declared.fault.ChannelFault.TheVariants.{ChannelId, 
 use Rattle.ua_channel.specs.declared.taken.Taken.{Taken}
 use Rattle.ua_channel.specs.Headers.{security_header, sequence_header, message_header, open_request}
 use Rattle.ua_binary.specs.Rules.{checked}
-use Rattle.ua_channel.specs.Placed.{Placed, Opens, Says, Closes, Heard, heard_of, judged, judged_by, decoded, asked_at, security_rules, sequence_rules, asked_rules, number_rules, size_rules, open_run}
+use Rattle.ua_channel.specs.Placed.{Placed, Opens, Says, Closes, Heard, heard_of, judged, decoded, asked_at, asked_rules, number_rules, size_rules, open_run}
+use Rattle.ua_channel.proofs.PlacedParts.{sequence_rules, security_rules, judged_by}
 use Rattle.ua_channel.specs.Taking.{State, fresh, Takes, Refuses, Accepts, answer_of, after}
 use Rattle.ua_channel.specs.Run.{Event, Took, Starved, Wrote, Runs, chunks_of_run, answers_of_run, all_refused, answers_to, taken_by, taken_of, AreTaken}
 

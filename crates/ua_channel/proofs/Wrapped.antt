@@ -10,7 +10,8 @@ use Rattle.uacp.specs.declared.types.Letter.TheVariants.{Final, More, Abort}
 use Rattle.uacp.specs.Split.{joined, AreFull, IsSplit}
 use Rattle.uacp.specs.Stream.{IsChunk, AreChunks}
 use Rattle.ua_channel.specs.Headers.{chunk_of}
-use Rattle.ua_channel.specs.Sending.{number_after, letter_before, message_chunk, chunks_of, sent_body, sent_of, AreShort}
+use Rattle.ua_channel.specs.Sending.{number_after, message_chunk, chunks_of, sent_body, sent_of, AreShort}
+use Rattle.ua_channel.proofs.SendingParts.{letter_before}
 use Rattle.ua_channel.proofs.Sizes.{message_size}
 
 -- ---- whole chunks

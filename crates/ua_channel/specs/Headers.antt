@@ -1,6 +1,6 @@
 -- The headers of a channel's chunks (Part 6, 6.7.2), those of requests and responses (Part 4, 7.33 and 7.34), and the opening of a
 -- channel (Part 4, 5.6.2).
-use Rattle.std.specs.Prelude.{◌+◌, ℕ, pos, List, [], ◌∷◌, ◌++◌, length, codes, Option, None, Bool, false, ◌&&◌, ◌==◌, ◌<◌, ◌^◌}
+use Rattle.std.specs.Prelude.{◌+◌, ℕ, pos, List, [], ◌∷◌, ◌++◌, length, codes, Option, None, false, ◌&&◌, ◌==◌, ◌<◌, ◌^◌}
 use Rattle.std.specs.Option.{option_copied}
 use Rattle.std.specs.Int.{w32}
 use Rattle.std.specs.Int.RustNames.{FitsSigned}
@@ -69,10 +69,6 @@ response_header = standing_for (λ fields. (fields.0, (fields.1.0, fields.1.1.0)
 
 -- ---- the opening of a channel
 
--- the type id of an OpenSecureChannel request
-abbrev pub is_opening : NodeId → Bool
-is_opening v = elim v [ Numeric namespace id ↦ namespace == 0 && id == 446 | _ ↦ false ]
-
 abbrev pub IsAsked : Asked → Type 0
 IsAsked v = (v.handle < 2 ^ 32) × FitsSigned w32 v.request_type × FitsSigned w32 v.mode × (v.lifetime < 2 ^ 32)
 
@@ -82,7 +78,7 @@ unfoldable pub open_request : Format BinaryFault Asked
 open_request = fitting IsAsked (standing_for
     (λ fields. record { handle = fields.1.0.1.1.0; request_type = fields.1.1.1.0; mode = fields.1.1.1.1.0; lifetime = fields.1.1.1.1.1.1 })
     (λ v. (Numeric 0 446, ((Numeric 0 0, (record { 0 = pos 0 }, (v.handle, (0, (None, (0, record { type_id = Numeric 0 0; body = Absent })))))), (0, (v.request_type, (v.mode, (None, v.lifetime)))))))
-    (passing is_opening BadEncodingByte node_id ▸ request_header ▸ unsigned w32 ▸ signed w32 ▸ signed w32 ▸ byte_string ▸ unsigned w32))
+    (passing (λ v. elim v [ Numeric namespace id ↦ namespace == 0 && id == 446 | _ ↦ false ]) BadEncodingByte node_id ▸ request_header ▸ unsigned w32 ▸ signed w32 ▸ signed w32 ▸ byte_string ▸ unsigned w32))
 
 -- its answer, told by response header, token id, the moment of its making, lifetime: type id 449, response header, version 0, channel id 1, token id, the moment of its making, lifetime, a null nonce
 unfoldable pub open_response : Format BinaryFault ((Ticks × (ℕ × Status)) × (ℕ × (Ticks × ℕ)))

@@ -5,7 +5,6 @@ use Rattle.std.specs.Ordering.{int_eq}
 use Rattle.ua_binary.specs.declared.fault.BinaryFault.{BinaryFault}
 use Rattle.ua_binary.specs.Format.{◌>>=◌, Reading, with_fault, raised, whole}
 use Rattle.ua_binary.specs.Rules.{checked}
-use Rattle.uacp.specs.declared.types.Kind.{Kind}
 use Rattle.uacp.specs.declared.types.Kind.TheVariants.{Hello, Open, Close, Message}
 use Rattle.uacp.specs.declared.types.Letter.{Letter}
 use Rattle.uacp.specs.declared.types.Letter.TheVariants.{Final, More, Abort}
@@ -122,42 +121,19 @@ heard_of past = record {
 abbrev pub follows : Option ℕ → ℕ → Bool
 follows given number = elim given [ None ↦ true | Some last ↦ (number == last + 1) || (nat_lt 4294966271 last && nat_lt number 1024) ]
 
--- the tokens of k openings are 1 to k; the newest is k, and it or the one before it is right
-abbrev pub is_token : ℕ → ℕ → Bool
-is_token openings token = not (token == 0) && ((token == openings) || (token + 1 == openings))
-
--- no message is open, or it has this request id
-abbrev pub is_of_open : Heard → ℕ → Bool
-is_of_open heard request = (heard.chunks == 0) || (heard.request == request)
-
 -- of a MSG or CLO chunk
 abbrev pub number_rules : Heard → Numbers → List (Bool × ChannelFault)
 number_rules heard numbers =
-    (not (heard.openings == 0), ChannelId) ∷ (numbers.channel_id == 1, ChannelId) ∷ (is_token heard.openings numbers.token, Token)
-    ∷ (follows heard.last numbers.number, Sequence) ∷ (is_of_open heard numbers.request_id, Sequence) ∷ []
+    (not (heard.openings == 0), ChannelId) ∷ (numbers.channel_id == 1, ChannelId) ∷ (not (numbers.token == 0) && ((numbers.token == heard.openings) || (numbers.token + 1 == heard.openings)), Token)
+    ∷ (follows heard.last numbers.number, Sequence) ∷ ((heard.chunks == 0) || (heard.request == numbers.request_id), Sequence) ∷ []
 
 -- of a MSG chunk besides: at most 64 chunks and 4,194,304 bytes a message; what gives a message up counts toward neither
 abbrev pub size_rules : Heard → Letter → List ℕ → List (Bool × ChannelFault)
 size_rules heard letter body = elim letter [ Abort ↦ [] | _ ↦ (nat_lt heard.chunks 64, TooManyChunks) ∷ (nat_le (length heard.bytes + length body) 4194304, TooLarge) ∷ [] ]
 
-abbrev pub is_policy : Option (List ℕ) → Bool
-is_policy given = elim given [ None ↦ false | Some uri ↦ bytes_eq uri policy_none ]
-
--- of an OPN chunk, by its security header
-abbrev pub security_rules : Heard → ℕ × Option (List ℕ) → List (Bool × ChannelFault)
-security_rules heard header = (is_policy header.1, Policy) ∷ ((heard.openings == 0) || (header.0 == 1), ChannelId) ∷ []
-
--- by its sequence header
-abbrev pub sequence_rules : Heard → ℕ × ℕ → List (Bool × ChannelFault)
-sequence_rules heard header = (follows heard.last header.0, Sequence) ∷ (heard.chunks == 0, Sequence) ∷ []
-
--- the first one issues (0), later ones renew (1)
-abbrev pub is_due : ℕ → Asked → Bool
-is_due openings asked = if openings == 0 then int_eq asked.request_type (pos 0) else int_eq asked.request_type (pos 1)
-
 -- by what it asks: mode 1 is None, and token ids have 32 bits
 abbrev pub asked_rules : Heard → Asked → List (Bool × ChannelFault)
-asked_rules heard asked = (is_due heard.openings asked, RequestType) ∷ (int_eq asked.mode (pos 1), Mode) ∷ (nat_lt heard.openings 4294967295, Token) ∷ []
+asked_rules heard asked = (if heard.openings == 0 then int_eq asked.request_type (pos 0) else int_eq asked.request_type (pos 1), RequestType) ∷ (int_eq asked.mode (pos 1), Mode) ∷ (nat_lt heard.openings 4294967295, Token) ∷ []
 
 -- a fault of the encoding is Decoding
 abbrev pub decoded : {A : Type 0} → Reading BinaryFault A → Reading ChannelFault A
@@ -171,9 +147,9 @@ asked_at bytes = whole Decoding (raised (λ _. Decoding) open_request) bytes
 abbrev pub opening_judged : Heard → List ℕ → Result Placed ChannelFault
 opening_judged heard body =
     decoded (security_header.read body) >>= λ security.
-    checked (security_rules heard security.0) >>= λ _.
+    checked ((elim security.0.1 [ None ↦ false | Some uri ↦ bytes_eq uri policy_none ], Policy) ∷ ((heard.openings == 0) || (security.0.0 == 1), ChannelId) ∷ []) >>= λ _.
     decoded (sequence_header.read security.1) >>= λ sequence.
-    checked (sequence_rules heard sequence.0) >>= λ _.
+    checked ((follows heard.last sequence.0.0, Sequence) ∷ (heard.chunks == 0, Sequence) ∷ []) >>= λ _.
     asked_at sequence.1 >>= λ asked.
     checked (asked_rules heard asked) >>= λ _.
     Ok (Opens sequence.0 asked)
@@ -188,10 +164,6 @@ message_judged heard letter body =
 abbrev pub closing_judged : Heard → List ℕ → Result Placed ChannelFault
 closing_judged heard body = decoded (message_header.read body) >>= λ header. checked (number_rules heard header.0) >>= λ _. Ok (Closes header.0)
 
--- a chunk of a channel that hasn't ended; a Hello is no chunk of one
-abbrev pub judged_by : Heard → Kind → Letter → List ℕ → Result Placed ChannelFault
-judged_by heard kind letter body = elim kind [ Hello ↦ Err Decoding | Open ↦ opening_judged heard body | Close ↦ closing_judged heard body | Message ↦ message_judged heard letter body ]
-
 -- the chunk as it is read, where it is well placed, or else its first fault
 abbrev pub judged : Heard → Piece → Result Placed ChannelFault
-judged heard chunk = if heard.ended then Err ChannelId else judged_by heard chunk.kind chunk.letter chunk.body
+judged heard chunk = if heard.ended then Err ChannelId else elim chunk.kind [ Hello ↦ Err Decoding | Open ↦ opening_judged heard chunk.body | Close ↦ closing_judged heard chunk.body | Message ↦ message_judged heard chunk.letter chunk.body ]

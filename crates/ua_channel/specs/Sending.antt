@@ -25,15 +25,11 @@ number_after number k = (number - 1 + k) % 4294966272 + 1
 
 -- ---- the answer to an opening
 
--- the lifetime that was asked for; 0 gets an hour, in milliseconds
-abbrev pub lifetime_of : ℕ → ℕ
-lifetime_of asked = if asked == 0 then 3600000 else asked
-
 -- an OPN chunk with this sequence number that answers at this moment
 unfoldable pub opened_chunk : ℕ → OpenRequest → Ticks → List ℕ
 opened_chunk number request now =
     chunk_of Open Final (security_header.canon (1, Some policy_none) ++ sequence_header.canon (number, request.request_id)
-    ++ open_response.canon ((now, (request.handle, record { 0 = 0 })), (request.token, (now, lifetime_of request.lifetime))))
+    ++ open_response.canon ((now, (request.handle, record { 0 = 0 })), (request.token, (now, if request.lifetime == 0 then 3600000 else request.lifetime))))
 
 -- ---- messages
 
@@ -47,14 +43,10 @@ unfoldable pub message_chunk : Letter → ℕ → ℕ → ℕ → List ℕ → L
 message_chunk letter token number request piece =
     chunk_of Message letter (message_header.canon (record { channel_id = 1; token = token; number = number; request_id = request }) ++ piece)
 
--- the last piece's chunk is final
-abbrev pub letter_before : List (List ℕ) → Letter
-letter_before list = elim list [ [] ↦ Final | piece ∷ pieces ↦ More ]
-
 -- a chunk for each piece, their numbers running on from this one
 abbrev pub chunks_of : ℕ → ℕ → ℕ → List (List ℕ) → List ℕ
 chunks_of token request number [] = []
-chunks_of token request number (piece ∷ pieces) = message_chunk (letter_before pieces) token number request piece ++ chunks_of token request (number_after number 1) pieces
+chunks_of token request number (piece ∷ pieces) = message_chunk (elim pieces [ [] ↦ Final | piece ∷ pieces ↦ More ]) token number request piece ++ chunks_of token request (number_after number 1) pieces
 
 -- what follows the header of such a chunk, and the chunks as the client cuts them off the stream
 abbrev pub sent_body : ℕ → ℕ → ℕ → List ℕ → List ℕ
@@ -62,7 +54,7 @@ sent_body token request number piece = message_header.canon (record { channel_id
 
 abbrev pub sent_of : ℕ → ℕ → ℕ → List (List ℕ) → List Piece
 sent_of token request number [] = []
-sent_of token request number (piece ∷ pieces) = record { kind = Message; letter = letter_before pieces; body = sent_body token request number piece } ∷ sent_of token request (number_after number 1) pieces
+sent_of token request number (piece ∷ pieces) = record { kind = Message; letter = (elim pieces [ [] ↦ Final | piece ∷ pieces ↦ More ]); body = sent_body token request number piece } ∷ sent_of token request (number_after number 1) pieces
 
 -- the bytes of so many chunks were appended and their numbers are used; or memory was wanting, and all is as it was
 abbrev pub Writes : {T : Type 0} → State → List ℕ → ℕ → Result T ChannelFault → List ℕ → List ℕ → State → Type 0
@@ -90,11 +82,7 @@ abbrev pub PutsChunks : ℕ → ℕ → ℕ → List (List ℕ) → Result ℕ B
 PutsChunks token request number pieces (Ok next) before now = (now ≡ before ++ chunks_of token request number pieces) × (next ≡ number_after number (length pieces)) × IsNumber next
 PutsChunks token request number pieces (Err fault) before now = (fault ≡ binary.OutOfMemory) × (take (length before) now ≡ before)
 
--- within a limit, of which 0 is none
-abbrev pub is_within : ℕ → ℕ → Bool
-is_within limit n = limit == 0 || nat_le n limit
-
 -- a message of n bytes is at most 16,777,216 bytes long, and within what the client takes: its bytes, and its chunks, each with as many bytes of
 -- the message as there is room for
 abbrev pub is_fitting : State → ℕ → Bool
-is_fitting state n = nat_le n 16777216 && (is_within state.max_message n && (state.max_chunks == 0 || nat_le n (state.max_chunks * (state.limit - 24))))
+is_fitting state n = nat_le n 16777216 && ((state.max_message == 0 || nat_le n state.max_message) && (state.max_chunks == 0 || nat_le n (state.max_chunks * (state.limit - 24))))

@@ -62,13 +62,15 @@ pub record State : Type 0 where
   pub max_message : ℕ
   pub max_chunks : ℕ
 
--- nothing was heard yet
-abbrev pub unheard : Heard
-unheard = record { ended = false; openings = 0; last = None; token = 1; chunks = 0; request = 0; bytes = [] }
-
 -- a new channel; a chunk that is written has a byte of its message at least
 abbrev pub fresh : Hello → Ack → State
-fresh hello ack = record { heard = unheard; next = 1; limit = max 25 ack.send_size; max_message = hello.max_message; max_chunks = hello.max_chunks }
+fresh hello ack = record {
+  next = 1;
+  limit = max 25 ack.send_size;
+  max_message = hello.max_message;
+  max_chunks = hello.max_chunks;
+  heard = record { ended = false; openings = 0; last = None; token = 1; chunks = 0; request = 0; bytes = [] };
+}
 
 -- the chunk isn't taken: its fault ends the channel; or memory for a well placed one was wanting, and all is as it was
 abbrev pub Refuses : State → Piece → ChannelFault → State → Type 0

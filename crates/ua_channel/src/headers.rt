@@ -1,11 +1,12 @@
 //! The headers of chunks (Part 6, 6.7.2), of requests and responses (Part 4, 7.33 and 7.34), and
 //! what opens a channel (Part 4, 5.6.2).
 
-ghost use Rattle.std.specs.Prelude.{◌≡◌, ◌<◌, ◌^◌, Some, length};
+ghost use Rattle.ua_binary.specs.declared.values.NodeId.TheVariants.{Numeric};
+ghost use Rattle.std.specs.Prelude.{◌≡◌, ◌<◌, ◌^◌, Some, length, false, ◌==◌, ◌&&◌};
 ghost use Rattle.std.specs.Option.{option_copied};
 ghost use Rattle.ua_binary.specs.Format.{Reads, Puts, PutsPart};
 ghost use Rattle.ua_binary.specs.Binary.{node_of};
-ghost use Rattle.ua_channel.specs.Headers.{security_header, sequence_header, message_header, request_header, request_fields, response_header, open_request, open_response, is_opening, policy_none};
+ghost use Rattle.ua_channel.specs.Headers.{security_header, sequence_header, message_header, request_header, request_fields, response_header, open_request, open_response, policy_none};
 
 use ua_binary::{
     BinaryFault, Cursor, ExtensionRef, NodeId, NodeIdRef, Status, Ticks, put_block, put_bytes,
@@ -139,7 +140,7 @@ pub fn read_request_header<'a>(cursor: &mut Cursor<'a>) -> Result<RequestHeader<
 }
 
 fn is_opening_id(id: &NodeIdRef<'_>) -> bool
-    ensures { result ≡ is_opening (node_of id.now) }
+    ensures { result ≡ (elim (node_of id.now) [ Numeric namespace id ↦ namespace == 0 && id == 446 | _ ↦ false ]) }
 {
     match id {
         NodeIdRef::Numeric(namespace, id) => *namespace == 0 && *id == 446,

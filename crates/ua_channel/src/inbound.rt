@@ -1,6 +1,10 @@
 //! What is known of the chunks that were taken.
 
-ghost use Rattle.std.specs.Prelude.{◌≡◌, ◌≤◌, OnOk, IfOk};
+ghost use Rattle.ua_channel.specs.Placed.{follows};
+ghost use Rattle.ua_channel.specs.declared.fault.ChannelFault.TheVariants.{ChannelId, Policy, Sequence};
+ghost use Rattle.std.specs.Str.{bytes_eq};
+ghost use Rattle.ua_channel.specs.Headers.{policy_none};
+ghost use Rattle.std.specs.Prelude.{◌≡◌, ◌≤◌, OnOk, IfOk, None, false, ◌==◌, ◌||◌, ◌∷◌};
 
 use crate::fault::ChannelFault;
 use crate::headers::{
@@ -50,7 +54,7 @@ impl Inbound {
     ghost use Rattle.std.specs.Option.{option_copied};
     ghost use Rattle.std.specs.Prelude.{true, max, Some, IfOk, OnOk, ◌<◌, []};
     ghost use Rattle.ua_binary.specs.Rules.{checked};
-    ghost use Rattle.ua_channel.specs.Placed.{Says, heard_of, number_rules, size_rules, security_rules, sequence_rules, asked_rules, opening_judged, message_judged, closing_judged, judged};
+    ghost use Rattle.ua_channel.specs.Placed.{Says, heard_of, number_rules, size_rules, asked_rules, opening_judged, message_judged, closing_judged, judged};
     ghost use Rattle.ua_channel.specs.Taking.{piece_of, placed_of, with_none_open, IsJudged, HasRoom, HasRoomFor, Accepts};
 
     pub(crate) fn new(alloc: Global) -> Self
@@ -122,7 +126,7 @@ impl Inbound {
     }
 
     fn check_security(&self, header: (u32, Option<&str>)) -> Result<(), ChannelFault>
-        ensures { result ≡ checked (security_rules self.now (header.entry.0, option_copied header.entry.1)) }
+        ensures { result ≡ checked ((elim (option_copied header.entry.1) [ None ↦ false | Some uri ↦ bytes_eq uri policy_none ], Policy) ∷ ((self.now.openings == 0) || (header.entry.0 == 1), ChannelId) ∷ []) }
     {
         if !is_policy_none(header.1) {
             return Err(ChannelFault::Policy);
@@ -134,7 +138,7 @@ impl Inbound {
     }
 
     fn check_sequence(&self, header: (u32, u32)) -> Result<(), ChannelFault>
-        ensures { result ≡ checked (sequence_rules self.now header) }
+        ensures { result ≡ checked ((follows self.now.last header.0, Sequence) ∷ (self.now.chunks == 0, Sequence) ∷ []) }
     {
         if !is_next(self.last, header.0) {
             return Err(ChannelFault::Sequence);

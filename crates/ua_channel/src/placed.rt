@@ -1,8 +1,11 @@
 //! Which chunks are well placed (Part 6, 6.7.2).
 
+ghost use Rattle.std.specs.Ordering.{int_eq};
+ghost use Rattle.std.specs.Str.{bytes_eq};
+ghost use Rattle.ua_channel.specs.Headers.{policy_none};
 ghost use Rattle.std.specs.Option.{option_copied};
-ghost use Rattle.std.specs.Prelude.{◌≡◌};
-ghost use Rattle.ua_channel.specs.Placed.{follows, is_token, is_policy, is_due, asked_at};
+ghost use Rattle.std.specs.Prelude.{◌≡◌, None, Some, false, not, pos, ◌==◌, ◌&&◌, ◌||◌, if◌then◌else◌, ◌+◌};
+ghost use Rattle.ua_channel.specs.Placed.{follows, asked_at};
 
 use crate::fault::ChannelFault;
 use crate::headers::{Asked, Numbers, policy_uri, read_open_request};
@@ -34,14 +37,14 @@ pub(crate) fn is_next(last: Option<u32>, number: u32) -> bool
 
 /// Whether a token is the newest one or the one before it.
 pub(crate) fn is_known(openings: u32, token: u32) -> bool
-    ensures { result ≡ is_token openings token }
+    ensures { result ≡ (not (token == 0) && ((token == openings) || (token + 1 == openings))) }
 {
     token != 0 && (token == openings || token.checked_add(1) == Some(openings))
 }
 
 /// Whether the policy is None.
 pub(crate) fn is_policy_none(policy: Option<&str>) -> bool
-    ensures { result ≡ is_policy (option_copied policy.entry) }
+    ensures { result ≡ (elim (option_copied policy.entry) [ None ↦ false | Some uri ↦ bytes_eq uri policy_none ]) }
 {
     match policy {
         None => false,
@@ -51,7 +54,7 @@ pub(crate) fn is_policy_none(policy: Option<&str>) -> bool
 
 /// Whether the request type is the one that is due: Issue once, and Renew from then on.
 pub(crate) fn is_due_type(openings: u32, asked: &Asked) -> bool
-    ensures { result ≡ is_due openings asked.now }
+    ensures { result ≡ (if openings == 0 then int_eq asked.now.request_type (pos 0) else int_eq asked.now.request_type (pos 1)) }
 {
     if openings == 0 {
         asked.request_type == 0

@@ -1,9 +1,9 @@
 //! Chunks that are written.
 
-ghost use Rattle.std.specs.Prelude.{◌≡◌, ◌≤◌, ◌∷◌, [], length};
+ghost use Rattle.uacp.specs.declared.types.Letter.TheVariants.{Final, More, Abort};
+ghost use Rattle.std.specs.Prelude.{◌≡◌, ◌≤◌, ◌∷◌, [], length, ◌==◌, if◌then◌else◌, codes};
 ghost use Rattle.ua_binary.specs.Format.{PutsPart};
-ghost use Rattle.uacp.specs.Chunks.{mark_of};
-ghost use Rattle.ua_channel.specs.Sending.{number_after, lifetime_of, opened_chunk, message_head, message_chunk, letter_before, AreShort, IsNumber, PutsChunks};
+ghost use Rattle.ua_channel.specs.Sending.{number_after, opened_chunk, message_head, message_chunk, AreShort, IsNumber, PutsChunks};
 
 use crate::headers::{Opened, put_open_response_parts, put_security_header_parts};
 use crate::taken::OpenRequest;
@@ -25,7 +25,7 @@ pub(crate) fn following(number: u32) -> u32
 
 /// The lifetime that is granted, in milliseconds.
 fn granted_lifetime(asked: u32) -> u32
-    ensures { result ≡ lifetime_of asked }
+    ensures { result ≡ (if asked == 0 then 3600000 else asked) }
 {
     if asked == 0 { 3_600_000 } else { asked }
 }
@@ -56,7 +56,7 @@ pub(crate) fn put_opened_parts(
 }
 
 fn letter_of(pieces: &Pieces<'_>) -> Letter
-    ensures { result ≡ letter_before pieces.now }
+    ensures { result ≡ (elim pieces.now [ [] ↦ Final | piece ∷ pieces ↦ More ]) }
 {
     if pieces.is_empty() {
         Letter::Final
@@ -67,7 +67,7 @@ fn letter_of(pieces: &Pieces<'_>) -> Letter
 
 /// The letter that a chunk has behind MSG.
 fn mark_of(letter: Letter) -> u8
-    ensures { result ∷ [] ≡ mark_of letter }
+    ensures { result ∷ [] ≡ (elim letter [ Final ↦ codes "F" | More ↦ codes "C" | Abort ↦ codes "A" ]) }
 {
     match letter {
         Letter::Final => b'F',

@@ -24,7 +24,8 @@ use Rattle.historian.specs.Services.{Site, Outcome, answered as performed}
 use Rattle.counted_io.specs.declared.fault.ServeFault.TheVariants.{TooLong}
 use Rattle.ua_connection.specs.Given.{Outside, Given, give, and_then, by_marks, made, clock}
 use Rattle.ua_connection.specs.Run.{Reply, answered, stepped}
-use Rattle.ua_connection.specs.Client.{Standing, Item, whole, ill, partial, Ending, Answering, ends, goes, refuse, acknowledged, greeted, opened, told, responded, answered_come, answered_placed, answered_on, answered_piece, answered_item, answer, chunks, next}
+use Rattle.ua_connection.specs.Client.{Standing, Item, whole, ill, partial, Ending, Answering, ends, goes, refuse, acknowledged, greeted, opened, told, responded, answered_come, answered_piece, answered_item, answer, chunks, next}
+use Rattle.ua_connection.specs.Client.{answered_placed, answered_on}
 use Rattle.ua_connection.proofs.Runs.{answered-step}
 use Rattle.ua_connection.proofs.Cutting.{falls}
 

@@ -15,7 +15,8 @@ use Rattle.ua_connection.specs.declared.hexed.HexFault.TheVariants as hexed
 use Rattle.ua_connection.specs.Given.{Outside}
 use Rattle.ua_connection.specs.Client.{Ending}
 use Rattle.ua_connection.specs.Hexed.{AnswersText, AnswersHex, IsUntouched, digits_of}
-use Rattle.ua_connection.specs.Single.{WasText, AnswersDigits, IsAnswered, IsUnmade, IsBadText}
+use Rattle.ua_connection.specs.Single.{WasText, AnswersDigits, IsAnswered, IsUnmade}
+use Rattle.ua_connection.proofs.SingleParts.{IsBadText}
 use Rattle.ua_connection.proofs.Outsides.{nothing}
 
 -- ---- why no digits were made

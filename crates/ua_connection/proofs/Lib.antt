@@ -7,3 +7,6 @@ pub mod Flow
 pub mod Whole
 pub mod Hexing
 pub mod Counting
+pub mod SingleParts
+pub mod RunParts
+pub mod ServingParts

@@ -3,7 +3,8 @@ use Rattle.std.proofs.Common.{◌≡◌, ℕ, zero, suc, ◌+◌, ◌<◌, ◌�
 use Rattle.std.specs.Prelude.{Option}
 use Rattle.std.proofs.lemmas.List.{length-drop, length-append, drop-append-le}
 use Rattle.ua_connection.specs.Given.{Outside, before, Does}
-use Rattle.ua_connection.specs.Run.{Reply, Answer, Protocol, joined_by, joined, stepped, run, answered, Answers}
+use Rattle.ua_connection.specs.Run.{Reply, Answer, Protocol, joined, stepped, run, answered, Answers}
+use Rattle.ua_connection.proofs.RunParts.{joined_by}
 use Rattle.ua_connection.proofs.Outsides.{before-before, nothing}
 
 -- an item has a byte at least, and its bytes are all there

@@ -36,7 +36,8 @@ use Rattle.ua_connection.specs.declared.turn.Turn.{Turn}
 use Rattle.ua_connection.specs.declared.turn.Turn.TheVariants.{Waits, Greets, Goes, Ends}
 use Rattle.ua_connection.specs.Given.{Outside, before, give, and_then, by_marks, made, clock, Does}
 use Rattle.ua_connection.specs.Run.{Reply}
-use Rattle.ua_connection.specs.Client.{Client, Standing, Ending, Answering, ends, goes, refuse, acknowledged, greeted, opened, fitted, told, responded, answered_come, answered_placed, answered_on, answered_piece}
+use Rattle.ua_connection.specs.Client.{Client, Standing, Ending, Answering, ends, goes, refuse, acknowledged, greeted, opened, fitted, told, responded, answered_come, answered_piece}
+use Rattle.ua_connection.specs.Client.{answered_placed, answered_on}
 use Rattle.ua_connection.specs.Turns.{tried_on, tried, Replies, Answered, AnsweredHere, RefusesTurn, SendsTurn, ending_of, went, behind, standing_of}
 use Rattle.ua_connection.proofs.Outsides.{marked, read, nothing, does-then, does-marked, does-clock, does-made, does-starved}
 

@@ -114,12 +114,10 @@ answered_come site standing state (taken.Message request message) = and_then clo
 answered_come site standing state (taken.Aborted request) = give (goes standing [] (Some state))
 answered_come site standing state taken.Closed = give (ends standing [] (Ok Closed))
 
--- a chunk of the channel is answered by its place
+-- by its place among the chunks before it: a well placed one is answered, and another one refused
 abbrev pub answered_placed : Site → Standing → State → Result Placed ChannelFault → Answering
-answered_placed site standing state (Ok placed) = answered_come site standing (record state { heard = after state.heard placed }) (answer_of state.heard placed)
-answered_placed site standing state (Err fault) = refuse standing (channel.code_of fault)
+answered_placed site standing state given = elim given [ Ok placed ↦ answered_come site standing (record state { heard = after state.heard placed }) (answer_of state.heard placed) | Err fault ↦ refuse standing (channel.code_of fault) ]
 
--- there is a channel from the Acknowledge on, and nothing but a Hello comes before it
 abbrev pub answered_on : Site → Standing → Option State → Piece → Answering
 answered_on site standing given piece = elim given [ None ↦ refuse standing BAD_TCP_MESSAGE_TYPE_INVALID | Some state ↦ answered_placed site standing state (judged state.heard piece) ]
 

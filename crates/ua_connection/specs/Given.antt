@@ -32,12 +32,9 @@ by_marks marked outside = let a = marked outside.marks in (a.0, record outside {
 abbrev pub made : {A : Type 0} → Given A → Given A → Given A
 made went starved = and_then (by_marks (step (λ mark. elim mark [ Starved ↦ true | _ ↦ false ]))) (λ starves. if starves then starved else went)
 
--- the next reading; where none is left it is 0
-abbrev pub next_reading : List ℤ → (Ticks × List ℤ)
-next_reading list = elim list [ [] ↦ (record { 0 = pos 0 }, []) | now ∷ readings ↦ (record { 0 = now }, readings) ]
-
 abbrev pub clock : Given Ticks
-clock outside = let r = next_reading outside.readings in (r.0, record outside { readings = r.1 })
+clock outside =
+    let r : Ticks × List ℤ = elim outside.readings [ [] ↦ (record { 0 = pos 0 }, []) | now ∷ readings ↦ (record { 0 = now }, readings) ] in (r.0, record outside { readings = r.1 })
 
 -- by this, and no more, of the outside the value is a
 pub record Does {A : Type 0} (given : Given A) (used : Outside) (a : A) : Type 0 where

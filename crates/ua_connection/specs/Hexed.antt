@@ -1,5 +1,5 @@
 -- A connection in hex digits.
-use Rattle.std.specs.Prelude.{◌≡◌, ◌⊎◌, ℕ, Bool, List, [], ◌++◌, Option, Some, filter, ◌==◌, ◌&&◌, not, Result, Ok, Err, IsErr}
+use Rattle.std.specs.Prelude.{◌≡◌, ◌⊎◌, ℕ, List, [], ◌++◌, Option, Some, filter, ◌==◌, ◌&&◌, not, Result, Ok, Err, IsErr}
 use Rattle.hex.specs.Hex.{decode_of, encode_upper}
 use Rattle.ua_connection.specs.declared.outcome.Served.{Served}
 use Rattle.counted_io.specs.declared.fault.ServeFault.TheVariants.{Read, Write, TooLong, OutOfMemory}
@@ -10,19 +10,15 @@ use Rattle.archive.specs.Store.{Store}
 use Rattle.archive.specs.Steps.{Moves}
 use Rattle.ua_connection.specs.Given.{Outside}
 use Rattle.ua_connection.specs.Client.{Ending}
-use Rattle.ua_connection.specs.Serving.{Serves}
-
--- neither a space nor a line end
-abbrev pub is_digit : ℕ → Bool
-is_digit byte = not (byte == 32) && (not (byte == 10) && not (byte == 13))
+use Rattle.ua_connection.specs.Serving.{ServesBehind}
 
 abbrev pub digits_of : List ℕ → List ℕ
-digits_of text = filter is_digit text
+digits_of text = filter (λ byte. not (byte == 32) && (not (byte == 10) && not (byte == 13))) text
 
 -- the text spells bytes, a client that sends these was served, and this was written
 abbrev pub AnswersText : Values → Store → Store → List ℕ → Outside → List ℕ → Ending → Type 0
 AnswersText settings old new text used out ending =
-    (input : List ℕ) × (left : Option (List ℕ)) × (decode_of (digits_of text) ≡ Ok input) × Serves settings old new (Some input) left (Some []) (Some out) used ending
+    (input : List ℕ) × (left : Option (List ℕ)) × (decode_of (digits_of text) ≡ Ok input) × ServesBehind settings old new [] (Some input) left (Some []) (Some out) used ending
 
 -- nothing was done: the archive holds what it held, and the clock wasn't read
 abbrev pub IsUntouched : Store → Store → Outside → Type 0

@@ -22,13 +22,9 @@ pub record Protocol (C X E : Type 0) : Type 0 where
   pub answer : C → X → Given (Reply C E)
   pub at_end : E
 
-abbrev pub joined_by : {C E : Type 0} → List ℕ → C → Outside → Answer C E → Option E → Answer C E
-joined_by out state left later (Some e) = record { out = out; ending = e; state = state; left = left }
-joined_by out state left later None = record { out = out ++ later.out; ending = later.ending; state = later.state; left = later.left }
-
 -- a reply, and where it doesn't end the stream what comes after it; left is what of the outside it didn't ask for
 abbrev pub joined : {C E : Type 0} → Reply C E → Outside → Answer C E → Answer C E
-joined reply left later = joined_by reply.out reply.state left later reply.ending
+joined reply left later = elim reply.ending [ Some e ↦ record { out = reply.out; ending = e; state = reply.state; left = left } | None ↦ record later { out = reply.out ++ later.out } ]
 
 -- the answer where an item of some bytes stands first, or none does
 abbrev pub stepped : {C X E : Type 0} → (C → List ℕ → Outside → Answer C E) → Protocol C X E → C → List ℕ → Outside → Option (X × ℕ) → Answer C E

@@ -1,5 +1,5 @@
 -- What goes out on a connection, by what came in, and what the archive holds then.
-use Rattle.std.specs.Prelude.{◌≡◌, ℕ, List, [], ◌++◌, Option, Some, Ok, Err}
+use Rattle.std.specs.Prelude.{◌≡◌, ℕ, List, ◌++◌, Option, Some, Ok, Err}
 use Rattle.std.specs.Io.KnownBytes.{Appends, Consumes, IsAtEnd}
 use Rattle.archive.specs.Store.{Store}
 use Rattle.archive.specs.Steps.{Moves}
@@ -36,6 +36,3 @@ pub record ServesBehind (settings : Values) (old new : Store) (first : List ℕ)
   pub written : Appends before after out
   pub served : Moves old new used.marks (λ R S. (last : Standing) × (last.content ≡ S)
       × IsServed (chunks (site_of settings old)) (record { client = new_client; content = R }) (first ++ came) used out ending last)
-
-abbrev pub Serves : Values → (old new : Store) → (unread left before after : Option (List ℕ)) → Outside → Ending → Type 0
-Serves settings old new unread left before after used ending = ServesBehind settings old new [] unread left before after used ending

@@ -14,7 +14,7 @@ use Rattle.ua_connection.specs.Readings.{AllAre}
 use Rattle.ua_connection.specs.Given.{Outside}
 use Rattle.ua_connection.specs.Client.{Ending}
 use Rattle.ua_connection.specs.Hexed.{AnswersText, IsUntouched, digits_of}
-use Rattle.ua_connection.specs.Serving.{Serves}
+use Rattle.ua_connection.specs.Serving.{ServesBehind}
 
 -- a connection ended so
 abbrev pub EndsAs : (Ending → Type 0) → Result (Unit {0}) HexFault → Type 0
@@ -29,10 +29,6 @@ abbrev pub AnswersDigits : Values → Store → Store → Option (List ℕ) → 
 AnswersDigits settings first last input used digits =
     (text : List ℕ) × WasText input text × ((out : List ℕ) × (served : Served) × AnswersText settings first last text used out (Ok served) × (digits ≡ encode_upper out))
 
--- the input spells no connection in hex
-abbrev pub IsBadText : Option (List ℕ) → Type 0
-IsBadText input = (text : List ℕ) × WasText input text × (¬ (IsUtf8 text) ⊎ IsErr (decode_of (digits_of text)))
-
 -- the input spells a connection, which was answered and ended so
 abbrev pub IsAnswered : Values → Store → Store → Option (List ℕ) → Outside → (Ending → Type 0) → Type 0
 IsAnswered settings first last input used P =
@@ -40,7 +36,7 @@ IsAnswered settings first last input used P =
 
 -- why no digits were made: nothing was done, or the connection was answered, and was too long, or memory for the digits was wanting
 abbrev pub IsUnmade : Values → Store → Store → Option (List ℕ) → Outside → HexFault → Type 0
-IsUnmade settings first last input used hexed.BadHex = IsBadText input × IsUntouched first last used
+IsUnmade settings first last input used hexed.BadHex = ((text : List ℕ) × WasText input text × (¬ (IsUtf8 text) ⊎ IsErr (decode_of (digits_of text)))) × IsUntouched first last used
 IsUnmade settings first last input used (hexed.Serve Read) = IsUntouched first last used
 IsUnmade settings first last input used (hexed.Serve Write) = ⊥
 IsUnmade settings first last input used (hexed.Serve TooLong) = IsAnswered settings first last input used (λ ending. ending ≡ Err TooLong)
@@ -59,7 +55,7 @@ PrintsHex settings first last input old written used (Err fault) = IsUnmade sett
 
 -- one connection is answered, in hex digits or in bytes
 abbrev pub DoesAnswer : Values → Store → Store → Bool → Option (List ℕ) → Option (List ℕ) → Option (List ℕ) → Option (List ℕ) → Outside → Result (Unit {0}) HexFault → Type 0
-DoesAnswer settings first last false input left old written used result = EndsAs (Serves settings first last input left old written used) result
+DoesAnswer settings first last false input left old written used result = EndsAs (λ ending. ServesBehind settings first last [] input left old written used ending) result
 DoesAnswer settings first last true input left old written used result = PrintsHex settings first last input old written used result
 
 -- and a moment that is given stands for each reading of the clock

@@ -7,7 +7,7 @@ ghost use Rattle.ua_connection.specs.Client.{new_client};
 ghost use Rattle.ua_binary.specs.declared.codes.TheConstants.Status.{BAD_OUT_OF_MEMORY};
 ghost use Rattle.ua_connection.specs.Given.{Outside};
 ghost use Rattle.ua_connection.specs.Turns.{IsShort, IsSmall, IsOwn, IsOwnEnd, IsNoLess, Shortens, TurnedInto, Drained, SendsRefusal, ending_of};
-ghost use Rattle.ua_connection.specs.Serving.{ServesBehind, Serves};
+ghost use Rattle.ua_connection.specs.Serving.{ServesBehind};
 
 use crate::clock::Clock;
 use crate::connection::Connection;
@@ -157,7 +157,7 @@ pub fn serve<R: Read, W: Write, C: Clock, A: Archive>(
     clock: &mut C,
 ) -> Result<Served, ServeFault>
     ensures serves { (used : Outside) × C.gave clock.old used.readings clock.new
-        × Serves settings.now (A.state archive.old) (A.state archive.new) (R.remaining reader.old.inner) (R.remaining reader.new.inner) (W.contents writer.old.inner) (W.contents writer.new.inner) used result }
+        × ServesBehind settings.now (A.state archive.old) (A.state archive.new) [] (R.remaining reader.old.inner) (R.remaining reader.new.inner) (W.contents writer.old.inner) (W.contents writer.new.inner) used result }
     ensures read { IsErrOf result ServeFault.Read → reader.new.faults ≡ counted reader.old.faults }
     ensures write { IsErrOf result ServeFault.Write → writer.new.faults ≡ counted writer.old.faults }
     ensures read_kept { (IsErrOf result ServeFault.Read → ⊥) → reader.new.faults ≡ reader.old.faults }

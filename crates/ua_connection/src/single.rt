@@ -1,10 +1,10 @@
 //! One connection, from a reader to a writer.
 
-ghost use Rattle.std.specs.Prelude.{◌≡◌, IfOk, IsErrOf};
+ghost use Rattle.ua_connection.specs.Serving.{ServesBehind};
+ghost use Rattle.std.specs.Prelude.{◌≡◌, IfOk, IsErrOf, []};
 ghost use Rattle.std.specs.Io.KnownBytes.{Consumes, IsAtEnd};
 ghost use Rattle.counted_io.specs.Bytes.{counted};
 ghost use Rattle.ua_connection.specs.Given.{Outside};
-ghost use Rattle.ua_connection.specs.Serving.{Serves};
 ghost use Rattle.ua_connection.specs.Single.{EndsAs, MakesDigits, PrintsHex, DoesAnswer, AnswersAt};
 
 use crate::clock::{Clock, ConstantClock};
@@ -50,7 +50,7 @@ fn answer<A: Archive, R: Read, W: Write, C: Clock>(
 ) -> Result<(), HexFault>
     ensures read { IsErrOf result (HexFault.Serve ServeFault.Read) → input.new.faults ≡ counted input.old.faults }
     ensures write { IsErrOf result (HexFault.Serve ServeFault.Write) → output.new.faults ≡ counted output.old.faults }
-    ensures ends { (used : Outside) × C.gave clock.old used.readings clock.new × EndsAs (Serves settings.now (A.state archive.old) (A.state archive.new) (R.remaining input.old.inner) (R.remaining input.new.inner) (W.contents output.old.inner) (W.contents output.new.inner) used) result }
+    ensures ends { (used : Outside) × C.gave clock.old used.readings clock.new × EndsAs (λ ending. ServesBehind settings.now (A.state archive.old) (A.state archive.new) [] (R.remaining input.old.inner) (R.remaining input.new.inner) (W.contents output.old.inner) (W.contents output.new.inner) used ending) result }
 {
     match serve(alloc, settings, archive, input, output, clock) {
         Ok(_) => Ok(()),

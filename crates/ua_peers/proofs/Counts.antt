@@ -14,14 +14,16 @@ use Rattle.exchange.specs.declared.message.State.TheVariants.{Pulling, Pushing, 
 use Rattle.exchange.specs.declared.message.Message.TheVariants.{Asks, Carries, Ends}
 use Rattle.exchange.specs.Batches.{batch_of}
 use Rattle.exchange.specs.Named.{Party, Message}
-use Rattle.exchange.specs.Dialogs.{Turn, failing, pushing, refusal, learnt, turned, Way, Clear, Unread, Stopped, Starved, Met, gone, fault_on, Standing, received, answered_to, party_of, Writes, capped, counted_by, added_to}
+use Rattle.exchange.specs.Dialogs.{Turn, failing, pushing, refusal, turned, Way, Clear, Unread, Stopped, Starved, Met, gone, fault_on, Standing, received, answered_to, party_of, Writes, capped, counted_by, added_to}
+use Rattle.exchange.proofs.DialogsParts.{learnt}
 use Rattle.exchange.proofs.MergeLemmas.{grown}
 use Rattle.counted_io.specs.declared.fault.ServeFault.{ServeFault}
 use Rattle.ua_peers.specs.declared.peers.Parted.{Parted}
 use Rattle.ua_peers.specs.declared.peers.Parted.TheVariants as parted
 use Rattle.ua_peers.specs.declared.calling.Synced.{Synced}
 use Rattle.ua_peers.specs.declared.calling.SyncFault.{SyncFault}
-use Rattle.ua_peers.specs.Peers.{Taken, Side, side_of, turn_of, after, after_all, AreAnswered, faults_met, AreOpen, is_open, failed_as, ended_as, is_silent, IsEnd, Talks, Speaks}
+use Rattle.ua_peers.specs.Peers.{Taken, Side, side_of, turn_of, after, after_all, AreAnswered, AreOpen, failed_as, ended_as, is_silent, IsEnd, Talks, Speaks}
+use Rattle.ua_peers.proofs.PeersParts.{is_open, faults_met}
 use Rattle.ua_peers.specs.Calling.{calling, synced_by, Syncs, Adds}
 use Rattle.ua_peers.proofs.Talks.{clear-so, written-so}
 

@@ -26,7 +26,8 @@ use Rattle.exchange.specs.Fault.{exchange_number}
 use Rattle.exchange.specs.Batches.{batch_of, IsBatchFor}
 use Rattle.exchange.specs.Frames.{kind_of, body_of, frame_of, message_at, checked, IsSpelled}
 use Rattle.exchange.specs.Streams.{AreFrames}
-use Rattle.exchange.specs.Dialogs.{Turn, Way, Clear, Unread, Stopped, Starved, Met, title_by, failing, asking, carrying, pushing, ended_by, learnt, turned, gone, unfit, received, records_in, records_read, learned_at, answered_to, bytes_of, party_of, Writes}
+use Rattle.exchange.specs.Dialogs.{Turn, Way, Clear, Unread, Stopped, Starved, Met, title_by, failing, carrying, pushing, ended_by, turned, gone, unfit, received, records_in, records_read, learned_at, answered_to, party_of, Writes}
+use Rattle.exchange.proofs.DialogsParts.{asking, learnt, bytes_of}
 use Rattle.exchange.specs.Meetings.{IsBetween, CanMeet, checked_title}
 use Rattle.exchange.specs.Worlds.{Site, World, Event, Sends, Delivers, IsSite, sent, step, run}
 use Rattle.exchange.proofs.FrameLemmas.{read_own}
@@ -42,7 +43,8 @@ use Rattle.ua_peers.specs.declared.peers.Parted.{Parted}
 use Rattle.ua_peers.specs.declared.peers.Parted.TheVariants as parted
 use Rattle.ua_peers.specs.Wires.{IsFirstPart}
 use Rattle.ua_peers.specs.Calling.{calling}
-use Rattle.ua_peers.specs.Peers.{Taken, Side, side_of, turn_of, after, after_all, AreAnswered, records_of, HasAtMostOneMore, is_open, responding, Talks, Speaks}
+use Rattle.ua_peers.specs.Peers.{Taken, Side, side_of, turn_of, after, after_all, AreAnswered, records_of, HasAtMostOneMore, responding, Talks, Speaks}
+use Rattle.ua_peers.proofs.PeersParts.{is_open}
 use Rattle.ua_peers.specs.Events.{AreExchanges, AreUpdated, IsLeft, AreEnds}
 use Rattle.ua_peers.proofs.Delivered.{delivered_here}
 use Rattle.ua_peers.proofs.Joined.{first_frame, no_frame, numbered, got_by, IsLastWord, GoesOn, goes_by}

@@ -24,7 +24,8 @@ use Rattle.exchange.specs.Named.{Party, Header, Message, end_frame, asking_frame
 use Rattle.exchange.specs.Fault.{exchange_number}
 use Rattle.exchange.specs.Frames.{cut, letters, kind_of, body_of, frame_of, message_at, IsSpelled}
 use Rattle.exchange.specs.Streams.{Piece, AreFrames}
-use Rattle.exchange.specs.Dialogs.{Turn, Way, Clear, Unread, Stopped, Starved, Met, Standing, failing, is_over, is_due, unfit, received, records_read, learned_at, turned, answered_to, title_by, bytes_of, party_of, IsHeld, Writes}
+use Rattle.exchange.specs.Dialogs.{Turn, Way, Clear, Unread, Stopped, Starved, Met, Standing, failing, is_over, is_due, unfit, received, records_read, learned_at, turned, answered_to, title_by, party_of, IsHeld, Writes}
+use Rattle.exchange.proofs.DialogsParts.{bytes_of}
 use Rattle.exchange.specs.Meetings.{IsBetween, AreJoined, CanMeet, checked_title}
 use Rattle.exchange.proofs.FrameLemmas.{read_own, cut_own, body_own}
 use Rattle.exchange.proofs.StreamLemmas.{cut_append}
@@ -36,7 +37,8 @@ use Rattle.ua_peers.specs.declared.peers.Parted.{Parted}
 use Rattle.ua_peers.specs.declared.peers.Parted.TheVariants as parted
 use Rattle.ua_peers.specs.Calling.{calling}
 use Rattle.ua_peers.specs.Wires.{IsFirstPart}
-use Rattle.ua_peers.specs.Peers.{Talks, responding, side_of, Taken, Side, turn_of, after, after_all, AreAnswered, AreOpen, is_open, failed_as, ended_as, is_silent, IsEnd}
+use Rattle.ua_peers.specs.Peers.{Talks, responding, side_of, Taken, Side, turn_of, after, after_all, AreAnswered, AreOpen, failed_as, ended_as, is_silent, IsEnd}
+use Rattle.ua_peers.proofs.PeersParts.{is_open}
 
 -- ---- the frame that stands first
 

@@ -5,3 +5,4 @@ pub mod Exchanged
 pub mod Talking
 pub mod Syncing
 pub mod Counts
+pub mod PeersParts

@@ -17,7 +17,8 @@ use Rattle.exchange.specs.Batches.{longest_frame}
 use Rattle.exchange.specs.Named.{Header, end_frame}
 use Rattle.exchange.specs.Frames.{cut, titled, kind_at, size_at, fresh, Held, Gives, next_of, after_next}
 use Rattle.exchange.specs.Streams.{Piece, header_of}
-use Rattle.exchange.specs.Dialogs.{Standing, is_over, is_due, unfit, taken_after, Takes, TellsFault}
+use Rattle.exchange.specs.Dialogs.{Standing, is_over, is_due, unfit, Takes, TellsFault}
+use Rattle.exchange.proofs.DialogsParts.{taken_after}
 use Rattle.counted_io.specs.declared.fault.ServeFault.{ServeFault}
 use Rattle.counted_io.specs.declared.fault.ServeFault.TheVariants.{Read, Write, TooLong, OutOfMemory}
 use Rattle.ua_peers.specs.declared.peers.Parted.{Parted}

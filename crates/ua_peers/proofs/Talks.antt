@@ -28,7 +28,8 @@ use Rattle.exchange.proofs.LeftLemmas.{answered_left, next_merged}
 use Rattle.counted_io.specs.declared.fault.ServeFault.{ServeFault}
 use Rattle.ua_peers.specs.declared.peers.Parted.{Parted}
 use Rattle.ua_peers.specs.declared.peers.Parted.TheVariants as parted
-use Rattle.ua_peers.specs.Peers.{Taken, Side, side_of, after, after_all, AreAnswered, records_of, HasAtMostOneMore, faults_met, AreOpen, failed_as, ended_as, is_silent, IsEnd, Talks}
+use Rattle.ua_peers.specs.Peers.{Taken, Side, side_of, after, after_all, AreAnswered, records_of, HasAtMostOneMore, AreOpen, failed_as, ended_as, is_silent, IsEnd, Talks}
+use Rattle.ua_peers.proofs.PeersParts.{faults_met}
 
 -- ---- lists of frames
 

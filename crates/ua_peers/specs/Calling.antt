@@ -23,29 +23,9 @@ calling = record { state = Pulling; taken = 0; code = None; started = true; lear
 
 -- what the end of the dialog is to the one that called, where its end stands so at last; an input that is over before is a frame that can't be read
 abbrev pub synced_by : Standing → Result Parted ServeFault → Result Synced SyncFault
-synced_by last (Ok parted.EndOfInput) = Err (Exchange Frame)
-synced_by last (Ok parted.Done) = Ok (record { learned = last.learned; sent = last.sent })
-synced_by last (Ok (parted.Refused n)) = Err (Peer n)
-synced_by last (Ok (parted.Failed fault)) = Err (Exchange fault)
-synced_by last (Err fault) = Err (Connection fault)
+synced_by last ending = elim ending [ Ok parted.EndOfInput ↦ Err (Exchange Frame) | Ok parted.Done ↦ Ok (record { learned = last.learned; sent = last.sent }) | Ok (parted.Refused n) ↦ Err (Peer n) | Ok (parted.Failed fault) ↦ Err (Exchange fault) | Err fault ↦ Err (Connection fault) ]
 
--- the first frame could not be made: nothing was read or written
-pub record Unasked (old new : Store) (unread left before after : Option (List ℕ)) (result : Result Synced SyncFault) : Type 0 where
-  pub fault : ExchangeFault
-  pub told : result ≡ Err (Exchange fault)
-  pub greets : Greets old new [] [] (Err fault)
-  pub read : Consumes unread left []
-  pub written : Appends before after []
-
--- it was made, and a first part of it written, and nothing was read
-pub record Unsent (old new : Store) (unread left before after : Option (List ℕ)) (result : Result Synced SyncFault) : Type 0 where
-  pub frame : List ℕ
-  pub told : result ≡ Err (Connection Write)
-  pub greets : Greets old new [] frame (Ok tt)
-  pub read : Consumes unread left []
-  pub written : AppendsPart before after frame
-
--- it was written, and the dialog went on behind it
+-- the first frame was written, and the dialog went on behind it
 pub record Asked (old new : Store) (unread left before after : Option (List ℕ)) (result : Result Synced SyncFault) : Type 0 where
   pub frame : List ℕ
   pub is : new.honest → frame ≡ asking_frame (party_of old) old.content
@@ -56,10 +36,13 @@ pub record Asked (old new : Store) (unread left before after : Option (List ℕ)
   pub told : result ≡ synced_by last ending
   pub meets : MeetsTo calling old new [] unread left between after ending last
 
--- a peer was called so
+-- a peer was called so: the first frame could not be made, and nothing was read or written; or a first part of it was written, and nothing was read;
+-- or the dialog went on behind it
 abbrev pub Syncs : Store → Store → Option (List ℕ) → Option (List ℕ) → Option (List ℕ) → Option (List ℕ) → Result Synced SyncFault → Type 0
 Syncs old new unread left before after result =
-    Unasked old new unread left before after result ⊎ (Unsent old new unread left before after result ⊎ Asked old new unread left before after result)
+    record { fault : ExchangeFault; told : result ≡ Err (Exchange fault); greets : Greets old new [] [] (Err fault); read : Consumes unread left []; written : Appends before after [] }
+    ⊎ (record { frame : List ℕ; told : result ≡ Err (Connection Write); greets : Greets old new [] frame (Ok tt); read : Consumes unread left []; written : AppendsPart before after frame }
+    ⊎ Asked old new unread left before after result)
 
 -- a call that came to its end told how many records more are held
 abbrev pub Adds : Store → Store → Result Synced SyncFault → Type 0

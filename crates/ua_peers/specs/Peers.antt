@@ -5,7 +5,6 @@ use Rattle.std.specs.Io.KnownBytes.{Appends, Consumes, IsAtEnd}
 use Rattle.records.specs.Lists.{Has}
 use Rattle.records.specs.Contents.{Content, Adds, finding, put}
 use Rattle.records.specs.declared.record.Record.{Record}
-use Rattle.archive.specs.declared.fault.StoreFault.{StoreFault}
 use Rattle.archive.specs.Store.{Store, Passes}
 use Rattle.exchange.specs.declared.fault.ExchangeFault.{ExchangeFault}
 use Rattle.exchange.specs.declared.fault.ExchangeFault.TheVariants as exchange
@@ -64,17 +63,10 @@ records_of p side (t ∷ later) = records_read (received p side.standing t.frame
 abbrev pub HasAtMostOneMore : Content → List Record → Content → Type 0
 HasAtMostOneMore R rs left = (left ≡ R) ⊎ ((r : Record) × Has rs r × (finding R r ≡ Adds) × (left ≡ put r R))
 
-abbrev pub faults_met : List Taken → List StoreFault
-faults_met taken = flat_map (λ t. option_to_list (fault_on t.way)) taken
-
 -- ---- ends
 
--- the dialog goes on behind it
-abbrev pub is_open : Result State ExchangeFault → Bool
-is_open result = elim result [ Ok state ↦ not (is_over state) | Err fault ↦ false ]
-
 abbrev pub AreOpen : List Taken → Type 0
-AreOpen taken = AllByRecursion (λ t. is_open t.result ≡ true) taken
+AreOpen taken = AllByRecursion (λ t. (elim t.result [ Ok state ↦ not (is_over state) | Err fault ↦ false ]) ≡ true) taken
 
 -- a fault is told to the peer, or memory for that was wanting, and nothing was written
 abbrev pub failed_as : (silent : Bool) → ExchangeFault → Result Parted ServeFault
@@ -87,32 +79,14 @@ ended_as code silent result = elim result [ Ok Done ↦ Some (Ok parted.Done) | 
 abbrev pub is_silent : List ℕ → Bool
 is_silent said = length said == 0
 
--- the last frame ended the dialog
-pub record EndsByFrame (taken : List Taken) (code : Option ℕ) (ending : Result Parted ServeFault) : Type 0 where
-  pub before : List Taken
-  pub last : Taken
-  pub all : taken ≡ before ++ (last ∷ [])
-  pub goes : AreOpen before
-  pub ends : ended_as code (is_silent last.said) last.result ≡ Some ending
-
--- what came behind the frames is none
-pub record EndsByBytes (taken : List Taken) (code : Option ℕ) (rest beside : List ℕ) (ending : Result Parted ServeFault) : Type 0 where
-  pub goes : AreOpen taken
-  pub ill : cut rest ≡ Err exchange.Frame
-  pub fault : ExchangeFault
-  pub told : TellsFault exchange.Frame (Err fault) [] beside
-  pub ends : failed_as (is_silent beside) fault ≡ ending
-
--- memory for what came was wanting
-pub record EndsByWant (taken : List Taken) (beside : List ℕ) (ending : Result Parted ServeFault) : Type 0 where
-  pub goes : AreOpen taken
-  pub told : beside ≡ end_frame 4
-  pub ends : ending ≡ Ok (parted.Failed exchange.OutOfMemory)
-
--- the dialog is open, or it ended so; beside is what was written behind the answers to the frames
+-- the dialog is open, or it ended so: its last frame ended it, what came behind the frames is none, or memory for what came was wanting; beside is
+-- what was written behind the answers to the frames
 abbrev pub IsEnd : List Taken → Option ℕ → List ℕ → List ℕ → Option (Result Parted ServeFault) → Type 0
 IsEnd taken code rest beside None = AreOpen taken × (beside ≡ [])
-IsEnd taken code rest beside (Some ending) = (EndsByFrame taken code ending × (beside ≡ [])) ⊎ (EndsByBytes taken code rest beside ending ⊎ EndsByWant taken beside ending)
+IsEnd taken code rest beside (Some ending) =
+    (record { before : List Taken; last : Taken; all : taken ≡ before ++ (last ∷ []); goes : AreOpen before; ends : ended_as code (is_silent last.said) last.result ≡ Some ending } × (beside ≡ []))
+    ⊎ (record { goes : AreOpen taken; ill : cut rest ≡ Err exchange.Frame; fault : ExchangeFault; told : TellsFault exchange.Frame (Err fault) [] beside; ends : failed_as (is_silent beside) fault ≡ ending }
+    ⊎ record { goes : AreOpen taken; told : beside ≡ end_frame 4; ends : ending ≡ Ok (parted.Failed exchange.OutOfMemory) })
 
 -- ---- dialogs
 
@@ -123,7 +97,7 @@ pub record Talks (start : Standing) (old new : Store) (came out rest : List ℕ)
   pub frames : AreFrames came (map (λ t. t.frame) taken) rest
   pub wrote : out ≡ flat_map (λ t. t.said) taken ++ beside
   pub ends : IsEnd taken last.code rest beside ending
-  pub passes : Passes old new (faults_met taken)
+  pub passes : Passes old new (flat_map (λ t. option_to_list (fault_on t.way)) taken)
   -- over a store that is honest; over a broken one it is so whatever it held, since no answer tells what nobody knows
   pub answered : new.honest → (R : Content) → IsHeld old R → AreAnswered (party_of old) (side_of start R) taken
   pub stands : new.honest → (R : Content) → IsHeld old R → last ≡ (after_all (party_of old) (side_of start R) taken).standing

@@ -13,7 +13,8 @@ use Rattle.stamp.specs.Numbers.{number_of}
 use Rattle.records.specs.declared.record.Record.{Record}
 use Rattle.records.specs.Lists.{Has, Rises}
 use Rattle.records.specs.Records.{name_cmp, is_beyond, missing}
-use Rattle.records.specs.Contents.{Content, vec, number_from}
+use Rattle.records.specs.Contents.{Content, vec}
+use Rattle.records.proofs.ContentsParts.{number_from}
 use Rattle.records.specs.Spelling.{IsRecord}
 use Rattle.records.proofs.Sorting.{all-has, all_from_has, has-filter, has_from_filter, pairwise-filter, same_members}
 use Rattle.records.proofs.Orders.{name_total}

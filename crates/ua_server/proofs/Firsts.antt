@@ -1,12 +1,12 @@
 -- The first bytes of a connection.
-use Rattle.std.proofs.Common.{◌≡◌, ◌<◌, ◌≤◌, ◌+◌, ℕ, Bool, true, false, List, ◌++◌, take, length, refl, subst, arith}
+use Rattle.std.proofs.Common.{◌≡◌, ◌<◌, ◌≤◌, ◌+◌, ℕ, Bool, true, false, List, [], ◌++◌, take, length, refl, subst, arith}
 use Rattle.ua_server.specs.declared.either.Ended.TheVariants.{Client, Peer}
 use Rattle.std.specs.Result.{result_map_both}
 use Rattle.std.specs.Prelude.{Option, Result, Err}
 use Rattle.std.specs.Io.KnownBytes.{Consumes, IsAtEnd}
 use Rattle.std.proofs.lemmas.List.{length-take-le}
 use Rattle.std.proofs.Math.Seq.{take-append-add}
-use Rattle.archive.specs.Store.{Store}
+use Rattle.archive.specs.Store.{Store, Stays, Passes}
 use Rattle.archive.proofs.Calls.{passes-none}
 use Rattle.ua_settings.specs.Settings.{Values}
 use Rattle.counted_io.specs.declared.fault.ServeFault.{ServeFault}
@@ -16,7 +16,7 @@ use Rattle.ua_connection.specs.Client.{Ending}
 use Rattle.ua_connection.specs.Given.{Outside}
 use Rattle.ua_peers.specs.Peers.{MeetsBehind, responding}
 use Rattle.ua_connection.specs.Serving.{ServesBehind}
-use Rattle.ua_server.specs.Either.{Ends, AreFirst, BreaksOff, GoesAs}
+use Rattle.ua_server.specs.Either.{Ends, AreFirst, GoesAs}
 use Rattle.ua_connection.proofs.Outsides.{nothing}
 
 -- a piece behind those that were read before
@@ -25,17 +25,9 @@ took-more first piece read n within =
     subst (λ (k : ℕ). take (k + n) (take read first ++ piece) ≡ take read first ++ take n piece) (length-take-le read first within) (take-append-add (take read first) piece n)
 
 -- a read failed before three bytes were there
-pub breaks-off : (a : Store) (unread left old : Option (List ℕ)) (ending : Ends) → ((came : List ℕ) × (length came < 3) × Consumes unread left came) → ending ≡ Err Read → BreaksOff a a unread left old old nothing ending
-breaks-off a unread left old ending (came, few, read) is = record {
-  came = came;
-  few = few;
-  read = read;
-  written = refl;
-  stays = record { content = λ h b. refl; crash = λ h l m. m };
-  quiet = passes-none a;
-  unused = refl;
-  ends = is;
-}
+pub breaks-off : (a : Store) (unread left old : Option (List ℕ)) (ending : Ends) → ((came : List ℕ) × (length came < 3) × Consumes unread left came) → ending ≡ Err Read
+    → (came : List ℕ) × (length came < 3) × Consumes unread left came × (old ≡ old) × Stays a a × Passes a a [] × (nothing ≡ record { marks = []; readings = [] }) × (ending ≡ Err Read)
+breaks-off a unread left old ending (came, few, read) is = (came, few, read, refl, record { content = λ h b. refl; crash = λ h l m. m }, passes-none a, refl, is)
 
 -- a peer's, and a client's
 pub goes-as-peer : (settings : Values) (a b : Store) (first : List ℕ) (rest left old new : Option (List ℕ)) (peers : Bool) (ending : Ends) → peers ≡ true

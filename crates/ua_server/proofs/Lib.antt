@@ -4,3 +4,5 @@ pub mod DumpLemmas
 pub mod Opened
 pub mod Firsts
 pub mod Updated
+pub mod ProgramParts
+pub mod TellingParts

@@ -20,7 +20,8 @@ use Rattle.command_line.specs.Line.{IsLine, IsNoCommand}
 use Rattle.clap.specs.declared.error.ErrorKind.{ErrorKind}
 use Rattle.ua_settings.specs.Settings.{Values}
 use Rattle.archive.specs.Store.{Store}
-use Rattle.ua_server.specs.Program.{IsUnbegun, SettingsAt, Machine, By, Calls, CallsPeer, Scene, PrintsSynced, IsRefused, DoesLine, Runs, dump_fault, fault_of}
+use Rattle.ua_server.specs.Program.{SettingsAt, Machine, By, Calls, CallsPeer, Scene, PrintsSynced, DoesLine, Runs, dump_fault, fault_of}
+use Rattle.ua_server.proofs.ProgramParts.{IsRefused, IsUnbegun}
 use Rattle.ua_server.specs.Network.{Means}
 use Rattle.std.specs.declared.net.socket_addr.SocketAddr.{SocketAddr}
 use Rattle.command_line.specs.declared.line.Line.{Line as CommandLine}

@@ -34,19 +34,9 @@ GoesAs true settings old new first unread left before after used ending =
 GoesAs false settings old new first unread left before after used ending =
     (served : Ending) × (ending ≡ result_map_both Client (λ fault. fault) served) × ServesBehind settings old new first unread left before after used served
 
--- a read failed before three bytes were there: nothing was written, and nothing done
-pub record BreaksOff (old new : Store) (unread left before after : Option (List ℕ)) (used : Outside) (ending : Ends) : Type 0 where
-  pub came : List ℕ
-  pub few : length came < 3
-  pub read : Consumes unread left came
-  pub written : after ≡ before
-  pub stays : Stays old new
-  pub quiet : Passes old new []
-  pub unused : used ≡ record { marks = []; readings = [] }
-  pub ends : ending ≡ Err Read
-
--- a connection went as its first three letters say, or broke off before they were there
+-- a connection broke off: a read failed before three bytes were there, nothing was written, and nothing done; or it went as its first three
+-- letters say
 abbrev pub ServesEither : Values → (old new : Store) → (unread left before after : Option (List ℕ)) → Outside → Ends → Type 0
 ServesEither settings old new unread left before after used ending =
-    BreaksOff old new unread left before after used ending
+    ((came : List ℕ) × (length came < 3) × Consumes unread left came × (after ≡ before) × Stays old new × Passes old new [] × (used ≡ record { marks = []; readings = [] }) × (ending ≡ Err Read))
     ⊎ ((first : List ℕ) × (between : Option (List ℕ)) × AreFirst unread between first × GoesAs (is_peers first) settings old new first between left before after used ending)

@@ -23,10 +23,8 @@ pub record Means (L R W A C : Type 0) : Type 1 where
   pub held : A → Store
 
 -- what connections come from, the archive that they are served over, and the clock
-pub record Around (S A C : Type 0) : Type 0 where
-  pub source : S
-  pub archive : A
-  pub clock : C
+abbrev pub Around : Type 0 → Type 0 → Type 0 → Type 0
+Around S A C = record { source : S; archive : A; clock : C }
 
 -- a connection that came, a client's or a peer's, was served over what the archive held, and was given back with its failed calls, of which there is one just where it ended by that
 pub record IsServedTo {L R W A C : Type 0} (means : Means L R W A C) (settings : Values) (reader : R) (writer : W) (between : L) (old new : Around L A C) (ending : Ends) : Type 0 where

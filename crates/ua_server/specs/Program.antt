@@ -35,7 +35,6 @@ use Rattle.clap.specs.Words.{Row, Text}
 use Rattle.clap.specs.declared.error.ErrorKind.{ErrorKind}
 use Rattle.command_line.specs.declared.line.Line.{Line as CommandLine}
 use Rattle.command_line.specs.declared.line.Line.TheVariants.{Answer, Serve, Dump, Sync}
-use Rattle.command_line.specs.declared.line.LineFault.{LineFault}
 use Rattle.command_line.specs.declared.line.LineFault.TheVariants.{Words, OutOfMemory as NoMemory}
 use Rattle.command_line.specs.Line.{IsLine, IsNoCommand}
 
@@ -48,13 +47,9 @@ OpensArchive opened untouched held settings (Some path) opening = opened path se
 
 -- ---- settings
 
--- memory for the server was wanting, and nothing was done
-abbrev pub IsUnbegun : LineFault → Type 0
-IsUnbegun fault = elim fault [ Words ↦ ⊥ | NoMemory ↦ Unit {0} ]
-
 -- the settings without a file
 abbrev pub IsBare : Result Values ProgramFault → Type 0
-IsBare result = elim result [ Ok settings ↦ settings ≡ bare | Err (Line fault) ↦ IsUnbegun fault | Err fault ↦ ⊥ ]
+IsBare result = elim result [ Ok settings ↦ settings ≡ bare | Err (Line NoMemory) ↦ Unit {0} | Err fault ↦ ⊥ ]
 
 -- what tells where settings are refused has at most 180 bytes; want of memory has no place
 abbrev pub IsPlace : SettingsFault → Option (List ℕ) → Type 0
@@ -62,17 +57,11 @@ IsPlace fault place = elim fault [ refused.OutOfMemory ↦ place ≡ None | _ �
 
 -- the settings that a text gives; where they are refused, the place may be told
 abbrev pub IsSetIn : List ℕ → Result Values ProgramFault → Type 0
-IsSetIn text (Ok settings) = IsReadOrStarved (parse_document text) (Ok settings)
-IsSetIn text (Err (Settings fault place)) = IsReadOrStarved (parse_document text) (Err fault) × IsPlace fault place
-IsSetIn text (Err fault) = ⊥
-
--- by the text of a file, where it can be read
-abbrev pub IsSetBy : Option (List ℕ) → Result Values ProgramFault → Type 0
-IsSetBy given result = elim given [ None ↦ result ≡ Err File | Some text ↦ IsSetIn text result ]
+IsSetIn text result = elim result [ Ok settings ↦ IsReadOrStarved (parse_document text) (Ok settings) | Err (Settings fault place) ↦ IsReadOrStarved (parse_document text) (Err fault) × IsPlace fault place | Err fault ↦ ⊥ ]
 
 -- the settings of a server that is given this path, by what was read at it; without a path no file was asked for
 abbrev pub SettingsAt : (List ℕ → Option (List ℕ) → Type 0) → (unasked : Type 0) → Option (List ℕ) → Result Values ProgramFault → Type 0
-SettingsAt reads unasked given result = elim given [ None ↦ IsBare result × unasked | Some path ↦ (text : Option (List ℕ)) × reads path text × IsSetBy text result ]
+SettingsAt reads unasked given result = elim given [ None ↦ IsBare result × unasked | Some path ↦ (text : Option (List ℕ)) × reads path text × elim text [ None ↦ result ≡ Err File | Some known ↦ IsSetIn known result ] ]
 
 -- ---- a command
 
@@ -173,12 +162,8 @@ SyncsBy {K} machine calls path peer network after old written result =
     (λ fault. (result ≡ Err fault) × (after ≡ network) × (written ≡ old))
 
 -- what stands around a run: what is unread of the input and written to the output, as far as that is known, the network, the clock, and standard error
-pub record Scene (N C E : Type 0) : Type 0 where
-  pub unread : Option (List ℕ)
-  pub written : Option (List ℕ)
-  pub network : N
-  pub clock : C
-  pub errors : Tally E
+abbrev pub Scene : Type 0 → Type 0 → Type 0 → Type 0
+Scene N C E = record { unread : Option (List ℕ); written : Option (List ℕ); network : N; clock : C; errors : Tally E }
 
 -- what each command does
 abbrev pub DoesLine : {K N L R W C E P Q : Type 0} → Machine K → Calls N P Q → Means L R W K C → (N → SocketAddr → Option L → N → Type 0) → (E → Option (List ℕ)) → CommandLine → Scene N C E → Scene N C E → Result (Unit {0}) ProgramFault → Type 0
@@ -192,13 +177,10 @@ DoesLine machine calls means listened told (Dump path) old new result =
 DoesLine machine calls means listened told (Sync path peer) old new result =
     (new.unread ≡ old.unread) × (new.clock ≡ old.clock) × (new.errors ≡ old.errors) × SyncsBy machine calls path.now peer.now old.network new.network old.written new.written result
 
--- a line is refused for want of memory, or where clap refuses it or its matches name no command
-abbrev pub IsRefused : Bool → Option (Text × List Row) → LineFault → Type 0
-IsRefused taken matches fault = elim fault [ Words ↦ taken ≡ true → IsNoCommand matches | NoMemory ↦ Unit {0} ]
-
 -- A run by the faults that clap finds in a command line, by whether it takes it, and by its matches. What is done is done for a line without
 -- faults; where the line is refused nothing is read, printed or told, the network isn't used, and no file is asked for or opened.
 abbrev pub Runs : {K N L R W C E P Q : Type 0} → List ErrorKind → Bool → Option (Text × List Row) → Machine K → Calls N P Q → Means L R W K C → (N → SocketAddr → Option L → N → Type 0) → (E → Option (List ℕ)) → Scene N C E → Scene N C E → Result (Unit {0}) ProgramFault → Type 0
 Runs faults taken matches machine calls means listened told old new (Err (Line fault)) =
-    IsRefused taken matches fault × (new.unread ≡ old.unread) × (new.written ≡ old.written) × (new.network ≡ old.network) × (new.errors ≡ old.errors) × machine.unasked × machine.untouched
+    (elim fault [ Words ↦ taken ≡ true → IsNoCommand matches | NoMemory ↦ Unit {0} ]) × (new.unread ≡ old.unread) × (new.written ≡ old.written) × (new.network ≡ old.network) × (new.errors ≡ old.errors)
+    × machine.unasked × machine.untouched
 Runs faults taken matches machine calls means listened told old new result = (faults ≡ []) × ((line : CommandLine) × IsLine matches line × DoesLine machine calls means listened told line old new result)

@@ -1,5 +1,5 @@
 -- What a run of the program tells on standard error, its exit status, and the line of a call of a peer.
-use Rattle.std.specs.Prelude.{◌≡◌, ℕ, List, [], ◌∷◌, ◌++◌, Option, None, Some, Result, Ok, Err, ◌⊎◌, codes, ◌==◌, if◌then◌else◌}
+use Rattle.std.specs.Prelude.{◌+◌, ◌≡◌, ℕ, List, [], ◌∷◌, ◌++◌, Option, None, Some, Result, Ok, Err, ◌⊎◌, codes, nat_lt, ◌&&◌, if◌then◌else◌}
 use Rattle.std.specs.Fmt.{decimal}
 use Rattle.std.specs.Io.KnownBytes.{Appends}
 use Rattle.counted_io.specs.declared.fault.ServeFault.{ServeFault}
@@ -11,10 +11,8 @@ use Rattle.command_line.specs.Line.{line_text_of}
 use Rattle.counted_io.specs.Bytes.{AppendsPart, counted}
 use Rattle.counted_io.specs.Tally.{Tally}
 use Rattle.exchange.specs.Fault.{exchange_number}
-use Rattle.archive.specs.declared.fault.StoreFault.{StoreFault}
-use Rattle.archive.specs.declared.fault.StoreFault.TheVariants as store
-use Rattle.ua_settings.specs.declared.fault.SettingsFault.{SettingsFault}
-use Rattle.ua_settings.specs.declared.fault.SettingsFault.TheVariants as refused
+use Rattle.archive.specs.Fault.{store_number}
+use Rattle.ua_settings.specs.Fault.{number_of}
 
 abbrev pub fault_status : ProgramFault → ℕ
 fault_status fault = elim fault [ Line fault ↦ 2 | File ↦ 2 | Settings fault place ↦ 2 | Store fault ↦ 3 | BadHex ↦ 2 | _ ↦ 1 ]
@@ -22,55 +20,30 @@ fault_status fault = elim fault [ Line fault ↦ 2 | File ↦ 2 | Settings fault
 abbrev pub status_of : Result (Unit {0}) ProgramFault → ℕ
 status_of result = elim result [ Ok done ↦ 0 | Err fault ↦ fault_status fault ]
 
--- the text that tells refused settings
-abbrev pub refusal_text : SettingsFault → List ℕ
-refusal_text refused.NotToml = codes "settings refused (1)"
-refusal_text refused.MissingKey = codes "settings refused (2)"
-refusal_text refused.BadValue = codes "settings refused (3)"
-refusal_text refused.UnknownKey = codes "settings refused (4)"
-refusal_text (refused.Space fault) = codes "settings refused (5)"
-refusal_text refused.OutOfMemory = codes "settings refused (6)"
-
--- the text that tells a store that can't be opened or read
-abbrev pub store_text : StoreFault → List ℕ
-store_text store.OutOfMemory = codes "store refused (1)"
-store_text store.Refused = codes "store refused (2)"
-store_text store.WrongReplica = codes "store refused (3)"
-store_text store.WrongArchive = codes "store refused (4)"
-store_text store.Broken = codes "store refused (5)"
+-- a text with the number of a fault, which has one digit
+abbrev pub numbered : List ℕ → ℕ → List ℕ
+numbered text n = text ++ (codes " (" ++ ((48 + n) ∷ codes ")"))
 
 -- the text that tells a fault of a connection
 abbrev pub connection_text : ServeFault → List ℕ
-connection_text fault = elim fault [ Read ↦ codes "connection ended (1)" | Write ↦ codes "connection ended (2)" | TooLong ↦ codes "connection ended (3)" | OutOfMemory ↦ codes "connection ended (4)" ]
+connection_text fault = numbered (codes "connection ended") (elim fault [ Read ↦ 1 | Write ↦ 2 | TooLong ↦ 3 | OutOfMemory ↦ 4 ])
 
 -- the text that tells why an exchange ended, by its number; a peer may give a number that is none
 abbrev pub exchange_text : ℕ → List ℕ
-exchange_text number =
-    if number == 1 then codes "exchange ended (1)" else
-    if number == 2 then codes "exchange ended (2)" else
-    if number == 3 then codes "exchange ended (3)" else
-    if number == 4 then codes "exchange ended (4)" else
-    if number == 5 then codes "exchange ended (5)" else
-    if number == 6 then codes "exchange ended (6)" else
-    if number == 7 then codes "exchange ended (7)" else
-    if number == 8 then codes "exchange ended (8)" else codes "exchange ended by the peer"
+exchange_text number = if nat_lt 0 number && nat_lt number 9 then numbered (codes "exchange ended") number else codes "exchange ended by the peer"
 
 -- the text that tells a fault
 abbrev pub text_of : ProgramFault → List ℕ
 text_of (Line fault) = line_text_of fault
 text_of File = codes "settings file can't be read"
-text_of (Settings fault place) = refusal_text fault
-text_of (Store fault) = store_text fault
+text_of (Settings fault place) = numbered (codes "settings refused") (number_of fault)
+text_of (Store fault) = numbered (codes "store refused") (store_number fault)
 text_of BadHex = codes "bad hex"
 text_of Address = codes "address refused"
 text_of (Connection fault) = connection_text fault
 text_of (Call fault) = connection_text fault
 text_of (Exchange fault) = exchange_text (exchange_number fault)
 text_of (Peer number) = exchange_text number
-
--- where settings are refused
-abbrev pub place_of : ProgramFault → Option (List ℕ)
-place_of fault = elim fault [ Settings fault place ↦ place | _ ↦ None ]
 
 -- the line that tells how many records a call of a peer moved
 abbrev pub synced_line : Synced → List ℕ
@@ -85,7 +58,7 @@ place_line given = elim given [ None ↦ [] | Some place ↦ told_line place ]
 
 -- what standard error has of a fault: a line, and a second one where settings are refused
 abbrev pub error_lines : ProgramFault → List ℕ
-error_lines fault = told_line (text_of fault) ++ place_line (place_of fault)
+error_lines fault = told_line (text_of fault) ++ place_line (elim fault [ Settings cause place ↦ place | _ ↦ None ])
 
 -- the whole line was written, or a first part of it, and one call more failed
 abbrev pub IsTold : {W : Type 0} → (W → Option (List ℕ)) → Tally W → Tally W → List ℕ → Type 0

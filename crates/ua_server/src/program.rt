@@ -1,12 +1,14 @@
 //! The program, over any reader and writers.
 
-ghost use Rattle.std.specs.Prelude.{◌≡◌, ◌+◌, ℕ, ℤ, List, [], ◌∷◌, ◌++◌, IfOk, IfErr, OnOk, OnErr, IsErrOf, map, option_copied, string_bytes};
+ghost use Rattle.std.specs.Prelude.{◌≡◌, ◌+◌, ℕ, ℤ, List, [], ◌∷◌, ◌++◌, IfOk, IfErr, OnOk, OnErr, IsErrOf, map, codes, option_copied, string_bytes, None};
+ghost use Rattle.archive.specs.Fault.{store_number};
+ghost use Rattle.ua_settings.specs.Fault.{number_of};
 ghost use Rattle.std.specs.Result.{result_map_both};
 ghost use Rattle.std.specs.Io.KnownBytes.{Appends};
 ghost use Rattle.counted_io.specs.Bytes.{counted, AppendsPart};
 ghost use Rattle.ua_connection.specs.Given.{Outside};
 ghost use Rattle.ua_connection.specs.Single.{AnswersAt};
-ghost use Rattle.ua_server.specs.Telling.{status_of, IsTold, refusal_text, store_text, connection_text, exchange_text, told_line, place_line, error_lines, synced_line};
+ghost use Rattle.ua_server.specs.Telling.{status_of, IsTold, numbered, connection_text, exchange_text, told_line, place_line, error_lines, synced_line};
 ghost use Rattle.ua_server.specs.Program.{OpensArchive, fault_of, AnswersBy, ServesBy, DumpsBy, sync_fault, PrintsSynced, CallsPeer, SyncsBy, DoesLine, Runs, dump_fault};
 ghost use Rattle.ua_server.specs.Dumping.{Dumps};
 ghost use Rattle.clap.specs.Words.{subcommand_of};
@@ -61,7 +63,8 @@ pub enum ProgramFault {
 }
 
 impl ProgramFault {
-    ghost use Rattle.ua_server.specs.Telling.{text_of, place_of};
+    ghost use Rattle.ua_server.specs.declared.program.ProgramFault.TheVariants as told;
+    ghost use Rattle.ua_server.specs.Telling.{text_of};
 
     /// The text that tells it: of settings and of a connection the number of the fault.
     pub fn text(&self) -> &'static str
@@ -82,7 +85,7 @@ impl ProgramFault {
 
     /// Where the settings are refused.
     pub fn place(&self) -> Option<&str>
-        ensures { option_copied result ≡ place_of self.now }
+        ensures { option_copied result ≡ (elim self.now [ told.Settings fault place ↦ place | _ ↦ None ]) }
     {
         match self {
             ProgramFault::Settings(_, Some(place)) => Some(place.as_str()),
@@ -102,7 +105,7 @@ impl ProgramFault {
 
 /// The text that tells a fault of the settings, with its number.
 fn refusal_text(fault: SettingsFault) -> &'static str
-    ensures { result.now ≡ refusal_text fault }
+    ensures { result.now ≡ numbered (codes "settings refused") (number_of fault) }
 {
     match fault {
         SettingsFault::NotToml => "settings refused (1)",
@@ -116,7 +119,7 @@ fn refusal_text(fault: SettingsFault) -> &'static str
 
 /// The text that tells a store that can't be opened or read, with the number of the fault.
 fn store_text(fault: StoreFault) -> &'static str
-    ensures { result.now ≡ store_text fault }
+    ensures { result.now ≡ numbered (codes "store refused") (store_number fault) }
 {
     match fault {
         StoreFault::OutOfMemory => "store refused (1)",

@@ -11,7 +11,8 @@ use Rattle.ua_variant.specs.Raise.{variant_fault}
 use Rattle.ua_variant.specs.DataValue.{data_value}
 use Rattle.ua_services.specs.declared.history.HistoryReadDetails.TheVariants.{Other}
 use Rattle.ua_services.specs.Structure.{is_type, binary_body}
-use Rattle.ua_services.specs.History.{raw_of, raw_fields, read_raw_modified_details, read_details_type, read_details_form, history_read_details, point_of, continuation_point, history_read_value_id, history_read_request, modification_info, History, Nothing, Raw, Modified, history_form, history_type, IsHistory, history_data, IsHistoryRead, history_read_result, history_read_response}
+use Rattle.ua_services.specs.History.{raw_of, raw_fields, read_raw_modified_details, history_read_details, continuation_point, history_read_value_id, history_read_request, modification_info, History, Nothing, Raw, Modified, IsHistory, history_data, IsHistoryRead, history_read_result, history_read_response}
+use Rattle.ua_services.proofs.HistoryParts.{point_of, read_details_form, read_details_type, history_form, history_type}
 use Rattle.ua_services.proofs.Firsts.{first_lawful}
 use Rattle.ua_services.proofs.Unkept.{closed_lawful, many_lawful, array_fits, many_fits, null_lawful, structure_lawful, structure_with_values_lawful}
 use Rattle.ua_services.proofs.ReadsLawful.{timestamps_lawful, data_values_lawful}

@@ -8,3 +8,9 @@ pub mod ReadsLawful
 pub mod Canons
 pub mod HistoryLawful
 pub mod ShortUpdates
+pub mod AttributesParts
+pub mod BrowsingParts
+pub mod HistoryParts
+pub mod SessionsParts
+pub mod UpdatesParts
+pub mod EndpointsParts

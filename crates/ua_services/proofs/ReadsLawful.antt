@@ -9,8 +9,10 @@ use Rattle.ua_binary.proofs.Lawful.{u32_lawful, i32_lawful, boolean_lawful, tick
 use Rattle.ua_binary.specs.declared.values.NodeId.TheVariants.{Numeric}
 use Rattle.ua_variant.specs.Raise.{variant_fault}
 use Rattle.ua_variant.specs.DataValue.{data_value}
-use Rattle.ua_services.specs.Browsing.{browse_direction, direction_of, direction_number, browse_description, browse_request, reference_description, browse_result, browse_response}
-use Rattle.ua_services.specs.Attributes.{timestamps, timestamps_of, timestamps_number, read_value_id, read_request, data_values, read_response}
+use Rattle.ua_services.specs.Browsing.{browse_direction, direction_of, browse_description, browse_request, reference_description, browse_result, browse_response}
+use Rattle.ua_services.proofs.BrowsingParts.{direction_number}
+use Rattle.ua_services.specs.Attributes.{timestamps, timestamps_of, read_value_id, read_request, data_values, read_response}
+use Rattle.ua_services.proofs.AttributesParts.{timestamps_number}
 use Rattle.ua_services.proofs.Firsts.{first_lawful}
 use Rattle.ua_services.proofs.Unkept.{unkept_lawful, past_lawful, closed_lawful, many_lawful, array_fits, many_fits, null_lawful}
 use Rattle.ua_services.proofs.UpdatesLawful.{data_value_item}

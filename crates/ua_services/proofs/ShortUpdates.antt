@@ -12,7 +12,8 @@ use Rattle.ua_variant.specs.Variant.{raise}
 use Rattle.ua_variant.specs.DataValue.{IsShortData}
 use Rattle.ua_variant.proofs.Short.{data_value_only}
 use Rattle.ua_services.specs.Structure.{is_type}
-use Rattle.ua_services.specs.Updates.{DataUpdate, Details, HasShortValues, update_data_details, update_data_form, delete_raw_modified_form, delete_at_time_form, other_form, details_type, details_form, history_update_details, history_update_request}
+use Rattle.ua_services.specs.Updates.{DataUpdate, Details, HasShortValues, update_data_details, update_data_form, delete_raw_modified_form, delete_at_time_form, history_update_details, history_update_request}
+use Rattle.ua_services.proofs.UpdatesParts.{other_form, details_form, details_type}
 use Rattle.ua_services.proofs.Firsts.{first_only}
 use Rattle.ua_services.proofs.UpdatesLawful.{updates_asked_lawful}
 

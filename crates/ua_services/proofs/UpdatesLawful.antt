@@ -11,7 +11,8 @@ use Rattle.ua_variant.specs.Raise.{variant_fault}
 use Rattle.ua_variant.specs.DataValue.{data_value}
 use Rattle.ua_variant.proofs.Masks.{data_value_lawful}
 use Rattle.ua_services.specs.Structure.{is_type}
-use Rattle.ua_services.specs.Updates.{Other, update_data_details, delete_raw_modified_details, delete_at_time_details, details_type, details_form, history_update_details, history_update_request, history_update_result, history_update_response}
+use Rattle.ua_services.specs.Updates.{Other, update_data_details, delete_raw_modified_details, delete_at_time_details, history_update_details, history_update_request, history_update_result, history_update_response}
+use Rattle.ua_services.proofs.UpdatesParts.{details_form, details_type}
 use Rattle.ua_services.proofs.Firsts.{first_lawful}
 use Rattle.ua_services.proofs.Unkept.{closed_lawful, many_lawful, many_fits, null_lawful, structure_lawful, structure_with_values_lawful}
 

@@ -25,11 +25,8 @@ use Rattle.ua_services.specs.declared.attributes.ReadRequest.{ReadRequest}
 abbrev pub timestamps_of : ℤ → Option TimestampsToReturn
 timestamps_of n = if int_eq n (pos 0) then Some Source else if int_eq n (pos 1) then Some Server else if int_eq n (pos 2) then Some Both else if int_eq n (pos 3) then Some Neither else None
 
-abbrev pub timestamps_number : Option TimestampsToReturn → ℤ
-timestamps_number given = elim given [ Some Source ↦ pos 0 | Some Server ↦ pos 1 | Some Both ↦ pos 2 | Some Neither ↦ pos 3 | None ↦ pos 4 ]
-
 unfoldable pub timestamps : Format BinaryFault (Option TimestampsToReturn)
-timestamps = standing_for timestamps_of timestamps_number (signed w32)
+timestamps = standing_for timestamps_of (λ given. elim given [ Some Source ↦ pos 0 | Some Server ↦ pos 1 | Some Both ↦ pos 2 | Some Neither ↦ pos 3 | None ↦ pos 4 ]) (signed w32)
 
 -- node, attribute, index range, data encoding
 abbrev pub ReadFields : Type 0

@@ -26,11 +26,8 @@ use Rattle.ua_services.specs.declared.browsing.BrowseResult.{BrowseResult}
 abbrev pub direction_of : ℤ → Option BrowseDirection
 direction_of n = if int_eq n (pos 0) then Some Forward else if int_eq n (pos 1) then Some Inverse else if int_eq n (pos 2) then Some Both else None
 
-abbrev pub direction_number : Option BrowseDirection → ℤ
-direction_number given = elim given [ Some Forward ↦ pos 0 | Some Inverse ↦ pos 1 | Some Both ↦ pos 2 | None ↦ pos 3 ]
-
 unfoldable pub browse_direction : Format BinaryFault (Option BrowseDirection)
-browse_direction = standing_for direction_of direction_number (signed w32)
+browse_direction = standing_for direction_of (λ given. elim given [ Some Forward ↦ pos 0 | Some Inverse ↦ pos 1 | Some Both ↦ pos 2 | None ↦ pos 3 ]) (signed w32)
 
 -- node, direction, reference type, whether its subtypes count, classes, fields of the results
 abbrev pub BrowseFields : Type 0

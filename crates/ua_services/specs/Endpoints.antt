@@ -1,5 +1,5 @@
 -- Endpoints, and the request for them (Part 4, 5.5.4, 7.2, 7.14 and 7.42).
-use Rattle.std.specs.Prelude.{ℕ, ◌<◌, ◌^◌, ℤ, pos, List, [], length, map, All, Option, None}
+use Rattle.std.specs.Prelude.{ℕ, ◌<◌, ◌^◌, ℤ, pos, List, length, map, All, Option, None}
 use Rattle.std.specs.Option.{option_copied}
 use Rattle.std.specs.Int.{w32}
 use Rattle.std.specs.Int.RustNames.{FitsSigned}
@@ -52,10 +52,6 @@ IsShortTexts texts = (length texts < 2 ^ 31) × All (λ v. IsCounted v) texts
 
 abbrev pub IsShortApplication : ApplicationDescription → Type 0
 IsShortApplication v = IsCounted v.application_uri × IsCounted v.product_uri × IsShortLocalized v.application_name × IsShortTexts v.discovery_urls
-
--- no URIs, an empty name, a server
-abbrev pub no_application : ApplicationFields
-no_application = (None, (None, (record { locale = None; text = None }, (pos 0, []))))
 
 -- ---- tokens
 

@@ -1,5 +1,5 @@
 -- What a HistoryRead asks and answers (Part 4, 5.11.3; Part 11, 6.4 and 6.5).
-use Rattle.std.specs.Prelude.{◌<◌, ◌^◌, ℕ, ℤ, pos, List, [], length, map, All, Bool, false, Option, Some, None}
+use Rattle.std.specs.Prelude.{◌<◌, ◌^◌, ℕ, ℤ, pos, List, [], length, map, All, Bool, false, Option, Some, None, ◌∷◌}
 use Rattle.std.specs.Option.{option_copied}
 use Rattle.std.specs.Int.{w32, w64}
 use Rattle.std.specs.Int.RustNames.{FitsSigned}
@@ -48,28 +48,13 @@ abbrev pub read_raw_modified_form : Format BinaryFault HistoryReadDetails
 read_raw_modified_form =
     standing_for ReadRawModified (λ v. elim v [ ReadRawModified d ↦ d | _ ↦ raw_of (false, (record { 0 = pos 0 }, (record { 0 = pos 0 }, (0, false)))) ]) (structure read_raw_modified_details)
 
-abbrev pub other_read_form : Format BinaryFault HistoryReadDetails
-other_read_form = standing_for (λ _. Other) (λ _. Absent) body
-
--- what the type calls for: 649 a structure that fills the body; the body of another type isn't looked into
-abbrev pub read_details_form : NodeId → Format BinaryFault HistoryReadDetails
-read_details_form id = chosen (is_type 649 id) read_raw_modified_form other_read_form
-
--- the type that is written
-abbrev pub read_details_type : HistoryReadDetails → NodeId
-read_details_type v = elim v [ ReadRawModified _ ↦ Numeric 0 649 | Other ↦ Numeric 0 0 ]
-
--- a type, and what it calls for
+-- a type, and what it calls for: 649 a structure that fills the body; the body of another type isn't looked into
 unfoldable pub history_read_details : Format BinaryFault HistoryReadDetails
-history_read_details = headed read_details_type node_id read_details_form
-
--- an empty continuation point counts as none
-abbrev pub point_of : Option (List ℕ) → Option (List ℕ)
-point_of (Some []) = None
-point_of v = v
+history_read_details =
+    headed (λ v. elim v [ ReadRawModified _ ↦ Numeric 0 649 | Other ↦ Numeric 0 0 ]) node_id (λ id. chosen (is_type 649 id) read_raw_modified_form (standing_for (λ _. Other) (λ _. Absent) body))
 
 unfoldable pub continuation_point : Format BinaryFault (Option (List ℕ))
-continuation_point = standing_for point_of (λ v. v) byte_string
+continuation_point = standing_for (λ given. elim given [ Some [] ↦ None | Some (byte ∷ bytes) ↦ Some (byte ∷ bytes) | None ↦ None ]) (λ v. v) byte_string
 
 -- node, index range, data encoding, continuation point
 abbrev pub HistoryReadFields : Type 0
@@ -119,17 +104,6 @@ pub data History : Type 0 where
 abbrev pub history_of : HistoryData → History
 history_of v = elim v [ owned.Nothing ↦ Nothing | owned.Raw values ↦ Raw values | owned.Modified values infos ↦ Modified (values, map info_fields infos) ]
 
--- what the type calls for: 658 HistoryData, 11227 HistoryModifiedData, another nothing
-abbrev pub history_form : NodeId → Format VariantFault History
-history_form id =
-    chosen (is_type 658 id) (standing_for Raw (λ v. elim v [ Raw values ↦ values | _ ↦ [] ]) (structure_with_values data_values)) (
-    chosen (is_type 11227 id) (standing_for Modified (λ v. elim v [ Modified p ↦ p | _ ↦ ([], []) ]) (structure_with_values history_modified_data))
-    (standing_for (λ _. Nothing) (λ _. Absent) (raise body)))
-
--- the type that is written
-abbrev pub history_type : History → NodeId
-history_type v = elim v [ Nothing ↦ Numeric 0 0 | Raw _ ↦ Numeric 0 658 | Modified _ ↦ Numeric 0 11227 ]
-
 -- the bytes of the body
 abbrev pub history_bytes : History → List ℕ
 history_bytes Nothing = []
@@ -142,9 +116,12 @@ IsHistory Nothing = Unit {0}
 IsHistory (Raw values) = AreFew data_value values × (length (data_values.canon values) < 2 ^ 31)
 IsHistory (Modified p) = AreFew data_value p.0 × AreFew modification_info p.1 × (length (history_modified_data.canon p) < 2 ^ 31)
 
--- an extension object: a type, and what it calls for
+-- an extension object: a type, and what it calls for: 658 HistoryData, 11227 HistoryModifiedData, another nothing
 unfoldable pub history_data : Format VariantFault History
-history_data = fitting IsHistory (headed history_type (raise node_id) history_form)
+history_data = fitting IsHistory (headed (λ v. elim v [ Nothing ↦ Numeric 0 0 | Raw _ ↦ Numeric 0 658 | Modified _ ↦ Numeric 0 11227 ]) (raise node_id) (λ id.
+    chosen (is_type 658 id) (standing_for Raw (λ v. elim v [ Raw values ↦ values | _ ↦ [] ]) (structure_with_values data_values)) (
+    chosen (is_type 11227 id) (standing_for Modified (λ v. elim v [ Modified p ↦ p | _ ↦ ([], []) ]) (structure_with_values history_modified_data))
+    (standing_for (λ _. Nothing) (λ _. Absent) (raise body)))))
 
 abbrev pub IsShortHistory : HistoryData → Type 0
 IsShortHistory owned.Nothing = Unit {0}

@@ -1,5 +1,5 @@
 -- Sessions: how one is made, activated and closed (Part 4, 5.7.2 to 5.7.4), and who a client says that it is (7.41).
-use Rattle.std.specs.Prelude.{◌≡◌, ℕ, ◌<◌, ◌^◌, List, length, map, Option, None, Bool, if◌then◌else◌}
+use Rattle.std.specs.Prelude.{◌≡◌, ℕ, ◌<◌, ◌^◌, List, length, map, Option, None, Bool, if◌then◌else◌, pos, []}
 use Rattle.std.specs.Option.{option_copied}
 use Rattle.std.specs.Int.{w32}
 use Rattle.ua_binary.specs.declared.fault.BinaryFault.{BinaryFault}
@@ -10,7 +10,7 @@ use Rattle.ua_binary.specs.Format.{Format, block, ◌▸◌, chosen, headed, sta
 use Rattle.ua_binary.specs.Binary.{unsigned, boolean, text, byte_string, node_id, IsNodeId, status, body, IsShortNode}
 use Rattle.ua_services.specs.Unkept.{unkept, ◌▹◌, ◌◃◌, many, AreFew, unkept_array, null}
 use Rattle.ua_services.specs.Structure.{is_type, structure}
-use Rattle.ua_services.specs.Endpoints.{no_application, application_description, EndpointFields, endpoint_fields, endpoint_description, AreShortEndpoints}
+use Rattle.ua_services.specs.Endpoints.{application_description, EndpointFields, endpoint_fields, endpoint_description, AreShortEndpoints}
 use Rattle.ua_session.specs.Users.{Claim, Anonymous, Named, Other}
 use Rattle.ua_services.specs.declared.sessions.CreateSessionRequest.{CreateSessionRequest}
 use Rattle.ua_services.specs.declared.sessions.CreateSessionResponse.{CreateSessionResponse}
@@ -25,9 +25,6 @@ anonymous_identity_token = unkept None text
 unfoldable pub user_name_identity_token : Format BinaryFault (Option (List ℕ) × (Option (List ℕ) × Option (List ℕ)))
 user_name_identity_token = unkept None text ▹ text ▸ byte_string ▸ text
 
-abbrev pub anonymous_form : Format BinaryFault Claim
-anonymous_form = standing_for (λ _. Anonymous) (λ _. tt) (structure anonymous_identity_token)
-
 abbrev pub user_name_form : Format BinaryFault Claim
 user_name_form = standing_for (λ p. Named p.0 p.1.0 p.1.1) (λ claim. elim claim [ Named name password algorithm ↦ (name, (password, algorithm)) | _ ↦ (None, (None, None)) ])
     (structure user_name_identity_token)
@@ -36,17 +33,12 @@ user_name_form = standing_for (λ p. Named p.0 p.1.0 p.1.1) (λ claim. elim clai
 abbrev pub unknown_form : NodeId → Format BinaryFault Claim
 unknown_form id = standing_for (λ kept. elim kept [ Absent ↦ if is_type 0 id then Anonymous else Other | _ ↦ Other ]) (λ _. Absent) body
 
--- what the type calls for: 321 an AnonymousIdentityToken, 324 a UserNameIdentityToken; each fills its body
-abbrev pub identity_form : NodeId → Format BinaryFault Claim
-identity_form id = chosen (is_type 321 id) anonymous_form (chosen (is_type 324 id) user_name_form (unknown_form id))
-
--- the type that is written: the null one of nobody, and that of a certificate for what is something else
-abbrev pub identity_type : Claim → NodeId
-identity_type claim = elim claim [ Anonymous ↦ Numeric 0 0 | Named _ _ _ ↦ Numeric 0 324 | Other ↦ Numeric 0 327 ]
-
--- a type, and what it calls for
+-- a type, and what it calls for: 321 an AnonymousIdentityToken, 324 a UserNameIdentityToken, each fills its body; nobody's is written
+-- with the null type, and what is something else with that of a certificate
 unfoldable pub user_identity : Format BinaryFault Claim
-user_identity = headed identity_type node_id identity_form
+user_identity =
+    headed (λ claim. elim claim [ Anonymous ↦ Numeric 0 0 | Named _ _ _ ↦ Numeric 0 324 | Other ↦ Numeric 0 327 ]) node_id (λ id.
+    chosen (is_type 321 id) (standing_for (λ _. Anonymous) (λ _. tt) (structure anonymous_identity_token)) (chosen (is_type 324 id) user_name_form (unknown_form id)))
 
 -- ---- signatures and certificates
 
@@ -70,7 +62,7 @@ session_asked r = (option_copied r.endpoint_url, (option_copied r.session_name, 
 -- the client, URI of the server, URL of the endpoint, name, nonce, certificate, timeout, greatest response
 unfoldable pub create_session_request : Format BinaryFault (Option (List ℕ) × (Option (List ℕ) × List ℕ))
 create_session_request =
-    unkept no_application application_description ▹ unkept None text ▹ text ▸ text ▸ unkept None byte_string ▹ unkept None byte_string ▹ block 8 ◃ unkept 0 (unsigned w32)
+    unkept (None, (None, (record { locale = None; text = None }, (pos 0, [])))) application_description ▹ unkept None text ▹ text ▸ text ▸ unkept None byte_string ▹ unkept None byte_string ▹ block 8 ◃ unkept 0 (unsigned w32)
 
 -- session id, token, timeout, endpoints, greatest request
 abbrev pub SessionMade : Type 0

@@ -80,21 +80,11 @@ delete_raw_modified_form = standing_for DeleteRawModified (λ v. elim v [ Delete
 abbrev pub delete_at_time_form : Format BinaryFault Details
 delete_at_time_form = standing_for DeleteAtTime (λ v. elim v [ DeleteAtTime d ↦ d | _ ↦ (no_node, []) ]) (structure delete_at_time_details)
 
-abbrev pub other_form : Format BinaryFault Details
-other_form = standing_for (λ _. Other) (λ _. Absent) body
-
--- what the type calls for: 682, 688 and 691 a structure that fills the body; the body of another type isn't looked into
-abbrev pub details_form : NodeId → Format VariantFault Details
-details_form id =
-    chosen (is_type 682 id) update_data_form (chosen (is_type 688 id) (raise delete_raw_modified_form) (chosen (is_type 691 id) (raise delete_at_time_form) (raise other_form)))
-
--- the type that is written
-abbrev pub details_type : Details → NodeId
-details_type details = elim details [ UpdateData _ ↦ Numeric 0 682 | DeleteRawModified _ ↦ Numeric 0 688 | DeleteAtTime _ ↦ Numeric 0 691 | Other ↦ no_node ]
-
--- a type, and what it calls for
+-- a type, and what it calls for: 682, 688 and 691 a structure that fills the body; the body of another type isn't looked into
 unfoldable pub history_update_details : Format VariantFault Details
-history_update_details = headed details_type (raise node_id) details_form
+history_update_details =
+    headed (λ v. elim v [ UpdateData _ ↦ Numeric 0 682 | DeleteRawModified _ ↦ Numeric 0 688 | DeleteAtTime _ ↦ Numeric 0 691 | Other ↦ no_node ]) (raise node_id) (λ id.
+    chosen (is_type 682 id) update_data_form (chosen (is_type 688 id) (raise delete_raw_modified_form) (chosen (is_type 691 id) (raise delete_at_time_form) (raise (standing_for (λ _. Other) (λ _. Absent) body)))))
 
 -- ---- HistoryUpdate
 

@@ -1,13 +1,15 @@
 //! What a HistoryRead asks and answers (Part 4, 5.11.3; Part 11, 6.4 and 6.5).
 
+ghost use Rattle.ua_binary.specs.declared.values.Body.TheVariants.{Absent};
+ghost use Rattle.ua_services.specs.declared.history.HistoryReadDetails.TheVariants.{Other};
 ghost use Rattle.std.specs.Prelude.{◌≡◌, ◌<◌, ◌^◌, ◌++◌, ◌∷◌, [], pos, length, map, IfOk};
 ghost use Rattle.std.specs.Option.{option_copied};
 ghost use Rattle.std.specs.Int.{w32};
-ghost use Rattle.ua_binary.specs.Format.{Puts, PutsPart, Reads, ReadsUnless, saturated};
-ghost use Rattle.ua_binary.specs.Binary.{array, node_id, signed};
+ghost use Rattle.ua_binary.specs.Format.{Puts, PutsPart, Reads, ReadsUnless, saturated, standing_for};
+ghost use Rattle.ua_binary.specs.Binary.{array, node_id, signed, body};
 ghost use Rattle.ua_variant.specs.Raise.{variant_fault};
 ghost use Rattle.ua_services.specs.Attributes.{data_values, AreShortValues};
-ghost use Rattle.ua_services.specs.History.{read_raw_modified_form, other_read_form, history_read_details, continuation_point, HistoryReadFields, history_read_fields, history_read_value_id, history_asked, history_read_request, InfoFields, info_fields, IsShortInfo, modification_info, history_of, history_bytes, IsHistory, history_data, IsShortHistory, history_fields, IsHistoryRead, history_read_result, IsShortHistoryRead, AreShortHistoryReads, AreHistoryReads, history_read_response};
+ghost use Rattle.ua_services.specs.History.{read_raw_modified_form, history_read_details, continuation_point, HistoryReadFields, history_read_fields, history_read_value_id, history_asked, history_read_request, InfoFields, info_fields, IsShortInfo, modification_info, history_of, history_bytes, IsHistory, history_data, IsShortHistory, history_fields, IsHistoryRead, history_read_result, IsShortHistoryRead, AreShortHistoryReads, AreHistoryReads, history_read_response};
 ghost use Rattle.ua_binary.specs.declared.values.NodeId.TheVariants.{Numeric};
 
 use crate::attributes::{TimestampsToReturn, data_values_size, put_data_values, read_timestamps};
@@ -119,7 +121,7 @@ fn read_raw_modified(cursor: &mut Cursor<'_>) -> Result<HistoryReadDetails, Bina
 
 /// The body of details of another type.
 fn skip_other(cursor: &mut Cursor<'_>) -> Result<HistoryReadDetails, BinaryFault>
-    ensures { Reads (λ x. x) result cursor.old cursor.new other_read_form.read }
+    ensures { Reads (λ x. x) result cursor.old cursor.new (standing_for (λ _. Other) (λ _. Absent) body).read }
 {
     cursor.body()?;
     Ok(HistoryReadDetails::Other)

@@ -1,9 +1,10 @@
 //! Who a client says that it is (Part 4, 7.41).
 
-ghost use Rattle.ua_binary.specs.Format.{Reads};
+ghost use Rattle.ua_services.specs.Structure.{structure};
+ghost use Rattle.ua_binary.specs.Format.{Reads, standing_for};
 ghost use Rattle.ua_binary.specs.Binary.{node_of};
-ghost use Rattle.ua_session.specs.Users.{claim_of};
-ghost use Rattle.ua_services.specs.Sessions.{anonymous_form, user_name_form, unknown_form, user_identity};
+ghost use Rattle.ua_session.specs.Users.{claim_of, Anonymous};
+ghost use Rattle.ua_services.specs.Sessions.{user_name_form, unknown_form, user_identity, anonymous_identity_token};
 
 use crate::structure::{is_type, read_binary_body};
 use ua_binary::{BinaryFault, BodyRef, Cursor, NodeIdRef};
@@ -12,7 +13,7 @@ use ua_session::Identity;
 /// The body of an AnonymousIdentityToken; the policy id isn't looked at.
 #[tactic(auto, unfolding(crate::specs::Sessions::anonymous_identity_token))]
 fn read_anonymous<'a>(cursor: &mut Cursor<'a>) -> Result<Identity<'a>, BinaryFault>
-    ensures { Reads claim_of result cursor.old cursor.new anonymous_form.read }
+    ensures { Reads claim_of result cursor.old cursor.new (standing_for (λ _. Anonymous) (λ _. tt) (structure anonymous_identity_token)).read }
 {
     let mut next = cursor.fork();
     let mut body = read_binary_body(&mut next)?;

@@ -1,9 +1,10 @@
 //! Fields that a server has no use for: they are read by their grammar, and dropped.
 
+ghost use Rattle.std.specs.Prelude.{None, pos, []};
 ghost use Rattle.ua_binary.specs.Format.{Reads};
 ghost use Rattle.ua_binary.specs.Binary.{text};
 ghost use Rattle.ua_services.specs.Unkept.{unkept, unkept_array};
-ghost use Rattle.ua_services.specs.Endpoints.{application_description, no_application};
+ghost use Rattle.ua_services.specs.Endpoints.{application_description};
 ghost use Rattle.ua_services.specs.Sessions.{signature_data, no_signature, signed_software_certificate};
 
 use ua_binary::{BinaryFault, Cursor};
@@ -61,7 +62,7 @@ pub(crate) fn skip_signature(cursor: &mut Cursor<'_>) -> Result<(), BinaryFault>
 /// The description of an application (Part 4, 7.2).
 #[tactic(auto, unfolding(crate::specs::Endpoints::application_description))]
 pub(crate) fn skip_application(cursor: &mut Cursor<'_>) -> Result<(), BinaryFault>
-    ensures { Reads (λ x. x) result cursor.old cursor.new (unkept no_application application_description).read }
+    ensures { Reads (λ x. x) result cursor.old cursor.new (unkept (None, (None, (record { locale = None; text = None }, (pos 0, [])))) application_description).read }
 {
     let mut next = cursor.fork();
     next.text()?;

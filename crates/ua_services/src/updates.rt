@@ -1,10 +1,12 @@
 //! What a HistoryUpdate asks and answers (Part 4, 5.11.5; Part 11, 6.8).
 
+ghost use Rattle.ua_binary.specs.declared.values.Body.TheVariants.{Absent};
+ghost use Rattle.ua_binary.specs.Binary.{body};
 ghost use Rattle.std.specs.Prelude.{◌≡◌, List, map, IfOk};
 ghost use Rattle.ua_binary.specs.declared.codes.Status.{Status};
-ghost use Rattle.ua_binary.specs.Format.{Puts, PutsPart, Reads, ReadsUnless};
+ghost use Rattle.ua_binary.specs.Format.{Puts, PutsPart, Reads, ReadsUnless, standing_for};
 ghost use Rattle.std.specs.List.{AllByRecursion};
-ghost use Rattle.ua_services.specs.Updates.{Details, HasShortValues, details_of, update_data_form, delete_raw_modified_form, delete_at_time_form, other_form, history_update_details, history_update_request, update_fields, history_update_result, IsShortUpdate, AreShortUpdates, AreUpdated, history_update_response};
+ghost use Rattle.ua_services.specs.Updates.{Details, HasShortValues, details_of, update_data_form, delete_raw_modified_form, delete_at_time_form, history_update_details, history_update_request, update_fields, history_update_result, IsShortUpdate, AreShortUpdates, AreUpdated, history_update_response, Other};
 
 use crate::first::{OF_A_HUNDRED, OF_A_THOUSAND, read_first};
 use crate::many::{many_size, put_many, put_null_array};
@@ -141,7 +143,7 @@ fn read_delete_at_time<'a>(
 
 /// The body of details of another type.
 fn skip_other<'a>(cursor: &mut Cursor<'a>) -> Result<HistoryUpdateDetails<'a>, BinaryFault>
-    ensures { Reads details_of result cursor.old cursor.new other_form.read }
+    ensures { Reads details_of result cursor.old cursor.new (standing_for (λ _. Other) (λ _. Absent) body).read }
 {
     cursor.body()?;
     Ok(HistoryUpdateDetails::Other)

@@ -10,9 +10,11 @@ use Rattle.ua_session.specs.declared.fault.SessionFault.{SessionFault}
 use Rattle.ua_session.specs.declared.fault.SessionFault.TheVariants.{TooMany, IdInvalid, NotActivated, IdentityInvalid, IdentityRejected, OutOfMemory}
 use Rattle.ua_session.specs.declared.session.Session.{Session}
 use Rattle.ua_session.specs.declared.identity.User.{User}
-use Rattle.ua_session.specs.Users.{Allowed, Claim, Anonymous, Named as ByName, Other, nobody, has_name, judgement_of_user, judgement_of_name, unless_encrypted, judgement}
+use Rattle.ua_session.specs.Users.{Allowed, Claim, Anonymous, Named as ByName, Other, judgement_of_name, judgement}
+use Rattle.ua_session.proofs.UsersParts.{has_name, nobody, unless_encrypted, judgement_of_user}
 use Rattle.ua_binary.specs.Format.{◌>>=◌, IsOrStarved}
-use Rattle.ua_session.specs.Sessions.{State, fresh, session_id_of, token_of, is_named, is_full, with_new, with_user, without_session}
+use Rattle.ua_session.specs.Sessions.{State, fresh, session_id_of, token_of, is_named, with_new, with_user, without_session}
+use Rattle.ua_session.proofs.SessionsParts.{is_full}
 use Rattle.ua_session.specs.History.{Deed, Made, Activated, Closed, made_count, closed_count, was_closed, last_user, IsAlive, session_of, IsValid, HasRoom, Event, Create, Activate, Close, Ask, Does, Runs, after, IsAnswered, AreAnswered}
 use Rattle.ua_session.proofs.Alive.{at, changed, Apart, at_same-with_user, at_other-with_user, at_same-without_session, at_other-without_session, length-without_session, length-with_user, apart-with_user, apart-without_session, at-append, apart-append}
 

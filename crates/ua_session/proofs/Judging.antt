@@ -6,7 +6,8 @@ use Rattle.std.proofs.lemmas.Bool.{true≢false, false_from_ne_true}
 use Rattle.ua_session.specs.declared.fault.SessionFault.{SessionFault}
 use Rattle.ua_session.specs.declared.fault.SessionFault.TheVariants.{IdentityRejected}
 use Rattle.ua_session.specs.declared.identity.User.{User}
-use Rattle.ua_session.specs.Users.{Allowed, Anonymous, Named, nobody, has_name, judgement_of_user, judgement_of_name, unless_encrypted, judgement, IsFirst}
+use Rattle.ua_session.specs.Users.{Allowed, Anonymous, Named, judgement_of_name, judgement, IsFirst}
+use Rattle.ua_session.proofs.UsersParts.{has_name, nobody, unless_encrypted, judgement_of_user}
 
 same : (a b : List ℕ) → pointwise nat_eq a b ≡ true → a ≡ b
 same a b = (bytes_decides a b).0
@@ -88,7 +89,9 @@ judged-Named allowed name password algorithm user = (
       let both = plain-Ok (unwrap_or algorithm []) (judgement_of_name allowed.named name (unwrap_or password [])) user is in
       let one = named_in allowed.named name (unwrap_or password []) user both.1 in
       (both.0, one.0, one.1),
-  λ h. rw (h.0, h.1) (first-told allowed.named user (unwrap_or password []) h.2),
+  λ h.
+      subst (λ l. unless_encrypted l (judgement_of_name allowed.named name (unwrap_or password [])) ≡ Ok user) (sym h.0)
+      (subst (λ n. judgement_of_name allowed.named n (unwrap_or password []) ≡ Ok user) (sym h.1) (first-told allowed.named user (unwrap_or password []) h.2)),
 )
 
 pub ruleset letting_in = (judged-Anonymous, judged-Named)

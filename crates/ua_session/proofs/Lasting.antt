@@ -8,7 +8,8 @@ use Rattle.ua_session.specs.declared.fault.SessionFault.TheVariants.{OutOfMemory
 use Rattle.ua_session.specs.declared.session.Session.{Session}
 use Rattle.ua_session.specs.Users.{Allowed, Claim, judgement}
 use Rattle.ua_binary.specs.Format.{◌>>=◌, IsOrStarved}
-use Rattle.ua_session.specs.Sessions.{State, fresh, session_id_of, token_of, is_named, is_full, user_at, with_new}
+use Rattle.ua_session.specs.Sessions.{State, fresh, session_id_of, token_of, is_named, user_at, with_new}
+use Rattle.ua_session.proofs.SessionsParts.{is_full}
 use Rattle.ua_session.specs.History.{Deed, Made, Activated, Closed, made_count, was_closed, last_user, IsAlive, session_of, IsValid, Event, Create, Activate, Close, Ask, Does, Runs, after, IsAnswered, LeaveAlone}
 use Rattle.ua_session.proofs.Alive.{length-with_user, length-le-without_session}
 use Rattle.ua_session.proofs.Histories.{Represents, represents-fresh, half, valid, invalid, answering, leaving}

@@ -5,3 +5,5 @@ pub mod Alive
 pub mod Histories
 pub mod Judging
 pub mod Lasting
+pub mod SessionsParts
+pub mod UsersParts

@@ -14,9 +14,4 @@ number_of IdentityRejected = 5
 number_of OutOfMemory = 6
 
 abbrev pub code_of : SessionFault → Status
-code_of TooMany = BAD_TOO_MANY_SESSIONS
-code_of IdInvalid = BAD_SESSION_ID_INVALID
-code_of NotActivated = BAD_SESSION_NOT_ACTIVATED
-code_of IdentityInvalid = BAD_IDENTITY_TOKEN_INVALID
-code_of IdentityRejected = BAD_IDENTITY_TOKEN_REJECTED
-code_of OutOfMemory = BAD_OUT_OF_MEMORY
+code_of fault = elim fault [ TooMany ↦ BAD_TOO_MANY_SESSIONS | IdInvalid ↦ BAD_SESSION_ID_INVALID | NotActivated ↦ BAD_SESSION_NOT_ACTIVATED | IdentityInvalid ↦ BAD_IDENTITY_TOKEN_INVALID | IdentityRejected ↦ BAD_IDENTITY_TOKEN_REJECTED | OutOfMemory ↦ BAD_OUT_OF_MEMORY ]

@@ -29,15 +29,11 @@ pub record State : Type 0 where
 abbrev pub fresh : State
 fresh = record { made = 0; alive = [] }
 
--- 16 are open, or 1,000,000 were made
-abbrev pub is_full : State → Bool
-is_full state = nat_le 16 (length state.alive) || nat_le 1000000 state.made
-
 -- ---- what a call answers where memory is there
 
 -- the id and the token of the next session
 abbrev pub create_answer : State → Result (NodeId × NodeId) SessionFault
-create_answer state = if is_full state then Err TooMany else Ok (session_id_of (state.made + 1), token_of (state.made + 1))
+create_answer state = if nat_le 16 (length state.alive) || nat_le 1000000 state.made then Err TooMany else Ok (session_id_of (state.made + 1), token_of (state.made + 1))
 
 -- as whom an open session is activated
 abbrev pub activate_answer : State → NodeId → Allowed → Claim → Result (List ℕ) SessionFault

@@ -1,5 +1,5 @@
 -- Which users there are, and as whom an identity is allowed (Part 4, 5.7.3).
-use Rattle.std.specs.Prelude.{◌≡◌, ◌≢◌, ◌≤◌, ℕ, Bool, true, List, [], ◌∷◌, ◌++◌, length, codes, nat_eq, Option, None, Some, Result, Ok, Err, find, unwrap_or, if◌then◌else◌}
+use Rattle.std.specs.Prelude.{◌≡◌, ◌≢◌, ◌≤◌, ℕ, Bool, true, List, [], ◌∷◌, ◌++◌, length, codes, nat_eq, Option, option_and_then, None, Some, Result, Ok, Err, find, unwrap_or, if◌then◌else◌}
 use Rattle.std.specs.List.{AllByRecursion}
 use Rattle.std.specs.Borrow.{Bor}
 use Rattle.std.specs.Option.{option_copied}
@@ -23,9 +23,8 @@ with_added allowed name password = record allowed { named = allowed.named ++ rec
 -- An identity without where it lies in memory: no name, or a name with a password and the algorithm that encrypted it, or
 -- something else.
 pub data Claim : Type 0 where
-  Anonymous : Claim
+  Anonymous Other : Claim
   Named : Option (List ℕ) → Option (List ℕ) → Option (List ℕ) → Claim
-  Other : Claim
 
 abbrev pub claim_of : Identity → Claim
 claim_of lent.Anonymous = Anonymous
@@ -37,29 +36,15 @@ abbrev pub answer_of : Result (Bor (List ℕ)) SessionFault → Result (List ℕ
 answer_of (Ok name) = Ok name.now
 answer_of (Err fault) = Err fault
 
--- what the user is called who has no name
-abbrev pub nobody : List ℕ
-nobody = codes "anonymous"
-
-abbrev pub has_name : List ℕ → User → Bool
-has_name name user = pointwise nat_eq user.name name
-
--- the user's name where the password is the user's, every byte of it
-abbrev pub judgement_of_user : Option User → List ℕ → Result (List ℕ) SessionFault
-judgement_of_user given password = elim given [ None ↦ Err IdentityRejected | Some user ↦ if pointwise nat_eq user.password password then Ok user.name else Err IdentityRejected ]
-
--- of equal names the first one counts, and a null name is nobody's
+-- the user's name where the password is the user's, every byte of it; of equal names the first one counts, and a null name is nobody's
 abbrev pub judgement_of_name : List User → Option (List ℕ) → List ℕ → Result (List ℕ) SessionFault
-judgement_of_name users given password = elim given [ None ↦ Err IdentityRejected | Some name ↦ judgement_of_user (find (has_name name) users) password ]
+judgement_of_name users given password =
+    elim (option_and_then (λ name. find (λ user. pointwise nat_eq user.name name) users) given) [ None ↦ Err IdentityRejected | Some user ↦ if pointwise nat_eq user.password password then Ok user.name else Err IdentityRejected ]
 
--- the answer where nothing was encrypted: the algorithm is empty
-abbrev pub unless_encrypted : List ℕ → Result (List ℕ) SessionFault → Result (List ℕ) SessionFault
-unless_encrypted list answer = elim list [ [] ↦ answer | byte ∷ algorithm ↦ Err IdentityInvalid ]
-
--- as whom an identity is allowed, or why it isn't; a null password and a null algorithm count as empty ones
+-- as whom an identity is allowed, or why it isn't; one that is encrypted is invalid; a null password and a null algorithm count as empty ones
 abbrev pub judgement : Allowed → Claim → Result (List ℕ) SessionFault
-judgement allowed Anonymous = if allowed.anonymous then Ok nobody else Err IdentityRejected
-judgement allowed (Named name password algorithm) = unless_encrypted (unwrap_or algorithm []) (judgement_of_name allowed.named name (unwrap_or password []))
+judgement allowed Anonymous = if allowed.anonymous then Ok (codes "anonymous") else Err IdentityRejected
+judgement allowed (Named name password algorithm) = elim (unwrap_or algorithm []) [ [] ↦ judgement_of_name allowed.named name (unwrap_or password []) | byte ∷ algorithm ↦ Err IdentityInvalid ]
 judgement allowed Other = Err IdentityInvalid
 
 abbrev pub HasShortName : User → Type 0

@@ -1,8 +1,8 @@
 //! What holds of the calls of any connection's sessions, whatever they are, and of the users' judgement.
 
-ghost use Rattle.std.specs.Prelude.{◌≡◌, ◌≢◌, ◌≤◌, ◌↔◌, ◌++◌, [], ◌∷◌, List, ℕ, Option, Some, Ok, Err, true, length, unwrap_or};
+ghost use Rattle.std.specs.Prelude.{◌≡◌, ◌≢◌, ◌≤◌, ◌↔◌, ◌++◌, [], ◌∷◌, List, ℕ, Option, Some, Ok, Err, true, length, unwrap_or, codes};
 ghost use Rattle.ua_binary.specs.declared.values.NodeId.{NodeId};
-ghost use Rattle.ua_session.specs.Users.{Allowed, Claim, Anonymous, Named, Other, nobody, judgement, IsFirst};
+ghost use Rattle.ua_session.specs.Users.{Allowed, Claim, Anonymous, Named, Other, judgement, IsFirst};
 ghost use Rattle.ua_session.specs.Sessions.{State, fresh, user_at};
 ghost use Rattle.ua_session.specs.History.{Event, Create, Activate, Close, Runs, AreAnswered, LeaveAlone};
 
@@ -50,7 +50,7 @@ pub fn sessions_are_bounded()
 /// no encryption where the first user of that name has the whole of the password.
 #[tactic(auto, using(crate::proofs::Judging::letting_in))]
 pub fn identities_are_judged_by_the_first_of_equal_names()
-    ensures anonymous { (allowed : Allowed) (user : List ℕ) → (judgement allowed Anonymous ≡ Ok user) ↔ ((allowed.anonymous ≡ true) × (user ≡ nobody)) }
+    ensures anonymous { (allowed : Allowed) (user : List ℕ) → (judgement allowed Anonymous ≡ Ok user) ↔ ((allowed.anonymous ≡ true) × (user ≡ codes "anonymous")) }
     ensures named { (allowed : Allowed) (name password algorithm : Option (List ℕ)) (user : List ℕ)
         → (judgement allowed (Named name password algorithm) ≡ Ok user)
         ↔ ((unwrap_or algorithm [] ≡ []) × (name ≡ Some user) × IsFirst allowed.named user (unwrap_or password [])) }

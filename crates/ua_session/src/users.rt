@@ -1,9 +1,10 @@
 //! Who may activate a session, and as whom.
 
-ghost use Rattle.std.specs.Prelude.{◌≡◌, ◌≤◌, ◌<◌, [], length, nat_lt, find, IfOk, IfErr, IfSome, OnOk};
+ghost use Rattle.std.specs.Cmp.Lexicographic.{pointwise};
+ghost use Rattle.std.specs.Prelude.{◌≡◌, ◌≤◌, ◌<◌, [], length, nat_lt, find, IfOk, IfErr, IfSome, OnOk, nat_eq};
 ghost use Rattle.std.specs.List.{AllByRecursion};
 ghost use Rattle.std.specs.Option.{option_copied};
-ghost use Rattle.ua_session.specs.Users.{answer_of, judgement_of_name, has_name, HasShortName, IsUserName};
+ghost use Rattle.ua_session.specs.Users.{answer_of, judgement_of_name, HasShortName, IsUserName};
 
 use crate::fault::SessionFault;
 use crate::identity::{Identity, User};
@@ -128,7 +129,7 @@ fn admit<'a>(
 /// The first user of this name.
 fn find_user<'a>(users: &'a [User], name: &str) -> Option<&'a User>
     requires { AllByRecursion HasShortName users.now }
-    ensures found { option_copied result ≡ find (has_name name.now) users.now }
+    ensures found { option_copied result ≡ find (λ user. pointwise nat_eq user.name name.now) users.now }
     ensures short { IfSome result (λ user. HasShortName user.now) }
 {
     users.iter().find(|user| user.name.as_str() == name)

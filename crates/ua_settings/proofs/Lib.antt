@@ -3,3 +3,5 @@ pub mod Plans
 pub mod Sounds
 pub mod Tables
 pub mod Wrongs
+pub mod FileParts
+pub mod ReadingParts

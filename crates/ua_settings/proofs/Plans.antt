@@ -20,7 +20,8 @@ use Rattle.ua_settings.specs.declared.fault.SettingsFault.{SettingsFault}
 use Rattle.ua_settings.specs.declared.fault.SettingsFault.TheVariants.{OutOfMemory}
 use Rattle.ua_settings.specs.declared.keys.Section.TheVariants.{User, Folder, Variable}
 use Rattle.ua_settings.specs.File.{tables, text_at, is_name, is_short, names_in}
-use Rattle.ua_settings.specs.Reading.{Entry, entry_of, folder_in, variable_in, table_at, truth_at, user_in, values_of_tables, users_in, space_fault, IsPlanOf, IsSpaceOf, IsSpaceOrStarved, IsAcceptedOrStarved}
+use Rattle.ua_settings.specs.Reading.{Entry, entry_of, folder_in, variable_in, table_at, truth_at, values_of_tables, space_fault, IsPlanOf, IsSpaceOf, IsSpaceOrStarved, IsAcceptedOrStarved}
+use Rattle.ua_settings.proofs.ReadingParts.{user_in, users_in}
 use Rattle.ua_settings.specs.Settings.{Values}
 use Rattle.ua_settings.specs.Sound.{IsSound, IsSoundFolder, IsSoundVariable}
 use Rattle.ua_settings.proofs.Mapped.{any_of_mapped}

@@ -9,7 +9,8 @@ use Rattle.ua_settings.specs.declared.keys.Section.{Section}
 use Rattle.ua_settings.specs.declared.keys.Section.TheVariants.{Document, Archive, Server, User, Folder, Variable}
 use Rattle.ua_settings.specs.declared.keys.Wrong.{Wrong}
 use Rattle.ua_settings.specs.declared.keys.Wrong.TheVariants.{Unknown, Missing, Bad}
-use Rattle.ua_settings.specs.File.{Names, Spot, rules, test, is_id, is_name, is_short, is_replica, is_missing, is_bad, name_of, text_at, tables, names_in, wrong_key, wrong_from, wrong_in, wrong_at, or_later, or_else, refused}
+use Rattle.ua_settings.specs.File.{Names, Spot, rules, test, is_id, is_name, is_short, is_replica, is_missing, is_bad, text_at, tables, names_in, wrong_key, wrong_from, wrong_at, refused}
+use Rattle.ua_settings.proofs.FileParts.{wrong_in, name_of, or_later, or_else}
 use Rattle.ua_settings.specs.Sound.{IsSound, IsSoundArchive, IsSoundServer, IsSoundUser, IsSoundFolder, IsSoundVariable}
 
 -- ---- nothing is found

@@ -4,9 +4,4 @@ use Rattle.ua_settings.specs.declared.fault.SettingsFault.{SettingsFault}
 use Rattle.ua_settings.specs.declared.fault.SettingsFault.TheVariants.{NotToml, MissingKey, BadValue, UnknownKey, Space, OutOfMemory}
 
 abbrev pub number_of : SettingsFault → ℕ
-number_of NotToml = 1
-number_of MissingKey = 2
-number_of BadValue = 3
-number_of UnknownKey = 4
-number_of (Space fault) = 5
-number_of OutOfMemory = 6
+number_of fault = elim fault [ NotToml ↦ 1 | MissingKey ↦ 2 | BadValue ↦ 3 | UnknownKey ↦ 4 | Space fault ↦ 5 | OutOfMemory ↦ 6 ]

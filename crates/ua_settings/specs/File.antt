@@ -1,6 +1,6 @@
 -- What a settings file says (TOML 1.1): its tables, their keys, what each key must hold, and where a file is wrong.
 use Rattle.std.specs.Prelude.{◌+◌, ◌==◌, ◌&&◌, ℕ, ℤ, pos, negsuc, Bool, true, false, not, List, [], ◌∷◌, length, map, find, codes, nat_eq, nat_le, Option, None, Some, is_some, is_none, option_map, option_and_then, unwrap_or}
-use Rattle.std.specs.Option.{option_to_list}
+use Rattle.std.specs.Option.{option_to_list, option_or}
 use Rattle.std.specs.List.{list_any, count_by, filter_map}
 use Rattle.std.specs.Cmp.Lexicographic.{pointwise}
 use Rattle.toml.specs.Data.{Data, Items, no_items, item, Members, no_members, member, get_member, as_str, as_integer, as_bool, as_array, as_table}
@@ -15,10 +15,8 @@ use Rattle.ua_settings.specs.declared.keys.Wrong.TheVariants.{Unknown, Missing, 
 -- ---- the keys of each table
 
 -- a key: its name, whether it must be there, and what it holds
-pub record Rule : Type 0 where
-  pub name : List ℕ
-  pub required : Bool
-  pub holds : Holds
+abbrev pub Rule : Type 0
+Rule = record { name : List ℕ; required : Bool; holds : Holds }
 
 abbrev pub required : List ℕ → Holds → Rule
 required name holds = record { name = name; required = true; holds = holds }
@@ -44,23 +42,15 @@ abbrev pub keys_in : Members → List (List ℕ)
 keys_in no_members = []
 keys_in (member key value members) = key ∷ keys_in members
 
--- the table that a value is, where it is one
-abbrev pub one_table : Option Data → List Members
-one_table value = option_to_list (option_and_then as_table value)
-
--- the values of an array
-abbrev pub items_of : Option Items → List Data
-items_of given = elim given [ None ↦ [] | Some items ↦ items_in items ]
-
 -- the tables among the values of an array
 abbrev pub many_tables : Option Data → List Members
-many_tables value = filter_map as_table (items_of (option_and_then as_array value))
+many_tables value = filter_map as_table (elim (option_and_then as_array value) [ None ↦ [] | Some items ↦ items_in items ])
 
 -- the tables of a section
 abbrev pub tables : Members → Section → List Members
 tables document Document = document ∷ []
-tables document Archive = one_table (get_member (codes "archive") document)
-tables document Server = one_table (get_member (codes "server") document)
+tables document Archive = option_to_list (option_and_then as_table (get_member (codes "archive") document))
+tables document Server = option_to_list (option_and_then as_table (get_member (codes "server") document))
 tables document User = many_tables (get_member (codes "user") document)
 tables document Folder = many_tables (get_member (codes "folder") document)
 tables document Variable = many_tables (get_member (codes "variable") document)
@@ -72,9 +62,8 @@ text_at key members = unwrap_or (option_and_then as_str (get_member key members)
 -- ---- what a key must hold
 
 -- the names of the users and the ids of the folders, on which a value may depend
-pub record Names : Type 0 where
-  pub users : List (List ℕ)
-  pub folders : List (List ℕ)
+abbrev pub Names : Type 0
+Names = record { users : List (List ℕ); folders : List (List ℕ) }
 
 abbrev pub names_in : Members → Names
 names_in document = record { users = map (text_at (codes "name")) (tables document User); folders = map (text_at (codes "id")) (tables document Folder) }
@@ -126,43 +115,29 @@ is_missing members rule = rule.required && is_none (get_member rule.name members
 abbrev pub is_bad : Names → Members → Rule → Bool
 is_bad names members rule = test (λ value. not (fits names rule.holds value)) (get_member rule.name members)
 
-abbrev pub name_of : Rule → List ℕ
-name_of rule = rule.name
-
 -- the first key of a table that is wrong: one that the table may not have, one that it has to have, or one that doesn't hold what it must
 abbrev pub wrong_key : Names → Wrong → Section → Members → Option (List ℕ)
 wrong_key names Unknown section members = find (λ key. not (is_key section key)) (keys_in members)
-wrong_key names Missing section members = option_map name_of (find (is_missing members) (rules section))
-wrong_key names Bad section members = option_map name_of (find (is_bad names members) (rules section))
+wrong_key names Missing section members = option_map (λ rule. rule.name) (find (is_missing members) (rules section))
+wrong_key names Bad section members = option_map (λ rule. rule.name) (find (is_bad names members) (rules section))
 
 -- a key in the table of this number, from 1, among those of a section
-pub record Spot : Type 0 where
-  pub section : Section
-  pub number : ℕ
-  pub key : List ℕ
-
--- the key where there is one, else what is found later
-abbrev pub or_later : Section → ℕ → Option (List ℕ) → Option Spot → Option Spot
-or_later section number given later = elim given [ Some key ↦ Some (record { section = section; number = number; key = key }) | None ↦ later ]
+abbrev pub Spot : Type 0
+Spot = record { section : Section; number : ℕ; key : List ℕ }
 
 -- the first wrong key of these tables of a section, of which the first has this number
 abbrev pub wrong_from : Names → Wrong → Section → ℕ → List Members → Option Spot
 wrong_from names wrong section number [] = None
-wrong_from names wrong section number (members ∷ more) = or_later section number (wrong_key names wrong section members) (wrong_from names wrong section (number + 1) more)
-
-abbrev pub wrong_in : Members → Wrong → Section → Option Spot
-wrong_in document wrong section = wrong_from (names_in document) wrong section 1 (tables document section)
-
-abbrev pub or_else : {A : Type 0} → Option A → Option A → Option A
-or_else given later = elim given [ Some a ↦ Some a | None ↦ later ]
+wrong_from names wrong section number (members ∷ more) =
+    option_or (option_map (λ key. record { section = section; number = number; key = key }) (wrong_key names wrong section members)) (wrong_from names wrong section (number + 1) more)
 
 abbrev pub first_of : {A B : Type 0} → (A → Option B) → List A → Option B
 first_of f [] = None
-first_of f (a ∷ more) = or_else (f a) (first_of f more)
+first_of f (a ∷ more) = option_or (f a) (first_of f more)
 
 -- the first wrong key of a document
 abbrev pub wrong_at : Members → Wrong → Option Spot
-wrong_at document wrong = first_of (wrong_in document wrong) (Document ∷ Archive ∷ Server ∷ User ∷ Folder ∷ Variable ∷ [])
+wrong_at document wrong = first_of (λ section. wrong_from (names_in document) wrong section 1 (tables document section)) (Document ∷ Archive ∷ Server ∷ User ∷ Folder ∷ Variable ∷ [])
 
 -- the first way in which a document is wrong, unknown keys before missing ones and these before bad ones, and where
 abbrev pub refused : Members → Option (Wrong × Spot)

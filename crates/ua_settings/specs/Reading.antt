@@ -1,11 +1,10 @@
 -- What settings a file gives.
-use Rattle.std.specs.Prelude.{◌≡◌, ◌⊎◌, ℕ, ℤ, pos, negsuc, Bool, false, List, [], map, codes, Option, None, Some, option_and_then, option_copied, unwrap_or, Result, Ok, Err}
+use Rattle.std.specs.Prelude.{◌≡◌, ◌⊎◌, ℕ, pos, negsuc, Bool, false, List, [], map, codes, Option, None, Some, option_and_then, option_copied, unwrap_or, Result, Ok, Err}
 use Rattle.ua_binary.specs.Format.{◌>>=◌}
 use Rattle.std.specs.Result.{result_map_both}
 use Rattle.toml.specs.Data.{Members, no_members, get_member, as_str, as_integer, as_bool, as_table}
 use Rattle.uuid.specs.Text.{parsed}
 use Rattle.ua_session.specs.Users.{Allowed}
-use Rattle.ua_session.specs.declared.identity.User.{User as SessionUser}
 use Rattle.ua_space.specs.declared.fault.BuildFault.{BuildFault}
 use Rattle.ua_space.specs.declared.fault.BuildFault.TheVariants as build
 use Rattle.ua_space.specs.declared.layout.Layout.{Layout}
@@ -29,14 +28,8 @@ table_at key members = unwrap_or (option_and_then as_table (get_member key membe
 abbrev pub truth_at : List ℕ → Members → Bool
 truth_at key members = unwrap_or (option_and_then as_bool (get_member key members)) false
 
-abbrev pub natural : Option ℤ → ℕ
-natural given = elim given [ Some (pos n) ↦ n | Some (negsuc n) ↦ 0 | None ↦ 0 ]
-
 abbrev pub number_at : List ℕ → Members → ℕ
-number_at key members = natural (option_and_then as_integer (get_member key members))
-
-abbrev pub user_in : Members → SessionUser
-user_in user = record { name = text_at (codes "name") user; password = text_at (codes "password") user }
+number_at key members = elim (option_and_then as_integer (get_member key members)) [ Some (pos n) ↦ n | Some (negsuc n) ↦ 0 | None ↦ 0 ]
 
 abbrev pub folder_in : Members → SpaceFolder
 folder_in folder = record { id = text_at (codes "id") folder; name = text_at (codes "name") folder }
@@ -74,12 +67,10 @@ values_of_tables archive server users space = record {
   space = space;
 }
 
-abbrev pub users_in : Members → Allowed
-users_in document = record { anonymous = truth_at (codes "anonymous") (table_at (codes "server") document); named = map user_in (tables document User) }
-
 -- what a document gives, with these nodes
 abbrev pub values_in : Members → Layout → Values
-values_in document space = values_of_tables (table_at (codes "archive") document) (table_at (codes "server") document) (users_in document) space
+values_in document space = values_of_tables (table_at (codes "archive") document) (table_at (codes "server") document)
+    (record { anonymous = truth_at (codes "anonymous") (table_at (codes "server") document); named = map (λ user. record { name = text_at (codes "name") user; password = text_at (codes "password") user }) (tables document User) }) space
 
 abbrev pub space_fault : BuildFault → SettingsFault
 space_fault build.OutOfMemory = OutOfMemory
@@ -94,21 +85,14 @@ IsSpaceOrStarved document result = (result ≡ Err OutOfMemory) ⊎ IsSpaceOf do
 
 -- ---- what a file gives
 
-abbrev pub fault_of : Wrong → SettingsFault
-fault_of v = elim v [ Unknown ↦ UnknownKey | Missing ↦ MissingKey | Bad ↦ BadValue ]
-
 -- where nothing is wrong, the settings with the space of the document's plan
 abbrev pub IsAccepted : Members → Option (Wrong × Spot) → Result Values SettingsFault → Type 0
-IsAccepted document (Some (wrong, spot)) result = result ≡ Err (fault_of wrong)
+IsAccepted document (Some (wrong, spot)) result = result ≡ Err (elim wrong [ Unknown ↦ UnknownKey | Missing ↦ MissingKey | Bad ↦ BadValue ])
 IsAccepted document None result = (space : Result Layout SettingsFault) × IsSpaceOf document space × (result ≡ (space >>= λ layout. Ok (values_in document layout)))
 
 abbrev pub IsAcceptedOrStarved : Members → Result Values SettingsFault → Type 0
 IsAcceptedOrStarved document result = (result ≡ Err OutOfMemory) ⊎ IsAccepted document None result
 
--- what a text gives, by the document that it is
-abbrev pub IsRead : Option Members → Result Values SettingsFault → Type 0
-IsRead given result = elim given [ None ↦ result ≡ Err NotToml | Some document ↦ IsAccepted document (refused document) result ]
-
--- that, or memory ran out
+-- what a text gives, by the document that it is; or memory ran out
 abbrev pub IsReadOrStarved : Option Members → Result Values SettingsFault → Type 0
-IsReadOrStarved document result = (result ≡ Err OutOfMemory) ⊎ IsRead document result
+IsReadOrStarved document result = (result ≡ Err OutOfMemory) ⊎ elim document [ None ↦ result ≡ Err NotToml | Some members ↦ IsAccepted members (refused members) result ]

@@ -8,7 +8,7 @@ ghost use Rattle.std.specs.BTreeMap.{keys};
 ghost use Rattle.std.specs.List.{list_all, count_by};
 ghost use Rattle.toml.specs.Data.{as_table, string};
 ghost use Rattle.toml.specs.View.{view, table_view};
-ghost use Rattle.ua_settings.specs.File.{is_name, is_user_name, is_id, is_replica, are_tables, fits, is_key, is_missing, is_bad, keys_in, name_of, rules, wrong_key, wrong_from, wrong_in, wrong_at, names_in, refused, text_at};
+ghost use Rattle.ua_settings.specs.File.{is_name, is_user_name, is_id, is_replica, are_tables, fits, is_key, is_missing, is_bad, keys_in, rules, wrong_key, wrong_from, wrong_at, names_in, refused, text_at};
 ghost use Rattle.ua_settings.specs.Keys.{rule_of, known_of, spot_of, refusal_of};
 
 use crate::keys::{Holds, Key, Section, Wrong, keys_of};
@@ -206,7 +206,7 @@ fn unknown_key(section: Section, table: &Table) -> Option<&str>
 
 /// The name of the first key that a table lacks.
 fn missing_key(section: Section, table: &Table) -> Option<&'static str>
-    ensures { option_copied result ≡ option_map name_of (find (is_missing (table_view table.now)) (rules section)) }
+    ensures { option_copied result ≡ option_map (λ rule. rule.name) (find (is_missing (table_view table.now)) (rules section)) }
 {
     match find_missing(keys_of(section), table) {
         Some(key) => Some(key.name),
@@ -216,7 +216,7 @@ fn missing_key(section: Section, table: &Table) -> Option<&'static str>
 
 /// The name of the first key of a table that doesn't hold what it must.
 fn bad_key(known: &Known<'_>, section: Section, table: &Table) -> Option<&'static str>
-    ensures { option_copied result ≡ option_map name_of (find (is_bad (known_of known.now) (table_view table.now)) (rules section)) }
+    ensures { option_copied result ≡ option_map (λ rule. rule.name) (find (is_bad (known_of known.now) (table_view table.now)) (rules section)) }
 {
     match find_bad(known, keys_of(section), table) {
         Some(key) => Some(key.name),

@@ -1,5 +1,7 @@
 //! The keys of a settings file.
 
+ghost use Rattle.ua_settings.specs.declared.keys.Wrong.TheVariants.{Bad, Missing, Unknown};
+ghost use Rattle.ua_settings.specs.declared.fault.SettingsFault.TheVariants.{BadValue, MissingKey, UnknownKey};
 ghost use Rattle.std.specs.Prelude.{◌≡◌, map};
 ghost use Rattle.ua_settings.specs.File.{rules};
 ghost use Rattle.ua_settings.specs.Keys.{rule_of};
@@ -51,11 +53,9 @@ pub(crate) enum Wrong {
 }
 
 impl Wrong {
-    ghost use Rattle.ua_settings.specs.Reading.{fault_of};
-
     /// What it is called outside.
     pub fn fault(self) -> SettingsFault
-        ensures { result ≡ fault_of self }
+        ensures { result ≡ (elim self [ Unknown ↦ UnknownKey | Missing ↦ MissingKey | Bad ↦ BadValue ]) }
     {
         match self {
             Wrong::Unknown => SettingsFault::UnknownKey,

@@ -1,9 +1,10 @@
 //! What a TOML table holds.
 
-ghost use Rattle.std.specs.Prelude.{◌≡◌, map, find, IfOk, option_map, option_copied, option_and_then, unwrap_or, false, true, pos, MatchOption};
+ghost use Rattle.std.specs.Option.{option_to_list};
+ghost use Rattle.std.specs.Prelude.{◌≡◌, map, find, IfOk, option_map, option_copied, option_and_then, unwrap_or, false, true, pos, MatchOption, None, Some, []};
 ghost use Rattle.toml.specs.Data.{get_member, as_str, as_bool, as_integer, as_table};
 ghost use Rattle.toml.specs.View.{view, table_view};
-ghost use Rattle.ua_settings.specs.File.{tables, items_of, text_at, is_replica, one_table, many_tables};
+ghost use Rattle.ua_settings.specs.File.{tables, text_at, is_replica, many_tables, items_in};
 ghost use Rattle.toml.specs.Data.{as_array};
 
 use crate::keys::Section;
@@ -80,7 +81,7 @@ pub(crate) fn replica(number: i64) -> Option<ReplicaNo>
 
 /// The table at a key, where it holds one.
 fn one<'a>(alloc: Global, table: &'a Table, key: &str) -> Result<Vec<&'a Table>, AllocError>
-    ensures { IfOk result (λ found. map (λ t. table_view t.now) found.items ≡ one_table (get_member key.now (table_view table.now))) }
+    ensures { IfOk result (λ found. map (λ t. table_view t.now) found.items ≡ option_to_list (option_and_then as_table (get_member key.now (table_view table.now)))) }
 {
     let mut found = Vec::new(alloc);
     if let Some(inner) = table_at(table, key) {
@@ -92,7 +93,7 @@ fn one<'a>(alloc: Global, table: &'a Table, key: &str) -> Result<Vec<&'a Table>,
 /// The values of the array at a key.
 #[tactic(auto, using(crate::proofs::Tables::values_of_array))]
 fn items<'a>(table: &'a Table, key: &str) -> &'a [Value]
-    ensures { map view result.now ≡ items_of (option_and_then as_array (get_member key.now (table_view table.now))) }
+    ensures { map view result.now ≡ (elim (option_and_then as_array (get_member key.now (table_view table.now))) [ None ↦ [] | Some items ↦ items_in items ]) }
 {
     match find(table, key) {
         Some(value) => match value.as_array() {

@@ -8,7 +8,7 @@ ghost use Rattle.uuid.specs.Text.{parsed};
 ghost use Rattle.ua_space.specs.declared.plan.Plan.{Plan};
 ghost use Rattle.ua_space.specs.Plan.{folder_of};
 ghost use Rattle.ua_settings.specs.File.{tables, text_at, is_id, is_replica, test};
-ghost use Rattle.ua_settings.specs.Reading.{folder_in, variable_in, entry_of, user_in, number_at, table_at, values_of_tables, IsAcceptedOrStarved, IsSpaceOrStarved, space_fault};
+ghost use Rattle.ua_settings.specs.Reading.{folder_in, variable_in, entry_of, number_at, table_at, values_of_tables, IsAcceptedOrStarved, IsSpaceOrStarved, space_fault};
 ghost use Rattle.ua_settings.specs.Sound.{IsSound, IsSoundArchive, IsSoundUser, IsSoundServer};
 
 use crate::fault::SettingsFault;
@@ -51,7 +51,7 @@ fn read_replica(archive: &Table) -> ReplicaNo
 /// The users of these tables.
 fn read_users(alloc: Global, anonymous: bool, tables: &[&Table]) -> Result<Users, SettingsFault>
     requires { AllByRecursion (λ user. IsSoundUser (table_view user.now)) tables.now }
-    ensures ok { IfOk result (λ users. users ≡ record { anonymous = anonymous; named = map (λ user. user_in (table_view user.now)) tables.now }) }
+    ensures ok { IfOk result (λ users. users ≡ record { anonymous = anonymous; named = map (λ user. (record { name = text_at (codes "name") (table_view user.now); password = text_at (codes "password") (table_view user.now) })) tables.now }) }
     ensures err { IfErr result (λ fault. fault ≡ SettingsFault.OutOfMemory) }
 {
     let mut users = Users::new(alloc, anonymous);

@@ -15,7 +15,8 @@ use Rattle.ua_space.specs.declared.plan.FolderPlan.{FolderPlan}
 use Rattle.ua_space.specs.declared.plan.VariablePlan.{VariablePlan}
 use Rattle.ua_space.specs.Plan.{HasFolder, layout_of, folder_of, variable_of}
 use Rattle.ua_space.specs.Space.{OfFolder, OfVariable, has_folder_id}
-use Rattle.ua_space.specs.References.{parent, holds, folder_node}
+use Rattle.ua_space.specs.References.{parent, holds}
+use Rattle.ua_space.proofs.ReferencesParts.{folder_node}
 
 -- ---- below
 

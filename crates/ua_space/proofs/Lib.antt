@@ -4,3 +4,7 @@ pub mod Indexed
 pub mod Found
 pub mod Short
 pub mod Hanging
+pub mod AttributesParts
+pub mod PlanParts
+pub mod ReferencesParts
+pub mod SpaceParts

@@ -20,10 +20,14 @@ use Rattle.ua_space.specs.declared.node.Folder.{Folder}
 use Rattle.ua_space.specs.declared.plan.Plan.{Plan}
 use Rattle.ua_space.specs.declared.fault.BuildFault.{BuildFault}
 use Rattle.ua_space.specs.declared.plan.VariablePlan.{VariablePlan}
-use Rattle.ua_space.specs.Plan.{HasShortPlan, HasPlannedId, folder_of, variable_of, layout_of, planned, is_too_large}
-use Rattle.ua_space.specs.Space.{Node, Root, Objects, NamespaceArray, State, OfFolder, OfVariable, FolderType, BaseDataVariableType, id_of, name_of, node_at, nodes, is_same_id, HasShortId, HasShortTexts, HasShortName, IsShortLayout, browse_name_of, display_name_of, has_folder_id}
-use Rattle.ua_space.specs.Attributes.{Table, common_attributes, own_attributes, attributes, entry_at, IsShortAnswered}
-use Rattle.ua_space.specs.References.{Link, objects_below, holds, children, type_definition, folder_node, parent, organizes, is_defined_by, references, is_followed, told, type_id, no_node, definition_id}
+use Rattle.ua_space.specs.Plan.{HasShortPlan, HasPlannedId, folder_of, variable_of, layout_of, planned}
+use Rattle.ua_space.proofs.PlanParts.{is_too_large}
+use Rattle.ua_space.specs.Space.{Node, Root, Objects, NamespaceArray, State, OfFolder, OfVariable, FolderType, BaseDataVariableType, id_of, name_of, node_at, is_same_id, HasShortId, HasShortTexts, HasShortName, IsShortLayout, browse_name_of, display_name_of, has_folder_id}
+use Rattle.ua_space.proofs.SpaceParts.{nodes}
+use Rattle.ua_space.specs.Attributes.{Table, own_attributes, attributes, entry_at, IsShortAnswered}
+use Rattle.ua_space.proofs.AttributesParts.{common_attributes}
+use Rattle.ua_space.specs.References.{Link, objects_below, holds, children, type_definition, parent, organizes, is_defined_by, references, is_followed, told, no_node}
+use Rattle.ua_space.proofs.ReferencesParts.{type_id, definition_id, folder_node}
 
 -- its texts can be counted
 abbrev pub IsShort : Node → Type 0

@@ -1,5 +1,5 @@
 -- The attributes of the nodes, as tables from an attribute's number (Part 6, A.1) to its value (Part 3, 5).
-use Rattle.std.specs.Prelude.{ℕ, pos, negsuc, Bool, true, false, ◌==◌, List, [], ◌∷◌, ◌++◌, codes, Option, Some, option_map, find, Result, ok_or, if◌then◌else◌}
+use Rattle.std.specs.Prelude.{ℕ, pos, negsuc, Bool, true, false, ◌==◌, List, [], ◌∷◌, codes, Option, Some, option_map, find, Result, ok_or, if◌then◌else◌}
 use Rattle.ua_binary.specs.Format.{◌>>=◌}
 use Rattle.ua_binary.specs.declared.values.NodeId.{NodeId}
 use Rattle.ua_binary.specs.declared.values.NodeId.TheVariants.{Numeric}
@@ -22,10 +22,6 @@ Table = List (ℕ × Answered)
 abbrev pub one : Scalar → Answered
 one value = Value (variant.Scalar value)
 
--- of all nodes (5.2): NodeId, NodeClass, BrowseName, DisplayName
-abbrev pub common_attributes : Node → Table
-common_attributes node = (1, one (scalar.NodeId (id_of node))) ∷ (2, one (scalar.Int32 (pos (class_number (class_of node))))) ∷ (3, one (scalar.QualifiedName (browse_name_of node))) ∷ (4, one (scalar.LocalizedText (display_name_of node))) ∷ []
-
 -- of an object (5.5): EventNotifier, that it has no events
 abbrev pub object_attributes : Table
 object_attributes = (12, one (scalar.Byte 0)) ∷ []
@@ -37,23 +33,22 @@ variable_attributes data_type is_array access historizing =
     (14, one (scalar.NodeId (Numeric 0 data_type))) ∷ (15, one (scalar.Int32 (if is_array then pos 1 else negsuc 0)))
     ∷ (17, one (scalar.Byte access)) ∷ (18, one (scalar.Byte access)) ∷ (20, one (scalar.Boolean historizing)) ∷ []
 
--- the URIs of namespaces 0 and 1
-abbrev pub namespace_array : Layout → Answered
-namespace_array space = Value (variant.Array (array.String (Some (codes "http://opcfoundation.org/UA/") ∷ Some space.namespace ∷ [])))
-
 -- What a node of its class has besides. The data types 12 and 852 are String and ServerState; the state is 0, Running. The level 1 is read alone, 13 read, history and its changes.
 abbrev pub own_attributes : Layout → Node → Table
 own_attributes space Root = object_attributes
 own_attributes space Objects = object_attributes
 own_attributes space (OfFolder folder) = object_attributes
-own_attributes space NamespaceArray = (13, namespace_array space) ∷ variable_attributes 12 true 1 false
+own_attributes space NamespaceArray = (13, Value (variant.Array (array.String (Some (codes "http://opcfoundation.org/UA/") ∷ Some space.namespace ∷ [])))) ∷ variable_attributes 12 true 1 false
 own_attributes space State = (13, one (scalar.Int32 (pos 0))) ∷ variable_attributes 852 false 1 false
 own_attributes space (OfVariable variable) = (13, Archived) ∷ variable_attributes variable.value_type.number variable.value_type.array 13 true
 own_attributes space FolderType = []
 own_attributes space BaseDataVariableType = []
 
+-- all attributes of a node: those of all nodes (5.2), NodeId, NodeClass, BrowseName and DisplayName, and its own
 abbrev pub attributes : Layout → Node → Table
-attributes space node = common_attributes node ++ own_attributes space node
+attributes space node =
+    (1, one (scalar.NodeId (id_of node))) ∷ (2, one (scalar.Int32 (pos (class_number (class_of node)))))
+    ∷ (3, one (scalar.QualifiedName (browse_name_of node))) ∷ (4, one (scalar.LocalizedText (display_name_of node))) ∷ own_attributes space node
 
 -- what stands in a table
 abbrev pub entry_at : ℕ → Table → Option Answered

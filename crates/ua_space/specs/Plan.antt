@@ -2,7 +2,6 @@
 use Rattle.std.specs.Prelude.{◌≡◌, ◌+◌, ◌<◌, ◌≤◌, ℕ, Bool, true, false, not, ◌||◌, List, [], ◌∷◌, ◌++◌, length, map, codes, nat_eq, nat_lt, Option, IfSome, is_some, option_map, option_copied, unwrap_or, find, Result, Ok, Err, if◌then◌else◌}
 use Rattle.std.specs.List.{list_any, list_all, AllByRecursion}
 use Rattle.std.specs.Cmp.Lexicographic.{pointwise}
-use Rattle.ua_variant.specs.declared.value.ValueType.{ValueType}
 use Rattle.ua_space.specs.declared.fault.BuildFault.{BuildFault}
 use Rattle.ua_space.specs.declared.fault.BuildFault.TheVariants.{DuplicateNode, BadType, TooMany}
 use Rattle.ua_space.specs.declared.plan.Plan.{Plan}
@@ -13,58 +12,41 @@ use Rattle.ua_space.specs.declared.node.Variable.{Variable}
 use Rattle.ua_space.specs.declared.layout.Layout.{Layout}
 use Rattle.ua_space.specs.Space.{IsCountable, HasShortTexts, HasShortName}
 
--- The names of the types that a variable may have, with their numbers (Part 6, 5.1.2).
-abbrev pub type_names : List (List ℕ × ℕ)
-type_names = (codes "Boolean", 1) ∷ (codes "SByte", 2) ∷ (codes "Byte", 3) ∷ (codes "Int16", 4) ∷ (codes "UInt16", 5) ∷ (codes "Int32", 6) ∷ (codes "UInt32", 7) ∷ (codes "Int64", 8) ∷ (codes "UInt64", 9) ∷ (codes "Float", 10) ∷ (codes "Double", 11) ∷ (codes "String", 12) ∷ (codes "DateTime", 13) ∷ (codes "Guid", 14) ∷ (codes "ByteString", 15) ∷ []
-
--- the number of the type of this name, where there is one
+-- the number of the type of this name, of those that a variable may have (Part 6, 5.1.2), where there is one
 unfoldable pub type_number : List ℕ → Option ℕ
-type_number name = option_map (λ entry. entry.1) (find (λ entry. pointwise nat_eq name entry.0) type_names)
-
-abbrev pub has_type : VariablePlan → Bool
-has_type variable = is_some (type_number variable.type_name.now)
+type_number name = option_map (λ (entry : List ℕ × ℕ). entry.1) (find (λ entry. pointwise nat_eq name entry.0)
+    ((codes "Boolean", 1) ∷ (codes "SByte", 2) ∷ (codes "Byte", 3) ∷ (codes "Int16", 4) ∷ (codes "UInt16", 5) ∷ (codes "Int32", 6) ∷ (codes "UInt32", 7) ∷ (codes "Int64", 8) ∷ (codes "UInt64", 9)
+    ∷ (codes "Float", 10) ∷ (codes "Double", 11) ∷ (codes "String", 12) ∷ (codes "DateTime", 13) ∷ (codes "Guid", 14) ∷ (codes "ByteString", 15) ∷ []))
 
 -- ---- what a plan asks for, without where its texts lie in memory
 
 abbrev pub folder_of : FolderPlan → Folder
 folder_of folder = record { id = folder.id.now; name = folder.name.now }
 
-abbrev pub type_of : VariablePlan → ValueType
-type_of variable = record { number = unwrap_or (type_number variable.type_name.now) 0; array = variable.array }
-
 abbrev pub variable_of : VariablePlan → Variable
-variable_of variable = record { id = variable.id.now; name = variable.name.now; value_type = type_of variable; folder = option_copied variable.folder }
+variable_of variable = record {
+  id = variable.id.now;
+  name = variable.name.now;
+  folder = option_copied variable.folder;
+  value_type = record { number = unwrap_or (type_number variable.type_name.now) 0; array = variable.array };
+}
 
 abbrev pub layout_of : Plan → Layout
 layout_of plan = record { namespace = plan.namespace.now; folders = map folder_of plan.folders.now; variables = map variable_of plan.variables.now }
 
 -- ---- which plans make a space
 
-abbrev pub folder_id : FolderPlan → List ℕ
-folder_id folder = folder.id.now
-
-abbrev pub variable_id : VariablePlan → List ℕ
-variable_id variable = variable.id.now
-
--- the ids of all folders and variables
-abbrev pub ids_of : Plan → List (List ℕ)
-ids_of plan = map folder_id plan.folders.now ++ map variable_id plan.variables.now
-
 -- two of them are equal
 abbrev pub have_equal : List (List ℕ) → Bool
 have_equal [] = false
 have_equal (id ∷ ids) = list_any (pointwise nat_eq id) ids || have_equal ids
 
--- more than 1,000 nodes
-abbrev pub is_too_large : Plan → Bool
-is_too_large plan = nat_lt 1000 (length plan.folders.now + length plan.variables.now)
-
 -- the space of a plan, or the first of the faults TooMany, BadType and DuplicateNode
 abbrev pub planned : Plan → Result Layout BuildFault
 planned plan =
-    if is_too_large plan then Err TooMany
-    else if not (list_all has_type plan.variables.now) then Err BadType
-    else if have_equal (ids_of plan) then Err DuplicateNode
+    if nat_lt 1000 (length plan.folders.now + length plan.variables.now) then Err TooMany
+    else if not (list_all (λ variable. is_some (type_number variable.type_name.now)) plan.variables.now) then Err BadType
+    else if have_equal (map (λ folder. folder.id.now) plan.folders.now ++ map (λ variable. variable.id.now) plan.variables.now) then Err DuplicateNode
     else Ok (layout_of plan)
 
 -- ---- what is asked of a plan

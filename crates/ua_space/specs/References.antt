@@ -1,4 +1,5 @@
 -- The references of the nodes (Part 3, 4.3.4 and 7), and what a browse finds of them (Part 4, 5.9.2).
+use Rattle.std.specs.Option.{option_map_or}
 use Rattle.std.specs.Prelude.{ℕ, Bool, true, false, not, ◌==◌, ◌&&◌, ◌||◌, List, [], ◌∷◌, ◌++◌, map, filter, nat_eq, Option, None, Some, option_map, option_to_list, find, is_none, Result, Ok, Err, if◌then◌else◌}
 use Rattle.std.specs.List.{list_any}
 use Rattle.std.specs.Cmp.Lexicographic.{pointwise}
@@ -14,7 +15,6 @@ use Rattle.ua_space.specs.declared.link.Link.{Link as Lent}
 use Rattle.ua_services.specs.declared.browsing.BrowseDirection.{BrowseDirection}
 use Rattle.ua_services.specs.declared.browsing.BrowseDirection.TheVariants.{Forward, Inverse, Both}
 use Rattle.ua_services.specs.declared.browsing.ReferenceDescription.{ReferenceDescription}
-use Rattle.ua_services.specs.declared.browsing.NodeClass.{NodeClass}
 use Rattle.ua_services.specs.declared.browsing.NodeClass.TheVariants.{Unspecified}
 use Rattle.ua_services.specs.Browsing.{BrowseFields, class_number}
 use Rattle.ua_space.specs.declared.layout.Layout.{Layout}
@@ -23,10 +23,8 @@ use Rattle.ua_space.specs.Space.{Node, Root, Objects, OfFolder, OfVariable, Fold
 -- ---- the references of a node
 
 -- a reference from a node, and the node that it leads to
-pub record Link : Type 0 where
-  pub reference_type : ReferenceType
-  pub is_forward : Bool
-  pub target : Node
+abbrev pub Link : Type 0
+Link = record { reference_type : ReferenceType; is_forward : Bool; target : Node }
 
 -- one of the code without where its target lies in memory
 abbrev pub link_of : Lent → Link
@@ -47,12 +45,8 @@ children space node = objects_below space node ++ map OfVariable (filter (holds 
 abbrev pub type_definition : Node → Option Node
 type_definition node = elim node [ Root ↦ Some FolderType | Objects ↦ Some FolderType | OfFolder folder ↦ Some FolderType | OfVariable variable ↦ Some BaseDataVariableType | _ ↦ None ]
 
--- the folder of this id; none: Objects
-abbrev pub folder_node : Layout → Option (List ℕ) → Option Node
-folder_node space given = elim given [ None ↦ Some Objects | Some id ↦ option_map OfFolder (find (has_folder_id id) space.folders) ]
-
 abbrev pub parent : Layout → Node → Option Node
-parent space node = elim node [ Objects ↦ Some Root | OfFolder folder ↦ Some Objects | OfVariable variable ↦ folder_node space variable.folder | _ ↦ None ]
+parent space node = elim node [ Objects ↦ Some Root | OfFolder folder ↦ Some Objects | OfVariable variable ↦ elim variable.folder [ None ↦ Some Objects | Some id ↦ option_map OfFolder (find (has_folder_id id) space.folders) ] | _ ↦ None ]
 
 abbrev pub organizes : Bool → Node → Link
 organizes is_forward node = record { reference_type = Organizes; is_forward = is_forward; target = node }
@@ -69,57 +63,35 @@ references space node = map (organizes true) (children space node) ++ map is_def
 abbrev pub type_number : ReferenceType → ℕ
 type_number type = elim type [ Organizes ↦ 35 | HasTypeDefinition ↦ 40 ]
 
-abbrev pub type_id : ReferenceType → NodeId
-type_id reference_type = Numeric 0 (type_number reference_type)
-
 abbrev pub in_standard : NodeId → Option ℕ
 in_standard v = elim v [ Numeric namespace id ↦ if namespace == 0 then Some id else None | _ ↦ None ]
 
--- No type, then References, NonHierarchicalReferences, HierarchicalReferences, HasChild, Organizes, HasTypeDefinition,
--- Aggregates, HasSubtype, HasProperty and HasComponent (Part 5).
-abbrev pub asked_types : List ℕ
-asked_types = 0 ∷ 31 ∷ 32 ∷ 33 ∷ 34 ∷ 35 ∷ 40 ∷ 44 ∷ 45 ∷ 46 ∷ 47 ∷ []
-
 abbrev pub is_reference_type : NodeId → Bool
-is_reference_type id = elim (in_standard id) [ None ↦ false | Some number ↦ list_any (nat_eq number) asked_types ]
-
--- of which types a type is a subtype: HierarchicalReferences and References, NonHierarchicalReferences and References
-abbrev pub supertypes : ReferenceType → List ℕ
-supertypes type = elim type [ Organizes ↦ 33 ∷ 31 ∷ [] | HasTypeDefinition ↦ 32 ∷ 31 ∷ [] ]
+is_reference_type id = option_map_or (λ number. list_any (nat_eq number) (0 ∷ 31 ∷ 32 ∷ 33 ∷ 34 ∷ 35 ∷ 40 ∷ 44 ∷ 45 ∷ 46 ∷ 47 ∷ [])) (in_standard id) false
 
 -- the asked type is no type at all, or this one, or one of which this is a subtype, where subtypes count
 abbrev pub is_of_type : NodeId → Bool → ReferenceType → Bool
-is_of_type id subtypes reference_type =
-    elim (in_standard id) [ None ↦ false | Some number ↦ number == 0 || number == type_number reference_type || subtypes && list_any (nat_eq number) (supertypes reference_type) ]
-
-abbrev pub is_along : BrowseDirection → Bool → Bool
-is_along direction is_forward = elim direction [ Forward ↦ is_forward | Inverse ↦ not is_forward | Both ↦ true ]
-
--- each class is a bit, and no bit at all asks for all classes
-abbrev pub is_of_class : ℕ → NodeClass → Bool
-is_of_class mask class = mask == 0 || has mask (class_number class)
+is_of_type id subtypes reference_type = option_map_or (λ number.
+    number == 0 || number == type_number reference_type || subtypes && list_any (nat_eq number) (elim reference_type [ Organizes ↦ 33 ∷ 31 ∷ [] | HasTypeDefinition ↦ 32 ∷ 31 ∷ [] ])) (in_standard id) false
 
 abbrev pub is_followed : BrowseDirection → BrowseFields → Link → Bool
-is_followed direction d link = is_along direction link.is_forward && is_of_type d.1.1.0 d.1.1.1.0 link.reference_type && is_of_class d.1.1.1.1.0 (class_of link.target)
+is_followed direction d link = (elim direction [ Forward ↦ link.is_forward | Inverse ↦ not link.is_forward | Both ↦ true ]) && is_of_type d.1.1.0 d.1.1.1.0 link.reference_type && (d.1.1.1.1.0 == 0 || has d.1.1.1.1.0 (class_number (class_of link.target)))
 
 -- ---- what is told of a reference
 
 abbrev pub no_node : NodeId
 no_node = Numeric 0 0
 
-abbrev pub definition_id : Node → NodeId
-definition_id node = elim (type_definition node) [ None ↦ no_node | Some type ↦ id_of type ]
-
 -- the fields whose bits are set (Part 4, 5.9.2); the others are null, false, Unspecified or empty
 abbrev pub told : ℕ → Link → ReferenceDescription
 told mask link = record {
-  reference_type_id = if has mask 1 then type_id link.reference_type else no_node;
+  reference_type_id = if has mask 1 then (Numeric 0 (type_number link.reference_type)) else no_node;
   is_forward = has mask 2 && link.is_forward;
   node_id = id_of link.target;
   node_class = if has mask 4 then class_of link.target else Unspecified;
   browse_name = if has mask 8 then browse_name_of link.target else record { namespace = 0; name = None };
   display_name = if has mask 16 then display_name_of link.target else record { locale = None; text = None };
-  type_definition = if has mask 32 then definition_id link.target else no_node;
+  type_definition = if has mask 32 then (elim (type_definition link.target) [ None ↦ no_node | Some type ↦ id_of type ]) else no_node;
 }
 
 -- ---- a browse

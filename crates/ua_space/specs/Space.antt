@@ -17,14 +17,9 @@ use Rattle.ua_space.specs.declared.node.Node.TheVariants as lent
 
 -- A node. The last two are types, which references lead to; they are no nodes of the space.
 pub data Node : Type 0 where
-  Root : Node
-  Objects : Node
-  NamespaceArray : Node
-  State : Node
+  Root Objects NamespaceArray State FolderType BaseDataVariableType : Node
   OfFolder : Folder → Node
   OfVariable : Variable → Node
-  FolderType : Node
-  BaseDataVariableType : Node
 
 -- a node of the code without where it lies in memory
 abbrev pub node_of : Lent → Node
@@ -37,17 +32,9 @@ node_of (lent.Variable variable) = OfVariable variable.now
 node_of lent.FolderType = FolderType
 node_of lent.BaseDataVariableType = BaseDataVariableType
 
--- those of namespace 0
-abbrev pub standard_nodes : List Node
-standard_nodes = Root ∷ Objects ∷ NamespaceArray ∷ State ∷ []
-
 -- those of the plan
 abbrev pub planned_nodes : Layout → List Node
 planned_nodes space = map OfFolder space.folders ++ map OfVariable space.variables
-
--- all nodes of a space
-abbrev pub nodes : Layout → List Node
-nodes space = standard_nodes ++ planned_nodes space
 
 -- ---- attributes that each node has (Part 3, 5.2)
 
@@ -71,12 +58,8 @@ class_of node = (facts node).1.0
 abbrev pub name_of : Node → List ℕ
 name_of node = (facts node).1.1
 
--- folders and variables are in the plan's namespace, the others in that of the standard
-abbrev pub namespace_of : Node → ℕ
-namespace_of node = elim node [ OfFolder folder ↦ 1 | OfVariable variable ↦ 1 | _ ↦ 0 ]
-
 abbrev pub browse_name_of : Node → QualifiedName
-browse_name_of node = record { namespace = namespace_of node; name = Some (name_of node) }
+browse_name_of node = record { namespace = elim node [ OfFolder folder ↦ 1 | OfVariable variable ↦ 1 | _ ↦ 0 ]; name = Some (name_of node) }
 
 -- the name, in no language
 abbrev pub display_name_of : Node → LocalizedText
@@ -101,14 +84,10 @@ abbrev pub node_in : List Node → NodeId → Option Node
 node_in some id = find (λ node. is_same_id (id_of node) id) some
 
 abbrev pub node_at : Layout → NodeId → Option Node
-node_at space id = node_in (nodes space) id
-
--- the type of the variable of the plan that has this id
-abbrev pub type_of_node : Option Node → Option ValueType
-type_of_node given = elim given [ Some (OfVariable variable) ↦ Some variable.value_type | _ ↦ None ]
+node_at space id = node_in ((Root ∷ Objects ∷ NamespaceArray ∷ State ∷ []) ++ planned_nodes space) id
 
 abbrev pub value_type_at : Layout → NodeId → Option ValueType
-value_type_at space id = type_of_node (node_at space id)
+value_type_at space id = elim (node_at space id) [ Some (OfVariable variable) ↦ Some variable.value_type | _ ↦ None ]
 
 -- ---- what each variable keeps
 

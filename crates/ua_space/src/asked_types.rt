@@ -1,9 +1,9 @@
 //! The types of references that a browse may ask for.
 
-ghost use Rattle.std.specs.Prelude.{◌≡◌, nat_eq};
+ghost use Rattle.std.specs.Prelude.{◌≡◌, nat_eq, ◌∷◌, []};
 ghost use Rattle.std.specs.List.{list_any};
 ghost use Rattle.ua_binary.specs.Binary.{node_of as id_of_lent};
-ghost use Rattle.ua_space.specs.References.{in_standard, is_reference_type as is_reference_type_id, asked_types};
+ghost use Rattle.ua_space.specs.References.{in_standard, is_reference_type as is_reference_type_id};
 
 use crate::node::STANDARD;
 use ua_binary::NodeIdRef;
@@ -36,7 +36,7 @@ pub(crate) fn is_reference_type(id: NodeIdRef<'_>) -> bool
 
 /// Whether a browse may ask for the type of this number.
 fn is_asked(number: u32) -> bool
-    ensures { result ≡ list_any (nat_eq number) asked_types }
+    ensures { result ≡ list_any (nat_eq number) (0 ∷ 31 ∷ 32 ∷ 33 ∷ 34 ∷ 35 ∷ 40 ∷ 44 ∷ 45 ∷ 46 ∷ 47 ∷ []) }
 {
     matches!(number, 0 | 31 | 32 | 33 | 34 | 35 | 40 | 44 | 45 | 46 | 47)
 }

@@ -1,6 +1,9 @@
 //! Attributes of nodes.
 
-ghost use Rattle.std.specs.Prelude.{◌≡◌, MatchResult, option_map, IfOk, Ok};
+ghost use Rattle.ua_variant.specs.declared.value.Variant.TheVariants as variant;
+ghost use Rattle.ua_variant.specs.declared.value.Array.TheVariants as array;
+ghost use Rattle.ua_space.specs.declared.attributes.Answered.TheVariants.{Value};
+ghost use Rattle.std.specs.Prelude.{◌≡◌, MatchResult, option_map, IfOk, Ok, Some, codes, ◌∷◌, []};
 
 use crate::layout::Layout;
 use crate::node::Node;
@@ -129,7 +132,7 @@ impl Answered {
 impl Layout {
     ghost use Rattle.std.specs.Prelude.{ok_or};
     ghost use Rattle.ua_space.specs.Space.{node_of};
-    ghost use Rattle.ua_space.specs.Attributes.{attributes, entry_at, own_attributes, object_attributes, namespace_array};
+    ghost use Rattle.ua_space.specs.Attributes.{attributes, entry_at, own_attributes, object_attributes};
     ghost use Rattle.ua_binary.specs.Format.{IsOrStarved};
 
     /// An attribute of a node. `BAD_ATTRIBUTE_ID_INVALID` where the node has none of this number.
@@ -178,7 +181,7 @@ impl Layout {
 
     /// The URIs of the namespaces, in the order of their indices.
     fn namespace_array(&self, alloc: Global) -> Result<Answered, Status>
-        ensures { IsOrStarved Status.BAD_OUT_OF_MEMORY (Ok (namespace_array self.now)) result }
+        ensures { IsOrStarved Status.BAD_OUT_OF_MEMORY (Ok (Value (variant.Array (array.String (Some (codes "http://opcfoundation.org/UA/") ∷ Some self.now.namespace ∷ []))))) result }
     {
         let mut uris = Vec::new(alloc);
         uris.push(Some(Text::from_str(alloc, STANDARD_NAMESPACE)?))?;

@@ -1,11 +1,15 @@
 //! What a browse finds (Part 4, 5.9.2).
 
-ghost use Rattle.std.specs.Prelude.{◌≡◌, map, filter, Ok, if◌then◌else◌};
+ghost use Rattle.ua_services.specs.declared.browsing.BrowseDirection.TheVariants.{Both, Forward, Inverse};
+ghost use Rattle.ua_space.specs.declared.link.ReferenceType.TheVariants.{HasTypeDefinition, Organizes};
+ghost use Rattle.ua_binary.specs.declared.values.NodeId.TheVariants.{Numeric};
+ghost use Rattle.ua_space.specs.Space.{id_of};
+ghost use Rattle.std.specs.Prelude.{◌≡◌, map, filter, Ok, if◌then◌else◌, None, Some, not, true, ◌==◌, ◌||◌, ◌∷◌, []};
 ghost use Rattle.ua_binary.specs.Binary.{node_of as id_of_lent};
 ghost use Rattle.ua_binary.specs.Format.{IsOrStarved};
 ghost use Rattle.ua_variant.specs.DataValue.{has};
-ghost use Rattle.ua_services.specs.Browsing.{browse_fields};
-ghost use Rattle.ua_space.specs.References.{is_along, is_of_class, is_followed, told, link_of};
+ghost use Rattle.ua_services.specs.Browsing.{browse_fields, class_number};
+ghost use Rattle.ua_space.specs.References.{is_followed, told, link_of, type_definition, type_number};
 
 use crate::asked_types::standard_number;
 use crate::link::{Link, ReferenceType};
@@ -39,7 +43,7 @@ fn has_bit(mask: u32, bit: u32) -> bool
 impl ReferenceType {
     ghost use Rattle.std.specs.Prelude.{nat_eq};
     ghost use Rattle.std.specs.List.{list_any};
-    ghost use Rattle.ua_space.specs.References.{is_of_type, supertypes};
+    ghost use Rattle.ua_space.specs.References.{is_of_type};
 
     /// Whether it is the asked type, or a subtype of that where these count.
     fn is_of(self, id: NodeIdRef<'_>, include_subtypes: bool) -> bool
@@ -58,7 +62,7 @@ impl ReferenceType {
     /// Whether it is a subtype of References (31), and of NonHierarchicalReferences (32) or
     /// HierarchicalReferences (33).
     fn is_subtype_of(self, number: u32) -> bool
-        ensures { result ≡ list_any (nat_eq number) (supertypes self) }
+        ensures { result ≡ list_any (nat_eq number) (elim self [ Organizes ↦ 33 ∷ 31 ∷ [] | HasTypeDefinition ↦ 32 ∷ 31 ∷ [] ]) }
     {
         match self {
             ReferenceType::Organizes => matches!(number, 33 | 31),
@@ -69,7 +73,7 @@ impl ReferenceType {
 
 /// Whether a reference is followed.
 fn is_along(direction: BrowseDirection, is_forward: bool) -> bool
-    ensures { result ≡ is_along direction is_forward }
+    ensures { result ≡ (elim direction [ Forward ↦ is_forward | Inverse ↦ not is_forward | Both ↦ true ]) }
 {
     match direction {
         BrowseDirection::Forward => is_forward,
@@ -80,7 +84,7 @@ fn is_along(direction: BrowseDirection, is_forward: bool) -> bool
 
 /// Whether nodes of this class are wanted: each class is a bit of the mask, and 0 asks for all.
 fn wants_class(mask: u32, class: NodeClass) -> bool
-    ensures { result ≡ is_of_class mask class }
+    ensures { result ≡ (mask == 0 || has mask (class_number class)) }
 {
     mask == 0 || has_bit(mask, u32::from(class.number()))
 }
@@ -122,7 +126,7 @@ pub(crate) fn tell(
 impl Link<'_> {
     ghost use Rattle.ua_services.specs.declared.browsing.NodeClass.TheVariants.{Unspecified};
     ghost use Rattle.ua_space.specs.Space.{node_of, class_of, browse_name_of, display_name_of};
-    ghost use Rattle.ua_space.specs.References.{type_id, definition_id, no_node, told, link_of};
+    ghost use Rattle.ua_space.specs.References.{no_node, told, link_of};
 
     /// The fields whose bits are set.
     fn told(self, alloc: Global, mask: u32) -> Result<ReferenceDescription, BinaryFault>
@@ -145,7 +149,7 @@ impl Link<'_> {
 
     /// The type, where it is wanted.
     fn wanted_type(self, wanted: bool) -> NodeId
-        ensures { result ≡ (if wanted then type_id self.entry.reference_type else no_node) }
+        ensures { result ≡ (if wanted then Numeric 0 (type_number self.entry.reference_type) else no_node) }
     {
         if wanted {
             NodeId::Numeric(0, self.reference_type.number())
@@ -195,7 +199,7 @@ impl Link<'_> {
 
     /// The type definition of the target, where it is wanted and there is one.
     fn wanted_definition(self, alloc: Global, wanted: bool) -> Result<NodeId, BinaryFault>
-        ensures { IsOrStarved BinaryFault.OutOfMemory (Ok (if wanted then definition_id (node_of self.entry.target) else no_node)) result }
+        ensures { IsOrStarved BinaryFault.OutOfMemory (Ok (if wanted then (elim (type_definition (node_of self.entry.target)) [ None ↦ no_node | Some type ↦ id_of type ]) else no_node)) result }
     {
         match self.target.type_definition() {
             Some(definition) if wanted => definition.id().to_owned(alloc),

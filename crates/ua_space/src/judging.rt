@@ -1,9 +1,9 @@
 //! Which plans make a space.
 
-ghost use Rattle.std.specs.Prelude.{◌≡◌, ◌||◌, ◌++◌, map, nat_eq, MatchResult};
+ghost use Rattle.std.specs.Prelude.{◌≡◌, ◌||◌, ◌++◌, map, nat_eq, MatchResult, is_some};
 ghost use Rattle.std.specs.List.{list_any, list_all};
 ghost use Rattle.std.specs.Cmp.Lexicographic.{pointwise};
-ghost use Rattle.ua_space.specs.Plan.{type_number, has_type, have_equal, planned, folder_id, variable_id};
+ghost use Rattle.ua_space.specs.Plan.{type_number, have_equal, planned};
 
 use crate::fault::BuildFault;
 use crate::plan::{FolderPlan, Plan, VariablePlan};
@@ -55,7 +55,7 @@ pub(crate) fn judge(plan: &Plan<'_>) -> Result<(), BuildFault>
 
 /// Whether each variable's type is known.
 fn have_types(variables: &[VariablePlan<'_>]) -> bool
-    ensures { result ≡ list_all has_type variables.now }
+    ensures { result ≡ list_all (λ variable. is_some (type_number variable.type_name.now)) variables.now }
 {
     variables
         .iter()
@@ -64,21 +64,21 @@ fn have_types(variables: &[VariablePlan<'_>]) -> bool
 
 /// Whether a folder has this id.
 fn has_folder(folders: &[FolderPlan<'_>], id: &str) -> bool
-    ensures { result ≡ list_any (λ folder. pointwise nat_eq id.now (folder_id folder)) folders.now }
+    ensures { result ≡ list_any (λ folder. pointwise nat_eq id.now folder.id.now) folders.now }
 {
     folders.iter().any(|folder| id == folder.id)
 }
 
 /// Whether a variable has this id.
 fn has_variable(variables: &[VariablePlan<'_>], id: &str) -> bool
-    ensures { result ≡ list_any (λ variable. pointwise nat_eq id.now (variable_id variable)) variables.now }
+    ensures { result ≡ list_any (λ variable. pointwise nat_eq id.now variable.id.now) variables.now }
 {
     variables.iter().any(|variable| id == variable.id)
 }
 
 /// Whether a folder has the id of a later folder or of a variable.
 fn has_equal_folder(folders: &[FolderPlan<'_>], variables: &[VariablePlan<'_>]) -> bool
-    ensures { have_equal (map folder_id folders.now ++ map variable_id variables.now) ≡ (result || have_equal (map variable_id variables.now)) }
+    ensures { have_equal (map (λ folder. folder.id.now) folders.now ++ map (λ variable. variable.id.now) variables.now) ≡ (result || have_equal (map (λ variable. variable.id.now) variables.now)) }
 {
     for (i, folder) in folders.iter().enumerate() {
         if has_folder(&folders[i + 1..], folder.id) || has_variable(variables, folder.id) {
@@ -90,7 +90,7 @@ fn has_equal_folder(folders: &[FolderPlan<'_>], variables: &[VariablePlan<'_>]) 
 
 /// Whether two variables have the same id.
 fn has_equal_variable(variables: &[VariablePlan<'_>]) -> bool
-    ensures { result ≡ have_equal (map variable_id variables.now) }
+    ensures { result ≡ have_equal (map (λ variable. variable.id.now) variables.now) }
 {
     for (i, variable) in variables.iter().enumerate() {
         if has_variable(&variables[i + 1..], variable.id) {

@@ -1,6 +1,7 @@
 //! The nodes of a space, and the types of these.
 
-ghost use Rattle.std.specs.Prelude.{◌≡◌};
+ghost use Rattle.ua_space.specs.Space.{NamespaceArray, Objects, Root, State, OfFolder, OfVariable};
+ghost use Rattle.std.specs.Prelude.{◌≡◌, ◌∷◌, []};
 
 use ua_binary::{LocalizedRef, NodeIdRef, QualifiedRef, Text};
 use ua_services::NodeClass;
@@ -48,11 +49,11 @@ impl<'a> Node<'a> {
     ghost use Rattle.std.specs.Prelude.{option_map};
     ghost use Rattle.ua_binary.specs.Binary.{node_of as id_of_lent, qualified_of, localized_of};
     ghost use Rattle.ua_binary.specs.declared.values.NodeId.TheVariants.{Numeric};
-    ghost use Rattle.ua_space.specs.Space.{node_of, id_of, class_of, name_of, namespace_of, browse_name_of, display_name_of, node_in, standard_nodes};
+    ghost use Rattle.ua_space.specs.Space.{node_of, id_of, class_of, name_of, browse_name_of, display_name_of, node_in};
 
     /// The node of this number in namespace 0.
     pub fn standard(number: u32) -> Option<Node<'a>>
-        ensures { option_map node_of result ≡ node_in standard_nodes (Numeric 0 number) }
+        ensures { option_map node_of result ≡ node_in (Root ∷ Objects ∷ NamespaceArray ∷ State ∷ []) (Numeric 0 number) }
     {
         match number {
             84 => Some(Node::Root),
@@ -105,7 +106,7 @@ impl<'a> Node<'a> {
     }
 
     fn namespace(self) -> u16
-        ensures { result ≡ namespace_of (node_of self.entry) }
+        ensures { result ≡ (elim (node_of self.entry) [ OfFolder folder ↦ 1 | OfVariable variable ↦ 1 | _ ↦ 0 ]) }
     {
         match self {
             Node::Folder(_) | Node::Variable(_) => NAMESPACE,

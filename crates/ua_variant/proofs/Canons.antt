@@ -4,7 +4,8 @@ use Rattle.std.proofs.lemmas.Bool.{ne_eqb, le-ltb}
 use Rattle.ua_binary.specs.Format.{byte}
 use Rattle.ua_variant.specs.Scalar.{scalar, scalar_number}
 use Rattle.ua_variant.specs.Values.{values, array_number}
-use Rattle.ua_variant.specs.Variant.{variant, variant_form}
+use Rattle.ua_variant.specs.Variant.{variant}
+use Rattle.ua_variant.proofs.VariantParts.{variant_form}
 use Rattle.ua_variant.specs.declared.value.Scalar.{Scalar as One}
 use Rattle.ua_variant.specs.declared.value.Array.{Array as Many}
 use Rattle.ua_variant.specs.declared.value.Variant.TheVariants.{Null, Scalar, Array}

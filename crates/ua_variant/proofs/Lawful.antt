@@ -17,9 +17,12 @@ use Rattle.ua_variant.specs.declared.value.Variant.{Variant}
 use Rattle.ua_variant.specs.declared.value.Variant.TheVariants.{Null, Scalar, Array}
 use Rattle.ua_variant.proofs.Types.{IsNumber, type_of, type_of_values}
 use Rattle.ua_variant.specs.Raise.{variant_fault}
-use Rattle.ua_variant.specs.Scalar.{scalar, scalar_form, scalar_number, IsScalar, is_type}
-use Rattle.ua_variant.specs.Variant.{variant_form, variant_number, IsVariant, variant}
-use Rattle.ua_variant.specs.Values.{many as many_of, values, values_form, array_number, IsValues}
+use Rattle.ua_variant.specs.Scalar.{scalar, scalar_number, IsScalar, is_type}
+use Rattle.ua_variant.proofs.ScalarParts.{scalar_form}
+use Rattle.ua_variant.specs.Variant.{IsVariant, variant}
+use Rattle.ua_variant.proofs.VariantParts.{variant_form, variant_number}
+use Rattle.ua_variant.specs.Values.{values, array_number, IsValues}
+use Rattle.ua_variant.proofs.ValuesParts.{values_form, many as many_of}
 use Rattle.ua_variant.specs.declared.value.Array.{Array as Many}
 use Rattle.ua_variant.specs.declared.value.Array.TheVariants as many
 

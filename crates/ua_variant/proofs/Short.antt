@@ -15,10 +15,14 @@ use Rattle.ua_variant.specs.declared.value.Variant.{Variant}
 use Rattle.ua_variant.specs.declared.value.Variant.TheVariants.{Null, Scalar, Array}
 use Rattle.ua_variant.specs.declared.data.DataValue.{DataValue}
 use Rattle.ua_variant.specs.Raise.{variant_fault}
-use Rattle.ua_variant.specs.Scalar.{scalar, scalar_form, IsShortScalar, is_type}
-use Rattle.ua_variant.specs.Values.{many as many_of, values, values_form, IsShortValues}
-use Rattle.ua_variant.specs.Variant.{raise, variant, variant_form, variant_number, IsVariant, IsShortVariant}
-use Rattle.ua_variant.specs.DataValue.{IsPicoseconds, picoseconds, has, data_mask, data_of, parts_of, data_fields, IsDataValue, data_value, IsShortData}
+use Rattle.ua_variant.specs.Scalar.{scalar, IsShortScalar, is_type}
+use Rattle.ua_variant.proofs.ScalarParts.{scalar_form}
+use Rattle.ua_variant.specs.Values.{values, IsShortValues}
+use Rattle.ua_variant.proofs.ValuesParts.{values_form, many as many_of}
+use Rattle.ua_variant.specs.Variant.{raise, variant, IsVariant, IsShortVariant}
+use Rattle.ua_variant.proofs.VariantParts.{variant_form, variant_number}
+use Rattle.ua_variant.specs.DataValue.{IsPicoseconds, picoseconds, has, data_mask, data_of, parts_of, IsDataValue, data_value, IsShortData}
+use Rattle.ua_variant.proofs.DataValueParts.{data_fields}
 use Rattle.ua_variant.proofs.Lawful.{variant_lawful}
 use Rattle.ua_variant.proofs.Masks.{data_value_lawful}
 

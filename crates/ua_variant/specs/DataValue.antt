@@ -51,19 +51,16 @@ data_mask v =
 abbrev pub stamps : ℕ → Format BinaryFault StampParts
 stamps mask = flagged (has mask 2) status ▸ flagged (has mask 4) ticks ▸ flagged (has mask 16) picoseconds ▸ flagged (has mask 8) ticks ▸ flagged (has mask 32) picoseconds
 
--- those that the mask names, the value first; another bit has no meaning
-abbrev pub data_fields : ℕ → Format VariantFault DataValue
-data_fields mask = chosen (nat_lt 63 mask) (refused BadEncodingByte) (standing_for data_of parts_of (flagged (has mask 1) variant ▸ raise (stamps mask)))
-
 -- what has a spelling
 abbrev pub IsDataValue : DataValue → Type 0
 IsDataValue v =
     IfSome v.value IsVariant × IfSome v.status (λ c. c.0 < 2 ^ 32) × IfSome v.source_time (λ t. FitsSigned w64 t.0) × IfSome v.source_pico IsPicoseconds
     × IfSome v.server_time (λ t. FitsSigned w64 t.0) × IfSome v.server_pico IsPicoseconds
 
--- a mask, and what it names
+-- a mask, and what it names, the value first; another bit has no meaning
 unfoldable pub data_value : Format VariantFault DataValue
-data_value = fitting IsDataValue (headed data_mask (raise byte) data_fields)
+data_value = fitting IsDataValue (headed data_mask (raise byte) (λ mask.
+    chosen (nat_lt 63 mask) (refused BadEncodingByte) (standing_for data_of parts_of (flagged (has mask 1) variant ▸ raise (stamps mask)))))
 
 -- what a writer asks
 abbrev pub IsShortData : DataValue → Type 0

@@ -1,5 +1,5 @@
 -- Values: null, one of a type, or an array of one type (Part 6, 5.2.2.16).
-use Rattle.std.specs.Prelude.{ℕ, ◌+◌, ◌-◌, [], Bool, true, false, not, nat_lt, ◌==◌, ◌&&◌}
+use Rattle.std.specs.Prelude.{◌+◌, ◌-◌, [], Bool, true, false, not, nat_lt, ◌==◌, ◌&&◌}
 use Rattle.ua_binary.specs.Format.{Format, nothing, refused, byte, chosen, headed, standing_for, fitting, raised}
 use Rattle.ua_binary.specs.declared.fault.BinaryFault.{BinaryFault}
 use Rattle.ua_variant.specs.Raise.{variant_fault}
@@ -17,25 +17,17 @@ use Rattle.ua_variant.specs.declared.value.ValueType.{ValueType}
 abbrev pub raise : {A : Type 0} → Format BinaryFault A → Format VariantFault A
 raise f = raised variant_fault f
 
--- what each first byte calls for: the low bits are a type, 128 is the flag of an array; 64, the flag of a matrix, is left out
-abbrev pub variant_form : ℕ → Format VariantFault Variant
-variant_form first =
-    chosen (first == 0) (nothing Null) (
-    chosen (nat_lt first 128)
-    (chosen (is_type first) (standing_for Scalar (λ v. elim v [ Scalar s ↦ s | _ ↦ Boolean false ]) (raise (scalar first))) (refused TypeUnsupported))
-    (chosen (is_type (first - 128)) (standing_for Array (λ v. elim v [ Array a ↦ a | _ ↦ ManyBoolean [] ]) (raise (values (first - 128)))) (refused TypeUnsupported)))
-
--- the first byte that is written
-abbrev pub variant_number : Variant → ℕ
-variant_number value = elim value [ Null ↦ 0 | Scalar s ↦ scalar_number s | Array a ↦ 128 + array_number a ]
-
 -- what has a spelling
 abbrev pub IsVariant : Variant → Type 0
 IsVariant value = elim value [ Null ↦ Unit {0} | Scalar s ↦ IsScalar s | Array a ↦ IsValues a ]
 
 -- a first byte, and what it calls for
 unfoldable pub variant : Format VariantFault Variant
-variant = fitting IsVariant (headed variant_number (raise byte) variant_form)
+variant = fitting IsVariant (headed (λ v. elim v [ Null ↦ 0 | Scalar s ↦ scalar_number s | Array a ↦ 128 + array_number a ]) (raise byte) (λ first.
+    chosen (first == 0) (nothing Null) (
+    chosen (nat_lt first 128)
+    (chosen (is_type first) (standing_for Scalar (λ v. elim v [ Scalar s ↦ s | _ ↦ Boolean false ]) (raise (scalar first))) (refused TypeUnsupported))
+    (chosen (is_type (first - 128)) (standing_for Array (λ v. elim v [ Array a ↦ a | _ ↦ ManyBoolean [] ]) (raise (values (first - 128)))) (refused TypeUnsupported)))))
 
 -- what a writer asks
 abbrev pub IsShortVariant : Variant → Type 0

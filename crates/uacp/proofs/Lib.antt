@@ -3,3 +3,4 @@ pub mod Streams
 pub mod Greetings
 pub mod Running
 pub mod Splits
+pub mod ChunksParts

@@ -16,12 +16,7 @@ number_of BuffersTooSmall = 5
 number_of OutOfMemory = 6
 
 abbrev pub code_of : UacpFault → Status
-code_of TypeInvalid = BAD_TCP_MESSAGE_TYPE_INVALID
-code_of TooLarge = BAD_TCP_MESSAGE_TOO_LARGE
-code_of SizeTooSmall = BAD_DECODING_ERROR
-code_of HelloInvalid = BAD_DECODING_ERROR
-code_of BuffersTooSmall = BAD_CONNECTION_REJECTED
-code_of OutOfMemory = BAD_OUT_OF_MEMORY
+code_of fault = elim fault [ TypeInvalid ↦ BAD_TCP_MESSAGE_TYPE_INVALID | TooLarge ↦ BAD_TCP_MESSAGE_TOO_LARGE | SizeTooSmall ↦ BAD_DECODING_ERROR | HelloInvalid ↦ BAD_DECODING_ERROR | BuffersTooSmall ↦ BAD_CONNECTION_REJECTED | OutOfMemory ↦ BAD_OUT_OF_MEMORY ]
 
 -- a fault of the encoding, as the greeting tells it
 abbrev pub fault_of : BinaryFault → UacpFault

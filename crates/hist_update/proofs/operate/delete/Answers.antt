@@ -2,7 +2,8 @@ use Rattle.std.proofs.Common.{rules, ◌≡◌, Err, subst, sym}
 use Rattle.archive.specs.declared.setback.Setback.TheVariants as setback
 use Rattle.hist_update.specs.declared.operate.Undone.TheVariants as undone
 use Rattle.hist_update.specs.Operating.{Operates}
-use Rattle.hist_update.specs.Outcome.{DeleteAt, deletion}
+use Rattle.hist_update.specs.Outcome.{DeleteAt}
+use Rattle.hist_update.proofs.OutcomeParts.{deletion}
 use Rattle.hist_update.proofs.Drafts.{short_node}
 use Rattle.hist_update.proofs.Operating.{survey-failed, draft-starved, settled, deletion_timed, deleted_by}
 use Rattle.hist_update.proofs.operate.delete.Goals as goal

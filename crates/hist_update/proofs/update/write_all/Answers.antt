@@ -3,7 +3,7 @@ use Rattle.ua_binary.specs.declared.codes.Status.{Status}
 use Rattle.ua_binary.specs.declared.codes.TheConstants.Status.{GOOD}
 use Rattle.ua_services.specs.declared.updates.HistoryUpdateResult.{HistoryUpdateResult}
 use Rattle.hist_update.specs.Outcome.{Write}
-use Rattle.hist_update.specs.Updates.{all_good}
+use Rattle.hist_update.proofs.UpdatesParts.{all_good}
 use Rattle.hist_update.proofs.Answering.{begins-starved, begins-run}
 use Rattle.hist_update.proofs.update.write_all.Goals as goal
 

@@ -2,7 +2,7 @@ use Rattle.std.proofs.Common.{◌∙◌, rules, tests}
 use Rattle.std.specs.Option.{option_copied}
 use Rattle.std.proofs.lemmas.Iterator.{YieldsList-from_slice}
 use Rattle.std.proofs.lemmas.Iterator.Search.{any_from_yields_List}
-use Rattle.historian.specs.Endpoints.{is_served_profile}
+use Rattle.historian.proofs.EndpointsParts.{is_served_profile}
 use Rattle.historian.proofs.Profiles.{takes_copied}
 use Rattle.historian.proofs.endpoints.takes_transport.Goals as goal
 

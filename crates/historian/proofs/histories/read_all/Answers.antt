@@ -10,7 +10,8 @@ use Rattle.hist_read.specs.declared.query.Query.{Query}
 use Rattle.historian.specs.declared.answer.Answer.TheVariants as made
 use Rattle.historian.specs.Answers.{Histories}
 use Rattle.hist_update.specs.Codes.{list_refusal}
-use Rattle.historian.specs.Reading.{unless, read_history_of, query_of, histories_by, read_history}
+use Rattle.historian.specs.Reading.{unless, read_history_of, query_of, read_history}
+use Rattle.historian.proofs.ReadingParts.{histories_by}
 use Rattle.historian.proofs.Items.{comes-refused, comes-starved, comes-items}
 use Rattle.historian.proofs.histories.read_all.Goals as goal
 

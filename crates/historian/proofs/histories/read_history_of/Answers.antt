@@ -4,7 +4,8 @@ use Rattle.ua_services.specs.History.{history_read_fields}
 use Rattle.archive.specs.Steps.{Acts, and_then, give}
 use Rattle.archive.specs.Store.{Mark, Fine, Starved}
 use Rattle.hist_read.specs.Node.{read_node}
-use Rattle.historian.specs.Reading.{history_by, read_history_of, released}
+use Rattle.historian.specs.Reading.{read_history_of, released}
+use Rattle.historian.proofs.ReadingParts.{history_by}
 use Rattle.historian.proofs.Items.{acts-none, acts-starved, acts-past, acts-made}
 use Rattle.historian.proofs.histories.read_history_of.Goals as goal
 

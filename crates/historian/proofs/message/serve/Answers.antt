@@ -1,4 +1,4 @@
-use Rattle.std.proofs.Common.{refl}
+use Rattle.std.proofs.Common.{refl, sym, subst}
 use Rattle.ua_binary.specs.Binary.{node_of}
 use Rattle.records.specs.Contents.{Content}
 use Rattle.archive.specs.Steps.{Marked}
@@ -19,13 +19,14 @@ returns g c =
     let token = node_of c.args.token in
     let S = c.args.sessions.now in
     let does : Service → Content → Marked Outcome = λ service. answered_call site c.args.now token (call_in service c.args.request) S in
+    let P : Service → Type 0 = λ s. Performs a b (does s) c.match-service.sessions c.match-service.answer in
     let performs : Performs a b (does c.args.service) c.match-service.sessions c.match-service.answer = elim c.match-service.branch [
-      | in-GetEndpoints w ↦ rw (w.archive-is, w.sessions-is, w.answer-is, w.in-GetEndpoints.is) (performs-here a (does service.GetEndpoints) S w.get_endpoints-answer.result (w.get_endpoints-answer.ensures.performs site c.args.now token S refl))
-      | in-CreateSession w ↦ rw (w.archive-is, w.sessions-is, w.answer-is, w.in-CreateSession.is) (performs-here a (does service.CreateSession) w.create_session-answer.new.sessions w.create_session-answer.result (w.create_session-answer.ensures.performs site c.args.now token refl))
-      | in-ActivateSession w ↦ rw (w.archive-is, w.sessions-is, w.answer-is, w.in-ActivateSession.is) (performs-here a (does service.ActivateSession) w.activate_session-answer.new.sessions w.activate_session-answer.result (w.activate_session-answer.ensures.performs site c.args.now refl))
-      | in-CloseSession w ↦ rw (w.archive-is, w.sessions-is, w.answer-is, w.in-CloseSession.is) (performs-here a (does service.CloseSession) w.close_session-answer.new.sessions w.close_session-answer.result (w.close_session-answer.ensures.performs site c.args.now))
-      | in-Browse w ↦ rw (w.archive-is, w.sessions-is, w.answer-is, w.in-Browse.is) (performs-here a (does service.Browse) w.browse-answer.new.sessions w.browse-answer.result (w.browse-answer.ensures.performs site c.args.now refl))
-      | in-HistoryRead w ↦ rw (w.archive-is, w.sessions-is, w.answer-is, w.in-HistoryRead.is) (w.read_history-answer.ensures.performs)
-      | in-HistoryUpdate w ↦ rw (w.archive-is, w.sessions-is, w.answer-is, w.in-HistoryUpdate.is) (w.update_history-answer.ensures.performs)
+      | in-GetEndpoints w ↦ subst P (sym w.in-GetEndpoints.is) (rw (w.archive-is, w.sessions-is, w.answer-is) (performs-here a (does service.GetEndpoints) S w.get_endpoints-answer.result (w.get_endpoints-answer.ensures.performs site c.args.now token S refl)))
+      | in-CreateSession w ↦ subst P (sym w.in-CreateSession.is) (rw (w.archive-is, w.sessions-is, w.answer-is) (performs-here a (does service.CreateSession) w.create_session-answer.new.sessions w.create_session-answer.result (w.create_session-answer.ensures.performs site c.args.now token refl)))
+      | in-ActivateSession w ↦ subst P (sym w.in-ActivateSession.is) (rw (w.archive-is, w.sessions-is, w.answer-is) (performs-here a (does service.ActivateSession) w.activate_session-answer.new.sessions w.activate_session-answer.result (w.activate_session-answer.ensures.performs site c.args.now refl)))
+      | in-CloseSession w ↦ subst P (sym w.in-CloseSession.is) (rw (w.archive-is, w.sessions-is, w.answer-is) (performs-here a (does service.CloseSession) w.close_session-answer.new.sessions w.close_session-answer.result (w.close_session-answer.ensures.performs site c.args.now)))
+      | in-Browse w ↦ subst P (sym w.in-Browse.is) (rw (w.archive-is, w.sessions-is, w.answer-is) (performs-here a (does service.Browse) w.browse-answer.new.sessions w.browse-answer.result (w.browse-answer.ensures.performs site c.args.now refl)))
+      | in-HistoryRead w ↦ subst P (sym w.in-HistoryRead.is) (rw (w.archive-is, w.sessions-is, w.answer-is) (w.read_history-answer.ensures.performs))
+      | in-HistoryUpdate w ↦ subst P (sym w.in-HistoryUpdate.is) (rw (w.archive-is, w.sessions-is, w.answer-is) (w.update_history-answer.ensures.performs))
     ] in
     responds-finished a b (does c.args.service) c.match-service.sessions c.args.now c.args.handle c.match-service.answer c.finish.result c.finish.new.body.items performs c.finish.ensures

@@ -9,7 +9,8 @@ use Rattle.ua_space.specs.Attributes.{attribute_at}
 use Rattle.ua_space.specs.declared.attributes.Answered.{Answered}
 use Rattle.ua_space.specs.declared.layout.Layout.{Layout}
 use Rattle.archive.specs.Store.{Fine}
-use Rattle.historian.specs.Reading.{value_rules, valued, value_of, item_at, item_value, telling, item_told}
+use Rattle.historian.specs.Reading.{value_rules, valued, item_at, item_told}
+use Rattle.historian.proofs.ReadingParts.{item_value, value_of, telling}
 use Rattle.historian.proofs.Values.{item-refused, item-there, item-unfit, item-valued, item-archived, item-told}
 use Rattle.historian.proofs.reading.put_item.Goals as goal
 

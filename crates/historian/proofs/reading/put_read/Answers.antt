@@ -20,7 +20,8 @@ use Rattle.records.specs.Contents.{Content}
 use Rattle.archive.specs.Store.{Mark}
 use Rattle.historian.specs.Answers.{Response, Values, head, response}
 use Rattle.hist_update.specs.Codes.{list_refusal}
-use Rattle.historian.specs.Reading.{unless, items, read_item, read_by, read}
+use Rattle.historian.specs.Reading.{unless, items, read_item, read}
+use Rattle.historian.proofs.ReadingParts.{read_by}
 use Rattle.historian.specs.Telling.{Written}
 use Rattle.historian.proofs.Items.{comes-refused, acts-wanting, acts-items, few_taken}
 use Rattle.historian.proofs.reading.put_read.Goals as goal

@@ -10,7 +10,8 @@ use Rattle.historian.specs.declared.service.Service.TheVariants as service
 use Rattle.historian.specs.declared.answer.Answer.TheVariants as made
 use Rattle.historian.specs.Answers.{Closed}
 use Rattle.historian.specs.Requests.{CloseSession}
-use Rattle.historian.specs.Services.{called, close}
+use Rattle.historian.specs.Services.{called}
+use Rattle.historian.proofs.ServicesParts.{close}
 use Rattle.historian.proofs.Performing.{performs-unread, performs-given}
 use Rattle.historian.proofs.sessions.close_session.Goals as goal
 

@@ -6,7 +6,8 @@ use Rattle.historian.specs.declared.answer.Answer.TheVariants as made
 use Rattle.std.specs.Option.{option_copied}
 use Rattle.historian.specs.Answers.{Response, Endpoints}
 use Rattle.historian.specs.Requests.{GetEndpoints}
-use Rattle.historian.specs.Endpoints.{endpoint_of, endpoints_for, takes_transport}
+use Rattle.historian.specs.Endpoints.{endpoint_of, takes_transport}
+use Rattle.historian.proofs.EndpointsParts.{endpoints_for}
 use Rattle.historian.proofs.Profiles.{endpoints-none, endpoints-one}
 use Rattle.historian.proofs.Performing.{performs-unread, performs-starved, performs-read}
 use Rattle.historian.proofs.sessions.get_endpoints.Goals as goal

@@ -4,7 +4,8 @@ use Rattle.ua_binary.specs.Binary.{node_of}
 use Rattle.ua_services.specs.Updates.{details_of}
 use Rattle.archive.specs.Steps.{give}
 use Rattle.archive.specs.Store.{Fine, Starved}
-use Rattle.historian.specs.Updating.{node_asked, type_asked, update_of, update_by, asked_for, update_item}
+use Rattle.historian.specs.Updating.{node_asked, type_asked, update_of, asked_for, update_item}
+use Rattle.historian.proofs.UpdatingParts.{update_by}
 use Rattle.historian.proofs.Items.{acts-none, acts-starved, acts-past}
 use Rattle.historian.proofs.Updates.{update-for}
 use Rattle.historian.proofs.updating.update_item.Goals as goal

@@ -2,7 +2,8 @@ use Rattle.std.proofs.Common.{◌≡◌, ℕ, List, subst, ◌∙◌}
 use Rattle.std.specs.Prelude.{Option, OnErr}
 use Rattle.counted_io.specs.Bytes.{AppendsPart}
 use Rattle.std.specs.Io.KnownBytes.{Appends}
-use Rattle.ua_server.specs.Telling.{text_of, place_of, told_line, place_line}
+use Rattle.ua_server.specs.Telling.{text_of, told_line, place_line}
+use Rattle.ua_server.proofs.TellingParts.{place_of}
 use Rattle.counted_io.proofs.Parts.{part-first, part-after}
 use Rattle.ua_server.proofs.program.tell_fault.Goals as goal
 

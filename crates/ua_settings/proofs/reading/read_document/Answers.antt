@@ -2,7 +2,7 @@ use Rattle.std.proofs.Common.{map, ap, sym, subst, ◌∙◌, unwrap_or}
 use Rattle.std.specs.List.{AllByRecursion}
 use Rattle.toml.specs.Data.{no_members}
 use Rattle.toml.specs.View.{table_view}
-use Rattle.ua_settings.specs.Reading.{user_in}
+use Rattle.ua_settings.proofs.ReadingParts.{user_in}
 use Rattle.ua_settings.specs.Sound.{IsSoundUser}
 use Rattle.ua_settings.proofs.Plans.{map_twice, all_under, accepted, users_same}
 use Rattle.ua_settings.proofs.reading.read_document.Goals as goal

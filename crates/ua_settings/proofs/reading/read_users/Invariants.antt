@@ -1,6 +1,6 @@
 use Rattle.std.proofs.Common.{◌≡◌, map, take}
 use Rattle.toml.specs.View.{table_view}
-use Rattle.ua_settings.specs.Reading.{user_in}
+use Rattle.ua_settings.proofs.ReadingParts.{user_in}
 use Rattle.ua_settings.proofs.reading.read_users.Given as goal
 
 abbrev pub invariant-loop-table : goal.invariant-loop-table

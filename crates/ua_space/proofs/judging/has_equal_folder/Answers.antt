@@ -1,6 +1,6 @@
 use Rattle.std.proofs.Common.{rules, map, ◌∙◌, sym, ap}
 use Rattle.std.proofs.lemmas.List.{get_or_default}
-use Rattle.ua_space.specs.Plan.{folder_id, variable_id}
+use Rattle.ua_space.proofs.PlanParts.{variable_id, folder_id}
 use Rattle.ua_space.proofs.Ids.{equal_on, equal_later, equal_behind, list_any-map}
 use Rattle.ua_space.proofs.judging.has_equal_folder.Goals as goal
 use Rattle.ua_space.proofs.judging.has_equal_folder.Goals.{then-has_folder-via-then-has_folder, then-has_folder-via-else-has_folder+then-has_variable}

@@ -1,6 +1,6 @@
 use Rattle.std.proofs.Common.{rules, sym, ap}
 use Rattle.std.proofs.lemmas.List.{get_or_default}
-use Rattle.ua_space.specs.Plan.{variable_id}
+use Rattle.ua_space.proofs.PlanParts.{variable_id}
 use Rattle.ua_space.proofs.Ids.{equal_on_alone, equal_later_alone}
 use Rattle.ua_space.proofs.judging.has_equal_variable.Goals as goal
 

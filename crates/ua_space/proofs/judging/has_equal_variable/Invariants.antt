@@ -1,5 +1,6 @@
 use Rattle.std.proofs.Common.{◌≡◌, drop, map}
-use Rattle.ua_space.specs.Plan.{have_equal, variable_id}
+use Rattle.ua_space.specs.Plan.{have_equal}
+use Rattle.ua_space.proofs.PlanParts.{variable_id}
 use Rattle.ua_space.proofs.judging.has_equal_variable.Given as goal
 
 abbrev pub invariant-loop-i : goal.invariant-loop-i

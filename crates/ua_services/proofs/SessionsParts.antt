@@ -1,0 +1,19 @@
+-- Names for parts of the definitions in specs/Sessions, for the lemmas on these parts.
+use Rattle.ua_binary.specs.declared.fault.BinaryFault.{BinaryFault}
+use Rattle.ua_binary.specs.declared.values.NodeId.{NodeId}
+use Rattle.ua_binary.specs.declared.values.NodeId.TheVariants.{Numeric}
+use Rattle.ua_binary.specs.Format.{Format, chosen, standing_for}
+use Rattle.ua_services.specs.Structure.{is_type, structure}
+use Rattle.ua_session.specs.Users.{Claim, Anonymous, Named, Other}
+use Rattle.ua_services.specs.Sessions.{anonymous_identity_token, unknown_form, user_name_form}
+
+-- the type that is written: the null one of nobody, and that of a certificate for what is something else
+abbrev pub identity_type : Claim → NodeId
+identity_type claim = elim claim [ Anonymous ↦ Numeric 0 0 | Named _ _ _ ↦ Numeric 0 324 | Other ↦ Numeric 0 327 ]
+
+abbrev pub anonymous_form : Format BinaryFault Claim
+anonymous_form = standing_for (λ _. Anonymous) (λ _. tt) (structure anonymous_identity_token)
+
+-- what the type calls for: 321 an AnonymousIdentityToken, 324 a UserNameIdentityToken; each fills its body
+abbrev pub identity_form : NodeId → Format BinaryFault Claim
+identity_form id = chosen (is_type 321 id) anonymous_form (chosen (is_type 324 id) user_name_form (unknown_form id))
