@@ -33,7 +33,7 @@ chosen_has R node p d h = (
   λ k. (has-in_direction d _ h).1 (has-filter p (lives R node) h ((lives_has R node h).1 k.0) k.1),
 )
 
-abbrev IsAhead : Direction → Held → Held → Type 0
+abbrev pub IsAhead : Direction → Held → Held → Type 0
 IsAhead d a b = is_past d a.time b.time ≡ true
 
 less_past : (s t u v : ℤ) → int_cmp s t ≡ Less → u ≡ s → v ≡ t → is_past Forward u v ≡ true
@@ -45,7 +45,7 @@ lives_rise R node =
     (λ s t x y less e k. less_past s t x.time y.time less (current_time R node s x e).1 (current_time R node t y k).1)
     (times R node) (times_rise R node)
 
-chosen_go : (R : Content) (node : NodeId) (p : Held → Bool) (d : Direction) → IsPairwise (IsAhead d) (in_direction d (filter p (lives R node)))
+pub chosen_go : (R : Content) (node : NodeId) (p : Held → Bool) (d : Direction) → IsPairwise (IsAhead d) (in_direction d (filter p (lives R node)))
 chosen_go R node p Forward = pairwise-filter (IsAhead Forward) p _ (lives_rise R node)
 chosen_go R node p Backward = pairwise-reverse (IsAhead Forward) _ (pairwise-filter (IsAhead Forward) p _ (lives_rise R node))
 

@@ -66,7 +66,7 @@ rises_from_strict cmp (x ∷ xs) up = (up.0, rises_from_strict cmp xs up.1)
 same_test : (x y : ℤ) → int_eq x y ≡ eq_by_cmp int_cmp x y
 same_test x y = refl
 
-exact_test : (x y : ℤ) → int_eq x y ≡ true → x ≡ y
+pub exact_test : (x y : ℤ) → int_eq x y ≡ true → x ≡ y
 exact_test x y e = grind (arith, nat_tests, ints)
 
 rises-dedup : (xs : List ℤ) → IsSorted int_cmp xs → Rises int_cmp (dedup int_eq xs)

@@ -5,7 +5,8 @@ use Rattle.ua_binary.specs.declared.values.NodeId.{NodeId}
 use Rattle.records.specs.Lists.{Has, Rises}
 use Rattle.records.proofs.SameParts.{node_code}
 use Rattle.records.specs.Contents.{Content}
-use Rattle.records.specs.Records.{is_delete, write, held_of, story, current, entries_after, entries}
+use Rattle.records.specs.Records.{is_delete, write, story, current, entries_after, entries}
+use Rattle.records.proofs.ContentsParts.{held_of}
 use Rattle.records.specs.declared.record.Record.{Record}
 use Rattle.records.specs.declared.shown.Held.{Held}
 use Rattle.records.specs.declared.shown.Entry.{Entry}

@@ -15,7 +15,7 @@ use Rattle.archive.specs.Store.{IsLawfulContent}
 none_beyond : (R : Content) (o : ℕ) → IsLawfulContent R → (IsReplica o → ⊥) → vec R o ≡ 0
 none_beyond R o lawful out = elim (vec_attained R o) [
   | inl e ↦ e
-  | inr h ↦ absurd (out (subst IsReplica h.2.from (lawful.records h.0 h.1).origin))
+  | inr h ↦ absurd (out (subst IsReplica h.2.0 (lawful.records h.0 h.1).origin))
 ]
 
 pub numbers_are : (R : Content) → IsLawfulContent R → (o : ℕ) → number_of (numbers_of R) o ≡ vec R o

@@ -10,8 +10,9 @@ use Rattle.archive.specs.Growth.{Grows}
 abbrev pub Marked : Type 0 → Type 0
 Marked A = List Mark → (A × List Mark)
 
-abbrev pub give : {A : Type 0} → A → Marked A
-give a marks = (a, marks)
+-- a value, which depends on nothing
+abbrev pub give : {S A : Type 0} → A → S → A × S
+give a state = (a, state)
 
 -- one step, by its mark; where none is left, nothing came in its way
 abbrev pub step : {A : Type 0} → (Mark → A) → Marked A
@@ -22,8 +23,8 @@ abbrev pub memory : Marked (Option Status)
 memory list = elim list [ Starved ∷ marks ↦ (Some BAD_OUT_OF_MEMORY, marks) | Fine ∷ marks ↦ (None, marks) | Met fault ∷ marks ↦ (None, Met fault ∷ marks) | [] ↦ (None, []) ]
 
 -- some steps, and then those that their value leads to
-abbrev pub and_then : {A B : Type 0} → Marked A → (A → Marked B) → Marked B
-and_then first more marks = let a = first marks in more a.0 a.1
+abbrev pub and_then : {S A B : Type 0} → (S → A × S) → (A → S → B × S) → S → B × S
+and_then first more state = let a = first state in more a.0 a.1
 
 -- the steps of each item of a list, over what those before it left: the values, and what is left
 abbrev pub each : {X Y S : Type 0} → (X → S → Marked (Y × S)) → List X → S → Marked (List Y × S)

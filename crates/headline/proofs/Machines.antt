@@ -115,19 +115,17 @@ module _ {A : Type 0} (state : A → Store) where
     record {
       past = record {
         begins = record {
-          apart = λ i j s t at to e.
-              let a = get_map first_site machines i s at in
-              let b = get_map first_site machines j t to in
-              new.apart i j a.0 b.0 a.1 b.1 (ap (λ (x : Site). x.number) (sym a.2) ∙ (e ∙ ap (λ (x : Site). x.number) b.2));
-          one = λ i j s t at to.
-              let a = get_map first_site machines i s at in
-              let b = get_map first_site machines j t to in
-              ap (λ (x : Site). x.id) a.2 ∙ (new.one i j a.0 b.0 a.1 b.1 ∙ ap (λ (x : Site). x.id) (sym b.2));
-          empty = record { sites = λ i s at. ap (λ (x : Site). x.content) (get_map first_site machines i s at).2; pool = refl };
           replicas = λ i s at.
               let a = get_map first_site machines i s at in
               let is = all_there (λ a. IsReplica (state a).own × (length (state a).id ≡ 16)) machines i a.0 new.replicas a.1 in
-              subst (λ (x : Site). IsReplica x.number × (length x.id ≡ 16)) (sym a.2) is;
+              subst (λ (x : Site). IsReplica x.number × (length x.id ≡ 16) × (x.content ≡ [])) (sym a.2) (is.0, is.1, refl);
+          together = λ i j s t at to.
+              let a = get_map first_site machines i s at in
+              let b = get_map first_site machines j t to in (
+                ap (λ (x : Site). x.id) a.2 ∙ (new.one i j a.0 b.0 a.1 b.1 ∙ ap (λ (x : Site). x.id) (sym b.2)),
+                λ e. new.apart i j a.0 b.0 a.1 b.1 (ap (λ (x : Site). x.number) (sym a.2) ∙ (e ∙ ap (λ (x : Site). x.number) b.2)),
+              );
+          pool = refl;
         };
         lawful = tt;
       };

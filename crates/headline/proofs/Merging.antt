@@ -17,11 +17,7 @@ use Rattle.headline.proofs.Times.{lawful_was, together}
 pub least_above : (p : Past) (s t : Site) → IsPast p → Was p s → Was p t → IsLeastAbove s.content t.content (join s.content t.content)
 least_above p s t past a b =
     let same = (together p s t past a b).compatible in
-    record {
-      one = above_left s.content t.content same;
-      other = has-join_right s.content t.content same;
-      least = join_least s.content t.content;
-    }
+    (above_left s.content t.content same, has-join_right s.content t.content same, join_least s.content t.content)
 
 pub learns_join : (p : Past) (s t : Site) (count : ℕ) → IsPast p → Was p s → Was p t → length (filter (is_beyond (vec s.content)) t.content) ≤ count
     → merged (missing t.content (vec s.content) count) s.content ≡ join s.content t.content
@@ -49,5 +45,5 @@ delivers_join p time i j count s t past one other few =
     let w = world_at p time in
     let batch = missing t.content (vec s.content) count in
     let whole : take count batch ≡ batch = sym (missing_first t.content (vec s.content) count count (omega arith)) in
-    let joined = learns_join p s t count past (record { time = time; place = i; at_that = one }) (record { time = time; place = j; at_that = other }) few in
+    let joined = learns_join p s t count past (time, i, one) (time, j, other) few in
     subst (λ R. IsSite (run (Sends j (vec s.content) count ∷ Delivers i (length w.pool) count ∷ []) w) i (record s { content = R })) (ap (λ b. merged b s.content) whole ∙ joined) (exchanged w i j count s t one other)

@@ -87,10 +87,10 @@ never_read q none id node stamps first pages asked lawful later chain =
 
 module _ (p : Past) (past : IsPast p) (t : Site) (was : Was p t) where
   later_page : (R : Content) → R ≡ t.content → (page : Page) → IsPageBehind p t page → IsLater R page.content
-  later_page R same page behind = subst (λ C. IsLater R C) (sym behind.content) (subst (λ C. IsLater C behind.replica.content) (sym same) (record {
-    lawful = lawful_was p behind.replica past behind.was;
-    compatible = (together p t behind.replica past was behind.was).compatible;
-    covers = behind.covers;
+  later_page R same page behind = subst (λ C. IsLater R C) (sym behind.2) (subst (λ C. IsLater C behind.0.content) (sym same) (record {
+    lawful = lawful_was p behind.0 past behind.1;
+    compatible = (together p t behind.0 past was behind.1).compatible;
+    covers = behind.3;
   }))
 
   module _ (node : NodeId) (spelled : IsNodeId node) (q : Details) (fits : IsDetails q) where
@@ -103,11 +103,11 @@ module _ (p : Past) (past : IsPast p) (t : Site) (was : Was p t) where
 
       pub reading_shows : ShowWhole q → (pages : List Page) → IsReading p t node query pages → (joined_values pages ≡ values_in (whole t.content node query)) × (joined_infos pages ≡ infos_in (whole t.content node query))
       reading_shows shows pages reading =
-          let lawful : IsLawfulContent reading.first.content = subst IsLawfulContent (sym reading.here) (lawful_was p t past was) in
-          let later = all_weaker (IsPageBehind p t) (λ page. IsLater reading.first.content page.content) (later_page reading.first.content reading.here) reading.further reading.behind in
-          let both = shows t.id node stamps reading.first reading.further is_asked lawful later (subst (Chain t.id node query None) reading.parts reading.chain) in (
-            ap joined_values reading.parts ∙ (both.0 ∙ ap (λ R. values_in (whole R node query)) reading.here),
-            ap joined_infos reading.parts ∙ (both.1 ∙ ap (λ R. infos_in (whole R node query)) reading.here),
+          let lawful : IsLawfulContent reading.0.content = subst IsLawfulContent (sym reading.3) (lawful_was p t past was) in
+          let later = all_weaker (IsPageBehind p t) (λ page. IsLater reading.0.content page.content) (later_page reading.0.content reading.3) reading.1 reading.4 in
+          let both = shows t.id node stamps reading.0 reading.1 is_asked lawful later (subst (Chain t.id node query None) reading.2 reading.5) in (
+            ap joined_values reading.2 ∙ (both.0 ∙ ap (λ R. values_in (whole R node query)) reading.3),
+            ap joined_infos reading.2 ∙ (both.1 ∙ ap (λ R. infos_in (whole R node query)) reading.3),
           )
 
       -- ---- the points
@@ -159,7 +159,7 @@ module _ (p : Past) (past : IsPast p) (visits : ℕ → Site) (go : (n : ℕ) �
   all_behind [] start count e = tt
   all_behind (page ∷ pages) start zero e = absurd (cc)
   all_behind (page ∷ pages) start (suc count) e = (
-    record { replica = visits start; was = (go start).0; content = cc; covers = (go start).1 },
+    (visits start, (go start).0, cc, (go start).1),
     all_behind pages (start + 1) count (cc),
   )
 
@@ -182,7 +182,7 @@ module _ (p : Past) (past : IsPast p) (visits : ℕ → Site) (go : (n : ℕ) �
       by_pages (first ∷ pages) zero e chain = absurd (cc)
       by_pages (first ∷ pages) (suc count) e chain = (
         first ∷ pages,
-        record { first = first; further = pages; parts = refl; here = cc; behind = all_behind pages (0 + 1) count (cc); chain = chain },
+        (first, pages, refl, cc, all_behind pages (0 + 1) count (cc), chain),
         suc count,
         e,
       )

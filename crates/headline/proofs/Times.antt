@@ -17,10 +17,13 @@ use Rattle.hist_update.specs.Laws.{IsSpelled, IsOperation}
 use Rattle.hist_update.proofs.LawfulUpdates.{updated_lawful}
 use Rattle.exchange.specs.Worlds.{Site, World, Event, Operates, Sends, Delivers, Restarts, IsSite, IsSound, operated, delivered, step, run}
 use Rattle.exchange.proofs.WorldLemmas.{get-set_cases, has_from_get, with_content, run_sound, empty_sound, Grows, run_grown, times_grown}
-use Rattle.headline.specs.Pasts.{IsLawfulEvent, Past, IsPast, world_at, IsAt, Was, HaveLearnedSame, AreEven, Covers}
+use Rattle.headline.specs.Pasts.{IsBeginning, IsLawfulEvent, Past, IsPast, world_at, IsAt, Was, HaveLearnedSame, AreEven, Covers}
+
+pub begins_sound : (w : World) → IsBeginning w → IsSound w
+begins_sound w is = empty_sound w (λ i j s t a b. (is.together i j s t a b).1) (λ i j s t a b. (is.together i j s t a b).0) (record { sites = λ i s a. (is.replicas i s a).2; pool = is.pool })
 
 pub sound_at : (p : Past) → IsPast p → (time : ℕ) → IsSound (world_at p time)
-sound_at p past time = run_sound p.start (take time p.events) (empty_sound p.start past.begins.apart past.begins.one past.begins.empty)
+sound_at p past time = run_sound p.start (take time p.events) (begins_sound p.start past.begins)
 
 -- its number is one of a replica, and its id an archive's
 pub replica_at : (p : Past) (time place : ℕ) (s : Site) → IsPast p → IsAt p time place s → IsReplica s.number × (length s.id ≡ 16)
@@ -102,16 +105,16 @@ lawful_empty = record {
 pub lawful_at : (p : Past) (time place : ℕ) (s : Site) → IsPast p → IsAt p time place s → IsLawfulContent s.content
 lawful_at p time place s past there =
     let first : AreLawful p.start = record {
-      content = λ i a at. subst IsLawfulContent (sym (past.begins.empty.sites i a at)) lawful_empty;
+      content = λ i a at. subst IsLawfulContent (sym (past.begins.replicas i a at).2) lawful_empty;
       number = λ i a at. (past.begins.replicas i a at).0;
     } in
-    (lawful_run p.events time p.start (empty_sound p.start past.begins.apart past.begins.one past.begins.empty) first past.lawful).content place s there
+    (lawful_run p.events time p.start (begins_sound p.start past.begins) first past.lawful).content place s there
 
 pub lawful_was : (p : Past) (s : Site) → IsPast p → Was p s → IsLawfulContent s.content
-lawful_was p s past was = lawful_at p was.time was.place s past was.at_that
+lawful_was p s past was = lawful_at p was.0 was.1 s past was.2
 
 pub sixteen_was : (p : Past) (s : Site) → IsPast p → Was p s → length s.id ≡ 16
-sixteen_was p s past was = (replica_at p was.time was.place s past was.at_that).1
+sixteen_was p s past was = (replica_at p was.0 was.1 s past was.2).1
 
 -- ---- two replicas
 
@@ -136,10 +139,10 @@ from_earlier p s t m n i j past le one other =
     }
 
 pub together : (p : Past) (s t : Site) → IsPast p → Was p s → Was p t → AreTogether s t
-together p s t past a b = elim (le_or a.time b.time) [
-  | inl le ↦ from_earlier p s t a.time b.time a.place b.place past le a.at_that b.at_that
+together p s t past a b = elim (le_or a.0 b.0) [
+  | inl le ↦ from_earlier p s t a.0 b.0 a.1 b.1 past le a.2 b.2
   | inr le ↦
-      let back = from_earlier p t s b.time a.time b.place a.place past le b.at_that a.at_that in
+      let back = from_earlier p t s b.0 a.0 b.1 a.1 past le b.2 a.2 in
       record { id = sym back.id; compatible = compatible_back t.content s.content back.compatible }
 ]
 
@@ -149,8 +152,8 @@ names_vec R S names origin = elim (vec_attained R origin) [
   | inl none ↦ omega (arith, none)
   | inr named ↦
       let z = names origin (vec R origin) named in
-      let le : z.0.number ≤ vec S origin = subst (λ o. z.0.number ≤ vec S o) z.2.from (vec_bounds S z.0 z.1) in
-      let e = z.2.numbered in
+      let le : z.0.number ≤ vec S origin = subst (λ o. z.0.number ≤ vec S o) z.2.0 (vec_bounds S z.0 z.1) in
+      let e = z.2.1 in
       omega (arith, le, e)
 ]
 

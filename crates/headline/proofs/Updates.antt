@@ -6,12 +6,13 @@ use Rattle.ua_binary.specs.declared.codes.Status.{Status}
 use Rattle.records.specs.Lists.{Has, Rises}
 use Rattle.records.specs.Records.{stamp_cmp, story}
 use Rattle.records.specs.declared.record.Record.{Record}
-use Rattle.records.specs.Contents.{IsLatest, vec, top, put}
+use Rattle.records.specs.Contents.{Content, IsLatest, vec, top, put}
 use Rattle.records.proofs.CloseLemmas.{closed_stamps}
 use Rattle.records.proofs.ContentLemmas.{vec_bounds}
 use Rattle.records.proofs.LatestLemmas.{story_rises, story_has}
 use Rattle.records.proofs.PutLemmas.{has-put}
-use Rattle.records.proofs.Sorting.{all-has}
+use Rattle.records.proofs.Orders.{stamp_total}
+use Rattle.records.proofs.Sorting.{all-has, asymmetric, irreflexive}
 use Rattle.archive.specs.Store.{Fine}
 use Rattle.hist_update.specs.declared.request.Request.{Request}
 use Rattle.hist_update.specs.Outcome.{Operation, Added, outcome, after}
@@ -21,7 +22,6 @@ use Rattle.hist_update.proofs.NewRecords.{made}
 use Rattle.exchange.specs.Worlds.{Site, Operates, IsSite, step}
 use Rattle.exchange.proofs.WorldLemmas.{list_run, next_world}
 use Rattle.headline.specs.Pasts.{Past, IsPast, Was, WasAnswered, WasRecorded, world_at}
-use Rattle.headline.specs.Readings.{HasLater}
 use Rattle.headline.proofs.Times.{lawful_was, together}
 
 -- ---- the record of an update
@@ -29,10 +29,10 @@ use Rattle.headline.proofs.Times.{lawful_was, together}
 pub recorded : (p : Past) (s : Site) (request : Request) (op : Operation) (code : Status) → IsPast p → WasAnswered p s request op code → IsGood code
     → (r : Record) × WasRecorded p s request op r × IsRecordOf request s.number op r × (r.number ≡ vec s.content s.number + 1) × (lift request.reading (top s.content) ≡ Some r.tick)
 recorded p s request op code past answered good =
-    let d = good_done s.content s.number request op Fine (subst IsGood (sym answered.told) good) in
+    let d = good_done s.content s.number request op Fine (subst IsGood (sym answered.4) good) in
     let m = made s.content s.number request op _ d.0 d.1 in (
       d.0,
-      record { code = code; answered = answered; added = d.1 ∙ ap (λ c. Added c d.0) answered.told },
+      (code, answered, d.1 ∙ ap (λ c. Added c d.0) answered.4),
       d.3,
       ap (λ (x : Record). x.number) m.is,
       m.lifts ∙ ap Some (sym (ap (λ (x : Record). x.tick) m.is)),
@@ -41,16 +41,12 @@ recorded p s request op code past answered good =
 -- the replica behind its update
 with_record : (p : Past) (s : Site) (request : Request) (op : Operation) (r : Record) → WasRecorded p s request op r → Was p (record s { content = put r s.content })
 with_record p s request op r recorded =
-    let a = recorded.answered in
-    let w = world_at p a.time in
-    let there : IsSite (step w (Operates a.place request op)) a.place (record s { content = after s.content (outcome s.content s.number request op) }) = (list_run (op ∷ []) w a.place s request a.at_that).here in
-    let changed : IsSite (step w (Operates a.place request op)) a.place (record s { content = put r s.content }) =
-    subst (λ o. IsSite (step w (Operates a.place request op)) a.place (record s { content = after s.content o })) recorded.added there in
-    record {
-      time = suc a.time;
-      place = a.place;
-      at_that = subst (λ v. IsSite v a.place (record s { content = put r s.content })) (sym (next_world p.events a.time p.start (Operates a.place request op) a.event)) changed;
-    }
+    let a = recorded.1 in
+    let w = world_at p a.0 in
+    let there : IsSite (step w (Operates a.1 request op)) a.1 (record s { content = after s.content (outcome s.content s.number request op) }) = (list_run (op ∷ []) w a.1 s request a.3).here in
+    let changed : IsSite (step w (Operates a.1 request op)) a.1 (record s { content = put r s.content }) =
+    subst (λ o. IsSite (step w (Operates a.1 request op)) a.1 (record s { content = after s.content o })) recorded.2 there in
+    (suc a.0, a.1, subst (λ v. IsSite v a.1 (record s { content = put r s.content })) (sym (next_world p.events a.0 p.start (Operates a.1 request op) a.2)) changed)
 
 pub has_learned : (p : Past) (s t : Site) (request : Request) (op : Operation) (r : Record) → IsPast p → WasRecorded p s request op r → Was p t → Has t.content r ↔ (r.number ≤ vec t.content r.origin)
 has_learned p s t request op r past recorded was = (
@@ -60,7 +56,7 @@ has_learned p s t request op r past recorded was = (
       let own : Has (put r s.content) r = has-put r s.content r (inl refl) in
       let one = (lawful_was p (record s { content = put r s.content }) past here).closed.numbers r own in
       let named = (lawful_was p t past was).closed.whole r.origin r.number one le in
-      let same : r ≡ named.0 = (together p (record s { content = put r s.content }) t past here was).compatible r named.0 own named.1 (sym named.2.from) (sym named.2.numbered) in
+      let same : r ≡ named.0 = (together p (record s { content = put r s.content }) t past here was).compatible r named.0 own named.1 (sym named.2.0) (sym named.2.1) in
       subst (Has t.content) (sym same) named.1,
 )
 
@@ -77,6 +73,21 @@ latest_or (x ∷ y ∷ ys) r up h = elim h [
   ]
 ]
 
+-- another record of its node and time has a greater stamp
+pub record HasLater (R : Content) (r : Record) : Type 0 where
+  pub later : Record
+  pub there : Has R later
+  pub node : later.node ≡ r.node
+  pub time : later.time ≡ r.time
+  pub greater : stamp_cmp r later ≡ Less
+
+-- so it isn't the latest
+later_not : (R : Content) (r : Record) → HasLater R r → IsLatest R r → ⊥
+later_not R r more latest = elim (latest.above more.later more.there more.node more.time) [
+  | inl e ↦ irreflexive stamp_cmp stamp_total r (subst (λ z. stamp_cmp r z ≡ Less) e more.greater)
+  | inr less ↦ asymmetric stamp_cmp stamp_total r more.later more.greater less
+]
+
 pub latest_later : (p : Past) (t : Site) (r : Record) → IsPast p → Was p t → Has t.content r → IsLatest t.content r ⊎ HasLater t.content r
 latest_later p t r past was h =
     let R = t.content in
@@ -85,3 +96,9 @@ latest_later p t r past was h =
       | inl m ↦ let z = (story_has R r.node r.time m.0).0 m.1 in inr (record { later = m.0; there = z.0; node = z.1; time = z.2; greater = m.2 })
       | inr all ↦ inl (record { there = h; above = λ z k e f. all z ((story_has R r.node r.time z).1 (k, e, f)) })
     ]
+
+pub latest_or_not : (p : Past) (t : Site) (r : Record) → IsPast p → Was p t → Has t.content r → IsLatest t.content r ⊎ (IsLatest t.content r → ⊥)
+latest_or_not p t r past was h = elim (latest_later p t r past was h) [ inl latest ↦ inl latest | inr more ↦ inr (later_not t.content r more) ]
+
+pub later_from : (p : Past) (t : Site) (r : Record) → IsPast p → Was p t → Has t.content r → (IsLatest t.content r → ⊥) → HasLater t.content r
+later_from p t r past was h not = elim (latest_later p t r past was h) [ inl latest ↦ absurd (not latest) | inr more ↦ more ]

@@ -15,9 +15,8 @@ use Rattle.exchange.specs.Worlds.{Site}
 -- ---- replicas of a world
 
 -- what is asked of history: the details and the times that are wanted, and each node with the continuation point that it goes on from, if any
-pub record Asked : Type 0 where
-  pub query : Query
-  pub nodes : List (NodeId × Option (List ℕ))
+abbrev pub Asked : Type 0
+Asked = record { query : Query; nodes : List (NodeId × Option (List ℕ)) }
 
 -- the answer of a replica that nothing comes in the way of
 abbrev pub answer_of : Query → Site → NodeId → Option (List ℕ) → HistoryReadResult

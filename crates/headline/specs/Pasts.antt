@@ -1,5 +1,5 @@
 -- Worlds from their beginning on, replicas at some time of them, and the updates that they answered.
-use Rattle.std.specs.Prelude.{◌≡◌, ◌↔◌, ⊤, ℕ, ◌≤◌, List, take, length, slice_get, Some}
+use Rattle.std.specs.Prelude.{◌≡◌, ◌↔◌, ⊤, ℕ, ◌≤◌, List, [], take, length, slice_get, Some}
 use Rattle.std.specs.List.{AllByRecursion}
 use Rattle.stamp.specs.Limits.{IsReplica}
 use Rattle.ua_binary.specs.declared.codes.Status.{Status}
@@ -8,23 +8,21 @@ use Rattle.records.specs.declared.record.Record.{Record}
 use Rattle.hist_update.specs.declared.request.Request.{Request}
 use Rattle.hist_update.specs.Outcome.{Operation, Added, IsRequest, outcome, code_in}
 use Rattle.hist_update.specs.Laws.{IsSpelled, IsOperation}
-use Rattle.exchange.specs.Worlds.{Site, World, Event, Operates, IsSite, AreApart, AreOne, IsEmpty, run}
+use Rattle.exchange.specs.Worlds.{Site, World, Event, Operates, IsSite, run}
 
 -- replicas of one archive, each with a number of its own from 1 to 64, that hold nothing, with nothing on its way
 pub record IsBeginning (w : World) : Type 0 where
-  pub apart : AreApart w
-  pub one : AreOne w
-  pub empty : IsEmpty w
-  pub replicas : (i : ℕ) (s : Site) → IsSite w i s → IsReplica s.number × (length s.id ≡ 16)
+  pub replicas : (i : ℕ) (s : Site) → IsSite w i s → IsReplica s.number × (length s.id ≡ 16) × (s.content ≡ [])
+  pub together : (i j : ℕ) (s t : Site) → IsSite w i s → IsSite w j t → (s.id ≡ t.id) × (s.number ≡ t.number → i ≡ j)
+  pub pool : w.pool ≡ []
 
 -- what the types of a request and of an operation see to, and the conditions of an update
 abbrev pub IsLawfulEvent : Event → Type 0
 IsLawfulEvent event = elim event [ Operates replica request operation ↦ IsRequest request × IsSpelled request × IsOperation operation | _ ↦ ⊤ ]
 
 -- a world as it began, and what happened since: updates, and deliveries of what was sent, in any order, any number of times
-pub record Past : Type 0 where
-  pub start : World
-  pub events : List Event
+abbrev pub Past : Type 0
+Past = record { start : World; events : List Event }
 
 pub record IsPast (p : Past) : Type 0 where
   pub begins : IsBeginning p.start
@@ -39,10 +37,8 @@ abbrev pub IsAt : Past → (time place : ℕ) → Site → Type 0
 IsAt p time place s = IsSite (world_at p time) place s
 
 -- some replica is so, at some time
-pub record Was (p : Past) (s : Site) : Type 0 where
-  pub time : ℕ
-  pub place : ℕ
-  pub at_that : IsAt p time place s
+abbrev pub Was : Past → Site → Type 0
+Was p s = (time place : ℕ) × IsAt p time place s
 
 -- ---- what was learned
 
@@ -61,15 +57,10 @@ Covers t s = (origin : ℕ) → vec s.content origin ≤ vec t.content origin
 -- ---- updates
 
 -- an update was done at a replica that was so, and answered by this code
-pub record WasAnswered (p : Past) (s : Site) (request : Request) (operation : Operation) (code : Status) : Type 0 where
-  pub time : ℕ
-  pub place : ℕ
-  pub event : slice_get p.events time ≡ Some (Operates place request operation)
-  pub at_that : IsAt p time place s
-  pub told : code_in (outcome s.content s.number request operation) ≡ code
+abbrev pub WasAnswered : Past → Site → Request → Operation → Status → Type 0
+WasAnswered p s request op code =
+    (time place : ℕ) × (slice_get p.events time ≡ Some (Operates place request op)) × IsAt p time place s × (code_in (outcome s.content s.number request op) ≡ code)
 
 -- and this is its record
-pub record WasRecorded (p : Past) (s : Site) (request : Request) (operation : Operation) (r : Record) : Type 0 where
-  pub code : Status
-  pub answered : WasAnswered p s request operation code
-  pub added : outcome s.content s.number request operation ≡ Added code r
+abbrev pub WasRecorded : Past → Site → Request → Operation → Record → Type 0
+WasRecorded p s request op r = (code : Status) × WasAnswered p s request op code × (outcome s.content s.number request op ≡ Added code r)

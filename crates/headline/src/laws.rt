@@ -11,10 +11,11 @@ ghost use Rattle.ua_services.specs.declared.attributes.TimestampsToReturn.{Times
 ghost use Rattle.ua_services.specs.declared.history.HistoryReadResult.{HistoryReadResult};
 ghost use Rattle.records.specs.Lists.{Has};
 ghost use Rattle.records.specs.Moments.{ticks_of};
-ghost use Rattle.records.specs.Records.{missing, is_beyond, is_delete};
+ghost use Rattle.records.specs.Records.{missing, is_beyond, is_delete, entry};
 ghost use Rattle.records.specs.Contents.{Content, IsWithin, IsLatest, numbers_of, vec, top, join, merged};
 ghost use Rattle.records.specs.declared.record.Record.{Record};
 ghost use Rattle.records.specs.declared.shown.Entry.{Entry};
+ghost use Rattle.records.specs.declared.shown.Held.{Held};
 ghost use Rattle.archive.specs.Store.{Mark, HasContent};
 ghost use Rattle.ua_binary.specs.declared.values.Ticks.{Ticks as Time};
 ghost use Rattle.ua_services.specs.Updates.{Details};
@@ -38,7 +39,7 @@ ghost use Rattle.headline.specs.Answers.{Asked, answer_of, results_of, bytes_of,
 ghost use Rattle.headline.specs.Joins.{IsLeastAbove};
 ghost use Rattle.headline.specs.Told.{IsHeldFor, AddsAll};
 ghost use Rattle.headline.specs.Machines.{IsMachine, AreNew, AreOf, GoOn, Serves, Meet, Restarts};
-ghost use Rattle.headline.specs.Readings.{IsReading, Reaches, at_one_time, IsOfRaw, ShowsModification, IsOwn, ShowsAsLive, ShowsNoneAt, HasLater, ShowWhole, HavePages};
+ghost use Rattle.headline.specs.Readings.{IsReading, Reaches, at_one_time, IsOfRaw, ShowsModification, ShowsAt, ShowWhole, HavePages};
 
 use archive::Archive;
 use hist_read::pages_show_the_whole_read;
@@ -114,15 +115,15 @@ pub fn every_update_stands(details: ReadRawModifiedDetails)
         → (r : Record) × WasRecorded p s request op r × IsRecordOf request s.number op r × (r.number ≡ vec s.content s.number + 1) × (lift request.reading (top s.content) ≡ Some r.tick) }
     ensures learned { (p : Past) (s t : Site) (request : Request) (op : Operation) (r : Record) → IsPast p → WasRecorded p s request op r → Was p t → Has t.content r ↔ (r.number ≤ vec t.content r.origin) }
     ensures told { (p : Past) (t : Site) (r : Record) (stamps : TimestampsToReturn) (pages : List Page) → IsPast p → Was p t → Has t.content r → IsReading p t r.node (record { details = details; stamps = stamps }) pages
-        → Reaches details r.time → details.is_read_modified ≡ true → (e : Entry) × IsOwn r e × ShowsModification stamps pages e }
+        → Reaches details r.time → details.is_read_modified ≡ true → (before : Option Record) × ShowsModification stamps pages (entry before r) }
     ensures live { (p : Past) (t : Site) (r : Record) (stamps : TimestampsToReturn) (pages : List Page) → IsPast p → Was p t → IsLatest t.content r → IsReading p t r.node (record { details = details; stamps = stamps }) pages
-        → Reaches details r.time → IsOfRaw details → is_delete r.asked ≡ false → ShowsAsLive stamps pages r }
+        → Reaches details r.time → IsOfRaw details → is_delete r.asked ≡ false → (h : Held) × (h.time ≡ r.time) × (h.value ≡ r.value) × ShowsAt stamps pages r.time (h ∷ []) }
     ensures gone { (p : Past) (t : Site) (r : Record) (stamps : TimestampsToReturn) (pages : List Page) → IsPast p → Was p t → IsLatest t.content r → IsReading p t r.node (record { details = details; stamps = stamps }) pages
-        → Reaches details r.time → IsOfRaw details → is_delete r.asked ≡ true → ShowsNoneAt stamps pages r.time }
-    ensures replaced { (p : Past) (t : Site) (r : Record) (stamps : TimestampsToReturn) (pages : List Page) → IsPast p → Was p t → Has t.content r → HasLater t.content r
+        → Reaches details r.time → IsOfRaw details → is_delete r.asked ≡ true → ShowsAt stamps pages r.time [] }
+    ensures replaced { (p : Past) (t : Site) (r : Record) (stamps : TimestampsToReturn) (pages : List Page) → IsPast p → Was p t → Has t.content r → (IsLatest t.content r → ⊥)
         → IsReading p t r.node (record { details = details; stamps = stamps }) pages → Reaches details r.time → details.is_read_modified ≡ true → is_delete r.asked ≡ false
         → (e : Entry) × (e.time ≡ r.time) × (e.value ≡ Some r.value) × ShowsModification stamps pages e }
-    ensures either { (p : Past) (t : Site) (r : Record) → IsPast p → Was p t → Has t.content r → IsLatest t.content r ⊎ HasLater t.content r }
+    ensures either { (p : Past) (t : Site) (r : Record) → IsPast p → Was p t → Has t.content r → IsLatest t.content r ⊎ (IsLatest t.content r → ⊥) }
     ensures reached { (p : Past) (t : Site) (r : Record) (modified : Bool) → IsPast p → Was p t → Has t.content r → Reaches (at_one_time (ticks_of r.time) modified) r.time }
 {
     whole_reads(details);

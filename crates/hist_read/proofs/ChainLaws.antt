@@ -25,12 +25,12 @@ use Rattle.hist_read.specs.Showing.{shown, shown_entry, info}
 use Rattle.hist_read.specs.Node.{Behind, is_enough, judged, point_at, page_result}
 use Rattle.hist_read.proofs.NodeParts.{read_from}
 use Rattle.hist_read.proofs.Results.{raw_result, modified_result}
-use Rattle.hist_read.specs.Chains.{whole_raw, whole_modified, counted, whole, values_in, infos_in, Page, IsRead, Chain, joined_values, joined_infos, IsLater, IsAsked, contents_from}
+use Rattle.hist_read.specs.Chains.{counted, whole, values_in, infos_in, Page, IsRead, Chain, joined_values, joined_infos, IsLater, IsAsked, contents_from}
 use Rattle.hist_read.proofs.Joining.{modified_join}
 use Rattle.hist_read.proofs.RawJoining.{raw_joins}
 use Rattle.hist_read.proofs.Nexts.{raw_next, raw_within, modified_next_lawful, modified_within}
 use Rattle.hist_read.proofs.Chaining.{shows, ends, chain_read}
-use Rattle.hist_read.proofs.Wholes.{whole_is, whole_modified_is, judged_is, enough_is, IsPlace, place_is, point_told, read_is, is_read, later_is}
+use Rattle.hist_read.proofs.Wholes.{judged_is, enough_is, IsPlace, place_is, point_told, read_is, is_read, later_is}
 
 origin_high : (q : Details) → IsDetails q → origin_time q ≤ℤ greatest_time
 origin_high q details = go (is_given q.start_time.0)
@@ -100,12 +100,12 @@ module _ (R : Content) (lawful : IsLawfulContent R) (id : List ℕ) (node : Node
           (subst (λ o. IfSome o (λ n. n.time ≤ℤ greatest_time)) e (raw_within R node q p lawful (λ t. t ≤ℤ greatest_time) (λ t h. h.1) (origin_high q asked.details)))
 
       raw_values : (first : Page) (pages : List Page) → first.content ≡ R → AllByRecursion (λ read. IsLater R read.content) pages → Chain id node query None (first ∷ pages)
-          → joined_values (first ∷ pages) ≡ map (shown stamps) (counted q (whole_raw R node q))
+          → joined_values (first ∷ pages) ≡ map (shown stamps) (counted q (raw R node q None))
       raw_values first pages same later chain =
           shows id node query (raw R node q) (raw_position q) (λ p x. refl) (raw_joins R node q from to lawful span) (enough_is id node q ok) R answer told raw_pointed (IsPlace q) raw_good
           values_in (map (shown stamps)) (map-append (shown stamps)) (λ p. ap (λ b. values_in (cond b (modified_result R v id node query p) (raw_result R v id node query p)).history_data) plain) reads
           first pages None None (first_is first same (chain_read id node query None first pages chain)) later chain
-          ∙ ap (map (shown stamps)) (rest_is (raw R node q None) ∙ ap (counted q) (whole_is R node q))
+          ∙ ap (map (shown stamps)) (rest_is (raw R node q None))
 
       raw_infos : (first : Page) (pages : List Page) → first.content ≡ R → AllByRecursion (λ read. IsLater R read.content) pages → Chain id node query None (first ∷ pages) → joined_infos (first ∷ pages) ≡ []
       raw_infos first pages same later chain =
@@ -123,29 +123,29 @@ module _ (R : Content) (lawful : IsLawfulContent R) (id : List ℕ) (node : Node
       modified_good p next e = place_is q next asked.details (subst (λ o. IfSome o (IsNext q)) e (modified_next_lawful R node q p lawful mods)) (subst (λ o. IfSome o (λ n. n.time ≤ℤ greatest_time)) e (modified_within R node q p lawful))
 
       modified_values : (first : Page) (pages : List Page) → first.content ≡ R → AllByRecursion (λ read. IsLater R read.content) pages → Chain id node query None (first ∷ pages)
-          → joined_values (first ∷ pages) ≡ map (shown_entry stamps) (counted q (whole_modified R node q))
+          → joined_values (first ∷ pages) ≡ map (shown_entry stamps) (counted q (modified R node q None))
       modified_values first pages same later chain =
           shows id node query (modified R node q) (modified_position q) (λ p x. refl) (modified_join R node q from to lawful span) (enough_is id node q ok) R answer told modified_pointed (IsPlace q) modified_good
           values_in (map (shown_entry stamps)) (map-append (shown_entry stamps)) (λ p. ap (λ b. values_in (cond b (modified_result R v id node query p) (raw_result R v id node query p)).history_data) mods) reads
           first pages None None (first_is first same (chain_read id node query None first pages chain)) later chain
-          ∙ ap (map (shown_entry stamps)) (rest_is (modified R node q None) ∙ ap (counted q) (whole_modified_is R node q))
+          ∙ ap (map (shown_entry stamps)) (rest_is (modified R node q None))
 
       modified_infos : (first : Page) (pages : List Page) → first.content ≡ R → AllByRecursion (λ read. IsLater R read.content) pages → Chain id node query None (first ∷ pages)
-          → joined_infos (first ∷ pages) ≡ map info (counted q (whole_modified R node q))
+          → joined_infos (first ∷ pages) ≡ map info (counted q (modified R node q None))
       modified_infos first pages same later chain =
           shows id node query (modified R node q) (modified_position q) (λ p x. refl) (modified_join R node q from to lawful span) (enough_is id node q ok) R answer told modified_pointed (IsPlace q) modified_good
           infos_in (map info) (map-append info) (λ p. ap (λ b. infos_in (cond b (modified_result R v id node query p) (raw_result R v id node query p)).history_data) mods) reads
           first pages None None (first_is first same (chain_read id node query None first pages chain)) later chain
-          ∙ ap (map info) (rest_is (modified R node q None) ∙ ap (counted q) (whole_modified_is R node q))
+          ∙ ap (map info) (rest_is (modified R node q None))
 
     -- ---- either
 
     pub chain_shows : (first : Page) (pages : List Page) → first.content ≡ R → AllByRecursion (λ read. IsLater R read.content) pages → Chain id node query None (first ∷ pages)
         → (joined_values (first ∷ pages) ≡ values_in (whole R node query)) × (joined_infos (first ∷ pages) ≡ infos_in (whole R node query))
     chain_shows first pages same later chain =
-        let entries = counted q (whole_modified R node q) in
+        let entries = counted q (modified R node q None) in
         let mods = Modified (map (shown_entry stamps) entries) (map info entries) in
-        let raws = Raw (map (shown stamps) (counted q (whole_raw R node q))) in
+        let raws = Raw (map (shown stamps) (counted q (raw R node q None))) in
         elim (cases_Bool q.is_read_modified) [
           | inl e ↦ (modified_values e first pages same later chain ∙ sym (ap (λ b. values_in (cond b mods raws)) e), modified_infos e first pages same later chain ∙ sym (ap (λ b. infos_in (cond b mods raws)) e))
           | inr e ↦ (raw_values e first pages same later chain ∙ sym (ap (λ b. values_in (cond b mods raws)) e), raw_infos e first pages same later chain ∙ sym (ap (λ b. infos_in (cond b mods raws)) e))

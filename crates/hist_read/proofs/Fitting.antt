@@ -28,7 +28,8 @@ use Rattle.stamp.specs.Numbers.{number_of}
 use Rattle.ua_services.specs.declared.history.ReadRawModifiedDetails.{ReadRawModifiedDetails as Details}
 use Rattle.records.specs.Lists.{Has}
 use Rattle.records.specs.Contents.{Content, numbers_of, cut}
-use Rattle.records.specs.Records.{write, value_shown, held_of, current, story, entries, entries_after, is_delete}
+use Rattle.records.specs.Records.{write, value_shown, current, story, entries, entries_after, is_delete}
+use Rattle.records.proofs.ContentsParts.{held_of}
 use Rattle.records.specs.Spelling.{empty, longest}
 use Rattle.records.specs.declared.record.Record.{Record}
 use Rattle.records.specs.declared.shown.Held.{Held}

@@ -34,7 +34,8 @@ use Rattle.hist_read.specs.Reads.{greatest_time, in_body, in_body_of, is_from, l
 use Rattle.hist_read.proofs.ReadsParts.{lives_in}
 use Rattle.hist_read.specs.Node.{Behind, is_enough, judged, place_in, point_at, page_result, page_from, refused}
 use Rattle.hist_read.proofs.NodeParts.{read_from, covers}
-use Rattle.hist_read.specs.Chains.{behind_origin, with_far, whole_raw, whole_modified, Page, IsRead, IsLater, IsAsked}
+use Rattle.hist_read.specs.Wholes.{behind_origin, with_far, whole_raw, whole_modified}
+use Rattle.hist_read.specs.Chains.{Page, IsRead, IsLater, IsAsked}
 use Rattle.hist_read.proofs.Lawful.{point_lawful}
 use Rattle.hist_read.proofs.Agreeing.{place_told, told_agreed}
 use Rattle.hist_read.proofs.Filters.{filter_all, filter_same}

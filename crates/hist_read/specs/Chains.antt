@@ -1,7 +1,6 @@
 -- Whole reads, and pages that are read one after the other.
-use Rattle.std.specs.Prelude.{◌≡◌, ℕ, zero, suc, ◌+◌, ◌≤◌, ◌==◌, not, if◌then◌else◌, List, [], ◌∷◌, ◌++◌, map, filter, take, length, Option, Some, None}
+use Rattle.std.specs.Prelude.{◌≡◌, ℕ, zero, suc, ◌+◌, ◌≤◌, if◌then◌else◌, List, [], ◌∷◌, map, take, length, Option, Some, None}
 use Rattle.std.specs.List.{flat_map}
-use Rattle.std.specs.Ordering.{int_eq}
 use Rattle.ua_binary.specs.declared.values.NodeId.{NodeId}
 use Rattle.ua_binary.specs.Binary.{IsNodeId}
 use Rattle.ua_variant.specs.declared.data.DataValue.{DataValue}
@@ -11,39 +10,16 @@ use Rattle.ua_services.specs.declared.history.HistoryData.{HistoryData}
 use Rattle.ua_services.specs.declared.history.HistoryData.TheVariants.{Raw, Modified, Nothing}
 use Rattle.ua_services.specs.declared.history.HistoryReadResult.{HistoryReadResult}
 use Rattle.records.specs.Contents.{Content, AreCompatible, vec}
-use Rattle.records.specs.declared.shown.Held.{Held}
-use Rattle.records.specs.declared.shown.Entry.{Entry}
-use Rattle.archive.specs.Reading.{log, in_direction}
 use Rattle.archive.specs.Store.{Fine, IsLawfulContent}
 use Rattle.archive.specs.Steps.{Does}
 use Rattle.hist_read.specs.declared.query.Query.{Query}
-use Rattle.hist_read.specs.declared.item.Item.{Item}
-use Rattle.hist_read.specs.Asking.{has_both, origin_time, direction}
+use Rattle.hist_read.specs.Asking.{has_both}
 use Rattle.hist_read.specs.Point.{IsDetails}
-use Rattle.hist_read.specs.Reads.{body, in_body, values, near, far, last_time}
+use Rattle.hist_read.specs.Reads.{raw, modified}
 use Rattle.hist_read.specs.Node.{read_node}
 use Rattle.hist_read.specs.Showing.{shown, shown_entry, info}
 
 -- ---- the whole
-
--- the body without the value at the origin
-abbrev pub behind_origin : Content → NodeId → Details → List Held
-behind_origin R node q = filter (λ h. not (int_eq h.time (origin_time q))) (body R node q)
-
--- some items, and the far bound behind the last of them
-abbrev pub with_far : Content → NodeId → Details → List Item → List Item
-with_far R node q items = items ++ far R node q (last_time (origin_time q) items) ∷ []
-
--- the body, where no bounds are asked for; else near bound, body without the origin's value, far bound; with count 1 the near bound alone
-abbrev pub whole_raw : Content → NodeId → Details → List Item
-whole_raw R node q =
-    if not q.return_bounds then values (body R node q) else
-    if q.num_values_per_node == 1 then near R node q ∷ [] else
-    with_far R node q (near R node q ∷ values (behind_origin R node q))
-
--- the modifications of the body's times
-abbrev pub whole_modified : Content → NodeId → Details → List Entry
-whole_modified R node q = filter (λ e. in_body q e.time) (in_direction (direction q) (log R node))
 
 -- where a time is open, no more than the count
 abbrev pub counted : {X : Type 0} → Details → List X → List X
@@ -53,8 +29,8 @@ counted q xs = if has_both q then xs else take q.num_values_per_node xs
 abbrev pub whole : Content → NodeId → Query → HistoryData
 whole R node query =
     let q = query.details in
-    let entries = counted q (whole_modified R node q) in
-    if q.is_read_modified then Modified (map (shown_entry query.stamps) entries) (map info entries) else Raw (map (shown query.stamps) (counted q (whole_raw R node q)))
+    let entries = counted q (modified R node q None) in
+    if q.is_read_modified then Modified (map (shown_entry query.stamps) entries) (map info entries) else Raw (map (shown query.stamps) (counted q (raw R node q None)))
 
 -- ---- pages
 
@@ -65,9 +41,8 @@ abbrev pub infos_in : HistoryData → List ModificationInfo
 infos_in v = elim v [ Nothing ↦ [] | Raw shown ↦ [] | Modified shown infos ↦ infos ]
 
 -- what was answered, and over which content
-pub record Page : Type 0 where
-  pub content : Content
-  pub result : HistoryReadResult
+abbrev pub Page : Type 0
+Page = record { content : Content; result : HistoryReadResult }
 
 -- the page was read from this point, with nothing in the way
 abbrev pub IsRead : List ℕ → NodeId → Query → Option (List ℕ) → Page → Type 0

@@ -6,4 +6,5 @@ pub mod Finding
 pub mod Showing
 pub mod Node
 pub mod Chains
+pub mod Wholes
 pub mod Short

@@ -16,6 +16,7 @@ ghost use Rattle.std.specs.List.{AllByRecursion};
 ghost use Rattle.ua_services.specs.declared.attributes.TimestampsToReturn.{TimestampsToReturn};
 ghost use Rattle.hist_read.specs.Node.{judged};
 ghost use Rattle.hist_read.specs.Chains.{whole, values_in, infos_in, Page, Chain, joined_values, joined_infos, IsLater, IsAsked, contents_from};
+ghost use Rattle.hist_read.specs.Wholes.{whole_raw, whole_modified};
 
 use crate::asked::body;
 use ua_services::ReadRawModifiedDetails;
@@ -47,6 +48,14 @@ pub fn pages_of_raw_values_join(details: ReadRawModifiedDetails)
 {
     let _span = body(&details);
 }
+
+/// What a read without a continuation point is to show, in words of its own: the values of the stretch without bounds; with
+/// bounds the near one, the values behind the origin, and the far one, or the near one alone where one value is asked for;
+/// and of modifications those of the times of the stretch.
+pub fn a_whole_read_is_its_stretch_and_bounds(details: ReadRawModifiedDetails)
+    ensures raw { (R : Content) (node : Node) → raw R node details None ≡ whole_raw R node details }
+    ensures modified { (R : Content) (node : Node) → modified R node details None ≡ whole_modified R node details }
+{}
 
 /// Pages that are read one after the other, from the continuation points that they answer until there is none,
 /// show together the whole read of the content that the first one was of, cut at the count where a time is open:

@@ -14,8 +14,9 @@ mod raw;
 mod showing;
 
 pub use laws::{
-    continuation_points_are_told_by_their_bytes, pages_of_modifications_join,
-    pages_of_raw_values_join, pages_show_the_whole_read, what_grows_goes_on,
+    a_whole_read_is_its_stretch_and_bounds, continuation_points_are_told_by_their_bytes,
+    pages_of_modifications_join, pages_of_raw_values_join, pages_show_the_whole_read,
+    what_grows_goes_on,
 };
 pub use node::{is_short_value, read_node};
 pub use point::{Phase, Place, Position, put_continuation, read_continuation};

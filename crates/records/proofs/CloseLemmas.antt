@@ -18,15 +18,15 @@ number_below_tick R closed (suc m) r h e = elim (cases_eq m 0) [
   | inr more ↦
       let bound : r.number ≤ vec R r.origin = Rattle.records.proofs.ContentLemmas.vec_bounds R r h in
       let s = closed.whole r.origin m (omega arith) (omega arith) in
-      let below = number_below_tick R closed m s.0 s.1 s.2.numbered in
-      let rise = closed.rising s.0 r s.1 h s.2.from (omega (arith, s.2.numbered)) in
+      let below = number_below_tick R closed m s.0 s.1 s.2.1 in
+      let rise = closed.rising s.0 r s.1 h s.2.0 (omega (arith, s.2.1)) in
       omega (arith, ints)
 ]
 
 pub vec_small : (R : Content) (origin : ℕ) → IsClosed R → vec R origin < 2 ^ 62
 vec_small R origin closed = elim (vec_attained R origin) [
   | inl z ↦ omega arith
-  | inr h ↦ let below = number_below_tick R closed h.0.number h.0 h.1 refl in let t = (closed.ticks h.0 h.1).1 in omega (arith, ints, h.2.numbered)
+  | inr h ↦ let below = number_below_tick R closed h.0.number h.0 h.1 refl in let t = (closed.ticks h.0 h.1).1 in omega (arith, ints, h.2.1)
 ]
 
 tied_stamps : (x y : Record) → is_eq (stamp_cmp x y) ≡ true → (x.tick ≡ y.tick) × (x.origin ≡ y.origin)

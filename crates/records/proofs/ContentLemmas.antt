@@ -6,7 +6,8 @@ use Rattle.std.proofs.lemmas.Bool.Decides.{nat_tests}
 use Rattle.records.specs.declared.record.Record.{Record}
 use Rattle.records.specs.Lists.{IsPairwise, IsApart, Has, Rises}
 use Rattle.records.specs.Records.{name_cmp}
-use Rattle.records.specs.Contents.{Content, vec, HasName, IsClosed, AreCompatible, IsWithin, names, join}
+use Rattle.records.specs.Contents.{Content, vec, HasName, IsClosed, AreCompatible, IsWithin, join}
+use Rattle.records.proofs.ContentsParts.{names}
 use Rattle.records.proofs.Sorting.{all_weaker, all-has, all_from_has, has-filter, has_from_filter, pairwise-filter, same_members, has-sort_by, has_from_sort_by, rises-sort_by}
 use Rattle.records.proofs.Orders.{name_total}
 
@@ -34,25 +35,25 @@ vec_attained (s ∷ R) origin = go (eqb s.origin origin) refl (vec_attained R or
   where
     go : (b : Bool) → eqb s.origin origin ≡ b → (vec R origin ≡ 0) ⊎ HasName R origin (vec R origin) → (max (cond b s.number 0) (vec R origin) ≡ 0) ⊎ HasName (s ∷ R) origin (max (cond b s.number 0) (vec R origin))
     go false e (inl z) = inl (omega arith)
-    go false e (inr h) = inr (h.0, inr h.1, record { from = h.2.from; numbered = omega (arith, h.2.numbered) })
-    go true e (inl z) = inr (s, inl refl, record { from = eqb-true _ _ e; numbered = omega arith })
+    go false e (inr h) = inr (h.0, inr h.1, (h.2.0, omega (arith, h.2.1)))
+    go true e (inl z) = inr (s, inl refl, (eqb-true _ _ e, omega arith))
     go true e (inr h) = elim (cases_lt s.number (vec R origin)) [
-      | inl lt ↦ inr (h.0, inr h.1, record { from = h.2.from; numbered = omega (arith, h.2.numbered) })
-      | inr ge ↦ inr (s, inl refl, record { from = eqb-true _ _ e; numbered = omega arith })
+      | inl lt ↦ inr (h.0, inr h.1, (h.2.0, omega (arith, h.2.1)))
+      | inr ge ↦ inr (s, inl refl, (eqb-true _ _ e, omega arith))
     ]
 
 pub vec_least : (R : Content) (origin n : ℕ) → ((r : Record) → Has R r → r.origin ≡ origin → r.number ≤ n) → vec R origin ≤ n
 vec_least R origin n f = elim (vec_attained R origin) [
   | inl e ↦ omega arith
-  | inr h ↦ let bound = f h.0 h.1 h.2.from in omega (arith, h.2.numbered)
+  | inr h ↦ let bound = f h.0 h.1 h.2.0 in omega (arith, h.2.1)
 ]
 
 pub vec_is : (R : Content) (origin n : ℕ) → ((r : Record) → Has R r → r.origin ≡ origin → r.number ≤ n) → (n ≡ 0) ⊎ HasName R origin n → vec R origin ≡ n
 vec_is R origin n above (inl e) = let h = vec_least R origin n above in omega arith
 vec_is R origin n above (inr h) =
     let up = vec_least R origin n above in
-    let down : h.0.number ≤ vec R origin = subst (λ o. h.0.number ≤ vec R o) h.2.from (vec_bounds R h.0 h.1) in
-    omega (arith, h.2.numbered)
+    let down : h.0.number ≤ vec R origin = subst (λ o. h.0.number ≤ vec R o) h.2.0 (vec_bounds R h.0 h.1) in
+    omega (arith, h.2.1)
 
 -- lists
 module _ {X : Type 0} where
@@ -175,7 +176,7 @@ join_least R S T a b z h = elim (has_from_join R S z h) [ inl k ↦ a z k | inr 
 pub reached : (R S : Content) → IsClosed R → IsClosed S → AreCompatible R S → (s : Record) → Has S s → s.number ≤ vec R s.origin → Has R s
 reached R S closed closed' same s h le =
     let r = closed.whole s.origin s.number (closed'.numbers s h) le in
-    subst (Has R) (same r.0 s r.1 h r.2.from r.2.numbered) r.1
+    subst (Has R) (same r.0 s r.1 h r.2.0 r.2.1) r.1
 
 pub vec_join : (R S : Content) → AreCompatible R S → (origin : ℕ) → vec (join R S) origin ≡ max (vec R origin) (vec S origin)
 vec_join R S same origin =
@@ -187,11 +188,11 @@ vec_join R S same origin =
     (elim (cases_lt (vec R origin) (vec S origin)) [
       | inl lt ↦ elim (vec_attained S origin) [
         | inl z ↦ inl (omega arith)
-        | inr h ↦ inr (h.0, has-join_right R S same h.0 h.1, record { from = h.2.from; numbered = omega (arith, h.2.numbered) })
+        | inr h ↦ inr (h.0, has-join_right R S same h.0 h.1, (h.2.0, omega (arith, h.2.1)))
       ]
       | inr ge ↦ elim (vec_attained R origin) [
         | inl z ↦ inl (omega arith)
-        | inr h ↦ inr (h.0, has-join_left R S h.0 h.1, record { from = h.2.from; numbered = omega (arith, h.2.numbered) })
+        | inr h ↦ inr (h.0, has-join_left R S h.0 h.1, (h.2.0, omega (arith, h.2.1)))
       ]
     ])
 

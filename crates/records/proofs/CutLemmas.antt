@@ -31,7 +31,7 @@ rises-cut R v up = pairwise-filter _ (covered v) R up
 named_cut : (R : Content) (v : ℕ → ℕ) (o n : ℕ) → IsClosed R → 1 ≤ n → n ≤ vec R o → n ≤ v o → HasName (cut R v) o n
 named_cut R v o n closed one le small =
     let r = closed.whole o n one le in
-    (r.0, has-cut R v r.0 r.1 (omega (arith, r.2.numbered, ap v r.2.from)), r.2)
+    (r.0, has-cut R v r.0 r.1 (omega (arith, r.2.1, ap v r.2.0)), r.2)
 
 pub vec_cut : (R : Content) (v : ℕ → ℕ) → IsClosed R → (o : ℕ) → vec (cut R v) o ≡ min (vec R o) (v o)
 vec_cut R v closed o =

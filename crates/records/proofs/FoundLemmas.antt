@@ -10,7 +10,8 @@ use Rattle.ua_variant.specs.declared.update_type.HistoryUpdateType.{HistoryUpdat
 use Rattle.ua_variant.specs.declared.update_type.HistoryUpdateType.TheVariants.{Insert, Replace, Update, Delete}
 use Rattle.records.specs.Lists.{Has, last}
 use Rattle.records.proofs.SameParts.{node_code}
-use Rattle.records.specs.Records.{stamp_cmp, is_at, story, held_of, is_delete, write, kind, entry, entries_after}
+use Rattle.records.specs.Records.{stamp_cmp, is_at, story, is_delete, write, kind, entry, entries_after}
+use Rattle.records.proofs.ContentsParts.{held_of}
 use Rattle.records.specs.Contents.{Content, IsShownAt, IsFound}
 use Rattle.records.proofs.Sorting.{has-filter, has-sort_by}
 use Rattle.records.proofs.Orders.{stamp_total}

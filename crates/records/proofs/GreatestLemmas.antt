@@ -53,8 +53,8 @@ numbers_below R origin closed = elim (vec_attained R origin) [
   | inl z ↦ let low = top_positive (filter (λ s. eqb s.origin origin) R) in omega (arith, ints, z)
   | inr h ↦
       let below = number_below_tick R closed h.0.number h.0 h.1 refl in
-      let held = last_tick_bounds R h.0 origin h.1 h.2.from in
-      omega (arith, ints, h.2.numbered)
+      let held = last_tick_bounds R h.0 origin h.1 h.2.0 in
+      omega (arith, ints, h.2.1)
 ]
 
 pub ruleset greatest_members = (vec_bounds, vec_attained, top_bounds, top_attained, last_tick_bounds, last_attained, last_of_last, last_tick_within, numbers_below)

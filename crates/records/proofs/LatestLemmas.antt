@@ -1,5 +1,5 @@
 -- The live value is that of the greatest stamp.
-use Rattle.std.proofs.Common.{◌≡◌, ℕ, ◌<◌, nat_lt, true, false, List, [], ◌∷◌, filter, take, length, Some, None, refl, sym, ap, ◌∙◌, subst, arith, inl, inr, ◌⊎◌, Less}
+use Rattle.std.proofs.Common.{◌≡◌, ℕ, ◌<◌, nat_lt, true, false, cond, List, [], ◌∷◌, filter, take, length, Some, None, refl, sym, ap, ◌∙◌, subst, arith, inl, inr, ◌⊎◌, Less}
 use Rattle.std.specs.Prelude.{◌↔◌}
 use Rattle.std.proofs.lemmas.Bool.{lt-ltb, ltb-true, and_from, and_parts}
 use Rattle.std.proofs.lemmas.Bool.Decides.{Decides-int_eq}
@@ -8,8 +8,9 @@ use Rattle.records.specs.declared.shown.Held.{Held}
 use Rattle.ua_binary.specs.declared.values.NodeId.{NodeId}
 use Rattle.std.proofs.Common.{ℤ}
 use Rattle.records.specs.Lists.{Has, Rises, IsApart, sort_by, last}
+use Rattle.records.proofs.ContentsParts.{held_of}
 use Rattle.records.proofs.SameParts.{node_code}
-use Rattle.records.specs.Records.{stamp_cmp, name_cmp, is_at, is_delete, is_beyond, held, story, current, entries_after, entries, missing}
+use Rattle.records.specs.Records.{stamp_cmp, name_cmp, is_at, is_delete, is_beyond, write, held, story, current, entries_after, entries, missing}
 use Rattle.records.specs.Contents.{Content, IsLatest, HasOther}
 use Rattle.records.proofs.Same.{Decides-is_same}
 use Rattle.records.proofs.Sorting.{all-has, has-filter, has_from_filter, pairwise-filter, has-sort_by, has_from_sort_by, rises-sort_by, same_members, asymmetric, irreflexive}
@@ -75,11 +76,19 @@ extra_other R r apart h = (
 )
 
 pub latest_deleted : (R : Content) (r : Record) → IsApart stamp_cmp R → IsLatest R r → is_delete r.asked ≡ true → current R r.node r.time ≡ None
-latest_deleted R r apart latest d = rw (latest_last R r apart latest, d) refl
+latest_deleted R r apart latest d =
+    let extra = nat_lt 1 (length (story R r.node r.time)) in
+    ap (λ o. held_of extra (write o)) (latest_last R r apart latest) ∙ ap (λ b. held_of extra (cond b None (Some r))) d
 
 pub latest_written : (R : Content) (r : Record) → IsApart stamp_cmp R → IsLatest R r → is_delete r.asked ≡ false → (h : Held) × (current R r.node r.time ≡ Some h) × (h.value ≡ r.value) × (h.time ≡ r.time) × ((h.extra ≡ true) ↔ HasOther R r)
 latest_written R r apart latest d =
-    (record { time = r.time; value = r.value; extra = nat_lt 1 (length (story R r.node r.time)) }, rw (latest_last R r apart latest, d) refl, refl, refl, extra_other R r apart latest.there)
+    let extra = nat_lt 1 (length (story R r.node r.time)) in (
+      record { time = r.time; value = r.value; extra = extra },
+      ap (λ o. held_of extra (write o)) (latest_last R r apart latest) ∙ ap (λ b. held_of extra (cond b None (Some r))) d,
+      refl,
+      refl,
+      extra_other R r apart latest.there,
+    )
 
 nothing_there : (xs : List Record) → ((s : Record) → Has xs s → ⊥) → xs ≡ []
 nothing_there [] none = refl

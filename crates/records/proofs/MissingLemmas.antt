@@ -42,10 +42,10 @@ module _ (R S : Content) (x : Record) (xs : List Record) (closed : IsClosed R) (
       let here = in_beyond x (inl refl) in
       let reach : x.number ≤ vec S x.origin = vec_bounds S x here.0 in
       let y = closed'.whole x.origin (vec R x.origin + 1) (omega arith) (omega (arith, here.1)) in
-      let further : vec R y.0.origin < y.0.number = omega (arith, y.2.numbered, ap (vec R) y.2.from) in
+      let further : vec R y.0.origin < y.0.number = omega (arith, y.2.1, ap (vec R) y.2.0) in
       elim (beyond_in y.0 y.1 further) [
-        | inl e ↦ ap (λ (r : Record). r.number) e ∙ y.2.numbered
-        | inr k ↦ let lt = name_less x y.0 (all-has (λ z. name_cmp x z ≡ Less) xs y.0 up.0 k) (sym y.2.from) in absurd (omega (arith, y.2.numbered, here.1))
+        | inl e ↦ ap (λ (r : Record). r.number) e ∙ y.2.1
+        | inr k ↦ let lt = name_less x y.0 (all-has (λ z. name_cmp x z ≡ Less) xs y.0 up.0 k) (sym y.2.0) in absurd (omega (arith, y.2.1, here.1))
       ]
 
   later_tick : last_tick R x.origin <ℤ x.tick

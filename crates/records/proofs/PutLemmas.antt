@@ -49,7 +49,7 @@ vec_put_same r R lt =
       | inl same ↦ subst (λ (x : Record). x.number ≤ r.number) same (omega arith)
       | inr k ↦ let le : z.number ≤ vec R r.origin = subst (λ o. z.number ≤ vec R o) e (vec_bounds R z k) in omega arith
     ])
-    (inr (r, has-put r R r (inl refl), record { from = refl; numbered = refl }))
+    (inr (r, has-put r R r (inl refl), (refl, refl)))
 
 pub vec_put_other : (r : Record) (R : Content) (origin : ℕ) → (r.origin ≡ origin → ⊥) → vec (put r R) origin ≡ vec R origin
 vec_put_other r R origin other =
@@ -78,7 +78,7 @@ closed_put r R closed next rises within =
         | inl e ↦
             let bound : n ≤ r.number = omega (arith, subst (λ p. n ≤ vec (put r R) p) (sym e) le) in
             elim (cases_eq n r.number) [
-              | inl same ↦ (r, has-put r R r (inl refl), record { from = e; numbered = sym same })
+              | inl same ↦ (r, has-put r R r (inl refl), (e, sym same))
               | inr apart ↦ let z = closed.whole o n one (subst (λ p. n ≤ vec R p) e (omega arith)) in (z.0, has-put r R z.0 (inr z.1), z.2)
             ]
         | inr other ↦ let z = closed.whole o n one (omega (arith, vec_put_other r R o other)) in (z.0, has-put r R z.0 (inr z.1), z.2)

@@ -124,7 +124,7 @@ clash_found R r closed one = (
   λ h.
       let s = h.0 in
       let bound = vec_bounds R s.0 s.1 in
-      let le : r.number ≤ vec R r.origin = subst (λ o. r.number ≤ vec R o) s.2.from (omega (arith, s.2.numbered)) in
+      let le : r.number ≤ vec R r.origin = subst (λ o. r.number ≤ vec R o) s.2.0 (omega (arith, s.2.1)) in
       let reach : nat_le r.number (vec R r.origin) ≡ true = le-leb _ _ le in
       rw (reach, not_there R r h.1) refl,
 )

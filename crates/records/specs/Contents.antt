@@ -38,13 +38,9 @@ top (r ∷ R) = int_max r.tick (top R)
 abbrev pub last_tick : Content → ℕ → ℤ
 last_tick R origin = top (filter (λ r. r.origin == origin) R)
 
-pub record IsNamed (origin number : ℕ) (r : Record) : Type 0 where
-  pub from : r.origin ≡ origin
-  pub numbered : r.number ≡ number
-
 -- the content has a record of this name
 abbrev pub HasName : Content → ℕ → ℕ → Type 0
-HasName R origin number = (r : Record) × Has R r × IsNamed origin number r
+HasName R origin number = (r : Record) × Has R r × ((r.origin ≡ origin) × (r.number ≡ number))
 
 -- a content is closed where each origin's numbers are 1 to its last, and its ticks, each in its limits, rise with them
 pub record IsClosed (R : Content) : Type 0 where
@@ -64,13 +60,9 @@ AreCompatible R S = (r s : Record) → Has R r → Has S s → r.origin ≡ s.or
 abbrev pub IsWithin : Content → Content → Type 0
 IsWithin R S = (r : Record) → Has R r → Has S r
 
--- a record of this one's name is there
-abbrev pub names : Content → Record → Bool
-names R s = list_any (λ r. is_eq (name_cmp r s)) R
-
 -- the union: the records of the one, and those of the other whose names the one lacks
 abbrev pub join : Content → Content → Content
-join R S = sort_by name_cmp (R ++ filter (λ s. not (names R s)) S)
+join R S = sort_by name_cmp (R ++ filter (λ s. not (list_any (λ r. is_eq (name_cmp r s)) R)) S)
 
 -- the content with one more record
 abbrev pub put : Record → Content → Content

@@ -37,13 +37,9 @@ write given = elim given [ None ↦ None | Some r ↦ if is_delete r.asked then 
 
 -- ---- the live value
 
--- the record's value as the live one; extra where it isn't the only record of its story
-abbrev pub held_of : Bool → Option Record → Option Held
-held_of extra given = elim given [ None ↦ None | Some r ↦ Some (record { time = r.time; value = r.value; extra = extra }) ]
-
--- what a story leaves: the value of its last record, where that is a write
+-- what a story leaves: the value of its last record, where that is a write; extra where it isn't the only record
 abbrev pub held : List Record → Option Held
-held records = held_of (nat_lt 1 (length records)) (write (last records))
+held records = elim (write (last records)) [ None ↦ None | Some r ↦ Some (record { time = r.time; value = r.value; extra = nat_lt 1 (length records) }) ]
 
 -- the live value at a node and source time
 abbrev pub current : List Record → NodeId → ℤ → Option Held

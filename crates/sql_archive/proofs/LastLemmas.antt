@@ -93,7 +93,7 @@ last_kept db origin rows (R, l, stand) kept shown = subst (λ S. IsLast S origin
     some_top : (z : Record) → Has R z → z.origin ≡ origin → (r : Record) × IsTop r
     some_top z k from = elim (vec_attained R origin) [
       | inl zero_is ↦ (z, (k, from, λ s m e. let b = bound s m e in omega (arith, b, zero_is)))
-      | inr h ↦ let named = h.2.numbered in (h.0, (h.1, h.2.from, λ s m e. let b = bound s m e in omega (arith, b, named)))
+      | inr h ↦ let named = h.2.1 in (h.0, (h.1, h.2.0, λ s m e. let b = bound s m e in omega (arith, b, named)))
     ]
 
     go : (xs : List Row) → rows ≡ xs → IsLast R origin (end_of xs)
@@ -103,6 +103,6 @@ last_kept db origin rows (R, l, stand) kept shown = subst (λ S. IsLast S origin
     go (x ∷ xs) e =
         let t = of_top x (subst (λ l. Has l x) (sym e) (inl refl)) in
         let r = t.0 in
-        let greatest : vec R origin ≡ r.number = vec_is R origin r.number t.1.2 (inr (r, t.1.0, record { from = t.1.1; numbered = refl })) in
+        let greatest : vec R origin ≡ r.number = vec_is R origin r.number t.1.2 (inr (r, t.1.0, (t.1.1, refl))) in
         let tick : last_tick R origin ≡ r.tick = sym (last_of_last R r l.closed t.1.0 (sym greatest ∙ sym (ap (vec R) t.1.1)) ∙ ap (last_tick R) t.1.1) in
         subst (λ y. IsLast R origin (end_of (y ∷ xs))) (sym t.2) (greatest, tick)

@@ -1,5 +1,5 @@
 -- Chunks are counted, and answers go item by item.
-use Rattle.std.proofs.Common.{◌≡◌, ◌==◌, ◌+◌, ℕ, ℤ, Bool, true, false, List, [], ◌∷◌, Some, None, Ok, Err, refl, eq-eqb}
+use Rattle.std.proofs.Common.{◌≡◌, ◌==◌, ◌+◌, ℕ, ℤ, Bool, true, false, List, [], ◌∷◌, drop, Some, None, Ok, Err, refl, ap, ◌∙◌, eq-eqb}
 use Rattle.std.specs.Prelude.{Option, Result}
 use Rattle.std.proofs.lemmas.Bool.{eqb-true}
 use Rattle.ua_binary.specs.declared.codes.Status.{Status}
@@ -22,8 +22,10 @@ use Rattle.ua_channel.specs.Taking.{State, after, answer_of}
 use Rattle.archive.specs.Store.{Mark, Fine, Starved, Met}
 use Rattle.historian.specs.Services.{Site, Outcome, answered as performed}
 use Rattle.counted_io.specs.declared.fault.ServeFault.TheVariants.{TooLong}
-use Rattle.ua_connection.specs.Given.{Outside, Given, give, and_then, by_marks, made, clock}
-use Rattle.ua_connection.specs.Run.{Reply, answered, stepped}
+use Rattle.archive.specs.Steps.{give, and_then}
+use Rattle.ua_connection.specs.Given.{Outside, Given, by_marks, made, clock}
+use Rattle.ua_connection.specs.Run.{Reply, answered, joined, ended}
+use Rattle.ua_connection.proofs.RunParts.{stepped}
 use Rattle.ua_connection.specs.Client.{Standing, Item, whole, ill, partial, Ending, Answering, ends, goes, refuse, acknowledged, greeted, opened, told, responded, answered_come, answered_piece, answered_item, answer, chunks, next}
 use Rattle.ua_connection.specs.Client.{answered_placed, answered_on}
 use Rattle.ua_connection.proofs.Runs.{answered-step}
@@ -113,8 +115,13 @@ pub each : (site : Site) (standing : Standing) (item : Item) (outside : Outside)
     → (answer site standing item outside).0.state.client.taken ≡ standing.client.taken + 1
 each site standing item outside e = (counts site standing item outside.marks outside.readings).each e
 
-pub item_by_item : (site : Site) (standing : Standing) (bytes : List ℕ) (outside : Outside)
-    → answered (chunks site) standing bytes outside ≡ stepped (answered (chunks site)) (chunks site) standing bytes outside (next standing bytes)
-item_by_item site standing bytes outside = answered-step (chunks site) (falls site) standing bytes outside
+pub first_item : (site : Site) (standing : Standing) (bytes : List ℕ) (item : Item × ℕ) (outside : Outside) → next standing bytes ≡ Some item
+    → answered (chunks site) standing bytes outside ≡ and_then (answer site standing item.0) (λ reply. joined (answered (chunks site) reply.state (drop item.1 bytes)) reply) outside
+first_item site standing bytes item outside stands =
+    answered-step (chunks site) (falls site) standing bytes outside ∙ ap (λ (o : Option (Item × ℕ)). stepped (answered (chunks site)) (chunks site) standing bytes o outside) stands
 
-pub ruleset counting = (one_too_many, no_sooner, each, item_by_item)
+pub no_item : (site : Site) (standing : Standing) (bytes : List ℕ) (outside : Outside) → next standing bytes ≡ None → answered (chunks site) standing bytes outside ≡ ended (chunks site) standing outside
+no_item site standing bytes outside none =
+    answered-step (chunks site) (falls site) standing bytes outside ∙ ap (λ (o : Option (Item × ℕ)). stepped (answered (chunks site)) (chunks site) standing bytes o outside) none
+
+pub ruleset counting = (one_too_many, no_sooner, each, first_item, no_item)

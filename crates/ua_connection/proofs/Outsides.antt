@@ -2,8 +2,8 @@
 use Rattle.std.proofs.Common.{◌≡◌, ℤ, List, [], ◌∷◌, refl, ap, ◌∙◌, append_assoc}
 use Rattle.std.proofs.lemmas.List.{append-nil}
 use Rattle.archive.specs.Store.{Mark, Fine, Starved}
-use Rattle.archive.specs.Steps.{Marked, Does as DoesMarked}
-use Rattle.ua_connection.specs.Given.{Outside, before, Given, give, and_then, by_marks, made, clock, Does}
+use Rattle.archive.specs.Steps.{Marked, Does as DoesMarked, give, and_then}
+use Rattle.ua_connection.specs.Given.{Outside, before, Given, by_marks, made, clock, Does}
 
 outside_same : (m n : List Mark) (r s : List ℤ) → m ≡ n → r ≡ s → ◌≡◌ {A = Outside} (record { marks = m; readings = r }) (record { marks = n; readings = s })
 outside_same m n r s e f =

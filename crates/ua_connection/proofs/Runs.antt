@@ -2,29 +2,37 @@
 use Rattle.std.proofs.Common.{◌≡◌, ℕ, zero, suc, ◌+◌, ◌<◌, ◌≤◌, List, [], ◌++◌, length, drop, Some, None, refl, sym, ◌∙◌, ap, subst, arith, append_assoc, add-one}
 use Rattle.std.specs.Prelude.{Option}
 use Rattle.std.proofs.lemmas.List.{length-drop, length-append, drop-append-le}
-use Rattle.ua_connection.specs.Given.{Outside, before, Does}
-use Rattle.ua_connection.specs.Run.{Reply, Answer, Protocol, joined, stepped, run, answered, Answers}
-use Rattle.ua_connection.proofs.RunParts.{joined_by}
+use Rattle.ua_connection.specs.Given.{Outside, before, Given, Does}
+use Rattle.ua_connection.specs.Run.{Reply, Protocol, joined, run, answered, Answers}
+use Rattle.ua_connection.proofs.RunParts.{joined_by, stepped}
 use Rattle.ua_connection.proofs.Outsides.{before-before, nothing}
 
 -- an item has a byte at least, and its bytes are all there
 pub record Falls {C X E : Type 0} (p : Protocol C X E) : Type 0 where
   pub falls : (state : C) (bytes : List ℕ) (item : X × ℕ) → p.next state bytes ≡ Some item → (0 < item.1) × (item.1 ≤ length bytes)
 
-pub joined-same : {C E : Type 0} (reply : Reply C E) (left : Outside) (a b : Answer C E) → a ≡ b → joined reply left a ≡ joined reply left b
-joined-same {C} {E} reply left a b same = ap (λ (x : Answer C E). joined reply left x) same
+-- what was answered so far, before what comes later
+abbrev behind : {C E : Type 0} → List ℕ → Reply C E × Outside → Reply C E × Outside
+behind written x = (record x.0 { out = written ++ x.0.out }, x.1)
+
+pub joined-same : {C E : Type 0} (reply : Reply C E) (a b : Given (Reply C E)) (left : Outside) → a left ≡ b left → joined a reply left ≡ joined b reply left
+joined-same {C} {E} reply a b left same = go reply.ending
+  where
+    go : (o : Option E) → joined_by a reply o left ≡ joined_by b reply o left
+    go (Some e) = refl
+    go None = ap (behind reply.out) same
 
 -- steps are one where what comes later is one on fewer bytes
-stepped-same : {C X E : Type 0} (f h : C → List ℕ → Outside → Answer C E) (p : Protocol C X E) (state : C) (bytes : List ℕ) (outside : Outside) (o : Option (X × ℕ))
+stepped-same : {C X E : Type 0} (f h : C → List ℕ → Given (Reply C E)) (p : Protocol C X E) (state : C) (bytes : List ℕ) (outside : Outside) (o : Option (X × ℕ))
     → ((item : X × ℕ) → o ≡ Some item → (0 < item.1) × (item.1 ≤ length bytes))
     → ((s : C) (b : List ℕ) (later : Outside) → length b < length bytes → f s b later ≡ h s b later)
-    → stepped f p state bytes outside o ≡ stepped h p state bytes outside o
+    → stepped f p state bytes o outside ≡ stepped h p state bytes o outside
 stepped-same f h p state bytes outside None falls same = refl
 stepped-same f h p state bytes outside (Some item) falls same =
     let reply = p.answer state item.0 outside in
     let less : (0 < item.1) × (item.1 ≤ length bytes) = falls item refl in
     let fewer : length (drop item.1 bytes) < length bytes = omega (arith, length-drop item.1 bytes) in
-    joined-same reply.0 reply.1 _ _ (same reply.0.state (drop item.1 bytes) reply.1 fewer)
+    joined-same reply.0 (f reply.0.state (drop item.1 bytes)) (h reply.0.state (drop item.1 bytes)) reply.1 (same reply.0.state (drop item.1 bytes) reply.1 fewer)
 
 enough : {C X E : Type 0} (p : Protocol C X E) → Falls p → (n m : ℕ) (state : C) (bytes : List ℕ) (outside : Outside)
     → length bytes < n → length bytes < m → run p n state bytes outside ≡ run p m state bytes outside
@@ -37,7 +45,7 @@ enough p falls (suc n) (suc m) state bytes outside low high =
 
 -- what is answered is the first item's reply, and then what the rest is answered
 pub answered-step : {C X E : Type 0} (p : Protocol C X E) → Falls p → (state : C) (bytes : List ℕ) (outside : Outside)
-    → answered p state bytes outside ≡ stepped (answered p) p state bytes outside (p.next state bytes)
+    → answered p state bytes outside ≡ stepped (answered p) p state bytes (p.next state bytes) outside
 unfolding answered run
 answered-step p falls state bytes outside =
     ap (λ n. run p n state bytes outside) (add-one (length bytes))
@@ -47,11 +55,11 @@ answered-step p falls state bytes outside =
 -- the item that stands first is answered
 pub answered-item : {C X E : Type 0} (p : Protocol C X E) → Falls p → (state : C) (bytes : List ℕ) (item : X × ℕ) (used : Outside) (reply : Reply C E) (later : Outside)
     → p.next state bytes ≡ Some item → Does (p.answer state item.0) used reply
-    → answered p state bytes (before used later) ≡ joined reply later (answered p reply.state (drop item.1 bytes) later)
+    → answered p state bytes (before used later) ≡ joined (answered p reply.state (drop item.1 bytes)) reply later
 answered-item {C} {X} {E} p falls state bytes item used reply later stands does =
     answered-step p falls state bytes (before used later)
-    ∙ ap (λ (o : Option (X × ℕ)). stepped (answered p) p state bytes (before used later) o) stands
-    ∙ ap (λ (r : Reply C E × Outside). joined r.0 r.1 (answered p r.0.state (drop item.1 bytes) r.1)) (does.does later)
+    ∙ ap (λ (o : Option (X × ℕ)). stepped (answered p) p state bytes o (before used later)) stands
+    ∙ ap (λ (r : Reply C E × Outside). joined (answered p r.0.state (drop item.1 bytes)) r.0 r.1) (does.does later)
 
 -- nothing was answered yet
 pub answers-start : {C X E : Type 0} (p : Protocol C X E) (start : C) (bytes : List ℕ) → Answers p start bytes nothing (record { out = []; ending = None; state = start }) bytes
@@ -66,12 +74,12 @@ answers-item {C} {X} {E} p falls state bytes item used reply stands does =
     record {
       goes = λ more later.
           answered-item p falls state (bytes ++ more) item used reply later (stands more) does
-          ∙ ap (λ rest. joined reply later (answered p reply.state rest later)) (drop-append-le item.1 bytes more within);
+          ∙ ap (λ rest. joined (answered p reply.state rest) reply later) (drop-append-le item.1 bytes more within);
     }
 
-joined-ended : {C E : Type 0} (reply : Reply C E) (left : Outside) (ending : E) (a b : Answer C E) → reply.ending ≡ Some ending → joined reply left a ≡ joined reply left b
+joined-ended : {C E : Type 0} (reply : Reply C E) (left : Outside) (ending : E) (a b : Given (Reply C E)) → reply.ending ≡ Some ending → joined a reply left ≡ joined b reply left
 joined-ended {C} {E} reply left ending a b ended =
-    let P : Option E → Type 0 = λ o. joined_by reply.out reply.state left a o ≡ joined_by reply.out reply.state left b o in
+    let P : Option E → Type 0 = λ o. joined_by a reply o left ≡ joined_by b reply o left in
     subst P (sym ended) refl
 
 -- an item whose answer ends the stream, whichever it is
@@ -84,10 +92,13 @@ answers-end p falls state bytes rest used reply ending ended so = record {
       ∙ joined-ended reply later ending _ _ ended;
 }
 
-joined-after : {C E : Type 0} (written : List ℕ) (reply : Reply C E) (o : Option E) (state : C) (left later_left : Outside) (later : Answer C E)
-    → joined (record { out = written; ending = None; state = state }) left (joined_by reply.out reply.state later_left later o) ≡ joined_by (written ++ reply.out) reply.state later_left later o
-joined-after {C} {E} written reply (Some e) state left later_left later = refl
-joined-after {C} {E} written reply None state left later_left later = ap (λ o. let a : Answer C E = record { out = o; ending = later.ending; state = later.state; left = later.left } in a) (sym (append_assoc written reply.out later.out))
+joined-after : {C E : Type 0} (written : List ℕ) (reply : Reply C E) (later : Given (Reply C E)) (left : Outside)
+    → behind written (joined later reply left) ≡ joined later (record { out = written ++ reply.out; ending = reply.ending; state = reply.state }) left
+joined-after {C} {E} written reply later left = go reply.ending
+  where
+    go : (o : Option E) → behind written (joined_by later reply o left) ≡ joined_by later (record { out = written ++ reply.out; ending = reply.ending; state = reply.state }) o left
+    go (Some e) = refl
+    go None = ap (λ out. (record (later left).0 { out = out }, (later left).1)) (sym (append_assoc written reply.out (later left).0.out))
 
 -- one stretch after another
 pub answers-then : {C X E : Type 0} (p : Protocol C X E) (start : C) (bytes : List ℕ) (used : Outside) (written : List ℕ) (state : C) (rest : List ℕ)
@@ -98,8 +109,8 @@ answers-then {C} {X} {E} p start bytes used written state rest more_used reply l
   goes = λ more later.
       ap (λ o. answered p start (bytes ++ more) o) (before-before used more_used later)
       ∙ first.goes more (before more_used later)
-      ∙ joined-same (record { out = written; ending = None; state = state }) (before more_used later) _ _ (second.goes more later)
-      ∙ joined-after written reply reply.ending state (before more_used later) later (answered p reply.state (left ++ more) later);
+      ∙ ap (behind written) (second.goes more later)
+      ∙ joined-after written reply (answered p reply.state (left ++ more)) later;
 }
 
 -- more bytes came
@@ -109,5 +120,5 @@ answers-more p start bytes piece used reply rest so = record {
   goes = λ more later.
       ap (λ b. answered p start b (before used later)) (append_assoc bytes piece more)
       ∙ so.goes (piece ++ more) later
-      ∙ ap (λ b. joined reply later (answered p reply.state b later)) (sym (append_assoc rest piece more));
+      ∙ ap (λ b. joined (answered p reply.state b) reply later) (sym (append_assoc rest piece more));
 }

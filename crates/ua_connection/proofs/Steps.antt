@@ -24,7 +24,7 @@ use Rattle.ua_channel.specs.Sending.{opened_chunk, number_after, message_bytes, 
 use Rattle.ua_session.specs.Sessions as session
 use Rattle.records.specs.Contents.{Content}
 use Rattle.archive.specs.Store.{Store, Mark, Fine, Starved, faults_of}
-use Rattle.archive.specs.Steps.{Acts, Does as DoesMarked}
+use Rattle.archive.specs.Steps.{Acts, Does as DoesMarked, give, and_then}
 use Rattle.archive.proofs.Acting.{moves-none-by, moves-told, faults-append}
 use Rattle.historian.specs.Services.{Site, Outcome, answered as performed}
 use Rattle.historian.specs.Requests.{handle_of}
@@ -34,7 +34,7 @@ use Rattle.counted_io.specs.declared.fault.ServeFault.{ServeFault}
 use Rattle.counted_io.specs.declared.fault.ServeFault.TheVariants.{OutOfMemory}
 use Rattle.ua_connection.specs.declared.turn.Turn.{Turn}
 use Rattle.ua_connection.specs.declared.turn.Turn.TheVariants.{Waits, Greets, Goes, Ends}
-use Rattle.ua_connection.specs.Given.{Outside, before, give, and_then, by_marks, made, clock, Does}
+use Rattle.ua_connection.specs.Given.{Outside, before, by_marks, made, clock, Does}
 use Rattle.ua_connection.specs.Run.{Reply}
 use Rattle.ua_connection.specs.Client.{Client, Standing, Ending, Answering, ends, goes, refuse, acknowledged, greeted, opened, fitted, told, responded, answered_come, answered_piece}
 use Rattle.ua_connection.specs.Client.{answered_placed, answered_on}

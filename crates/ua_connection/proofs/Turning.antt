@@ -24,7 +24,8 @@ use Rattle.ua_connection.specs.declared.outcome.Served.TheVariants.{EndOfInput, 
 use Rattle.counted_io.specs.declared.fault.ServeFault.TheVariants.{Read, Write, TooLong, OutOfMemory}
 use Rattle.ua_connection.specs.declared.turn.Turn.{Turn}
 use Rattle.ua_connection.specs.declared.turn.Turn.TheVariants.{Waits, Greets, Goes, Ends}
-use Rattle.ua_connection.specs.Given.{Outside, give, made, Does}
+use Rattle.archive.specs.Steps.{give}
+use Rattle.ua_connection.specs.Given.{Outside, made, Does}
 use Rattle.ua_connection.specs.Run.{Reply}
 use Rattle.ua_connection.specs.Client.{Client, Standing, Ending, Answering, Item, whole, ill, partial, ends, refuse, answered_item, answered_piece, answer, found, next, chunks}
 use Rattle.ua_connection.specs.Turns.{tried, Link, link_of, Replies, Answered, Reaches, Turned, TurnedInto, RefusesTurn, IsSound, GivesOne, LeavesIntake, IsOwn, IsCounted, ending_of}

@@ -19,7 +19,7 @@ use Rattle.counted_io.specs.declared.fault.ServeFault.{ServeFault}
 use Rattle.counted_io.specs.declared.fault.ServeFault.TheVariants.{Read, Write, TooLong, OutOfMemory}
 use Rattle.ua_connection.specs.declared.turn.Turn.TheVariants.{Ends}
 use Rattle.ua_connection.specs.Given.{Outside, before}
-use Rattle.ua_connection.specs.Run.{Reply, Answer, Answers, answered}
+use Rattle.ua_connection.specs.Run.{Reply, Answers, answered}
 use Rattle.ua_connection.specs.Client.{Client, Standing, Ending, partial, chunks, new_client, found, next}
 use Rattle.ua_connection.specs.Turns.{Link, IsShort, Reaches, Turned, Drained, IsOwnEnd, ServesSoFar, SendsRefusal}
 use Rattle.ua_connection.specs.Serving.{IsWhole, IsServed, ServesBehind}
@@ -160,8 +160,8 @@ end-quiet : (bytes : List ℕ) → faults_of (end_marks bytes) ≡ []
 end-quiet [] = refl
 end-quiet (byte ∷ bytes) = refl
 
-abbrev over_answer : Standing → Outside → Answer Standing Ending
-over_answer standing later = record { out = []; ending = Ok EndOfInput; state = standing; left = later }
+abbrev over_answer : Standing → Outside → Reply Standing Ending × Outside
+over_answer standing later = (record { out = []; ending = Some (Ok EndOfInput); state = standing }, later)
 
 ends-waiting : (site : Site) (standing : Standing) (waiting : List ℕ) (later : Outside) → cut standing.client.greeted standing.client.limit waiting ≡ Ok None
     → answered (chunks site) standing waiting (before (marked (end_marks waiting)) later) ≡ over_answer standing later
@@ -180,8 +180,8 @@ whole-of site start last came waiting out used answers short = λ later.
     ap (λ (b : List ℕ). answered p start b (before (before used ms) later)) (sym (append-nil came))
     ∙ ap (λ (o : Outside). answered p start (came ++ []) o) (before-before used ms later)
     ∙ answers.goes [] (before ms later)
-    ∙ joined-same reply (before ms later) _ _ (ap (λ (b : List ℕ). answered p last b (before ms later)) (append-nil waiting) ∙ ends-waiting site last waiting later short)
-    ∙ ap (λ (o : List ℕ). let a : Answer Standing Ending = record { out = o; ending = Ok EndOfInput; state = last; left = later } in a) (append-nil out)
+    ∙ joined-same reply (answered p last (waiting ++ [])) (λ o. over_answer last later) (before ms later) (ap (λ (b : List ℕ). answered p last b (before ms later)) (append-nil waiting) ∙ ends-waiting site last waiting later short)
+    ∙ ap (λ (o : List ℕ). let a : Reply Standing Ending = record { out = o; ending = Some (Ok EndOfInput); state = last } in (a, later)) (append-nil out)
 
 moves-more : (a b : Store) (us vs : List Mark) (P To : Content → Content → Type 0) → faults_of vs ≡ [] → ((R S : Content) → P R S → To R S) → Moves a b us P → Moves a b (us ++ vs) To
 moves-more a b us vs P To quiet so m = moves-told a b us (us ++ vs) P To (faults-append us vs ∙ (ap (λ fs. faults_of us ++ fs) quiet ∙ append-nil (faults_of us))) so m

@@ -30,7 +30,8 @@ use Rattle.ua_connection.specs.declared.outcome.Served.{Served}
 use Rattle.ua_connection.specs.declared.outcome.Served.TheVariants.{EndOfInput, Closed, Refused}
 use Rattle.counted_io.specs.declared.fault.ServeFault.{ServeFault}
 use Rattle.counted_io.specs.declared.fault.ServeFault.TheVariants.{TooLong, OutOfMemory}
-use Rattle.ua_connection.specs.Given.{Given, give, and_then, by_marks, made, clock}
+use Rattle.archive.specs.Steps.{give, and_then}
+use Rattle.ua_connection.specs.Given.{Given, by_marks, made, clock}
 use Rattle.ua_connection.specs.Run.{Reply, Protocol}
 
 -- what is known of a client between two chunks: whether it was greeted, the greatest size of its chunks, how many were taken, its channel and
@@ -47,9 +48,8 @@ abbrev pub new_client : Client
 new_client = record { greeted = false; limit = 65536; taken = 0; channel = None; sessions = session.fresh }
 
 -- a client, and what the archive holds
-pub record Standing : Type 0 where
-  pub client : Client
-  pub content : Content
+abbrev pub Standing : Type 0
+Standing = record { client : Client; content : Content }
 
 abbrev pub Ending : Type 0
 Ending = Result Served ServeFault

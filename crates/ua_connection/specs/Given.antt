@@ -2,12 +2,11 @@
 use Rattle.std.specs.Prelude.{◌≡◌, ℤ, pos, true, false, List, [], ◌∷◌, ◌++◌, if◌then◌else◌}
 use Rattle.ua_binary.specs.declared.values.Ticks.{Ticks}
 use Rattle.archive.specs.Store.{Mark, Starved}
-use Rattle.archive.specs.Steps.{Marked, step}
+use Rattle.archive.specs.Steps.{Marked, step, and_then}
 
 -- a mark for each step that something may come in the way of, and the readings of the clock
-pub record Outside : Type 0 where
-  pub marks : List Mark
-  pub readings : List ℤ
+abbrev pub Outside : Type 0
+Outside = record { marks : List Mark; readings : List ℤ }
 
 -- what was used, before what is left for later
 abbrev pub before : Outside → Outside → Outside
@@ -16,13 +15,6 @@ before used later = record { marks = used.marks ++ later.marks; readings = used.
 -- what depends on the outside: its value, and what of the outside is left
 abbrev pub Given : Type 0 → Type 0
 Given A = Outside → (A × Outside)
-
-abbrev pub give : {A : Type 0} → A → Given A
-give a outside = (a, outside)
-
--- some steps, and then those that their value leads to
-abbrev pub and_then : {A B : Type 0} → Given A → (A → Given B) → Given B
-and_then first more outside = let a = first outside in more a.0 a.1
 
 -- steps that don't ask for the time
 abbrev pub by_marks : {A : Type 0} → Marked A → Given A

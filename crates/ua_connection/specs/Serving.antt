@@ -13,8 +13,7 @@ use Rattle.ua_connection.specs.Client.{Standing, Ending, new_client, chunks}
 
 -- by this, and no more, of the outside this is the whole answer to the bytes, and this stands then
 abbrev pub IsWhole : {C X E : Type 0} → Protocol C X E → C → List ℕ → Outside → List ℕ → E → C → Type 0
-IsWhole p start bytes used out ending last =
-    (later : Outside) → answered p start bytes (before used later) ≡ record { out = out; ending = ending; state = last; left = later }
+IsWhole p start bytes used out ending last = (later : Outside) → answered p start bytes (before used later) ≡ (record { out = out; ending = Some ending; state = last }, later)
 
 -- This went out of the answer to the bytes that came, which ended so, and this stands then. At the end of the input, and where a read failed, it is the
 -- whole answer. Where a write failed it is a first part of the answer to some first items. Any other end is the answer's own, whatever would have come

@@ -1,10 +1,11 @@
 //! What holds of every connection of a client.
 
-ghost use Rattle.std.specs.Prelude.{◌≡◌, ◌+◌, ℕ, List, [], None, Some, Err};
+ghost use Rattle.std.specs.Prelude.{◌≡◌, ◌+◌, ℕ, List, [], drop, None, Some, Err};
 ghost use Rattle.uacp.specs.Stream.{Piece};
 ghost use Rattle.historian.specs.Services.{Site};
 ghost use Rattle.ua_connection.specs.Given.{Outside};
-ghost use Rattle.ua_connection.specs.Run.{answered, stepped};
+ghost use Rattle.archive.specs.Steps.{and_then};
+ghost use Rattle.ua_connection.specs.Run.{answered, joined, ended};
 ghost use Rattle.ua_connection.specs.Client.{Standing, Item, whole, ends, answered_item, answer, chunks, next};
 
 use counted_io::ServeFault;
@@ -24,6 +25,7 @@ pub fn chunks_are_counted()
 /// The answer to a stream is what stands first, answered, and then the answer to the rest; it doesn't stop before the stream does.
 #[tactic(auto, using(crate::proofs::Counting::counting))]
 pub fn answers_go_item_by_item()
-    ensures { (site : Site) (standing : Standing) (bytes : List ℕ) (outside : Outside)
-        → answered (chunks site) standing bytes outside ≡ stepped (answered (chunks site)) (chunks site) standing bytes outside (next standing bytes) }
+    ensures item { (site : Site) (standing : Standing) (bytes : List ℕ) (item : Item × ℕ) (outside : Outside) → next standing bytes ≡ Some item
+        → answered (chunks site) standing bytes outside ≡ and_then (answer site standing item.0) (λ reply. joined (answered (chunks site) reply.state (drop item.1 bytes)) reply) outside }
+    ensures none { (site : Site) (standing : Standing) (bytes : List ℕ) (outside : Outside) → next standing bytes ≡ None → answered (chunks site) standing bytes outside ≡ ended (chunks site) standing outside }
 {}

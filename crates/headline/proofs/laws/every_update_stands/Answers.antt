@@ -1,5 +1,5 @@
 use Rattle.headline.proofs.Times.{lawful_was}
-use Rattle.headline.proofs.Updates.{recorded, has_learned, latest_later}
+use Rattle.headline.proofs.Updates.{recorded, has_learned, latest_or_not, later_from}
 use Rattle.headline.proofs.Shown.{own_shown, replaced_shown, live_shown, none_shown, reached}
 use Rattle.headline.proofs.Paging.{reading_shows}
 use Rattle.headline.proofs.laws.every_update_stands.Goals as goal
@@ -11,7 +11,7 @@ pub returns-clause-learned : goal.returns-clause-learned
 returns-clause-learned c = has_learned
 
 pub returns-clause-either : goal.returns-clause-either
-returns-clause-either c = latest_later
+returns-clause-either c = latest_or_not
 
 pub returns-clause-told : goal.returns-clause-told
 returns-clause-told c = λ p t r stamps pages past was h reading reaches is.
@@ -35,7 +35,7 @@ pub returns-clause-replaced : goal.returns-clause-replaced
 returns-clause-replaced c = λ p t r stamps pages past was h later reading reaches is written.
     let lawful = lawful_was p t past was in
     let both = reading_shows p past t was r.node (lawful.records r h).node c.args.details c.whole_reads.ensures.details stamps c.whole_reads.ensures.shows pages reading in
-    replaced_shown t.content lawful.closed r c.args.details stamps reaches pages both.0 both.1 is h later written
+    replaced_shown t.content lawful.closed r c.args.details stamps reaches pages both.0 both.1 is h (later_from p t r past was h later) written
 
 pub returns-clause-reached : goal.returns-clause-reached
 returns-clause-reached c = λ p t r modified past was h. reached t.content r modified (lawful_was p t past was) h

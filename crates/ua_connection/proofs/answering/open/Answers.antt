@@ -2,7 +2,7 @@ use Rattle.std.proofs.Common.{Some, refl, subst, List, ℕ}
 use Rattle.ua_binary.specs.declared.codes.TheConstants.Status.{BAD_OUT_OF_MEMORY}
 use Rattle.ua_connection.specs.Turns.{RefusesTurn}
 use Rattle.ua_channel.specs.Sending.{opened_chunk, number_after}
-use Rattle.ua_connection.specs.Given.{give}
+use Rattle.archive.specs.Steps.{give}
 use Rattle.ua_connection.specs.Client.{goes}
 use Rattle.ua_connection.specs.Turns.{behind}
 use Rattle.ua_connection.proofs.Steps.{at, opens, here-memory}

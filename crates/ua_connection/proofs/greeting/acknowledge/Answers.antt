@@ -7,7 +7,7 @@ use Rattle.ua_connection.specs.Client.{Standing, goes}
 use Rattle.ua_channel.specs.Taking.{fresh}
 use Rattle.uacp.specs.Greeting.{acknowledge}
 use Rattle.std.proofs.Common.{Some}
-use Rattle.ua_connection.specs.Given.{give}
+use Rattle.archive.specs.Steps.{give}
 use Rattle.ua_connection.proofs.greeting.acknowledge.Goals as goal
 
 pub returns-in-Ok-clause-answered : goal.returns-in-Ok-clause-answered
