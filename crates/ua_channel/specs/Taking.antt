@@ -39,10 +39,9 @@ with_none_open heard = record heard { chunks = 0; request = 0; bytes = [] }
 -- what is known once a well placed chunk is taken
 abbrev pub after : Heard → Placed → Heard
 after heard (Opens sequence asked) = with_none_open (record heard { openings = heard.openings + 1; last = Some sequence.0 })
-after heard (Says Final numbers body) = with_none_open (record heard { last = Some numbers.number; token = max heard.token numbers.token })
 after heard (Says More numbers body) =
     record heard { last = Some numbers.number; token = max heard.token numbers.token; chunks = heard.chunks + 1; request = numbers.request_id; bytes = heard.bytes ++ body }
-after heard (Says Abort numbers body) = with_none_open (record heard { last = Some numbers.number; token = max heard.token numbers.token })
+after heard (Says letter numbers body) = with_none_open (record heard { last = Some numbers.number; token = max heard.token numbers.token })
 after heard (Closes numbers) = with_none_open (record heard { last = Some numbers.number; ended = true })
 
 -- memory is taken for the body of a message alone
@@ -55,12 +54,8 @@ TakesMemory (Closes numbers) = ⊥
 
 -- what a channel is: what it knows of the chunks that it took, the sequence number of the next chunk that it writes, how many bytes such a
 -- chunk may have, and how many bytes and chunks a message that it writes; 0 is no limit
-pub record State : Type 0 where
-  pub heard : Heard
-  pub next : ℕ
-  pub limit : ℕ
-  pub max_message : ℕ
-  pub max_chunks : ℕ
+abbrev pub State : Type 0
+State = record { heard : Heard; next : ℕ; limit : ℕ; max_message : ℕ; max_chunks : ℕ }
 
 -- a new channel; a chunk that is written has a byte of its message at least
 abbrev pub fresh : Hello → Ack → State
