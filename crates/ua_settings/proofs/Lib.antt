@@ -1,3 +1,4 @@
+pub mod Firsts
 pub mod Mapped
 pub mod Plans
 pub mod Sounds

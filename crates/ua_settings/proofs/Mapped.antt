@@ -5,7 +5,8 @@ use Rattle.std.specs.List.{list_any, count_by, fold}
 use Rattle.std.specs.Cmp.Lexicographic.{pointwise}
 use Rattle.ua_settings.specs.declared.keys.Key.{Key}
 use Rattle.ua_settings.specs.declared.keys.Section.{Section}
-use Rattle.ua_settings.specs.File.{Rule, rules, is_key}
+use Rattle.ua_settings.specs.File.{Rule, rules}
+use Rattle.ua_settings.specs.Judging.{is_key}
 use Rattle.ua_settings.proofs.FileParts.{name_of}
 use Rattle.ua_settings.specs.Keys.{rule_of}
 

@@ -1,5 +1,6 @@
 -- A sound document's plan is one that makes a space.
-use Rattle.std.proofs.Common.{◌≡◌, ◌≤◌, ◌<◌, ◌^◌, ℕ, Bool, true, List, [], ◌∷◌, map, length, codes, refl, ap, sym, subst, ◌∙◌, arith, inl, inr, Option, None, Some, IfSome, IfOk, IfErr, Result, Ok, Err, nat_eq, option_copied, Bor, is_ok}
+use Rattle.std.specs.Prelude.{if◌then◌else◌}
+use Rattle.std.proofs.Common.{◌≡◌, ◌≢◌, ◌⊎◌, ◌+◌, ◌≤◌, ◌<◌, ◌^◌, ℕ, Bool, true, false, nat_lt, List, [], ◌∷◌, map, length, codes, refl, ap, sym, subst, ◌∙◌, arith, inl, inr, Option, None, Some, IfSome, IfOk, IfErr, Result, Ok, Err, nat_eq, option_copied, Bor, is_ok}
 use Rattle.std.specs.Result.{result_map_both}
 use Rattle.std.proofs.lemmas.Bool.{and_parts, leb-true, false≢true}
 use Rattle.std.specs.List.{list_any, AllByRecursion}
@@ -14,13 +15,16 @@ use Rattle.ua_space.specs.declared.layout.Layout.{Layout}
 use Rattle.ua_space.specs.declared.plan.Plan.{Plan}
 use Rattle.ua_space.specs.declared.plan.FolderPlan.{FolderPlan}
 use Rattle.ua_space.specs.declared.plan.VariablePlan.{VariablePlan}
-use Rattle.ua_space.specs.Plan.{planned, HasPlannedId, HasFolder, HasShortPlan, folder_of, variable_of}
+use Rattle.ua_space.specs.Plan.{Entry, planned}
+use Rattle.ua_space.specs.Lent.{planned_by, HasPlannedId, HasFolder, HasShortPlan, folder_of, entry_of, variable_of}
+use Rattle.ua_space.specs.declared.node.Folder.{Folder as SpaceFolder}
 use Rattle.ua_space.specs.Space.{IsCountable, HasShortTexts, HasShortName}
 use Rattle.ua_settings.specs.declared.fault.SettingsFault.{SettingsFault}
-use Rattle.ua_settings.specs.declared.fault.SettingsFault.TheVariants.{OutOfMemory}
+use Rattle.ua_settings.specs.declared.fault.SettingsFault.TheVariants.{OutOfMemory, Space}
 use Rattle.ua_settings.specs.declared.keys.Section.TheVariants.{User, Folder, Variable}
-use Rattle.ua_settings.specs.File.{tables, text_at, is_name, is_short, names_in}
-use Rattle.ua_settings.specs.Reading.{Entry, entry_of, folder_in, variable_in, table_at, truth_at, values_of_tables, space_fault, IsPlanOf, IsSpaceOf, IsSpaceOrStarved, IsAcceptedOrStarved}
+use Rattle.ua_settings.specs.File.{tables, text_at, is_name, names_in}
+use Rattle.ua_settings.specs.Judging.{is_short}
+use Rattle.ua_settings.specs.Reading.{folder_in, variable_in, table_at, truth_at, values_of_tables, space_fault, space_in, IsSpaceOrStarved, IsAcceptedOrStarved}
 use Rattle.ua_settings.proofs.ReadingParts.{user_in, users_in}
 use Rattle.ua_settings.specs.Settings.{Values}
 use Rattle.ua_settings.specs.Sound.{IsSound, IsSoundFolder, IsSoundVariable}
@@ -115,32 +119,59 @@ module _ (document : Members) (sound : IsSound document) (folders : List FolderP
     variables = subst (AllByRecursion (λ variable. HasShortName (variable_of variable))) (sym v) variables_short;
   }
 
+-- ---- the space of a sound document
+
+-- memory isn't a fault of what is asked for
+never_starved : (namespace : List ℕ) (folders : List SpaceFolder) (entries : List Entry) → planned namespace folders entries ≢ Err build.OutOfMemory
+never_starved namespace folders entries = by (nat_lt 1000 (length folders + length entries)) _ _ _
+  where
+    by : (a b c : Bool) (layout : Layout) → (if a then Err build.TooMany else if b then Err build.BadType else if c then Err build.DuplicateNode else Ok layout) ≢ Err build.OutOfMemory
+    by true b c layout is = cc
+    by false true c layout is = cc
+    by false false true layout is = cc
+    by false false false layout is = cc
+
+named : (fault : BuildFault) → (fault ≡ build.OutOfMemory → ⊥) → space_fault fault ≡ Space fault
+named build.DuplicateNode apart = refl
+named build.BadType apart = refl
+named build.TooMany apart = refl
+named build.OutOfMemory apart = absurd (apart refl)
+
+built : (made : Result Layout BuildFault) → made ≢ Err build.OutOfMemory → (result : Result Layout BuildFault) → IsOrStarved build.OutOfMemory made result
+    → (result_map_both (λ space. space) space_fault result ≡ Err OutOfMemory) ⊎ (result_map_both (λ space. space) space_fault result ≡ result_map_both (λ space. space) Space made)
+built (Ok answer) apart (Ok space) is = inr (ap Ok is)
+built (Ok answer) apart (Err fault) is = inl (ap (λ f. Err (space_fault f)) is)
+built (Err fault) apart result is = inr (ap (result_map_both (λ space. space) space_fault) is ∙ ap Err (named fault (λ is. apart (ap Err is))))
+
+pub space_built : (document : Members) (plan : Plan) (result : Result Layout BuildFault) → plan.namespace.now ≡ text_at (codes "namespace") (table_at (codes "server") document)
+    → map folder_of plan.folders.now ≡ map folder_in (tables document Folder) → map entry_of plan.variables.now ≡ map variable_in (tables document Variable)
+    → IsOrStarved build.OutOfMemory (planned_by plan) result → IsSpaceOrStarved document (result_map_both (λ space. space) space_fault result)
+space_built document plan result namespace folders variables is =
+    let P : Result Layout BuildFault → Type 0 = λ made. IsOrStarved build.OutOfMemory made result in
+    let apart = never_starved (text_at (codes "namespace") (table_at (codes "server") document)) (map folder_in (tables document Folder)) (map variable_in (tables document Variable)) in
+    built (space_in document) apart result (subst P (λ i. planned (namespace i) (folders i) (variables i)) is)
+
 -- ---- the settings of a sound document
 
 values_same : (document archive server : Members) (users : Allowed) (space : Layout) → archive ≡ table_at (codes "archive") document → server ≡ table_at (codes "server") document → users ≡ users_in document
-    → values_of_tables archive server users space ≡ values_of_tables (table_at (codes "archive") document) (table_at (codes "server") document) (users_in document) space
-values_same document archive server users space a s u = ap (λ t. values_of_tables t server users space) a ∙ ap (λ t. values_of_tables (table_at (codes "archive") document) t users space) s ∙ ap (λ t. values_of_tables (table_at (codes "archive") document) (table_at (codes "server") document) t space) u
+    → (record (values_of_tables archive server [] space) { users = users }) ≡ values_of_tables (table_at (codes "archive") document) (table_at (codes "server") document) (tables document User) space
+values_same document archive server users space a s u = λ i. record (values_of_tables (a i) (s i) [] space) { users = u i }
 
-built : (document : Members) (plan : Plan) (made : Result Layout BuildFault) → IsPlanOf document plan → made ≡ planned plan → (result : Result Layout BuildFault)
-    → IsOrStarved build.OutOfMemory made result → IsSpaceOrStarved document (result_map_both (λ space. space) space_fault result)
-built document plan (Ok answer) is_plan same (Ok space) is = inr (plan, is_plan, ap (result_map_both (λ space. space) space_fault) (ap Ok is ∙ same))
-built document plan (Ok answer) is_plan same (Err fault) is = inl (ap (λ f. Err (space_fault f)) is)
-built document plan (Err refusal) is_plan same result is = inr (plan, is_plan, ap (result_map_both (λ space. space) space_fault) (is ∙ same))
+given : (values : Layout → Values) (space : Layout) (made : Result Layout BuildFault) → Ok space ≡ result_map_both (λ space. space) Space made → Ok (values space) ≡ result_map_both values Space made
+given values space (Ok other) is = ap (result_map_both values (λ fault. fault)) is
+given values space (Err fault) is = absurd (false≢true (sym (ap is_ok is)))
 
-pub space_built : (document : Members) (plan : Plan) (result : Result Layout BuildFault) → IsPlanOf document plan
-    → IsOrStarved build.OutOfMemory (planned plan) result → IsSpaceOrStarved document (result_map_both (λ space. space) space_fault result)
-space_built document plan result is_plan is = built document plan (planned plan) is_plan refl result is
-
-has_space : (document : Members) (space : Layout) → IsSpaceOrStarved document (Ok space) → IsSpaceOf document (Ok space)
+has_space : (document : Members) (space : Layout) → IsSpaceOrStarved document (Ok space) → Ok space ≡ result_map_both (λ space. space) Space (space_in document)
 has_space document space (inl starved) = absurd (false≢true (sym (ap is_ok starved)))
-has_space document space (inr is_space) = is_space
+has_space document space (inr is) = is
 
 pub accepted : (document archive server : Members) (users : Allowed) (space : Layout) (result : Result Values SettingsFault)
     → archive ≡ table_at (codes "archive") document → server ≡ table_at (codes "server") document → users ≡ users_in document
     → IsSpaceOrStarved document (Ok space)
-    → IfOk result (λ settings. settings ≡ values_of_tables archive server users space) → IfErr result (λ fault. fault ≡ OutOfMemory)
+    → IfOk result (λ settings. settings ≡ record (values_of_tables archive server [] space) { users = users }) → IfErr result (λ fault. fault ≡ OutOfMemory)
     → IsAcceptedOrStarved document result
-accepted document archive server users space (Ok settings) a s u is_space ok err = inr (Ok space, has_space document space is_space, ap Ok (ok ∙ values_same document archive server users space a s u))
+accepted document archive server users space (Ok settings) a s u is_space ok err =
+    inr (ap Ok (ok ∙ values_same document archive server users space a s u) ∙ given (values_of_tables (table_at (codes "archive") document) (table_at (codes "server") document) (tables document User)) space (space_in document) (has_space document space is_space))
 accepted document archive server users space (Err fault) a s u is_space ok err = inl (ap Err err)
 
 pub users_same : (document server : Members) (anonymous : Bool) (named : List SessionUser) → server ≡ table_at (codes "server") document

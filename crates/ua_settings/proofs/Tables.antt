@@ -5,7 +5,7 @@ use Rattle.std.specs.List.{filter_map, cons_option, list_all}
 use Rattle.toml.specs.Data.{as_table}
 use Rattle.toml.specs.View.{view, items_view, members_view}
 use Rattle.toml.specs.declared.value.Value.{Value}
-use Rattle.ua_settings.specs.File.{items_in, are_tables, keys_in}
+use Rattle.ua_settings.specs.File.{items_in, keys_in}
 
 pub values_of_array : (values : List Value) → map view values ≡ items_in (items_view values)
 values_of_array [] = refl
@@ -15,7 +15,7 @@ pub tables_of_values : (values : List Value) → filter_map (λ value. as_table 
 tables_of_values [] = refl
 tables_of_values (value ∷ values) = ap (cons_option (as_table (view value))) (tables_of_values values)
 
-pub tables_in_array : (values : List Value) → list_all (λ value. is_some (as_table (view value))) values ≡ are_tables (items_view values)
+pub tables_in_array : (values : List Value) → list_all (λ value. is_some (as_table (view value))) values ≡ list_all (λ item. is_some (as_table item)) (items_in (items_view values))
 tables_in_array [] = refl
 tables_in_array (value ∷ values) = ap (λ more. is_some (as_table (view value)) && more) (tables_in_array values)
 

@@ -1,7 +1,7 @@
 -- What a settings file says (TOML 1.1): its tables, their keys, what each key must hold, and where a file is wrong.
-use Rattle.std.specs.Prelude.{◌+◌, ◌==◌, ◌&&◌, ℕ, ℤ, pos, negsuc, Bool, true, false, not, List, [], ◌∷◌, length, map, find, codes, nat_eq, nat_le, Option, None, Some, is_some, is_none, option_map, option_and_then, unwrap_or}
-use Rattle.std.specs.Option.{option_to_list, option_or}
-use Rattle.std.specs.List.{list_any, count_by, filter_map}
+use Rattle.std.specs.Prelude.{◌==◌, ◌&&◌, ℕ, pos, negsuc, Bool, true, false, not, List, [], ◌∷◌, length, map, find, codes, nat_eq, nat_le, Option, None, Some, is_some, is_none, option_map, option_and_then, slice_get, unwrap_or}
+use Rattle.std.specs.Option.{option_map_or, option_to_list}
+use Rattle.std.specs.List.{list_all, list_any, count_by, enumerate_from, filter_map, flat_map}
 use Rattle.std.specs.Cmp.Lexicographic.{pointwise}
 use Rattle.toml.specs.Data.{Data, Items, no_items, item, Members, no_members, member, get_member, as_str, as_integer, as_bool, as_array, as_table}
 use Rattle.uuid.specs.Text.{parsed}
@@ -68,77 +68,39 @@ Names = record { users : List (List ℕ); folders : List (List ℕ) }
 abbrev pub names_in : Members → Names
 names_in document = record { users = map (text_at (codes "name")) (tables document User); folders = map (text_at (codes "id")) (tables document Folder) }
 
-abbrev pub test : {A : Type 0} → (A → Bool) → Option A → Bool
-test p given = elim given [ None ↦ false | Some a ↦ p a ]
-
-abbrev pub is_short : List ℕ → Bool
-is_short text = nat_le (length text) 65536
-
 -- 1 to 256 bytes
 abbrev pub is_name : List ℕ → Bool
 is_name text = nat_le 1 (length text) && nat_le (length text) 256
 
--- a name that no other user has, and not that of a user without one
-abbrev pub is_user_name : List (List ℕ) → List ℕ → Bool
-is_user_name users name = is_name name && (not (pointwise nat_eq name (codes "anonymous")) && (count_by (pointwise nat_eq name) users == 1))
-
--- 1 to 64
-abbrev pub is_replica : ℤ → Bool
-is_replica v = elim v [ pos n ↦ nat_le 1 n && nat_le n 64 | negsuc n ↦ false ]
-
-abbrev pub is_id : List ℕ → Bool
-is_id text = is_some (parsed text)
-
-abbrev pub are_tables : Items → Bool
-are_tables no_items = true
-are_tables (item value items) = is_some (as_table value) && are_tables items
-
+-- Text has at most 65,536 bytes; the name of a user is one that no other user has, and not that of a user without one; a replica is 1 to 64.
 abbrev pub fits : Names → Holds → Data → Bool
-fits names Text value = test is_short (as_str value)
-fits names Id value = test is_id (as_str value)
-fits names Replica value = test is_replica (as_integer value)
+fits names Text value = option_map_or (λ text. nat_le (length text) 65536) (as_str value) false
+fits names Id value = option_map_or (λ text. is_some (parsed text)) (as_str value) false
+fits names Replica value = option_map_or (λ number. elim number [ pos n ↦ nat_le 1 n && nat_le n 64 | negsuc n ↦ false ]) (as_integer value) false
 fits names Truth value = is_some (as_bool value)
-fits names NodeName value = test is_name (as_str value)
-fits names UserName value = test (is_user_name names.users) (as_str value)
-fits names FolderId value = test (λ id. list_any (λ folder. pointwise nat_eq folder id) names.folders) (as_str value)
+fits names NodeName value = option_map_or is_name (as_str value) false
+fits names UserName value = option_map_or (λ name. is_name name && (not (pointwise nat_eq name (codes "anonymous")) && (count_by (pointwise nat_eq name) names.users == 1))) (as_str value) false
+fits names FolderId value = option_map_or (λ id. list_any (λ folder. pointwise nat_eq folder id) names.folders) (as_str value) false
 fits names OneTable value = is_some (as_table value)
-fits names Tables value = test are_tables (as_array value)
+fits names Tables value = option_map_or (λ items. list_all (λ item. is_some (as_table item)) (items_in items)) (as_array value) false
 
 -- ---- where a document is wrong
 
-abbrev pub is_key : Section → List ℕ → Bool
-is_key section key = list_any (λ rule. pointwise nat_eq key rule.name) (rules section)
-
-abbrev pub is_missing : Members → Rule → Bool
-is_missing members rule = rule.required && is_none (get_member rule.name members)
-
-abbrev pub is_bad : Names → Members → Rule → Bool
-is_bad names members rule = test (λ value. not (fits names rule.holds value)) (get_member rule.name members)
-
 -- the first key of a table that is wrong: one that the table may not have, one that it has to have, or one that doesn't hold what it must
 abbrev pub wrong_key : Names → Wrong → Section → Members → Option (List ℕ)
-wrong_key names Unknown section members = find (λ key. not (is_key section key)) (keys_in members)
-wrong_key names Missing section members = option_map (λ rule. rule.name) (find (is_missing members) (rules section))
-wrong_key names Bad section members = option_map (λ rule. rule.name) (find (is_bad names members) (rules section))
+wrong_key names Unknown section members = find (λ key. not (list_any (λ rule. pointwise nat_eq key rule.name) (rules section))) (keys_in members)
+wrong_key names Missing section members = option_map (λ rule. rule.name) (find (λ rule. rule.required && is_none (get_member rule.name members)) (rules section))
+wrong_key names Bad section members = option_map (λ rule. rule.name) (find (λ rule. option_map_or (λ value. not (fits names rule.holds value)) (get_member rule.name members) false) (rules section))
 
 -- a key in the table of this number, from 1, among those of a section
 abbrev pub Spot : Type 0
 Spot = record { section : Section; number : ℕ; key : List ℕ }
 
--- the first wrong key of these tables of a section, of which the first has this number
-abbrev pub wrong_from : Names → Wrong → Section → ℕ → List Members → Option Spot
-wrong_from names wrong section number [] = None
-wrong_from names wrong section number (members ∷ more) =
-    option_or (option_map (λ key. record { section = section; number = number; key = key }) (wrong_key names wrong section members)) (wrong_from names wrong section (number + 1) more)
-
-abbrev pub first_of : {A B : Type 0} → (A → Option B) → List A → Option B
-first_of f [] = None
-first_of f (a ∷ more) = option_or (f a) (first_of f more)
-
--- the first wrong key of a document
-abbrev pub wrong_at : Members → Wrong → Option Spot
-wrong_at document wrong = first_of (λ section. wrong_from (names_in document) wrong section 1 (tables document section)) (Document ∷ Archive ∷ Server ∷ User ∷ Folder ∷ Variable ∷ [])
+-- the tables of a section in which a key is wrong in this way, by their numbers from 1, and the first such key of each
+abbrev pub wrong_in : Members → Wrong → Section → List (Wrong × Spot)
+wrong_in document wrong section =
+    filter_map (λ t. option_map (λ key. (wrong, record { section = section; number = t.0; key = key })) (wrong_key (names_in document) wrong section t.1)) (enumerate_from 1 (tables document section))
 
 -- the first way in which a document is wrong, unknown keys before missing ones and these before bad ones, and where
 abbrev pub refused : Members → Option (Wrong × Spot)
-refused document = first_of (λ wrong. option_map (λ spot. (wrong, spot)) (wrong_at document wrong)) (Unknown ∷ Missing ∷ Bad ∷ [])
+refused document = slice_get (flat_map (λ wrong. flat_map (wrong_in document wrong) (Document ∷ Archive ∷ Server ∷ User ∷ Folder ∷ Variable ∷ [])) (Unknown ∷ Missing ∷ Bad ∷ [])) 0

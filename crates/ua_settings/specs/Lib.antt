@@ -1,5 +1,6 @@
 pub mod Fault
 pub mod File
+pub mod Judging
 pub mod Keys
 pub mod Place
 pub mod Reading

@@ -1,20 +1,11 @@
 -- What a server is set to.
-use Rattle.std.specs.Prelude.{◌≤◌, List, [], ℕ, length, replicate, codes, true, Option, None}
-use Rattle.ua_session.specs.Users.{Allowed}
+use Rattle.std.specs.Prelude.{◌≤◌, List, [], ℕ, length, replicate, codes, true, None}
 use Rattle.ua_settings.specs.declared.settings.Parts.{Parts}
-use Rattle.ua_space.specs.declared.layout.Layout.{Layout}
 
 -- the archive's id, the number of this replica of it, and the file of its store, none for memory; where the server listens, the URL of its
 -- endpoint, the URI of the application; who may use it; and its nodes
-pub record Values : Type 0 where
-  pub archive : List ℕ
-  pub replica : ℕ
-  pub store : Option (List ℕ)
-  pub listen : List ℕ
-  pub url : List ℕ
-  pub application : List ℕ
-  pub users : Allowed
-  pub space : Layout
+abbrev pub Values : Type 0
+Values = Parts
 
 -- without settings: replica 1 of the archive whose id is all zeros, in memory; any user without a name; no variables
 unfoldable pub bare : Values
@@ -32,7 +23,3 @@ bare = record {
 -- a text of settings has at most 65,536 bytes
 abbrev pub IsShort : List ℕ → Type 0
 IsShort text = length text ≤ 65536
-
--- settings of these parts
-abbrev pub values_of : Parts → Values
-values_of parts = record { archive = parts.archive; replica = parts.replica; store = parts.store; listen = parts.listen; url = parts.url; application = parts.application; users = parts.users; space = parts.space }

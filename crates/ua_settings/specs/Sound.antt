@@ -4,7 +4,8 @@ use Rattle.std.specs.List.{list_any, AllByRecursion}
 use Rattle.std.specs.Cmp.Lexicographic.{pointwise}
 use Rattle.toml.specs.Data.{Members, get_member, as_str, as_integer, as_table}
 use Rattle.ua_settings.specs.declared.keys.Section.TheVariants.{User, Folder, Variable}
-use Rattle.ua_settings.specs.File.{tables, text_at, is_id, is_name, is_replica, is_short, test, names_in}
+use Rattle.ua_settings.specs.File.{tables, text_at, is_name, names_in}
+use Rattle.ua_settings.specs.Judging.{is_id, is_replica, is_short, test}
 use Rattle.ua_settings.specs.Reading.{table_at}
 
 pub record IsSoundArchive (archive : Members) : Type 0 where

@@ -4,7 +4,8 @@ ghost use Rattle.std.specs.Option.{option_to_list};
 ghost use Rattle.std.specs.Prelude.{◌≡◌, map, find, IfOk, option_map, option_copied, option_and_then, unwrap_or, false, true, pos, MatchOption, None, Some, []};
 ghost use Rattle.toml.specs.Data.{get_member, as_str, as_bool, as_integer, as_table};
 ghost use Rattle.toml.specs.View.{view, table_view};
-ghost use Rattle.ua_settings.specs.File.{tables, text_at, is_replica, many_tables, items_in};
+ghost use Rattle.ua_settings.specs.File.{tables, text_at, many_tables, items_in};
+ghost use Rattle.ua_settings.specs.Judging.{is_replica};
 ghost use Rattle.toml.specs.Data.{as_array};
 
 use crate::keys::Section;

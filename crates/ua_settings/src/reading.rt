@@ -1,14 +1,15 @@
 //! The settings that a file gives in which nothing is wrong.
 
-ghost use Rattle.std.specs.Prelude.{◌≡◌, map, IfOk, IfErr, Some, Ok, Err, true, option_and_then, codes};
+ghost use Rattle.std.specs.Prelude.{◌≡◌, map, IfOk, IfErr, Some, Ok, Err, true, option_and_then, codes, []};
 ghost use Rattle.std.specs.List.{AllByRecursion};
 ghost use Rattle.toml.specs.Data.{get_member, as_integer, as_str};
 ghost use Rattle.toml.specs.View.{table_view};
 ghost use Rattle.uuid.specs.Text.{parsed};
 ghost use Rattle.ua_space.specs.declared.plan.Plan.{Plan};
-ghost use Rattle.ua_space.specs.Plan.{folder_of};
-ghost use Rattle.ua_settings.specs.File.{tables, text_at, is_id, is_replica, test};
-ghost use Rattle.ua_settings.specs.Reading.{folder_in, variable_in, entry_of, number_at, table_at, values_of_tables, IsAcceptedOrStarved, IsSpaceOrStarved, space_fault};
+ghost use Rattle.ua_space.specs.Lent.{entry_of, folder_of};
+ghost use Rattle.ua_settings.specs.File.{tables, text_at};
+ghost use Rattle.ua_settings.specs.Judging.{is_id, is_replica, test};
+ghost use Rattle.ua_settings.specs.Reading.{folder_in, variable_in, number_at, table_at, values_of_tables, IsAcceptedOrStarved, IsSpaceOrStarved, space_fault};
 ghost use Rattle.ua_settings.specs.Sound.{IsSound, IsSoundArchive, IsSoundUser, IsSoundServer};
 
 use crate::fault::SettingsFault;
@@ -186,7 +187,7 @@ fn settings_of(
 ) -> Result<Settings, SettingsFault>
     requires archive { IsSoundArchive (table_view archive.now) }
     requires server { IsSoundServer (table_view server.now) }
-    ensures ok { IfOk result (λ settings. settings ≡ values_of_tables (table_view archive.now) (table_view server.now) users space) }
+    ensures ok { IfOk result (λ settings. settings ≡ record (values_of_tables (table_view archive.now) (table_view server.now) [] space) { users = users }) }
     ensures err { IfErr result (λ fault. fault ≡ SettingsFault.OutOfMemory) }
 {
     Ok(Settings::of(Parts {

@@ -6,7 +6,7 @@ ghost use Rattle.toml.specs.Errors.{IsMemory};
 ghost use Rattle.toml.specs.Parse.{parse_document};
 ghost use Rattle.toml.specs.View.{table_view};
 ghost use Rattle.ua_settings.specs.Reading.{IsReadOrStarved};
-ghost use Rattle.ua_settings.specs.Settings.{bare, IsShort, values_of};
+ghost use Rattle.ua_settings.specs.Settings.{bare, IsShort};
 
 use crate::fault::SettingsFault;
 use crate::judging::judge;
@@ -117,7 +117,7 @@ impl Settings {
     pub fn of(parts: Parts) -> Settings
         requires url { IsShort parts.url }
         requires application { IsShort parts.application }
-        ensures { result ≡ values_of parts }
+        ensures { result ≡ parts }
     {
         Settings {
             archive: parts.archive,

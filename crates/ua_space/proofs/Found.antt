@@ -12,7 +12,8 @@ use Rattle.ua_binary.specs.declared.values.NodeId.TheVariants.{Numeric, Named, G
 use Rattle.ua_space.specs.declared.layout.Layout.{Layout}
 use Rattle.ua_space.specs.declared.node.Folder.{Folder}
 use Rattle.ua_space.specs.declared.node.Variable.{Variable}
-use Rattle.ua_space.specs.Space.{Node, OfFolder, OfVariable, node_at, has_variable_id, HasShortId, IsShortId}
+use Rattle.ua_space.specs.Space.{Node, OfFolder, OfVariable, node_at, HasShortId, IsShortId}
+use Rattle.ua_space.specs.Index.{has_variable_id}
 use Rattle.ua_space.proofs.Nodes.{planned_at, at_other_name}
 
 -- the variable of a node, where it is one

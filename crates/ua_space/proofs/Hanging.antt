@@ -13,8 +13,9 @@ use Rattle.ua_space.specs.declared.node.Variable.{Variable}
 use Rattle.ua_space.specs.declared.plan.Plan.{Plan}
 use Rattle.ua_space.specs.declared.plan.FolderPlan.{FolderPlan}
 use Rattle.ua_space.specs.declared.plan.VariablePlan.{VariablePlan}
-use Rattle.ua_space.specs.Plan.{HasFolder, layout_of, folder_of, variable_of}
-use Rattle.ua_space.specs.Space.{OfFolder, OfVariable, has_folder_id}
+use Rattle.ua_space.specs.Lent.{HasFolder, layout_of, folder_of, variable_of}
+use Rattle.ua_space.specs.Space.{OfFolder, OfVariable}
+use Rattle.ua_space.specs.Index.{has_folder_id}
 use Rattle.ua_space.specs.References.{parent, holds}
 use Rattle.ua_space.proofs.ReferencesParts.{folder_node}
 

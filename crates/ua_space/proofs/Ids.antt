@@ -6,7 +6,8 @@ use Rattle.std.proofs.lemmas.List.{at_drop_more, take_all, length-drop}
 use Rattle.std.proofs.lemmas.List.Folds.{list_any-append}
 use Rattle.ua_space.specs.declared.plan.VariablePlan.{VariablePlan}
 use Rattle.ua_space.specs.declared.node.Variable.{Variable}
-use Rattle.ua_space.specs.Plan.{have_equal, variable_of, HasPlannedId}
+use Rattle.ua_space.specs.Plan.{have_equal}
+use Rattle.ua_space.specs.Lent.{variable_of, HasPlannedId}
 use Rattle.ua_space.specs.Space.{HasShortId}
 
 pub list_any-map : {X Y : Type 0} (p : Y → Bool) (f : X → Y) (xs : List X) → list_any p (map f xs) ≡ list_any (λ x. p (f x)) xs

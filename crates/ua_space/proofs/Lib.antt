@@ -6,5 +6,6 @@ pub mod Short
 pub mod Hanging
 pub mod AttributesParts
 pub mod PlanParts
+pub mod Planned
 pub mod ReferencesParts
 pub mod SpaceParts

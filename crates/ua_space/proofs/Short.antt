@@ -1,11 +1,13 @@
 -- What is told of a space's nodes can be written.
-use Rattle.std.proofs.Common.{◌≡◌, ◌≤◌, ◌<◌, ◌+◌, ◌^◌, ℕ, Bool, true, false, List, [], ◌∷◌, ◌++◌, map, filter, length, None, Some, find, nat_lt, Ok, Err, refl, sym, cond, subst, arith}
-use Rattle.std.specs.Prelude.{Option, Result, All, IfSome, IfOk, MatchResult, ◌==◌, codes, if◌then◌else◌}
+use Rattle.std.proofs.Common.{◌≡◌, ◌≤◌, ◌<◌, ◌+◌, ◌^◌, ℕ, Bool, true, false, List, [], ◌∷◌, ◌++◌, map, filter, length, None, Some, find, nat_eq, nat_lt, Ok, Err, refl, sym, cond, subst, arith}
+use Rattle.std.specs.Prelude.{Option, Result, All, IfSome, IfOk, MatchResult, codes, if◌then◌else◌}
 use Rattle.std.specs.Option.{option_map, option_to_list, ok_or}
 use Rattle.std.specs.List.{AllByRecursion}
 use Rattle.std.proofs.lemmas.Bool.{ltb-false}
 use Rattle.std.proofs.lemmas.List.{length-map, length-append}
 use Rattle.std.proofs.lemmas.List.Elements.{All-nil, All-cons, All-map}
+use Rattle.std.specs.Map.{lookup}
+use Rattle.std.proofs.lemmas.Map.Entries.{All-lookup}
 use Rattle.ua_binary.specs.declared.values.NodeId.{NodeId}
 use Rattle.ua_binary.specs.Binary.{IsShortNode, IsCounted, IsShortLocalized}
 use Rattle.ua_binary.specs.declared.codes.TheConstants.Status.{BAD_ATTRIBUTE_ID_INVALID}
@@ -20,14 +22,15 @@ use Rattle.ua_space.specs.declared.node.Folder.{Folder}
 use Rattle.ua_space.specs.declared.plan.Plan.{Plan}
 use Rattle.ua_space.specs.declared.fault.BuildFault.{BuildFault}
 use Rattle.ua_space.specs.declared.plan.VariablePlan.{VariablePlan}
-use Rattle.ua_space.specs.Plan.{HasShortPlan, HasPlannedId, folder_of, variable_of, layout_of, planned}
+use Rattle.ua_space.specs.Lent.{HasShortPlan, HasPlannedId, folder_of, variable_of, layout_of, judged_by}
 use Rattle.ua_space.proofs.PlanParts.{is_too_large}
-use Rattle.ua_space.specs.Space.{Node, Root, Objects, NamespaceArray, State, OfFolder, OfVariable, FolderType, BaseDataVariableType, id_of, name_of, node_at, is_same_id, HasShortId, HasShortTexts, HasShortName, IsShortLayout, browse_name_of, display_name_of, has_folder_id}
+use Rattle.ua_space.specs.Space.{Node, Root, Objects, NamespaceArray, State, OfFolder, OfVariable, FolderType, BaseDataVariableType, id_of, name_of, node_at, is_same_id, HasShortId, HasShortTexts, HasShortName, IsShortLayout, browse_name_of, display_name_of}
+use Rattle.ua_space.specs.Index.{has_folder_id}
 use Rattle.ua_space.proofs.SpaceParts.{nodes}
-use Rattle.ua_space.specs.Attributes.{Table, own_attributes, attributes, entry_at, IsShortAnswered}
+use Rattle.ua_space.specs.Attributes.{own_attributes, attributes, IsShortAnswered}
 use Rattle.ua_space.proofs.AttributesParts.{common_attributes}
-use Rattle.ua_space.specs.References.{Link, objects_below, holds, children, type_definition, parent, organizes, is_defined_by, references, is_followed, told, no_node}
-use Rattle.ua_space.proofs.ReferencesParts.{type_id, definition_id, folder_node}
+use Rattle.ua_space.specs.References.{Link, holds, children, type_definition, parent, references, is_followed, told}
+use Rattle.ua_space.proofs.ReferencesParts.{type_id, definition_id, folder_node, no_node, objects_below, organizes, is_defined_by}
 
 -- its texts can be counted
 abbrev pub IsShort : Node → Type 0
@@ -133,16 +136,12 @@ owns_short space short (OfVariable variable) = (tt, (tt, (tt, (tt, (tt, (tt, tt)
 owns_short space short FolderType = tt
 owns_short space short BaseDataVariableType = tt
 
-entry_short : (number : ℕ) (table : Table) → AllByRecursion IsShortEntry table → IfSome (entry_at number table) IsShortAnswered
-entry_short number table all = by (find (λ entry. entry.0 == number) table) (found_as (λ entry. entry.0 == number) IsShortEntry table all)
-  where
-    by : (o : Option (ℕ × Answered)) → IfSome o IsShortEntry → IfSome (option_map (λ entry. entry.1) o) IsShortAnswered
-    by None short = tt
-    by (Some entry) short = short
+entry_short : (number : ℕ) (table : List (ℕ × Answered)) → AllByRecursion IsShortEntry table → IfSome (lookup (nat_eq number) table) IsShortAnswered
+entry_short number table all = All-lookup IsShortAnswered (nat_eq number) table (all_of IsShortEntry table all)
 
-pub attribute_short : (space : Layout) (node : Node) (number : ℕ) → IsShortLayout space → IsShort node → IfOk (ok_or (entry_at number (attributes space node)) BAD_ATTRIBUTE_ID_INVALID) IsShortAnswered
+pub attribute_short : (space : Layout) (node : Node) (number : ℕ) → IsShortLayout space → IsShort node → IfOk (ok_or (lookup (nat_eq number) (attributes space node)) BAD_ATTRIBUTE_ID_INVALID) IsShortAnswered
 attribute_short space node number short is =
-    by (entry_at number (attributes space node)) (entry_short number (attributes space node) (all_append IsShortEntry (common_attributes node) (own_attributes space node) (commons_short node is) (owns_short space short node)))
+    by (lookup (nat_eq number) (attributes space node)) (entry_short number (attributes space node) (all_append IsShortEntry (common_attributes node) (own_attributes space node) (commons_short node is) (owns_short space short node)))
   where
     by : (o : Option Answered) → IfSome o IsShortAnswered → IfOk (ok_or o BAD_ATTRIBUTE_ID_INVALID) IsShortAnswered
     by None is = tt
@@ -307,15 +306,15 @@ plan_short plan short ids few = record {
     each [] all = tt
     each (v ∷ variables) all = (all.0.1, each variables all.1)
 
-few_planned : (plan : Plan) (b : Bool) → nat_lt 1000 (length plan.folders.now + length plan.variables.now) ≡ b → (space : Layout) → planned plan ≡ Ok space → length plan.folders.now + length plan.variables.now ≤ 1000
-few_planned plan true e space is = absurd cc
-few_planned plan false e space is = ltb-false 1000 (length plan.folders.now + length plan.variables.now) e
+few_judged : (plan : Plan) (b : Bool) → nat_lt 1000 (length plan.folders.now + length plan.variables.now) ≡ b → (space : Layout) → judged_by plan ≡ Ok space → length plan.folders.now + length plan.variables.now ≤ 1000
+few_judged plan true e space is = absurd cc
+few_judged plan false e space is = ltb-false 1000 (length plan.folders.now + length plan.variables.now) e
 
 -- a plan that was judged to make a space
 pub judged_short : (plan : Plan) (judged : Result (Unit {0}) BuildFault) (nothing : Unit {0}) → HasShortPlan plan → AllByRecursion HasPlannedId plan.variables.now
-    → MatchResult (planned plan) (λ _. judged ≡ Ok tt) (λ fault. judged ≡ Err fault) → judged ≡ Ok nothing → IsShortLayout (layout_of plan)
-judged_short plan judged nothing short ids so ok = by (planned plan) refl so
+    → MatchResult (judged_by plan) (λ _. judged ≡ Ok tt) (λ fault. judged ≡ Err fault) → judged ≡ Ok nothing → IsShortLayout (layout_of plan)
+judged_short plan judged nothing short ids so ok = by (judged_by plan) refl so
   where
-    by : (r : Result Layout BuildFault) → planned plan ≡ r → MatchResult r (λ _. judged ≡ Ok tt) (λ fault. judged ≡ Err fault) → IsShortLayout (layout_of plan)
-    by (Ok space) is _ = plan_short plan short ids (few_planned plan (is_too_large plan) refl space is)
+    by : (r : Result Layout BuildFault) → judged_by plan ≡ r → MatchResult r (λ _. judged ≡ Ok tt) (λ fault. judged ≡ Err fault) → IsShortLayout (layout_of plan)
+    by (Ok space) is _ = plan_short plan short ids (few_judged plan (is_too_large plan) refl space is)
     by (Err fault) is refused = absurd cc

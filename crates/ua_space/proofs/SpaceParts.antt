@@ -2,7 +2,8 @@
 use Rattle.std.specs.Prelude.{List, ◌++◌, Option, None, Some, [], ◌∷◌}
 use Rattle.ua_variant.specs.declared.value.ValueType.{ValueType}
 use Rattle.ua_space.specs.declared.layout.Layout.{Layout}
-use Rattle.ua_space.specs.Space.{NamespaceArray, Node, Objects, OfVariable, Root, State, planned_nodes}
+use Rattle.ua_space.specs.Space.{NamespaceArray, Node, Objects, OfVariable, Root, State}
+use Rattle.ua_space.specs.Index.{planned_nodes}
 
 -- those of namespace 0
 abbrev pub standard_nodes : List Node

@@ -1,5 +1,6 @@
 -- Where the folders and variables of a layout stand, by their ids.
-use Rattle.std.specs.Prelude.{◌≡◌, ℕ, List, map, Option, option_map, String}
+use Rattle.std.specs.Prelude.{◌≡◌, ◌++◌, ℕ, Bool, List, map, find, nat_eq, Option, option_map, String}
+use Rattle.std.specs.Cmp.Lexicographic.{pointwise}
 use Rattle.std.specs.List.{slice_get}
 use Rattle.std.specs.Option.{option_and_then}
 use Rattle.std.specs.HashMap.{HashMap, get_by_text}
@@ -7,7 +8,24 @@ use Rattle.ua_binary.specs.declared.values.NodeId.TheVariants.{Named}
 use Rattle.ua_space.specs.declared.index.Place.{Place}
 use Rattle.ua_space.specs.declared.index.Place.TheVariants as place
 use Rattle.ua_space.specs.declared.layout.Layout.{Layout}
-use Rattle.ua_space.specs.Space.{Node, OfFolder, OfVariable, node_in, planned_nodes}
+use Rattle.ua_binary.specs.declared.values.NodeId.{NodeId}
+use Rattle.ua_space.specs.declared.node.Folder.{Folder}
+use Rattle.ua_space.specs.declared.node.Variable.{Variable}
+use Rattle.ua_space.specs.Space.{Node, OfFolder, OfVariable, id_of, is_same_id}
+
+-- the folders and variables
+abbrev pub planned_nodes : Layout → List Node
+planned_nodes space = map OfFolder space.folders ++ map OfVariable space.variables
+
+-- the node of this id among these
+abbrev pub node_in : List Node → NodeId → Option Node
+node_in some id = find (λ node. is_same_id (id_of node) id) some
+
+abbrev pub has_folder_id : List ℕ → Folder → Bool
+has_folder_id id folder = pointwise nat_eq folder.id id
+
+abbrev pub has_variable_id : List ℕ → Variable → Bool
+has_variable_id id variable = pointwise nat_eq variable.id id
 
 -- what stands at a place
 abbrev pub at_place : Layout → Place → Option Node

@@ -1,5 +1,6 @@
 pub mod Fault
 pub mod Plan
+pub mod Lent
 pub mod Space
 pub mod Index
 pub mod Attributes

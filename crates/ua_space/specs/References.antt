@@ -1,8 +1,8 @@
 -- The references of the nodes (Part 3, 4.3.4 and 7), and what a browse finds of them (Part 4, 5.9.2).
-use Rattle.std.specs.Option.{option_map_or}
-use Rattle.std.specs.Prelude.{ℕ, Bool, true, false, not, ◌==◌, ◌&&◌, ◌||◌, List, [], ◌∷◌, ◌++◌, map, filter, nat_eq, Option, None, Some, option_map, option_to_list, find, is_none, Result, Ok, Err, if◌then◌else◌}
+use Rattle.std.specs.Prelude.{ℕ, Bool, true, false, not, ◌==◌, ◌&&◌, ◌||◌, List, [], ◌∷◌, ◌++◌, map, filter, nat_eq, Option, None, Some, option_map, option_to_list, find, is_none, Result, Ok, Err, ok_or, if◌then◌else◌}
 use Rattle.std.specs.List.{list_any}
 use Rattle.std.specs.Cmp.Lexicographic.{pointwise}
+use Rattle.ua_binary.specs.Format.{◌>>=◌}
 use Rattle.ua_binary.specs.declared.values.NodeId.{NodeId}
 use Rattle.ua_binary.specs.declared.values.NodeId.TheVariants.{Numeric}
 use Rattle.ua_variant.specs.DataValue.{has}
@@ -17,8 +17,9 @@ use Rattle.ua_services.specs.declared.browsing.BrowseDirection.TheVariants.{Forw
 use Rattle.ua_services.specs.declared.browsing.ReferenceDescription.{ReferenceDescription}
 use Rattle.ua_services.specs.declared.browsing.NodeClass.TheVariants.{Unspecified}
 use Rattle.ua_services.specs.Browsing.{BrowseFields, class_number}
+use Rattle.ua_services.specs.Structure.{is_type}
 use Rattle.ua_space.specs.declared.layout.Layout.{Layout}
-use Rattle.ua_space.specs.Space.{Node, Root, Objects, OfFolder, OfVariable, FolderType, BaseDataVariableType, id_of, node_of, class_of, browse_name_of, display_name_of, has_folder_id, node_at}
+use Rattle.ua_space.specs.Space.{Node, Root, Objects, OfFolder, OfVariable, FolderType, BaseDataVariableType, id_of, node_of, class_of, browse_name_of, display_name_of, node_at}
 
 -- ---- the references of a node
 
@@ -30,80 +31,63 @@ Link = record { reference_type : ReferenceType; is_forward : Bool; target : Node
 abbrev pub link_of : Lent → Link
 link_of link = record { reference_type = link.reference_type; is_forward = link.is_forward; target = node_of link.target }
 
--- the objects that hang below a node, in the order of the plan
-abbrev pub objects_below : Layout → Node → List Node
-objects_below space node = elim node [ Root ↦ Objects ∷ [] | Objects ↦ map OfFolder space.folders | _ ↦ [] ]
-
 -- whether a variable hangs below a node: below its folder, or below Objects where it has none
 abbrev pub holds : Node → Variable → Bool
 holds node variable = elim node [ Objects ↦ is_none variable.folder | OfFolder folder ↦ elim (variable.folder) [ None ↦ false | Some id ↦ pointwise nat_eq id folder.id ] | _ ↦ false ]
 
 -- what hangs below a node: objects before variables, each in the order of the plan
 abbrev pub children : Layout → Node → List Node
-children space node = objects_below space node ++ map OfVariable (filter (holds node) space.variables)
+children space node = (elim node [ Root ↦ Objects ∷ [] | Objects ↦ map OfFolder space.folders | _ ↦ [] ]) ++ map OfVariable (filter (holds node) space.variables)
 
 abbrev pub type_definition : Node → Option Node
 type_definition node = elim node [ Root ↦ Some FolderType | Objects ↦ Some FolderType | OfFolder folder ↦ Some FolderType | OfVariable variable ↦ Some BaseDataVariableType | _ ↦ None ]
 
 abbrev pub parent : Layout → Node → Option Node
-parent space node = elim node [ Objects ↦ Some Root | OfFolder folder ↦ Some Objects | OfVariable variable ↦ elim variable.folder [ None ↦ Some Objects | Some id ↦ option_map OfFolder (find (has_folder_id id) space.folders) ] | _ ↦ None ]
+parent space node = elim node [ Objects ↦ Some Root | OfFolder folder ↦ Some Objects | OfVariable variable ↦ elim variable.folder [ None ↦ Some Objects | Some id ↦ option_map OfFolder (find (λ f. pointwise nat_eq f.id id) space.folders) ] | _ ↦ None ]
 
-abbrev pub organizes : Bool → Node → Link
-organizes is_forward node = record { reference_type = Organizes; is_forward = is_forward; target = node }
-
-abbrev pub is_defined_by : Node → Link
-is_defined_by type = record { reference_type = HasTypeDefinition; is_forward = true; target = type }
+abbrev pub link_to : ReferenceType → Bool → Node → Link
+link_to type is_forward node = record { reference_type = type; is_forward = is_forward; target = node }
 
 -- to the children, to the type definition, and back to the parent
 abbrev pub references : Layout → Node → List Link
-references space node = map (organizes true) (children space node) ++ map is_defined_by (option_to_list (type_definition node)) ++ map (organizes false) (option_to_list (parent space node))
+references space node =
+    map (link_to Organizes true) (children space node) ++ map (link_to HasTypeDefinition true) (option_to_list (type_definition node))
+    ++ map (link_to Organizes false) (option_to_list (parent space node))
 
 -- ---- which references a browse follows
 
 abbrev pub type_number : ReferenceType → ℕ
 type_number type = elim type [ Organizes ↦ 35 | HasTypeDefinition ↦ 40 ]
 
-abbrev pub in_standard : NodeId → Option ℕ
-in_standard v = elim v [ Numeric namespace id ↦ if namespace == 0 then Some id else None | _ ↦ None ]
-
 abbrev pub is_reference_type : NodeId → Bool
-is_reference_type id = option_map_or (λ number. list_any (nat_eq number) (0 ∷ 31 ∷ 32 ∷ 33 ∷ 34 ∷ 35 ∷ 40 ∷ 44 ∷ 45 ∷ 46 ∷ 47 ∷ [])) (in_standard id) false
+is_reference_type id = list_any (λ number. is_type number id) (0 ∷ 31 ∷ 32 ∷ 33 ∷ 34 ∷ 35 ∷ 40 ∷ 44 ∷ 45 ∷ 46 ∷ 47 ∷ [])
 
 -- the asked type is no type at all, or this one, or one of which this is a subtype, where subtypes count
 abbrev pub is_of_type : NodeId → Bool → ReferenceType → Bool
-is_of_type id subtypes reference_type = option_map_or (λ number.
-    number == 0 || number == type_number reference_type || subtypes && list_any (nat_eq number) (elim reference_type [ Organizes ↦ 33 ∷ 31 ∷ [] | HasTypeDefinition ↦ 32 ∷ 31 ∷ [] ])) (in_standard id) false
+is_of_type id subtypes type =
+    is_type 0 id || is_type (type_number type) id || subtypes && list_any (λ number. is_type number id) (elim type [ Organizes ↦ 33 ∷ 31 ∷ [] | HasTypeDefinition ↦ 32 ∷ 31 ∷ [] ])
 
 abbrev pub is_followed : BrowseDirection → BrowseFields → Link → Bool
 is_followed direction d link = (elim direction [ Forward ↦ link.is_forward | Inverse ↦ not link.is_forward | Both ↦ true ]) && is_of_type d.1.1.0 d.1.1.1.0 link.reference_type && (d.1.1.1.1.0 == 0 || has d.1.1.1.1.0 (class_number (class_of link.target)))
 
 -- ---- what is told of a reference
 
-abbrev pub no_node : NodeId
-no_node = Numeric 0 0
-
 -- the fields whose bits are set (Part 4, 5.9.2); the others are null, false, Unspecified or empty
 abbrev pub told : ℕ → Link → ReferenceDescription
 told mask link = record {
-  reference_type_id = if has mask 1 then (Numeric 0 (type_number link.reference_type)) else no_node;
+  reference_type_id = if has mask 1 then (Numeric 0 (type_number link.reference_type)) else (Numeric 0 0);
   is_forward = has mask 2 && link.is_forward;
   node_id = id_of link.target;
   node_class = if has mask 4 then class_of link.target else Unspecified;
   browse_name = if has mask 8 then browse_name_of link.target else record { namespace = 0; name = None };
   display_name = if has mask 16 then display_name_of link.target else record { locale = None; text = None };
-  type_definition = if has mask 32 then (elim (type_definition link.target) [ None ↦ no_node | Some type ↦ id_of type ]) else no_node;
+  type_definition = if has mask 32 then (elim (type_definition link.target) [ None ↦ Numeric 0 0 | Some type ↦ id_of type ]) else (Numeric 0 0);
 }
 
 -- ---- a browse
 
--- A description is a node, a direction, a reference type, whether its subtypes count, the classes and the fields that are wanted. Of a node that was
--- looked for, in a direction where the number asked is one:
-abbrev pub browsed : Layout → BrowseFields → Option Node → Option BrowseDirection → Result (List ReferenceDescription) Status
-browsed space d None direction = Err BAD_NODE_ID_UNKNOWN
-browsed space d (Some node) None = Err BAD_BROWSE_DIRECTION_INVALID
-browsed space d (Some node) (Some direction) =
+-- A description is a node, a direction, where the number asked is one, a reference type, whether its subtypes count, the classes and the fields that are wanted.
+abbrev pub browse_at : Layout → BrowseFields → Result (List ReferenceDescription) Status
+browse_at space d = ok_or (node_at space d.0) BAD_NODE_ID_UNKNOWN >>= λ node. ok_or d.1.0 BAD_BROWSE_DIRECTION_INVALID >>= λ direction.
     if is_reference_type d.1.1.0 then Ok (map (told d.1.1.1.1.1) (filter (is_followed direction d) (references space node)))
     else Err BAD_REFERENCE_TYPE_ID_INVALID
-
-abbrev pub browse_at : Layout → BrowseFields → Result (List ReferenceDescription) Status
-browse_at space d = browsed space d (node_at space d.0) d.1.0

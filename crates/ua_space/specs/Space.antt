@@ -32,10 +32,6 @@ node_of (lent.Variable variable) = OfVariable variable.now
 node_of lent.FolderType = FolderType
 node_of lent.BaseDataVariableType = BaseDataVariableType
 
--- those of the plan
-abbrev pub planned_nodes : Layout → List Node
-planned_nodes space = map OfFolder space.folders ++ map OfVariable space.variables
-
 -- ---- attributes that each node has (Part 3, 5.2)
 
 -- the id of each, its class and its name
@@ -67,24 +63,15 @@ display_name_of node = record { locale = None; text = Some (name_of node) }
 
 -- ---- the node of an id
 
-abbrev pub has_folder_id : List ℕ → Folder → Bool
-has_folder_id id folder = pointwise nat_eq folder.id id
-
-abbrev pub has_variable_id : List ℕ → Variable → Bool
-has_variable_id id variable = pointwise nat_eq variable.id id
-
 -- whether two ids are the same; a GUID or an opaque id is no node's
 abbrev pub is_same_id : NodeId → NodeId → Bool
 is_same_id (Numeric m i) (Numeric n j) = m == n && i == j
 is_same_id (Named m a) (Named n b) = m == n && pointwise nat_eq a b
 is_same_id _ _ = false
 
--- the node of this id among these
-abbrev pub node_in : List Node → NodeId → Option Node
-node_in some id = find (λ node. is_same_id (id_of node) id) some
-
+-- the node of this id: one of the four of namespace 0, a folder or a variable
 abbrev pub node_at : Layout → NodeId → Option Node
-node_at space id = node_in ((Root ∷ Objects ∷ NamespaceArray ∷ State ∷ []) ++ planned_nodes space) id
+node_at space id = find (λ node. is_same_id (id_of node) id) ((Root ∷ Objects ∷ NamespaceArray ∷ State ∷ []) ++ (map OfFolder space.folders ++ map OfVariable space.variables))
 
 abbrev pub value_type_at : Layout → NodeId → Option ValueType
 value_type_at space id = elim (node_at space id) [ Some (OfVariable variable) ↦ Some variable.value_type | _ ↦ None ]

@@ -1,16 +1,17 @@
 //! The types of references that a browse may ask for.
 
-ghost use Rattle.std.specs.Prelude.{◌≡◌, nat_eq, ◌∷◌, []};
+ghost use Rattle.std.specs.Prelude.{◌≡◌, ◌==◌, nat_eq, if◌then◌else◌, Some, None, ◌∷◌, []};
 ghost use Rattle.std.specs.List.{list_any};
 ghost use Rattle.ua_binary.specs.Binary.{node_of as id_of_lent};
-ghost use Rattle.ua_space.specs.References.{in_standard, is_reference_type as is_reference_type_id};
+ghost use Rattle.ua_binary.specs.declared.values.NodeId.TheVariants.{Numeric};
+ghost use Rattle.ua_space.specs.References.{is_reference_type as is_reference_type_id};
 
 use crate::node::STANDARD;
 use ua_binary::NodeIdRef;
 
 /// The number of an id of namespace 0.
 pub(crate) fn standard_number(id: NodeIdRef<'_>) -> Option<u32>
-    ensures { result ≡ in_standard (id_of_lent id.entry) }
+    ensures { result ≡ (elim (id_of_lent id.entry) [ Numeric namespace number ↦ if namespace == 0 then Some number else None | _ ↦ None ]) }
 {
     match id {
         NodeIdRef::Numeric(namespace, number) => {

@@ -3,7 +3,9 @@
 ghost use Rattle.ua_variant.specs.declared.value.Variant.TheVariants as variant;
 ghost use Rattle.ua_variant.specs.declared.value.Array.TheVariants as array;
 ghost use Rattle.ua_space.specs.declared.attributes.Answered.TheVariants.{Value};
-ghost use Rattle.std.specs.Prelude.{◌≡◌, MatchResult, option_map, IfOk, Ok, Some, codes, ◌∷◌, []};
+ghost use Rattle.ua_variant.specs.declared.value.Scalar.TheVariants as scalar;
+ghost use Rattle.std.specs.Map.{lookup};
+ghost use Rattle.std.specs.Prelude.{◌≡◌, MatchResult, option_map, IfOk, Ok, Some, codes, nat_eq, ◌∷◌, []};
 
 use crate::layout::Layout;
 use crate::node::Node;
@@ -89,7 +91,7 @@ const STATE: VariableClass = VariableClass {
 
 impl VariableClass {
     ghost use Rattle.std.specs.Prelude.{true, ok_or};
-    ghost use Rattle.ua_space.specs.Attributes.{entry_at, variable_attributes};
+    ghost use Rattle.ua_space.specs.Attributes.{variable_attributes};
 
     /// A variable of the plan.
     fn archived(value_type: ValueType) -> VariableClass
@@ -105,7 +107,7 @@ impl VariableClass {
 
     /// An attribute of a variable that isn't its value.
     fn attribute(self, attribute: u32) -> Result<Answered, Status>
-        ensures { result ≡ ok_or (entry_at attribute (variable_attributes self.data_type self.is_array self.access self.historizing)) Status.BAD_ATTRIBUTE_ID_INVALID }
+        ensures { result ≡ ok_or (lookup (nat_eq attribute) (variable_attributes self.data_type self.is_array self.access self.historizing)) Status.BAD_ATTRIBUTE_ID_INVALID }
     {
         let value = match attribute {
             DATA_TYPE => Scalar::NodeId(NodeId::Numeric(0, self.data_type)),
@@ -132,7 +134,7 @@ impl Answered {
 impl Layout {
     ghost use Rattle.std.specs.Prelude.{ok_or};
     ghost use Rattle.ua_space.specs.Space.{node_of};
-    ghost use Rattle.ua_space.specs.Attributes.{attributes, entry_at, own_attributes, object_attributes};
+    ghost use Rattle.ua_space.specs.Attributes.{attributes, own_attributes};
     ghost use Rattle.ua_binary.specs.Format.{IsOrStarved};
 
     /// An attribute of a node. `BAD_ATTRIBUTE_ID_INVALID` where the node has none of this number.
@@ -142,7 +144,7 @@ impl Layout {
         node: Node<'_>,
         attribute: u32,
     ) -> Result<Answered, Status>
-        ensures { IsOrStarved Status.BAD_OUT_OF_MEMORY (ok_or (entry_at attribute (attributes self.now (node_of node.entry))) Status.BAD_ATTRIBUTE_ID_INVALID) result }
+        ensures { IsOrStarved Status.BAD_OUT_OF_MEMORY (ok_or (lookup (nat_eq attribute) (attributes self.now (node_of node.entry))) Status.BAD_ATTRIBUTE_ID_INVALID) result }
     {
         let value = match attribute {
             NODE_ID => Scalar::NodeId(node.id().to_owned(alloc)?),
@@ -161,7 +163,7 @@ impl Layout {
         node: Node<'_>,
         attribute: u32,
     ) -> Result<Answered, Status>
-        ensures { IsOrStarved Status.BAD_OUT_OF_MEMORY (ok_or (entry_at attribute (own_attributes self.now (node_of node.entry))) Status.BAD_ATTRIBUTE_ID_INVALID) result }
+        ensures { IsOrStarved Status.BAD_OUT_OF_MEMORY (ok_or (lookup (nat_eq attribute) (own_attributes self.now (node_of node.entry))) Status.BAD_ATTRIBUTE_ID_INVALID) result }
     {
         match node {
             Node::Root | Node::Objects | Node::Folder(_) => Answered::of_object(attribute),
@@ -192,11 +194,11 @@ impl Layout {
 
 impl Answered {
     ghost use Rattle.std.specs.Prelude.{ok_or};
-    ghost use Rattle.ua_space.specs.Attributes.{entry_at, object_attributes};
+    ghost use Rattle.ua_space.specs.Attributes.{one};
 
     /// An attribute of an object.
     fn of_object(attribute: u32) -> Result<Answered, Status>
-        ensures { result ≡ ok_or (entry_at attribute object_attributes) Status.BAD_ATTRIBUTE_ID_INVALID }
+        ensures { result ≡ ok_or (lookup (nat_eq attribute) ((12, one (scalar.Byte 0)) ∷ [])) Status.BAD_ATTRIBUTE_ID_INVALID }
     {
         if attribute == EVENT_NOTIFIER {
             Ok(Answered::one(Scalar::Byte(NO_EVENTS)))

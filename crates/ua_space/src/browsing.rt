@@ -126,7 +126,7 @@ pub(crate) fn tell(
 impl Link<'_> {
     ghost use Rattle.ua_services.specs.declared.browsing.NodeClass.TheVariants.{Unspecified};
     ghost use Rattle.ua_space.specs.Space.{node_of, class_of, browse_name_of, display_name_of};
-    ghost use Rattle.ua_space.specs.References.{no_node, told, link_of};
+    ghost use Rattle.ua_space.specs.References.{told, link_of};
 
     /// The fields whose bits are set.
     fn told(self, alloc: Global, mask: u32) -> Result<ReferenceDescription, BinaryFault>
@@ -149,7 +149,7 @@ impl Link<'_> {
 
     /// The type, where it is wanted.
     fn wanted_type(self, wanted: bool) -> NodeId
-        ensures { result ≡ (if wanted then Numeric 0 (type_number self.entry.reference_type) else no_node) }
+        ensures { result ≡ (if wanted then Numeric 0 (type_number self.entry.reference_type) else Numeric 0 0) }
     {
         if wanted {
             NodeId::Numeric(0, self.reference_type.number())
@@ -199,7 +199,7 @@ impl Link<'_> {
 
     /// The type definition of the target, where it is wanted and there is one.
     fn wanted_definition(self, alloc: Global, wanted: bool) -> Result<NodeId, BinaryFault>
-        ensures { IsOrStarved BinaryFault.OutOfMemory (Ok (if wanted then (elim (type_definition (node_of self.entry.target)) [ None ↦ no_node | Some type ↦ id_of type ]) else no_node)) result }
+        ensures { IsOrStarved BinaryFault.OutOfMemory (Ok (if wanted then (elim (type_definition (node_of self.entry.target)) [ None ↦ Numeric 0 0 | Some type ↦ id_of type ]) else Numeric 0 0)) result }
     {
         match self.target.type_definition() {
             Some(definition) if wanted => definition.id().to_owned(alloc),

@@ -4,8 +4,8 @@ ghost use Rattle.std.specs.Prelude.{◌≡◌, ◌++◌, List, ℕ, map, IfOk, O
 ghost use Rattle.std.specs.Option.{option_and_then};
 ghost use Rattle.std.specs.HashMap.{get_by_text, IsEmpty};
 ghost use Rattle.ua_binary.specs.declared.values.NodeId.TheVariants.{Named};
-ghost use Rattle.ua_space.specs.Space.{OfFolder, OfVariable, node_in, node_of};
-ghost use Rattle.ua_space.specs.Index.{at_place, IsIndexOf, ListsVariables};
+ghost use Rattle.ua_space.specs.Space.{OfFolder, OfVariable, node_of};
+ghost use Rattle.ua_space.specs.Index.{at_place, IsIndexOf, ListsVariables, node_in};
 
 use crate::layout::Layout;
 use crate::node::Node;

@@ -3,7 +3,8 @@
 ghost use Rattle.std.specs.Prelude.{◌≡◌, ◌||◌, ◌++◌, map, nat_eq, MatchResult, is_some};
 ghost use Rattle.std.specs.List.{list_any, list_all};
 ghost use Rattle.std.specs.Cmp.Lexicographic.{pointwise};
-ghost use Rattle.ua_space.specs.Plan.{type_number, have_equal, planned};
+ghost use Rattle.ua_space.specs.Plan.{type_number, have_equal};
+ghost use Rattle.ua_space.specs.Lent.{judged_by};
 
 use crate::fault::BuildFault;
 use crate::plan::{FolderPlan, Plan, VariablePlan};
@@ -39,7 +40,7 @@ pub(crate) fn type_number(name: &str) -> Option<u8>
 /// Whether a plan makes a space, memory aside: `TooMany`, then `BadType`, then `DuplicateNode`. It takes
 /// no memory.
 pub(crate) fn judge(plan: &Plan<'_>) -> Result<(), BuildFault>
-    ensures { MatchResult (planned plan.now) (λ _. result ≡ Ok tt) (λ fault. result ≡ Err fault) }
+    ensures { MatchResult (judged_by plan.now) (λ _. result ≡ Ok tt) (λ fault. result ≡ Err fault) }
 {
     if plan.folders.len().saturating_add(plan.variables.len()) > MAX_NODES {
         return Err(BuildFault::TooMany);

@@ -5,7 +5,7 @@ ghost use Rattle.std.specs.List.{AllByRecursion};
 ghost use Rattle.ua_space.specs.declared.layout.Layout.{Layout};
 ghost use Rattle.ua_space.specs.declared.node.Variable.{Variable};
 ghost use Rattle.ua_space.specs.declared.plan.Plan.{Plan};
-ghost use Rattle.ua_space.specs.Plan.{HasFolder, layout_of};
+ghost use Rattle.ua_space.specs.Lent.{HasFolder, layout_of};
 ghost use Rattle.ua_space.specs.Space.{OfVariable};
 ghost use Rattle.ua_space.specs.References.{parent, holds};
 

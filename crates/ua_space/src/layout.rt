@@ -18,8 +18,8 @@ pub(crate) struct Layout {
 
 impl Layout {
     ghost use Rattle.ua_binary.specs.declared.values.NodeId.TheVariants.{Named};
-    ghost use Rattle.ua_space.specs.Space.{node_at, node_in, planned_nodes, node_of, has_folder_id};
-    ghost use Rattle.ua_space.specs.Index.{at_place, IsIndexOf};
+    ghost use Rattle.ua_space.specs.Space.{node_at, node_of};
+    ghost use Rattle.ua_space.specs.Index.{at_place, has_folder_id, IsIndexOf, node_in, planned_nodes};
 
     /// The node of this id.
     #[tactic(auto, using(crate::proofs::Nodes::anywhere))]

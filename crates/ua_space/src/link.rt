@@ -1,6 +1,7 @@
 //! References, as they lie in a space (Part 3, 4.3.4).
 
-ghost use Rattle.std.specs.Prelude.{◌≡◌, map, true, IfOk, option_map};
+ghost use Rattle.std.specs.Prelude.{◌≡◌, map, true, IfOk, option_map, ◌∷◌, []};
+ghost use Rattle.ua_space.specs.declared.link.ReferenceType.TheVariants.{HasTypeDefinition, Organizes};
 
 use crate::layout::Layout;
 use crate::node::{Node, Variable};
@@ -37,10 +38,10 @@ pub(crate) struct Link<'a> {
 
 impl<'a> Link<'a> {
     ghost use Rattle.ua_space.specs.Space.{node_of};
-    ghost use Rattle.ua_space.specs.References.{organizes, is_defined_by, link_of};
+    ghost use Rattle.ua_space.specs.References.{link_to, link_of};
 
     fn organizes(is_forward: bool, target: Node<'a>) -> Link<'a>
-        ensures { link_of result ≡ organizes is_forward (node_of target.entry) }
+        ensures { link_of result ≡ link_to Organizes is_forward (node_of target.entry) }
     {
         Link {
             reference_type: ReferenceType::Organizes,
@@ -50,7 +51,7 @@ impl<'a> Link<'a> {
     }
 
     fn is_defined_by(target: Node<'a>) -> Link<'a>
-        ensures { link_of result ≡ is_defined_by (node_of target.entry) }
+        ensures { link_of result ≡ link_to HasTypeDefinition true (node_of target.entry) }
     {
         Link {
             reference_type: ReferenceType::HasTypeDefinition,
@@ -91,8 +92,8 @@ impl<'a> Node<'a> {
 }
 
 impl Layout {
-    ghost use Rattle.ua_space.specs.Space.{node_of};
-    ghost use Rattle.ua_space.specs.References.{references, children, objects_below, parent, link_of, organizes};
+    ghost use Rattle.ua_space.specs.Space.{Objects, OfFolder, Root, node_of};
+    ghost use Rattle.ua_space.specs.References.{references, children, parent, link_of, link_to};
 
     /// The references of a node: to what hangs below it, to its type definition, back to what it hangs below.
     pub fn references<'a>(
@@ -114,7 +115,7 @@ impl Layout {
 
     /// The references to what hangs below a node.
     fn children<'a>(&'a self, alloc: Global, node: Node<'a>) -> Result<Vec<Link<'a>>, AllocError>
-        ensures { IfOk result (λ links. map link_of links.items ≡ map (organizes true) (children self.now (node_of node.entry))) }
+        ensures { IfOk result (λ links. map link_of links.items ≡ map (link_to Organizes true) (children self.now (node_of node.entry))) }
     {
         let mut links = self.objects_below(alloc, node)?;
         for variable in self.variables.as_slice() {
@@ -131,7 +132,7 @@ impl Layout {
         alloc: Global,
         node: Node<'a>,
     ) -> Result<Vec<Link<'a>>, AllocError>
-        ensures { IfOk result (λ links. map link_of links.items ≡ map (organizes true) (objects_below self.now (node_of node.entry))) }
+        ensures { IfOk result (λ links. map link_of links.items ≡ map (link_to Organizes true) (elim (node_of node.entry) [ Root ↦ Objects ∷ [] | Objects ↦ map OfFolder self.now.folders | _ ↦ [] ])) }
     {
         let mut links = Vec::new(alloc);
         match node {

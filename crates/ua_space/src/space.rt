@@ -3,7 +3,7 @@
 ghost use Rattle.std.specs.Prelude.{◌≡◌, ◌<◌, ◌^◌, length, All, map, IfOk, IfSome, option_map, is_some};
 ghost use Rattle.std.specs.List.{AllByRecursion};
 ghost use Rattle.ua_binary.specs.Binary.{node_of as id_of_lent};
-ghost use Rattle.ua_space.specs.Plan.{planned, HasPlannedId, HasFolder, HasShortPlan, folder_of, variable_of};
+ghost use Rattle.ua_space.specs.Lent.{planned_by, HasPlannedId, HasFolder, HasShortPlan, folder_of, variable_of};
 ghost use Rattle.ua_space.specs.Space.{node_at, value_type_at, IsShortId, HasShortId, IsShortLayout};
 ghost use Rattle.ua_space.specs.Attributes.{attribute_at, IsShortAnswered};
 ghost use Rattle.ua_services.specs.Browsing.{browse_fields, IsShortReference};
@@ -61,7 +61,7 @@ impl Space {
         requires ids { AllByRecursion HasPlannedId plan.now.variables.now }
         requires folders { AllByRecursion (HasFolder plan.now.folders.now) plan.now.variables.now }
         requires texts { HasShortPlan plan.now }
-        ensures { IsOrStarved BuildFault.OutOfMemory (planned plan.now) result }
+        ensures { IsOrStarved BuildFault.OutOfMemory (planned_by plan.now) result }
     {
         judge(plan)?;
         let namespace = Text::from_str(alloc, plan.namespace)?;

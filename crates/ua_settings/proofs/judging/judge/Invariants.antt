@@ -1,6 +1,7 @@
 use Rattle.std.proofs.Common.{◌≡◌, drop, option_map}
 use Rattle.toml.specs.View.{table_view}
-use Rattle.ua_settings.specs.File.{wrong_at, refused, first_of}
+use Rattle.ua_settings.specs.File.{refused}
+use Rattle.ua_settings.specs.Judging.{wrong_at, first_of}
 use Rattle.ua_settings.specs.declared.judging.TheConstants.{WRONGS}
 use Rattle.ua_settings.proofs.judging.judge.Given as goal
 

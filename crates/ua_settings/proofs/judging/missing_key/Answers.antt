@@ -1,6 +1,6 @@
 use Rattle.std.proofs.Common.{Some, None}
 use Rattle.toml.specs.View.{table_view}
-use Rattle.ua_settings.specs.File.{is_missing}
+use Rattle.ua_settings.specs.Judging.{is_missing}
 use Rattle.ua_settings.proofs.Wrongs.{rule_found}
 use Rattle.ua_settings.proofs.judging.missing_key.Goals as goal
 

@@ -1,6 +1,6 @@
 use Rattle.std.proofs.Common.{◌≡◌, drop}
 use Rattle.toml.specs.View.{table_view}
-use Rattle.ua_settings.specs.File.{wrong_at, first_of}
+use Rattle.ua_settings.specs.Judging.{wrong_at, first_of}
 use Rattle.ua_settings.proofs.FileParts.{wrong_in}
 use Rattle.ua_settings.specs.declared.judging.TheConstants.{SECTIONS}
 use Rattle.ua_settings.proofs.judging.wrong_at.Given as goal

@@ -1,6 +1,6 @@
 use Rattle.std.proofs.Common.{◌≡◌, ◌+◌, map, drop}
 use Rattle.toml.specs.View.{table_view}
-use Rattle.ua_settings.specs.File.{wrong_from}
+use Rattle.ua_settings.specs.Judging.{wrong_from}
 use Rattle.ua_settings.specs.Keys.{known_of}
 use Rattle.ua_settings.proofs.judging.wrong_in.Given as goal
 

@@ -21,7 +21,7 @@ pub returns-in-Ok : goal.returns-in-Ok
 returns-in-Ok c =
     subst (λ result. IsSpaceOrStarved (table_view c.args.document.now) (result_map_both (λ space. space) space_fault result)) c.in-Ok.is
     (space_built (table_view c.args.document.now) (record { namespace = c.text.result; folders = c.args.folders; variables = c.args.variables }) c.build.result
-    (record { namespace = c.text.ensures ∙ ap (text_at (codes "namespace")) c.requires.same; folders = c.requires.folders; variables = c.requires.variables })
+    (c.text.ensures ∙ ap (text_at (codes "namespace")) c.requires.same) c.requires.folders c.requires.variables
     c.build.ensures)
 
 pub returns-in-Err : goal.returns-in-Err
@@ -29,5 +29,5 @@ returns-in-Err c =
     rw c.space_fault.ensures
     (subst (λ result. IsSpaceOrStarved (table_view c.args.document.now) (result_map_both (λ space. space) space_fault result)) c.in-Err.is
     (space_built (table_view c.args.document.now) (record { namespace = c.text.result; folders = c.args.folders; variables = c.args.variables }) c.build.result
-    (record { namespace = c.text.ensures ∙ ap (text_at (codes "namespace")) c.requires.same; folders = c.requires.folders; variables = c.requires.variables })
+    (c.text.ensures ∙ ap (text_at (codes "namespace")) c.requires.same) c.requires.folders c.requires.variables
     c.build.ensures))

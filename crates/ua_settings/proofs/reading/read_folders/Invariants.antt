@@ -1,6 +1,6 @@
 use Rattle.std.proofs.Common.{◌≡◌, map, take}
 use Rattle.toml.specs.View.{table_view}
-use Rattle.ua_space.specs.Plan.{folder_of}
+use Rattle.ua_space.specs.Lent.{folder_of}
 use Rattle.ua_settings.specs.Reading.{folder_in}
 use Rattle.ua_settings.proofs.reading.read_folders.Given as goal
 

@@ -1,6 +1,6 @@
 use Rattle.std.proofs.Common.{ap, sym, ◌∙◌, is_ok}
 use Rattle.std.proofs.lemmas.Bool.{false≢true}
-use Rattle.ua_settings.specs.File.{is_id}
+use Rattle.ua_settings.specs.Judging.{is_id}
 use Rattle.ua_settings.proofs.Mapped.{id_told}
 use Rattle.ua_settings.proofs.reading.read_id.Goals as goal
 

@@ -1,6 +1,7 @@
 use Rattle.std.proofs.Common.{◌≡◌, map, ap, sym, subst, ◌∙◌, IfOk}
 use Rattle.toml.specs.View.{table_view}
-use Rattle.ua_settings.specs.Reading.{variable_in, entry_of}
+use Rattle.ua_space.specs.Lent.{entry_of}
+use Rattle.ua_settings.specs.Reading.{variable_in}
 use Rattle.ua_settings.proofs.Plans.{map_twice}
 use Rattle.ua_settings.proofs.reading.variables_of.Goals as goal
 

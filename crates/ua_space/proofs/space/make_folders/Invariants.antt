@@ -1,5 +1,5 @@
 use Rattle.std.proofs.Common.{◌≡◌, take, map}
-use Rattle.ua_space.specs.Plan.{folder_of}
+use Rattle.ua_space.specs.Lent.{folder_of}
 use Rattle.ua_space.proofs.space.make_folders.Given as goal
 
 abbrev pub invariant-loop-plan : goal.invariant-loop-plan

@@ -1,5 +1,5 @@
 use Rattle.std.proofs.Common.{◌≡◌, take, map}
-use Rattle.ua_space.specs.Plan.{variable_of}
+use Rattle.ua_space.specs.Lent.{variable_of}
 use Rattle.ua_space.proofs.space.make_variables.Given as goal
 
 abbrev pub invariant-loop-plan : goal.invariant-loop-plan

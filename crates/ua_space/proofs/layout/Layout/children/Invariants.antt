@@ -1,6 +1,7 @@
 use Rattle.std.proofs.Common.{◌≡◌, ◌++◌, take, map, filter, true}
 use Rattle.ua_space.specs.Space.{node_of, OfVariable}
-use Rattle.ua_space.specs.References.{link_of, organizes, objects_below, holds}
+use Rattle.ua_space.specs.References.{link_of, holds}
+use Rattle.ua_space.proofs.ReferencesParts.{organizes, objects_below}
 use Rattle.ua_space.proofs.layout.Layout.children.Given as goal
 
 abbrev pub invariant-loop-variable : goal.invariant-loop-variable

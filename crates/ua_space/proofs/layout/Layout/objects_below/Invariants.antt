@@ -1,6 +1,7 @@
 use Rattle.std.proofs.Common.{◌≡◌, take, map, true}
 use Rattle.ua_space.specs.Space.{OfFolder}
-use Rattle.ua_space.specs.References.{link_of, organizes}
+use Rattle.ua_space.specs.References.{link_of}
+use Rattle.ua_space.proofs.ReferencesParts.{organizes}
 use Rattle.ua_space.proofs.layout.Layout.objects_below.Given as goal
 
 abbrev pub invariant-loop-folder : goal.invariant-loop-folder

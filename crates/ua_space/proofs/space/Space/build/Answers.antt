@@ -1,6 +1,8 @@
-use Rattle.std.proofs.Common.{sym, ap, subst, length, arith}
+use Rattle.std.proofs.Common.{sym, ap, subst, length, arith, rules}
 use Rattle.std.specs.List.{AllByRecursion}
 use Rattle.ua_space.specs.Space.{IsCountable, HasShortId, HasShortTexts, HasShortName}
+use Rattle.ua_space.specs.declared.fault.BuildFault.TheVariants.{OutOfMemory}
+use Rattle.ua_space.proofs.Planned.{as_planned}
 use Rattle.ua_space.proofs.Short.{judged_short}
 use Rattle.ua_space.proofs.space.Space.build.Goals as goal
 
@@ -18,3 +20,21 @@ invariant_of-result c =
       },
       c.in_ok-places.ensures,
     )
+
+pub returns-in_err-judge : goal.returns-in_err-judge
+returns-in_err-judge c = as_planned c.args.plan.now OutOfMemory _ (search rules)
+
+pub returns-in_err-namespace : goal.returns-in_err-namespace
+returns-in_err-namespace c = as_planned c.args.plan.now OutOfMemory _ (search rules)
+
+pub returns-in_err-folders : goal.returns-in_err-folders
+returns-in_err-folders c = as_planned c.args.plan.now OutOfMemory _ (search rules)
+
+pub returns-in_err-variables : goal.returns-in_err-variables
+returns-in_err-variables c = as_planned c.args.plan.now OutOfMemory _ (search rules)
+
+pub returns-in_err-places : goal.returns-in_err-places
+returns-in_err-places c = as_planned c.args.plan.now OutOfMemory _ (search rules)
+
+pub returns : goal.returns
+returns c = as_planned c.args.plan.now OutOfMemory _ (search rules)

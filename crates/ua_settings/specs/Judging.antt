@@ -1,0 +1,58 @@
+-- What the steps say by which a file is judged.
+use Rattle.std.specs.Prelude.{◌+◌, ◌==◌, ◌&&◌, ℕ, ℤ, pos, negsuc, Bool, false, not, List, [], ◌∷◌, length, codes, nat_eq, nat_le, Option, None, is_some, is_none, option_map}
+use Rattle.std.specs.Option.{option_map_or, option_or}
+use Rattle.std.specs.List.{list_any, count_by}
+use Rattle.std.specs.Cmp.Lexicographic.{pointwise}
+use Rattle.toml.specs.Data.{Members, get_member}
+use Rattle.uuid.specs.Text.{parsed}
+use Rattle.ua_settings.specs.declared.keys.Section.{Section}
+use Rattle.ua_settings.specs.declared.keys.Section.TheVariants.{Document, Archive, Server, User, Folder, Variable}
+use Rattle.ua_settings.specs.declared.keys.Wrong.{Wrong}
+use Rattle.ua_settings.specs.declared.keys.Wrong.TheVariants.{Unknown, Missing, Bad}
+use Rattle.ua_settings.specs.File.{Names, Rule, Spot, fits, is_name, names_in, rules, tables, wrong_key}
+
+-- ---- what a key must hold
+
+abbrev pub test : {A : Type 0} → (A → Bool) → Option A → Bool
+test p given = option_map_or p given false
+
+abbrev pub is_short : List ℕ → Bool
+is_short text = nat_le (length text) 65536
+
+abbrev pub is_user_name : List (List ℕ) → List ℕ → Bool
+is_user_name users name = is_name name && (not (pointwise nat_eq name (codes "anonymous")) && (count_by (pointwise nat_eq name) users == 1))
+
+abbrev pub is_replica : ℤ → Bool
+is_replica v = elim v [ pos n ↦ nat_le 1 n && nat_le n 64 | negsuc n ↦ false ]
+
+abbrev pub is_id : List ℕ → Bool
+is_id text = is_some (parsed text)
+
+-- ---- where a document is wrong
+
+abbrev pub is_key : Section → List ℕ → Bool
+is_key section key = list_any (λ rule. pointwise nat_eq key rule.name) (rules section)
+
+abbrev pub is_missing : Members → Rule → Bool
+is_missing members rule = rule.required && is_none (get_member rule.name members)
+
+abbrev pub is_bad : Names → Members → Rule → Bool
+is_bad names members rule = test (λ value. not (fits names rule.holds value)) (get_member rule.name members)
+
+-- the first wrong key of these tables of a section, of which the first has this number
+abbrev pub wrong_from : Names → Wrong → Section → ℕ → List Members → Option Spot
+wrong_from names wrong section number [] = None
+wrong_from names wrong section number (members ∷ more) =
+    option_or (option_map (λ key. record { section = section; number = number; key = key }) (wrong_key names wrong section members)) (wrong_from names wrong section (number + 1) more)
+
+abbrev pub first_of : {A B : Type 0} → (A → Option B) → List A → Option B
+first_of f [] = None
+first_of f (a ∷ more) = option_or (f a) (first_of f more)
+
+-- the first wrong key of a document
+abbrev pub wrong_at : Members → Wrong → Option Spot
+wrong_at document wrong = first_of (λ section. wrong_from (names_in document) wrong section 1 (tables document section)) (Document ∷ Archive ∷ Server ∷ User ∷ Folder ∷ Variable ∷ [])
+
+-- the first way in which a document is wrong, and where
+abbrev pub first_wrong : Members → Option (Wrong × Spot)
+first_wrong document = first_of (λ wrong. option_map (λ spot. (wrong, spot)) (wrong_at document wrong)) (Unknown ∷ Missing ∷ Bad ∷ [])
