@@ -26,22 +26,6 @@ use Rattle.ua_variant.specs.UpdateType.{update_number}
 use Rattle.records.specs.Spelling.{canonical, version, origin, number, tick, ticks, pico, node, time, asked, user, is_value_for, value, front, parts_of, fields, longest, IsLawfulRecord, IsRecord, HasSpelledParts, record_form, record_at, IsShortRecord}
 use Rattle.records.proofs.SpellingParts.{IsTick, record_of, is_user, asked_of_number}
 
--- ---- a format of formats
-
-pub canonical_lawful : {E A : Type 0} (e : E) {f : Format E A} → IsLawful f → IsLawful (canonical e f)
-canonical_lawful e {f} p = record {
-  found = λ bytes v rest h.
-      let a = bind_ok (f.read bytes) (λ a. cond (bytes_eq bytes (f.canon a.0 ++ a.1)) (Ok a) (Err e)) (v, rest) h in
-      let g = passed_ok (bytes_eq bytes (f.canon a.0.0 ++ a.0.1)) e a.0 (v, rest) a.2 in
-      let x = p.found bytes a.0.0 a.0.1 a.1 in
-      let same = (bytes_eq-Decides bytes (f.canon a.0.0 ++ a.0.1)).0 g.0 in
-      subst (Found (canonical e f) bytes) g.1 (x.0, x.1, (x.2, append_cancel_right x.0 (f.canon a.0.0) a.0.1 (sym x.1 ∙ same)));
-  only = λ front v rest s.
-      let same : bytes_eq (front ++ rest) (f.canon v ++ rest) ≡ true = (bytes_eq-Decides _ _).1 (ap (λ b. b ++ rest) s.1) in
-      rw (p.only front v rest s.0, same) refl;
-  written = λ v fits. (p.written v fits, refl);
-}
-
 -- ---- the fields
 
 time_lawful : IsLawful time

@@ -1,13 +1,42 @@
 -- Names for parts of the definitions in specs/Binary, for the lemmas on these parts.
-use Rattle.std.specs.Prelude.{ℕ, zero, suc, ◌+◌, ℤ, pos, negsuc, List, [], length, Option, Some, None, true, not, nat_lt, ◌==◌, if◌then◌else◌, unwrap_or, is_some, option_map, bit_and}
-use Rattle.std.specs.Option.{option_flatten}
+use Rattle.std.specs.Prelude.{ℕ, zero, suc, ◌+◌, ℤ, pos, negsuc, List, [], length, Option, Some, None, Bool, true, not, nat_lt, ◌==◌, if◌then◌else◌, unwrap_or, is_some, option_map, bit_and}
+use Rattle.std.specs.Option.{option_flatten, option_map_or}
+use Rattle.std.specs.Int.{w16, w32}
+use Rattle.std.specs.Str.{is_utf8}
 use Rattle.ua_binary.specs.declared.fault.BinaryFault.{BinaryFault}
 use Rattle.ua_binary.specs.declared.fault.BinaryFault.TheVariants.{Short, BadLength, BadEncodingByte}
+use Rattle.ua_binary.specs.declared.values.NodeId.{NodeId}
+use Rattle.ua_binary.specs.declared.values.NodeId.TheVariants.{Numeric, Named, Global, Opaque}
 use Rattle.ua_binary.specs.declared.values.LocalizedText.{LocalizedText}
 use Rattle.ua_binary.specs.declared.values.Body.{Body}
 use Rattle.ua_binary.specs.declared.values.Body.TheVariants.{Absent, Binary, Xml}
-use Rattle.ua_binary.specs.Format.{Format, nothing, refused, block, ◌▸◌, chosen, standing_for, flagged, items, at_least}
-use Rattle.ua_binary.specs.Binary.{body, byte_string, text}
+use Rattle.ua_binary.specs.Format.{Format, nothing, refused, byte, block, ◌▸◌, chosen, standing_for, flagged, items, at_least}
+use Rattle.ua_binary.specs.Binary.{unsigned, byte_string, text, guid, guid_of, numbers_of}
+
+-- the bytes, where there are any, are UTF-8
+abbrev pub is_text : Option (List ℕ) → Bool
+is_text given = option_map_or is_utf8 given true
+
+-- the namespace and the id of a node whose id is a text; another has none
+abbrev pub named_parts : NodeId → ℕ × Option (List ℕ)
+named_parts v = elim v [ Named ns name ↦ (ns, Some name) | _ ↦ (0, None) ]
+
+-- the same of one whose id is bytes
+abbrev pub opaque_parts : NodeId → ℕ × Option (List ℕ)
+opaque_parts v = elim v [ Opaque ns id ↦ (ns, Some id) | _ ↦ (0, None) ]
+
+-- the forms of node ids: of namespace 0 in two bytes, in four bytes, of any numbers, and with a Guid
+abbrev pub two_byte_node : Format BinaryFault NodeId
+two_byte_node = standing_for (λ id. Numeric 0 id) (λ v. (numbers_of v).1) byte
+
+abbrev pub four_byte_node : Format BinaryFault NodeId
+four_byte_node = standing_for (λ p. Numeric p.0 p.1) numbers_of (byte ▸ unsigned w16)
+
+abbrev pub numeric_node : Format BinaryFault NodeId
+numeric_node = standing_for (λ p. Numeric p.0 p.1) numbers_of (unsigned w16 ▸ unsigned w32)
+
+abbrev pub global_node : Format BinaryFault NodeId
+global_node = standing_for (λ p. Global p.0 p.1) (λ v. elim v [ Global ns id ↦ (ns, id) | _ ↦ (0, guid_of (0, (0, (0, [])))) ]) (unsigned w16 ▸ guid)
 
 -- 1 for a locale and 2 for a text
 abbrev pub localized_mask : LocalizedText → ℕ

@@ -10,8 +10,8 @@ use Rattle.ua_binary.specs.declared.fault.BinaryFault.{BinaryFault}
 use Rattle.ua_binary.specs.declared.fault.BinaryFault.TheVariants.{BadLength, BadUtf8, BadEncodingByte}
 use Rattle.ua_binary.specs.declared.values.NodeId.TheVariants.{Numeric, Named, Global, Opaque}
 use Rattle.ua_binary.specs.Format.{IsLawful, Format, nothing, refused, byte, block, ◌▸◌, chosen, headed, standing_for, passing, flagged, fitting, raised, ItemsSpelled, items}
-use Rattle.ua_binary.specs.Binary.{unsigned, signed, IsCounted, byte_string, is_text, text, IsText, guid, named_parts, opaque_parts, two_byte_node, four_byte_node, numeric_node, global_node, node_form, node_form_of, IsNodeId, IsShortNode, node_id, localized, IsLocalized, IsShortLocalized, qualified, IsQualified, array}
-use Rattle.ua_binary.proofs.BinaryParts.{localized_fields, counted_items, count_of, counted, localized_mask}
+use Rattle.ua_binary.specs.Binary.{unsigned, signed, IsCounted, byte_string, text, IsText, guid, node_form, node_form_of, IsNodeId, IsShortNode, node_id, localized, IsLocalized, IsShortLocalized, qualified, IsQualified, array}
+use Rattle.ua_binary.proofs.BinaryParts.{is_text, named_parts, opaque_parts, two_byte_node, four_byte_node, numeric_node, global_node, localized_fields, counted_items, count_of, counted, localized_mask}
 
 -- each value that has a spelling is so
 pub record SpellsOnly {E A : Type 0} (f : Format E A) (P : A → Type 0) : Type 0 where

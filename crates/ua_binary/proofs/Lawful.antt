@@ -13,8 +13,8 @@ use Rattle.ua_binary.specs.declared.values.Body.{Body}
 use Rattle.ua_binary.specs.declared.values.Body.TheVariants.{Absent, Binary, Xml}
 use Rattle.ua_binary.specs.declared.values.LocalizedText.{LocalizedText}
 use Rattle.ua_binary.specs.Format.{◌>>=◌, Reading, Format, IsLawful, byte, block, passing, with_fault, items_at}
-use Rattle.ua_binary.specs.Binary.{unsigned, signed, sbyte, ticks, status, boolean, IsCounted, byte_string, is_text, text, IsText, guid, guid_of, IsGuid, node_form, node_form_of, IsNodeId, node_id, localized, IsLocalized, counted_number, count_at, array, qualified, IsQualified, IsExtension, IsBody, body, extension}
-use Rattle.ua_binary.proofs.BinaryParts.{body_form, localized_fields, body_kind, counted_items, count_of, counted, localized_mask}
+use Rattle.ua_binary.specs.Binary.{unsigned, signed, sbyte, ticks, status, boolean, IsCounted, byte_string, text, IsText, guid, guid_of, IsGuid, node_form, node_form_of, IsNodeId, node_id, localized, IsLocalized, counted_number, count_at, array, qualified, IsQualified, IsExtension, IsBody, body, extension}
+use Rattle.ua_binary.proofs.BinaryParts.{is_text, body_form, localized_fields, body_kind, counted_items, count_of, counted, localized_mask}
 use Rattle.ua_binary.proofs.Elements.{IsItemLawful, item}
 use Rattle.ua_binary.proofs.Combined.{nothing_lawful, refused_lawful, byte_lawful, block_lawful, then_lawful, chosen_lawful, headed_lawful, standing_lawful, passing_lawful, flagged_lawful, fitting_lawful, raised_lawful, IsNonEmpty, counted_items_lawful}
 

@@ -1,6 +1,6 @@
 -- The formats of the binary encoding (Part 6, 5.2), one for each built-in type that is spelled.
 use Rattle.std.specs.Prelude.{◌≡◌, ℕ, zero, suc, ◌+◌, ◌*◌, ◌<◌, ◌^◌, ℤ, pos, negsuc, List, [], length, Option, Some, None, Bool, true, not, Ok, Err, nat_lt, ◌==◌, if◌then◌else◌, IfSome, unwrap_or, is_some, option_map, ◌&&◌, bit_and}
-use Rattle.std.specs.Option.{option_copied, option_flatten}
+use Rattle.std.specs.Option.{option_copied, option_flatten, option_map_or}
 use Rattle.std.specs.Int.{Width, w8, w16, w32, w64, byte_len, from_le_bytes, to_le_bytes, cast_signed, cast_unsigned}
 use Rattle.std.specs.Int.RustNames.{FitsSigned}
 use Rattle.std.specs.Str.{is_utf8}
@@ -62,17 +62,13 @@ unfoldable pub byte_string : Format BinaryFault (Option (List ℕ))
 byte_string = fitting IsCounted (headed (λ given. elim given [ None ↦ negsuc 0 | Some bytes ↦ pos (length bytes) ]) (signed w32)
     (λ count. elim count [ pos n ↦ flagged true (block n) | negsuc zero ↦ nothing None | negsuc (suc n) ↦ refused BadLength ]))
 
--- the bytes, where there are any, are UTF-8
-abbrev pub is_text : Option (List ℕ) → Bool
-is_text given = elim given [ None ↦ true | Some bytes ↦ is_utf8 bytes ]
-
 -- few enough bytes to be counted, and UTF-8
 abbrev pub IsText : Option (List ℕ) → Type 0
 IsText v = IfSome v (λ t. (length t < 2 ^ 31) × (is_utf8 t ≡ true))
 
 -- a byte string of UTF-8
 unfoldable pub text : Format BinaryFault (Option (List ℕ))
-text = fitting IsText (passing is_text BadUtf8 byte_string)
+text = fitting IsText (passing (λ given. option_map_or is_utf8 given true) BadUtf8 byte_string)
 
 -- ---- Guid (5.2.2.6)
 
@@ -100,35 +96,16 @@ node_of (lent.Opaque ns id) = Opaque ns id.now
 abbrev pub numbers_of : NodeId → ℕ × ℕ
 numbers_of v = elim v [ Numeric ns id ↦ (ns, id) | _ ↦ (0, 0) ]
 
-abbrev pub named_parts : NodeId → ℕ × Option (List ℕ)
-named_parts id = elim id [ Named ns name ↦ (ns, Some name) | _ ↦ (0, None) ]
-
-abbrev pub opaque_parts : NodeId → ℕ × Option (List ℕ)
-opaque_parts v = elim v [ Opaque ns id ↦ (ns, Some id) | _ ↦ (0, None) ]
-
--- a Byte is the id, in namespace 0
-abbrev pub two_byte_node : Format BinaryFault NodeId
-two_byte_node = standing_for (λ id. Numeric 0 id) (λ v. (numbers_of v).1) byte
-
--- a Byte is the namespace, and a UInt16 the id
-abbrev pub four_byte_node : Format BinaryFault NodeId
-four_byte_node = standing_for (λ p. Numeric p.0 p.1) numbers_of (byte ▸ unsigned w16)
-
--- a UInt16 is the namespace, and a UInt32 the id
-abbrev pub numeric_node : Format BinaryFault NodeId
-numeric_node = standing_for (λ p. Numeric p.0 p.1) numbers_of (unsigned w16 ▸ unsigned w32)
-
--- a UInt16 is the namespace, and a Guid the id
-abbrev pub global_node : Format BinaryFault NodeId
-global_node = standing_for (λ p. Global p.0 p.1) (λ v. elim v [ Global ns id ↦ (ns, id) | _ ↦ (0, guid_of (0, (0, (0, [])))) ]) (unsigned w16 ▸ guid)
-
--- the form that the first byte tells; a String or ByteString behind a namespace is the id too, and a null one is empty
+-- the form that the first byte tells: a Byte as the id, in namespace 0; a Byte and a UInt16, or a UInt16 and a UInt32, as the namespace and the id;
+-- a UInt16 as the namespace, and a String, a Guid or a ByteString as the id, of which a null one is empty
 abbrev pub node_form : ℕ → Format BinaryFault NodeId
 node_form form =
-    chosen (form == 0) two_byte_node (chosen (form == 1) four_byte_node (chosen (form == 2) numeric_node (
-    chosen (form == 3) (standing_for (λ p. Named p.0 (unwrap_or p.1 [])) named_parts (unsigned w16 ▸ text)) (
-    chosen (form == 4) global_node (
-    chosen (form == 5) (standing_for (λ p. Opaque p.0 (unwrap_or p.1 [])) opaque_parts (unsigned w16 ▸ byte_string)) (
+    chosen (form == 0) (standing_for (λ id. Numeric 0 id) (λ v. (numbers_of v).1) byte) (
+    chosen (form == 1) (standing_for (λ p. Numeric p.0 p.1) numbers_of (byte ▸ unsigned w16)) (
+    chosen (form == 2) (standing_for (λ p. Numeric p.0 p.1) numbers_of (unsigned w16 ▸ unsigned w32)) (
+    chosen (form == 3) (standing_for (λ p. Named p.0 (unwrap_or p.1 [])) (λ v. elim v [ Named ns name ↦ (ns, Some name) | _ ↦ (0, None) ]) (unsigned w16 ▸ text)) (
+    chosen (form == 4) (standing_for (λ p. Global p.0 p.1) (λ v. elim v [ Global ns id ↦ (ns, id) | _ ↦ (0, guid_of (0, (0, (0, [])))) ]) (unsigned w16 ▸ guid)) (
+    chosen (form == 5) (standing_for (λ p. Opaque p.0 (unwrap_or p.1 [])) (λ v. elim v [ Opaque ns id ↦ (ns, Some id) | _ ↦ (0, None) ]) (unsigned w16 ▸ byte_string)) (
     refused BadEncodingByte))))))
 
 -- the first byte that is written: of the shortest form

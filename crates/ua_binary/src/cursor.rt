@@ -3,8 +3,9 @@
 ghost use Rattle.std.specs.Prelude.{◌≡◌, ◌≤◌, List, ℕ, option_map, length, MatchOption, true, false};
 ghost use Rattle.std.specs.Option.{option_copied};
 ghost use Rattle.std.specs.Int.{w16, w32, w64};
+ghost use Rattle.std.specs.Str.{is_utf8};
 ghost use Rattle.ua_binary.specs.Format.{Reads, byte, block};
-ghost use Rattle.ua_binary.specs.Binary.{unsigned, signed, sbyte, boolean, byte_string, count_at, text, guid, ticks, status, node_id, node_form, node_of, localized, localized_of, is_text, qualified, qualified_of, body, body_of, extension, extension_of};
+ghost use Rattle.ua_binary.specs.Binary.{unsigned, signed, sbyte, boolean, byte_string, count_at, text, guid, ticks, status, node_id, node_form, node_of, localized, localized_of, qualified, qualified_of, body, body_of, extension, extension_of};
 
 use crate::codes::Status;
 use crate::fault::BinaryFault;
@@ -402,7 +403,7 @@ impl<'a> Cursor<'a> {
 #[tactic(auto, using(crate::proofs::Utf8::tested))]
 #[inline(never)]
 fn utf8(bytes: &[u8]) -> Option<&str>
-    ensures { MatchOption result (is_text (Some bytes.now) ≡ false) (λ s. (s.now ≡ bytes.now) × (is_text (Some s.now) ≡ true)) }
+    ensures { MatchOption result (is_utf8 bytes.now ≡ false) (λ s. (s.now ≡ bytes.now) × (is_utf8 s.now ≡ true)) }
 {
     match str::from_utf8(bytes) {
         Ok(found) => Some(found),
