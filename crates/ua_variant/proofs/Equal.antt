@@ -16,7 +16,7 @@ use Rattle.ua_variant.specs.declared.value.Array.{Array}
 use Rattle.ua_variant.specs.declared.value.Array.TheVariants as many
 use Rattle.ua_variant.specs.declared.value.Variant.{Variant}
 use Rattle.ua_variant.specs.declared.value.Variant.TheVariants as any
-use Rattle.ua_variant.specs.DataValue.{data_of, parts_of}
+use Rattle.ua_variant.proofs.DataValueParts.{data_of, parts_of}
 use Rattle.ua_variant.specs.contracts.value.ScalarPartialEq as scalar
 use Rattle.ua_variant.specs.contracts.value.ArrayPartialEq as array
 use Rattle.ua_variant.specs.contracts.value.VariantPartialEq as variant

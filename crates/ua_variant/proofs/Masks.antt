@@ -11,8 +11,9 @@ use Rattle.ua_variant.specs.declared.value.Variant.{Variant}
 use Rattle.ua_variant.specs.declared.fault.VariantFault.TheVariants.{BadEncodingByte}
 use Rattle.ua_variant.specs.Raise.{variant_fault}
 use Rattle.ua_variant.specs.Variant.{variant}
-use Rattle.ua_variant.specs.DataValue.{flag, IsPicoseconds, picoseconds, has, data_mask, data_of, parts_of, stamps, IsDataValue, data_value}
-use Rattle.ua_variant.proofs.DataValueParts.{data_fields}
+use Rattle.ua_variant.specs.DataValue.{flag, IsPicoseconds, picoseconds, has, data_mask, IsDataValue, data_value}
+use Rattle.ua_variant.specs.StampParts.{stamps}
+use Rattle.ua_variant.proofs.DataValueParts.{data_of, parts_of, data_fields}
 use Rattle.ua_variant.proofs.Lawful.{variant_lawful}
 
 -- ---- masks, all of them tried

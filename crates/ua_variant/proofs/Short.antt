@@ -21,8 +21,8 @@ use Rattle.ua_variant.specs.Values.{values, IsShortValues}
 use Rattle.ua_variant.proofs.ValuesParts.{values_form, many as many_of}
 use Rattle.ua_variant.specs.Variant.{raise, variant, IsVariant, IsShortVariant}
 use Rattle.ua_variant.proofs.VariantParts.{variant_form, variant_number}
-use Rattle.ua_variant.specs.DataValue.{IsPicoseconds, picoseconds, has, data_mask, data_of, parts_of, IsDataValue, data_value, IsShortData}
-use Rattle.ua_variant.proofs.DataValueParts.{data_fields}
+use Rattle.ua_variant.specs.DataValue.{IsPicoseconds, picoseconds, has, data_mask, IsDataValue, data_value, IsShortData}
+use Rattle.ua_variant.proofs.DataValueParts.{data_of, parts_of, data_fields}
 use Rattle.ua_variant.proofs.Lawful.{variant_lawful}
 use Rattle.ua_variant.proofs.Masks.{data_value_lawful}
 

@@ -1,18 +1,14 @@
 -- Data values: a value with its status and its moments (Part 6, 5.2.2.17).
-use Rattle.std.specs.Prelude.{ℕ, ◌+◌, ◌<◌, ◌≤◌, ◌^◌, Bool, not, nat_lt, min, ◌==◌, Option, IfSome, is_some, bit_and, if◌then◌else◌}
+use Rattle.std.specs.Prelude.{ℕ, ◌+◌, ◌<◌, ◌≤◌, ◌^◌, Bool, not, nat_lt, min, ◌==◌, IfSome, is_some, bit_and, if◌then◌else◌}
 use Rattle.std.specs.Int.{w16, w64}
 use Rattle.std.specs.Int.RustNames.{FitsSigned}
 use Rattle.ua_binary.specs.Format.{Format, refused, byte, ◌▸◌, chosen, headed, standing_for, flagged, fitting}
 use Rattle.ua_binary.specs.Binary.{unsigned, ticks, status}
 use Rattle.ua_binary.specs.declared.fault.BinaryFault.{BinaryFault}
-use Rattle.ua_binary.specs.declared.values.Ticks.{Ticks}
-use Rattle.ua_binary.specs.declared.codes.Status.{Status}
 use Rattle.ua_variant.specs.declared.fault.VariantFault.{VariantFault}
 use Rattle.ua_variant.specs.declared.fault.VariantFault.TheVariants.{BadEncodingByte}
 use Rattle.ua_variant.specs.Variant.{raise, variant, IsVariant, IsShortVariant}
-use Rattle.ua_variant.specs.declared.value.Variant.{Variant}
 use Rattle.ua_variant.specs.declared.data.DataValue.{DataValue}
-use Rattle.ua_variant.specs.declared.data.Stamps.{Stamps}
 
 abbrev pub IsPicoseconds : ℕ → Type 0
 IsPicoseconds n = n ≤ 9999
@@ -20,19 +16,6 @@ IsPicoseconds n = n ≤ 9999
 -- steps of 10 ps, less than 100 ns in all; of more, the most is meant
 unfoldable pub picoseconds : Format BinaryFault ℕ
 picoseconds = fitting IsPicoseconds (standing_for (λ n. min n 9999) (λ n. n) (unsigned w16))
-
--- all but the value
-abbrev pub StampParts : Type 0
-StampParts = Option Status × (Option Ticks × (Option ℕ × (Option Ticks × Option ℕ)))
-
-abbrev pub stamps_of : Stamps → StampParts
-stamps_of s = (s.status, (s.source_time, (s.source_pico, (s.server_time, s.server_pico))))
-
-abbrev pub data_of : Option Variant × StampParts → DataValue
-data_of p = record { value = p.0; status = p.1.0; source_time = p.1.1.0; source_pico = p.1.1.1.0; server_time = p.1.1.1.1.0; server_pico = p.1.1.1.1.1 }
-
-abbrev pub parts_of : DataValue → Option Variant × StampParts
-parts_of v = (v.value, (v.status, (v.source_time, (v.source_pico, (v.server_time, v.server_pico)))))
 
 -- a bit of a mask
 abbrev pub has : ℕ → ℕ → Bool
@@ -47,20 +30,19 @@ abbrev pub data_mask : DataValue → ℕ
 data_mask v =
     flag (is_some v.value) 1 + flag (is_some v.status) 2 + flag (is_some v.source_time) 4 + flag (is_some v.source_pico) 16 + flag (is_some v.server_time) 8 + flag (is_some v.server_pico) 32
 
--- those behind the value that a mask names, in this order
-abbrev pub stamps : ℕ → Format BinaryFault StampParts
-stamps mask = flagged (has mask 2) status ▸ flagged (has mask 4) ticks ▸ flagged (has mask 16) picoseconds ▸ flagged (has mask 8) ticks ▸ flagged (has mask 32) picoseconds
-
 -- what has a spelling
 abbrev pub IsDataValue : DataValue → Type 0
 IsDataValue v =
     IfSome v.value IsVariant × IfSome v.status (λ c. c.0 < 2 ^ 32) × IfSome v.source_time (λ t. FitsSigned w64 t.0) × IfSome v.source_pico IsPicoseconds
     × IfSome v.server_time (λ t. FitsSigned w64 t.0) × IfSome v.server_pico IsPicoseconds
 
--- a mask, and what it names, the value first; another bit has no meaning
+-- a mask, and what it names, in this order; another bit has no meaning
 unfoldable pub data_value : Format VariantFault DataValue
-data_value = fitting IsDataValue (headed data_mask (raise byte) (λ mask.
-    chosen (nat_lt 63 mask) (refused BadEncodingByte) (standing_for data_of parts_of (flagged (has mask 1) variant ▸ raise (stamps mask)))))
+data_value = fitting IsDataValue (headed data_mask (raise byte) (λ mask. chosen (nat_lt 63 mask) (refused BadEncodingByte) (standing_for
+    (λ p. record { value = p.0; status = p.1.0; source_time = p.1.1.0; source_pico = p.1.1.1.0; server_time = p.1.1.1.1.0; server_pico = p.1.1.1.1.1 })
+    (λ v. (v.value, (v.status, (v.source_time, (v.source_pico, (v.server_time, v.server_pico))))))
+    (flagged (has mask 1) variant ▸ raise (
+    flagged (has mask 2) status ▸ flagged (has mask 4) ticks ▸ flagged (has mask 16) picoseconds ▸ flagged (has mask 8) ticks ▸ flagged (has mask 32) picoseconds)))))
 
 -- what a writer asks
 abbrev pub IsShortData : DataValue → Type 0

@@ -6,7 +6,8 @@ ghost use Rattle.std.specs.Int.RustNames.{FitsSigned};
 ghost use Rattle.ua_binary.specs.Format.{Puts, PutsPart, Reads, ReadsPart, ReadsUnless, flagged};
 ghost use Rattle.ua_binary.specs.Binary.{ticks, status, unsigned};
 ghost use Rattle.ua_variant.specs.Variant.{variant, IsVariant, IsShortVariant};
-ghost use Rattle.ua_variant.specs.DataValue.{stamps, stamps_of, picoseconds, IsPicoseconds, flag, data_mask, data_value, IsDataValue, IsShortData};
+ghost use Rattle.ua_variant.specs.DataValue.{picoseconds, IsPicoseconds, flag, data_mask, data_value, IsDataValue, IsShortData};
+ghost use Rattle.ua_variant.specs.StampParts.{stamps, stamps_of};
 ghost use Rattle.ua_variant.specs.declared.data.DataValue.{DataValue as Data};
 
 use crate::fault::VariantFault;
