@@ -14,7 +14,8 @@ use Rattle.ua_variant.specs.Variant.{IsShortVariant}
 use Rattle.records.specs.declared.record.Record.{Record}
 use Rattle.ua_variant.specs.declared.update_type.HistoryUpdateType.{HistoryUpdateType}
 use Rattle.records.specs.Moments.{ticks_of}
-use Rattle.records.specs.Spelling.{time, asked, user, front, value, parts_of, fields, longest, HasLimits, IsLawfulRecord}
+use Rattle.records.specs.Spelling.{time, front, fields, longest, HasLimits, IsLawfulRecord}
+use Rattle.records.specs.SpellingParts.{asked, user, value, parts_of}
 
 time_length : (t : ℤ) → length (time.canon t) ≡ 10
 unfolding time Rattle.ua_binary.specs.Binary.signed Rattle.ua_binary.specs.Binary.unsigned

@@ -10,7 +10,7 @@ use Rattle.std.proofs.lemmas.List.{append_cancel_right}
 use Rattle.stamp.specs.Limits.{greatest}
 use Rattle.ua_binary.specs.Format.{Format, IsLawful, ◌▸◌, standing_for, passing, raised, whole}
 use Rattle.ua_binary.specs.Binary.{IsCounted, node_id, text}
-use Rattle.ua_binary.proofs.Combined.{bind_ok, passed_ok, Found, byte_lawful, then_lawful, standing_lawful, passing_lawful, fitting_lawful, raised_lawful}
+use Rattle.ua_binary.proofs.Combined.{bind_ok, passed_ok, byte_lawful, then_lawful, standing_lawful, passing_lawful, canonical_lawful, fitting_lawful, raised_lawful}
 use Rattle.ua_binary.proofs.Lawful.{u16_lawful, u64_lawful, i64_lawful, node_id_lawful, text_lawful}
 use Rattle.ua_binary.proofs.Spelled.{whole_found, whole_only}
 use Rattle.ua_binary.proofs.Counted.{SpellsOnly, any_only, then_only, standing_only, passing_only, raised_only, text_only, node_id_only, read_only}
@@ -23,7 +23,8 @@ use Rattle.records.specs.declared.fault.RecordFault.TheVariants.{Binary, BadFiel
 use Rattle.records.specs.Fault.{binary_fault}
 use Rattle.records.specs.Moments.{ticks_of, pico_of, ticks_again, whole_again, pico_within}
 use Rattle.ua_variant.specs.UpdateType.{update_number}
-use Rattle.records.specs.Spelling.{canonical, version, origin, number, tick, ticks, pico, node, time, asked, user, is_value_for, value, front, parts_of, fields, longest, IsLawfulRecord, IsRecord, HasSpelledParts, record_form, record_at, IsShortRecord}
+use Rattle.records.specs.SpellingParts.{version, origin, number, tick, ticks, pico, node, asked, user, value, parts_of}
+use Rattle.records.specs.Spelling.{time, is_value_for, front, fields, longest, IsLawfulRecord, IsRecord, HasSpelledParts, record_form, record_at, IsShortRecord}
 use Rattle.records.proofs.SpellingParts.{IsTick, record_of, is_user, asked_of_number}
 
 -- ---- the fields

@@ -5,7 +5,7 @@ use Rattle.records.specs.declared.record.Record.{Record}
 use Rattle.ua_variant.specs.declared.update_type.HistoryUpdateType.{HistoryUpdateType}
 use Rattle.ua_variant.specs.declared.update_type.HistoryUpdateType.TheVariants.{Insert, Replace, Update, Delete}
 use Rattle.stamp.specs.Limits.{greatest}
-use Rattle.records.specs.Spelling.{Front}
+use Rattle.records.specs.SpellingParts.{Front}
 
 abbrev pub asked_of_number : ℕ → HistoryUpdateType
 asked_of_number n = if n == 1 then Insert else if n == 2 then Replace else if n == 3 then Update else Delete

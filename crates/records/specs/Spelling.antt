@@ -4,9 +4,10 @@ use Rattle.std.specs.Int.{w16, w64}
 use Rattle.std.specs.Int.RustNames.{FitsSigned}
 use Rattle.std.specs.Str.{is_utf8, bytes_eq}
 use Rattle.stamp.specs.Limits.{greatest, IsReplica}
-use Rattle.ua_binary.specs.Format.{Format, byte, ◌▸◌, standing_for, passing, fitting, raised, whole, ◌>>=◌}
+use Rattle.ua_binary.specs.Format.{Format, byte, ◌▸◌, standing_for, passing, canonical, fitting, raised, whole, ◌>>=◌}
 use Rattle.ua_binary.specs.Binary.{unsigned, signed, text, node_id, IsNodeId, IsShortNode}
 use Rattle.ua_binary.specs.declared.values.NodeId.{NodeId}
+use Rattle.ua_binary.specs.declared.fault.BinaryFault.{BinaryFault}
 use Rattle.ua_variant.specs.UpdateType.{update_number}
 use Rattle.ua_variant.specs.declared.data.DataValue.{DataValue}
 use Rattle.ua_variant.specs.DataValue.{data_value, IsDataValue, IsShortData, IsPicoseconds}
@@ -19,83 +20,45 @@ use Rattle.records.specs.Fault.{binary_fault, value_fault}
 use Rattle.records.specs.Records.{is_delete}
 use Rattle.records.specs.Moments.{moment, ticks_of, pico_of}
 
--- ---- two formats of formats
-
--- the spelling that is written, and no other; another is this fault
-abbrev pub canonical : {E A : Type 0} → E → Format E A → Format E A
-canonical e f = record {
-  Spells = λ bytes v. f.Spells bytes v × (bytes ≡ f.canon v);
-  read = λ bytes. f.read bytes >>= λ a. if bytes_eq bytes (f.canon a.0 ++ a.1) then Ok a else Err e;
-  canon = f.canon;
-  Fits = f.Fits;
-}
-
 -- ---- the fields
 
--- the format's number
-abbrev pub version : Format RecordFault ℕ
-version = passing (λ n. n == 2) BadField (raised binary_fault byte)
-
-abbrev pub origin : Format RecordFault ℕ
-origin = passing (λ n. nat_le 1 n && nat_le n 64) BadField (raised binary_fault byte)
-
-abbrev pub number : Format RecordFault ℕ
-number = passing (λ n. nat_le 1 n && nat_le n greatest) BadField (raised binary_fault (unsigned w64))
-
-abbrev pub tick : Format RecordFault ℤ
-tick = passing (λ t. int_le (pos 1) t && int_le t (pos greatest)) BadField (raised binary_fault (signed w64))
-
-abbrev pub node : Format RecordFault NodeId
-node = raised binary_fault node_id
-
-abbrev pub ticks : Format RecordFault ℤ
-ticks = passing (λ t. int_le (pos 1) t) BadField (raised binary_fault (signed w64))
-
-abbrev pub pico : Format RecordFault ℕ
-pico = passing (λ n. nat_le n 9999) BadField (raised binary_fault (unsigned w16))
+-- a field of the binary encoding that passes its test
+abbrev pub field : {A : Type 0} → (A → Bool) → Format BinaryFault A → Format RecordFault A
+field test f = passing test BadField (raised binary_fault f)
 
 -- a moment: its ticks, and then its picoseconds
 unfoldable pub time : Format RecordFault ℤ
-time = standing_for (λ p. moment p.0 p.1) (λ t. (ticks_of t, pico_of t)) (ticks ▸ pico)
+time = standing_for (λ p. moment p.0 p.1) (λ t. (ticks_of t, pico_of t)) (field (λ t. int_le (pos 1) t) (signed w64) ▸ field (λ n. nat_le n 9999) (unsigned w16))
 
-abbrev pub asked : Format RecordFault HistoryUpdateType
-asked = standing_for (λ n. if n == 1 then Insert else if n == 2 then Replace else if n == 3 then Update else Delete) update_number
-    (passing (λ n. nat_le 1 n && nat_le n 4) BadField (raised binary_fault byte))
-
--- a text that isn't null, of at most 256 bytes
-abbrev pub user : Format RecordFault (List ℕ)
-user = standing_for (λ name. unwrap_or name []) Some (passing (λ given. elim given [ None ↦ false | Some name ↦ nat_le (length name) 256 ]) BadField (raised binary_fault text))
+-- what stands before the value
+abbrev pub front : Format RecordFault (ℕ × (ℕ × (ℕ × (ℤ × (NodeId × (ℤ × (HistoryUpdateType × List ℕ)))))))
+front =
+    -- the format's number
+    field (λ n. n == 2) byte
+    -- origin, number and tick
+    ▸ field (λ n. nat_le 1 n && nat_le n 64) byte
+    ▸ field (λ n. nat_le 1 n && nat_le n greatest) (unsigned w64)
+    ▸ field (λ t. int_le (pos 1) t && int_le t (pos greatest)) (signed w64)
+    -- the node and the source time
+    ▸ raised binary_fault node_id ▸ time
+    -- what was asked
+    ▸ standing_for (λ n. if n == 1 then Insert else if n == 2 then Replace else if n == 3 then Update else Delete) update_number (field (λ n. nat_le 1 n && nat_le n 4) byte)
+    -- who asked: a text that isn't null, of at most 256 bytes
+    ▸ standing_for (λ name. unwrap_or name []) Some (field (λ given. elim given [ None ↦ false | Some name ↦ nat_le (length name) 256 ]) text)
 
 -- a delete has the empty value; a write has one without source time, which is the record's
 abbrev pub is_value_for : HistoryUpdateType → DataValue → Bool
 is_value_for asked v = if is_delete asked then not (is_some v.value || is_some v.status || is_some v.source_time || is_some v.source_pico || is_some v.server_time || is_some v.server_pico) else not (is_some v.source_time)
 
-abbrev pub value : Format RecordFault DataValue
-value = raised value_fault data_value
-
--- what stands before the value
-abbrev pub Front : Type 0
-Front = ℕ × (ℕ × (ℕ × (ℤ × (NodeId × (ℤ × (HistoryUpdateType × List ℕ))))))
-
--- what was updated, and who asked
-abbrev pub update : Format RecordFault (NodeId × (ℤ × (HistoryUpdateType × List ℕ)))
-update = node ▸ time ▸ asked ▸ user
-
-abbrev pub front : Format RecordFault Front
-front = version ▸ origin ▸ number ▸ tick ▸ update
-
 -- a value with nothing in it, that of a delete
 abbrev pub empty : DataValue
 empty = record { value = None; status = None; source_time = None; source_pico = None; server_time = None; server_pico = None }
-
-abbrev pub parts_of : Record → Front × DataValue
-parts_of r = ((2, (r.origin, (r.number, (r.tick, (r.node, (r.time, (r.asked, r.user))))))), r.value)
 
 -- the fields one after the other, in any of their spellings
 unfoldable pub fields : Format RecordFault Record
 fields = passing (λ r. is_value_for r.asked r.value) BadField (standing_for
     (λ p. record { origin = p.0.1.0; number = p.0.1.1.0; tick = p.0.1.1.1.0; node = p.0.1.1.1.1.0; time = p.0.1.1.1.1.1.0; asked = p.0.1.1.1.1.1.1.0; user = p.0.1.1.1.1.1.1.1; value = p.1 })
-    parts_of (front ▸ value))
+    (λ r. ((2, (r.origin, (r.number, (r.tick, (r.node, (r.time, (r.asked, r.user))))))), r.value)) (front ▸ raised value_fault data_value))
 
 -- ---- the record
 

@@ -4,7 +4,8 @@ ghost use Rattle.std.specs.Prelude.{◌≡◌, ◌≤◌, IfOk};
 ghost use Rattle.ua_binary.specs.Binary.{node_of};
 ghost use Rattle.ua_binary.specs.Format.{Reads, ReadsPart};
 ghost use Rattle.records.specs.declared.fault.RecordFault.TheVariants as fault;
-ghost use Rattle.records.specs.Spelling.{version, origin, number, tick, ticks, pico, time, asked, user, front};
+ghost use Rattle.records.specs.Spelling.{time, front};
+ghost use Rattle.records.specs.SpellingParts.{version, origin, number, tick, ticks, pico, asked, user};
 
 use crate::fault::RecordFault;
 use crate::moment::Moment;
@@ -137,7 +138,7 @@ struct Update<'a> {
 }
 
 impl<'a> Update<'a> {
-    ghost use Rattle.records.specs.Spelling.{update};
+    ghost use Rattle.records.specs.SpellingParts.{update};
 
     /// An error leaves the cursor anywhere.
     fn read(cursor: &mut Cursor<'a>) -> Result<Update<'a>, RecordFault>
