@@ -1,5 +1,5 @@
 -- The format of continuation points is lawful.
-use Rattle.std.proofs.Common.{◌≡◌, ℕ, ◌<◌, ◌^◌, nat_lt, nat_le, ℤ, pos, ◌≤ℤ◌, int_le, Bool, true, false, cond, Option, Some, None, ltb, inl, inr, ◌++◌, refl, sym, ap, arith, ◌&&◌, ◌==◌, List}
+use Rattle.std.proofs.Common.{◌≡◌, ℕ, ◌<◌, ◌^◌, nat_lt, nat_le, ℤ, pos, ◌≤ℤ◌, int_le, Bool, true, false, cond, Option, Some, None, ltb, inl, inr, ◌++◌, refl, sym, ap, arith, ◌&&◌, ◌==◌}
 use Rattle.std.proofs.lemmas.Bool.Decides.{nat_tests}
 use Rattle.std.proofs.lemmas.Bool.{le-leb, cases_Bool, eqb-true, ltb-true}
 use Rattle.std.proofs.lemmas.Int.{ints}
@@ -10,10 +10,10 @@ use Rattle.ua_binary.specs.declared.fault.BinaryFault.{BinaryFault}
 use Rattle.ua_binary.specs.declared.fault.BinaryFault.TheVariants.{BadEncodingByte, BadLength}
 use Rattle.ua_binary.specs.declared.values.NodeId.{NodeId}
 use Rattle.ua_binary.specs.declared.values.NodeId.TheVariants.{Numeric, Named, Global, Opaque}
-use Rattle.ua_binary.specs.Format.{Format, IsLawful, byte, chosen}
-use Rattle.ua_binary.specs.Binary.{unsigned, signed, ticks, text, byte_string, guid, IsNodeId, IsShortNode, node_form, node_form_of, node_id}
-use Rattle.ua_binary.proofs.Combined.{byte_lawful, block_lawful, refused_lawful, then_lawful, chosen_lawful, headed_lawful, standing_lawful, passing_lawful, fitting_lawful, raised_lawful}
-use Rattle.ua_binary.proofs.Lawful.{u16_lawful, u32_lawful, i64_lawful, ticks_lawful, text_lawful, byte_string_lawful, guid_lawful}
+use Rattle.ua_binary.specs.Format.{IsLawful, canonical}
+use Rattle.ua_binary.specs.Binary.{unsigned, signed, boolean, ticks, IsNodeId, IsShortNode, node_form_of, node_id}
+use Rattle.ua_binary.proofs.Combined.{byte_lawful, block_lawful, refused_lawful, then_lawful, chosen_lawful, headed_lawful, standing_lawful, passing_lawful, canonical_lawful, fitting_lawful, raised_lawful}
+use Rattle.ua_binary.proofs.Lawful.{u16_lawful, u32_lawful, i64_lawful, boolean_lawful, ticks_lawful, text_lawful, byte_string_lawful, guid_lawful, node_id_lawful}
 use Rattle.records.specs.Moments.{moment, ticks_of, pico_of, whole_again, pico_within}
 use Rattle.hist_read.specs.Asking.{first_time}
 use Rattle.hist_read.specs.declared.point.Phase.{Phase}
@@ -23,18 +23,11 @@ use Rattle.ua_services.specs.declared.history.ReadRawModifiedDetails.{ReadRawMod
 use Rattle.stamp.specs.Vector.{vector}
 use Rattle.stamp.proofs.Lawful.{vector_lawful}
 use Rattle.ua_services.specs.History.{raw_of, raw_fields}
-use Rattle.hist_read.specs.Point.{flag, short_form, short_node, IsDetails, details, phase, time, stamp, IsStamp, stamp_of, are_stamp, IsPosition, position, number_of_phase, IsPoint, Point, point}
+use Rattle.hist_read.specs.Point.{IsDetails, details, phase, time, stamp, IsStamp, IsPosition, position, IsPoint, Point, point}
+use Rattle.hist_read.specs.PointReading.{short_form, short_node, number_of_phase, are_stamp, stamp_of, of_fields, fields_of, short_point}
 use Rattle.hist_read.proofs.PointParts.{stamp_fields}
 
--- ---- spellings of which there is one
-
-flag_again : (b : Bool) → ((cond b 1 0 < 2 ^ 8) × (nat_lt (cond b 1 0) 2 ≡ true)) × (b ≡ (cond b 1 0 == 1))
-flag_again true = ((omega arith, refl), refl)
-flag_again false = ((omega arith, refl), refl)
-
-pub flag_lawful : IsLawful flag
-unfolding flag
-flag_lawful = fitting_lawful _ (λ b _. flag_again b) (standing_lawful _ _ (passing_lawful _ BadEncodingByte byte_lawful))
+-- ---- nodes as they are read
 
 short_form_lawful : (form : ℕ) → IsLawful (short_form form)
 short_form_lawful form =
@@ -46,45 +39,19 @@ short_form_lawful form =
     chosen_lawful (form == 5) (standing_lawful _ _ (then_lawful u16_lawful (passing_lawful _ BadLength byte_string_lawful)))
     (refused_lawful BadEncodingByte))))))
 
-abbrev ShortFits : NodeId → ℕ → Type 0
-ShortFits v form = (form < 2 ^ 8) × (short_form form).Fits v
-
-both_hold : (a b : Bool) → (a && b) ≡ true → (a ≡ true) × (b ≡ true)
-both_hold true b e = (refl, e)
-both_hold false b e = absurd cc
-
-numeric_fits : (ns id : ℕ) → ns < 2 ^ 16 → id < 2 ^ 32 → ShortFits (Numeric ns id) (node_form_of (Numeric ns id))
-unfolding unsigned
-numeric_fits ns id p q = elim (cases_Bool (ns == 0 && ltb id 256)) [
-  | inl t ↦
-      let h = both_hold (ns == 0) (ltb id 256) t in
-      let none : ns ≡ 0 = eqb-true ns 0 h.0 in
-      rw t (omega arith, (ltb-true id 256 h.1, ap (λ n. Numeric n id) none))
-  | inr f ↦ elim (cases_Bool (ltb ns 256 && ltb id 65536)) [
-    | inl t ↦
-        let h = both_hold (ltb ns 256) (ltb id 65536) t in
-        rw (f, t) (omega arith, (((ltb-true ns 256 h.0, ltb-true id 65536 h.1), refl), rw (f, t) refl))
-    | inr g ↦ rw (f, g) (omega arith, (((p, q), refl), rw (f, g) refl))
-  ]
-]
-
-short_fits : (v : NodeId) → IsNodeId v → ShortFits v (node_form_of v)
-unfolding unsigned text byte_string guid
-short_fits (Numeric ns id) h = numeric_fits ns id h.0 h.1
-short_fits (Named ns name) h = (omega arith, ((h.0, ((h.1, h.2), refl)), refl))
-short_fits (Global ns id) h = (omega arith, ((h.0, h.1), refl))
-short_fits (Opaque ns id) h = (omega arith, ((h.0, (h.1, refl)), refl))
-
 pub short_node_lawful : IsLawful short_node
 unfolding short_node
-short_node_lawful = fitting_lawful IsNodeId short_fits (headed_lawful node_form_of short_form byte_lawful short_form_lawful)
+short_node_lawful = headed_lawful node_form_of short_form byte_lawful short_form_lawful
 
 -- ---- the parts
 
+boolean_as_written : IsLawful (canonical BadEncodingByte boolean)
+boolean_as_written = canonical_lawful BadEncodingByte boolean_lawful
+
 pub details_lawful : IsLawful details
-unfolding details flag ticks unsigned
+unfolding details boolean ticks unsigned
 details_lawful = fitting_lawful IsDetails (λ v h. ((tt, (h.0, (h.1, (h.2, tt)))), refl))
-    (standing_lawful raw_of raw_fields (then_lawful flag_lawful (then_lawful ticks_lawful (then_lawful ticks_lawful (then_lawful u32_lawful flag_lawful)))))
+    (standing_lawful raw_of raw_fields (then_lawful boolean_as_written (then_lawful ticks_lawful (then_lawful ticks_lawful (then_lawful u32_lawful boolean_as_written)))))
 
 phase_fits : (p : Phase) → ((number_of_phase p < 2 ^ 8) × ((nat_le 1 (number_of_phase p) && nat_le (number_of_phase p) 2) ≡ true)) × (p ≡ cond (number_of_phase p == 1) Near Body)
 phase_fits Near = ((omega arith, refl), refl)
@@ -135,36 +102,17 @@ unfolding position phase time stamp unsigned
 position_lawful = fitting_lawful IsPosition (λ v h. ((tt, ((h.0, h.1), (h.2, h.3))), refl))
     (standing_lawful position_of position_fields (then_lawful phase_lawful (then_lawful time_lawful (then_lawful stamp_lawful u32_lawful))))
 
-abbrev of_fields : ℕ × (List ℕ × (NodeId × (Details × (Position × List ℕ)))) → Point
-of_fields fields = record { archive = fields.1.0; node = fields.1.1.0; details = fields.1.1.1.0; position = fields.1.1.1.1.0; vector = fields.1.1.1.1.1 }
-
-abbrev fields_of : Point → ℕ × (List ℕ × (NodeId × (Details × (Position × List ℕ))))
-fields_of p = (3, (p.archive, (p.node, (p.details, (p.position, p.vector)))))
-
 pub point_lawful : IsLawful point
-unfolding point short_node details position vector
+unfolding point node_id details position vector
 point_lawful = fitting_lawful IsPoint (λ v h. (((((omega arith, refl), (h.archive, (h.node, (h.details, (h.position, h.vector))))), refl)), h.suits))
-    (passing_lawful _ BadEncodingByte (standing_lawful of_fields fields_of (then_lawful (passing_lawful _ BadEncodingByte byte_lawful) (then_lawful (block_lawful 16) (then_lawful short_node_lawful (then_lawful details_lawful (then_lawful position_lawful (raised_lawful _ vector_lawful))))))))
+    (passing_lawful _ BadEncodingByte (standing_lawful of_fields fields_of (then_lawful (passing_lawful _ BadEncodingByte byte_lawful) (then_lawful (block_lawful 16) (then_lawful (canonical_lawful BadEncodingByte node_id_lawful) (then_lawful details_lawful (then_lawful position_lawful (raised_lawful _ vector_lawful))))))))
 
-pub ruleset lawful = (point_lawful, short_node_lawful)
+pub short_point_lawful : IsLawful short_point
+unfolding short_point
+short_point_lawful =
+    passing_lawful _ BadEncodingByte (standing_lawful of_fields fields_of (then_lawful (passing_lawful _ BadEncodingByte byte_lawful) (then_lawful (block_lawful 16) (then_lawful short_node_lawful (then_lawful details_lawful (then_lawful position_lawful (raised_lawful _ vector_lawful)))))))
 
--- what is written of a node is its shortest form
-pub short_written : (v : NodeId) → short_node.canon v ≡ node_id.canon v
-unfolding short_node node_id
-short_written v = ap (λ bytes. byte.canon (node_form_of v) ++ bytes) (same (node_form_of v) v)
-  where
-    same_chosen : (b : Bool) (f g h k : Format BinaryFault NodeId) (v : NodeId) → f.canon v ≡ g.canon v → h.canon v ≡ k.canon v → (chosen b f h).canon v ≡ (chosen b g k).canon v
-    same_chosen true f g h k v p q = p
-    same_chosen false f g h k v p q = q
-
-    same : (form : ℕ) (v : NodeId) → (short_form form).canon v ≡ (node_form form).canon v
-    same form v =
-        same_chosen (form == 0) _ _ _ _ v refl (
-        same_chosen (form == 1) _ _ _ _ v refl (
-        same_chosen (form == 2) _ _ _ _ v refl (
-        same_chosen (form == 3) _ _ _ _ v refl (
-        same_chosen (form == 4) _ _ _ _ v refl (
-        same_chosen (form == 5) _ _ _ _ v refl refl)))))
+pub ruleset lawful = (point_lawful)
 
 -- a node that has a spelling is short enough to be written
 pub short_id : (v : NodeId) → IsNodeId v → IsShortNode v
@@ -173,4 +121,4 @@ short_id (Named ns name) h = h.1
 short_id (Global ns id) h = tt
 short_id (Opaque ns id) h = h.1
 
-pub ruleset written = (short_written, short_id)
+pub ruleset written = (short_id)

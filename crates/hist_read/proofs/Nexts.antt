@@ -23,7 +23,8 @@ use Rattle.archive.proofs.Timing.{has_from_get, current_from}
 use Rattle.archive.proofs.Turning.{has_from_flat_map, has_from_reverse, has-in_direction}
 use Rattle.hist_read.specs.Asking.{is_given, has_both, first_time, origin_time, direction}
 use Rattle.records.specs.Moments.{moment}
-use Rattle.hist_read.specs.Point.{IsNext, is_given_for}
+use Rattle.hist_read.specs.Point.{IsNext}
+use Rattle.hist_read.specs.PointReading.{is_given_for}
 use Rattle.hist_read.specs.Reads.{greatest_time, nearest_from, value_or_missing, near, item_time, is_near_alone, limit_at, is_past_any, in_body, body, body_part, values, far, last_time, time_before, before_far, raw, modified, place_at, given_before, page_size, is_spent, page, given_after, raw_position, modified_position, next_place}
 use Rattle.hist_read.proofs.ReadsParts.{near_part, goes_on, lives_in, far_part}
 use Rattle.ua_services.specs.declared.history.ReadRawModifiedDetails.{ReadRawModifiedDetails as Details}

@@ -29,7 +29,8 @@ use Rattle.hist_read.specs.declared.query.Query.{Query}
 use Rattle.hist_read.specs.declared.item.Item.{Item}
 use Rattle.hist_read.specs.declared.point.Position.{Position}
 use Rattle.hist_read.specs.Asking.{is_given, has_both, origin_time, direction}
-use Rattle.hist_read.specs.Point.{Point, point, IsDetails, IsPosition, IsPoint, IsNext, is_given_for, suits, is_phase_for, is_stamp_for}
+use Rattle.hist_read.specs.Point.{Point, point, IsDetails, IsPosition, IsPoint, IsNext, suits}
+use Rattle.hist_read.specs.PointReading.{is_given_for, is_phase_for, is_stamp_for}
 use Rattle.hist_read.specs.Reads.{greatest_time, in_body, in_body_of, is_from, last_within, body, near, far, values, last_time, is_past_any, raw, modified}
 use Rattle.hist_read.proofs.ReadsParts.{lives_in}
 use Rattle.hist_read.specs.Node.{Behind, is_enough, judged, place_in, point_at, page_result, page_from, refused}

@@ -1,5 +1,6 @@
 pub mod Asking
 pub mod Point
+pub mod PointReading
 pub mod Reads
 pub mod Pages
 pub mod Finding

@@ -3,10 +3,11 @@
 
 ghost use Rattle.std.specs.Prelude.{◌≡◌, ◌⊎◌, ◌↔◌, IsTrue, IfOk, IfSome, length, pos, ◌≤ℤ◌, option_map, Ok, Err, if◌then◌else◌};
 ghost use Rattle.hist_read.specs.Asking.{first_time};
-ghost use Rattle.ua_binary.specs.Format.{block, raised, Reads, Puts, PutsPart};
-ghost use Rattle.ua_binary.specs.Binary.{node_of, IsNodeId};
+ghost use Rattle.ua_binary.specs.Format.{block, canonical, raised, Reads, Puts, PutsPart};
+ghost use Rattle.ua_binary.specs.Binary.{boolean, node_of, IsNodeId};
 ghost use Rattle.ua_binary.specs.declared.fault.BinaryFault.TheVariants as fault;
-ghost use Rattle.hist_read.specs.Point.{flag, short_form, short_node, is_phase_for, is_stamp_for, is_given_for, suits, are_stamp, stamp_of, number_of_phase, phase, time, stamp, details, position, IsStamp, IsPosition, IsPoint, point_of, point_in, point};
+ghost use Rattle.hist_read.specs.Point.{suits, phase, time, stamp, details, position, IsStamp, IsPosition, IsPoint, point_of, point_in, point};
+ghost use Rattle.hist_read.specs.PointReading.{short_form, short_node, short_point, is_phase_for, is_stamp_for, is_given_for, are_stamp, stamp_of, number_of_phase};
 ghost use Rattle.stamp.specs.Numbers.{IsVector};
 ghost use Rattle.stamp.specs.Vector.{vector};
 
@@ -54,9 +55,9 @@ pub struct Place<'a> {
 }
 
 /// A Boolean whose byte is 0 or 1.
-#[tactic(auto, unfolding(crate::specs::Point::flag))]
+#[tactic(auto, using(crate::proofs::Tight::boolean_read))]
 fn read_flag(cursor: &mut Cursor<'_>) -> Result<bool, BinaryFault>
-    ensures { Reads (λ v. v) result cursor.old cursor.new flag.read }
+    ensures { Reads (λ v. v) result cursor.old cursor.new (canonical fault.BadEncodingByte boolean).read }
 {
     let mut next = cursor.fork();
     let byte = next.u8()?;
@@ -119,7 +120,7 @@ fn read_opaque<'a>(cursor: &mut Cursor<'a>) -> Result<NodeIdRef<'a>, BinaryFault
 }
 
 /// A node id in its shortest form, whose text or byte id isn't null.
-#[tactic(auto, unfolding(crate::specs::Point::short_node))]
+#[tactic(auto, unfolding(crate::specs::PointReading::short_node))]
 fn read_node<'a>(cursor: &mut Cursor<'a>) -> Result<NodeIdRef<'a>, BinaryFault>
     ensures { Reads node_of result cursor.old cursor.new short_node.read }
 {
@@ -366,9 +367,9 @@ impl Place<'_> {
 }
 
 /// Reads a continuation point's fields, in front of whatever follows.
-#[tactic(auto, unfolding(crate::specs::Point::point))]
+#[tactic(auto, unfolding(crate::specs::PointReading::short_point))]
 fn read_place<'a>(cursor: &mut Cursor<'a>) -> Result<Place<'a>, BinaryFault>
-    ensures reads { Reads point_of result cursor.old cursor.new point.read }
+    ensures reads { Reads point_of result cursor.old cursor.new short_point.read }
     ensures late { IfOk result (λ v. first_time ≤ℤ v.position.time) }
 {
     let mut next = cursor.fork();
@@ -417,7 +418,6 @@ fn read_archive(cursor: &mut Cursor<'_>) -> Result<Uuid, BinaryFault>
 
 /// The continuation point that all of the bytes spell, format 3; `None` where they spell none. It takes
 /// no memory: the node stays in the bytes, and the vector is held inline.
-#[tactic(auto, unfolding(crate::specs::Point::point))]
 pub fn read_continuation(bytes: &[u8]) -> Option<Place<'_>>
     ensures told { option_map point_of result ≡ point_in bytes.now }
     ensures late { IfSome result (λ p. first_time ≤ℤ p.position.time) }
@@ -432,7 +432,7 @@ pub fn read_continuation(bytes: &[u8]) -> Option<Place<'_>>
     Some(place)
 }
 
-#[tactic(auto, using(ua_binary::proofs::Kept::kept), unfolding(crate::specs::Point::details, crate::specs::Point::flag, ua_binary::specs::Binary::boolean))]
+#[tactic(auto, using(ua_binary::proofs::Kept::kept), unfolding(crate::specs::Point::details, ua_binary::specs::Binary::boolean))]
 fn put_details_parts(out: &mut Vec<u8>, v: &ReadRawModifiedDetails) -> Result<(), BinaryFault>
     ensures { PutsPart fault.OutOfMemory result out.old.items out.new.items (details.canon v.now) }
 {
