@@ -1,11 +1,12 @@
 //! The command line.
 
-ghost use Rattle.std.specs.Prelude.{◌≡◌, [], map, IfOk, OnErr, IsErrOf, None, true, false};
+ghost use Rattle.std.specs.Prelude.{◌≡◌, [], map, IfOk, OnErr, IsErrOf, None, true, false, codes};
 ghost use Rattle.clap.specs.Words.{app_of, rule_of, rows_of, found_of, subcommand_of, subcommand_rows_of};
 ghost use Rattle.clap.specs.declared.builder.command.Command.TheViews.{out-Command};
 ghost use Rattle.clap.specs.Takes.{takes};
 ghost use Rattle.clap.specs.Faults.{fault_of as fault_kinds};
-ghost use Rattle.command_line.specs.Line.{IsAnswer, IsServe, IsDump, IsSync, IsLine, NoLine, IsNoCommand, answer, connections, dump, now, peer, serve, servers, settings, sync, uahist};
+ghost use Rattle.command_line.specs.Line.{IsLine, option, uahist};
+ghost use Rattle.command_line.specs.Parts.{IsAnswer, IsServe, IsDump, IsSync, NoLine, answer, connections, dump, now, serve, servers, sync};
 
 use clap::builder::ValueParser;
 use clap::error::ErrorKind;
@@ -97,7 +98,7 @@ fn now_option<'a>(alloc: Global) -> Arg<'a>
 
 /// The option `--settings FILE`.
 fn settings_option<'a>(alloc: Global) -> Arg<'a>
-    ensures rule { rule_of result ≡ settings }
+    ensures rule { rule_of result ≡ option (codes "settings") }
     ensures local { result.global ≡ false }
 {
     Arg::new(alloc, "settings")
@@ -156,7 +157,7 @@ fn dump_command<'a>(alloc: Global) -> Result<Command<'a>, AllocError>
 
 /// The option `--peer ADDRESS`.
 fn peer_option<'a>(alloc: Global) -> Arg<'a>
-    ensures rule { rule_of result ≡ peer }
+    ensures rule { rule_of result ≡ option (codes "peer") }
     ensures local { result.global ≡ false }
 {
     Arg::new(alloc, "peer").long("peer").action(ArgAction::Set)
@@ -264,7 +265,7 @@ fn read_sync<'a>(sync: &ArgMatches<'a>) -> Result<Line<'a>, LineFault>
 /// Reads the command that the matches name.
 fn read_matches<'a>(matches: &ArgMatches<'a>) -> Result<Line<'a>, LineFault>
     ensures ok { IfOk result (IsLine (subcommand_rows_of matches.now)) }
-    ensures words { OnErr result (IsNoCommand (subcommand_rows_of matches.now)) }
+    ensures words { OnErr result (NoLine (IsLine (subcommand_rows_of matches.now))) }
 {
     if let Some(answer) = matches.subcommand_matches("answer") {
         return read_answer(answer);
@@ -288,7 +289,7 @@ fn read_matches<'a>(matches: &ArgMatches<'a>) -> Result<Line<'a>, LineFault>
 pub fn read_line<'a, S: AsStr>(alloc: Global, words: &'a [S]) -> Result<Line<'a>, LineFault>
     ensures ok { IfOk result (IsLine (subcommand_of uahist (map S.text words.now))) }
     ensures taken { IfOk result (λ line. fault_kinds uahist (map S.text words.now) ≡ []) }
-    ensures words { IsErrOf result LineFault.Words → takes uahist (map S.text words.now) ≡ true → IsNoCommand (subcommand_of uahist (map S.text words.now)) }
+    ensures words { IsErrOf result LineFault.Words → takes uahist (map S.text words.now) ≡ true → NoLine (IsLine (subcommand_of uahist (map S.text words.now))) }
 {
     let Ok(command) = command(alloc) else {
         return Err(LineFault::OutOfMemory);

@@ -1,6 +1,7 @@
 use Rattle.std.proofs.Common.{◌≡◌, List, map, ◌∙◌, subst, sym, true}
 use Rattle.clap.specs.Words.{App, Text, app_of, subcommand_of}
-use Rattle.command_line.specs.Line.{IsNoCommand, uahist}
+use Rattle.command_line.specs.Line.{IsLine, uahist}
+use Rattle.command_line.specs.Parts.{NoLine}
 use Rattle.command_line.specs.declared.line.LineFault.{LineFault}
 use Rattle.command_line.specs.declared.line.LineFault.TheVariants.{Words}
 use Rattle.clap.specs.Takes.{takes}
@@ -9,7 +10,7 @@ use Rattle.clap.specs.declared.error.ErrorKind.TheVariants.{OutOfMemory}
 use Rattle.command_line.proofs.line.read_line.Goals as goal
 
 refused : (a b : App) (words : List Text) (fault : LineFault) (kind : ErrorKind) → a ≡ b → (takes a words ≡ true → kind ≡ OutOfMemory) → (fault ≡ Words → kind ≡ OutOfMemory → ⊥)
-    → fault ≡ Words → takes b words ≡ true → IsNoCommand (subcommand_of b words)
+    → fault ≡ Words → takes b words ≡ true → NoLine (IsLine (subcommand_of b words))
 refused a b words fault kind same passes told is taken =
     let P : App → Type 0 = λ x. takes x words ≡ true in
     absurd (told is (passes (subst P (sym same) taken)))

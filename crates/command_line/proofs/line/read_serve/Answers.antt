@@ -6,7 +6,8 @@ use Rattle.std.specs.declared.num.ParseIntError.{ParseIntError}
 use Rattle.clap.specs.Matches.{TriesOne, first_value}
 use Rattle.clap.specs.Words.{Row, Text, first_of, found_of, one_of, one_text, rows_of}
 use Rattle.clap.proofs.WalkLemmas.{first_value-rows, one_text-rows}
-use Rattle.command_line.specs.Line.{IsCount, IsServe, NoLine}
+use Rattle.command_line.specs.Parts.{IsServe, NoLine}
+use Rattle.command_line.proofs.Lines.{of-value}
 use Rattle.command_line.specs.declared.line.Line.TheVariants.{Answer, Serve, Dump, Sync}
 use Rattle.command_line.proofs.line.read_serve.Goals as goal
 
@@ -16,14 +17,16 @@ gives text r = ParsesUnsigned 32 10 text r × ExplainsUnsignedError 10 text r ×
 
 -- the number that was read is the one that the text spells
 count_of : (text : Text) (result : Result (Option ℕ) ParseIntError) (count : Option ℕ) → TriesOne gives text result → result ≡ Ok count
-    → (unwrap_or count 4294967295 ≡ digits_value 10 (without_leading_plus text)) × IsNumeral 10 (without_leading_plus text) × (digits_value 10 (without_leading_plus text) < 2 ^ 32)
-count_of text (Ok (Some v)) count tries is = let same : count ≡ Some v = cc in (ap (λ o. unwrap_or o 4294967295) same ∙ tries.0.1, tries.0.0.0, tries.0.0.1)
+    → ParsesUnsigned {E = ParseIntError} 32 10 text (Ok (unwrap_or count 4294967295))
+count_of text (Ok (Some v)) count tries is = let same : count ≡ Some v = cc in (tries.0.0, ap (λ o. unwrap_or o 4294967295) same ∙ tries.0.1)
 count_of text (Ok None) count tries is = absurd tries
 count_of text (Err e) count tries is = absurd cc
 
 -- and where none could be read, the text spells none, so no line of `serve` has it
 not_counted : (rows : List Row) (text : Text) → one_of (codes "connections") rows ≡ Some text → (IsNumeral 10 (without_leading_plus text) × (digits_value 10 (without_leading_plus text) < 2 ^ 32) → ⊥) → NoLine (IsServe rows)
-not_counted rows text is spells_none (Serve path count) h = let k = h.1.given text is in spells_none (k.1, k.2)
+not_counted rows text is spells_none (Serve path count) h =
+    let P : Option Text → Type 0 = λ given. elim given [ None ↦ count ≡ 4294967295 | Some text ↦ ParsesUnsigned {E = ParseIntError} 32 10 text (Ok count) ] in
+    spells_none (subst P is h.1).0
 not_counted rows text is spells_none (Answer path flag reading) h = h
 not_counted rows text is spells_none (Dump path) h = h
 not_counted rows text is spells_none (Sync path address) h = h
@@ -56,12 +59,12 @@ returns-in_default-clause-words c =
 pub returns-in-Ok-clause-ok : goal.returns-in-Ok-clause-ok
 returns-in-Ok-clause-ok c =
     let found = found_of c.args.serve.now in
-    let count : IsCount (codes "connections") (rows_of found) c.unwrap_or.result = record {
-      given = λ text e.
-          let k = count_of text c.try_get_one.result c.in-Ok.connections (c.try_get_one.ensures.value text (one_text-rows found (codes "connections") ∙ e)) c.in-Ok.is in
-          (c.unwrap_or.ensures ∙ k.0, k.1, k.2);
-      absent = λ e. c.unwrap_or.ensures ∙ none_of c.try_get_one.result c.in-Ok.connections (c.try_get_one.ensures.none (one_text-rows found (codes "connections") ∙ e)) c.in-Ok.is;
-    } in
+    let IsGiven : Text → Type 0 = λ text. ParsesUnsigned {E = ParseIntError} 32 10 text (Ok c.unwrap_or.result) in
+    let absent : one_of (codes "connections") (rows_of found) ≡ None → c.unwrap_or.result ≡ 4294967295 =
+    λ e. c.unwrap_or.ensures ∙ none_of c.try_get_one.result c.in-Ok.connections (c.try_get_one.ensures.none (one_text-rows found (codes "connections") ∙ e)) c.in-Ok.is in
+    let given : (text : Text) → one_of (codes "connections") (rows_of found) ≡ Some text → IsGiven text =
+    λ text e. let k = count_of text c.try_get_one.result c.in-Ok.connections (c.try_get_one.ensures.value text (one_text-rows found (codes "connections") ∙ e)) c.in-Ok.is in (k.0, c.unwrap_or.ensures ∙ k.1) in
+    let count = of-value (one_of (codes "connections") (rows_of found)) (c.unwrap_or.result ≡ 4294967295) IsGiven absent given in
     (sym (first_value-rows found (codes "settings")) ∙ mapped _ c.get_str.result (Some c.in-Some.settings) (first_value found (codes "settings")) c.get_str.ensures c.in-Some.is, count)
 
 pub returns-in-Err-clause-words : goal.returns-in-Err-clause-words
