@@ -1,12 +1,11 @@
 -- The format of continuation points is lawful.
-use Rattle.std.proofs.Common.{◌≡◌, ℕ, ◌<◌, ◌^◌, nat_lt, nat_le, ℤ, pos, ◌≤ℤ◌, int_le, Bool, true, false, cond, Option, Some, None, ltb, inl, inr, ◌++◌, refl, sym, ap, arith, ◌&&◌, ◌==◌}
+use Rattle.std.proofs.Common.{◌≡◌, ℕ, ◌<◌, ◌^◌, nat_le, ℤ, pos, ◌≤ℤ◌, int_le, true, false, cond, Option, Some, None, refl, sym, arith, ◌&&◌, ◌==◌}
 use Rattle.std.proofs.lemmas.Bool.Decides.{nat_tests}
-use Rattle.std.proofs.lemmas.Bool.{le-leb, cases_Bool, eqb-true, ltb-true}
+use Rattle.std.proofs.lemmas.Bool.{le-leb}
 use Rattle.std.proofs.lemmas.Int.{ints}
 use Rattle.std.specs.Int.{w64}
 use Rattle.std.specs.Int.RustNames.{FitsSigned}
 use Rattle.stamp.specs.declared.stamps.Stamp.{Stamp}
-use Rattle.ua_binary.specs.declared.fault.BinaryFault.{BinaryFault}
 use Rattle.ua_binary.specs.declared.fault.BinaryFault.TheVariants.{BadEncodingByte, BadLength}
 use Rattle.ua_binary.specs.declared.values.NodeId.{NodeId}
 use Rattle.ua_binary.specs.declared.values.NodeId.TheVariants.{Numeric, Named, Global, Opaque}
@@ -19,11 +18,10 @@ use Rattle.hist_read.specs.Asking.{first_time}
 use Rattle.hist_read.specs.declared.point.Phase.{Phase}
 use Rattle.hist_read.specs.declared.point.Phase.TheVariants.{Near, Body}
 use Rattle.hist_read.specs.declared.point.Position.{Position}
-use Rattle.ua_services.specs.declared.history.ReadRawModifiedDetails.{ReadRawModifiedDetails as Details}
 use Rattle.stamp.specs.Vector.{vector}
 use Rattle.stamp.proofs.Lawful.{vector_lawful}
 use Rattle.ua_services.specs.History.{raw_of, raw_fields}
-use Rattle.hist_read.specs.Point.{IsDetails, details, phase, time, stamp, IsStamp, IsPosition, position, IsPoint, Point, point}
+use Rattle.hist_read.specs.Point.{IsDetails, details, phase, time, stamp, IsStamp, IsPosition, position, IsPoint, point}
 use Rattle.hist_read.specs.PointReading.{short_form, short_node, number_of_phase, are_stamp, stamp_of, of_fields, fields_of, short_point}
 use Rattle.hist_read.proofs.PointParts.{stamp_fields}
 

@@ -8,12 +8,12 @@ use Rattle.std.specs.Int.{Width, w16, w32, from_le_bytes, to_le_bytes, cast_sign
 use Rattle.std.proofs.lemmas.Int.{of_z-to_z}
 use Rattle.std.proofs.lemmas.Nat.{le_bytes_2, le_bytes_4}
 use Rattle.ua_binary.specs.declared.fault.BinaryFault.{BinaryFault}
-use Rattle.ua_binary.specs.declared.fault.BinaryFault.TheVariants.{BadLength, BadUtf8, BadEncodingByte}
-use Rattle.ua_binary.specs.Format.{◌>>=◌, Reading, Format, IsLawful, canonical, whole, nothing, refused, byte, block, ◌▸◌, chosen, headed, standing_for, passing, flagged}
+use Rattle.ua_binary.specs.declared.fault.BinaryFault.TheVariants.{BadLength, BadEncodingByte}
+use Rattle.ua_binary.specs.Format.{◌>>=◌, Reading, Format, IsLawful, canonical, whole, nothing, refused, byte, block, ◌▸◌, headed, standing_for, passing, flagged}
 use Rattle.ua_binary.specs.Binary.{unsigned, signed, byte_string, boolean, text, guid, guid_of, numbers_of, node_form, node_form_of, node_id}
 use Rattle.ua_binary.specs.declared.values.NodeId.{NodeId}
 use Rattle.ua_binary.specs.declared.values.NodeId.TheVariants.{Numeric, Named, Global, Opaque}
-use Rattle.ua_binary.proofs.BinaryParts.{is_text, counted, count_of, two_byte_node, four_byte_node, numeric_node, global_node, named_parts, opaque_parts}
+use Rattle.ua_binary.proofs.BinaryParts.{counted, count_of, two_byte_node, four_byte_node, numeric_node, global_node, named_parts, opaque_parts}
 use Rattle.hist_read.specs.Point.{Point, point, point_in}
 use Rattle.hist_read.specs.PointReading.{short_form, short_node, short_point}
 use Rattle.hist_read.proofs.Lawful.{point_lawful, short_point_lawful}

@@ -1,5 +1,5 @@
 -- A continuation point as bytes, format 3: the byte 3, archive, node, what was asked, the place where the page ended, and the vector of the first page (Part 4, 7.9).
-use Rattle.std.specs.Prelude.{◌≡◌, ℕ, ◌^◌, ◌<◌, nat_lt, nat_le, ◌==◌, ℤ, pos, ◌≤ℤ◌, int_le, Bool, true, not, ◌&&◌, List, [], length, Option, Some, None, is_some, IfSome, if◌then◌else◌}
+use Rattle.std.specs.Prelude.{◌≡◌, ℕ, ◌^◌, ◌<◌, nat_lt, nat_le, ◌==◌, ℤ, pos, ◌≤ℤ◌, int_le, Bool, true, not, ◌&&◌, List, length, Option, Some, None, is_some, IfSome, if◌then◌else◌}
 use Rattle.std.specs.Option.{option_map_or}
 use Rattle.std.specs.Result.{result_ok}
 use Rattle.std.specs.Ordering.{int_eq}

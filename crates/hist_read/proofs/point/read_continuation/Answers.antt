@@ -1,4 +1,4 @@
-use Rattle.std.proofs.Common.{rules, ◌≡◌, ◌∙◌}
+use Rattle.std.proofs.Common.{rules, ◌∙◌}
 use Rattle.hist_read.specs.Point.{point_of}
 use Rattle.hist_read.proofs.Tight.{from_small, none_told, some_told}
 use Rattle.hist_read.proofs.point.read_continuation.Goals as goal
