@@ -27,7 +27,7 @@ histories_by id space release nodes R result = elim result [ Err status ↦ give
 
 -- one step for the memory of the node's id, and then the read of the node
 abbrev pub history_by : List ℕ → Query → Bool → HistoryReadFields → Content → Result (Unit {0}) Status → Marked (HistoryReadResult × Content)
-history_by id query release item R result = and_then (elim result [ Err status ↦ give (Some status) | Ok _ ↦ memory ]) (λ reason.
+history_by id query release item R result = and_then {A = Option Status} (elim result [ Err status ↦ give (Some status) | Ok _ ↦ memory ]) (λ reason.
     elim reason [ Some status ↦ give (refused status, R) | None ↦ and_then (read_node id item.0 query item.1.1.1 R) (λ p. give (released release p.0, p.1)) ])
 
 abbrev pub read_by : Layout → Ticks → Option TimestampsToReturn → List ReadFields → Content → Served

@@ -113,7 +113,7 @@ released release result = if release && not (nat_le 2147483648 result.status.0) 
 
 abbrev pub read_history_of : List ℕ → Layout → Query → Bool → HistoryReadFields → Content → Marked (HistoryReadResult × Content)
 read_history_of id space query release item R =
-    and_then (elim (checked (history_rules space item)) [ Err status ↦ give (Some status) | Ok _ ↦ memory ]) (λ reason.
+    and_then {A = Option Status} (elim (checked (history_rules space item)) [ Err status ↦ give (Some status) | Ok _ ↦ memory ]) (λ reason.
     elim reason [ Some status ↦ give (refused status, R) | None ↦ and_then (read_node id item.0 query item.1.1.1 R) (λ p. give (released release p.0, p.1)) ])
 
 -- what is read of each node, or why the whole is refused
