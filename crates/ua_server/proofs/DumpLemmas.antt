@@ -32,7 +32,9 @@ use Rattle.ua_server.specs.declared.dumps.DumpFault.{DumpFault}
 use Rattle.ua_server.specs.declared.dumps.DumpFault.TheVariants as dump
 use Rattle.counted_io.specs.Bytes.{AppendsPart}
 use Rattle.counted_io.proofs.Parts.{part-first, part-second}
-use Rattle.ua_server.specs.Dumping.{line_of, lines_of, IsDumped, Dumps, IsSoFar, Dumping}
+use Rattle.ua_server.specs.Dumping.{lines_of, Dumps, IsSoFar, Dumping}
+use Rattle.ua_server.specs.Parts.{line_of}
+use Rattle.ua_server.proofs.DumpingParts.{IsDumped}
 
 vec-append : (xs ys : List Record) (o : ℕ) → vec (xs ++ ys) o ≡ max (vec xs o) (vec ys o)
 vec-append [] ys o = omega arith

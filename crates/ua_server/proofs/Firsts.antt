@@ -1,5 +1,5 @@
 -- The first bytes of a connection.
-use Rattle.std.proofs.Common.{◌≡◌, ◌<◌, ◌≤◌, ◌+◌, ℕ, Bool, true, false, List, [], ◌++◌, take, length, refl, subst, arith}
+use Rattle.std.proofs.Common.{◌≡◌, ◌<◌, ◌≤◌, ◌+◌, ℕ, Bool, true, false, List, [], ◌++◌, take, length, refl, subst, arith, inl, inr}
 use Rattle.ua_server.specs.declared.either.Ended.TheVariants.{Client, Peer}
 use Rattle.std.specs.Result.{result_map_both}
 use Rattle.std.specs.Prelude.{Option, Result, Err}
@@ -16,7 +16,7 @@ use Rattle.ua_connection.specs.Client.{Ending}
 use Rattle.ua_connection.specs.Given.{Outside}
 use Rattle.ua_peers.specs.Peers.{MeetsBehind, responding}
 use Rattle.ua_connection.specs.Serving.{ServesBehind}
-use Rattle.ua_server.specs.Either.{Ends, AreFirst, GoesAs}
+use Rattle.ua_server.proofs.EitherParts.{Ends, AreFirst, GoesAs}
 use Rattle.ua_connection.proofs.Outsides.{nothing}
 
 -- a piece behind those that were read before
@@ -32,13 +32,11 @@ breaks-off a unread left old ending (came, few, read) is = (came, few, read, ref
 -- a peer's, and a client's
 pub goes-as-peer : (settings : Values) (a b : Store) (first : List ℕ) (rest left old new : Option (List ℕ)) (peers : Bool) (ending : Ends) → peers ≡ true
     → ((parted : Result Parted ServeFault) × (ending ≡ result_map_both Peer (λ fault. fault) parted) × MeetsBehind responding a b first rest left old new parted) → GoesAs peers settings a b first rest left old new nothing ending
-goes-as-peer settings a b first rest left old new true ending is (parted, ends, meets) = (parted, ends, refl, meets)
-goes-as-peer settings a b first rest left old new false ending is met = absurd (cc)
+goes-as-peer settings a b first rest left old new peers ending is (parted, ends, meets) = inl (is, (parted, ends, refl, meets))
 
 pub goes-as-client : (settings : Values) (a b : Store) (first : List ℕ) (rest left old new : Option (List ℕ)) (used : Outside) (peers : Bool) (ending : Ends) → peers ≡ false
     → ((served : Ending) × (ending ≡ result_map_both Client (λ fault. fault) served) × ServesBehind settings a b first rest left old new used served) → GoesAs peers settings a b first rest left old new used ending
-goes-as-client settings a b first rest left old new used true ending is met = absurd (cc)
-goes-as-client settings a b first rest left old new used false ending is met = met
+goes-as-client settings a b first rest left old new used peers ending is met = inr (is, met)
 
 -- three bytes were read, or all
 pub are-first : (unread rest : Option (List ℕ)) (letters : List ℕ) (n : ℕ) → length letters ≡ 3 → n ≤ 3 → Consumes unread rest (take n letters) → (n < 3 → IsAtEnd rest) → AreFirst unread rest (take n letters)

@@ -6,3 +6,5 @@ pub mod Firsts
 pub mod Updated
 pub mod ProgramParts
 pub mod TellingParts
+pub mod DumpingParts
+pub mod EitherParts

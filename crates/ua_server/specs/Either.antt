@@ -15,28 +15,16 @@ use Rattle.ua_connection.specs.Given.{Outside}
 use Rattle.ua_peers.specs.Peers.{MeetsBehind, responding}
 use Rattle.ua_connection.specs.Serving.{ServesBehind}
 
--- how a connection ended, whosever it was
-abbrev pub Ends : Type 0
-Ends = Result Ended ServeFault
-
 -- a peer's connection begins with the letters of a frame that asks or brings
 abbrev pub is_peers : List ℕ → Bool
 is_peers first = begins first (codes "RXV") || begins first (codes "RXD")
 
--- three bytes were read, or all where there are fewer
-abbrev pub AreFirst : (unread left : Option (List ℕ)) → List ℕ → Type 0
-AreFirst unread left first = Consumes unread left first × (length first ≤ 3) × (length first < 3 → IsAtEnd left)
-
--- behind these bytes a dialog with a peer was had, as the end that answers; or a client was served
-abbrev pub GoesAs : (peers : Bool) → Values → (old new : Store) → (first : List ℕ) → (unread left before after : Option (List ℕ)) → Outside → Ends → Type 0
-GoesAs true settings old new first unread left before after used ending =
-    (parted : Result Parted ServeFault) × (ending ≡ result_map_both Peer (λ fault. fault) parted) × (used ≡ record { marks = []; readings = [] }) × MeetsBehind responding old new first unread left before after parted
-GoesAs false settings old new first unread left before after used ending =
-    (served : Ending) × (ending ≡ result_map_both Client (λ fault. fault) served) × ServesBehind settings old new first unread left before after used served
-
--- a connection broke off: a read failed before three bytes were there, nothing was written, and nothing done; or it went as its first three
--- letters say
-abbrev pub ServesEither : Values → (old new : Store) → (unread left before after : Option (List ℕ)) → Outside → Ends → Type 0
+-- A connection broke off: a read failed before three bytes were there, nothing was written, and nothing done. Or three bytes were read, or all where there
+-- are fewer, and as they say a dialog with a peer was had behind them, as the end that answers, or a client was served.
+abbrev pub ServesEither : Values → (old new : Store) → (unread left before after : Option (List ℕ)) → Outside → Result Ended ServeFault → Type 0
 ServesEither settings old new unread left before after used ending =
     ((came : List ℕ) × (length came < 3) × Consumes unread left came × (after ≡ before) × Stays old new × Passes old new [] × (used ≡ record { marks = []; readings = [] }) × (ending ≡ Err Read))
-    ⊎ ((first : List ℕ) × (between : Option (List ℕ)) × AreFirst unread between first × GoesAs (is_peers first) settings old new first between left before after used ending)
+    ⊎ ((first : List ℕ) × (between : Option (List ℕ)) × Consumes unread between first × (length first ≤ 3) × (length first < 3 → IsAtEnd between)
+    × (((is_peers first ≡ true) × ((parted : Result Parted ServeFault) × (ending ≡ result_map_both Peer (λ fault. fault) parted) × (used ≡ record { marks = []; readings = [] })
+    × MeetsBehind responding old new first between left before after parted))
+    ⊎ ((is_peers first ≡ false) × ((served : Ending) × (ending ≡ result_map_both Client (λ fault. fault) served) × ServesBehind settings old new first between left before after used served))))

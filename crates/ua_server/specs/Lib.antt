@@ -3,3 +3,4 @@ pub mod Either
 pub mod Network
 pub mod Dumping
 pub mod Program
+pub mod Parts

@@ -4,70 +4,58 @@ use Rattle.std.specs.Net.Grammar.{IsSocketText}
 use Rattle.std.specs.declared.net.socket_addr.SocketAddr.{SocketAddr}
 use Rattle.archive.specs.Store.{Store}
 use Rattle.ua_settings.specs.Settings.{Values}
+use Rattle.counted_io.specs.declared.fault.ServeFault.{ServeFault}
 use Rattle.counted_io.specs.declared.fault.ServeFault.TheVariants.{Read, Write}
 use Rattle.ua_server.specs.declared.program.ProgramFault.{ProgramFault}
 use Rattle.ua_server.specs.declared.program.ProgramFault.TheVariants.{Address, Connection}
-use Rattle.ua_server.specs.Either.{Ends, ServesEither}
+use Rattle.ua_server.specs.declared.either.Ended.{Ended}
+use Rattle.ua_server.specs.Either.{ServesEither}
 use Rattle.ua_connection.specs.Given.{Outside}
 use Rattle.counted_io.specs.Tally.{Tally, HasCounted}
 use Rattle.ua_server.specs.Telling.{IsTold, error_lines}
 
--- how a listener gives connections and takes them back, and a clock its readings; and what is known of what a client writes, of what it reads, and of
--- what an archive holds
-pub record Means (L R W A C : Type 0) : Type 1 where
-  pub accepted : L → Option (R × W) → L → Type 0
-  pub closed : L → Tally R → Tally W → L → Type 0
-  pub gave : C → List ℤ → C → Type 0
+-- how connections come, and are given back with their failed calls; and what is known of what their other end writes, and of what it reads
+pub record Wires (S R W : Type 0) : Type 1 where
+  pub comes : S → Option (R × W) → S → Type 0
+  pub closed : S → Tally R → Tally W → S → Type 0
   pub unread : R → Option (List ℕ)
   pub written : W → Option (List ℕ)
-  pub held : A → Store
 
 -- what connections come from, the archive that they are served over, and the clock
 abbrev pub Around : Type 0 → Type 0 → Type 0 → Type 0
 Around S A C = record { source : S; archive : A; clock : C }
 
--- a connection that came, a client's or a peer's, was served over what the archive held, and was given back with its failed calls, of which there is one just where it ended by that
-pub record IsServedTo {L R W A C : Type 0} (means : Means L R W A C) (settings : Values) (reader : R) (writer : W) (between : L) (old new : Around L A C) (ending : Ends) : Type 0 where
-  pub read : Tally R
-  pub wrote : Tally W
-  pub used : Outside
-  pub serves : ServesEither settings (means.held old.archive) (means.held new.archive) (means.unread reader) (means.unread read.inner) (means.written writer) (means.written wrote.inner) used ending
-  pub timed : means.gave old.clock used.readings new.clock
-  pub reads : HasCounted (ending ≡ Err Read) read
-  pub writes : HasCounted (ending ≡ Err Write) wrote
-  pub given_back : means.closed between read wrote new.source
+-- this was done with a connection, and its failed calls were counted, of which there is one just where it ended by that
+abbrev pub Counts : {R W : Type 0} → (ended_by : ServeFault → Type 0) → (done : Tally R → Tally W → Type 0) → Type 0
+Counts {R} {W} ended_by done = (read : Tally R) × (wrote : Tally W) × HasCounted (ended_by Read) read × HasCounted (ended_by Write) wrote × done read wrote
 
--- what was done with what came; where nothing came that is a fault of reading
-abbrev pub Takes : {L R W A C : Type 0} → Means L R W A C → Values → Option (R × W) → L → Around L A C → Around L A C → Ends → Type 0
-Takes means settings None between old new ending = (ending ≡ Err Read) × (new ≡ record old { source = between })
-Takes means settings (Some (reader, writer)) between old new ending = IsServedTo means settings reader writer between old new ending
+-- the next connection was waited for, a client's or a peer's, served over what the archive held, and given back, and it ended so; that none came is a fault of reading
+abbrev pub Connects : {L R W A C : Type 0} → Wires L R W → (C → List ℤ → C → Type 0) → (A → Store) → Values → Around L A C → Around L A C → Result Ended ServeFault → Type 0
+Connects {L} {R} {W} wires gave held settings old new ending = (came : Option (R × W)) × (between : L) × wires.comes old.source came between × elim came [
+  | None ↦ (ending ≡ Err Read) × (new ≡ record old { source = between })
+  | Some (reader, writer) ↦ (used : Outside) × gave old.clock used.readings new.clock
+      × Counts (λ fault. ending ≡ Err fault) (λ read wrote. wires.closed between read wrote new.source
+      × ServesEither settings (held old.archive) (held new.archive) (wires.unread reader) (wires.unread read.inner) (wires.written writer) (wires.written wrote.inner) used ending)
+]
 
--- the next connection was waited for, and it ended so
-abbrev pub Connects : {L R W A C : Type 0} → Means L R W A C → Values → Around L A C → Around L A C → Ends → Type 0
-Connects {L} {R} {W} means settings old new ending = (came : Option (R × W)) × (between : L) × means.accepted old.source came between × Takes means settings came between old new ending
+-- So many connections were served, each over what the one before it left, and of each end it was told: nothing, or of a fault its line, or a first part of that
+-- where it can't be written.
+abbrev pub ServesEach : {L R W A C E : Type 0} → Wires L R W → (C → List ℤ → C → Type 0) → (A → Store) → (E → Option (List ℕ)) → Values → ℕ → Around L A C → Tally E → Around L A C → Tally E → Type 0
+ServesEach wires gave held told settings zero old before new after = (new ≡ old) × (after ≡ before)
+ServesEach {L} {R} {W} {A} {C} {E} wires gave held told settings (suc more) old before new after =
+    (middle : Around L A C) × (soon : Tally E) × (ending : Result Ended ServeFault) × Connects wires gave held settings old middle ending
+    × (elim ending [ Ok ended ↦ soon ≡ before | Err fault ↦ IsTold told before soon (error_lines (Connection fault)) ]) × ServesEach wires gave held told settings more middle soon new after
 
--- what is told of an end: nothing, or of a fault its line, or a first part of that where it can't be written
-abbrev pub Tells : {E : Type 0} → (E → Option (List ℕ)) → Ends → Tally E → Tally E → Type 0
-Tells told v old new = elim v [ Ok ended ↦ new ≡ old | Err fault ↦ IsTold told old new (error_lines (Connection fault)) ]
-
--- so many connections were served, each over what the one before it left, and of each end it was told
-abbrev pub ServesEach : {L R W A C E : Type 0} → Means L R W A C → (E → Option (List ℕ)) → Values → ℕ → Around L A C → Tally E → Around L A C → Tally E → Type 0
-ServesEach means told settings zero old before new after = (new ≡ old) × (after ≡ before)
-ServesEach {L} {R} {W} {A} {C} {E} means told settings (suc more) old before new after =
-    (middle : Around L A C) × (meanwhile : Tally E) × (ending : Ends)
-    × Connects means settings old middle ending × Tells told ending before meanwhile × ServesEach means told settings more middle meanwhile new after
-
--- the text is no address, or nothing can listen there
-abbrev pub IsUnheard : {N L : Type 0} → (N → SocketAddr → Option L → N → Type 0) → List ℕ → N → N → Type 0
-IsUnheard listened text old new =
-    (((address : SocketAddr) → IsSocketText text address → ⊥) × (new ≡ old))
-    ⊎ ((address : SocketAddr) × IsSocketText text address × listened old address None new)
+-- the text is no address, or nothing was had there
+abbrev pub IsUnheard : {N L : Type 0} → (SocketAddr → Option L → N → Type 0) → List ℕ → N → N → Type 0
+IsUnheard had text old new = (((address : SocketAddr) → IsSocketText text address → ⊥) × (new ≡ old)) ⊎ ((address : SocketAddr) × IsSocketText text address × had address None new)
 
 -- so many connections were served that came to the address of the settings; else it is refused, and nothing else was done
-abbrev pub Listens : {N L R W A C E : Type 0} → Means L R W A C → (N → SocketAddr → Option L → N → Type 0) → (E → Option (List ℕ)) → Values → ℕ → Around N A C → Tally E → Around N A C → Tally E → Result (Unit {0}) ProgramFault → Type 0
-Listens {N} {L} means listened told settings count old before new after (Ok done) =
+abbrev pub Listens : {N L R W A C E : Type 0} → Wires L R W → (C → List ℤ → C → Type 0) → (A → Store) → (N → SocketAddr → Option L → N → Type 0) → (E → Option (List ℕ)) → Values → ℕ → Around N A C → Tally E → Around N A C → Tally E → Result (Unit {0}) ProgramFault → Type 0
+Listens {N} {L} wires gave held listened told settings count old before new after (Ok done) =
     (address : SocketAddr) × IsSocketText settings.listen address × ((first : L) × (last : L) × listened old.source address (Some first) new.source
-    × ServesEach means told settings count (record { source = first; archive = old.archive; clock = old.clock }) before (record { source = last; archive = new.archive; clock = new.clock }) after)
-Listens means listened told settings count old before new after (Err Address) =
-    IsUnheard listened settings.listen old.source new.source × (new.archive ≡ old.archive) × (new.clock ≡ old.clock) × (after ≡ before)
-Listens means listened told settings count old before new after (Err fault) = ⊥
+    × ServesEach wires gave held told settings count (record { source = first; archive = old.archive; clock = old.clock }) before
+    (record { source = last; archive = new.archive; clock = new.clock }) after)
+Listens wires gave held listened told settings count old before new after (Err Address) =
+    IsUnheard (listened old.source) settings.listen old.source new.source × (new.archive ≡ old.archive) × (new.clock ≡ old.clock) × (after ≡ before)
+Listens wires gave held listened told settings count old before new after (Err fault) = ⊥

@@ -1,5 +1,5 @@
 -- What a run of the program tells on standard error, its exit status, and the line of a call of a peer.
-use Rattle.std.specs.Prelude.{◌+◌, ◌≡◌, ℕ, List, [], ◌∷◌, ◌++◌, Option, None, Some, Result, Ok, Err, ◌⊎◌, codes, nat_lt, ◌&&◌, if◌then◌else◌}
+use Rattle.std.specs.Prelude.{◌+◌, ◌≡◌, ℕ, List, [], ◌∷◌, ◌++◌, Option, Some, Result, Ok, Err, ◌⊎◌, codes, nat_lt, ◌&&◌, if◌then◌else◌}
 use Rattle.std.specs.Fmt.{decimal}
 use Rattle.std.specs.Io.KnownBytes.{Appends}
 use Rattle.counted_io.specs.declared.fault.ServeFault.{ServeFault}
@@ -53,12 +53,9 @@ synced_line synced = codes "learned " ++ (decimal synced.learned ++ (codes " sen
 abbrev pub told_line : List ℕ → List ℕ
 told_line text = codes "uahist: " ++ (text ++ 10 ∷ [])
 
-abbrev pub place_line : Option (List ℕ) → List ℕ
-place_line given = elim given [ None ↦ [] | Some place ↦ told_line place ]
-
 -- what standard error has of a fault: a line, and a second one where settings are refused
 abbrev pub error_lines : ProgramFault → List ℕ
-error_lines fault = told_line (text_of fault) ++ place_line (elim fault [ Settings cause place ↦ place | _ ↦ None ])
+error_lines fault = told_line (text_of fault) ++ (elim fault [ Settings cause (Some place) ↦ told_line place | _ ↦ [] ])
 
 -- the whole line was written, or a first part of it, and one call more failed
 abbrev pub IsTold : {W : Type 0} → (W → Option (List ℕ)) → Tally W → Tally W → List ℕ → Type 0

@@ -3,7 +3,8 @@
 ghost use Rattle.std.specs.Prelude.{◌≡◌, Some, IfOk, IfErr};
 ghost use Rattle.std.specs.Net.Grammar.{IsSocketText};
 ghost use Rattle.std.specs.declared.net.socket_addr.SocketAddr.{SocketAddr};
-ghost use Rattle.ua_server.specs.Network.{Connects, Tells, ServesEach, IsUnheard, Listens};
+ghost use Rattle.ua_server.specs.Network.{Connects, ServesEach, IsUnheard, Listens};
+ghost use Rattle.ua_server.specs.Parts.{Tells};
 
 use crate::either::{Ended, serve_either};
 use crate::network::{Listener, Network};
@@ -25,7 +26,7 @@ fn serve_next<A: Archive, L: Listener, C: Clock>(
     listener: &mut L,
     clock: &mut C,
 ) -> Result<Ended, ServeFault>
-    ensures { Connects (record { accepted = L.accepted; closed = L.closed; gave = C.gave; unread = L.Reader.remaining; written = L.Writer.contents; held = A.state }) settings.now
+    ensures { Connects (record { comes = L.accepted; closed = L.closed; unread = L.Reader.remaining; written = L.Writer.contents }) C.gave A.state settings.now
         (record { source = listener.old; archive = replica.old.archive; clock = clock.old }) (record { source = listener.new; archive = replica.new.archive; clock = clock.new }) result }
 {
     let Some((reader, writer)) = listener.accept() else {
@@ -63,7 +64,7 @@ pub fn serve_connections<A: Archive, L: Listener, C: Clock, W: Write>(
     clock: &mut C,
     errors: &mut Counted<W>,
 )
-    ensures { ServesEach (record { accepted = L.accepted; closed = L.closed; gave = C.gave; unread = L.Reader.remaining; written = L.Writer.contents; held = A.state }) W.contents settings.now connections
+    ensures { ServesEach (record { comes = L.accepted; closed = L.closed; unread = L.Reader.remaining; written = L.Writer.contents }) C.gave A.state W.contents settings.now connections
         (record { source = listener.old; archive = replica.old.archive; clock = clock.old }) errors.old (record { source = listener.new; archive = replica.new.archive; clock = clock.new }) errors.new }
 {
     for _ in 0..connections {
@@ -75,7 +76,7 @@ pub fn serve_connections<A: Archive, L: Listener, C: Clock, W: Write>(
 /// A listener at the address that the text gives.
 fn listen_at<N: Network>(text: &str, network: &mut N) -> Result<N::Listener, ProgramFault>
     ensures ok { IfOk result (λ listener. (address : SocketAddr) × IsSocketText text.now address × N.listened network.old address (Some listener) network.new) }
-    ensures refused { IfErr result (λ fault. (fault ≡ ProgramFault.Address) × IsUnheard N.listened text.now network.old network.new) }
+    ensures refused { IfErr result (λ fault. (fault ≡ ProgramFault.Address) × IsUnheard (N.listened network.old) text.now network.old network.new) }
 {
     let Ok(address) = text.parse::<SocketAddr>() else {
         return Err(ProgramFault::Address);
@@ -96,7 +97,7 @@ pub(crate) fn serve_at<A: Archive, N: Network, C: Clock, W: Write>(
     clock: &mut C,
     errors: &mut Counted<W>,
 ) -> Result<(), ProgramFault>
-    ensures listens { Listens (record { accepted = N.Listener.accepted; closed = N.Listener.closed; gave = C.gave; unread = N.Listener.Reader.remaining; written = N.Listener.Writer.contents; held = A.state }) N.listened W.contents settings.now connections
+    ensures listens { Listens (record { comes = N.Listener.accepted; closed = N.Listener.closed; unread = N.Listener.Reader.remaining; written = N.Listener.Writer.contents }) C.gave A.state N.listened W.contents settings.now connections
         (record { source = network.old; archive = replica.old.archive; clock = clock.old }) errors.old (record { source = network.new; archive = replica.new.archive; clock = clock.new }) errors.new result }
     ensures address { IfErr result (λ fault. fault ≡ ProgramFault.Address) }
 {

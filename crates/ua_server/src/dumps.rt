@@ -6,7 +6,8 @@ ghost use Rattle.std.specs.List.{flat_map, AllByRecursion};
 ghost use Rattle.stamp.specs.Numbers.{number_of};
 ghost use Rattle.records.specs.Contents.{vec};
 ghost use Rattle.records.specs.Spelling.{IsRecord};
-ghost use Rattle.ua_server.specs.Dumping.{line_of, Dumps, Dumping};
+ghost use Rattle.ua_server.specs.Dumping.{Dumps, Dumping};
+ghost use Rattle.ua_server.specs.Parts.{line_of};
 
 use archive::{Archive, StoreFault};
 use counted_io::Counted;

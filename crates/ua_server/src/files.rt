@@ -1,7 +1,8 @@
 //! Settings files.
 
 ghost use Rattle.std.specs.Prelude.{◌≡◌, ◌≤◌, ℕ, List, Option, IfSome, length, option_map, option_copied, string_bytes};
-ghost use Rattle.ua_server.specs.Program.{IsBare, IsPlace, IsSetIn, SettingsAt};
+ghost use Rattle.ua_server.specs.Program.{IsSetIn, SettingsAt};
+ghost use Rattle.ua_server.specs.Parts.{IsBare, IsPlace};
 
 use crate::program::ProgramFault;
 use command_line::LineFault;

@@ -8,8 +8,9 @@ ghost use Rattle.std.specs.Io.KnownBytes.{Appends};
 ghost use Rattle.counted_io.specs.Bytes.{counted, AppendsPart};
 ghost use Rattle.ua_connection.specs.Given.{Outside};
 ghost use Rattle.ua_connection.specs.Single.{AnswersAt};
-ghost use Rattle.ua_server.specs.Telling.{status_of, IsTold, numbered, connection_text, exchange_text, told_line, place_line, error_lines, synced_line};
-ghost use Rattle.ua_server.specs.Program.{OpensArchive, fault_of, AnswersBy, ServesBy, DumpsBy, sync_fault, PrintsSynced, CallsPeer, SyncsBy, DoesLine, Runs, dump_fault};
+ghost use Rattle.ua_server.specs.Telling.{status_of, IsTold, numbered, connection_text, exchange_text, told_line, error_lines, synced_line};
+ghost use Rattle.ua_server.specs.Program.{OpensArchive, PrintsSynced, CallsPeer, DoesLine, Runs};
+ghost use Rattle.ua_server.specs.Parts.{fault_of, dump_fault, sync_fault, AnswersBy, ServesBy, DumpsBy, SyncsBy, place_line};
 ghost use Rattle.ua_server.specs.Dumping.{Dumps};
 ghost use Rattle.clap.specs.Words.{subcommand_of};
 ghost use Rattle.clap.specs.Takes.{takes};
@@ -228,8 +229,8 @@ fn answer_by<F: SettingsFiles, D: Stores, R: Read, W: Write, C: Clock>(
 ) -> Result<(), ProgramFault>
     ensures read { IsErrOf result (ProgramFault.Connection ServeFault.Read) → input.new.faults ≡ counted input.old.faults }
     ensures write { IsErrOf result (ProgramFault.Connection ServeFault.Write) → output.new.faults ≡ counted output.old.faults }
-    ensures does { (used : Outside) × C.gave clock.old used.readings clock.new
-        × AnswersBy (record { reads = λ path text. F.gave files.old path text files.new; unasked = files.new ≡ files.old; opened = λ path id number opening. D.opened stores.old path id number opening stores.new; untouched = stores.new ≡ stores.old; held = D.Kept.state }) (option_copied path.entry) hex now (R.remaining input.old.inner) (R.remaining input.new.inner) (W.contents output.old.inner) (W.contents output.new.inner) used result }
+    ensures does { AnswersBy (record { reads = λ path text. F.gave files.old path text files.new; unasked = files.new ≡ files.old; opened = λ path id number opening. D.opened stores.old path id number opening stores.new; untouched = stores.new ≡ stores.old; held = D.Kept.state })
+        C.gave (option_copied path.entry) hex now (R.remaining input.old.inner) (R.remaining input.new.inner) (W.contents output.old.inner) (W.contents output.new.inner) clock.old clock.new result }
 {
     let settings = match settings_at(alloc, path, files) {
         Ok(settings) => settings,
@@ -262,7 +263,7 @@ fn serve_by<F: SettingsFiles, D: Stores, N: Network, C: Clock, E: Write>(
     errors: &mut Counted<E>,
 ) -> Result<(), ProgramFault>
     ensures serves { ServesBy (record { reads = λ path text. F.gave files.old path text files.new; unasked = files.new ≡ files.old; opened = λ path id number opening. D.opened stores.old path id number opening stores.new; untouched = stores.new ≡ stores.old; held = D.Kept.state })
-        (record { accepted = N.Listener.accepted; closed = N.Listener.closed; gave = C.gave; unread = N.Listener.Reader.remaining; written = N.Listener.Writer.contents; held = D.Kept.state }) N.listened E.contents path.now connections network.old network.new clock.old clock.new errors.old errors.new result }
+        (record { comes = N.Listener.accepted; closed = N.Listener.closed; unread = N.Listener.Reader.remaining; written = N.Listener.Writer.contents }) C.gave N.listened E.contents path.now connections network.old network.new clock.old clock.new errors.old errors.new result }
     ensures connection { (fault : ServeFault) → IsErrOf result (ProgramFault.Connection fault) → ⊥ }
 {
     let settings = match settings_at(alloc, Some(path), files) {
@@ -391,7 +392,7 @@ fn sync_over<A: Archive + Drop, N: Network, W: Write>(
 ) -> Result<(), ProgramFault>
     ensures read { IsErrOf result (ProgramFault.Connection ServeFault.Read) → ⊥ }
     ensures write { IsErrOf result (ProgramFault.Connection ServeFault.Write) → output.new.faults ≡ counted output.old.faults }
-    ensures calls { (last : _) × CallsPeer (record { called = N.called; parted = N.parted; unread = N.Reader.remaining; written = N.Writer.contents }) A.state peer.now archive last network.old network.new (W.contents output.old.inner) (W.contents output.new.inner) result }
+    ensures calls { (last : _) × CallsPeer (λ address. record { comes = λ old came new. N.called old address came new; closed = N.parted; unread = N.Reader.remaining; written = N.Writer.contents }) A.state peer.now archive last network.old network.new (W.contents output.old.inner) (W.contents output.new.inner) result }
 {
     let Ok(address) = peer.parse::<SocketAddr>() else {
         return Err(ProgramFault::Address);
@@ -419,7 +420,7 @@ fn sync_by<F: SettingsFiles, D: Stores, N: Network, W: Write>(
 ) -> Result<(), ProgramFault>
     ensures read { IsErrOf result (ProgramFault.Connection ServeFault.Read) → ⊥ }
     ensures write { IsErrOf result (ProgramFault.Connection ServeFault.Write) → output.new.faults ≡ counted output.old.faults }
-    ensures syncs { SyncsBy (record { reads = λ path text. F.gave files.old path text files.new; unasked = files.new ≡ files.old; opened = λ path id number opening. D.opened stores.old path id number opening stores.new; untouched = stores.new ≡ stores.old; held = D.Kept.state }) (record { called = N.called; parted = N.parted; unread = N.Reader.remaining; written = N.Writer.contents }) path.now peer.now network.old network.new (W.contents output.old.inner) (W.contents output.new.inner) result }
+    ensures syncs { SyncsBy (record { reads = λ path text. F.gave files.old path text files.new; unasked = files.new ≡ files.old; opened = λ path id number opening. D.opened stores.old path id number opening stores.new; untouched = stores.new ≡ stores.old; held = D.Kept.state }) (λ address. record { comes = λ old came new. N.called old address came new; closed = N.parted; unread = N.Reader.remaining; written = N.Writer.contents }) path.now peer.now network.old network.new (W.contents output.old.inner) (W.contents output.new.inner) result }
 {
     let settings = match settings_at(alloc, Some(path), files) {
         Ok(settings) => settings,
@@ -446,8 +447,8 @@ fn do_line<F: SettingsFiles, D: Stores, N: Network, R: Read, W: Write, E: Write,
     ensures read { IsErrOf result (ProgramFault.Connection ServeFault.Read) → input.new.faults ≡ counted input.old.faults }
     ensures write { IsErrOf result (ProgramFault.Connection ServeFault.Write) → output.new.faults ≡ counted output.old.faults }
     ensures does { DoesLine (record { reads = λ path text. F.gave files.old path text files.new; unasked = files.new ≡ files.old; opened = λ path id number opening. D.opened stores.old path id number opening stores.new; untouched = stores.new ≡ stores.old; held = D.Kept.state })
-        (record { called = N.called; parted = N.parted; unread = N.Reader.remaining; written = N.Writer.contents })
-        (record { accepted = N.Listener.accepted; closed = N.Listener.closed; gave = C.gave; unread = N.Listener.Reader.remaining; written = N.Listener.Writer.contents; held = D.Kept.state }) N.listened E.contents line.entry
+        (λ address. record { comes = λ old came new. N.called old address came new; closed = N.parted; unread = N.Reader.remaining; written = N.Writer.contents })
+        (record { comes = N.Listener.accepted; closed = N.Listener.closed; unread = N.Listener.Reader.remaining; written = N.Listener.Writer.contents }) C.gave N.listened E.contents line.entry
         (record { unread = R.remaining input.old.inner; written = W.contents output.old.inner; network = network.old; clock = clock.old; errors = errors.old })
         (record { unread = R.remaining input.new.inner; written = W.contents output.new.inner; network = network.new; clock = clock.new; errors = errors.new }) result }
 {
@@ -511,8 +512,8 @@ pub fn run<
     ensures write { IsErrOf result (ProgramFault.Connection ServeFault.Write) → output.new.faults ≡ counted output.old.faults }
     ensures runs { Runs (fault_kinds uahist (map S.text words.now)) (takes uahist (map S.text words.now)) (subcommand_of uahist (map S.text words.now))
         (record { reads = λ path text. F.gave files.old path text files.new; unasked = files.new ≡ files.old; opened = λ path id number opening. D.opened stores.old path id number opening stores.new; untouched = stores.new ≡ stores.old; held = D.Kept.state })
-        (record { called = N.called; parted = N.parted; unread = N.Reader.remaining; written = N.Writer.contents })
-        (record { accepted = N.Listener.accepted; closed = N.Listener.closed; gave = C.gave; unread = N.Listener.Reader.remaining; written = N.Listener.Writer.contents; held = D.Kept.state }) N.listened E.contents
+        (λ address. record { comes = λ old came new. N.called old address came new; closed = N.parted; unread = N.Reader.remaining; written = N.Writer.contents })
+        (record { comes = N.Listener.accepted; closed = N.Listener.closed; unread = N.Listener.Reader.remaining; written = N.Listener.Writer.contents }) C.gave N.listened E.contents
         (record { unread = R.remaining input.old.inner; written = W.contents output.old.inner; network = network.old; clock = clock.old; errors = errors.old })
         (record { unread = R.remaining input.new.inner; written = W.contents output.new.inner; network = network.new; clock = clock.new; errors = errors.new }) result }
 {

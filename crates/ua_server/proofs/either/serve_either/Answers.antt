@@ -1,6 +1,7 @@
 use Rattle.std.proofs.Common.{◌≡◌, ◌∙◌, Err, take, sym, inl, inr}
 use Rattle.counted_io.specs.declared.fault.ServeFault.TheVariants.{Read}
-use Rattle.ua_server.specs.Either.{Ends, is_peers}
+use Rattle.ua_server.specs.Either.{is_peers}
+use Rattle.ua_server.proofs.EitherParts.{Ends}
 use Rattle.ua_connection.proofs.Outsides.{nothing}
 use Rattle.ua_server.proofs.Firsts.{are-first, breaks-off, goes-as-peer, goes-as-client}
 use Rattle.ua_server.proofs.either.serve_either.Goals as goal
@@ -21,13 +22,16 @@ returns-then-is_peers-clause-serves g c =
     let left = g.R.Read.remaining in
     let contents = g.W.Write.contents in
     let came = c.in-Ok.ensures in
-    let first = take c.in-Ok.n c.read_first.new.first in (
+    let first = take c.in-Ok.n c.read_first.new.first in
+    let three = are-first (left c.args.reader.now.inner) (left c.read_first.new.reader.inner) c.read_first.new.first c.in-Ok.n came.length came.within came.bytes came.end in (
       nothing,
       g.met.C.Clock.gave_none c.args.clock.now,
       inr (
         first,
         left c.read_first.new.reader.inner,
-        are-first (left c.args.reader.now.inner) (left c.read_first.new.reader.inner) c.read_first.new.first c.in-Ok.n came.length came.within came.bytes came.end,
+        three.0,
+        three.1,
+        three.2,
         goes-as-peer c.args.settings.now (state c.args.replica.now.archive) (state c.meet_peer.new.replica.archive) first (left c.read_first.new.reader.inner) (left c.meet_peer.new.reader.inner)
             (contents c.args.writer.now.inner) (contents c.meet_peer.new.writer.inner) (is_peers first) c.meet_peer.result (sym c.is_peers.ensures ∙ c.if-is_peers.true) c.meet_peer.ensures.meets,
       ),
@@ -40,13 +44,16 @@ returns-else-is_peers-clause-serves g c =
     let contents = g.W.Write.contents in
     let came = c.in-Ok.ensures in
     let first = take c.in-Ok.n c.read_first.new.first in
+    let three = are-first (left c.args.reader.now.inner) (left c.read_first.new.reader.inner) c.read_first.new.first c.in-Ok.n came.length came.within came.bytes came.end in
     let served = c.serve_client.ensures.serves in (
       served.0,
       served.1,
       inr (
         first,
         left c.read_first.new.reader.inner,
-        are-first (left c.args.reader.now.inner) (left c.read_first.new.reader.inner) c.read_first.new.first c.in-Ok.n came.length came.within came.bytes came.end,
+        three.0,
+        three.1,
+        three.2,
         goes-as-client c.args.settings.now (state c.args.replica.now.archive) (state c.serve_client.new.archive) first (left c.read_first.new.reader.inner) (left c.serve_client.new.reader.inner)
             (contents c.args.writer.now.inner) (contents c.serve_client.new.writer.inner) served.0 (is_peers first) c.serve_client.result (sym c.is_peers.ensures ∙ c.if-is_peers.false) (served.2, served.3, served.4),
       ),
