@@ -10,8 +10,8 @@ use Rattle.ua_binary.proofs.Lawful.{u32_lawful, i32_lawful, boolean_lawful, text
 use Rattle.ua_services.specs.Endpoints.{application_description, IsApplication, user_token_policy, access, IsAccess, endpoint_description, get_endpoints_request, get_endpoints_response}
 use Rattle.ua_services.specs.Unkept.{unkept}
 use Rattle.ua_services.specs.Structure.{is_type}
-use Rattle.ua_services.specs.Sessions.{user_identity, user_name_form, unknown_form, anonymous_identity_token, user_name_identity_token, signature_data, signed_software_certificate, no_signature, create_session_request, create_session_response, IsSessionMade, activate_session_request, activate_session_response, close_session_request}
-use Rattle.ua_services.proofs.SessionsParts.{anonymous_form, identity_form, identity_type}
+use Rattle.ua_services.specs.Sessions.{user_identity, user_name_form, unknown_form, signature_data, signed_software_certificate, create_session_request, create_session_response, IsSessionMade, activate_session_request, activate_session_response, close_session_request}
+use Rattle.ua_services.proofs.SessionsParts.{no_signature, anonymous_identity_token, user_name_identity_token, anonymous_form, identity_form, identity_type}
 use Rattle.ua_services.proofs.EndpointsParts.{no_application}
 use Rattle.ua_services.proofs.Unkept.{unkept_lawful, past_lawful, closed_lawful, many_lawful, many_fits, unkept_array_lawful, null_lawful, structure_lawful}
 
@@ -60,11 +60,9 @@ endpoints_lawful = fitting_lawful _ (λ v h. many_fits endpoint_description v h)
 -- ---- sessions
 
 anonymous_token_lawful : IsLawful anonymous_identity_token
-unfolding anonymous_identity_token
 anonymous_token_lawful = no_text_lawful
 
 user_name_token_lawful : IsLawful user_name_identity_token
-unfolding user_name_identity_token
 user_name_token_lawful = past_lawful no_text_lawful (then_lawful text_lawful (then_lawful byte_string_lawful text_lawful))
 
 anonymous_lawful : IsLawful anonymous_form

@@ -8,11 +8,11 @@ use Rattle.ua_binary.specs.Binary.{body}
 use Rattle.ua_variant.specs.declared.fault.VariantFault.{VariantFault}
 use Rattle.ua_variant.specs.Variant.{raise}
 use Rattle.ua_services.specs.Structure.{is_type}
-use Rattle.ua_services.specs.Updates.{DeleteAtTime, DeleteRawModified, Details, Other, UpdateData, delete_at_time_form, delete_raw_modified_form, no_node, update_data_form}
+use Rattle.ua_services.specs.Updates.{DeleteAtTime, DeleteRawModified, Details, Other, UpdateData, delete_at_time_form, delete_raw_modified_form, update_data_form}
 
 -- the type that is written
 abbrev pub details_type : Details → NodeId
-details_type details = elim details [ UpdateData _ ↦ Numeric 0 682 | DeleteRawModified _ ↦ Numeric 0 688 | DeleteAtTime _ ↦ Numeric 0 691 | Other ↦ no_node ]
+details_type details = elim details [ UpdateData _ ↦ Numeric 0 682 | DeleteRawModified _ ↦ Numeric 0 688 | DeleteAtTime _ ↦ Numeric 0 691 | Other ↦ Numeric 0 0 ]
 
 abbrev pub other_form : Format BinaryFault Details
 other_form = standing_for (λ _. Other) (λ _. Absent) body

@@ -17,28 +17,21 @@ use Rattle.ua_services.specs.declared.sessions.CreateSessionResponse.{CreateSess
 
 -- ---- identities
 
--- policy id
-unfoldable pub anonymous_identity_token : Format BinaryFault (Unit {0})
-anonymous_identity_token = unkept None text
-
--- policy id, which isn't kept, user name, password, algorithm of encryption
-unfoldable pub user_name_identity_token : Format BinaryFault (Option (List ℕ) × (Option (List ℕ) × Option (List ℕ)))
-user_name_identity_token = unkept None text ▹ text ▸ byte_string ▸ text
-
+-- a UserNameIdentityToken: policy id, which isn't kept, user name, password, algorithm of encryption
 abbrev pub user_name_form : Format BinaryFault Claim
 user_name_form = standing_for (λ p. Named p.0 p.1.0 p.1.1) (λ claim. elim claim [ Named name password algorithm ↦ (name, (password, algorithm)) | _ ↦ (None, (None, None)) ])
-    (structure user_name_identity_token)
+    (structure (unkept None text ▹ text ▸ byte_string ▸ text))
 
 -- of a type that isn't known here: the null type without a body is nobody's
 abbrev pub unknown_form : NodeId → Format BinaryFault Claim
 unknown_form id = standing_for (λ kept. elim kept [ Absent ↦ if is_type 0 id then Anonymous else Other | _ ↦ Other ]) (λ _. Absent) body
 
--- a type, and what it calls for: 321 an AnonymousIdentityToken, 324 a UserNameIdentityToken, each fills its body; nobody's is written
+-- a type, and what it calls for: 321 an AnonymousIdentityToken, which has a policy id, 324 a UserNameIdentityToken, each fills its body; nobody's is written
 -- with the null type, and what is something else with that of a certificate
 unfoldable pub user_identity : Format BinaryFault Claim
 user_identity =
     headed (λ claim. elim claim [ Anonymous ↦ Numeric 0 0 | Named _ _ _ ↦ Numeric 0 324 | Other ↦ Numeric 0 327 ]) node_id (λ id.
-    chosen (is_type 321 id) (standing_for (λ _. Anonymous) (λ _. tt) (structure anonymous_identity_token)) (chosen (is_type 324 id) user_name_form (unknown_form id)))
+    chosen (is_type 321 id) (standing_for (λ _. Anonymous) (λ _. tt) (structure (unkept None text))) (chosen (is_type 324 id) user_name_form (unknown_form id)))
 
 -- ---- signatures and certificates
 
@@ -49,9 +42,6 @@ signature_data = text ▸ byte_string
 -- certificate, signature
 abbrev pub signed_software_certificate : Format BinaryFault (Option (List ℕ) × Option (List ℕ))
 signed_software_certificate = byte_string ▸ byte_string
-
-abbrev pub no_signature : Option (List ℕ) × Option (List ℕ)
-no_signature = (None, None)
 
 -- ---- CreateSession
 
@@ -78,7 +68,7 @@ IsSessionMade v = IsNodeId v.0 × IsNodeId v.1.0 × (length v.1.1.0 ≡ 8) × Ar
 unfoldable pub create_session_response : Format BinaryFault SessionMade
 create_session_response =
     fitting IsSessionMade (node_id ▸ node_id ▸ block 8 ▸ unkept None byte_string ▹ unkept None byte_string ▹ many endpoint_description
-    ▸ unkept_array signed_software_certificate ▹ unkept no_signature signature_data ▹ unsigned w32)
+    ▸ unkept_array signed_software_certificate ▹ unkept (None, None) signature_data ▹ unsigned w32)
 
 abbrev pub IsShortSession : CreateSessionResponse → Type 0
 IsShortSession r = IsShortNode r.session_id × IsShortNode r.authentication_token × AreShortEndpoints r.endpoints.items
@@ -88,7 +78,7 @@ IsShortSession r = IsShortNode r.session_id × IsShortNode r.authentication_toke
 -- signature, software certificates, locales, identity, signature of the token
 unfoldable pub activate_session_request : Format BinaryFault Claim
 activate_session_request =
-    unkept no_signature signature_data ▹ unkept_array signed_software_certificate ▹ unkept_array text ▹ user_identity ◃ unkept no_signature signature_data
+    unkept (None, None) signature_data ▹ unkept_array signed_software_certificate ▹ unkept_array text ▹ user_identity ◃ unkept (None, None) signature_data
 
 -- nonce, results of the certificates, diagnostics
 unfoldable pub activate_session_response : Format BinaryFault (Unit {0})

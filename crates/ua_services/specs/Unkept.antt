@@ -29,18 +29,18 @@ many f = array (λ e. e) f
 abbrev pub AreFew : {E A : Type 0} → Format E A → List A → Type 0
 AreFew f vs = (length vs < 2 ^ 31) × AllByRecursion f.Fits vs
 
--- of what was read, the first so many items
-abbrev pub first_items : {E A : Type 0} → ℕ → Reading E (List A) → Reading E (List A)
-first_items most r = r >>= λ a. Ok (take most a.0, a.1)
-
 -- the first so many items of an array, each of which is read
 unfoldable pub first_of : {E A : Type 0} → ℕ → (BinaryFault → E) → Format E A → Format E (List A)
 first_of most told f = record {
   Spells = λ bytes vs. (all : List _) × (array told f).Spells bytes all × (vs ≡ take most all);
-  read = λ bytes. first_items most ((array told f).read bytes);
+  read = λ bytes. (array told f).read bytes >>= λ a. Ok (take most a.0, a.1);
   canon = (array told f).canon;
   Fits = λ vs. (length vs ≤ most) × (array told f).Fits vs;
 }
+
+-- of what was read, the first so many items: what a reader keeps by itself
+abbrev pub first_items : {E A : Type 0} → ℕ → Reading E (List A) → Reading E (List A)
+first_items most r = r >>= λ a. Ok (take most a.0, a.1)
 
 -- an array that isn't kept; a null one is written
 abbrev pub unkept_array : {A : Type 0} → Format BinaryFault A → Format BinaryFault (Unit {0})

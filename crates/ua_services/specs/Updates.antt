@@ -68,22 +68,19 @@ details_of (lent.DeleteRawModified d) = DeleteRawModified (raw_deletion d)
 details_of (lent.DeleteAtTime d) = DeleteAtTime (deletion_at d)
 details_of lent.Other = Other
 
-abbrev pub no_node : NodeId
-no_node = Numeric 0 0
-
 abbrev pub update_data_form : Format VariantFault Details
-update_data_form = standing_for UpdateData (λ v. elim v [ UpdateData d ↦ d | _ ↦ (no_node, (pos 0, [])) ]) (structure_with_values update_data_details)
+update_data_form = standing_for UpdateData (λ v. elim v [ UpdateData d ↦ d | _ ↦ (Numeric 0 0, (pos 0, [])) ]) (structure_with_values update_data_details)
 
 abbrev pub delete_raw_modified_form : Format BinaryFault Details
-delete_raw_modified_form = standing_for DeleteRawModified (λ v. elim v [ DeleteRawModified d ↦ d | _ ↦ (no_node, (false, (record { 0 = pos 0 }, record { 0 = pos 0 }))) ]) (structure delete_raw_modified_details)
+delete_raw_modified_form = standing_for DeleteRawModified (λ v. elim v [ DeleteRawModified d ↦ d | _ ↦ (Numeric 0 0, (false, (record { 0 = pos 0 }, record { 0 = pos 0 }))) ]) (structure delete_raw_modified_details)
 
 abbrev pub delete_at_time_form : Format BinaryFault Details
-delete_at_time_form = standing_for DeleteAtTime (λ v. elim v [ DeleteAtTime d ↦ d | _ ↦ (no_node, []) ]) (structure delete_at_time_details)
+delete_at_time_form = standing_for DeleteAtTime (λ v. elim v [ DeleteAtTime d ↦ d | _ ↦ (Numeric 0 0, []) ]) (structure delete_at_time_details)
 
 -- a type, and what it calls for: 682, 688 and 691 a structure that fills the body; the body of another type isn't looked into
 unfoldable pub history_update_details : Format VariantFault Details
 history_update_details =
-    headed (λ v. elim v [ UpdateData _ ↦ Numeric 0 682 | DeleteRawModified _ ↦ Numeric 0 688 | DeleteAtTime _ ↦ Numeric 0 691 | Other ↦ no_node ]) (raise node_id) (λ id.
+    headed (λ v. elim v [ UpdateData _ ↦ Numeric 0 682 | DeleteRawModified _ ↦ Numeric 0 688 | DeleteAtTime _ ↦ Numeric 0 691 | Other ↦ Numeric 0 0 ]) (raise node_id) (λ id.
     chosen (is_type 682 id) update_data_form (chosen (is_type 688 id) (raise delete_raw_modified_form) (chosen (is_type 691 id) (raise delete_at_time_form) (raise (standing_for (λ _. Other) (λ _. Absent) body)))))
 
 -- ---- HistoryUpdate

@@ -2,18 +2,19 @@
 
 ghost use Rattle.ua_services.specs.Structure.{structure};
 ghost use Rattle.ua_binary.specs.Format.{Reads, standing_for};
-ghost use Rattle.ua_binary.specs.Binary.{node_of};
+ghost use Rattle.std.specs.Prelude.{None};
+ghost use Rattle.ua_binary.specs.Binary.{node_of, text};
 ghost use Rattle.ua_session.specs.Users.{claim_of, Anonymous};
-ghost use Rattle.ua_services.specs.Sessions.{user_name_form, unknown_form, user_identity, anonymous_identity_token};
+ghost use Rattle.ua_services.specs.Sessions.{user_name_form, unknown_form, user_identity};
+ghost use Rattle.ua_services.specs.Unkept.{unkept};
 
 use crate::structure::{is_type, read_binary_body};
 use ua_binary::{BinaryFault, BodyRef, Cursor, NodeIdRef};
 use ua_session::Identity;
 
 /// The body of an AnonymousIdentityToken; the policy id isn't looked at.
-#[tactic(auto, unfolding(crate::specs::Sessions::anonymous_identity_token))]
 fn read_anonymous<'a>(cursor: &mut Cursor<'a>) -> Result<Identity<'a>, BinaryFault>
-    ensures { Reads claim_of result cursor.old cursor.new (standing_for (λ _. Anonymous) (λ _. tt) (structure anonymous_identity_token)).read }
+    ensures { Reads claim_of result cursor.old cursor.new (standing_for (λ _. Anonymous) (λ _. tt) (structure (unkept None text))).read }
 {
     let mut next = cursor.fork();
     let mut body = read_binary_body(&mut next)?;
@@ -26,7 +27,6 @@ fn read_anonymous<'a>(cursor: &mut Cursor<'a>) -> Result<Identity<'a>, BinaryFau
 }
 
 /// The body of a UserNameIdentityToken; the policy id isn't looked at.
-#[tactic(auto, unfolding(crate::specs::Sessions::user_name_identity_token))]
 fn read_user_name<'a>(cursor: &mut Cursor<'a>) -> Result<Identity<'a>, BinaryFault>
     ensures { Reads claim_of result cursor.old cursor.new user_name_form.read }
 {

@@ -5,7 +5,7 @@ ghost use Rattle.ua_binary.specs.Format.{Reads};
 ghost use Rattle.ua_binary.specs.Binary.{text};
 ghost use Rattle.ua_services.specs.Unkept.{unkept, unkept_array};
 ghost use Rattle.ua_services.specs.Endpoints.{application_description};
-ghost use Rattle.ua_services.specs.Sessions.{signature_data, no_signature, signed_software_certificate};
+ghost use Rattle.ua_services.specs.Sessions.{signature_data, signed_software_certificate};
 
 use ua_binary::{BinaryFault, Cursor};
 
@@ -50,7 +50,7 @@ pub(crate) fn skip_certificates(cursor: &mut Cursor<'_>) -> Result<(), BinaryFau
 
 /// A signature (Part 4, 7.37): the algorithm and the bytes.
 pub(crate) fn skip_signature(cursor: &mut Cursor<'_>) -> Result<(), BinaryFault>
-    ensures { Reads (λ x. x) result cursor.old cursor.new (unkept no_signature signature_data).read }
+    ensures { Reads (λ x. x) result cursor.old cursor.new (unkept (None, None) signature_data).read }
 {
     let mut next = cursor.fork();
     next.text()?;
