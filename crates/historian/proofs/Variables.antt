@@ -7,7 +7,8 @@ use Rattle.ua_binary.specs.declared.values.NodeId.TheVariants.{Numeric, Named, G
 use Rattle.ua_binary.specs.Binary.{IsShortNode}
 use Rattle.ua_space.specs.declared.layout.Layout.{Layout}
 use Rattle.ua_space.specs.declared.space.VariableInfo.{VariableInfo}
-use Rattle.ua_space.specs.Space.{Node, Root, Objects, NamespaceArray, State, OfFolder, OfVariable, FolderType, BaseDataVariableType, id_of, is_same_id, value_type_at, IsShortId}
+use Rattle.ua_space.specs.Space.{Node, Root, Objects, NamespaceArray, State, OfFolder, OfVariable, FolderType, BaseDataVariableType, is_same_id, value_type_at, IsShortId}
+use Rattle.ua_space.specs.Nodes.{id_of}
 use Rattle.ua_space.specs.Index.{node_in}
 use Rattle.ua_space.proofs.SpaceParts.{type_of_node, nodes}
 use Rattle.archive.specs.Growth.{id_length}

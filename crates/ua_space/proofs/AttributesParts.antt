@@ -1,7 +1,8 @@
 -- Names for parts of the definitions in specs/Attributes, for the lemmas on these parts.
 use Rattle.std.specs.Prelude.{ℕ, List, pos, [], ◌∷◌}
 use Rattle.ua_services.specs.Browsing.{class_number}
-use Rattle.ua_space.specs.Space.{Node, id_of, class_of, browse_name_of, display_name_of}
+use Rattle.ua_space.specs.Space.{Node, browse_name_of, display_name_of}
+use Rattle.ua_space.specs.Nodes.{id_of, class_of}
 use Rattle.ua_variant.specs.declared.value.Scalar.TheVariants as scalar
 use Rattle.ua_space.specs.declared.attributes.Answered.{Answered}
 use Rattle.ua_space.specs.Attributes.{one}

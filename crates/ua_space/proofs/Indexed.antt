@@ -16,7 +16,8 @@ use Rattle.ua_space.specs.declared.index.Place.TheVariants as place
 use Rattle.ua_space.specs.declared.layout.Layout.{Layout}
 use Rattle.ua_space.specs.declared.node.Folder.{Folder}
 use Rattle.ua_space.specs.declared.node.Variable.{Variable}
-use Rattle.ua_space.specs.Space.{Node, OfFolder, OfVariable, id_of, is_same_id}
+use Rattle.ua_space.specs.Space.{Node, OfFolder, OfVariable, is_same_id}
+use Rattle.ua_space.specs.Nodes.{id_of}
 use Rattle.ua_space.specs.Index.{at_place, Lists, node_in}
 
 -- one more node, before the others

@@ -11,7 +11,8 @@ use Rattle.ua_binary.specs.declared.values.Guid.{Guid}
 use Rattle.ua_space.specs.declared.layout.Layout.{Layout}
 use Rattle.ua_space.specs.declared.node.Folder.{Folder}
 use Rattle.ua_space.specs.declared.node.Variable.{Variable}
-use Rattle.ua_space.specs.Space.{Node, OfFolder, OfVariable, id_of, is_same_id, node_at}
+use Rattle.ua_space.specs.Space.{Node, OfFolder, OfVariable, is_same_id, node_at}
+use Rattle.ua_space.specs.Nodes.{id_of}
 use Rattle.ua_space.specs.Index.{node_in, planned_nodes, has_folder_id, has_variable_id}
 use Rattle.ua_space.proofs.SpaceParts.{standard_nodes}
 

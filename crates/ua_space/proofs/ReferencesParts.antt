@@ -5,7 +5,8 @@ use Rattle.ua_binary.specs.declared.values.NodeId.TheVariants.{Numeric}
 use Rattle.ua_space.specs.declared.link.ReferenceType.{ReferenceType}
 use Rattle.ua_space.specs.declared.link.ReferenceType.TheVariants.{Organizes, HasTypeDefinition}
 use Rattle.ua_space.specs.declared.layout.Layout.{Layout}
-use Rattle.ua_space.specs.Space.{Node, Root, Objects, OfFolder, id_of}
+use Rattle.ua_space.specs.Space.{Node, Root, Objects, OfFolder}
+use Rattle.ua_space.specs.Nodes.{id_of}
 use Rattle.ua_space.specs.Index.{has_folder_id}
 use Rattle.ua_space.specs.References.{Link, link_to, type_definition, type_number}
 

@@ -24,7 +24,8 @@ use Rattle.ua_space.specs.declared.fault.BuildFault.{BuildFault}
 use Rattle.ua_space.specs.declared.plan.VariablePlan.{VariablePlan}
 use Rattle.ua_space.specs.Lent.{HasShortPlan, HasPlannedId, folder_of, variable_of, layout_of, judged_by}
 use Rattle.ua_space.proofs.PlanParts.{is_too_large}
-use Rattle.ua_space.specs.Space.{Node, Root, Objects, NamespaceArray, State, OfFolder, OfVariable, FolderType, BaseDataVariableType, id_of, name_of, node_at, is_same_id, HasShortId, HasShortTexts, HasShortName, IsShortLayout, browse_name_of, display_name_of}
+use Rattle.ua_space.specs.Space.{Node, Root, Objects, NamespaceArray, State, OfFolder, OfVariable, FolderType, BaseDataVariableType, node_at, is_same_id, HasShortId, HasShortTexts, HasShortName, IsShortLayout, browse_name_of, display_name_of}
+use Rattle.ua_space.specs.Nodes.{id_of, name_of}
 use Rattle.ua_space.specs.Index.{has_folder_id}
 use Rattle.ua_space.proofs.SpaceParts.{nodes}
 use Rattle.ua_space.specs.Attributes.{own_attributes, attributes, IsShortAnswered}

@@ -15,7 +15,7 @@ use Rattle.ua_binary.specs.declared.codes.Status.{Status}
 use Rattle.ua_binary.specs.declared.codes.TheConstants.Status.{BAD_NODE_ID_UNKNOWN, BAD_ATTRIBUTE_ID_INVALID}
 use Rattle.ua_space.specs.declared.layout.Layout.{Layout}
 use Rattle.ua_services.specs.Browsing.{class_number}
-use Rattle.ua_space.specs.Space.{Node, NamespaceArray, State, OfVariable, FolderType, BaseDataVariableType, id_of, class_of, browse_name_of, display_name_of, node_at}
+use Rattle.ua_space.specs.Space.{Node, NamespaceArray, State, OfVariable, FolderType, BaseDataVariableType, facts, browse_name_of, display_name_of, node_at}
 
 abbrev pub one : Scalar → Answered
 one value = Value (variant.Scalar value)
@@ -35,12 +35,12 @@ own_attributes space State = (13, one (scalar.Int32 (pos 0))) ∷ variable_attri
 own_attributes space (OfVariable variable) = (13, Archived) ∷ variable_attributes variable.value_type.number variable.value_type.array 13 true
 own_attributes space FolderType = []
 own_attributes space BaseDataVariableType = []
-own_attributes space object = (12, one (scalar.Byte 0)) ∷ []
+own_attributes space _ = (12, one (scalar.Byte 0)) ∷ []
 
 -- all attributes of a node: those of all nodes (5.2), NodeId, NodeClass, BrowseName and DisplayName, and its own
 abbrev pub attributes : Layout → Node → List (ℕ × Answered)
 attributes space node =
-    (1, one (scalar.NodeId (id_of node))) ∷ (2, one (scalar.Int32 (pos (class_number (class_of node)))))
+    (1, one (scalar.NodeId (facts node).id)) ∷ (2, one (scalar.Int32 (pos (class_number (facts node).node_class))))
     ∷ (3, one (scalar.QualifiedName (browse_name_of node))) ∷ (4, one (scalar.LocalizedText (display_name_of node))) ∷ own_attributes space node
 
 -- an attribute of the node of an id

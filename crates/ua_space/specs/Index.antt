@@ -11,7 +11,8 @@ use Rattle.ua_space.specs.declared.layout.Layout.{Layout}
 use Rattle.ua_binary.specs.declared.values.NodeId.{NodeId}
 use Rattle.ua_space.specs.declared.node.Folder.{Folder}
 use Rattle.ua_space.specs.declared.node.Variable.{Variable}
-use Rattle.ua_space.specs.Space.{Node, OfFolder, OfVariable, id_of, is_same_id}
+use Rattle.ua_space.specs.Space.{Node, OfFolder, OfVariable, is_same_id}
+use Rattle.ua_space.specs.Nodes.{id_of}
 
 -- the folders and variables
 abbrev pub planned_nodes : Layout → List Node

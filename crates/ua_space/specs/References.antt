@@ -19,7 +19,7 @@ use Rattle.ua_services.specs.declared.browsing.NodeClass.TheVariants.{Unspecifie
 use Rattle.ua_services.specs.Browsing.{BrowseFields, class_number}
 use Rattle.ua_services.specs.Structure.{is_type}
 use Rattle.ua_space.specs.declared.layout.Layout.{Layout}
-use Rattle.ua_space.specs.Space.{Node, Root, Objects, OfFolder, OfVariable, FolderType, BaseDataVariableType, id_of, node_of, class_of, browse_name_of, display_name_of, node_at}
+use Rattle.ua_space.specs.Space.{Node, Root, Objects, OfFolder, OfVariable, FolderType, BaseDataVariableType, facts, node_of, browse_name_of, display_name_of, node_at}
 
 -- ---- the references of a node
 
@@ -68,7 +68,7 @@ is_of_type id subtypes type =
     is_type 0 id || is_type (type_number type) id || subtypes && list_any (λ number. is_type number id) (elim type [ Organizes ↦ 33 ∷ 31 ∷ [] | HasTypeDefinition ↦ 32 ∷ 31 ∷ [] ])
 
 abbrev pub is_followed : BrowseDirection → BrowseFields → Link → Bool
-is_followed direction d link = (elim direction [ Forward ↦ link.is_forward | Inverse ↦ not link.is_forward | Both ↦ true ]) && is_of_type d.1.1.0 d.1.1.1.0 link.reference_type && (d.1.1.1.1.0 == 0 || has d.1.1.1.1.0 (class_number (class_of link.target)))
+is_followed direction d link = (elim direction [ Forward ↦ link.is_forward | Inverse ↦ not link.is_forward | Both ↦ true ]) && is_of_type d.1.1.0 d.1.1.1.0 link.reference_type && (d.1.1.1.1.0 == 0 || has d.1.1.1.1.0 (class_number (facts link.target).node_class))
 
 -- ---- what is told of a reference
 
@@ -77,11 +77,11 @@ abbrev pub told : ℕ → Link → ReferenceDescription
 told mask link = record {
   reference_type_id = if has mask 1 then (Numeric 0 (type_number link.reference_type)) else (Numeric 0 0);
   is_forward = has mask 2 && link.is_forward;
-  node_id = id_of link.target;
-  node_class = if has mask 4 then class_of link.target else Unspecified;
+  node_id = (facts link.target).id;
+  node_class = if has mask 4 then (facts link.target).node_class else Unspecified;
   browse_name = if has mask 8 then browse_name_of link.target else record { namespace = 0; name = None };
   display_name = if has mask 16 then display_name_of link.target else record { locale = None; text = None };
-  type_definition = if has mask 32 then (elim (type_definition link.target) [ None ↦ Numeric 0 0 | Some type ↦ id_of type ]) else (Numeric 0 0);
+  type_definition = if has mask 32 then (elim (type_definition link.target) [ None ↦ Numeric 0 0 | Some type ↦ (facts type).id ]) else (Numeric 0 0);
 }
 
 -- ---- a browse

@@ -35,31 +35,22 @@ node_of lent.BaseDataVariableType = BaseDataVariableType
 -- ---- attributes that each node has (Part 3, 5.2)
 
 -- the id of each, its class and its name
-abbrev pub facts : Node → NodeId × (NodeClass × List ℕ)
-facts Root = (Numeric 0 84, (class.Object, codes "Root"))
-facts Objects = (Numeric 0 85, (class.Object, codes "Objects"))
-facts NamespaceArray = (Numeric 0 2255, (class.Variable, codes "NamespaceArray"))
-facts State = (Numeric 0 2259, (class.Variable, codes "State"))
-facts (OfFolder folder) = (Named 1 folder.id, (class.Object, folder.name))
-facts (OfVariable variable) = (Named 1 variable.id, (class.Variable, variable.name))
-facts FolderType = (Numeric 0 61, (class.ObjectType, codes "FolderType"))
-facts BaseDataVariableType = (Numeric 0 63, (class.VariableType, codes "BaseDataVariableType"))
-
-abbrev pub id_of : Node → NodeId
-id_of node = (facts node).0
-
-abbrev pub class_of : Node → NodeClass
-class_of node = (facts node).1.0
-
-abbrev pub name_of : Node → List ℕ
-name_of node = (facts node).1.1
+abbrev pub facts : Node → record { id : NodeId; node_class : NodeClass; name : List ℕ }
+facts Root = record { id = Numeric 0 84; node_class = class.Object; name = codes "Root" }
+facts Objects = record { id = Numeric 0 85; node_class = class.Object; name = codes "Objects" }
+facts NamespaceArray = record { id = Numeric 0 2255; node_class = class.Variable; name = codes "NamespaceArray" }
+facts State = record { id = Numeric 0 2259; node_class = class.Variable; name = codes "State" }
+facts (OfFolder folder) = record { id = Named 1 folder.id; node_class = class.Object; name = folder.name }
+facts (OfVariable variable) = record { id = Named 1 variable.id; node_class = class.Variable; name = variable.name }
+facts FolderType = record { id = Numeric 0 61; node_class = class.ObjectType; name = codes "FolderType" }
+facts BaseDataVariableType = record { id = Numeric 0 63; node_class = class.VariableType; name = codes "BaseDataVariableType" }
 
 abbrev pub browse_name_of : Node → QualifiedName
-browse_name_of node = record { namespace = elim node [ OfFolder folder ↦ 1 | OfVariable variable ↦ 1 | _ ↦ 0 ]; name = Some (name_of node) }
+browse_name_of node = record { namespace = elim node [ OfFolder folder ↦ 1 | OfVariable variable ↦ 1 | _ ↦ 0 ]; name = Some (facts node).name }
 
 -- the name, in no language
 abbrev pub display_name_of : Node → LocalizedText
-display_name_of node = record { locale = None; text = Some (name_of node) }
+display_name_of node = record { locale = None; text = Some (facts node).name }
 
 -- ---- the node of an id
 
@@ -71,7 +62,7 @@ is_same_id _ _ = false
 
 -- the node of this id: one of the four of namespace 0, a folder or a variable
 abbrev pub node_at : Layout → NodeId → Option Node
-node_at space id = find (λ node. is_same_id (id_of node) id) ((Root ∷ Objects ∷ NamespaceArray ∷ State ∷ []) ++ (map OfFolder space.folders ++ map OfVariable space.variables))
+node_at space id = find (λ node. is_same_id (facts node).id id) ((Root ∷ Objects ∷ NamespaceArray ∷ State ∷ []) ++ (map OfFolder space.folders ++ map OfVariable space.variables))
 
 abbrev pub value_type_at : Layout → NodeId → Option ValueType
 value_type_at space id = elim (node_at space id) [ Some (OfVariable variable) ↦ Some variable.value_type | _ ↦ None ]

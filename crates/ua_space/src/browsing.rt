@@ -3,7 +3,7 @@
 ghost use Rattle.ua_services.specs.declared.browsing.BrowseDirection.TheVariants.{Both, Forward, Inverse};
 ghost use Rattle.ua_space.specs.declared.link.ReferenceType.TheVariants.{HasTypeDefinition, Organizes};
 ghost use Rattle.ua_binary.specs.declared.values.NodeId.TheVariants.{Numeric};
-ghost use Rattle.ua_space.specs.Space.{id_of};
+ghost use Rattle.ua_space.specs.Nodes.{id_of};
 ghost use Rattle.std.specs.Prelude.{◌≡◌, map, filter, Ok, if◌then◌else◌, None, Some, not, true, ◌==◌, ◌||◌, ◌∷◌, []};
 ghost use Rattle.ua_binary.specs.Binary.{node_of as id_of_lent};
 ghost use Rattle.ua_binary.specs.Format.{IsOrStarved};
@@ -125,7 +125,8 @@ pub(crate) fn tell(
 
 impl Link<'_> {
     ghost use Rattle.ua_services.specs.declared.browsing.NodeClass.TheVariants.{Unspecified};
-    ghost use Rattle.ua_space.specs.Space.{node_of, class_of, browse_name_of, display_name_of};
+    ghost use Rattle.ua_space.specs.Space.{node_of, browse_name_of, display_name_of};
+    ghost use Rattle.ua_space.specs.Nodes.{class_of};
     ghost use Rattle.ua_space.specs.References.{told, link_of};
 
     /// The fields whose bits are set.

@@ -49,7 +49,8 @@ impl<'a> Node<'a> {
     ghost use Rattle.std.specs.Prelude.{option_map};
     ghost use Rattle.ua_binary.specs.Binary.{node_of as id_of_lent, qualified_of, localized_of};
     ghost use Rattle.ua_binary.specs.declared.values.NodeId.TheVariants.{Numeric};
-    ghost use Rattle.ua_space.specs.Space.{node_of, id_of, class_of, name_of, browse_name_of, display_name_of};
+    ghost use Rattle.ua_space.specs.Space.{node_of, browse_name_of, display_name_of};
+    ghost use Rattle.ua_space.specs.Nodes.{id_of, class_of, name_of};
     ghost use Rattle.ua_space.specs.Index.{node_in};
 
     /// The node of this number in namespace 0.
