@@ -4,8 +4,8 @@ use Rattle.ua_settings.specs.declared.keys.Section.{Section}
 use Rattle.std.specs.Option.{option_or}
 use Rattle.toml.specs.Data.{Members}
 use Rattle.ua_settings.specs.declared.keys.Wrong.{Wrong}
-use Rattle.ua_settings.specs.File.{Rule, Spot, names_in, tables}
-use Rattle.ua_settings.specs.Judging.{wrong_from}
+use Rattle.ua_settings.specs.File.{Rule, names_in, tables}
+use Rattle.ua_settings.specs.Judging.{Spot, wrong_from}
 
 abbrev pub or_else : {A : Type 0} → Option A → Option A → Option A
 or_else = option_or

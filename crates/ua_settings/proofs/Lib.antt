@@ -1,4 +1,4 @@
-pub mod Firsts
+pub mod Refusals
 pub mod Mapped
 pub mod Plans
 pub mod Sounds

@@ -1,5 +1,5 @@
 -- A document in which nothing is wrong is sound.
-use Rattle.std.proofs.Common.{◌≡◌, ◌&&◌, ◌+◌, ◌∙◌, ℕ, Bool, true, false, not, cond, List, [], ◌∷◌, find, codes, refl, sym, Option, None, Some, IfSome, option_map, option_and_then, unwrap_or, is_some, is_none, nat_eq}
+use Rattle.std.proofs.Common.{◌≡◌, ◌&&◌, ◌+◌, ℕ, Bool, true, false, not, cond, List, [], ◌∷◌, find, codes, refl, Option, None, Some, IfSome, option_map, option_and_then, unwrap_or, is_some, is_none, nat_eq}
 use Rattle.std.specs.Option.{option_to_list}
 use Rattle.std.proofs.lemmas.Bool.{false≢true, and_parts}
 use Rattle.std.specs.List.{list_any, AllByRecursion}
@@ -9,9 +9,8 @@ use Rattle.ua_settings.specs.declared.keys.Section.{Section}
 use Rattle.ua_settings.specs.declared.keys.Section.TheVariants.{Document, Archive, Server, User, Folder, Variable}
 use Rattle.ua_settings.specs.declared.keys.Wrong.{Wrong}
 use Rattle.ua_settings.specs.declared.keys.Wrong.TheVariants.{Unknown, Missing, Bad}
-use Rattle.ua_settings.specs.File.{Names, Spot, rules, is_name, text_at, tables, names_in, wrong_key, refused}
-use Rattle.ua_settings.specs.Judging.{test, is_id, is_short, is_replica, is_missing, is_bad, wrong_from, wrong_at, first_wrong}
-use Rattle.ua_settings.proofs.Firsts.{refused_first}
+use Rattle.ua_settings.specs.File.{Names, rules, is_name, text_at, tables, names_in}
+use Rattle.ua_settings.specs.Judging.{Spot, test, is_id, is_short, is_replica, is_missing, is_bad, wrong_key, wrong_from, wrong_at, first_wrong}
 use Rattle.ua_settings.proofs.FileParts.{wrong_in, name_of, or_later, or_else}
 use Rattle.ua_settings.specs.Sound.{IsSound, IsSoundArchive, IsSoundServer, IsSoundUser, IsSoundFolder, IsSoundVariable}
 
@@ -166,8 +165,8 @@ variable_sound names members right =
       folder = optional_held (λ id. list_any (λ folder. pointwise nat_eq folder id) names.folders) (get_member (codes "folder") members) spoils.1.1.1.1.0;
     }
 
-first_sound : (document : Members) → first_wrong document ≡ None → IsSound document
-first_sound document none =
+pub sound : (document : Members) → first_wrong document ≡ None → IsSound document
+sound document none =
     let first = none_both (option_map (λ spot. (Unknown, spot)) (wrong_at document Unknown)) _ none in
     let second = none_both (option_map (λ spot. (Missing, spot)) (wrong_at document Missing)) _ first.1 in
     let third = none_both (option_map (λ spot. (Bad, spot)) (wrong_at document Bad)) _ second.1 in
@@ -187,6 +186,3 @@ first_sound document none =
       folders = all_weaker _ _ (folder_sound (names_in document)) _ (all Folder);
       variables = all_weaker _ _ (variable_sound (names_in document)) _ (all Variable);
     }
-
-pub sound : (document : Members) → refused document ≡ None → IsSound document
-sound document none = first_sound document (sym (refused_first document) ∙ none)

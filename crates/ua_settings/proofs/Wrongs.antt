@@ -9,8 +9,8 @@ use Rattle.toml.specs.declared.value.Value.{Value}
 use Rattle.ua_settings.specs.declared.keys.Key.{Key}
 use Rattle.ua_settings.specs.declared.keys.Section.{Section}
 use Rattle.ua_settings.specs.declared.keys.Wrong.{Wrong}
-use Rattle.ua_settings.specs.File.{Names, Rule, rules, keys_in, wrong_key}
-use Rattle.ua_settings.specs.Judging.{is_key, wrong_from}
+use Rattle.ua_settings.specs.File.{Names, Rule, rules, keys_in}
+use Rattle.ua_settings.specs.Judging.{is_key, wrong_key, wrong_from}
 use Rattle.ua_settings.proofs.FileParts.{name_of, or_later}
 use Rattle.ua_settings.specs.Keys.{rule_of}
 use Rattle.ua_settings.proofs.Mapped.{find_of_mapped, found_rule}

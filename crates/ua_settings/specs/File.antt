@@ -1,7 +1,7 @@
 -- What a settings file says (TOML 1.1): its tables, their keys, what each key must hold, and where a file is wrong.
-use Rattle.std.specs.Prelude.{◌==◌, ◌&&◌, ℕ, pos, negsuc, Bool, true, false, not, List, [], ◌∷◌, length, map, find, codes, nat_eq, nat_le, Option, None, Some, is_some, is_none, option_map, option_and_then, slice_get, unwrap_or}
+use Rattle.std.specs.Prelude.{◌==◌, ◌&&◌, ℕ, pos, negsuc, Bool, true, false, not, List, [], ◌∷◌, length, map, find, codes, nat_eq, nat_le, Option, None, Some, is_some, is_none, option_and_then, unwrap_or}
 use Rattle.std.specs.Option.{option_map_or, option_to_list}
-use Rattle.std.specs.List.{list_all, list_any, count_by, enumerate_from, filter_map, flat_map}
+use Rattle.std.specs.List.{list_all, list_any, count_by, filter_map}
 use Rattle.std.specs.Cmp.Lexicographic.{pointwise}
 use Rattle.toml.specs.Data.{Data, Items, no_items, item, Members, no_members, member, get_member, as_str, as_integer, as_bool, as_array, as_table}
 use Rattle.uuid.specs.Text.{parsed}
@@ -86,21 +86,13 @@ fits names Tables value = option_map_or (λ items. list_all (λ item. is_some (a
 
 -- ---- where a document is wrong
 
--- the first key of a table that is wrong: one that the table may not have, one that it has to have, or one that doesn't hold what it must
-abbrev pub wrong_key : Names → Wrong → Section → Members → Option (List ℕ)
-wrong_key names Unknown section members = find (λ key. not (list_any (λ rule. pointwise nat_eq key rule.name) (rules section))) (keys_in members)
-wrong_key names Missing section members = option_map (λ rule. rule.name) (find (λ rule. rule.required && is_none (get_member rule.name members)) (rules section))
-wrong_key names Bad section members = option_map (λ rule. rule.name) (find (λ rule. option_map_or (λ value. not (fits names rule.holds value)) (get_member rule.name members) false) (rules section))
+-- whether a key of a table is wrong: one that the table may not have, one that it has to have, or one that doesn't hold what it must
+abbrev pub is_wrong : Names → Wrong → Section → Members → Bool
+is_wrong names Unknown section members = list_any (λ key. not (list_any (λ rule. pointwise nat_eq key rule.name) (rules section))) (keys_in members)
+is_wrong names Missing section members = list_any (λ rule. rule.required && is_none (get_member rule.name members)) (rules section)
+is_wrong names Bad section members = list_any (λ rule. option_map_or (λ value. not (fits names rule.holds value)) (get_member rule.name members) false) (rules section)
 
--- a key in the table of this number, from 1, among those of a section
-abbrev pub Spot : Type 0
-Spot = record { section : Section; number : ℕ; key : List ℕ }
-
--- the tables of a section in which a key is wrong in this way, by their numbers from 1, and the first such key of each
-abbrev pub wrong_in : Members → Wrong → Section → List (Wrong × Spot)
-wrong_in document wrong section =
-    filter_map (λ t. option_map (λ key. (wrong, record { section = section; number = t.0; key = key })) (wrong_key (names_in document) wrong section t.1)) (enumerate_from 1 (tables document section))
-
--- the first way in which a document is wrong, unknown keys before missing ones and these before bad ones, and where
-abbrev pub refused : Members → Option (Wrong × Spot)
-refused document = slice_get (flat_map (λ wrong. flat_map (wrong_in document wrong) (Document ∷ Archive ∷ Server ∷ User ∷ Folder ∷ Variable ∷ [])) (Unknown ∷ Missing ∷ Bad ∷ [])) 0
+-- the first way in which a document is wrong: unknown keys before missing ones and these before bad ones
+abbrev pub refused : Members → Option Wrong
+refused document = find (λ wrong.
+    list_any (λ section. list_any (is_wrong (names_in document) wrong section) (tables document section)) (Document ∷ Archive ∷ Server ∷ User ∷ Folder ∷ Variable ∷ [])) (Unknown ∷ Missing ∷ Bad ∷ [])

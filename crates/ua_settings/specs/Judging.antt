@@ -1,5 +1,5 @@
 -- What the steps say by which a file is judged.
-use Rattle.std.specs.Prelude.{◌+◌, ◌==◌, ◌&&◌, ℕ, ℤ, pos, negsuc, Bool, false, not, List, [], ◌∷◌, length, codes, nat_eq, nat_le, Option, None, is_some, is_none, option_map}
+use Rattle.std.specs.Prelude.{◌+◌, ◌==◌, ◌&&◌, ℕ, ℤ, pos, negsuc, Bool, false, not, List, [], ◌∷◌, length, codes, nat_eq, nat_le, Option, None, is_some, is_none, option_map, find}
 use Rattle.std.specs.Option.{option_map_or, option_or}
 use Rattle.std.specs.List.{list_any, count_by}
 use Rattle.std.specs.Cmp.Lexicographic.{pointwise}
@@ -9,7 +9,7 @@ use Rattle.ua_settings.specs.declared.keys.Section.{Section}
 use Rattle.ua_settings.specs.declared.keys.Section.TheVariants.{Document, Archive, Server, User, Folder, Variable}
 use Rattle.ua_settings.specs.declared.keys.Wrong.{Wrong}
 use Rattle.ua_settings.specs.declared.keys.Wrong.TheVariants.{Unknown, Missing, Bad}
-use Rattle.ua_settings.specs.File.{Names, Rule, Spot, fits, is_name, names_in, rules, tables, wrong_key}
+use Rattle.ua_settings.specs.File.{Names, Rule, fits, is_name, keys_in, names_in, rules, tables}
 
 -- ---- what a key must hold
 
@@ -39,6 +39,16 @@ is_missing members rule = rule.required && is_none (get_member rule.name members
 abbrev pub is_bad : Names → Members → Rule → Bool
 is_bad names members rule = test (λ value. not (fits names rule.holds value)) (get_member rule.name members)
 
+-- the first key of a table that is wrong: one that the table may not have, one that it has to have, or one that doesn't hold what it must
+abbrev pub wrong_key : Names → Wrong → Section → Members → Option (List ℕ)
+wrong_key names Unknown section members = find (λ key. not (is_key section key)) (keys_in members)
+wrong_key names Missing section members = option_map (λ rule. rule.name) (find (is_missing members) (rules section))
+wrong_key names Bad section members = option_map (λ rule. rule.name) (find (is_bad names members) (rules section))
+
+-- a key in the table of this number, from 1, among those of a section
+abbrev pub Spot : Type 0
+Spot = record { section : Section; number : ℕ; key : List ℕ }
+
 -- the first wrong key of these tables of a section, of which the first has this number
 abbrev pub wrong_from : Names → Wrong → Section → ℕ → List Members → Option Spot
 wrong_from names wrong section number [] = None
@@ -53,6 +63,6 @@ first_of f (a ∷ more) = option_or (f a) (first_of f more)
 abbrev pub wrong_at : Members → Wrong → Option Spot
 wrong_at document wrong = first_of (λ section. wrong_from (names_in document) wrong section 1 (tables document section)) (Document ∷ Archive ∷ Server ∷ User ∷ Folder ∷ Variable ∷ [])
 
--- the first way in which a document is wrong, and where
+-- the first way in which a document is wrong, unknown keys before missing ones and these before bad ones, and where
 abbrev pub first_wrong : Members → Option (Wrong × Spot)
 first_wrong document = first_of (λ wrong. option_map (λ spot. (wrong, spot)) (wrong_at document wrong)) (Unknown ∷ Missing ∷ Bad ∷ [])

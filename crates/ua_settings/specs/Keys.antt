@@ -4,7 +4,8 @@ use Rattle.ua_settings.specs.declared.keys.Key.{Key}
 use Rattle.ua_settings.specs.declared.judging.Known.{Known}
 use Rattle.ua_settings.specs.declared.judging.Spot.{Spot as Found}
 use Rattle.ua_settings.specs.declared.keys.Wrong.{Wrong}
-use Rattle.ua_settings.specs.File.{Rule, Names, Spot}
+use Rattle.ua_settings.specs.File.{Rule, Names}
+use Rattle.ua_settings.specs.Judging.{Spot}
 
 abbrev pub rule_of : Key → Rule
 rule_of key = record { name = key.name.now; required = key.required; holds = key.holds }

@@ -4,7 +4,7 @@ use Rattle.toml.specs.Data.{Members}
 use Rattle.ua_settings.specs.declared.keys.Wrong.{Wrong}
 use Rattle.ua_settings.specs.declared.place.Place.{Place}
 use Rattle.ua_settings.specs.declared.place.Place.TheVariants.{Line, Key, Nodes}
-use Rattle.ua_settings.specs.File.{Spot, refused}
+use Rattle.ua_settings.specs.Judging.{Spot, first_wrong}
 
 -- a line of the text
 abbrev pub IsLine : Place → Type 0
@@ -20,4 +20,4 @@ IsTold None place = Unit {0}
 
 abbrev pub IsPlaceOf : Option Members → Place → Type 0
 IsPlaceOf None place = IsLine place
-IsPlaceOf (Some document) place = IsTold (refused document) place
+IsPlaceOf (Some document) place = IsTold (first_wrong document) place

@@ -58,7 +58,7 @@ settings_in document = result_map_both (values_of_tables (table_at (codes "archi
 -- the settings that a text gives, by the document that it is, or the first fault
 abbrev pub read_in : Option Members → Result Values SettingsFault
 read_in None = Err NotToml
-read_in (Some document) = elim (refused document) [ None ↦ settings_in document | Some (Unknown, spot) ↦ Err UnknownKey | Some (Missing, spot) ↦ Err MissingKey | Some (Bad, spot) ↦ Err BadValue ]
+read_in (Some document) = elim (refused document) [ None ↦ settings_in document | Some Unknown ↦ Err UnknownKey | Some Missing ↦ Err MissingKey | Some Bad ↦ Err BadValue ]
 
 -- that, or memory ran out
 abbrev pub IsReadOrStarved : Option Members → Result Values SettingsFault → Type 0

@@ -8,8 +8,8 @@ ghost use Rattle.std.specs.BTreeMap.{keys};
 ghost use Rattle.std.specs.List.{list_all, count_by};
 ghost use Rattle.toml.specs.Data.{as_table, string};
 ghost use Rattle.toml.specs.View.{view, table_view};
-ghost use Rattle.ua_settings.specs.File.{is_name, fits, keys_in, rules, wrong_key, names_in, refused, text_at};
-ghost use Rattle.ua_settings.specs.Judging.{is_user_name, is_id, is_replica, is_key, is_missing, is_bad, wrong_from, wrong_at};
+ghost use Rattle.ua_settings.specs.File.{is_name, fits, keys_in, rules, names_in, text_at};
+ghost use Rattle.ua_settings.specs.Judging.{is_user_name, is_id, is_replica, is_key, is_missing, is_bad, wrong_key, wrong_from, wrong_at, first_wrong};
 ghost use Rattle.ua_settings.specs.Keys.{rule_of, known_of, spot_of, refusal_of};
 
 use crate::keys::{Holds, Key, Section, Wrong, keys_of};
@@ -314,7 +314,7 @@ pub(crate) fn judge<'a>(
     alloc: Global,
     document: &'a Table,
 ) -> Result<Option<(Wrong, Spot<'a>)>, AllocError>
-    ensures { IfOk result (λ found. option_map refusal_of found ≡ refused (table_view document.now)) }
+    ensures { IfOk result (λ found. option_map refusal_of found ≡ first_wrong (table_view document.now)) }
 {
     let known = known_in(alloc, document)?;
     for wrong in WRONGS {

@@ -5,7 +5,7 @@ ghost use Rattle.std.specs.List.{count_by};
 ghost use Rattle.toml.specs.Errors.{IsMemory, IsWithin};
 ghost use Rattle.toml.specs.Parse.{parse_document};
 ghost use Rattle.toml.specs.View.{table_view};
-ghost use Rattle.ua_settings.specs.File.{refused};
+ghost use Rattle.ua_settings.specs.Judging.{first_wrong};
 
 use crate::judging::{is_among, judge, texts};
 use crate::keys::Section;
@@ -58,7 +58,7 @@ impl Place {
 
     /// The place in a document.
     fn in_document(alloc: Global, document: &Table) -> Result<Place, AllocError>
-        ensures { IfOk result (IsTold (refused (table_view document.now))) }
+        ensures { IfOk result (IsTold (first_wrong (table_view document.now))) }
     {
         match judge(alloc, document)? {
             Some((_, spot)) => Ok(Place::Key {

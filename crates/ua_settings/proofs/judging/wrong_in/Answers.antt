@@ -2,7 +2,7 @@ use Rattle.std.proofs.Common.{◌+◌, ◌<◌, map, length, sym, ap, ◌∙◌,
 use Rattle.std.proofs.lemmas.List.{get_or-map, length-map}
 use Rattle.std.specs.Option.{option_copied}
 use Rattle.toml.specs.View.{table_view}
-use Rattle.ua_settings.specs.File.{wrong_key}
+use Rattle.ua_settings.specs.Judging.{wrong_key}
 use Rattle.ua_settings.specs.Keys.{known_of}
 use Rattle.ua_settings.proofs.Wrongs.{goes_on, stops}
 use Rattle.ua_settings.proofs.judging.wrong_in.Goals as goal
