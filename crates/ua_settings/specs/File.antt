@@ -1,4 +1,4 @@
--- What a settings file says (TOML 1.1): its tables, their keys, what each key must hold, and where a file is wrong.
+-- What a settings file says (TOML 1.1): its tables, their keys, what each key must hold, and how a file is wrong.
 use Rattle.std.specs.Prelude.{◌==◌, ◌&&◌, ℕ, pos, negsuc, Bool, true, false, not, List, [], ◌∷◌, length, map, find, codes, nat_eq, nat_le, Option, None, Some, is_some, is_none, option_and_then, unwrap_or}
 use Rattle.std.specs.Option.{option_map_or, option_to_list}
 use Rattle.std.specs.List.{list_all, list_any, count_by, filter_map}
@@ -84,7 +84,7 @@ fits names FolderId value = option_map_or (λ id. list_any (λ folder. pointwise
 fits names OneTable value = is_some (as_table value)
 fits names Tables value = option_map_or (λ items. list_all (λ item. is_some (as_table item)) (items_in items)) (as_array value) false
 
--- ---- where a document is wrong
+-- ---- how a document is wrong
 
 -- whether a key of a table is wrong: one that the table may not have, one that it has to have, or one that doesn't hold what it must
 abbrev pub is_wrong : Names → Wrong → Section → Members → Bool
