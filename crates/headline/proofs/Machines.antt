@@ -259,7 +259,7 @@ module _ {A : Type 0} (state : A → Store) where
   alike p machines i j a b c d node query point one other are at to even honest honest' asked asked' free free' =
       let x = replica_now p machines i a are at in
       let y = replica_now p machines j b are to in
-      let was : Was p x.0 = record { time = length p.events; place = i; at_that = x.1 } in
-      let was' : Was p y.0 = record { time = length p.events; place = j; at_that = y.1 } in
+      let was : Was p x.0 = (length p.events, i, x.1) in
+      let was' : Was p y.0 = (length p.events, j, y.1) in
       let same : HaveLearnedSame x.0 y.0 = (learned_even p x.0 y.0 are.past was was').1 (λ origin. ap (λ (S : Content). vec S origin) (sym x.4) ∙ (even origin ∙ ap (λ (S : Content). vec S origin) y.4)) in
       answered_alike p x.0 y.0 (state a) (state c) (state b) (state d) node query point one other are.past was was' same x.2 y.2 honest honest' asked asked' free free'

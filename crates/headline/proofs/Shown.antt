@@ -19,6 +19,7 @@ use Rattle.records.proofs.Orders.{stamp_total}
 use Rattle.records.proofs.Sorting.{all-has, has-filter, has_from_filter, pairwise-filter, asymmetric, irreflexive}
 use Rattle.archive.specs.Store.{IsLawfulContent}
 use Rattle.archive.specs.declared.reading.Direction.{Direction}
+use Rattle.archive.specs.declared.reading.Direction.TheVariants.{Forward, Backward}
 use Rattle.archive.specs.Reading.{times, lives, log, in_direction, is_between, is_past}
 use Rattle.archive.proofs.Ranges.{IsAhead, chosen_go, between_from}
 use Rattle.archive.proofs.SetLemmas.{exact_test}
@@ -84,8 +85,8 @@ behind_differ Forward s t u e k = grind (arith, nat_tests, ints, e, k)
 behind_differ Backward s t u e k = grind (arith, nat_tests, ints, e, k)
 
 none_at : (time : ℤ) (xs : List Held) → ((h : Held) → Has xs h → h.time ≡ time → ⊥) → filter (λ h. int_eq h.time time) xs ≡ []
-none_at time [] no = refl
-none_at time (x ∷ xs) no = ap (λ b. cond b (x ∷ filter (λ (h : Held). int_eq h.time time) xs) (filter (λ (h : Held). int_eq h.time time) xs)) (differ x.time time (no x (inl refl))) ∙ none_at time xs (λ h m. no h (inr m))
+none_at time [] absent = refl
+none_at time (x ∷ xs) absent = ap (λ b. cond b (x ∷ filter (λ (h : Held). int_eq h.time time) xs) (filter (λ (h : Held). int_eq h.time time) xs)) (differ x.time time (absent x (inl refl))) ∙ none_at time xs (λ h m. absent h (inr m))
 
 -- of values that go on in a direction there is one of a time
 only_at : (d : Direction) (xs : List Held) (h : Held) (time : ℤ) → IsPairwise (IsAhead d) xs → Has xs h → h.time ≡ time → filter (λ x. int_eq x.time time) xs ≡ h ∷ []

@@ -4,7 +4,7 @@ use Rattle.std.proofs.Common.{drop_at}
 use Rattle.std.specs.Prelude.{get_or, is_some, unwrap_or, nat_lt, not, if◌then◌else◌}
 use Rattle.std.specs.Str.{bytes_eq}
 use Rattle.std.proofs.lemmas.Slice.Eq.{bytes_eq-Decides}
-use Rattle.std.specs.Int.{Width, w16, w32, from_le_bytes, to_le_bytes, cast_signed, cast_unsigned}
+use Rattle.std.specs.Int.{w16, w32, from_le_bytes, cast_unsigned}
 use Rattle.std.proofs.lemmas.Int.{of_z-to_z}
 use Rattle.std.proofs.lemmas.Nat.{le_bytes_2, le_bytes_4}
 use Rattle.ua_binary.specs.declared.fault.BinaryFault.{BinaryFault}

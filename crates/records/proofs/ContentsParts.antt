@@ -1,5 +1,5 @@
 -- Names for parts of the definitions in specs/Contents and specs/Records, for the lemmas on these parts.
-use Rattle.std.specs.Prelude.{ℕ, ◌==◌, if◌then◌else◌, Bool, List, Option, Some, None}
+use Rattle.std.specs.Prelude.{ℕ, ◌==◌, if◌then◌else◌, Bool, Option, Some, None}
 use Rattle.std.specs.List.{list_any}
 use Rattle.std.specs.Ordering.{is_eq}
 use Rattle.records.specs.declared.record.Record.{Record}

@@ -1,14 +1,13 @@
 -- The spelling of records is lawful.
-use Rattle.std.proofs.Common.{◌≡◌, ℕ, ◌≤◌, ◌<◌, ◌^◌, ℤ, pos, ◌≤ℤ◌, int_le, Bool, true, false, cond, nat_le, List, [], ◌++◌, length, nat_lt, Option, Some, None, unwrap_or, Result, Ok, Err, refl, sym, ap, ◌∙◌, subst, arith, ◌&&◌}
+use Rattle.std.proofs.Common.{◌≡◌, ℕ, ◌≤◌, ◌<◌, ◌^◌, ℤ, pos, ◌≤ℤ◌, int_le, Bool, true, false, cond, nat_le, List, [], length, nat_lt, Option, Some, None, unwrap_or, Result, Ok, Err, refl, sym, subst, arith, ◌&&◌}
 use Rattle.std.specs.Str.{bytes_eq}
 use Rattle.std.specs.Int.{w64}
 use Rattle.std.specs.Int.RustNames.{FitsSigned}
 use Rattle.std.proofs.lemmas.Slice.Eq.{bytes_eq-Decides}
 use Rattle.std.proofs.lemmas.Bool.{ltb-false, le-ltb, leb-true, le-leb, and_from, and_parts, true≢false}
 use Rattle.std.proofs.lemmas.Int.{ints}
-use Rattle.std.proofs.lemmas.List.{append_cancel_right}
 use Rattle.stamp.specs.Limits.{greatest}
-use Rattle.ua_binary.specs.Format.{Format, IsLawful, ◌▸◌, standing_for, passing, raised, whole}
+use Rattle.ua_binary.specs.Format.{IsLawful, ◌▸◌, standing_for, passing, raised, whole}
 use Rattle.ua_binary.specs.Binary.{IsCounted, node_id, text}
 use Rattle.ua_binary.proofs.Combined.{bind_ok, passed_ok, byte_lawful, then_lawful, standing_lawful, passing_lawful, canonical_lawful, fitting_lawful, raised_lawful}
 use Rattle.ua_binary.proofs.Lawful.{u16_lawful, u64_lawful, i64_lawful, node_id_lawful, text_lawful}

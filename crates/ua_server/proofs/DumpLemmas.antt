@@ -58,7 +58,7 @@ less-number x z e o = grind (arith, nat_tests)
 beyond-front : (xs ys : List Record) (y : Record) → Rises name_cmp (xs ++ ys) → 1 ≤ y.number → Has ys y → vec xs y.origin < y.number
 beyond-front xs ys y up one h = elim (vec_attained xs y.origin) [
   | inl e ↦ omega arith
-  | inr k ↦ let lt = less-number k.0 y (across xs ys k.0 y up k.1 h) k.2.from in omega (arith, k.2.numbered)
+  | inr k ↦ let lt = less-number k.0 y (across xs ys k.0 y up k.1 h) k.2.0 in omega (arith, k.2.1)
 ]
 
 rest_is : (xs ys : List Record) (v : ℕ → ℕ) → Rises name_cmp (xs ++ ys) → ((r : Record) → Has (xs ++ ys) r → 1 ≤ r.number) → ((o : ℕ) → v o ≡ vec xs o) → filter (is_beyond v) (xs ++ ys) ≡ ys
