@@ -183,7 +183,7 @@ module _ (R : Content) (closed : IsClosed R) (r : Record) (q : Details) (stamps 
           (e, s.0, next.1.shows, s.1)
     ]
 
-    pub live_shown : IsOfRaw q → IsLatest R r → is_delete r.asked ≡ false → (h : Held) × (h.time ≡ r.time) × (h.value ≡ r.value) × ShowsAt stamps pages r.time (h ∷ [])
+    pub live_shown : IsOfRaw q → IsLatest R r → is_delete r.asked ≡ false → (h : Held) × (h.time ≡ r.time) × (h.value ≡ r.value) × ShowsAt stamps pages R r.node r.time (h ∷ [])
     live_shown is latest written =
         let h = latest_written R r (closed_stamps R closed) latest written in
         let now : current R r.node h.0.time ≡ Some h.0 = ap (current R r.node) h.3 ∙ h.1 in (
@@ -192,14 +192,16 @@ module _ (R : Content) (closed : IsClosed R) (r : Record) (q : Details) (stamps 
           h.2,
           (
             body R r.node q,
+            λ g m. ((body_has R r.node q g).0 m).0,
             shows ∙ raw_shown R r.node q stamps is reaches.0,
             only_at (direction q) (body R r.node q) h.0 r.time (body_goes R r.node q) ((body_has R r.node q h.0).1 (now, ap (in_body q) h.3 ∙ reaches.1)) h.3,
           ),
         )
 
-    pub none_shown : IsOfRaw q → IsLatest R r → is_delete r.asked ≡ true → ShowsAt stamps pages r.time []
+    pub none_shown : IsOfRaw q → IsLatest R r → is_delete r.asked ≡ true → ShowsAt stamps pages R r.node r.time []
     none_shown is latest deleted = (
       body R r.node q,
+      λ g m. ((body_has R r.node q g).0 m).0,
       shows ∙ raw_shown R r.node q stamps is reaches.0,
       none_at r.time (body R r.node q) (λ g m at. none-some _ (sym (latest_deleted R r (closed_stamps R closed) latest deleted) ∙ (sym (ap (current R r.node) at) ∙ ((body_has R r.node q g).0 m).0))),
     )

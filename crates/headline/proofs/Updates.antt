@@ -11,8 +11,7 @@ use Rattle.records.proofs.CloseLemmas.{closed_stamps}
 use Rattle.records.proofs.ContentLemmas.{vec_bounds}
 use Rattle.records.proofs.LatestLemmas.{story_rises, story_has}
 use Rattle.records.proofs.PutLemmas.{has-put}
-use Rattle.records.proofs.Orders.{stamp_total}
-use Rattle.records.proofs.Sorting.{all-has, asymmetric, irreflexive}
+use Rattle.records.proofs.Sorting.{all-has}
 use Rattle.archive.specs.Store.{Fine}
 use Rattle.hist_update.specs.declared.request.Request.{Request}
 use Rattle.hist_update.specs.Outcome.{Operation, Added, outcome, after}
@@ -62,16 +61,21 @@ has_learned p s t request op r past recorded was = (
 
 -- ---- the greatest stamp
 
-latest_or : (xs : List Record) (r : Record) → Rises stamp_cmp xs → Has xs r → ((z : Record) × Has xs z × (stamp_cmp r z ≡ Less)) ⊎ ((z : Record) → Has xs z → (z ≡ r) ⊎ (stamp_cmp z r ≡ Less))
-latest_or [] r up h = absurd h
-latest_or (x ∷ []) r up h = inr (λ z m. elim m [ inl e ↦ elim h [ inl f ↦ inl (sym e ∙ f) | inr k ↦ absurd k ] | inr k ↦ absurd k ])
-latest_or (x ∷ y ∷ ys) r up h = elim h [
-  | inl e ↦ inl (y, inr (inl refl), subst (λ z. stamp_cmp z y ≡ Less) e up.0.0)
-  | inr k ↦ elim (latest_or (y ∷ ys) r up.1 k) [
-    | inl m ↦ inl (m.0, inr m.1, m.2)
-    | inr all ↦ inr (λ z m. elim m [ inl e ↦ inr (subst (λ a. stamp_cmp a r ≡ Less) e (all-has (λ b. stamp_cmp x b ≡ Less) (y ∷ ys) r up.0 k)) | inr n ↦ all z n ])
-  ]
-]
+greatest : (xs : List Record) (r : Record) → Rises stamp_cmp xs → Has xs r → (z : Record) × Has xs z × ((y : Record) → Has xs y → (y ≡ z) ⊎ (stamp_cmp y z ≡ Less))
+greatest [] r up h = absurd h
+greatest (x ∷ []) r up h = (x, inl refl, λ y m. elim m [ inl e ↦ inl (sym e) | inr k ↦ absurd k ])
+greatest (x ∷ z ∷ zs) r up h =
+    let m = greatest (z ∷ zs) z up.1 (inl refl) in
+    (m.0, inr m.1, λ y k. elim k [ inl e ↦ inr (subst (λ a. stamp_cmp a m.0 ≡ Less) e (all-has (λ b. stamp_cmp x b ≡ Less) (z ∷ zs) m.0 up.0 m.1)) | inr n ↦ m.2 y n ])
+
+pub has_latest : (p : Past) (t : Site) (r : Record) → IsPast p → Was p t → Has t.content r
+    → (last : Record) × IsLatest t.content last × (last.node ≡ r.node) × (last.time ≡ r.time) × ((r ≡ last) ⊎ (stamp_cmp r last ≡ Less))
+has_latest p t r past was h =
+    let R = t.content in
+    let own = (story_has R r.node r.time r).1 (h, refl, refl) in
+    let m = greatest (story R r.node r.time) r (story_rises R r.node r.time (closed_stamps R (lawful_was p t past was).closed)) own in
+    let z = (story_has R r.node r.time m.0).0 m.1 in
+    (m.0, record { there = z.0; above = λ y k e f. m.2 y ((story_has R r.node r.time y).1 (k, e ∙ z.1, f ∙ z.2)) }, z.1, z.2, m.2 r own)
 
 -- another record of its node and time has a greater stamp
 pub record HasLater (R : Content) (r : Record) : Type 0 where
@@ -81,24 +85,7 @@ pub record HasLater (R : Content) (r : Record) : Type 0 where
   pub time : later.time ≡ r.time
   pub greater : stamp_cmp r later ≡ Less
 
--- so it isn't the latest
-later_not : (R : Content) (r : Record) → HasLater R r → IsLatest R r → ⊥
-later_not R r more latest = elim (latest.above more.later more.there more.node more.time) [
-  | inl e ↦ irreflexive stamp_cmp stamp_total r (subst (λ z. stamp_cmp r z ≡ Less) e more.greater)
-  | inr less ↦ asymmetric stamp_cmp stamp_total r more.later more.greater less
-]
-
-pub latest_later : (p : Past) (t : Site) (r : Record) → IsPast p → Was p t → Has t.content r → IsLatest t.content r ⊎ HasLater t.content r
-latest_later p t r past was h =
-    let R = t.content in
-    let rises = story_rises R r.node r.time (closed_stamps R (lawful_was p t past was).closed) in
-    elim (latest_or (story R r.node r.time) r rises ((story_has R r.node r.time r).1 (h, refl, refl))) [
-      | inl m ↦ let z = (story_has R r.node r.time m.0).0 m.1 in inr (record { later = m.0; there = z.0; node = z.1; time = z.2; greater = m.2 })
-      | inr all ↦ inl (record { there = h; above = λ z k e f. all z ((story_has R r.node r.time z).1 (k, e, f)) })
-    ]
-
-pub latest_or_not : (p : Past) (t : Site) (r : Record) → IsPast p → Was p t → Has t.content r → IsLatest t.content r ⊎ (IsLatest t.content r → ⊥)
-latest_or_not p t r past was h = elim (latest_later p t r past was h) [ inl latest ↦ inl latest | inr more ↦ inr (later_not t.content r more) ]
-
 pub later_from : (p : Past) (t : Site) (r : Record) → IsPast p → Was p t → Has t.content r → (IsLatest t.content r → ⊥) → HasLater t.content r
-later_from p t r past was h not = elim (latest_later p t r past was h) [ inl latest ↦ absurd (not latest) | inr more ↦ more ]
+later_from p t r past was h not =
+    let m = has_latest p t r past was h in
+    elim m.4 [ inl same ↦ absurd (not (subst (IsLatest t.content) (sym same) m.1)) | inr less ↦ record { later = m.0; there = m.1.there; node = m.2; time = m.3; greater = less } ]

@@ -5,6 +5,8 @@ use Rattle.std.specs.Ordering.{int_eq}
 use Rattle.ua_binary.specs.declared.values.NodeId.{NodeId}
 use Rattle.ua_services.specs.declared.attributes.TimestampsToReturn.{TimestampsToReturn}
 use Rattle.ua_services.specs.declared.history.ReadRawModifiedDetails.{ReadRawModifiedDetails as Details}
+use Rattle.records.specs.Lists.{Has}
+use Rattle.records.specs.Records.{current}
 use Rattle.records.specs.Contents.{Content}
 use Rattle.records.specs.declared.shown.Held.{Held}
 use Rattle.records.specs.declared.shown.Entry.{Entry}
@@ -47,9 +49,10 @@ IsOfRaw q = (q.is_read_modified ≡ false) × (q.return_bounds ≡ false)
 abbrev pub ShowsModification : TimestampsToReturn → List Page → Entry → Type 0
 ShowsModification stamps pages e = (place : ℕ) × (slice_get (joined_values pages) place ≡ Some (shown_entry stamps e)) × (slice_get (joined_infos pages) place ≡ Some (info e))
 
--- live values are shown, and no others, of which these are the ones of this time
-abbrev pub ShowsAt : TimestampsToReturn → List Page → ℤ → List Held → Type 0
-ShowsAt stamps pages time held = (live : List Held) × (joined_values pages ≡ map (shown stamps) (values live)) × (filter (λ h. int_eq h.time time) live ≡ held)
+-- live values that are held of the node are shown, and nothing else, of which these are the ones of this time
+abbrev pub ShowsAt : TimestampsToReturn → List Page → Content → NodeId → ℤ → List Held → Type 0
+ShowsAt stamps pages R node time held =
+    (live : List Held) × ((h : Held) → Has live h → current R node h.time ≡ Some h) × (joined_values pages ≡ map (shown stamps) (values live)) × (filter (λ h. int_eq h.time time) live ≡ held)
 
 -- ---- pages of one read, by what they are read of
 

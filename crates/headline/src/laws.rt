@@ -1,6 +1,7 @@
 //! The laws. Each function's contract is a law.
 
 ghost use Rattle.std.specs.Prelude.{◌≡◌, ◌⊎◌, ◌↔◌, ◌||◌, ℕ, ◌+◌, ◌≤◌, ◌<◌, max, Bool, true, false, List, [], ◌∷◌, length, filter, map, slice_get, Option, Some, None, Ok};
+ghost use Rattle.std.specs.declared.cmp.Ordering.TheVariants.{Less};
 ghost use Rattle.stamp.specs.Limits.{lift};
 ghost use Rattle.stamp.specs.Numbers.{number_of};
 ghost use Rattle.ua_binary.specs.Binary.{IsNodeId};
@@ -11,7 +12,7 @@ ghost use Rattle.ua_services.specs.declared.attributes.TimestampsToReturn.{Times
 ghost use Rattle.ua_services.specs.declared.history.HistoryReadResult.{HistoryReadResult};
 ghost use Rattle.records.specs.Lists.{Has};
 ghost use Rattle.records.specs.Moments.{ticks_of};
-ghost use Rattle.records.specs.Records.{missing, is_beyond, is_delete, entry};
+ghost use Rattle.records.specs.Records.{missing, is_beyond, is_delete, entry, stamp_cmp};
 ghost use Rattle.records.specs.Contents.{Content, IsWithin, IsLatest, numbers_of, vec, top, join, merged};
 ghost use Rattle.records.specs.declared.record.Record.{Record};
 ghost use Rattle.records.specs.declared.shown.Entry.{Entry};
@@ -108,8 +109,9 @@ pub fn merging_is_a_join()
 /// comes to above all that was held: a replica has learned it, at any time, exactly where its vector covers it. Wherever
 /// it was learned, it stands, in all reads of its node that reach its time, their pages joined: its own modification is
 /// shown, with its user and its tick; where its stamp is the greatest of its node and time, a write's value is the live
-/// one, and no other is, and behind a delete none is; and where another one is greater, a write's value is shown by a
-/// modification. One of the two is so, and a read of its one time reaches it.
+/// one, and no other is, and behind a delete none is; and where it isn't, a write's value is shown by a modification. Of
+/// each node and time where something was learned one stamp is the greatest, its own or one above its own; and a read of
+/// its one time reaches it.
 pub fn every_update_stands(details: ReadRawModifiedDetails)
     ensures recorded { (p : Past) (s : Site) (request : Request) (op : Operation) (code : Code) → IsPast p → WasAnswered p s request op code → IsGood code
         → (r : Record) × WasRecorded p s request op r × IsRecordOf request s.number op r × (r.number ≡ vec s.content s.number + 1) × (lift request.reading (top s.content) ≡ Some r.tick) }
@@ -117,13 +119,14 @@ pub fn every_update_stands(details: ReadRawModifiedDetails)
     ensures told { (p : Past) (t : Site) (r : Record) (stamps : TimestampsToReturn) (pages : List Page) → IsPast p → Was p t → Has t.content r → IsReading p t r.node (record { details = details; stamps = stamps }) pages
         → Reaches details r.time → details.is_read_modified ≡ true → (before : Option Record) × ShowsModification stamps pages (entry before r) }
     ensures live { (p : Past) (t : Site) (r : Record) (stamps : TimestampsToReturn) (pages : List Page) → IsPast p → Was p t → IsLatest t.content r → IsReading p t r.node (record { details = details; stamps = stamps }) pages
-        → Reaches details r.time → IsOfRaw details → is_delete r.asked ≡ false → (h : Held) × (h.time ≡ r.time) × (h.value ≡ r.value) × ShowsAt stamps pages r.time (h ∷ []) }
+        → Reaches details r.time → IsOfRaw details → is_delete r.asked ≡ false → (h : Held) × (h.time ≡ r.time) × (h.value ≡ r.value) × ShowsAt stamps pages t.content r.node r.time (h ∷ []) }
     ensures gone { (p : Past) (t : Site) (r : Record) (stamps : TimestampsToReturn) (pages : List Page) → IsPast p → Was p t → IsLatest t.content r → IsReading p t r.node (record { details = details; stamps = stamps }) pages
-        → Reaches details r.time → IsOfRaw details → is_delete r.asked ≡ true → ShowsAt stamps pages r.time [] }
+        → Reaches details r.time → IsOfRaw details → is_delete r.asked ≡ true → ShowsAt stamps pages t.content r.node r.time [] }
     ensures replaced { (p : Past) (t : Site) (r : Record) (stamps : TimestampsToReturn) (pages : List Page) → IsPast p → Was p t → Has t.content r → (IsLatest t.content r → ⊥)
         → IsReading p t r.node (record { details = details; stamps = stamps }) pages → Reaches details r.time → details.is_read_modified ≡ true → is_delete r.asked ≡ false
         → (e : Entry) × (e.time ≡ r.time) × (e.value ≡ Some r.value) × ShowsModification stamps pages e }
-    ensures either { (p : Past) (t : Site) (r : Record) → IsPast p → Was p t → Has t.content r → IsLatest t.content r ⊎ (IsLatest t.content r → ⊥) }
+    ensures latest { (p : Past) (t : Site) (r : Record) → IsPast p → Was p t → Has t.content r
+        → (last : Record) × IsLatest t.content last × (last.node ≡ r.node) × (last.time ≡ r.time) × ((r ≡ last) ⊎ (stamp_cmp r last ≡ Less)) }
     ensures reached { (p : Past) (t : Site) (r : Record) (modified : Bool) → IsPast p → Was p t → Has t.content r → Reaches (at_one_time (ticks_of r.time) modified) r.time }
 {
     whole_reads(details);

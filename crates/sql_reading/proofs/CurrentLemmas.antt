@@ -31,6 +31,7 @@ use Rattle.records.specs.Lists.{Has, Rises, IsApart, IsPairwise, sort_by, last}
 use Rattle.records.specs.Same.{same_node}
 use Rattle.records.proofs.SameParts.{node_code}
 use Rattle.records.specs.Records as told
+use Rattle.records.proofs.ContentsParts.{held_of}
 use Rattle.records.specs.Contents.{Content, cut, vec, IsLatest, HasOther}
 use Rattle.records.specs.Moments.{moment, ticks_of, pico_of, whole_again, pico_within}
 use Rattle.records.specs.declared.record.Record.{Record}
@@ -228,11 +229,11 @@ moments_cmp s t =
     ap₂ ordering_then (value_cmp-Int (ticks_of s) (ticks_of t)) (value_cmp-Int (pos (pico_of s)) (pos (pico_of t)) ∙ numbers_cmp (pico_of s) (pico_of t))
     ∙ (in_order (ticks_of s) (ticks_of t) (pico_of s) (pico_of t) (pico_within s) (pico_within t) ∙ ap₂ int_cmp (whole_again s) (whole_again t))
 
-held_live : (extra : Bool) (o : Option Record) (h : Held) → told.held_of extra (told.write o) ≡ Some h → (r : Record) × (o ≡ Some r) × (told.is_delete r.asked ≡ false)
+held_live : (extra : Bool) (o : Option Record) (h : Held) → held_of extra (told.write o) ≡ Some h → (r : Record) × (o ≡ Some r) × (told.is_delete r.asked ≡ false)
 held_live extra None h e = cc
 held_live extra (Some r) h e = go (told.is_delete r.asked) refl e
   where
-    go : (b : Bool) → told.is_delete r.asked ≡ b → told.held_of extra (cond b None (Some r)) ≡ Some h → (s : Record) × (Some r ≡ Some s) × (told.is_delete s.asked ≡ false)
+    go : (b : Bool) → told.is_delete r.asked ≡ b → held_of extra (cond b None (Some r)) ≡ Some h → (s : Record) × (Some r ≡ Some s) × (told.is_delete s.asked ≡ false)
     go true d k = cc
     go false d k = (r, refl, d)
 

@@ -1,5 +1,5 @@
 use Rattle.headline.proofs.Times.{lawful_was}
-use Rattle.headline.proofs.Updates.{recorded, has_learned, latest_or_not, later_from}
+use Rattle.headline.proofs.Updates.{recorded, has_learned, has_latest, later_from}
 use Rattle.headline.proofs.Shown.{own_shown, replaced_shown, live_shown, none_shown, reached}
 use Rattle.headline.proofs.Paging.{reading_shows}
 use Rattle.headline.proofs.laws.every_update_stands.Goals as goal
@@ -10,8 +10,8 @@ returns-clause-recorded c = recorded
 pub returns-clause-learned : goal.returns-clause-learned
 returns-clause-learned c = has_learned
 
-pub returns-clause-either : goal.returns-clause-either
-returns-clause-either c = latest_or_not
+pub returns-clause-latest : goal.returns-clause-latest
+returns-clause-latest c = has_latest
 
 pub returns-clause-told : goal.returns-clause-told
 returns-clause-told c = λ p t r stamps pages past was h reading reaches is.
