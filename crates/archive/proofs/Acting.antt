@@ -1,23 +1,22 @@
 -- Steps over an archive, by what is held.
 use Rattle.std.proofs.Common.{◌≡◌, Bool, true, false, ◌||◌, List, [], ◌∷◌, ◌++◌, Option, Some, None, IfSome, unwrap_or, Result, ◌⊎◌, ℕ, refl, sym, ap, ◌∙◌, subst, inl, inr}
+use Rattle.std.proofs.Math.Bool.{or-false}
 use Rattle.std.proofs.lemmas.Bool.{true≢false, cases_Bool}
-use Rattle.std.proofs.lemmas.List.{append_assoc}
+use Rattle.std.proofs.lemmas.List.{append_assoc, append-nil}
 use Rattle.std.specs.List.{list_any}
 use Rattle.records.specs.Contents.{Content, Adds, finding, learned, put}
 use Rattle.records.specs.declared.record.Record.{Record}
 use Rattle.archive.specs.declared.fault.StoreFault.{StoreFault}
+use Rattle.archive.specs.declared.fault.StoreFault.TheVariants.{OutOfMemory, Refused, WrongReplica, WrongArchive, Broken}
 use Rattle.archive.specs.declared.fault.LearnFault.{LearnFault}
-use Rattle.archive.specs.Store.{Store, Rests, Mark, faults_in, faults_of, is_break, Passes, Leaves, Stays, Learns, store_fault_in, answer_to, MayBeFound, HasContent}
+use Rattle.archive.specs.Store.{Store, Rests, Mark, Stands, Met, faults_in, faults_of, is_break, breaks, Passes, Leaves, Stays, Learns, store_fault_in, answer_to, MayBeFound, IsLeft, IsThere}
+use Rattle.archive.specs.Listed.{is_broken}
 use Rattle.archive.specs.Steps.{Marked, give, step, and_then, each, Does, Moves, Acts}
-use Rattle.archive.specs.Growth.{IsUpdateOf, Grows}
-use Rattle.archive.proofs.Calls.{passes-none, passes-then, in_use, left_in_use}
-use Rattle.archive.proofs.Growing.{grows-none, grows-one, grows-then}
+use Rattle.archive.specs.Growth.{Grows}
+use Rattle.archive.proofs.Calls.{passes-none, passes-then, broken-by, in_use, left_in_use}
+use Rattle.archive.proofs.Growing.{grows-none, grows-then}
 
--- ---- what is held
-
--- an archive in use holds its content
-pub holds-content : (s : Store) → Rests s → s.honest → s.broken ≡ false → HasContent s s.content
-holds-content s rests honest used = record { content = λ _. refl; found = λ left h. inl ((rests honest used).only left h) }
+-- ---- what is left
 
 -- a store that was used before a call that leaves it used
 used_before : (a b : Store) (faults : List StoreFault) → Passes a b faults → b.broken ≡ false → a.broken ≡ false
@@ -27,17 +26,76 @@ used_before a b faults p e = go a.broken refl
     go false f = f
     go true f = absurd (true≢false (sym (ap (λ y. y || list_any is_break faults) f) ∙ (sym p.broken ∙ e)))
 
--- behind a break there is nothing more to find
-found-on : (a b : Store) (faults : List StoreFault) (R left : Content) → Passes a b faults → MayBeFound a.broken R left → MayBeFound b.broken R left
-found-on a b faults R left p (inl e) = inl e
-found-on a b faults R left p (inr h) = inr (p.broken ∙ ap (λ y. y || list_any is_break faults) h.0, h.1, h.2, h.3)
+-- an archive in use is left with its content alone
+pub left-alone : (s : Store) (R : Content) → Rests s → s.honest → s.broken ≡ false → IsLeft s R → R ≡ s.content
+left-alone s R rests honest used (inl h) = sym h.1
+left-alone s R rests honest used (inr m) = (rests honest used).only R m
 
--- what stays is held
-pub holds-stays : (a b : Store) (faults : List StoreFault) (R : Content) → Stays a b → Passes a b faults → b.honest → HasContent a R → HasContent b R
-holds-stays a b faults R s p honest h = record {
-  content = λ used. s.content honest used ∙ h.content (used_before a b faults p used);
-  found = λ left m. found-on a b faults R left p (h.found left (s.crash honest left m));
-}
+-- what a call that was answered found there
+pub left-before : (a b : Store) (R : Content) → Leaves a b None → b.honest → IsLeft a R → a.content ≡ R
+left-before a b R p honest h = sym (left-alone a R p.before (p.passes.honest honest) (in_use a b p) h)
+
+-- what is left where the content stays was left before
+pub left-stays : (a b : Store) (faults : List StoreFault) (R : Content) → Stays a b → Passes a b faults → b.honest → IsLeft b R → IsLeft a R
+left-stays a b faults R s p honest (inl h) = inl (used_before a b faults p h.0, sym (s.content honest h.0) ∙ h.1)
+left-stays a b faults R s p honest (inr m) = inr (s.crash honest R m)
+
+-- ---- marks as an opening finds them
+
+pub found-same : (broken : Bool) (used : List Mark) → MayBeFound broken used used
+found-same broken [] = refl
+found-same broken (mark ∷ used) = (inl refl, found-same (broken || breaks mark) used)
+
+any-or : (x : Bool) (faults more : List StoreFault) → (x || list_any is_break (faults ++ more)) ≡ ((x || list_any is_break faults) || list_any is_break more)
+any-or true faults more = refl
+any-or false [] more = refl
+any-or false (f ∷ faults) more = any-or (is_break f) faults more
+
+pub found-then : (broken : Bool) (us ms vs ns : List Mark) → MayBeFound broken us ms → MayBeFound (broken || list_any is_break (faults_of us)) vs ns → MayBeFound broken (us ++ vs) (ms ++ ns)
+found-then broken [] ms vs ns h more = subst (λ (l : List Mark). MayBeFound broken vs (l ++ ns)) (sym h) (subst (λ (x : Bool). MayBeFound x vs ns) (or-false broken) more)
+found-then broken (u ∷ us) [] vs ns h more = absurd h
+found-then broken (u ∷ us) (m ∷ ms) vs ns h more =
+    (h.0, found-then (broken || breaks u) us ms vs ns h.1 (subst (λ (x : Bool). MayBeFound x vs ns) (any-or broken (faults_in u) (faults_of us)) more))
+
+-- their faults are those that were told
+pub found-faults : (broken : Bool) (used marks : List Mark) → MayBeFound broken used marks → faults_of marks ≡ faults_of used
+found-faults broken [] marks h = ap faults_of h
+found-faults broken (told ∷ used) [] h = absurd h
+found-faults broken (told ∷ used) (mark ∷ marks) h =
+    ap (λ fs. fs ++ faults_of marks) (one h.0) ∙ ap (λ fs. faults_in told ++ fs) (found-faults (broken || breaks told) used marks h.1)
+  where
+    one : (mark ≡ told) ⊎ ((broken ≡ false) × (told ≡ Met Broken) × (mark ≡ Stands)) → faults_in mark ≡ faults_in told
+    one (inl e) = ap faults_in e
+    one (inr k) = ap faults_in k.2 ∙ sym (ap faults_in k.1)
+
+or_left : (x y : Bool) → (x || y) ≡ false → x ≡ false
+or_left true y e = absurd (true≢false e)
+or_left false y e = refl
+
+or_right : (x y : Bool) → (x || y) ≡ false → y ≡ false
+or_right true y e = absurd (true≢false e)
+or_right false y e = e
+
+-- while the store is used they are those that were told
+pub found-used : (broken : Bool) (used marks : List Mark) → MayBeFound broken used marks → (broken || list_any is_break (faults_of used)) ≡ false → marks ≡ used
+found-used broken [] marks h e = h
+found-used broken (told ∷ used) [] h e = absurd h
+found-used broken (told ∷ used) (mark ∷ marks) h e = ap (λ m. m ∷ marks) (one h.0) ∙ ap (λ l. told ∷ l) (found-used (broken || breaks told) used marks h.1 whole)
+  where
+    whole : ((broken || breaks told) || list_any is_break (faults_of used)) ≡ false
+    whole = sym (any-or broken (faults_in told) (faults_of used)) ∙ e
+
+    one : (mark ≡ told) ⊎ ((broken ≡ false) × (told ≡ Met Broken) × (mark ≡ Stands)) → mark ≡ told
+    one (inl same) = same
+    one (inr k) = absurd (true≢false (sym (ap breaks k.1) ∙ or_right broken (breaks told) (or_left (broken || breaks told) (list_any is_break (faults_of used)) whole)))
+
+-- steps in whose way no fault of the store came, before others and behind them
+pub found-behind : (broken : Bool) (quiet us ms : List Mark) → faults_of quiet ≡ [] → MayBeFound broken us ms → MayBeFound broken (quiet ++ us) (quiet ++ ms)
+found-behind broken quiet us ms none h =
+    found-then broken quiet quiet us ms (found-same broken quiet) (subst (λ (x : Bool). MayBeFound x us ms) (sym (ap (λ fs. broken || list_any is_break fs) none ∙ or-false broken)) h)
+
+pub found-before : (broken : Bool) (us ms quiet : List Mark) → MayBeFound broken us ms → MayBeFound broken (us ++ quiet) (ms ++ quiet)
+found-before broken us ms quiet h = found-then broken us ms quiet quiet h (found-same (broken || list_any is_break (faults_of us)) quiet)
 
 -- ---- steps in a row
 
@@ -83,127 +141,135 @@ does-each {X} {Y} {S} f xs x s us vs ys y t u p q = record {
 }
 
 -- no call: no mark among these is a fault of the store
-pub moves-none-by : (s : Store) (used : List Mark) → faults_of used ≡ [] → (To : Content → Content → Type 0) → ((R : Content) → To R R) → Moves s s used To
-moves-none-by s used quiet To stays = record { passes = subst (Passes s s) (sym quiet) (passes-none s); acts = λ honest R h. (R, stays R, h, grows-none s.own R); crash = λ honest R h left m. inl m }
+pub moves-none-by : (s : Store) (used : List Mark) → faults_of used ≡ [] → (To : List Mark → Content → Content → Type 0) → ((R : Content) → To used R R) → Moves s s used To
+moves-none-by s used quiet To stays = record { passes = subst (Passes s s) (sym quiet) (passes-none s); acts = λ honest S h. (used, found-same s.broken used, S, h, stays S, grows-none s.own S); there = λ was. was }
 
-pub moves-none : (s : Store) (To : Content → Content → Type 0) → ((R : Content) → To R R) → Moves s s [] To
+pub moves-none : (s : Store) (To : List Mark → Content → Content → Type 0) → ((R : Content) → To [] R R) → Moves s s [] To
 moves-none s To stays = moves-none-by s [] refl To stays
 
 -- some calls, and then others
-pub moves-then : (a b c : Store) (us vs : List Mark) (P Q To : Content → Content → Type 0) → ((R S T : Content) → P R S → Q S T → To R T) → Moves a b us P → Moves b c vs Q → Moves a c (us ++ vs) To
+pub moves-then : (a b c : Store) (us vs : List Mark) (P Q To : List Mark → Content → Content → Type 0) → ((ms ns : List Mark) (R S T : Content) → P ms R S → Q ns S T → To (ms ++ ns) R T)
+    → Moves a b us P → Moves b c vs Q → Moves a c (us ++ vs) To
 moves-then a b c us vs P Q To both p q = record {
   passes = subst (Passes a c) (sym (faults-append us vs)) (passes-then a b c (faults_of us) (faults_of vs) p.passes q.passes);
-  acts = λ honest R h.
-      let first = p.acts (q.passes.honest honest) R h in
-      let second = q.acts honest first.0 first.2 in
-      (second.0, both R first.0 second.0 first.1 second.1, second.2, further R first.0 second.0 first.3 second.3);
-  crash = λ honest R h left m.
-      let first = p.acts (q.passes.honest honest) R h in
-      elim (q.crash honest first.0 first.2 left m) [
-        | inl before ↦ p.crash (q.passes.honest honest) R h left before
-        | inr more ↦ inr (further R first.0 left first.3 more)
-      ];
+  acts = λ honest T h.
+      let (ns, found_later, S, left_between, later, grows_later) = q.acts honest T h in
+      let (ms, found_first, R, left_first, first, grows_first) = p.acts (q.passes.honest honest) S left_between in (
+        ms ++ ns,
+        found-then a.broken us ms vs ns found_first (subst (λ (x : Bool). MayBeFound x vs ns) p.passes.broken found_later),
+        R,
+        left_first,
+        both ms ns R S T first later,
+        grows-then a.own R S T grows_first (subst (λ (own : ℕ). Grows own S T) p.passes.own grows_later),
+      );
+  there = λ was. q.there (p.there was);
 }
-  where
-    further : (R S T : Content) → Grows a.own R S → Grows b.own S T → Grows a.own R T
-    further R S T x y = grows-then a.own R S T x (subst (λ (own : ℕ). Grows own S T) p.passes.own y)
+
+-- behind a call something is left
+pub there-behind : (a b : Store) (fault : Option StoreFault) → Leaves a b fault → IsThere a → IsThere b
+there-behind a b fault p was honest none = p.some honest (λ left m. none left (inr m))
 
 -- calls that leave the content as it is
-pub moves-stays : (a b : Store) (used : List Mark) (To : Content → Content → Type 0) → Passes a b (faults_of used) → Stays a b → (b.honest → (R : Content) → HasContent a R → To R R) → Moves a b used To
-moves-stays a b used To passes stays so = record {
+pub moves-stays : (a b : Store) (used : List Mark) (To : List Mark → Content → Content → Type 0) → Passes a b (faults_of used) → Stays a b → (IsThere a → IsThere b) → (b.honest → (R : Content) → IsLeft a R → To used R R) → Moves a b used To
+moves-stays a b used To passes stays there so = record {
   passes = passes;
-  acts = λ honest R h. (R, so honest R h, holds-stays a b (faults_of used) R stays passes honest h, grows-none a.own R);
-  crash = λ honest R h left m. inl (stays.crash honest left m);
+  acts = λ honest S h.
+      let was : IsLeft a S = left-stays a b (faults_of used) S stays passes honest h in
+      (used, found-same a.broken used, S, was, so honest S was, grows-none a.own S);
+  there = there;
 }
 
 -- the same calls, told in other words and by other marks
-pub moves-told : (a b : Store) (us vs : List Mark) (P To : Content → Content → Type 0) → faults_of vs ≡ faults_of us → ((R S : Content) → P R S → To R S) → Moves a b us P → Moves a b vs To
+pub moves-told : (a b : Store) (us vs : List Mark) (P To : List Mark → Content → Content → Type 0) → faults_of vs ≡ faults_of us
+    → ((ms : List Mark) → MayBeFound a.broken us ms → (ns : List Mark) × MayBeFound a.broken vs ns × ((R S : Content) → P ms R S → To ns R S)) → Moves a b us P → Moves a b vs To
 moves-told a b us vs P To same so p = record {
   passes = subst (Passes a b) (sym same) p.passes;
-  acts = λ honest R h. let q = p.acts honest R h in (q.0, so R q.0 q.1, q.2, q.3);
-  crash = p.crash;
+  acts = λ honest S h.
+      let (ms, found, R, was, first, grows) = p.acts honest S h in
+      let (ns, found_so, told) = so ms found in
+      (ns, found_so, R, was, told R S first, grows);
+  there = p.there;
 }
 
-pub moves-as : (a b : Store) (us : List Mark) (P To : Content → Content → Type 0) → ((R S : Content) → P R S → To R S) → Moves a b us P → Moves a b us To
-moves-as a b us P To so p = moves-told a b us us P To refl so p
+pub moves-as : (a b : Store) (us : List Mark) (P To : List Mark → Content → Content → Type 0) → ((ms : List Mark) (R S : Content) → P ms R S → To ms R S) → Moves a b us P → Moves a b us To
+moves-as a b us P To so p = moves-told a b us us P To refl (λ ms found. (ms, found, so ms)) p
+
+-- the same behind steps in whose way no fault of the store came, and before such steps
+pub moves-behind-quiet : (a b : Store) (quiet us : List Mark) (P To : List Mark → Content → Content → Type 0) → faults_of quiet ≡ [] → ((ms : List Mark) (R S : Content) → P ms R S → To (quiet ++ ms) R S) → Moves a b us P → Moves a b (quiet ++ us) To
+moves-behind-quiet a b quiet us P To none so p =
+    moves-told a b us (quiet ++ us) P To (faults-append quiet us ∙ ap (λ fs. fs ++ faults_of us) none) (λ ms found. (quiet ++ ms, found-behind a.broken quiet us ms none found, so ms)) p
+
+pub moves-before-quiet : (a b : Store) (us quiet : List Mark) (P To : List Mark → Content → Content → Type 0) → faults_of quiet ≡ [] → ((ms : List Mark) (R S : Content) → P ms R S → To (ms ++ quiet) R S) → Moves a b us P → Moves a b (us ++ quiet) To
+moves-before-quiet a b us quiet P To none so p =
+    moves-told a b us (us ++ quiet) P To (faults-append us quiet ∙ (ap (λ fs. faults_of us ++ fs) none ∙ append-nil (faults_of us))) (λ ms found. (ms ++ quiet, found-before a.broken us ms quiet found, so ms)) p
 
 pub acts-give : {X : Type 0} (s : Store) (x : X) → Acts s s [] (λ R. give (x, R)) x
-acts-give s x = moves-none s (λ R S. Does (give (x, R)) [] (x, S)) (λ R. does-give (x, R))
+acts-give s x = moves-none s (λ marks R S. Does (give (x, R)) marks (x, S)) (λ R. does-give (x, R))
 
 -- some steps, and then others by what those answered
 pub acts-then : {X Y : Type 0} (a b c : Store) (xs ys : List Mark) (f : Content → Marked (X × Content)) (g : X → Content → Marked (Y × Content)) (x : X) (y : Y)
     → Acts a b xs f x → Acts b c ys (g x) y → Acts a c (xs ++ ys) (λ R. and_then (f R) (λ p. g p.0 p.1)) y
 acts-then {X} {Y} a b c xs ys f g x y p q =
-    moves-then a b c xs ys (λ R S. Does (f R) xs (x, S)) (λ S T. Does (g x S) ys (y, T)) (λ R T. Does (and_then (f R) (λ p. g p.0 p.1)) (xs ++ ys) (y, T))
-    (λ R S T first second. does-then (f R) (λ p. g p.0 p.1) xs ys (x, S) (y, T) first second) p q
+    moves-then a b c xs ys (λ ms R S. Does (f R) ms (x, S)) (λ ns S T. Does (g x S) ns (y, T)) (λ marks R T. Does (and_then (f R) (λ p. g p.0 p.1)) marks (y, T))
+    (λ ms ns R S T first second. does-then (f R) (λ p. g p.0 p.1) ms ns (x, S) (y, T) first second) p q
 
 -- the same steps, told in other words
 pub acts-as : {X : Type 0} (a b : Store) (used : List Mark) (f g : Content → Marked (X × Content)) (x : X) → ((R : Content) (marks : List Mark) → f R marks ≡ g R marks) → Acts a b used f x → Acts a b used g x
-acts-as a b used f g x same p = moves-as a b used (λ R S. Does (f R) used (x, S)) (λ R S. Does (g R) used (x, S)) (λ R S does. does-as (f R) (g R) used (x, S) (same R) does) p
+acts-as a b used f g x same p = moves-as a b used (λ marks R S. Does (f R) marks (x, S)) (λ marks R S. Does (g R) marks (x, S)) (λ ms R S does. does-as (f R) (g R) ms (x, S) (same R) does) p
 
 -- one item more
 pub acts-each : {X Y : Type 0} (a b c : Store) (us vs : List Mark) (f : X → Content → Marked (Y × Content)) (xs : List X) (x : X) (ys : List Y) (y : Y)
     → Acts a b us (each f xs) ys → Acts b c vs (f x) y → Acts a c (us ++ vs) (each f (xs ++ x ∷ [])) (ys ++ y ∷ [])
 acts-each a b c us vs f xs x ys y p q =
-    moves-then a b c us vs (λ R S. Does (each f xs R) us (ys, S)) (λ S T. Does (f x S) vs (y, T)) (λ R T. Does (each f (xs ++ x ∷ []) R) (us ++ vs) (ys ++ y ∷ [], T))
-    (λ R S T first second. does-each f xs x R us vs ys y S T first second) p q
+    moves-then a b c us vs (λ ms R S. Does (each f xs R) ms (ys, S)) (λ ns S T. Does (f x S) ns (y, T)) (λ marks R T. Does (each f (xs ++ x ∷ []) R) marks (ys ++ y ∷ [], T))
+    (λ ms ns R S T first second. does-each f xs x R ms ns ys y S T first second) p q
 
 -- ---- one call
 
 -- a step that the archive wasn't asked in, or that it stays in: what is told is f of what was held
 pub acts-stays : {X : Type 0} (a b : Store) (mark : Mark) (f : Content → Mark → X) (x : X) → Passes a b (faults_of (mark ∷ [])) → Stays a b
-    → (b.honest → (R : Content) → HasContent a R → x ≡ f R mark) → Acts a b (mark ∷ []) (λ R. step (λ m. (f R m, R))) x
-acts-stays {X} a b mark f x passes stays so =
-    moves-stays a b (mark ∷ []) (λ R S. Does (step (λ m. (f R m, R))) (mark ∷ []) (x, S)) passes stays
+    → (IsThere a → IsThere b) → (b.honest → (R : Content) → IsLeft a R → x ≡ f R mark) → Acts a b (mark ∷ []) (λ R. step (λ m. (f R m, R))) x
+acts-stays {X} a b mark f x passes stays there so =
+    moves-stays a b (mark ∷ []) (λ marks R S. Does (step (λ m. (f R m, R))) marks (x, S)) passes stays there
     (λ honest R h. record { does = λ later. ap (λ (y : X). let z : (X × Content) × List Mark = ((y, R), later) in z) (sym (so honest R h)) })
 
--- what an opening finds of a store in use is its content
-settled-only : (a b : Store) (fault : Option StoreFault) (left : Content) → Leaves a b fault → b.honest → b.broken ≡ false → b.may_hold left → left ≡ b.content
-settled-only a b fault left p honest used m = (p.after honest used).only left m
-
--- what was held before a call that met no fault of the store
-pub held-before : (a b : Store) (R : Content) → Leaves a b None → HasContent a R → a.content ≡ R
-held-before a b R leaves h = h.content (in_use a b leaves)
-
--- a record was learned, or refused
-pub learned-held : (a b : Store) (r : Record) (result : Result Bool LearnFault) → Learns a b r result → store_fault_in result ≡ None → b.honest → (R : Content) → HasContent a R
-    → (result ≡ answer_to (finding R r)) × HasContent b (unwrap_or (learned R r) R)
-learned-held a b r result p quiet honest R h =
+-- what a call of learn that met no fault of the store was of
+pub learned-left : (a b : Store) (r : Record) (result : Result Bool LearnFault) (S : Content) → Learns a b r result → store_fault_in result ≡ None → b.honest → IsLeft b S
+    → IsLeft a a.content × (result ≡ answer_to (finding a.content r)) × (S ≡ unwrap_or (learned a.content r) a.content)
+learned-left a b r result S p quiet honest h =
     let leaves : Leaves a b None = subst (Leaves a b) quiet p.leaves in
-    let used : b.broken ≡ false = left_in_use a b leaves in
     let told = p.answered honest quiet in
-    let same : a.content ≡ R = held-before a b R leaves h in
-    let now : b.content ≡ unwrap_or (learned R r) R = told.1 ∙ ap (λ S. unwrap_or (learned S r) S) same in
-    (told.0 ∙ ap (λ S. answer_to (finding S r)) same, record { content = λ _. now; found = λ left m. inl (settled-only a b None left leaves honest used m ∙ now) })
+    (inl (in_use a b leaves, refl), told.0, left-alone b S leaves.after honest (left_in_use a b leaves) h ∙ told.1)
 
--- the store met a fault: what was held is held, and what was asked for may stand behind a break
-pub unlearned-held : (a b : Store) (r : Record) (result : Result Bool LearnFault) (fault : StoreFault) → Learns a b r result → store_fault_in result ≡ Some fault → b.honest → (R : Content) → HasContent a R
-    → HasContent b R
-unlearned-held a b r result fault p met honest R h =
-    let leaves : Leaves a b (Some fault) = subst (Leaves a b) met p.leaves in
-    let kept : b.broken ≡ false → b.content ≡ R = λ used.
-    let stays : IfSome (Some fault) (λ _. b.content ≡ a.content) = subst (λ o. IfSome o (λ _. b.content ≡ a.content)) met (p.kept honest used) in
-    stays ∙ h.content (used_before a b (fault ∷ []) leaves.passes used) in
-    record {
-      content = kept;
-      found = λ left m. elim (cases_Bool b.broken) [
-        | inl broken ↦ elim (p.crash honest left m) [
-          | inl before ↦ found-on a b (fault ∷ []) R left leaves.passes (h.found left before)
-          | inr more ↦
-              let same : a.content ≡ R = h.content more.0 in
-              inr (broken, r, ap (λ S. finding S r) (sym same) ∙ more.1, more.2 ∙ ap (put r) same)
-        ]
-        | inr used ↦ inl (settled-only a b (Some fault) left leaves honest used m ∙ kept used)
-      ];
-    }
+broken-fault : (fault : StoreFault) → is_broken (Some fault) ≡ true → fault ≡ Broken
+broken-fault OutOfMemory e = absurd (true≢false (sym e))
+broken-fault Refused e = absurd (true≢false (sym e))
+broken-fault WrongReplica e = absurd (true≢false (sym e))
+broken-fault WrongArchive e = absurd (true≢false (sym e))
+broken-fault Broken e = refl
 
--- the record of an update was to be learned: behind a fault it may stand
-pub grows-asked : (a b : Store) (r : Record) (result : Result Bool LearnFault) (own : ℕ) (R : Content) → Learns a b r result → b.honest → HasContent a R → (finding R r ≡ Adds → IsUpdateOf own R r)
-    → (left : Content) → b.may_hold left → a.may_hold left ⊎ Grows own R left
-grows-asked a b r result own R p honest h is left m = elim (p.crash honest left m) [
-  | inl before ↦ inl before
-  | inr more ↦
-      let same : a.content ≡ R = h.content more.0 in
-      let adds : finding R r ≡ Adds = ap (λ S. finding S r) (sym same) ∙ more.1 in
-      inr (subst (Grows own R) (sym (more.2 ∙ ap (put r) same)) (grows-one own R r (is adds)))
-]
+-- with the record, or without it
+abbrev pub IsWithOrWithout : Store → Record → StoreFault → Content → Content → Type 0
+IsWithOrWithout a r fault R S = (S ≡ R) ⊎ ((a.broken ≡ false) × (fault ≡ Broken) × (finding R r ≡ Adds) × (S ≡ put r R))
+
+-- it met one: what was held is held, or, where it broke the store, that with the record
+pub unlearned-left : (a b : Store) (r : Record) (result : Result Bool LearnFault) (fault : StoreFault) (S : Content) → Learns a b r result → store_fault_in result ≡ Some fault → b.honest → IsLeft b S
+    → (R : Content) × IsLeft a R × IsWithOrWithout a r fault R S
+unlearned-left a b r result fault S p met honest h = go h
+  where
+    leaves : Leaves a b (Some fault)
+    leaves = subst (Leaves a b) met p.leaves
+
+    kept : b.broken ≡ false → b.content ≡ a.content
+    kept used = subst (λ o. IfSome o (λ _. b.content ≡ a.content)) met (p.kept honest used)
+
+    by_store : (b.broken ≡ true) ⊎ (b.broken ≡ false) → a.broken ≡ false → finding a.content r ≡ Adds → S ≡ put r a.content → b.may_hold S → IsWithOrWithout a r fault a.content S
+    by_store (inl broken) used adds is m = inr (used, broken-fault fault (sym (broken-by a b (Some fault) leaves) ∙ broken), adds, is)
+    by_store (inr whole) used adds is m = inl ((leaves.after honest whole).only S m ∙ kept whole)
+
+    go : IsLeft b S → (R : Content) × IsLeft a R × IsWithOrWithout a r fault R S
+    go (inl held) = (a.content, inl (used_before a b (fault ∷ []) leaves.passes held.0, refl), inl (sym held.1 ∙ kept held.0))
+    go (inr m) = elim (p.crash honest S m) [
+      | inl before ↦ (S, inr before, inl refl)
+      | inr more ↦ (a.content, inl (more.0, refl), by_store (cases_Bool b.broken) more.0 more.1 more.2 m)
+    ]

@@ -10,7 +10,7 @@ use Rattle.archive.specs.declared.fault.LearnFault.{LearnFault}
 use Rattle.archive.specs.declared.fault.LearnFault.TheVariants as learn
 use Rattle.archive.specs.declared.setback.Setback.{Setback}
 use Rattle.archive.specs.declared.setback.Setback.TheVariants as setback
-use Rattle.archive.specs.Store.{Mark, Fine, Starved, Met}
+use Rattle.archive.specs.Store.{Mark, Fine, Starved, Stands, Met}
 
 abbrev pub store_number : StoreFault → ℕ
 store_number fault = elim fault [ store.OutOfMemory ↦ 1 | store.Refused ↦ 2 | store.WrongReplica ↦ 3 | store.WrongArchive ↦ 4 | store.Broken ↦ 5 ]
@@ -34,7 +34,7 @@ abbrev pub status_of : StoreFault → Status
 status_of fault = elim fault [ store.OutOfMemory ↦ BAD_OUT_OF_MEMORY | _ ↦ BAD_RESOURCE_UNAVAILABLE ]
 
 abbrev pub status_told : Mark → Option Status
-status_told mark = elim mark [ Fine ↦ None | Starved ↦ Some BAD_OUT_OF_MEMORY | Met fault ↦ Some (status_of fault) ]
+status_told mark = elim mark [ Fine ↦ None | Starved ↦ Some BAD_OUT_OF_MEMORY | Stands ↦ Some (status_of store.Broken) | Met fault ↦ Some (status_of fault) ]
 
 abbrev pub mark_of : Setback → Mark
 mark_of setback.Starved = Starved

@@ -45,13 +45,13 @@ Rests s = s.honest → s.broken ≡ false → IsSettled s
 
 -- ---- what comes in the way
 
--- nothing came in the way of a step, or memory was wanting, or the store met a fault
+-- nothing came in the way of a step, or memory was wanting, or the store met a fault; or it broke, and the step's record stands
 pub data Mark : Type 0 where
-  Fine Starved : Mark
+  Fine Starved Stands : Mark
   Met : StoreFault → Mark
 
 abbrev pub faults_in : Mark → List StoreFault
-faults_in mark = elim mark [ Met fault ↦ fault ∷ [] | _ ↦ [] ]
+faults_in mark = elim mark [ Met fault ↦ fault ∷ [] | Stands ↦ Broken ∷ [] | _ ↦ [] ]
 
 -- the faults of the store among what came in the way of some steps, in order
 abbrev pub faults_of : List Mark → List StoreFault
@@ -133,14 +133,22 @@ pub record Learns (old new : Store) (r : Record) (result : Result Bool LearnFaul
 
 -- ---- what is held, through any calls
 
--- what an opening may find where R is held: R; behind a break also R with the one record that was being learned
-abbrev pub MayBeFound : (broken : Bool) → Content → Content → Type 0
-MayBeFound broken R left = (left ≡ R) ⊎ ((broken ≡ true) × (r : Record) × (finding R r ≡ Adds) × (left ≡ put r R))
+-- what an archive in use holds, or an opening may find, if its store broke or it was stopped there
+abbrev pub IsLeft : Store → Content → Type 0
+IsLeft s R = ((s.broken ≡ false) × (s.content ≡ R)) ⊎ s.may_hold R
 
--- the archive holds R
-pub record HasContent (s : Store) (R : Content) : Type 0 where
-  pub content : s.broken ≡ false → s.content ≡ R
-  pub found : (left : Content) → s.may_hold left → MayBeFound s.broken R left
+-- something is left; behind a break no call says what
+abbrev pub IsThere : Store → Type 0
+IsThere s = s.honest → ((R : Content) → IsLeft s R → ⊥) → ⊥
+
+abbrev pub breaks : Mark → Bool
+breaks mark = list_any is_break (faults_in mark)
+
+-- these came in the way, as an opening finds it: where a step broke a store that was used till then, its record may stand
+abbrev pub MayBeFound : (broken : Bool) → (used marks : List Mark) → Type 0
+MayBeFound broken [] marks = marks ≡ []
+MayBeFound broken (told ∷ used) [] = ⊥
+MayBeFound broken (told ∷ used) (mark ∷ marks) = ((mark ≡ told) ⊎ ((broken ≡ false) × (told ≡ Met Broken) × (mark ≡ Stands))) × MayBeFound (broken || breaks told) used marks
 
 -- ---- how much is asked for
 

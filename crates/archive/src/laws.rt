@@ -1,9 +1,9 @@
 //! Laws of the queries. Each function's contract is a law, and its body is empty.
 
-ghost use Rattle.std.specs.Prelude.{◌≡◌, ◌↔◌, ℕ, ◌+◌, ℤ, true, false, drop, slice_get, List, Bool, Option, Some, None, unwrap_or, Result};
+ghost use Rattle.std.specs.Prelude.{◌≡◌, ◌⊎◌, ◌↔◌, ℕ, ◌+◌, ℤ, true, false, drop, slice_get, List, Bool, Option, Some, None, unwrap_or, Result};
 ghost use Rattle.ua_binary.specs.declared.values.NodeId.{NodeId};
 ghost use Rattle.records.specs.Lists.{Has, IsPairwise};
-ghost use Rattle.records.specs.Contents.{Content, IsClosed, finding, learned};
+ghost use Rattle.records.specs.Contents.{Content, IsClosed, Adds, finding, learned, put};
 ghost use Rattle.records.specs.declared.record.Record.{Record};
 ghost use Rattle.records.specs.declared.shown.Held.{Held};
 ghost use Rattle.records.specs.declared.shown.Entry.{Entry};
@@ -14,7 +14,7 @@ ghost use Rattle.archive.specs.declared.reading.LogPlace.{LogPlace};
 ghost use Rattle.archive.specs.declared.fault.StoreFault.{StoreFault};
 ghost use Rattle.archive.specs.declared.fault.StoreFault.TheVariants as store;
 ghost use Rattle.archive.specs.declared.fault.LearnFault.{LearnFault};
-ghost use Rattle.archive.specs.Store.{Rests, Stays, Passes, Learns, store_fault_in, answer_to, HasContent};
+ghost use Rattle.archive.specs.Store.{Rests, Stays, Passes, Learns, store_fault_in, answer_to, IsLeft};
 ghost use Rattle.archive.specs.Listed.{Listed};
 ghost use Rattle.archive.specs.Scripted.{Scripted};
 
@@ -58,16 +58,15 @@ pub fn memory_is_honest()
     ensures scripted { (a : Scripted) → (⟦<ScriptedArchive as Archive>⟧.state a).honest }
 {}
 
-/// An archive in use holds its content; what it holds stays through each call that leaves the content as
-/// it is; and a call of `learn` answers what the record meets in what is held, and adds it there or
-/// nothing. A fault of the store leaves what is held, and behind a break an opening finds that, or that
-/// with the one record.
+/// An archive in use is left with its content and with nothing else. Whatever a call that leaves the content as it is leaves was left
+/// before; and whatever a call of `learn` leaves is of something that was left before: it answered what the record meets there, and
+/// added it there or nothing. Where a fault of the store came it is what was left before, or, where it broke the store, that with the one record, which it takes in.
 pub fn what_is_held_goes_on<A: Archive>()
-    ensures begins { (a : A) → Rests (A.state a) → (A.state a).honest → (A.state a).broken ≡ false → HasContent (A.state a) (A.state a).content }
-    ensures stays { (a b : A) (faults : List StoreFault) (R : Content) → Stays (A.state a) (A.state b) → Passes (A.state a) (A.state b) faults → (A.state b).honest
-        → HasContent (A.state a) R → HasContent (A.state b) R }
-    ensures learned { (a b : A) (r : Record) (result : Result Bool LearnFault) (R : Content) → Learns (A.state a) (A.state b) r result → store_fault_in result ≡ None → (A.state b).honest
-        → HasContent (A.state a) R → (result ≡ answer_to (finding R r)) × HasContent (A.state b) (unwrap_or (learned R r) R) }
-    ensures unlearned { (a b : A) (r : Record) (result : Result Bool LearnFault) (fault : StoreFault) (R : Content) → Learns (A.state a) (A.state b) r result → store_fault_in result ≡ Some fault → (A.state b).honest
-        → HasContent (A.state a) R → HasContent (A.state b) R }
+    ensures alone { (a : A) (R : Content) → Rests (A.state a) → (A.state a).honest → (A.state a).broken ≡ false → IsLeft (A.state a) R ↔ (R ≡ (A.state a).content) }
+    ensures stays { (a b : A) (faults : List StoreFault) (S : Content) → Stays (A.state a) (A.state b) → Passes (A.state a) (A.state b) faults → (A.state b).honest
+        → IsLeft (A.state b) S → IsLeft (A.state a) S }
+    ensures learned { (a b : A) (r : Record) (result : Result Bool LearnFault) (S : Content) → Learns (A.state a) (A.state b) r result → store_fault_in result ≡ None → (A.state b).honest
+        → IsLeft (A.state b) S → (R : Content) × IsLeft (A.state a) R × (result ≡ answer_to (finding R r)) × (S ≡ unwrap_or (learned R r) R) }
+    ensures unlearned { (a b : A) (r : Record) (result : Result Bool LearnFault) (fault : StoreFault) (S : Content) → Learns (A.state a) (A.state b) r result → store_fault_in result ≡ Some fault → (A.state b).honest
+        → IsLeft (A.state b) S → (R : Content) × IsLeft (A.state a) R × ((S ≡ R) ⊎ (((A.state a).broken ≡ false) × (fault ≡ store.Broken) × (finding R r ≡ Adds) × (S ≡ put r R))) }
 {}

@@ -13,10 +13,10 @@ use Rattle.archive.specs.declared.setback.Setback.{Setback}
 use Rattle.archive.specs.declared.setback.Setback.TheVariants as setback
 use Rattle.archive.specs.declared.fault.StoreFault.TheVariants.{Broken}
 use Rattle.archive.specs.Fault.{code_of, mark_of}
-use Rattle.archive.specs.Store.{Store, Mark, Fine, IsLawfulContent, HasContent, Leaves, Asks, faults_of, Passes}
+use Rattle.archive.specs.Store.{Store, Mark, Fine, IsLawfulContent, IsLeft, Leaves, Asks, faults_of, Passes}
 use Rattle.archive.specs.Steps.{give, step, Acts}
-use Rattle.archive.proofs.Acting.{acts-stays, acts-give, acts-as}
-use Rattle.archive.proofs.Calls.{passes-leaves, in_use, left_in_use, leaves-then}
+use Rattle.archive.proofs.Acting.{left-before, there-behind, acts-stays, acts-give, acts-as}
+use Rattle.archive.proofs.Calls.{passes-leaves, left_in_use, leaves-then}
 use Rattle.hist_read.specs.Finding.{Finds, fault_met}
 use Rattle.hist_read.specs.declared.query.Query.{Query}
 use Rattle.hist_read.specs.declared.point.Position.{Position}
@@ -93,10 +93,10 @@ passes a b (Err (setback.Store fault)) p = passes-leaves a b (Some fault) p
 -- a page was read, in one step
 pub found_acts : (a b : Store) (r : Result HistoryReadResult Setback) (f : Content → HistoryReadResult) (result : HistoryReadResult) → Finds a b r (λ x. x ≡ f a.content) → result ≡ shown_of r
     → Acts a b (mark_in r ∷ []) (λ R. step (λ mark. (told (f R) mark, R))) result
-found_acts a b r f result p e = acts-stays a b (mark_in r) (λ R mark. told (f R) mark) result (passes a b r p.leaves) p.stays (λ honest R h. e ∙ at r R p h honest)
+found_acts a b r f result p e = acts-stays a b (mark_in r) (λ R mark. told (f R) mark) result (passes a b r p.leaves) p.stays (there-behind a b (fault_met r) p.leaves) (λ honest R h. e ∙ at r R p h honest)
   where
-    at : (r : Result HistoryReadResult Setback) (R : Content) → Finds a b r (λ x. x ≡ f a.content) → HasContent a R → b.honest → shown_of r ≡ told (f R) (mark_in r)
-    at (Ok x) R p h honest = p.answer honest ∙ ap f (h.content (in_use a b p.leaves))
+    at : (r : Result HistoryReadResult Setback) (R : Content) → Finds a b r (λ x. x ≡ f a.content) → IsLeft a R → b.honest → shown_of r ≡ told (f R) (mark_in r)
+    at (Ok x) R p h honest = p.answer honest ∙ ap f (left-before a b R p.leaves honest h)
     at (Err setback.Starved) R p h honest = refl
     at (Err (setback.Store fault)) R p h honest = refl
 

@@ -22,3 +22,4 @@ pub use node::{is_short_value, read_node};
 pub use point::{Phase, Place, Position, put_continuation, read_continuation};
 pub use query::Query;
 pub use showing::with_stamps;
+pub use ua_services::{HistoryReadResult as NodeResult, put_history_read_result as put_result};

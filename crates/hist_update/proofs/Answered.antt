@@ -19,12 +19,13 @@ use Rattle.ua_binary.specs.declared.codes.TheConstants.Status.{BAD_OUT_OF_MEMORY
 use Rattle.hist_update.specs.declared.request.Request.{Request}
 use Rattle.archive.specs.Fault.{status_of}
 use Rattle.archive.specs.Steps.{Marked, Does}
-use Rattle.archive.specs.Store.{Mark, Fine, Starved, Met, MayBeFound}
+use Rattle.std.proofs.lemmas.List.{append-nil}
+use Rattle.archive.specs.Store.{Mark, Fine, Starved, Stands, Met}
 use Rattle.records.specs.Moments.{ticks_of}
-use Rattle.hist_update.specs.Outcome.{Operation, Write, DeleteAt, Change, Outcome, Refused, Added, change_by, sized, fits, source_time, writing, outcome, conflict, done, is_live, judged}
+use Rattle.hist_update.specs.Outcome.{Operation, Write, DeleteAt, Change, Outcome, Refused, Added, change_by, sized, fits, source_time, writing, outcome, after, conflict, done, is_live, judged}
 use Rattle.hist_update.proofs.OutcomeParts.{deletion, stamped, is_too_long, outcome_of}
 use Rattle.hist_update.specs.Updates.{code_by, left_by, update_all}
-use Rattle.hist_update.specs.Laws.{IsBad, IsGood, IsRecordOf, IsNewBehind, IsAnsweredGood, HasRecordOf, AddsEach}
+use Rattle.hist_update.specs.Laws.{IsBad, IsGood, MayStand, IsRecordOf, IsNewBehind, IsAnsweredGood, HasRecordOf, AddsEach}
 use Rattle.hist_update.proofs.NewRecords.{made, new_next, new_above, new_timed}
 
 -- ---- the codes
@@ -125,10 +126,19 @@ record_made R own request op code r e =
 record_new : (R : Content) (own : ℕ) (request : Request) (op : Operation) (code : Status) (r : Record) → outcome R own request op ≡ Added code r → IsNewBehind R request r
 record_new R own request op code r e = record { above = λ s h. new_above R own request op code r s e h; timed = new_timed R own request op code r e }
 
-pub bad_kept : (R : Content) (own : ℕ) (request : Request) (op : Operation) (m : Mark) → IsBad (code_by (outcome R own request op) m) → left_by R (outcome R own request op) m ≡ R
-bad_kept R own request op Starved h = refl
-bad_kept R own request op (Met f) h = refl
-bad_kept R own request op Fine h = go (outcome R own request op) refl h
+-- the record of what was asked for stands behind a break
+abbrev pub IsStanding : Content → ℕ → Request → Operation → Mark → Type 0
+IsStanding R own request op m = (m ≡ Stands) × (r : Record) × (left_by R (outcome R own request op) m ≡ put r R) × IsRecordOf request own op r × IsNewBehind R request r
+
+standing_by : (R : Content) (own : ℕ) (request : Request) (op : Operation) (o : Outcome) → outcome R own request op ≡ o → (left_by R (outcome R own request op) Stands ≡ R) ⊎ IsStanding R own request op Stands
+standing_by R own request op (Refused c) e = inl (ap (λ o. left_by R o Stands) e)
+standing_by R own request op (Added c r) e = inr (refl, r, ap (λ o. left_by R o Stands) e, record_made R own request op c r e, record_new R own request op c r e)
+
+pub bad_kept : (R : Content) (own : ℕ) (request : Request) (op : Operation) (m : Mark) → IsBad (code_by (outcome R own request op) m) → (left_by R (outcome R own request op) m ≡ R) ⊎ IsStanding R own request op m
+bad_kept R own request op Starved h = inl refl
+bad_kept R own request op (Met f) h = inl refl
+bad_kept R own request op Stands h = standing_by R own request op (outcome R own request op) refl
+bad_kept R own request op Fine h = inl (go (outcome R own request op) refl h)
   where
     go : (o : Outcome) → outcome R own request op ≡ o → IsBad (code_by o Fine) → left_by R o Fine ≡ R
     go (Refused c) e k = refl
@@ -140,6 +150,7 @@ IsDone R own request op m o = (r : Record) × (o ≡ Added (code_by o m) r) × (
 pub good_done : (R : Content) (own : ℕ) (request : Request) (op : Operation) (m : Mark) → IsGood (code_by (outcome R own request op) m) → IsDone R own request op m (outcome R own request op)
 good_done R own request op Starved h = not_both BAD_OUT_OF_MEMORY (omega arith) h
 good_done R own request op (Met f) h = not_both (status_of f) (fault_bad f) h
+good_done R own request op Stands h = not_both (status_of fault.Broken) (fault_bad fault.Broken) h
 good_done R own request op Fine h = go (outcome R own request op) refl h
   where
     go : (o : Outcome) → outcome R own request op ≡ o → IsGood (code_by o Fine) → IsDone R own request op Fine o
@@ -149,6 +160,7 @@ good_done R own request op Fine h = go (outcome R own request op) refl h
 pub bad_or_good : (R : Content) (own : ℕ) (request : Request) (op : Operation) (m : Mark) → IsBad (code_by (outcome R own request op) m) ⊎ IsGood (code_by (outcome R own request op) m)
 bad_or_good R own request op Starved = inl (omega arith)
 bad_or_good R own request op (Met f) = inl (fault_bad f)
+bad_or_good R own request op Stands = inl (fault_bad fault.Broken)
 bad_or_good R own request op Fine = go (outcome R own request op) refl
   where
     go : (o : Outcome) → outcome R own request op ≡ o → IsBad (code_by o Fine) ⊎ IsGood (code_by o Fine)
@@ -162,6 +174,8 @@ left_within R o Starved r h = h
 left_within R o (Met f) r h = h
 left_within R (Refused c) Fine r h = h
 left_within R (Added c s) Fine r h = has-put s R r (inr h)
+left_within R (Refused c) Stands r h = h
+left_within R (Added c s) Stands r h = has-put s R r (inr h)
 
 -- what they answer and leave, whatever marks are given
 abbrev pub came_to : ℕ → Request → List Operation → Content → List Mark → List Status × Content
@@ -200,36 +214,44 @@ all_stand own request (o ∷ ops) R (m ∷ marks) (suc k) op a =
     older R (left_by R (outcome R own request o) m) _ own request op (left_within R (outcome R own request o) m)
     (all_stand own request ops (left_by R (outcome R own request o) m) marks k op (record { asked = a.asked; code = a.code; told = a.told; good = a.good }))
 
+after_closed : (R : Content) (own : ℕ) (request : Request) (op : Operation) → IsClosed R → (o : Outcome) → outcome R own request op ≡ o → IsClosed (after R o)
+after_closed R own request op closed (Refused c) e = closed
+after_closed R own request op closed (Added c r) e = closed-next R r closed (new_next R own request op c r closed e)
+
 left_closed : (R : Content) (own : ℕ) (request : Request) (op : Operation) (m : Mark) → IsClosed R → IsClosed (left_by R (outcome R own request op) m)
 left_closed R own request op Starved closed = closed
 left_closed R own request op (Met f) closed = closed
-left_closed R own request op Fine closed = go (outcome R own request op) refl
-  where
-    go : (o : Outcome) → outcome R own request op ≡ o → IsClosed (left_by R o Fine)
-    go (Refused c) e = closed
-    go (Added c r) e = closed-next R r closed (new_next R own request op c r closed e)
+left_closed R own request op Fine closed = after_closed R own request op closed (outcome R own request op) refl
+left_closed R own request op Stands closed = after_closed R own request op closed (outcome R own request op) refl
 
 all_closed : (own : ℕ) (request : Request) (ops : List Operation) (R : Content) (marks : List Mark) → IsClosed R → IsClosed (came_to own request ops R marks).1
 all_closed own request [] R marks closed = closed
 all_closed own request (op ∷ ops) R [] closed = all_closed own request ops (left_by R (outcome R own request op) Fine) [] (left_closed R own request op Fine closed)
 all_closed own request (op ∷ ops) R (m ∷ marks) closed = all_closed own request ops (left_by R (outcome R own request op) m) marks (left_closed R own request op m closed)
 
--- the first of them adds its record, where its code is Good, and no other
-one_adds : (own : ℕ) (request : Request) (op : Operation) (ops : List Operation) (R : Content) (m : Mark) (marks : List Mark)
-    → ((T : Content) → AddsEach request own ops (came_to own request ops T marks).0 T (came_to own request ops T marks).1)
-    → AddsEach request own (op ∷ ops) (code_by (outcome R own request op) m ∷ (came_to own request ops (left_by R (outcome R own request op) m) marks).0) R (came_to own request ops (left_by R (outcome R own request op) m) marks).1
-one_adds own request op ops R m marks more =
+-- the first of them adds its record, where its code is Good or the record stands, and no other
+one_adds : (may : Bool) (own : ℕ) (request : Request) (op : Operation) (ops : List Operation) (R : Content) (m : Mark) (marks : List Mark) → (m ≡ Stands → may ≡ true)
+    → ((T : Content) → AddsEach may request own ops (came_to own request ops T marks).0 T (came_to own request ops T marks).1)
+    → AddsEach may request own (op ∷ ops) (code_by (outcome R own request op) m ∷ (came_to own request ops (left_by R (outcome R own request op) m) marks).0) R (came_to own request ops (left_by R (outcome R own request op) m) marks).1
+one_adds may own request op ops R m marks allowed more =
     let T = left_by R (outcome R own request op) m in
-    let behind : Content → Type 0 = λ U. AddsEach request own ops (came_to own request ops T marks).0 U (came_to own request ops T marks).1 in
+    let behind : Content → Type 0 = λ U. AddsEach may request own ops (came_to own request ops T marks).0 U (came_to own request ops T marks).1 in
     elim (bad_or_good R own request op m) [
-      | inl bad ↦ inl (bad, subst behind (bad_kept R own request op m bad) (more T))
-      | inr good ↦ let d = good_done R own request op m good in inr (good, d.0, d.3, d.4, subst behind d.2 (more T))
+      | inl bad ↦ elim (bad_kept R own request op m bad) [
+        | inl kept ↦ inl (bad, subst behind kept (more T))
+        | inr d ↦ inr (inr (allowed d.0, ap (code_by (outcome R own request op)) d.0), d.1, d.3, d.4, subst behind d.2 (more T))
+      ]
+      | inr good ↦ let d = good_done R own request op m good in inr (inl good, d.0, d.3, d.4, subst behind d.2 (more T))
     ]
 
-pub all_add : (own : ℕ) (request : Request) (ops : List Operation) (R : Content) (marks : List Mark) → AddsEach request own ops (came_to own request ops R marks).0 R (came_to own request ops R marks).1
-all_add own request [] R marks = (refl, refl)
-all_add own request (op ∷ ops) R [] = one_adds own request op ops R Fine [] (λ T. all_add own request ops T [])
-all_add own request (op ∷ ops) R (m ∷ marks) = one_adds own request op ops R m marks (λ T. all_add own request ops T marks)
+fine_stands : {X : Type 0} → Fine ≡ Stands → X
+fine_stands e = absurd (cc)
+
+pub all_add : (may : Bool) (own : ℕ) (request : Request) (ops : List Operation) (R : Content) (marks : List Mark) → MayStand may marks
+    → AddsEach may request own ops (came_to own request ops R marks).0 R (came_to own request ops R marks).1
+all_add may own request [] R marks allowed = (refl, refl)
+all_add may own request (op ∷ ops) R [] allowed = one_adds may own request op ops R Fine [] fine_stands (λ T. all_add may own request ops T [] tt)
+all_add may own request (op ∷ ops) R (m ∷ marks) allowed = one_adds may own request op ops R m marks allowed.0 (λ T. all_add may own request ops T marks allowed.1)
 
 -- ---- by what they came to
 
@@ -241,24 +263,17 @@ pub updated_within : (R S : Content) (own : ℕ) (request : Request) (ops : List
 updated_within R S own request ops used codes d =
     subst (λ (z : List Status × Content). IsWithin R z.1) (did (update_all own request ops R) used (codes, S) d) (all_within own request ops R (used ++ []))
 
-pub updated_adds : (R S : Content) (own : ℕ) (request : Request) (ops : List Operation) (used : List Mark) (codes : List Status) → Does (update_all own request ops R) used (codes, S) → AddsEach request own ops codes R S
-updated_adds R S own request ops used codes d =
-    subst (λ (z : List Status × Content). AddsEach request own ops z.0 R z.1) (did (update_all own request ops R) used (codes, S) d) (all_add own request ops R (used ++ []))
+pub updated_adds : (may : Bool) (R S : Content) (own : ℕ) (request : Request) (ops : List Operation) (used : List Mark) (codes : List Status) → MayStand may used → Does (update_all own request ops R) used (codes, S)
+    → AddsEach may request own ops codes R S
+updated_adds may R S own request ops used codes allowed d =
+    subst (λ (z : List Status × Content). AddsEach may request own ops z.0 R z.1) (did (update_all own request ops R) used (codes, S) d)
+    (all_add may own request ops R (used ++ []) (subst (MayStand may) (sym (append-nil used)) allowed))
 
 pub good_stands : (R S : Content) (own : ℕ) (request : Request) (ops : List Operation) (used : List Mark) (codes : List Status) (k : ℕ) (op : Operation)
     → Does (update_all own request ops R) used (codes, S) → IsAnsweredGood ops codes k op → HasRecordOf R S request own op
 good_stands R S own request ops used codes k op d =
     subst (λ (z : List Status × Content). IsAnsweredGood ops z.0 k op → HasRecordOf R z.1 request own op) (did (update_all own request ops R) used (codes, S) d)
     (all_stand own request ops R (used ++ []) k op)
-
--- what an opening may find has it too
-pub found_too : (R S left : Content) (own : ℕ) (request : Request) (op : Operation) (broken : Bool) → MayBeFound broken S left → HasRecordOf R S request own op → HasRecordOf R left request own op
-found_too R S left own request op broken (inl e) h = subst (λ T. HasRecordOf R T request own op) (sym e) h
-found_too R S left own request op broken (inr more) h = (h.0, subst (λ T. Has T h.0) (sym more.3) (has-put more.1 S h.0 (inr h.1)), h.2, h.3)
-
-pub good_found : (R S left : Content) (own : ℕ) (request : Request) (ops : List Operation) (used : List Mark) (codes : List Status) (k : ℕ) (op : Operation) (broken : Bool)
-    → Does (update_all own request ops R) used (codes, S) → IsAnsweredGood ops codes k op → MayBeFound broken S left → HasRecordOf R left request own op
-good_found R S left own request ops used codes k op broken d a m = found_too R S left own request op broken m (good_stands R S own request ops used codes k op d a)
 
 pub updated_closed : (R S : Content) (own : ℕ) (request : Request) (ops : List Operation) (used : List Mark) (codes : List Status) → Does (update_all own request ops R) used (codes, S) → IsClosed R → IsClosed S
 updated_closed R S own request ops used codes d closed =

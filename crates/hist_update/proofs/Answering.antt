@@ -10,20 +10,20 @@ use Rattle.ua_variant.specs.declared.update_type.HistoryUpdateType.{HistoryUpdat
 use Rattle.ua_services.specs.declared.updates.HistoryUpdateResult.{HistoryUpdateResult}
 use Rattle.records.specs.Contents.{Content}
 use Rattle.archive.specs.Steps.{Marked, memory, Does, Acts}
-use Rattle.archive.specs.Store.{Store, Mark, Fine, Starved, faults_of, Passes, Stays}
+use Rattle.archive.specs.Store.{Store, Mark, Fine, Starved, breaks, faults_of, Passes, Stays, IsThere}
 use Rattle.archive.proofs.Calls.{passes-none, stays-none}
-use Rattle.archive.proofs.Acting.{moves-none, moves-stays, moves-told, moves-as, does-give}
+use Rattle.archive.proofs.Acting.{moves-none, moves-stays, moves-behind-quiet, moves-as, does-give}
 use Rattle.hist_update.specs.declared.request.Request.{Request}
 use Rattle.hist_update.specs.Codes.{list_refusal}
 use Rattle.hist_update.specs.Outcome.{Operation, Write}
-use Rattle.hist_update.specs.Updates.{Updated, refused, unless, past, begin, data_refusal, writes, deletes_at, delete_at, update_all, breaks, AreEnded, needs_store, needs_of}
+use Rattle.hist_update.specs.Updates.{Updated, refused, unless, past, begin, data_refusal, writes, deletes_at, delete_at, update_all, AreEnded, needs_store, needs_of}
 use Rattle.hist_update.proofs.UpdatesParts.{all_good, told, run}
 use Rattle.hist_update.specs.Operating.{Operations, Begins}
 
 -- it is refused: no step is made
 pub acts-refused : (a : Store) (reason : Option Status) (code : Status) (f : Content → Marked Updated) → reason ≡ Some code → Acts a a [] (λ R. unless reason R (f R)) (refused code)
 acts-refused a reason code f e =
-    moves-none a (λ R S. Does (unless reason R (f R)) [] (refused code, S)) (λ R. subst (λ o. Does (unless o R (f R)) [] (refused code, R)) (sym e) (does-give (refused code, R)))
+    moves-none a (λ marks R S. Does (unless reason R (f R)) marks (refused code, S)) (λ R. subst (λ o. Does (unless o R (f R)) [] (refused code, R)) (sym e) (does-give (refused code, R)))
 
 -- it isn't refused
 pub acts-free : (a b : Store) (used : List Mark) (reason : Option Status) (f : Content → Marked Updated) (x : HistoryUpdateResult) → reason ≡ None → Acts a b used f x
@@ -32,23 +32,23 @@ acts-free a b used reason f x e p = subst (λ o. Acts a b used (λ R. unless o R
 
 -- something came in the way of a step
 pub acts-hindered : (a b : Store) (mark : Mark) (code : Status) (first : Marked (Option Status)) (f : Content → Marked Updated) → Passes a b (faults_of (mark ∷ [])) → Stays a b
-    → ((later : List Mark) → first (mark ∷ later) ≡ (Some code, later)) → Acts a b (mark ∷ []) (λ R. past first R (f R)) (refused code)
-acts-hindered a b mark code first f passes stays e =
-    moves-stays a b (mark ∷ []) (λ R S. Does (past first R (f R)) (mark ∷ []) (refused code, S)) passes stays (λ honest R h. record { does = λ later. ap (λ (r : Option Status × List Mark). unless r.0 R (f R) r.1) (e later) })
+    → (IsThere a → IsThere b) → ((later : List Mark) → first (mark ∷ later) ≡ (Some code, later)) → Acts a b (mark ∷ []) (λ R. past first R (f R)) (refused code)
+acts-hindered a b mark code first f passes stays there e =
+    moves-stays a b (mark ∷ []) (λ marks R S. Does (past first R (f R)) marks (refused code, S)) passes stays there (λ honest R h. record { does = λ later. ap (λ (r : Option Status × List Mark). unless r.0 R (f R) r.1) (e later) })
 
 -- nothing did
 pub acts-past : (a b : Store) (used : List Mark) (first : Marked (Option Status)) (f : Content → Marked Updated) (x : HistoryUpdateResult) → ((later : List Mark) → first (Fine ∷ later) ≡ (None, later)) → Acts a b used f x
     → Acts a b (Fine ∷ used) (λ R. past first R (f R)) x
 acts-past a b used first f x e p =
-    moves-told a b used (Fine ∷ used) (λ R S. Does (f R) used (x, S)) (λ R S. Does (past first R (f R)) (Fine ∷ used) (x, S)) refl
-    (λ R S d. record { does = λ later. ap (λ (r : Option Status × List Mark). unless r.0 R (f R) r.1) (e (used ++ later)) ∙ d.does later }) p
+    moves-behind-quiet a b (Fine ∷ []) used (λ marks R S. Does (f R) marks (x, S)) (λ marks R S. Does (past first R (f R)) marks (x, S)) refl
+    (λ ms R S d. record { does = λ later. ap (λ (r : Option Status × List Mark). unless r.0 R (f R) r.1) (e (ms ++ later)) ∙ d.does later }) p
 
 -- the operations of an update
 pub acts-run : (a b : Store) (used : List Mark) (own : ℕ) (request : Request) (status : List Status → Status) (ops : List Operation) (codes : List Status)
     → Acts a b used (update_all own request ops) codes → Acts a b used (run own request status ops) (told status codes)
 acts-run a b used own request status ops codes p =
-    moves-as a b used (λ R S. Does (update_all own request ops R) used (codes, S)) (λ R S. Does (run own request status ops R) used (told status codes, S))
-    (λ R S d. record { does = λ later. ap (λ (r : (List Status × Content) × List Mark). let z : Updated × List Mark = ((told status r.0.0, r.0.1), r.1) in z) (d.does later) }) p
+    moves-as a b used (λ marks R S. Does (update_all own request ops R) marks (codes, S)) (λ marks R S. Does (run own request status ops R) marks (told status codes, S))
+    (λ ms R S d. record { does = λ later. ap (λ (r : (List Status × Content) × List Mark). let z : Updated × List Mark = ((told status r.0.0, r.0.1), r.1) in z) (d.does later) }) p
 
 -- ---- with the memory of the codes
 
@@ -62,7 +62,7 @@ pub begins-starved : (a : Store) (request : Request) (status : List Status → S
     → result ≡ refused BAD_OUT_OF_MEMORY → Begins a a request status ops result
 begins-starved a request status ops result is = subst (λ r. Begins a a request status ops r) (sym is) (record {
   used = Starved ∷ [];
-  acts = acts-hindered a a Starved BAD_OUT_OF_MEMORY memory (run a.own request status ops) (passes-none a) (stays-none a) (λ later. refl);
+  acts = acts-hindered a a Starved BAD_OUT_OF_MEMORY memory (run a.own request status ops) (passes-none a) (stays-none a) (λ was. was) (λ later. refl);
   ended = (λ e f. refl, none-ended (a.broken || breaks Starved) (map (needs_store a.own request) ops));
 })
 

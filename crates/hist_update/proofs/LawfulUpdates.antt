@@ -23,10 +23,10 @@ use Rattle.ua_binary.specs.Format.{◌>>=◌}
 use Rattle.ua_binary.specs.declared.codes.Status.{Status}
 use Rattle.ua_binary.specs.declared.codes.TheConstants.Status.{BAD_ENCODING_LIMITS_EXCEEDED, BAD_INVALID_TIMESTAMP, BAD_TYPE_MISMATCH}
 use Rattle.hist_update.specs.declared.request.Request.{Request}
-use Rattle.hist_update.specs.Outcome.{Operation, Write, DeleteAt, Change, Outcome, Refused, Added, IsRequest, change_by, sized, fits, source_time, source_pico, writing, outcome, record_by}
+use Rattle.hist_update.specs.Outcome.{Operation, Write, DeleteAt, Change, Outcome, Refused, Added, IsRequest, change_by, sized, fits, source_time, source_pico, writing, outcome, after, record_by}
 use Rattle.hist_update.proofs.OutcomeParts.{deletion, is_too_long}
 use Rattle.archive.specs.Steps.{Does}
-use Rattle.archive.specs.Store.{Mark, Fine, Starved, Met}
+use Rattle.archive.specs.Store.{Mark, Fine, Starved, Stands, Met}
 use Rattle.hist_update.specs.Updates.{left_by, update_all}
 use Rattle.hist_update.specs.Laws.{IsSpelled, IsOperation}
 use Rattle.hist_update.proofs.Deletions.{deletion_short}
@@ -115,15 +115,18 @@ lawful_new R own request op code r replica lawful spelled is content e =
       size = omega (arith, few, same, long);
     })
 
+after_lawful : (R : Content) (own : ℕ) (request : Request) (op : Operation) → IsReplica own → IsRequest request → IsSpelled request → IsOperation op → IsLawfulContent R
+    → (o : Outcome) → outcome R own request op ≡ o → IsLawfulContent (after R o)
+after_lawful R own request op replica lawful spelled is content (Refused c) e = content
+after_lawful R own request op replica lawful spelled is content (Added c r) e =
+    lawful_put R r content (lawful_new R own request op c r replica lawful spelled is content e) (finding_next R r (new_next R own request op c r content.closed e))
+
 left_lawful : (R : Content) (own : ℕ) (request : Request) (op : Operation) (m : Mark) → IsReplica own → IsRequest request → IsSpelled request → IsOperation op → IsLawfulContent R
     → IsLawfulContent (left_by R (outcome R own request op) m)
 left_lawful R own request op Starved replica lawful spelled is content = content
 left_lawful R own request op (Met f) replica lawful spelled is content = content
-left_lawful R own request op Fine replica lawful spelled is content = go (outcome R own request op) refl
-  where
-    go : (o : Outcome) → outcome R own request op ≡ o → IsLawfulContent (left_by R o Fine)
-    go (Refused c) e = content
-    go (Added c r) e = lawful_put R r content (lawful_new R own request op c r replica lawful spelled is content e) (finding_next R r (new_next R own request op c r content.closed e))
+left_lawful R own request op Fine replica lawful spelled is content = after_lawful R own request op replica lawful spelled is content (outcome R own request op) refl
+left_lawful R own request op Stands replica lawful spelled is content = after_lawful R own request op replica lawful spelled is content (outcome R own request op) refl
 
 all_lawful : (own : ℕ) (request : Request) (ops : List Operation) (R : Content) (marks : List Mark) → IsReplica own → IsRequest request → IsSpelled request → AllByRecursion IsOperation ops
     → IsLawfulContent R → IsLawfulContent (came_to own request ops R marks).1

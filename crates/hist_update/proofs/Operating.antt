@@ -1,5 +1,5 @@
 -- One operation over an archive: a survey, a record, and what the archive makes of it.
-use Rattle.std.proofs.Common.{◌≡◌, ℕ, ◌+◌, ◌≤◌, ℤ, pos, ◌≤ℤ◌, ◌<ℤ◌, min, Bool, true, false, Option, Some, None, IfSome, IfNone, unwrap_or, [], ◌∷◌, Result, Ok, Err, IsErr, refl, sym, ap, ◌∙◌, subst, inl, ◌⊎◌, arith, nat_lt, int_lt, ◌+ℤ◌, option_to_list}
+use Rattle.std.proofs.Common.{◌≡◌, ℕ, ◌+◌, ◌≤◌, ℤ, pos, ◌≤ℤ◌, ◌<ℤ◌, min, Bool, true, false, Option, Some, None, IfSome, IfNone, unwrap_or, List, [], ◌∷◌, Result, Ok, Err, IsErr, refl, sym, ap, ◌∙◌, subst, inl, inr, arith, nat_lt, int_lt, ◌+ℤ◌, option_to_list}
 use Rattle.std.specs.Prelude.{if◌then◌else◌}
 use Rattle.std.specs.Int.{int_max, int_min}
 use Rattle.std.proofs.lemmas.Bool.{true≢false}
@@ -18,7 +18,7 @@ use Rattle.ua_variant.specs.declared.value.ValueType.{ValueType}
 use Rattle.ua_variant.specs.DataValue.{IsShortData, IsPicoseconds}
 use Rattle.std.specs.Option.{option_and_then, ok_or}
 use Rattle.ua_binary.specs.Format.{◌>>=◌}
-use Rattle.records.specs.Contents.{Content, vec, top, last_tick, put, IsClosed}
+use Rattle.records.specs.Contents.{Content, vec, top, last_tick, put, finding, learned, IsClosed}
 use Rattle.records.proofs.ContentsParts.{after_finding}
 use Rattle.records.proofs.Sizes.{fields_length}
 use Rattle.records.proofs.LearnLemmas.{finding_next, lt_from_test, le_from_not}
@@ -33,12 +33,12 @@ use Rattle.archive.specs.declared.fault.LearnFault.TheVariants as refused
 use Rattle.archive.specs.declared.setback.Setback.TheVariants as setback
 use Rattle.archive.specs.Fault.{status_of}
 use Rattle.archive.specs.Steps.{Does}
-use Rattle.archive.specs.Store.{Store, Mark, Fine, Starved, Met, Passes, Asks, Learns, store_fault_in, answer_to, HasContent}
+use Rattle.archive.specs.Store.{Store, Mark, Fine, Starved, Stands, Met, Passes, Asks, Learns, store_fault_in, answer_to, MayBeFound, IsLeft}
 use Rattle.archive.proofs.Results.{err-ok}
-use Rattle.archive.proofs.Calls.{in_use, passes-none}
+use Rattle.archive.proofs.Calls.{in_use, left_in_use, passes-none}
 use Rattle.archive.specs.Growth.{is_possible, IsUpdateOf, Grows}
 use Rattle.archive.proofs.Growing.{grows-none, grows-one}
-use Rattle.archive.proofs.Acting.{does-step, moves-none-by, moves-stays, learned-held, unlearned-held, grows-asked}
+use Rattle.archive.proofs.Acting.{does-step, there-behind, moves-none-by, moves-stays, left-alone, found-same, learned-left, unlearned-left, IsWithOrWithout}
 use Rattle.hist_update.specs.declared.request.Request.{Request}
 use Rattle.hist_update.specs.declared.operate.Place.{Place}
 use Rattle.hist_update.specs.declared.operate.Undone.{Undone}
@@ -146,7 +146,7 @@ does-one own request op R mark code S told left =
 -- the rules refuse it before the archive is asked
 pub refused-early : (a : Store) (request : Request) (op : Operation) (code : Status) → change_by request a.own op ≡ Err code → Operates a a request op (Err (undone.Refused code))
 refused-early a request op code e = record {
-  acts = moves-none-by a (Fine ∷ []) refl (λ R S. Does (update_one a.own request op R) (Fine ∷ []) (code, S))
+  acts = moves-none-by a (Fine ∷ []) refl (λ marks R S. Does (update_one a.own request op R) marks (code, S))
       (λ R. does-one a.own request op R Fine code R (ap (λ x. code_in (outcome_of R a.own request x)) e) (ap (λ x. after R (outcome_of R a.own request x)) e));
   ended = λ b f. subst IsErr (sym e) refl;
 }
@@ -160,16 +160,30 @@ starved-fine e = absurd (true≢false (sym (ap (λ m. elim m [ Fine ↦ true | _
 -- the survey met a fault
 pub survey-failed : (a b : Store) (request : Request) (op : Operation) (fault : StoreFault) (P : Place → Type 0) → Asks {A = Place} a b (Err fault) P → Operates a b request op (Err (undone.Hindered (setback.Store fault)))
 survey-failed a b request op fault P p = record {
-  acts = moves-stays a b (Met fault ∷ []) (λ R S. Does (update_one a.own request op R) (Met fault ∷ []) (status_of fault, S)) p.leaves.passes p.stays
+  acts = moves-stays a b (Met fault ∷ []) (λ marks R S. Does (update_one a.own request op R) marks (status_of fault, S)) p.leaves.passes p.stays (there-behind a b (Some fault) p.leaves)
       (λ honest R h. does-one a.own request op R (Met fault) (status_of fault) R refl refl);
   ended = λ e f. fine-met fault f;
 }
 
+-- what a query that was answered left is what it was answered from
+left_by_query : {B : Type 0} (a b : Store) (x : B) (P : B → Type 0) (S : Content) → Asks a b (Ok x) P → b.honest → b.content ≡ a.content → IsLeft b S → S ≡ a.content
+left_by_query a b x P S p honest same h = left-alone b S p.leaves.after honest (left_in_use a b p.leaves) h ∙ same
+
+-- one mark, and the content stays
+one_stays : (a : Store) (request : Request) (op : Operation) (mark : Mark) (code : Status) (S : Content) → S ≡ a.content → code_by (outcome a.content a.own request op) mark ≡ code → left_by a.content (outcome a.content a.own request op) mark ≡ a.content
+    → (marks : List Mark) × MayBeFound false (mark ∷ []) marks × Does (update_one a.own request op a.content) marks (code, S) × Grows a.own a.content S
+one_stays a request op mark code S is told left = (
+  mark ∷ [],
+  found-same false (mark ∷ []),
+  does-one a.own request op a.content mark code S told (left ∙ sym is),
+  subst (Grows a.own a.content) (sym is) (grows-none a.own a.content),
+)
+
 -- there was no memory for the record
 pub draft-starved : (a b : Store) (request : Request) (op : Operation) (place : Place) (P : Place → Type 0) → Asks a b (Ok place) P → Operates a b request op (Err (undone.Hindered setback.Starved))
 draft-starved a b request op place P p = record {
-  acts = moves-behind a b b place P (Starved ∷ []) (λ R S. Does (update_one a.own request op R) (Starved ∷ []) (BAD_OUT_OF_MEMORY, S)) p (passes-none b)
-      (λ honest is h. ((a.content, does-one a.own request op a.content Starved BAD_OUT_OF_MEMORY a.content refl refl, h, grows-none a.own a.content), λ left m. inl m));
+  acts = moves-behind a b b place P (Starved ∷ []) (λ marks R S. Does (update_one a.own request op R) marks (BAD_OUT_OF_MEMORY, S)) p (passes-none b) (λ was. was)
+      (λ honest is same S h. one_stays a request op Starved BAD_OUT_OF_MEMORY S (left_by_query a b place P S p honest same h) refl refl);
   ended = λ e f. starved-fine f;
 }
 
@@ -178,8 +192,8 @@ pub settled-refused : (a b : Store) (request : Request) (op : Operation) (change
     → change_by request a.own op ≡ sized request a.own change → Asks a b (Ok place) (IsPlace a request change.time)
     → refusal (candidate_of request place change) place ≡ Some code → Operates a b request op (Err (undone.Refused code))
 settled-refused a b request op change place code asked p e = record {
-  acts = moves-behind a b b place (IsPlace a request change.time) (Fine ∷ []) (λ R S. Does (update_one a.own request op R) (Fine ∷ []) (code, S)) p (passes-none b)
-      (λ honest at h. ((a.content, does-one a.own request op a.content Fine code a.content (ap code_in (refused at)) (ap (after a.content) (refused at)), h, grows-none a.own a.content), λ left m. inl m));
+  acts = moves-behind a b b place (IsPlace a request change.time) (Fine ∷ []) (λ marks R S. Does (update_one a.own request op R) marks (code, S)) p (passes-none b) (λ was. was)
+      (λ honest at same S h. one_stays a request op Fine code S (left_by_query a b place (IsPlace a request change.time) S p honest same h) (ap code_in (refused at)) (ap (after a.content) (refused at)));
   ended = λ b f. absurd (none-some _ (p.leaves.ended b));
 }
   where
@@ -250,59 +264,57 @@ settled-submitted a b c request op change place result lawful timed asked p e (a
         let settled = p.leaves.before (p.leaves.passes.honest h) (in_use a b p.leaves) in
         facts a.content a.own request op change place lawful timed asked settled.lawful.closed at.live at.origin at.number at.tick e
 
-    -- what a crash leaves
-    left_by_crash : (x : Result Bool LearnFault) → Learns b c (candidate_of request place change) x → c.honest → IsPlace a request change.time place → HasContent b a.content
-        → (left : Content) → c.may_hold left → b.may_hold left ⊎ Grows a.own a.content left
-    left_by_crash x l honest at h left m = grows-asked b c (candidate_of request place change) x a.own a.content l honest h (λ adds. (known (l.leaves.passes.honest honest) at).update) left m
-
     -- the archive's honest answer is that the record was added
-    added : (x : Result Bool LearnFault) → Learns b c (candidate_of request place change) x → store_fault_in x ≡ None → c.honest → HasContent b a.content → IsPlace a request change.time place
-        → (x ≡ Ok true) × HasContent c (put (candidate_of request place change) a.content)
-    added x l none honest h at =
+    added : (x : Result Bool LearnFault) (S : Content) → Learns b c (candidate_of request place change) x → store_fault_in x ≡ None → c.honest → b.content ≡ a.content → IsPlace a request change.time place → IsLeft c S
+        → (x ≡ Ok true) × (S ≡ put (candidate_of request place change) a.content)
+    added x S l none honest same at h =
+        let r = candidate_of request place change in
         let k = known (l.leaves.passes.honest honest) at in
-        let held = learned-held b c (candidate_of request place change) x l none honest a.content h in (
-          held.0 ∙ ap answer_to k.update.next,
-          subst (HasContent c) (ap (λ f. unwrap_or (after_finding a.content (candidate_of request place change) f) a.content) k.update.next) held.1,
+        let (was, told, is) = learned-left b c r x S l none honest h in (
+          told ∙ ap (λ T. answer_to (finding T r)) same ∙ ap answer_to k.update.next,
+          is ∙ ap (λ T. unwrap_or (learned T r) T) same ∙ ap (λ f. unwrap_or (after_finding a.content r f) a.content) k.update.next,
         )
 
     quiet : (x : Result Bool LearnFault) → store_fault_in x ≡ None → Learns b c (candidate_of request place change) x → Passes b c []
     quiet x none l = subst (λ f. Passes b c (option_to_list f)) none l.leaves.passes
 
-    impossible : {X : Type 0} (f : LearnFault) → Learns b c (candidate_of request place change) (Err f) → store_fault_in (Err f) ≡ None → c.honest → HasContent b a.content → IsPlace a request change.time place → X
-    impossible f l none honest h at = absurd (err-ok (Err f) f true refl (added (Err f) l none honest h at).0)
+    -- with its record
+    one_adds : (mark told : Mark) (code : Status) (S : Content) → IsPlace a request change.time place → c.honest → b.honest → S ≡ put (candidate_of request place change) a.content → MayBeFound false (told ∷ []) (mark ∷ [])
+        → code_by (Added (done change.asked place.live) (candidate_of request place change)) mark ≡ code → left_by a.content (Added (done change.asked place.live) (candidate_of request place change)) mark ≡ put (candidate_of request place change) a.content
+        → (marks : List Mark) × MayBeFound false (told ∷ []) marks × Does (update_one a.own request op a.content) marks (code, S) × Grows a.own a.content S
+    one_adds mark told code S at honest before is found coded left =
+        let k = known before at in (
+          mark ∷ [],
+          found,
+          does-one a.own request op a.content mark code S (ap (λ o. code_by o mark) k.is ∙ coded) (ap (λ o. left_by a.content o mark) k.is ∙ left ∙ sym is),
+          subst (Grows a.own a.content) (sym is) (grows-one a.own a.content (candidate_of request place change) k.update),
+        )
 
     odd : (f : LearnFault) → Learns b c (candidate_of request place change) (Err f) → store_fault_in (Err f) ≡ None → Operates a c request op (Err (undone.Refused BAD_RESOURCE_UNAVAILABLE))
     odd f l none = record {
-      acts = moves-behind a b c place (IsPlace a request change.time) (Fine ∷ []) (λ R S. Does (update_one a.own request op R) (Fine ∷ []) (BAD_RESOURCE_UNAVAILABLE, S)) p (quiet (Err f) none l)
-          (λ honest at h. impossible f l none honest h at);
+      acts = moves-behind a b c place (IsPlace a request change.time) (Fine ∷ []) (λ marks R S. Does (update_one a.own request op R) marks (BAD_RESOURCE_UNAVAILABLE, S)) p (quiet (Err f) none l) (there-behind b c (store_fault_in (Err f)) l.leaves)
+          (λ honest at same S h. absurd (err-ok (Err f) f true refl (added (Err f) S l none honest same at h).0));
       ended = λ y. absurd (none-some _ (p.leaves.ended y));
     }
 
+    -- the store met a fault
+    met : (fault : StoreFault) (S R : Content) → IsPlace a request change.time place → c.honest → b.honest → R ≡ a.content → IsWithOrWithout b (candidate_of request place change) fault R S
+        → (marks : List Mark) × MayBeFound false (Met fault ∷ []) marks × Does (update_one a.own request op a.content) marks (status_of fault, S) × Grows a.own a.content S
+    met fault S R at honest before was (inl without) = one_stays a request op (Met fault) (status_of fault) S (without ∙ was) refl refl
+    met fault S R at honest before was (inr with) =
+        one_adds Stands (Met fault) (status_of fault) S at honest before (with.3 ∙ ap (put (candidate_of request place change)) was) (inr (refl, ap Met with.1, refl), refl) (sym (ap status_of with.1)) refl
+
     go : (x : Result Bool LearnFault) → Learns b c (candidate_of request place change) x → Operates a c request op (told_of x (done change.asked place.live))
     go (Ok x) l = record {
-      acts = moves-behind a b c place (IsPlace a request change.time) (Fine ∷ []) (λ R S. Does (update_one a.own request op R) (Fine ∷ []) (done change.asked place.live, S)) p l.leaves.passes (λ honest at h.
-          let k = known (l.leaves.passes.honest honest) at in
-          let here = added (Ok x) l refl honest h at in (
-            (
-              put (candidate_of request place change) a.content,
-              does-one a.own request op a.content Fine (done change.asked place.live) (put (candidate_of request place change) a.content) (ap code_in k.is) (ap (after a.content) k.is),
-              here.1,
-              grows-one a.own a.content (candidate_of request place change) k.update,
-            ),
-            left_by_crash (Ok x) l honest at h,
-          ));
+      acts = moves-behind a b c place (IsPlace a request change.time) (Fine ∷ []) (λ marks R S. Does (update_one a.own request op R) marks (done change.asked place.live, S)) p l.leaves.passes (there-behind b c None l.leaves) (λ honest at same S h.
+          one_adds Fine Fine (done change.asked place.live) S at honest (l.leaves.passes.honest honest) (added (Ok x) S l refl honest same at h).1 (found-same false (Fine ∷ [])) refl refl);
       ended = λ y. absurd (none-some _ (p.leaves.ended y));
     }
     go (Err (refused.Store fault)) l = record {
-      acts = moves-behind a b c place (IsPlace a request change.time) (Met fault ∷ []) (λ R S. Does (update_one a.own request op R) (Met fault ∷ []) (status_of fault, S)) p l.leaves.passes (λ honest at h. (
-        (
-          a.content,
-          does-one a.own request op a.content (Met fault) (status_of fault) a.content refl refl,
-          unlearned-held b c (candidate_of request place change) (Err (refused.Store fault)) fault l refl honest a.content h,
-          grows-none a.own a.content,
-        ),
-        left_by_crash (Err (refused.Store fault)) l honest at h,
-      ));
+      acts = moves-behind a b c place (IsPlace a request change.time) (Met fault ∷ []) (λ marks R S. Does (update_one a.own request op R) marks (status_of fault, S)) p l.leaves.passes (there-behind b c (Some fault) l.leaves) (λ honest at same S h.
+          let before = l.leaves.passes.honest honest in
+          let (R, was, so) = unlearned-left b c (candidate_of request place change) (Err (refused.Store fault)) fault S l refl honest h in
+          met fault S R at honest before (left_by_query a b place (IsPlace a request change.time) R p before same was) so);
       ended = λ y. absurd (none-some _ (p.leaves.ended y));
     }
     go (Err refused.Clash) l = odd _ l refl

@@ -1,5 +1,6 @@
 -- Every update that is answered Good stands, whichever call it was one of.
-use Rattle.std.proofs.Common.{ℕ, ℤ, Bool, List, [], ◌++◌, map, length, Option, Some, None, refl, subst, inl, inr}
+use Rattle.std.proofs.Common.{ℕ, ℤ, Bool, List, [], ◌∷◌, ◌++◌, map, length, Option, Some, None, refl, sym, subst, inl, inr}
+use Rattle.std.proofs.lemmas.List.{append-nil}
 use Rattle.std.proofs.lemmas.Option.{none-some}
 use Rattle.ua_binary.specs.declared.codes.Status.{Status}
 use Rattle.ua_binary.specs.declared.values.Ticks.{Ticks}
@@ -9,14 +10,14 @@ use Rattle.ua_variant.specs.declared.value.ValueType.{ValueType}
 use Rattle.records.specs.Contents.{Content, IsWithin}
 use Rattle.archive.specs.Fault.{status_told}
 use Rattle.archive.specs.Steps.{Marked, step, memory, Does}
-use Rattle.archive.specs.Store.{Mark, MayBeFound}
+use Rattle.archive.specs.Store.{Mark, Fine, Starved, Stands, Met}
 use Rattle.hist_update.specs.declared.request.Request.{Request}
 use Rattle.hist_update.specs.Codes.{asked_by, list_refusal, first_other}
 use Rattle.hist_update.specs.Outcome.{Operation, DeleteAt}
 use Rattle.hist_update.specs.Updates.{Updated, refused, unless, past, begin, data_refusal, writes, update_data, deletes_at, delete_at, doomed, stretch_refusal, listing_refusal, delete_listed, delete_raw}
 use Rattle.hist_update.proofs.UpdatesParts.{all_good, run}
-use Rattle.hist_update.specs.Laws.{IsAnsweredGood, HasRecordOf, AddsFor}
-use Rattle.hist_update.proofs.Answered.{all_within, all_stand, all_add, did, found_too}
+use Rattle.hist_update.specs.Laws.{IsAnsweredGood, HasRecordOf, MayStand, AddsFor}
+use Rattle.hist_update.proofs.Answered.{all_within, all_stand, all_add, did}
 
 -- whatever marks are given, what it comes to is so
 abbrev Always : (Updated → Type 0) → Marked Updated → Type 0
@@ -44,57 +45,78 @@ begun_within : (own : ℕ) (request : Request) (status : List Status → Status)
 begun_within own request status ops R = always_past (λ u. IsWithin R u.1) memory R (run own request status ops R) (λ code r h. h) (λ marks. all_within own request ops R marks)
 
 -- of what it did
-stood : (R : Content) (own : ℕ) (request : Request) (ops : List Operation) (marked : Marked Updated) (used : List Mark) (result : HistoryUpdateResult) (S left : Content) (k : ℕ) (op : Operation) (broken : Bool)
-    → Always (Stand R own request ops) marked → Does marked used (result, S) → IsAnsweredGood ops result.operation_results k op → MayBeFound broken S left
-    → HasRecordOf R S request own op × HasRecordOf R left request own op
-stood R own request ops marked used result S left k op broken always d a m =
-    let here : HasRecordOf R S request own op = subst (Stand R own request ops) (did marked used (result, S) d) (always (used ++ [])) k op a in
-    (here, found_too R S left own request op broken m here)
+stood : (R : Content) (own : ℕ) (request : Request) (ops : List Operation) (marked : Marked Updated) (used : List Mark) (result : HistoryUpdateResult) (S : Content) (k : ℕ) (op : Operation)
+    → Always (Stand R own request ops) marked → Does marked used (result, S) → IsAnsweredGood ops result.operation_results k op → HasRecordOf R S request own op
+stood R own request ops marked used result S k op always d a = subst (Stand R own request ops) (did marked used (result, S) d) (always (used ++ [])) k op a
 
 kept : (R S : Content) (marked : Marked Updated) (used : List Mark) (result : HistoryUpdateResult) → Always (λ u. IsWithin R u.1) marked → Does marked used (result, S) → IsWithin R S
 kept R S marked used result always d = subst (λ (u : Updated). IsWithin R u.1) (did marked used (result, S) d) (always (used ++ []))
 
+-- whatever marks are given among which a record may stand only where this says so
+abbrev Given : (may : Bool) → (Updated → Type 0) → Marked Updated → Type 0
+Given may P more = (marks : List Mark) → MayStand may marks → P (more marks).0
+
+-- what a step leaves of the marks
+abbrev Passing : (may : Bool) → Marked (Option Status) → Type 0
+Passing may first = (marks : List Mark) → MayStand may marks → MayStand may (first marks).1
+
+given_unless : (may : Bool) (P : Updated → Type 0) (reason : Option Status) (R : Content) (more : Marked Updated) → ((code : Status) → P (refused code, R)) → Given may P more → Given may P (unless reason R more)
+given_unless may P (Some code) R more fails goes marks allowed = fails code
+given_unless may P None R more fails goes marks allowed = goes marks allowed
+
+given_past : (may : Bool) (P : Updated → Type 0) (first : Marked (Option Status)) (R : Content) (more : Marked Updated) → Passing may first → ((code : Status) → P (refused code, R)) → Given may P more → Given may P (past first R more)
+given_past may P first R more passing fails goes marks allowed = let r = first marks in given_unless may P r.0 R more fails goes r.1 (passing marks allowed)
+
+passing_memory : (may : Bool) → Passing may memory
+passing_memory may [] allowed = tt
+passing_memory may (Fine ∷ marks) allowed = allowed.1
+passing_memory may (Starved ∷ marks) allowed = allowed.1
+passing_memory may (Stands ∷ marks) allowed = allowed
+passing_memory may (Met fault ∷ marks) allowed = allowed
+
+passing_step : (may : Bool) → Passing may (step status_told)
+passing_step may [] allowed = tt
+passing_step may (mark ∷ marks) allowed = allowed.1
+
 -- each operation of a Good code added its record, and nothing else was added
-abbrev Adds : Content → ℕ → Request → List Operation → Updated → Type 0
-Adds R own request ops u = AddsFor request own ops u.0 R u.1
+abbrev Adds : Bool → Content → ℕ → Request → List Operation → Updated → Type 0
+Adds may R own request ops u = AddsFor may request own ops u.0 R u.1
 
-none_adds : (R : Content) (own : ℕ) (request : Request) (ops : List Operation) (code : Status) → Adds R own request ops (refused code, R)
-none_adds R own request ops code = inr (refl, refl)
+none_adds : (may : Bool) (R : Content) (own : ℕ) (request : Request) (ops : List Operation) (code : Status) → Adds may R own request ops (refused code, R)
+none_adds may R own request ops code = inr (refl, refl)
 
-begun_adds : (own : ℕ) (request : Request) (status : List Status → Status) (ops : List Operation) (R : Content) → Always (Adds R own request ops) (begin own request status ops R)
-begun_adds own request status ops R =
-    always_past (Adds R own request ops) memory R (run own request status ops R) (none_adds R own request ops) (λ marks. inl (all_add own request ops R marks))
+begun_adds : (may : Bool) (own : ℕ) (request : Request) (status : List Status → Status) (ops : List Operation) (R : Content) → Given may (Adds may R own request ops) (begin own request status ops R)
+begun_adds may own request status ops R =
+    given_past may (Adds may R own request ops) memory R (run own request status ops R) (passing_memory may) (none_adds may R own request ops) (λ marks allowed. inl (all_add may own request ops R marks allowed))
 
-added : (R S : Content) (own : ℕ) (request : Request) (ops : List Operation) (marked : Marked Updated) (used : List Mark) (result : HistoryUpdateResult) → Always (Adds R own request ops) marked → Does marked used (result, S)
-    → AddsFor request own ops result R S
-added R S own request ops marked used result always d = subst (Adds R own request ops) (did marked used (result, S) d) (always (used ++ []))
+added : (may : Bool) (R S : Content) (own : ℕ) (request : Request) (ops : List Operation) (marked : Marked Updated) (used : List Mark) (result : HistoryUpdateResult) → Given may (Adds may R own request ops) marked → MayStand may used
+    → Does marked used (result, S) → AddsFor may request own ops result R S
+added may R S own request ops marked used result given allowed d =
+    subst (Adds may R own request ops) (did marked used (result, S) d) (given (used ++ []) (subst (MayStand may) (sym (append-nil used)) allowed))
 
 -- ---- the three calls
 
-pub writes_stand : (R S left : Content) (own : ℕ) (request : Request) (type : ValueType) (perform : ℤ) (values : List DataValue) (used : List Mark) (result : HistoryUpdateResult) (k : ℕ) (op : Operation) (broken : Bool)
-    → Does (update_data own request type perform values R) used (result, S) → IsAnsweredGood (writes (asked_by perform) type values) result.operation_results k op → MayBeFound broken S left
-    → HasRecordOf R S request own op × HasRecordOf R left request own op
-writes_stand R S left own request type perform values used result k op broken d =
+pub writes_stand : (R S : Content) (own : ℕ) (request : Request) (type : ValueType) (perform : ℤ) (values : List DataValue) (used : List Mark) (result : HistoryUpdateResult) (k : ℕ) (op : Operation)
+    → Does (update_data own request type perform values R) used (result, S) → IsAnsweredGood (writes (asked_by perform) type values) result.operation_results k op → HasRecordOf R S request own op
+writes_stand R S own request type perform values used result k op d =
     let ops = writes (asked_by perform) type values in
-    stood R own request ops (update_data own request type perform values R) used result S left k op broken
+    stood R own request ops (update_data own request type perform values R) used result S k op
     (always_unless (Stand R own request ops) (data_refusal (asked_by perform) (length values)) R (begin own request all_good ops R) (none_stand own request ops R) (begun_stand own request all_good ops R)) d
 
-pub deletes_stand : (R S left : Content) (own : ℕ) (request : Request) (times : List Ticks) (used : List Mark) (result : HistoryUpdateResult) (k : ℕ) (op : Operation) (broken : Bool)
-    → Does (delete_at own request times R) used (result, S) → IsAnsweredGood (deletes_at times) result.operation_results k op → MayBeFound broken S left
-    → HasRecordOf R S request own op × HasRecordOf R left request own op
-deletes_stand R S left own request times used result k op broken d =
+pub deletes_stand : (R S : Content) (own : ℕ) (request : Request) (times : List Ticks) (used : List Mark) (result : HistoryUpdateResult) (k : ℕ) (op : Operation)
+    → Does (delete_at own request times R) used (result, S) → IsAnsweredGood (deletes_at times) result.operation_results k op → HasRecordOf R S request own op
+deletes_stand R S own request times used result k op d =
     let ops = deletes_at times in
-    stood R own request ops (delete_at own request times R) used result S left k op broken
+    stood R own request ops (delete_at own request times R) used result S k op
     (always_unless (Stand R own request ops) (list_refusal 1000 (length times)) R (begin own request all_good ops R) (none_stand own request ops R) (begun_stand own request all_good ops R)) d
 
-pub stretches_stand : (R S left : Content) (own : ℕ) (request : Request) (modified : Bool) (start end_ : Ticks) (used : List Mark) (result : HistoryUpdateResult) (k : ℕ) (op : Operation) (broken : Bool)
-    → Does (delete_raw own request modified start end_ R) used (result, S) → IsAnsweredGood (map DeleteAt (doomed R request.node start.0 end_.0)) result.operation_results k op → MayBeFound broken S left
-    → HasRecordOf R S request own op × HasRecordOf R left request own op
-stretches_stand R S left own request modified start end_ used result k op broken d =
+pub stretches_stand : (R S : Content) (own : ℕ) (request : Request) (modified : Bool) (start end_ : Ticks) (used : List Mark) (result : HistoryUpdateResult) (k : ℕ) (op : Operation)
+    → Does (delete_raw own request modified start end_ R) used (result, S) → IsAnsweredGood (map DeleteAt (doomed R request.node start.0 end_.0)) result.operation_results k op → HasRecordOf R S request own op
+stretches_stand R S own request modified start end_ used result k op d =
     let times = doomed R request.node start.0 end_.0 in
     let ops = map DeleteAt times in
     let all = always_unless (Stand R own request ops) (listing_refusal times) R (begin own request first_other ops R) (none_stand own request ops R) (begun_stand own request first_other ops R) in
-    stood R own request ops (delete_raw own request modified start end_ R) used result S left k op broken
+    stood R own request ops (delete_raw own request modified start end_ R) used result S k op
     (always_unless (Stand R own request ops) (stretch_refusal modified start.0 end_.0) R (past (step status_told) R (delete_listed own request times R)) (none_stand own request ops R)
     (always_past (Stand R own request ops) (step status_told) R (delete_listed own request times R) (none_stand own request ops R) all)) d
 
@@ -121,26 +143,26 @@ stretches_keep R S own request modified start end_ used result =
     (always_unless (λ u. IsWithin R u.1) (stretch_refusal modified start.0 end_.0) R (past (step status_told) R (delete_listed own request times R)) (λ code r h. h)
     (always_past (λ u. IsWithin R u.1) (step status_told) R (delete_listed own request times R) (λ code r h. h) all))
 
-pub writes_add : (R S : Content) (own : ℕ) (request : Request) (type : ValueType) (perform : ℤ) (values : List DataValue) (used : List Mark) (result : HistoryUpdateResult)
-    → Does (update_data own request type perform values R) used (result, S) → AddsFor request own (writes (asked_by perform) type values) result R S
-writes_add R S own request type perform values used result =
+pub writes_add : (may : Bool) (R S : Content) (own : ℕ) (request : Request) (type : ValueType) (perform : ℤ) (values : List DataValue) (used : List Mark) (result : HistoryUpdateResult)
+    → MayStand may used → Does (update_data own request type perform values R) used (result, S) → AddsFor may request own (writes (asked_by perform) type values) result R S
+writes_add may R S own request type perform values used result =
     let ops = writes (asked_by perform) type values in
-    added R S own request ops (update_data own request type perform values R) used result
-    (always_unless (Adds R own request ops) (data_refusal (asked_by perform) (length values)) R (begin own request all_good ops R) (none_adds R own request ops) (begun_adds own request all_good ops R))
+    added may R S own request ops (update_data own request type perform values R) used result
+    (given_unless may (Adds may R own request ops) (data_refusal (asked_by perform) (length values)) R (begin own request all_good ops R) (none_adds may R own request ops) (begun_adds may own request all_good ops R))
 
-pub deletes_add : (R S : Content) (own : ℕ) (request : Request) (times : List Ticks) (used : List Mark) (result : HistoryUpdateResult) → Does (delete_at own request times R) used (result, S)
-    → AddsFor request own (deletes_at times) result R S
-deletes_add R S own request times used result =
+pub deletes_add : (may : Bool) (R S : Content) (own : ℕ) (request : Request) (times : List Ticks) (used : List Mark) (result : HistoryUpdateResult) → MayStand may used → Does (delete_at own request times R) used (result, S)
+    → AddsFor may request own (deletes_at times) result R S
+deletes_add may R S own request times used result =
     let ops = deletes_at times in
-    added R S own request ops (delete_at own request times R) used result
-    (always_unless (Adds R own request ops) (list_refusal 1000 (length times)) R (begin own request all_good ops R) (none_adds R own request ops) (begun_adds own request all_good ops R))
+    added may R S own request ops (delete_at own request times R) used result
+    (given_unless may (Adds may R own request ops) (list_refusal 1000 (length times)) R (begin own request all_good ops R) (none_adds may R own request ops) (begun_adds may own request all_good ops R))
 
-pub stretches_add : (R S : Content) (own : ℕ) (request : Request) (modified : Bool) (start end_ : Ticks) (used : List Mark) (result : HistoryUpdateResult)
-    → Does (delete_raw own request modified start end_ R) used (result, S) → AddsFor request own (map DeleteAt (doomed R request.node start.0 end_.0)) result R S
-stretches_add R S own request modified start end_ used result =
+pub stretches_add : (may : Bool) (R S : Content) (own : ℕ) (request : Request) (modified : Bool) (start end_ : Ticks) (used : List Mark) (result : HistoryUpdateResult)
+    → MayStand may used → Does (delete_raw own request modified start end_ R) used (result, S) → AddsFor may request own (map DeleteAt (doomed R request.node start.0 end_.0)) result R S
+stretches_add may R S own request modified start end_ used result =
     let times = doomed R request.node start.0 end_.0 in
     let ops = map DeleteAt times in
-    let all = always_unless (Adds R own request ops) (listing_refusal times) R (begin own request first_other ops R) (none_adds R own request ops) (begun_adds own request first_other ops R) in
-    added R S own request ops (delete_raw own request modified start end_ R) used result
-    (always_unless (Adds R own request ops) (stretch_refusal modified start.0 end_.0) R (past (step status_told) R (delete_listed own request times R)) (none_adds R own request ops)
-    (always_past (Adds R own request ops) (step status_told) R (delete_listed own request times R) (none_adds R own request ops) all))
+    let all = given_unless may (Adds may R own request ops) (listing_refusal times) R (begin own request first_other ops R) (none_adds may R own request ops) (begun_adds may own request first_other ops R) in
+    added may R S own request ops (delete_raw own request modified start end_ R) used result
+    (given_unless may (Adds may R own request ops) (stretch_refusal modified start.0 end_.0) R (past (step status_told) R (delete_listed own request times R)) (none_adds may R own request ops)
+    (given_past may (Adds may R own request ops) (step status_told) R (delete_listed own request times R) (passing_step may) (none_adds may R own request ops) all))

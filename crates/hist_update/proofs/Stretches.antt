@@ -1,5 +1,5 @@
 -- Deletes of all values of a stretch of time: a listing, and deletes at what it told.
-use Rattle.std.proofs.Common.{◌≡◌, ℕ, ◌≤◌, suc, nat_lt, min, ℤ, Bool, true, false, List, [], ◌∷◌, map, take, length, Option, Some, None, Result, Ok, Err, IfOk, IfSome, ◌||◌, ◌⊎◌, refl, sym, ap, ◌∙◌, subst, arith, not}
+use Rattle.std.proofs.Common.{◌≡◌, ℕ, ◌≤◌, suc, nat_lt, min, ℤ, Bool, true, false, List, [], ◌∷◌, map, take, length, Option, Some, None, Result, Ok, Err, IfOk, IfSome, ◌||◌, refl, sym, ap, ◌∙◌, subst, inl, arith, not}
 use Rattle.std.specs.Prelude.{if◌then◌else◌}
 use Rattle.std.specs.List.{take-map}
 use Rattle.std.proofs.Math.Bool.{or-false}
@@ -24,13 +24,14 @@ use Rattle.archive.specs.Fault.{status_of, status_told}
 use Rattle.archive.specs.Reading.{range_of}
 use Rattle.archive.specs.Steps.{Marked, step, Acts, Does}
 use Rattle.archive.specs.Growth.{Grows}
-use Rattle.archive.specs.Store.{Store, Mark, Fine, Met, Asks, HasContent}
+use Rattle.archive.specs.Store.{Store, Mark, Fine, Met, breaks, Asks, MayBeFound, IsLeft}
 use Rattle.archive.proofs.Calls.{asks-then, in_use, left_in_use}
+use Rattle.archive.proofs.Acting.{left-alone, left-before, there-behind}
 use Rattle.hist_update.specs.declared.request.Request.{Request}
 use Rattle.hist_update.specs.Codes.{first_other}
 use Rattle.hist_update.specs.Outcome.{DeleteAt}
 use Rattle.hist_update.specs.Operating.{Begins, BeginsListed}
-use Rattle.hist_update.specs.Updates.{Updated, refused, unless, past, begin, last_of, doomed, stretch_refusal, listing_refusal, delete_listed, delete_raw, breaks, AreEnded, needs_of, needs_of_stretch}
+use Rattle.hist_update.specs.Updates.{Updated, refused, unless, past, begin, last_of, doomed, stretch_refusal, listing_refusal, delete_listed, delete_raw, AreEnded, needs_of, needs_of_stretch}
 use Rattle.hist_update.proofs.Asking.{moves-behind}
 use Rattle.hist_update.proofs.Answering.{acts-refused, acts-free, acts-hindered, none-ended}
 
@@ -127,7 +128,7 @@ listed-begun a b request lives result e u =
 abbrev pub AnswersPast : Store → Store → Request → ℤ → ℤ → HistoryUpdateResult → Type 0
 AnswersPast a c request start end_ result =
     (used : List Mark) × Acts a c used (λ R. past (step status_told) R (delete_listed a.own request (doomed R request.node start end_) R)) result
-    × (c.honest → (R : Content) → HasContent a R → AreEnded a.broken (true ∷ needs_of a.own request (map DeleteAt (doomed R request.node start end_))) used)
+    × (c.honest → (R : Content) → IsLeft a R → AreEnded a.broken (true ∷ needs_of a.own request (map DeleteAt (doomed R request.node start end_))) used)
 
 fine-met : {X : Type 0} (fault : StoreFault) → Met fault ≡ Fine → X
 fine-met fault e = absurd (true≢false (sym (ap (λ m. elim m [ Fine ↦ true | _ ↦ false ]) e)))
@@ -138,7 +139,7 @@ pub stretch-failed : {B : Type 0} (a c : Store) (fault : StoreFault) (P : B → 
 stretch-failed a c fault P request start end_ result p is =
     let f : Content → Marked Updated = λ R. delete_listed a.own request (doomed R request.node start end_) R in (
       Met fault ∷ [],
-      subst (λ r. Acts a c (Met fault ∷ []) (λ R. past (step status_told) R (f R)) r) (sym is) (acts-hindered a c (Met fault) (status_of fault) (step status_told) f p.leaves.passes p.stays (λ later. refl)),
+      subst (λ r. Acts a c (Met fault ∷ []) (λ R. past (step status_told) R (f R)) r) (sym is) (acts-hindered a c (Met fault) (status_of fault) (step status_told) f p.leaves.passes p.stays (there-behind a c (Some fault) p.leaves) (λ later. refl)),
       λ honest R h. (λ e m. fine-met fault m, tt),
     )
 
@@ -148,14 +149,17 @@ pub stretch-listed : {B : Type 0} (a b c : Store) (lives : B) (items : B → Lis
     → BeginsListed b c request times result → AnswersPast a c request start end_ result
 stretch-listed {B} a b c lives items times request start end_ from to result p first final is u = (
   Fine ∷ u.used,
-  moves-behind a b c lives (λ (w : B). items w ≡ take 1001 (range_of a.content request.node from to Forward)) (Fine ∷ u.used) (λ R S. Does (past (step status_told) R (delete_listed a.own request (doomed R request.node start end_) R)) (Fine ∷ u.used) (result, S)) p u.acts.passes
-      (λ honest told h.
-      let q = u.acts.acts honest a.content h in (
-        (q.0, step_past q.0 told q.1, q.2, subst (λ (own : ℕ). Grows own a.content q.0) p.leaves.passes.own q.3),
-        λ left m. subst (λ (own : ℕ). b.may_hold left ⊎ Grows own a.content left) p.leaves.passes.own (u.acts.crash honest a.content h left m),
+  moves-behind a b c lives (λ (w : B). items w ≡ take 1001 (range_of a.content request.node from to Forward)) (Fine ∷ u.used) (λ marks R S. Does (past (step status_told) R (delete_listed a.own request (doomed R request.node start end_) R)) marks (result, S)) p u.acts.passes u.acts.there
+      (λ honest told same S h.
+      let (marks, so, R, was, does, grows) = u.acts.acts honest S h in
+      let from_there : R ≡ a.content = left-alone b R p.leaves.after (u.acts.passes.honest honest) (left_in_use a b p.leaves) was ∙ same in (
+        Fine ∷ marks,
+        (inl refl, subst (λ (x : Bool). MayBeFound x u.used marks) (left_in_use a b p.leaves) so),
+        step_past marks S told (subst (λ (Q : Content). Does {A = Updated} (delete_listed b.own request times Q) marks (result, S)) from_there does),
+        subst (λ (Q : Content). Grows a.own Q S) from_there (subst (λ (own : ℕ). Grows own R S) p.leaves.passes.own grows),
       )),
   λ honest R h.
-      let same : a.content ≡ R = h.content used in
+      let same : a.content ≡ R = left-before a b R p.leaves (u.acts.passes.honest honest) h in
       let told = p.answer (u.acts.passes.honest honest) in
       subst (λ (S : Content). AreEnded a.broken (true ∷ needs_of a.own request (map DeleteAt (doomed S request.node start end_))) (Fine ∷ u.used)) same
       (λ e m. absurd (true≢false (sym e ∙ used)), all_ended told),
@@ -170,14 +174,14 @@ stretch-listed {B} a b c lives items times request start end_ from to result p f
     found : items lives ≡ take 1001 (range_of a.content request.node from to Forward) → times ≡ take 1001 (doomed a.content request.node start end_)
     found told = is ∙ (ap (map (λ (h : Held). h.time)) (told ∙ (ap (λ t. take 1001 (range_of a.content request.node t to Forward)) first ∙ ap (λ t. take 1001 (range_of a.content request.node (moment start 0) t Forward)) final)) ∙ sym (take-map (λ (h : Held). h.time) 1001 (range_of a.content request.node (moment start 0) (last_of start end_) Forward)))
 
-    step_past : (S : Content) → items lives ≡ take 1001 (range_of a.content request.node from to Forward)
-        → Does {A = Updated} (delete_listed b.own request times a.content) u.used (result, S)
-        → Does {A = Updated} (past (step status_told) a.content (delete_listed a.own request (doomed a.content request.node start end_) a.content)) (Fine ∷ u.used) (result, S)
-    step_past S told d =
-        let e : Does {A = Updated} (delete_listed a.own request (doomed a.content request.node start end_) a.content) u.used (result, S) =
-        subst (λ m. Does {A = Updated} m u.used (result, S)) (listed-by-first a.own request (doomed a.content request.node start end_) a.content)
-        (subst (λ l. Does {A = Updated} (delete_listed a.own request l a.content) u.used (result, S)) (found told)
-        (subst (λ n. Does {A = Updated} (delete_listed n request times a.content) u.used (result, S)) own d)) in
+    step_past : (marks : List Mark) (S : Content) → items lives ≡ take 1001 (range_of a.content request.node from to Forward)
+        → Does {A = Updated} (delete_listed b.own request times a.content) marks (result, S)
+        → Does {A = Updated} (past (step status_told) a.content (delete_listed a.own request (doomed a.content request.node start end_) a.content)) (Fine ∷ marks) (result, S)
+    step_past marks S told d =
+        let e : Does {A = Updated} (delete_listed a.own request (doomed a.content request.node start end_) a.content) marks (result, S) =
+        subst (λ m. Does {A = Updated} m marks (result, S)) (listed-by-first a.own request (doomed a.content request.node start end_) a.content)
+        (subst (λ l. Does {A = Updated} (delete_listed a.own request l a.content) marks (result, S)) (found told)
+        (subst (λ n. Does {A = Updated} (delete_listed n request times a.content) marks (result, S)) own d)) in
         record { does = e.does }
 
     all_ended : items lives ≡ take 1001 (range_of a.content request.node from to Forward)
@@ -198,7 +202,7 @@ stretch-listed {B} a b c lives items times request start end_ from to result p f
 -- it isn't refused by what it says itself
 pub stretch-free : (a c : Store) (request : Request) (modified : Bool) (start end_ : Ticks) (result : HistoryUpdateResult) → stretch_refusal modified start.0 end_.0 ≡ None
     → AnswersPast a c request start.0 end_.0 result
-    → (used : List Mark) × Acts a c used (delete_raw a.own request modified start end_) result × (c.honest → (R : Content) → HasContent a R → AreEnded a.broken (needs_of_stretch a.own request start end_ R) used)
+    → (used : List Mark) × Acts a c used (delete_raw a.own request modified start end_) result × (c.honest → (R : Content) → IsLeft a R → AreEnded a.broken (needs_of_stretch a.own request start end_ R) used)
 stretch-free a c request modified start end_ result e u = (
   u.0,
   acts-free a c u.0 (stretch_refusal modified start.0 end_.0) (λ R. past (step status_told) R (delete_listed a.own request (doomed R request.node start.0 end_.0) R)) result e u.1,
@@ -206,7 +210,7 @@ stretch-free a c request modified start end_ result e u = (
 )
 
 pub stretch-refused : (a : Store) (request : Request) (modified : Bool) (start end_ : Ticks) (code : Status) (result : HistoryUpdateResult) → stretch_refusal modified start.0 end_.0 ≡ Some code → result ≡ refused code
-    → (used : List Mark) × Acts a a used (delete_raw a.own request modified start end_) result × (a.honest → (R : Content) → HasContent a R → AreEnded a.broken (needs_of_stretch a.own request start end_ R) used)
+    → (used : List Mark) × Acts a a used (delete_raw a.own request modified start end_) result × (a.honest → (R : Content) → IsLeft a R → AreEnded a.broken (needs_of_stretch a.own request start end_ R) used)
 stretch-refused a request modified start end_ code result e is = (
   [],
   subst (λ r. Acts a a [] (delete_raw a.own request modified start end_) r) (sym is)

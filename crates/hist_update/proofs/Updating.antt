@@ -7,12 +7,12 @@ use Rattle.std.proofs.lemmas.Bool.{true≢false}
 use Rattle.ua_binary.specs.declared.codes.Status.{Status}
 use Rattle.archive.specs.declared.fault.StoreFault.{StoreFault}
 use Rattle.archive.specs.Steps.{Acts, Does}
-use Rattle.archive.specs.Store.{Store, Mark, Fine, is_break, faults_in, faults_of}
+use Rattle.archive.specs.Store.{Store, Mark, Fine, is_break, breaks, faults_in, faults_of}
 use Rattle.archive.proofs.Acting.{moves-none, acts-each}
 use Rattle.hist_update.specs.declared.request.Request.{Request}
 use Rattle.hist_update.specs.declared.operate.Undone.{Undone}
 use Rattle.hist_update.specs.Outcome.{Operation, Change, change_by}
-use Rattle.hist_update.specs.Updates.{update_one, update_all, breaks, AreEnded, needs_store}
+use Rattle.hist_update.specs.Updates.{update_one, update_all, AreEnded, needs_store}
 use Rattle.hist_update.specs.Operating.{code_told, mark_in, Operates, Operations}
 
 -- ---- behind a break
@@ -46,7 +46,7 @@ not_needed own request op h = go (change_by request own op) h
 pub operations-none : (a : Store) (request : Request) → Operations a a request [] []
 operations-none a request = record {
   used = [];
-  acts = moves-none a (λ R S. Does (update_all a.own request [] R) [] ([], S)) (λ R. record { does = λ later. refl });
+  acts = moves-none a (λ marks R S. Does (update_all a.own request [] R) marks ([], S)) (λ R. record { does = λ later. refl });
   ended = tt;
   marks = refl;
   count = refl;

@@ -1,7 +1,8 @@
 -- What is said of updates in general.
-use Rattle.std.specs.Prelude.{◌≡◌, ◌⊎◌, ℕ, ◌≤◌, ◌<◌, ℤ, pos, ◌≤ℤ◌, ◌<ℤ◌, false, true, List, [], ◌∷◌, slice_get, Some, Ok}
+use Rattle.std.specs.Prelude.{◌≡◌, ◌⊎◌, ℕ, ◌≤◌, ◌<◌, ℤ, pos, ◌≤ℤ◌, ◌<ℤ◌, Bool, false, true, List, [], ◌∷◌, slice_get, Some, Ok}
 use Rattle.std.specs.Int.{w64, int_min}
 use Rattle.std.specs.Int.RustNames.{FitsSigned}
+use Rattle.std.specs.List.{AllByRecursion}
 use Rattle.std.specs.Str.{is_utf8}
 use Rattle.stamp.specs.Limits.{greatest}
 use Rattle.ua_binary.specs.Binary.{IsNodeId}
@@ -14,6 +15,9 @@ use Rattle.records.specs.Contents.{Content, put}
 use Rattle.records.specs.Lists.{Has}
 use Rattle.records.specs.Records.{is_delete}
 use Rattle.records.specs.declared.record.Record.{Record}
+use Rattle.archive.specs.declared.fault.StoreFault.TheVariants.{Broken}
+use Rattle.archive.specs.Fault.{status_of}
+use Rattle.archive.specs.Store.{Mark, Stands}
 use Rattle.hist_update.specs.declared.request.Request.{Request}
 use Rattle.hist_update.specs.Outcome.{Operation, Write, DeleteAt, change_by, is_live}
 
@@ -47,18 +51,26 @@ pub record IsNewBehind (R : Content) (request : Request) (r : Record) : Type 0 w
 abbrev pub HasRecordOf : (before after : Content) → Request → ℕ → Operation → Type 0
 HasRecordOf before after request own operation = (r : Record) × Has after r × IsRecordOf request own operation r × IsNewBehind before request r
 
+-- the record of an operation stands behind a break only where this says that one may
+abbrev pub MayStand : (may : Bool) → List Mark → Type 0
+MayStand may marks = AllByRecursion (λ mark. mark ≡ Stands → may ≡ true) marks
+
+-- the code is Good, or the store broke and the record stands
+abbrev pub IsDone : (may : Bool) → Status → Type 0
+IsDone may code = IsGood code ⊎ ((may ≡ true) × (code ≡ status_of Broken))
+
 -- One operation after the other: where its code is Bad nothing was added, and where it is Good its record was, which is new behind
--- what was held then. Nothing else was.
-abbrev pub AddsEach : Request → ℕ → List Operation → List Status → Content → Content → Type 0
-AddsEach request own [] codes R S = (codes ≡ []) × (S ≡ R)
-AddsEach request own (operation ∷ operations) [] R S = ⊥
-AddsEach request own (operation ∷ operations) (code ∷ codes) R S =
-    (IsBad code × AddsEach request own operations codes R S)
-    ⊎ (IsGood code × (r : Record) × IsRecordOf request own operation r × IsNewBehind R request r × AddsEach request own operations codes (put r R) S)
+-- what was held then; so it may be where the store broke. Nothing else was.
+abbrev pub AddsEach : (may : Bool) → Request → ℕ → List Operation → List Status → Content → Content → Type 0
+AddsEach may request own [] codes R S = (codes ≡ []) × (S ≡ R)
+AddsEach may request own (operation ∷ operations) [] R S = ⊥
+AddsEach may request own (operation ∷ operations) (code ∷ codes) R S =
+    (IsBad code × AddsEach may request own operations codes R S)
+    ⊎ (IsDone may code × (r : Record) × IsRecordOf request own operation r × IsNewBehind R request r × AddsEach may request own operations codes (put r R) S)
 
 -- the same of a call's result; one that is refused as a whole has no codes and added nothing
-abbrev pub AddsFor : Request → ℕ → List Operation → HistoryUpdateResult → Content → Content → Type 0
-AddsFor request own operations result R S = AddsEach request own operations result.operation_results R S ⊎ ((result.operation_results ≡ []) × (S ≡ R))
+abbrev pub AddsFor : (may : Bool) → Request → ℕ → List Operation → HistoryUpdateResult → Content → Content → Type 0
+AddsFor may request own operations result R S = AddsEach may request own operations result.operation_results R S ⊎ ((result.operation_results ≡ []) × (S ≡ R))
 
 -- what the types of a request and of an operation see to, and the conditions on values
 pub record IsSpelled (request : Request) : Type 0 where

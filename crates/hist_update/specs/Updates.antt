@@ -1,7 +1,6 @@
 -- Updates over a content, by what comes in the way of their steps (Part 11, HistoryUpdate).
 use Rattle.std.specs.Prelude.{◌≡◌, ◌||◌, ℕ, ℤ, ◌-ℤ◌, pos, int_lt, Bool, true, false, if◌then◌else◌, List, [], ◌∷◌, map, length, nat_lt, Option, Some, None, unwrap_or, is_ok, ⊤}
 use Rattle.std.specs.Ordering.{int_eq}
-use Rattle.std.specs.List.{list_any}
 use Rattle.std.specs.Option.{option_map_or}
 use Rattle.ua_binary.specs.declared.codes.Status.{Status}
 use Rattle.ua_binary.specs.declared.codes.TheConstants.Status.{GOOD, BAD_HISTORY_OPERATION_INVALID, BAD_NO_DATA, BAD_TOO_MANY_OPERATIONS, BAD_HISTORY_OPERATION_UNSUPPORTED, BAD_INVALID_TIMESTAMP_ARGUMENT}
@@ -17,7 +16,7 @@ use Rattle.archive.specs.declared.reading.Direction.TheVariants.{Forward}
 use Rattle.archive.specs.Fault.{status_told}
 use Rattle.archive.specs.Reading.{range_of}
 use Rattle.archive.specs.Steps.{Marked, give, step, memory, and_then, each}
-use Rattle.archive.specs.Store.{Mark, Fine, is_break, faults_in}
+use Rattle.archive.specs.Store.{Mark, Fine, Stands, breaks}
 use Rattle.hist_update.specs.declared.request.Request.{Request}
 use Rattle.hist_update.specs.Codes.{asked_by, list_refusal, first_other}
 use Rattle.hist_update.specs.Outcome.{Operation, Write, DeleteAt, Outcome, change_by, outcome, code_in, after}
@@ -27,9 +26,9 @@ use Rattle.hist_update.specs.Outcome.{Operation, Write, DeleteAt, Outcome, chang
 abbrev pub code_by : Outcome → Mark → Status
 code_by o mark = unwrap_or (status_told mark) (code_in o)
 
--- an operation that something came in the way of changes nothing
+-- an operation that something came in the way of changes nothing, but where the store broke and its record stands
 abbrev pub left_by : Content → Outcome → Mark → Content
-left_by R o mark = elim mark [ Fine ↦ after R o | _ ↦ R ]
+left_by R o mark = elim mark [ Fine ↦ after R o | Stands ↦ after R o | _ ↦ R ]
 
 -- one operation is one step: its code, and what it leaves
 abbrev pub update_one : ℕ → Request → Operation → Content → Marked (Status × Content)
@@ -113,9 +112,6 @@ delete_raw own request modified start end_ R =
     unless (stretch_refusal modified start.0 end_.0) R (past (step status_told) R (delete_listed own request (doomed R request.node start.0 end_.0) R))
 
 -- ---- a broken store
-
-abbrev pub breaks : Mark → Bool
-breaks mark = list_any is_break (faults_in mark)
 
 -- of some steps, of which it is known whether each needs the store: once it is broken, one that needs it has something in its way
 abbrev pub AreEnded : Bool → List Bool → List Mark → Type 0

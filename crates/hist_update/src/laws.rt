@@ -16,13 +16,13 @@ ghost use Rattle.records.specs.Records.{is_delete, story, current};
 ghost use Rattle.records.specs.declared.record.Record.{Record};
 ghost use Rattle.ua_variant.specs.declared.update_type.HistoryUpdateType.TheVariants.{Insert, Replace};
 ghost use Rattle.records.specs.declared.shown.Held.{Held};
-ghost use Rattle.archive.specs.Store.{Mark, IsLawfulContent, MayBeFound};
+ghost use Rattle.archive.specs.Store.{Mark, Stands, IsLawfulContent};
 ghost use Rattle.archive.specs.Steps.{Does};
 ghost use Rattle.hist_update.specs.declared.request.Request.{Request as Asker};
 ghost use Rattle.hist_update.specs.Codes.{asked_by};
 ghost use Rattle.hist_update.specs.Outcome.{Operation, DeleteAt, IsRequest, Added, outcome, is_live};
 ghost use Rattle.hist_update.specs.Updates.{code_by, left_by, update_all, update_data, delete_at, delete_raw, writes, deletes_at, doomed};
-ghost use Rattle.hist_update.specs.Laws.{IsBad, IsGood, IsRecordOf, IsNewBehind, IsAnsweredGood, HasRecordOf, AddsEach, AddsFor, IsSpelled, IsOperation, IsDoomed};
+ghost use Rattle.hist_update.specs.Laws.{IsBad, IsGood, IsRecordOf, IsNewBehind, IsAnsweredGood, HasRecordOf, MayStand, AddsEach, AddsFor, IsSpelled, IsOperation, IsDoomed};
 
 /// A new record is its origin's next, its tick is above every tick held, and it is the last of its
 /// story: so what was written is the live value, and behind a delete there is none.
@@ -37,10 +37,11 @@ pub fn new_records_come_last()
         → current (put r R) r.node r.time ≡ None }
 {}
 
-/// A code that isn't Good is Bad, and then the content is what it was; behind a Good code it is what
-/// it was, with the record of what was asked for.
+/// A code that isn't Good is Bad, and then the content is what it was, or, where the store broke and its
+/// record stands, that with it; behind a Good code it is what it was, with the record of what was asked for.
 pub fn codes_tell_what_was_done()
-    ensures bad { (R : Content) (own : ℕ) (q : Asker) (op : Operation) (m : Mark) → IsBad (code_by (outcome R own q op) m) → left_by R (outcome R own q op) m ≡ R }
+    ensures bad { (R : Content) (own : ℕ) (q : Asker) (op : Operation) (m : Mark) → IsBad (code_by (outcome R own q op) m)
+        → (left_by R (outcome R own q op) m ≡ R) ⊎ ((m ≡ Stands) × (r : Record) × (left_by R (outcome R own q op) m ≡ put r R) × IsRecordOf q own op r × IsNewBehind R q r) }
     ensures good { (R : Content) (own : ℕ) (q : Asker) (op : Operation) (m : Mark) → IsGood (code_by (outcome R own q op) m)
         → (r : Record) × (outcome R own q op ≡ Added (code_by (outcome R own q op) m) r) × (left_by R (outcome R own q op) m ≡ put r R) × IsRecordOf q own op r × IsNewBehind R q r }
     ensures either { (R : Content) (own : ℕ) (q : Asker) (op : Operation) (m : Mark) → IsBad (code_by (outcome R own q op) m) ⊎ IsGood (code_by (outcome R own q op) m) }
@@ -60,15 +61,14 @@ pub fn codes_tell_what_stood()
 {}
 
 /// What was held before some operations is held behind them, and each operation that was answered Good has
-/// added its record, one after the other, and nothing else has. So that record is held: a new one, above every tick that was held before. What an opening may find behind
-/// them has it too, also where one of them broke the store.
+/// added its record, one after the other, and nothing else has, but where one broke the store and its record stands. So that record is held: a new one, above every
+/// tick that was held before; also in what an opening finds, where one of them broke the store.
 pub fn updates_lose_nothing()
     ensures within { (R S : Content) (own : ℕ) (q : Asker) (ops : List Operation) (used : List Mark) (codes : List Code) → Does (update_all own q ops R) used (codes, S) → IsWithin R S }
-    ensures added { (R S : Content) (own : ℕ) (q : Asker) (ops : List Operation) (used : List Mark) (codes : List Code) → Does (update_all own q ops R) used (codes, S) → AddsEach q own ops codes R S }
+    ensures added { (may : Bool) (R S : Content) (own : ℕ) (q : Asker) (ops : List Operation) (used : List Mark) (codes : List Code) → MayStand may used → Does (update_all own q ops R) used (codes, S)
+        → AddsEach may q own ops codes R S }
     ensures stands { (R S : Content) (own : ℕ) (q : Asker) (ops : List Operation) (used : List Mark) (codes : List Code) (k : ℕ) (op : Operation)
         → Does (update_all own q ops R) used (codes, S) → IsAnsweredGood ops codes k op → HasRecordOf R S q own op }
-    ensures found { (R S left : Content) (own : ℕ) (q : Asker) (ops : List Operation) (used : List Mark) (codes : List Code) (k : ℕ) (op : Operation) (broken : Bool)
-        → Does (update_all own q ops R) used (codes, S) → IsAnsweredGood ops codes k op → MayBeFound broken S left → HasRecordOf R left q own op }
 {}
 
 /// Every update that is answered Good stands: whichever of the three calls it was one of, what is held
@@ -76,21 +76,21 @@ pub fn updates_lose_nothing()
 /// may find then. What was held before the call is held too, and nothing is added but one record for each
 /// operation that is answered Good.
 pub fn every_good_update_stands()
-    ensures writes { (R S left : Content) (own : ℕ) (q : Asker) (type : Kind) (perform : ℤ) (values : List Data) (used : List Mark) (result : Answer) (k : ℕ) (op : Operation) (broken : Bool)
-        → Does (update_data own q type perform values R) used (result, S) → IsAnsweredGood (writes (asked_by perform) type values) result.operation_results k op → MayBeFound broken S left
-        → HasRecordOf R S q own op × HasRecordOf R left q own op }
-    ensures deletes { (R S left : Content) (own : ℕ) (q : Asker) (times : List Time) (used : List Mark) (result : Answer) (k : ℕ) (op : Operation) (broken : Bool)
-        → Does (delete_at own q times R) used (result, S) → IsAnsweredGood (deletes_at times) result.operation_results k op → MayBeFound broken S left
-        → HasRecordOf R S q own op × HasRecordOf R left q own op }
-    ensures stretches { (R S left : Content) (own : ℕ) (q : Asker) (modified : Bool) (start end_ : Time) (used : List Mark) (result : Answer) (k : ℕ) (op : Operation) (broken : Bool)
-        → Does (delete_raw own q modified start end_ R) used (result, S) → IsAnsweredGood (map DeleteAt (doomed R q.node start.0 end_.0)) result.operation_results k op → MayBeFound broken S left
-        → HasRecordOf R S q own op × HasRecordOf R left q own op }
-    ensures added { (R S : Content) (own : ℕ) (q : Asker) (type : Kind) (perform : ℤ) (values : List Data) (used : List Mark) (result : Answer)
-        → Does (update_data own q type perform values R) used (result, S) → AddsFor q own (writes (asked_by perform) type values) result R S }
-    ensures added_by_deletes { (R S : Content) (own : ℕ) (q : Asker) (times : List Time) (used : List Mark) (result : Answer) → Does (delete_at own q times R) used (result, S)
-        → AddsFor q own (deletes_at times) result R S }
-    ensures added_by_stretches { (R S : Content) (own : ℕ) (q : Asker) (modified : Bool) (start end_ : Time) (used : List Mark) (result : Answer)
-        → Does (delete_raw own q modified start end_ R) used (result, S) → AddsFor q own (map DeleteAt (doomed R q.node start.0 end_.0)) result R S }
+    ensures writes { (R S : Content) (own : ℕ) (q : Asker) (type : Kind) (perform : ℤ) (values : List Data) (used : List Mark) (result : Answer) (k : ℕ) (op : Operation)
+        → Does (update_data own q type perform values R) used (result, S) → IsAnsweredGood (writes (asked_by perform) type values) result.operation_results k op
+        → HasRecordOf R S q own op }
+    ensures deletes { (R S : Content) (own : ℕ) (q : Asker) (times : List Time) (used : List Mark) (result : Answer) (k : ℕ) (op : Operation)
+        → Does (delete_at own q times R) used (result, S) → IsAnsweredGood (deletes_at times) result.operation_results k op
+        → HasRecordOf R S q own op }
+    ensures stretches { (R S : Content) (own : ℕ) (q : Asker) (modified : Bool) (start end_ : Time) (used : List Mark) (result : Answer) (k : ℕ) (op : Operation)
+        → Does (delete_raw own q modified start end_ R) used (result, S) → IsAnsweredGood (map DeleteAt (doomed R q.node start.0 end_.0)) result.operation_results k op
+        → HasRecordOf R S q own op }
+    ensures added { (may : Bool) (R S : Content) (own : ℕ) (q : Asker) (type : Kind) (perform : ℤ) (values : List Data) (used : List Mark) (result : Answer)
+        → MayStand may used → Does (update_data own q type perform values R) used (result, S) → AddsFor may q own (writes (asked_by perform) type values) result R S }
+    ensures added_by_deletes { (may : Bool) (R S : Content) (own : ℕ) (q : Asker) (times : List Time) (used : List Mark) (result : Answer) → MayStand may used → Does (delete_at own q times R) used (result, S)
+        → AddsFor may q own (deletes_at times) result R S }
+    ensures added_by_stretches { (may : Bool) (R S : Content) (own : ℕ) (q : Asker) (modified : Bool) (start end_ : Time) (used : List Mark) (result : Answer)
+        → MayStand may used → Does (delete_raw own q modified start end_ R) used (result, S) → AddsFor may q own (map DeleteAt (doomed R q.node start.0 end_.0)) result R S }
     ensures kept { (R S : Content) (own : ℕ) (q : Asker) (type : Kind) (perform : ℤ) (values : List Data) (used : List Mark) (result : Answer)
         → Does (update_data own q type perform values R) used (result, S) → IsWithin R S }
     ensures kept_by_deletes { (R S : Content) (own : ℕ) (q : Asker) (times : List Time) (used : List Mark) (result : Answer) → Does (delete_at own q times R) used (result, S) → IsWithin R S }

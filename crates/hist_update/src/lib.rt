@@ -12,4 +12,5 @@ pub use laws::{
     updates_lose_nothing,
 };
 pub use request::Request;
+pub use ua_services::HistoryUpdateResult as UpdateResult;
 pub use update::{delete_at, delete_raw, update_data};

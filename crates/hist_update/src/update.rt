@@ -11,7 +11,7 @@ ghost use Rattle.records.specs.Records.{is_delete};
 ghost use Rattle.archive.specs.Reading.{range_of};
 ghost use Rattle.archive.specs.declared.reading.Direction.TheVariants as direction;
 ghost use Rattle.archive.specs.Steps.{Acts};
-ghost use Rattle.archive.specs.Store.{Mark, Asks, HasContent};
+ghost use Rattle.archive.specs.Store.{Mark, Asks, IsLeft};
 ghost use Rattle.hist_update.specs.Codes.{asked_by, list_refusal, first_other};
 ghost use Rattle.hist_update.specs.Outcome.{IsRequest, Write, DeleteAt};
 ghost use Rattle.hist_update.specs.Operating.{Operations, Begins, BeginsListed};
@@ -369,7 +369,7 @@ pub fn delete_raw<A: Archive>(
 ) -> HistoryUpdateResult
     requires { IsRequest request.now }
     ensures acts { (used : List Mark) × Acts (A.state archive.old) (A.state archive.new) used (delete_raw (A.state archive.old).own request.now modified start end) result
-        × ((A.state archive.new).honest → (R : Content) → HasContent (A.state archive.old) R → AreEnded (A.state archive.old).broken (needs_of_stretch (A.state archive.old).own request.now start end R) used) }
+        × ((A.state archive.new).honest → (R : Content) → IsLeft (A.state archive.old) R → AreEnded (A.state archive.old).broken (needs_of_stretch (A.state archive.old).own request.now start end R) used) }
     ensures refused { IfSome (stretch_refusal modified start.0 end.0) (λ code. (result ≡ refused code) × (archive.new ≡ archive.old)) }
     ensures short { IsShortUpdate result }
 {

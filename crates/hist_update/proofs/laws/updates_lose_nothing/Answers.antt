@@ -1,4 +1,4 @@
-use Rattle.hist_update.proofs.Answered.{updated_within, updated_adds, good_stands, good_found}
+use Rattle.hist_update.proofs.Answered.{updated_within, updated_adds, good_stands}
 use Rattle.hist_update.proofs.laws.updates_lose_nothing.Goals as goal
 
 pub returns-clause-within : goal.returns-clause-within
@@ -9,6 +9,3 @@ returns-clause-added c = updated_adds
 
 pub returns-clause-stands : goal.returns-clause-stands
 returns-clause-stands c = good_stands
-
-pub returns-clause-found : goal.returns-clause-found
-returns-clause-found c = good_found

@@ -1,12 +1,18 @@
 use Rattle.std.proofs.Common.{rules, ◌≡◌, Err, subst, sym}
+use Rattle.ua_binary.specs.declared.codes.TheConstants.Status.{BAD_INVALID_TIMESTAMP}
 use Rattle.archive.specs.declared.setback.Setback.TheVariants as setback
 use Rattle.hist_update.specs.declared.operate.Undone.TheVariants as undone
 use Rattle.hist_update.specs.Operating.{Operates}
-use Rattle.hist_update.specs.Outcome.{DeleteAt}
+use Rattle.hist_update.specs.Outcome.{DeleteAt, change_by}
 use Rattle.hist_update.proofs.OutcomeParts.{deletion}
 use Rattle.hist_update.proofs.Drafts.{short_node}
-use Rattle.hist_update.proofs.Operating.{survey-failed, draft-starved, settled, deletion_timed, deleted_by}
+use Rattle.hist_update.proofs.Operating.{refused-early, survey-failed, draft-starved, settled, deletion_timed, deleted_by}
 use Rattle.hist_update.proofs.operate.delete.Goals as goal
+
+pub returns-then-ticks-lt1 : goal.returns-then-ticks-lt1
+returns-then-ticks-lt1 g c =
+    let early : change_by c.args.request.now (g.A.Archive.state c.args.archive.now).own (DeleteAt c.args.time) ≡ Err BAD_INVALID_TIMESTAMP = search rules in
+    refused-early (g.A.Archive.state c.args.archive.now) c.args.request.now (DeleteAt c.args.time) BAD_INVALID_TIMESTAMP early
 
 pub returns-in_err-place : goal.returns-in_err-place
 returns-in_err-place g c =
