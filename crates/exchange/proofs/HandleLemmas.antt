@@ -33,7 +33,7 @@ use Rattle.exchange.specs.Merging.{learned_all, IsRefusal, Meets, learned_of, Ma
 use Rattle.exchange.proofs.MergeLemmas.{merged_stops}
 use Rattle.exchange.specs.declared.message.Party.{Party}
 use Rattle.records.specs.Contents.{numbers_of}
-use Rattle.exchange.specs.Dialogs.{ended_by, broken_off, is_bare, refusal, title_by, Turn, failing, carrying, pushing, learning, Way, Clear, Unread, Stopped, Starved, Met, IsWay, gone, learned_in, fault_on, party_of, IsHeld, Tells, IsSpelledReply, Handles, carries_none, capped, behind}
+use Rattle.exchange.specs.Dialogs.{ended_by, broken_off, is_bare, refusal, title_by, Turn, failing, carrying, pushing, learning, Way, Clear, Unread, Stopped, Starved, Met, IsWay, gone, learned_in, fault_on, party_of, IsHeld, Tells, IsSpelledReply, Handles, broken_at, carries_none, capped, behind}
 use Rattle.exchange.proofs.DialogsParts.{asking, refusal_by, learnt, pulled}
 use Rattle.archive.proofs.Vectors.{told_is}
 
@@ -452,6 +452,28 @@ module _ (a b c : Store) (rs : List Record) (n : ℕ) (state : State) (asked : R
     ]);
     passes = subst (λ o. Passes a c (option_to_list o)) (sym (lifted_faults handles.way)) (passes-then a b c [] (option_to_list (fault_on handles.way)) merges.passes handles.passes);
   }
+
+-- a broken store refuses the first record; where there is none, it is asked for the vector
+pub learn_ended : (a b : Store) (rs : List Record) (n : ℕ) (asked : Result Reply ExchangeFault) → Merges a b rs (Ok n) → (b.broken ≡ true → asked ≡ Err (exchange.Store Broken)) → a.broken ≡ true → behind n asked ≡ Err (broken_at rs)
+learn_ended a b [] n asked merges ended broken = ap (behind n) (ended (merges.passes.broken ∙ ap (λ (x : Bool). x || false) broken))
+learn_ended a b (r ∷ rs) n asked merges ended broken = absurd (ok_err (merges.ended broken (omega arith)))
+  where
+    ok_err : ◌≡◌ {A = Result ℕ ExchangeFault} (Ok n) (Err (exchange.Learn 0 (refused.Store Broken))) → ⊥
+    ok_err e = cc
+
+pub merge_ended : (a b : Store) (rs : List Record) (fault : ExchangeFault) → Merges a b rs (Err fault) → a.broken ≡ true → fault ≡ broken_at rs
+merge_ended a b (r ∷ rs) fault merges broken = err_is fault (exchange.Learn 0 (refused.Store Broken)) (merges.ended broken (omega arith))
+  where
+    err_is : (f g : ExchangeFault) → ◌≡◌ {A = Result ℕ ExchangeFault} (Err f) (Err g) → f ≡ g
+    err_is f g e = cc
+merge_ended a b [] (exchange.Learn k cause) merges broken = absurd (omega (arith, merges.tells.0))
+merge_ended a b [] exchange.Frame merges broken = absurd merges.tells
+merge_ended a b [] exchange.WrongArchive merges broken = absurd merges.tells
+merge_ended a b [] exchange.OutOfMemory merges broken = absurd merges.tells
+merge_ended a b [] exchange.SelfPeer merges broken = absurd merges.tells
+merge_ended a b [] (exchange.Store f) merges broken = absurd merges.tells
+merge_ended a b [] exchange.TooLong merges broken = absurd merges.tells
+merge_ended a b [] exchange.PeerFormat merges broken = absurd merges.tells
 
 meets_refusal : (S : Content) (r : Record) (cause : LearnFault) → IsRefusal cause → Meets S r cause → answer_to (finding S r) ≡ Err cause
 meets_refusal S r (refused.Gap held got) is met = met

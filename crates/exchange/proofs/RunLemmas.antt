@@ -1,8 +1,11 @@
 -- One event at one archive.
-use Rattle.std.proofs.Common.{◌≡◌, ℕ, ◌+◌, ◌-◌, ◌^◌, ◌<◌, ◌≤◌, ℤ, pos, Bool, false, List, [], ◌∷◌, ◌++◌, take, length, get_or, Option, Some, None, Result, Ok, Err, refl, sym, ap, ◌∙◌, subst, arith, inl, inr, ◌⊎◌, option_to_list}
+use Rattle.std.proofs.Common.{◌≡◌, ℕ, ◌+◌, ◌-◌, ◌^◌, ◌<◌, ◌≤◌, ℤ, pos, Bool, true, false, ◌||◌, List, [], ◌∷◌, ◌++◌, take, length, get_or, Option, Some, None, Result, Ok, Err, refl, sym, ap, ◌∙◌, subst, arith, inl, inr, ◌⊎◌, option_to_list, true≢false, length-append}
 use Rattle.std.specs.Prelude.{unwrap_or}
 use Rattle.std.proofs.lemmas.List.{take_more}
 use Rattle.std.proofs.lemmas.Option.{slice_get-get_or}
+use Rattle.std.specs.List.{list_any}
+use Rattle.std.proofs.lemmas.Bool.{or_right}
+use Rattle.records.proofs.ContentsParts.{after_finding}
 use Rattle.ua_binary.specs.declared.codes.Status.{Status}
 use Rattle.ua_binary.specs.declared.codes.TheConstants.Status.{BAD_OUT_OF_MEMORY, BAD_RESOURCE_UNAVAILABLE}
 use Rattle.ua_services.specs.declared.updates.HistoryUpdateResult.{HistoryUpdateResult}
@@ -13,17 +16,17 @@ use Rattle.ua_variant.specs.declared.data.DataValue.{DataValue}
 use Rattle.ua_variant.specs.declared.value.ValueType.{ValueType}
 use Rattle.ua_binary.specs.declared.values.Ticks.{Ticks}
 use Rattle.records.specs.Moments.{moment}
-use Rattle.records.specs.Contents.{Content, finding, learned, merged}
+use Rattle.records.specs.Contents.{Content, Adds, finding, learned, merged, put}
 use Rattle.records.specs.Records.{is_delete}
 use Rattle.records.specs.declared.record.Record.{Record}
 use Rattle.archive.specs.declared.fault.StoreFault.{StoreFault}
 use Rattle.archive.specs.declared.fault.StoreFault.TheVariants as store
 use Rattle.archive.specs.declared.fault.LearnFault.{LearnFault}
 use Rattle.archive.specs.declared.fault.LearnFault.TheVariants as refused
-use Rattle.archive.specs.Store.{Store, Mark, Fine, Starved, Met, faults_of, failed_by, fault_in, raised, Passes, Asks, Learns, HasContent, answer_to, store_fault_in}
+use Rattle.archive.specs.Store.{Store, Mark, Fine, Starved, Stands, Met, faults_in, faults_of, failed_by, fault_in, is_break, raised, Passes, Asks, Learns, IsLeft, answer_to, store_fault_in}
 use Rattle.archive.specs.Steps.{Does, Acts}
 use Rattle.archive.proofs.Calls.{passes-none, passes-then}
-use Rattle.archive.proofs.Acting.{acts-as, learned-held, unlearned-held, holds-stays}
+use Rattle.archive.proofs.Acting.{acts-as, found-faults, learned-left, left-stays, unlearned-left}
 use Rattle.hist_update.specs.declared.request.Request.{Request}
 use Rattle.hist_update.specs.Codes.{asked_by, list_refusal}
 use Rattle.hist_update.specs.Outcome.{Operation, Write, DeleteAt, outcome, after}
@@ -33,7 +36,7 @@ use Rattle.hist_update.proofs.UpdatesParts.{all_good}
 use Rattle.hist_update.proofs.Answered.{bad_kept}
 use Rattle.exchange.specs.declared.world.Halted.{Halted}
 use Rattle.exchange.specs.Merging.{AreLearned, Meets, IsRefusal}
-use Rattle.exchange.specs.Running.{Turns, IsSame, HasFirst, EndsBy, IsClear, code_of}
+use Rattle.exchange.specs.Running.{Turns, IsSame, IsSameOr, HasFirst, EndsBy, IsClear, code_of}
 use Rattle.exchange.proofs.MergeLemmas.{are_learned_push, learned_told, refused_left, merged_stops}
 
 -- ---- an update
@@ -69,15 +72,26 @@ rises [] n lt some = absurd (omega (arith, some))
 rises (f ∷ faults) n lt some = let more = not_below faults (raised 1 n) (omega arith) in omega (arith, more)
 
 -- what an update of one operation came to
-record Came (R S : Content) (own : ℕ) (request : Request) (op : Operation) (used : List Mark) (told : HistoryUpdateResult) (mark : Mark) : Type 0 where
+record Came (R S : Content) (own : ℕ) (request : Request) (op : Operation) (marks : List Mark) (told : HistoryUpdateResult) (mark : Mark) : Type 0 where
   code : code_of told ≡ code_by (outcome R own request op) mark
   left : S ≡ left_by R (outcome R own request op) mark
-  counted : (fault : StoreFault) → mark ≡ Met fault → 0 < length (faults_of used)
+  counted : length (faults_in mark) ≤ length (faults_of marks)
+  broke : list_any is_break (faults_in mark) ≡ true → list_any is_break (faults_of marks) ≡ true
 
-counted_in : (mark : Mark) (marks : List Mark) (fault : StoreFault) → mark ≡ Met fault → 0 < length (faults_of (mark ∷ marks))
-counted_in Fine marks fault e = absurd (cc)
-counted_in Starved marks fault e = absurd (cc)
-counted_in (Met f) marks fault e = omega arith
+any_first : (faults more : List StoreFault) → list_any is_break faults ≡ true → list_any is_break (faults ++ more) ≡ true
+any_first [] more e = absurd (true≢false (sym e))
+any_first (f ∷ faults) more e = go (is_break f) e (any_first faults more)
+  where
+    go : (y : Bool) → (y || list_any is_break faults) ≡ true → (list_any is_break faults ≡ true → list_any is_break (faults ++ more) ≡ true) → (y || list_any is_break (faults ++ more)) ≡ true
+    go true e rest = refl
+    go false e rest = rest e
+
+fine_stands : {X : Type 0} → Fine ≡ Stands → X
+fine_stands e = absurd (cc)
+
+-- the mark is the first of these
+first_counted : (mark : Mark) (marks : List Mark) → length (faults_in mark) ≤ length (faults_of (mark ∷ marks))
+first_counted mark marks = let sum = length-append (faults_in mark) (faults_of marks) in omega (arith, sum)
 
 module _ (R S : Content) (own : ℕ) (request : Request) (op : Operation) (told : HistoryUpdateResult) where
   abbrev told_in : (HistoryUpdateResult × Content) × List Mark → Status
@@ -86,63 +100,93 @@ module _ (R S : Content) (own : ℕ) (request : Request) (op : Operation) (told 
   abbrev left_in : (HistoryUpdateResult × Content) × List Mark → Content
   left_in x = x.0.1
 
-  came : (used : List Mark) → Does (begin own request all_good (op ∷ []) R) used (told, S) → ((code_of told ≡ BAD_OUT_OF_MEMORY) × (S ≡ R)) ⊎ ((mark : Mark) × Came R S own request op used told mark)
-  came [] d = inr (Fine, record { code = ap told_in (sym (d.does [])); left = ap left_in (sym (d.does [])); counted = λ f e. absurd (cc) })
-  came (Starved ∷ used) d = inl (ap told_in (sym (d.does [])), ap left_in (sym (d.does [])))
-  came (Fine ∷ []) d = inr (Fine, record { code = ap told_in (sym (d.does [])); left = ap left_in (sym (d.does [])); counted = λ f e. absurd (cc) })
-  came (Fine ∷ mark ∷ used) d = inr (mark, record { code = ap told_in (sym (d.does [])); left = ap left_in (sym (d.does [])); counted = counted_in mark used })
-  came (Met fault ∷ used) d = inr (Met fault, record { code = ap told_in (sym (d.does [])); left = ap left_in (sym (d.does [])); counted = counted_in (Met fault) used })
+  -- by the mark of its one operation
+  by_mark : (mark : Mark) (marks : List Mark) → code_of told ≡ code_by (outcome R own request op) mark → S ≡ left_by R (outcome R own request op) mark
+      → Came R S own request op (mark ∷ marks) told mark
+  by_mark mark marks code left = record {
+    code = code;
+    left = left;
+    counted = first_counted mark marks;
+    broke = any_first (faults_in mark) (faults_of marks);
+  }
+
+  -- memory for the codes was wanting, or it came to this
+  came : (marks : List Mark) → Does (begin own request all_good (op ∷ []) R) marks (told, S)
+      → ((code_of told ≡ BAD_OUT_OF_MEMORY) × (S ≡ R)) ⊎ ((mark : Mark) × Came R S own request op marks told mark)
+  came [] d = inr (Fine, record { code = ap told_in (sym (d.does [])); left = ap left_in (sym (d.does [])); counted = omega arith; broke = λ e. e })
+  came (Starved ∷ marks) d = inl (ap told_in (sym (d.does [])), ap left_in (sym (d.does [])))
+  came (Fine ∷ []) d = inr (Fine, record { code = ap told_in (sym (d.does [])); left = ap left_in (sym (d.does [])); counted = omega arith; broke = λ e. e })
+  came (Fine ∷ mark ∷ marks) d = let c = by_mark mark marks (ap told_in (sym (d.does []))) (ap left_in (sym (d.does []))) in inr (mark, record { code = c.code; left = c.left; counted = c.counted; broke = c.broke })
+  came (Stands ∷ marks) d = inr (Stands, by_mark Stands marks (ap told_in (sym (d.does []))) (ap left_in (sym (d.does []))))
+  came (Met fault ∷ marks) d = inr (Met fault, by_mark (Met fault) marks (ap told_in (sym (d.does []))) (ap left_in (sym (d.does []))))
 
 module _ (a b : Store) (request : Request) (op : Operation) (used : List Mark) (told : HistoryUpdateResult) (acts : Acts a b used (begin a.own request all_good (op ∷ [])) told) where
   abbrev change : Content → Content
   change R = after R (outcome R a.own request op)
 
   -- neither memory nor a store came in its way
-  pub operated : IsClear (code_of told) a.failed b.failed → Turns a b change IsSame (Ok tt)
+  pub operated : IsClear (code_of told) a.failed b.failed → Turns a b change (IsSameOr b.broken change) (Ok tt)
   operated is = record {
     faults = faults_of used;
     passes = acts.passes;
-    done = λ honest R h.
-        let q = acts.acts honest R h in
-        subst (HasContent b) (elim (came R q.0 a.own request op told used q.1) [
-          | inl none ↦ absurd (is.memory none.0)
-          | inr c ↦ clear R q.0 c.0 c.1
-        ]) q.2;
-    halted = λ honest R h. tt;
+    came = λ honest S h.
+        let (marks, found, R, was, does, grows) = acts.acts honest S h in (
+          R,
+          was,
+          elim (came R S a.own request op told marks does) [
+            | inl none ↦ absurd (is.memory none.0)
+            | inr c ↦ clear R S marks (found-faults a.broken used marks found) c.0 c.1
+          ],
+        );
   }
     where
-      unmet : (R S : Content) (fault : StoreFault) → Came R S a.own request op used told (Met fault) → code_by (outcome R a.own request op) (Met fault) ≡ BAD_RESOURCE_UNAVAILABLE → ⊥
-      unmet R S fault c e =
+      unmet : (R S : Content) (marks : List Mark) (mark : Mark) → faults_of marks ≡ faults_of used → Came R S a.own request op marks told mark → 0 < length (faults_in mark) → code_by (outcome R a.own request op) mark ≡ BAD_RESOURCE_UNAVAILABLE → ⊥
+      unmet R S marks mark same c some e =
           let quiet = is.store (c.code ∙ e) in
-          let more = rises (faults_of used) a.failed quiet.0 (c.counted fault refl) in
-          let count = acts.passes.failed in
-          omega (arith, more, count, quiet.1)
+          let count : length (faults_of marks) ≡ length (faults_of used) = ap length same in
+          let counted = c.counted in
+          let more = rises (faults_of used) a.failed quiet.0 (omega (arith, count, counted, some)) in
+          let failed = acts.passes.failed in
+          omega (arith, more, failed, quiet.1)
 
-      clear : (R S : Content) (mark : Mark) → Came R S a.own request op used told mark → S ≡ change R
-      clear R S Fine c = c.left
-      clear R S Starved c = absurd (is.memory c.code)
-      clear R S (Met store.OutOfMemory) c = absurd (is.memory c.code)
-      clear R S (Met store.Refused) c = absurd (unmet R S store.Refused c refl)
-      clear R S (Met store.WrongReplica) c = absurd (unmet R S store.WrongReplica c refl)
-      clear R S (Met store.WrongArchive) c = absurd (unmet R S store.WrongArchive c refl)
-      clear R S (Met store.Broken) c = absurd (unmet R S store.Broken c refl)
+      clear : (R S : Content) (marks : List Mark) → faults_of marks ≡ faults_of used → (mark : Mark) → Came R S a.own request op marks told mark → S ≡ change R
+      clear R S marks same Fine c = c.left
+      clear R S marks same Starved c = absurd (is.memory c.code)
+      clear R S marks same Stands c = absurd (unmet R S marks Stands same c (omega arith) refl)
+      clear R S marks same (Met store.OutOfMemory) c = absurd (is.memory c.code)
+      clear R S marks same (Met store.Refused) c = absurd (unmet R S marks (Met store.Refused) same c (omega arith) refl)
+      clear R S marks same (Met store.WrongReplica) c = absurd (unmet R S marks (Met store.WrongReplica) same c (omega arith) refl)
+      clear R S marks same (Met store.WrongArchive) c = absurd (unmet R S marks (Met store.WrongArchive) same c (omega arith) refl)
+      clear R S marks same (Met store.Broken) c = absurd (unmet R S marks (Met store.Broken) same c (omega arith) refl)
 
   -- something may have
-  pub hindered : IsBad (code_of told) → (end : Halted) → Turns a b change IsSame (Err end)
+  pub hindered : IsBad (code_of told) → (end : Halted) → Turns a b change (IsSameOr b.broken change) (Err end)
   hindered bad end = record {
     faults = faults_of used;
     passes = acts.passes;
-    done = λ honest R h. tt;
-    halted = λ honest R h.
-        let q = acts.acts honest R h in (
-          q.0,
-          elim (came R q.0 a.own request op told used q.1) [
-            | inl none ↦ none.1
-            | inr c ↦ c.1.left ∙ bad_kept R a.own request op c.0 (subst IsBad c.1.code bad)
+    came = λ honest S h.
+        let (marks, found, R, was, does, grows) = acts.acts honest S h in (
+          R,
+          was,
+          elim (came R S a.own request op told marks does) [
+            | inl none ↦ inl none.1
+            | inr c ↦ stopped R S marks (found-faults a.broken used marks found) c.0 c.1
           ],
-          q.2,
         );
   }
+    where
+      -- the store is broken where the record may stand
+      broken_then : (marks : List Mark) → faults_of marks ≡ faults_of used → list_any is_break (faults_of marks) ≡ true → b.broken ≡ true
+      broken_then marks same broke = acts.passes.broken ∙ (ap (λ (faults : List StoreFault). a.broken || list_any is_break faults) (sym same) ∙ or_right a.broken (list_any is_break (faults_of marks)) broke)
+
+      stopped : (R S : Content) (marks : List Mark) → faults_of marks ≡ faults_of used → (mark : Mark) → Came R S a.own request op marks told mark → IsSameOr b.broken change R S
+      stopped R S marks same Fine c = elim (bad_kept R a.own request op Fine (subst IsBad c.code bad)) [
+        | inl kept ↦ inl (c.left ∙ kept)
+        | inr standing ↦ fine_stands standing.0
+      ]
+      stopped R S marks same Starved c = inl c.left
+      stopped R S marks same Stands c = inr (broken_then marks same (c.broke refl), c.left)
+      stopped R S marks same (Met fault) c = inl c.left
 
 -- ---- a restart
 
@@ -150,8 +194,7 @@ pub restarted : (a b : Store) (result : Result (Unit {0}) StoreFault) (P : Unit 
 restarted a b result P asks = record {
   faults = option_to_list (fault_in result);
   passes = asks.leaves.passes;
-  done = λ honest R h. holds-stays a b (option_to_list (fault_in result)) R asks.stays asks.leaves.passes honest h;
-  halted = λ honest R h. tt;
+  came = λ honest S h. (S, left-stays a b (option_to_list (fault_in result)) S asks.stays asks.leaves.passes honest h, refl);
 }
 
 -- ---- a delivery
@@ -160,10 +203,10 @@ restarted a b result P asks = record {
 pub record Learned (a b : Store) (rs : List Record) : Type 0 where
   pub faults : List StoreFault
   pub passes : Passes a b faults
-  pub all : b.honest → (R : Content) → HasContent a R → AreLearned R rs × HasContent b (merged rs R)
+  pub all : b.honest → (S : Content) → IsLeft b S → (R : Content) × IsLeft a R × AreLearned R rs × (S ≡ merged rs R)
 
-pub learned_none : (a : Store) → Learned a a []
-learned_none a = record { faults = []; passes = passes-none a; all = λ honest R h. (refl, h) }
+learned_none : (a : Store) → Learned a a []
+learned_none a = record { faults = []; passes = passes-none a; all = λ honest S h. (S, h, refl, refl) }
 
 module _ (a b c : Store) (xs : List Record) (i : ℕ) (d r : Record) (so_far : Learned a b (take i xs)) (lt : i < length xs) (is : r ≡ get_or xs i d) where
   with_next : take (i + 1) xs ≡ take i xs ++ r ∷ []
@@ -174,23 +217,41 @@ module _ (a b c : Store) (xs : List Record) (i : ℕ) (d r : Record) (so_far : L
   learned_more x learns = record {
     faults = so_far.faults ++ [];
     passes = passes-then a b c so_far.faults [] so_far.passes learns.leaves.passes;
-    all = λ honest R h.
-        let here = so_far.all (learns.leaves.passes.honest honest) R h in
-        let M = merged (take i xs) R in
-        let held = learned-held b c r (Ok x) learns refl honest M here.1 in
-        let next = are_learned_push (take i xs) r R (unwrap_or (learned M r) M) here.0 (learned_told M r x held.0).0 in
-        (subst (AreLearned R) (sym with_next) next.0, subst (HasContent c) (sym next.1 ∙ ap (λ rs. merged rs R) (sym with_next)) held.1);
+    all = λ honest S h.
+        let (held, answer, left) = learned-left b c r (Ok x) S learns refl honest h in
+        let (R, was, each_one, M) = so_far.all (learns.leaves.passes.honest honest) b.content held in
+        let T = merged (take i xs) R in
+        let told : Ok x ≡ answer_to (finding T r) = answer ∙ ap (λ (Q : Content). answer_to (finding Q r)) M in
+        let next = are_learned_push (take i xs) r R (unwrap_or (learned T r) T) each_one (learned_told T r x told).0 in (
+          R,
+          was,
+          subst (AreLearned R) (sym with_next) next.0,
+          left ∙ (ap (λ (Q : Content). unwrap_or (learned Q r) Q) M ∙ (sym next.1 ∙ ap (λ rs. merged rs R) (sym with_next))),
+        );
   }
 
-  -- the store met a fault
+  -- where it is learned, they are the first ones more
+  next_first : (R : Content) → AreLearned R (take i xs) → finding (merged (take i xs) R) r ≡ Adds → put r (merged (take i xs) R) ≡ merged (take (i + 1) xs) R
+  next_first R each_one adds =
+      let T = merged (take i xs) R in
+      let next = are_learned_push (take i xs) r R (put r T) each_one (ap (after_finding T r) adds) in
+      sym next.1 ∙ ap (λ rs. merged rs R) (sym with_next)
+
+  -- the store met a fault; where that broke it, the record may stand
   pub learned_halted : (fault : StoreFault) (end : Halted) → Learns b c r (Err (refused.Store fault)) → Turns a c (merged xs) (HasFirst xs) (Err end)
   learned_halted fault end learns = record {
     faults = so_far.faults ++ option_to_list (Some fault);
     passes = passes-then a b c so_far.faults (option_to_list (Some fault)) so_far.passes learns.leaves.passes;
-    done = λ honest R h. tt;
-    halted = λ honest R h.
-        let here = so_far.all (learns.leaves.passes.honest honest) R h in
-        (merged (take i xs) R, (i, refl), unlearned-held b c r (Err (refused.Store fault)) fault learns refl honest (merged (take i xs) R) here.1);
+    came = λ honest S h.
+        let (M, held, left) = unlearned-left b c r (Err (refused.Store fault)) fault S learns refl honest h in
+        let (R, was, each_one, is_merged) = so_far.all (learns.leaves.passes.honest honest) M held in (
+          R,
+          was,
+          elim left [
+            | inl same ↦ (i, same ∙ is_merged)
+            | inr more ↦ (i + 1, more.3 ∙ (ap (put r) is_merged ∙ next_first R each_one (ap (λ (Q : Content). finding Q r) (sym is_merged) ∙ more.2)))
+          ],
+        );
   }
 
   -- the record was refused
@@ -200,15 +261,14 @@ module _ (a b c : Store) (xs : List Record) (i : ℕ) (d r : Record) (so_far : L
       record {
         faults = so_far.faults ++ option_to_list (store_fault_in (Err cause));
         passes = passes-then a b c so_far.faults (option_to_list (store_fault_in (Err cause))) so_far.passes learns.leaves.passes;
-        done = λ honest R h.
-            let here = so_far.all (learns.leaves.passes.honest honest) R h in
-            let M = merged (take i xs) R in
-            let held = learned-held b c r (Err cause) learns quiet honest M here.1 in
-            let answer : answer_to (finding M r) ≡ Err cause = sym held.0 in
-            let same : unwrap_or (learned M r) M ≡ M = refused_left M r cause held.0 in
-            let stops : merged xs R ≡ M = merged_stops R xs i cause (record { held = here.0; next = r; there = slice_get-get_or xs i d lt ∙ ap Some (sym is); met = meets cause is_refusal M answer }) is_refusal in
-            subst (HasContent c) (same ∙ sym stops) held.1;
-        halted = λ honest R h. tt;
+        came = λ honest S h.
+            let (held, answer, left) = learned-left b c r (Err cause) S learns quiet honest h in
+            let (R, was, each_one, M) = so_far.all (learns.leaves.passes.honest honest) b.content held in
+            let T = merged (take i xs) R in
+            let told : Err cause ≡ answer_to (finding T r) = answer ∙ ap (λ (Q : Content). answer_to (finding Q r)) M in
+            let same : unwrap_or (learned T r) T ≡ T = refused_left T r cause told in
+            let stops : merged xs R ≡ T = merged_stops R xs i cause (record { held = each_one; next = r; there = slice_get-get_or xs i d lt ∙ ap Some (sym is); met = meets cause is_refusal T (sym told) }) is_refusal in
+            (R, was, left ∙ (ap (λ (Q : Content). unwrap_or (learned Q r) Q) M ∙ (same ∙ sym stops)));
       }
     where
       no_fault : (f : LearnFault) → IsRefusal f → store_fault_in (Err f) ≡ None
@@ -240,8 +300,7 @@ pub learned_all : (a b : Store) (rs : List Record) → Learned a b rs → Turns 
 learned_all a b rs learned = record {
   faults = learned.faults;
   passes = learned.passes;
-  done = λ honest R h. (learned.all honest R h).1;
-  halted = λ honest R h. tt;
+  came = λ honest S h. let (R, was, each_one, is) = learned.all honest S h in (R, was, is);
 }
 
 -- or one that isn't lawful came
@@ -249,6 +308,5 @@ pub learned_ended : (a b : Store) (rs : List Record) (i : ℕ) (end : Halted) �
 learned_ended a b rs i end learned = record {
   faults = learned.faults;
   passes = learned.passes;
-  done = λ honest R h. tt;
-  halted = λ honest R h. (merged (take i rs) R, (i, refl), (learned.all honest R h).1);
+  came = λ honest S h. let (R, was, each_one, is) = learned.all honest S h in (R, was, (i, is));
 }

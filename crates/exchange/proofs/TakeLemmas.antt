@@ -1,5 +1,5 @@
 -- What an end makes of a frame.
-use Rattle.std.proofs.Common.{◌≡◌, ℕ, zero, suc, ◌+◌, arith, List, [], ◌++◌, take, Option, Some, None, Result, Ok, Err, IfOk, refl, sym, ap, ◌∙◌, subst, inl, inr, option_to_list}
+use Rattle.std.proofs.Common.{◌≡◌, ◌⊎◌, ℕ, zero, suc, ◌+◌, true, arith, List, [], ◌++◌, take, Option, Some, None, Result, Ok, Err, IfOk, refl, sym, ap, ◌∙◌, subst, inl, inr, option_to_list}
 use Rattle.std.specs.Option.{option_map_or, option_or}
 use Rattle.std.specs.Result.{result_unwrap_or}
 use Rattle.stamp.specs.Numbers.{number_of, IsVector}
@@ -19,17 +19,25 @@ use Rattle.exchange.specs.declared.message.State.TheVariants as state
 use Rattle.exchange.specs.declared.dialog.Reply.{Reply}
 use Rattle.exchange.specs.declared.dialog.Progress.{Progress}
 use Rattle.exchange.specs.Frames.{frame_of, message_at}
-use Rattle.exchange.specs.Dialogs.{Turn, failing, turned, Unread, Starved, IsWay, gone, learned_in, learned_at, fault_on, records_in, records_read, Standing, unfit, received, answered, answered_to, standing_after, party_of, IsHeld, Handles, Writes, Takes, Greets, Sends, SendsHandled, AnswersTo, Concludes, capped, counted_by, added_to, carried}
+use Rattle.exchange.specs.Dialogs.{Turn, failing, turned, Unread, Starved, IsWay, gone, learned_in, learned_at, fault_on, records_in, records_read, Standing, unfit, received, answered, answered_to, standing_after, party_of, IsHeld, Handles, Writes, Takes, Greets, Sends, SendsHandled, AnswersTo, Concludes, capped, counted_by, added_to, carried, asks_store, broken_at}
 use Rattle.exchange.proofs.DialogsParts.{bytes_of, taken_after}
 use Rattle.exchange.specs.Merging.{MayBeLeft}
 use Rattle.exchange.proofs.HandleLemmas.{title_in, title_is}
 
 -- ---- what was handled is written
 
+ok_reply : {reply : Reply} {fault : ExchangeFault} → ◌≡◌ {A = Result Reply ExchangeFault} (Ok reply) (Err fault) → ⊥
+ok_reply e = cc
+
+err_reply : (f g : ExchangeFault) → ◌≡◌ {A = Result Reply ExchangeFault} (Err f) (Err g) → f ≡ g
+err_reply f g e = cc
+
 pub answers_sent : (a c : Store) (state : State) (m : Message) (handled : Result Reply ExchangeFault) (result : Result Progress ExchangeFault) (out written : List ℕ)
-    → Handles a c (records_in m) (λ R. turned (party_of a) state R m) handled → SendsHandled handled result out written → AnswersTo a c state (Ok m) out written result
-answers_sent a c state m (Ok reply) (Ok done) out written handles sends = record {
+    → Handles a c (records_in m) (λ R. turned (party_of a) state R m) handled → (a.broken ≡ true → asks_store state m ≡ true → handled ≡ Err (broken_at (records_in m)))
+    → SendsHandled handled result out written → AnswersTo a c state (Ok m) out written result
+answers_sent a c state m (Ok reply) (Ok done) out written handles ended sends = record {
   way = handles.way;
+  ended = λ broken asks. absurd (ok_reply (ended broken asks));
   unmoved = tt;
   untaken = tt;
   outside = handles.outside;
@@ -45,8 +53,9 @@ answers_sent a c state m (Ok reply) (Ok done) out written handles sends = record
   crash = handles.crash;
   passes = handles.passes;
 }
-answers_sent a c state m (Ok reply) (Err fault) out written handles sends = record {
+answers_sent a c state m (Ok reply) (Err fault) out written handles ended sends = record {
   way = Starved;
+  ended = λ broken asks. absurd (ok_reply (ended broken asks));
   unmoved = tt;
   untaken = tt;
   outside = tt;
@@ -55,9 +64,10 @@ answers_sent a c state m (Ok reply) (Err fault) out written handles sends = reco
   crash = λ h left m'. subst (λ w. MayBeLeft a (records_in m) (learned_in w (records_in m) (turned (party_of a) state a.content m)) left) handles.clear (handles.crash h left m');
   passes = subst (λ w. Passes a c (option_to_list (fault_on w))) handles.clear handles.passes;
 }
-answers_sent a c state m (Err fault) (Ok done) out written handles sends = absurd sends
-answers_sent a c state m (Err fault) (Err told) out written handles sends = record {
+answers_sent a c state m (Err fault) (Ok done) out written handles ended sends = absurd sends
+answers_sent a c state m (Err fault) (Err told) out written handles ended sends = record {
   way = handles.way;
+  ended = λ broken asks. ap (λ f. Err f) (sends.0 ∙ err_reply fault _ (ended broken asks));
   unmoved = tt;
   untaken = tt;
   outside = handles.outside;
@@ -130,6 +140,28 @@ module _ (a c : Store) (before counted after : Standing) (kind : FrameKind) (out
     | inr starved ↦ subst (λ (r : Result State ExchangeFault). IfOk r (λ _. unfit before kind ≡ None)) (sym starved.0) tt
   ]
 
+  -- what was answered is told, or memory for that was wanting
+  told : (fault : ExchangeFault) (answered : Result Progress ExchangeFault) → answered ≡ Err fault → Concludes counted after answered result mid written → (result ≡ Err fault) ⊎ (result ≡ Err exchange.OutOfMemory)
+  told fault (Ok done) is concludes = absurd (cc)
+  told fault (Err f) is concludes = elim concludes.1 [
+    | inl said ↦ inl (said.0 ∙ ap (λ g. Err g) (err_progress f fault is))
+    | inr starved ↦ inr starved.0
+  ]
+    where
+      err_progress : (f g : ExchangeFault) → ◌≡◌ {A = Result Progress ExchangeFault} (Err f) (Err g) → f ≡ g
+      err_progress f g e = cc
+
+  -- whatever the message is, that is told of a broken store
+  ended_by : (r : Result Message ExchangeFault) (answered : Result Progress ExchangeFault) → IfOk r (λ m. asks_store before.state m ≡ true → answered ≡ Err (broken_at (records_in m)))
+      → Concludes counted after answered result mid written → IfOk r (λ m. asks_store before.state m ≡ true → (result ≡ Err (broken_at (records_in m))) ⊎ (result ≡ Err exchange.OutOfMemory))
+  ended_by (Ok m) answered ended concludes = λ asks. told (broken_at (records_in m)) answered (ended asks) concludes
+  ended_by (Err fault) answered ended concludes = tt
+
+  starved_by : (r : Result Message ExchangeFault) (answered : Result Progress ExchangeFault) → answered ≡ Err exchange.OutOfMemory → Concludes counted after answered result mid written
+      → IfOk r (λ m. asks_store before.state m ≡ true → (result ≡ Err (broken_at (records_in m))) ⊎ (result ≡ Err exchange.OutOfMemory))
+  starved_by (Ok m) answered is concludes = λ asks. elim (told exchange.OutOfMemory answered is concludes) [ inl e ↦ inr e | inr e ↦ inr e ]
+  starved_by (Err fault) answered is concludes = tt
+
   -- where the dialog goes on, the frame could be taken
   fits : (message r : Result Message ExchangeFault) (answered : Result Progress ExchangeFault) → option_map_or (λ f. Err f) (unfit before kind) message ≡ r → AnswersTo a c before.state r out mid answered
       → Concludes counted after answered result mid written → IfOk result (λ _. unfit before kind ≡ None)
@@ -147,6 +179,7 @@ module _ (a c : Store) (before counted after : Standing) (kind : FrameKind) (out
     content = answers.content;
     crash = answers.crash;
     passes = answers.passes;
+    ended = λ broken. ended_by (received (party_of a) before kind body) answered (answers.ended broken) concludes;
     counted = taken_is answered concludes;
     fit = fits (message_at (party_of a) kind body) (received (party_of a) before kind body) answered refl answers concludes;
     started = started_is answered concludes;
@@ -166,6 +199,7 @@ module _ (a c : Store) (before counted after : Standing) (kind : FrameKind) (out
       | inr q ↦ inr (q.0, 0, omega arith, omega arith, q.4 ∙ none q.1)
     ]);
     passes = subst (λ w. Passes a c (option_to_list (fault_on w))) answers.unmoved answers.passes;
+    ended = λ broken. starved_by (received (party_of a) before kind body) answered answers.untaken concludes;
     counted = taken_is answered concludes;
     fit = failed exchange.OutOfMemory answered answers.untaken concludes;
     started = started_is answered concludes;

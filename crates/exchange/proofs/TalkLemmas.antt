@@ -9,7 +9,7 @@ use Rattle.std.proofs.Math.Bool.{or-false}
 use Rattle.std.proofs.lemmas.Bool.{cases_Bool, ltb-true, ltb-false}
 use Rattle.records.specs.Contents.{Content, merged}
 use Rattle.archive.specs.declared.fault.LearnFault.TheVariants as refused
-use Rattle.archive.specs.Store.{Store, Rests, IsLawfulContent, Stays}
+use Rattle.archive.specs.Store.{Store, Rests, IsLawfulContent, Stays, IsLeft}
 use Rattle.archive.proofs.Calls.{passes-none, passes-then}
 use Rattle.exchange.specs.declared.fault.ExchangeFault.{ExchangeFault}
 use Rattle.exchange.specs.declared.fault.ExchangeFault.TheVariants as exchange
@@ -26,11 +26,11 @@ use Rattle.exchange.specs.declared.message.Title.{Title}
 use Rattle.exchange.specs.Frames.{kind_of, body_of, frame_of, IsTitle, IsSpelled}
 use Rattle.exchange.proofs.FrameLemmas.{read_other}
 use Rattle.exchange.proofs.HandleLemmas.{unbroken_before}
-use Rattle.exchange.specs.Dialogs.{title_by, Turn, failing, Way, Clear, Unread, Stopped, Starved, Met, IsWay, gone, Standing, unfit, received, records_read, party_of, Writes, Takes, Greets}
-use Rattle.exchange.specs.Meetings.{IsBetween, AreJoined, CanMeet, IsOfOutside, IsOfMeeting, IsTold, Converses, Hands}
+use Rattle.exchange.specs.Dialogs.{title_by, records_in, Turn, failing, Way, Clear, Unread, Stopped, Starved, Met, IsWay, gone, Standing, unfit, received, records_read, party_of, Writes, Takes, Greets}
+use Rattle.exchange.specs.Meetings.{IsBetween, AreJoined, AreTooMany, AreWhole, CanMeet, End, LeavesFirst, begun, IsOfOutside, IsOfMeeting, IsTold, Converses, Hands, fresh_end}
 use Rattle.exchange.proofs.DialogLemmas.{between_first}
 use Rattle.exchange.proofs.MeetLemmas.{no_ok, told_or, stays_none}
-use Rattle.exchange.proofs.ConverseLemmas.{most_frames, title_spelled, due_serving, IsParty, UnderWay, WayBack, AreOf, rests_hold, sent_few, sent_spelled, replied_spelled, finishes, falls, falls_between, goes_back, falls_back, falls_back_between, goes_on}
+use Rattle.exchange.proofs.ConverseLemmas.{most_frames, title_spelled, due_serving, IsParty, UnderWay, WayBack, AreOf, rests_hold, sent_few, sent_spelled, replied_spelled, end_of, waiting_at, finishes, finishes_whole, party_stays, falls, falls_between, falls_first, falls_back_first, rests_first, stays_first, goes_back, falls_back, falls_back_between, goes_on}
 
 -- ---- so far
 
@@ -130,6 +130,7 @@ module _ (a0 b0 a : Store) (there : List ℕ) where
   pub start_fails : (fault : ExchangeFault) → Greets a0 a [] there (Err fault) → Converses a0 b0 a b0 (Err fault)
   start_fails fault greets = record {
     joined = λ h k meet. tt;
+    dialog = λ h k meet. tt;
     between = λ h k meet. (
       of_meeting fault (of_answer fault greets.kept.0),
       record {
@@ -137,8 +138,23 @@ module _ (a0 b0 a : Store) (there : List ℕ) where
         other = λ left m. rests_hold b0.content a0.content b0 k meet.other.0 meet.other.1 (between_first b0.content a0.content (meet.other.0 k meet.other.1).lawful) left m;
       },
     );
+    cut = λ h k meet. (
+      [],
+      begun a0 b0,
+      message.Asks (title_by (party_of a0) a0.content),
+      refl,
+      refl,
+      inr (
+        refl,
+        (
+          rests_first b0 [] k meet.other.0 meet.other.1,
+          stays_first a0 a [] (greets.passes.honest h) meet.one.0 meet.one.1 h greets.stays,
+        ),
+      ),
+    );
     refused = λ h k none. (refl, greets.stays, stays_none b0);
     long = λ h k meet e. absurd (not_long fault (of_answer fault greets.kept.0) (err_is fault exchange.TooLong e));
+    full = λ h k meet e. absurd (not_long fault (of_answer fault greets.kept.0) (err_is fault exchange.TooLong e));
     told = λ h k meet. all_told (store_fault_of fault);
     faults = option_to_list (store_fault_of fault);
     passes = greets.passes;
@@ -164,6 +180,14 @@ module _ (a0 b0 a : Store) (there : List ℕ) where
             other = between_first b0.content a0.content (meet.other.0 k meet.other.1).lawful;
             sent = subst (λ s. Rattle.exchange.proofs.DialogLemmas.Sent (party_of a0) a0.content b0.content a.content b0.content 1 s (message.Asks (title_by (party_of a0) a0.content))) (sym (ap (λ (s : Standing). s.state) e))
                 (ap (title_by (party_of a0)) (sym content), (omega (arith, ap length content), omega (arith, ap length content), omega arith));
+            frames = [];
+            spoken =
+                ap (λ (x : End). waiting_at x (end_of a first) (Some (message.Asks (title_by (party_of a0) a0.content)))) (ap (end_of b0) f)
+                ∙ ap (λ (x : End). waiting_at (fresh_end state.Serving b0) x (Some (message.Asks (title_by (party_of a0) a0.content))))
+                (ap (λ (p : Party). let x : End = record { party = p; standing = first; content = a.content } in x) (party_stays a0 a [] greets.passes)
+                ∙ (ap (λ (s : Standing). let x : End = record { party = party_of a0; standing = s; content = a.content } in x) e
+                ∙ ap (λ (R : Content). let x : End = record (fresh_end state.Pulling a0) { content = R } in x) content));
+            written = refl;
             serving = ap (λ (s : Standing). s.state) f;
             taken = ap (λ (s : Standing). s.taken) e;
             taken_other = ap (λ (s : Standing). s.taken) f;
@@ -258,6 +282,9 @@ module _ (refusal : ExchangeFault) (b c : Store) (before after : Standing) (kind
 full_unfit : (s : Standing) (k : FrameKind) → s.state ≡ state.Serving → s.taken ≡ most_frames → unfit s k ≡ Some exchange.TooLong
 full_unfit s k is e = rw (is, e) refl
 
+long_memory : exchange.TooLong ≡ exchange.OutOfMemory → ⊥
+long_memory e = cc
+
 module _ (a0 b0 : Store) (party : IsParty (party_of a0)) (party_other : IsParty (party_of b0)) where
   module _ (a b c : Store) (first second after : Standing) (there back : List ℕ) (n round : ℕ) (talk : Talk a0 b0 a b first second there n round) where
     module _ (ha : a.honest) (hb : b.honest) (hc : c.honest) (meet : CanMeet a0 b0) where
@@ -278,6 +305,15 @@ module _ (a0 b0 : Store) (party : IsParty (party_of a0)) (party_other : IsParty 
         | inl none ↦ absurd (ok_memory state.Done none.2)
         | inr pair ↦ elim (cases_Bool (nat_lt round most_frames)) [
           | inl t ↦ finishes a0 b0 meet (talk.of.passes.honest ha) (talk.of.passes_other.honest hb) party party_other a b c first second after there [] back n round talk.of way (ltb-true _ _ t) hc ha pair.0
+          | inr f ↦ absurd (full_fails exchange.TooLong b c second after (kind_of way.m) (body_of way.m) [] back hc (full_got (at_most _ f refl)) state.Done pair.0)
+        ]
+      ]
+
+      whole : Hands b c second after there [] back (Ok state.Done) → AreWhole a0 b0 a c n
+      whole hands = elim (hands.takes way.m spelled way.bytes) [
+        | inl none ↦ absurd (ok_memory state.Done none.2)
+        | inr pair ↦ elim (cases_Bool (nat_lt round most_frames)) [
+          | inl t ↦ finishes_whole a0 b0 meet (talk.of.passes.honest ha) (talk.of.passes_other.honest hb) party party_other a b c first second after there [] back n round talk.of way (ltb-true _ _ t) hc ha pair.0
           | inr f ↦ absurd (full_fails exchange.TooLong b c second after (kind_of way.m) (body_of way.m) [] back hc (full_got (at_most _ f refl)) state.Done pair.0)
         ]
       ]
@@ -328,9 +364,33 @@ module _ (a0 b0 : Store) (party : IsParty (party_of a0)) (party_other : IsParty 
               omega (arith, left, few, full, count)
         ]
       ]
+
+      -- what the responder is left with
+      cut_off : (fault : ExchangeFault) → Hands b c second after there [] back (Err fault) → LeavesFirst c b.content (records_in way.m)
+      cut_off fault hands left m = elim (hands.takes way.m spelled way.bytes) [
+        | inl none ↦ stays_first b c (records_in way.m) hb way.used.1.0 way.used.1.1 hc none.0 left m
+        | inr pair ↦ elim (cases_Bool (nat_lt round most_frames)) [
+          | inl t ↦ falls_first a0 b0 meet (talk.of.passes.honest ha) (talk.of.passes_other.honest hb) party party_other a b c first second after there [] back n round talk.of way (ltb-true _ _ t) hc ha (Err fault) pair.0 hb left m
+          | inr f ↦ (0, untaken (full_got (at_most _ f refl)) pair.0 m)
+        ]
+      ]
         where
-          long_memory : exchange.TooLong ≡ exchange.OutOfMemory → ⊥
-          long_memory e = cc
+          untaken : received (party_of b) second (kind_of way.m) (body_of way.m) ≡ Err exchange.TooLong → Takes b c second after (kind_of way.m) (body_of way.m) [] back (Err fault) → IsLeft c left → left ≡ b.content
+          untaken got takes (inl held) = sym held.1 ∙ full_left exchange.TooLong b c second after (kind_of way.m) (body_of way.m) [] back hc got (Err fault) takes held.0
+          untaken got takes (inr found) = elim (full_holds exchange.TooLong b c second after (kind_of way.m) (body_of way.m) [] back hc got (Err fault) takes left found) [
+            | inl old ↦ (way.used.1.0 hb way.used.1.1).only left old
+            | inr q ↦ q.1
+          ]
+
+      -- the responder took all of its frames, and another one came
+      too_many : (fault : ExchangeFault) → Hands b c second after there [] back (Err fault) → fault ≡ exchange.TooLong → AreTooMany a0 b0
+      too_many fault hands e = elim (hands.takes way.m spelled way.bytes) [
+        | inl none ↦ absurd (long_memory (sym e ∙ fault_memory fault none.2))
+        | inr pair ↦ elim (cases_Bool (nat_lt round most_frames)) [
+          | inl t ↦ absurd (not_long fault (falls a0 b0 meet (talk.of.passes.honest ha) (talk.of.passes_other.honest hb) party party_other a b c first second after there [] back n round talk.of way (ltb-true _ _ t) hc ha fault pair.0).0 e)
+          | inr f ↦ (way.frames, waiting_at (end_of b second) (end_of a first) (Some way.m), way.spoken, (way.m, refl), way.taken_other ∙ at_most _ f refl)
+        ]
+      ]
 
     -- replicas that may not meet
     module _ (ha : a.honest) (hb : b.honest) (hc : c.honest) (none : MayMeet a0 b0 → ⊥) where
@@ -374,10 +434,13 @@ module _ (a0 b0 : Store) (party : IsParty (party_of a0)) (party_other : IsParty 
     pub talk_done : Hands b c second after there [] back (Ok state.Done) → Converses a0 b0 a c (Ok n)
     talk_done hands = record {
       joined = λ h k meet. done h (hands.passes.honest k) k meet hands;
+      cut = λ h k meet. tt;
+      dialog = λ h k meet. whole h (hands.passes.honest k) k meet hands;
       between = λ h k meet. tt;
       told = λ h k meet. tt;
       refused = λ h k none. absurd (no_answer h (hands.passes.honest k) k none state.Done hands);
       long = λ h k meet e. absurd (not_err e);
+      full = λ h k meet e. absurd (not_err e);
       faults = talk.of.faults;
       passes = talk.of.passes;
       others = talk.of.others ++ hands.faults;
@@ -390,6 +453,16 @@ module _ (a0 b0 : Store) (party : IsParty (party_of a0)) (party_other : IsParty 
     pub talk_fails : (fault : ExchangeFault) → Hands b c second after there [] back (Err fault) → Converses a0 b0 a c (Err fault)
     talk_fails fault hands = record {
       joined = λ h k meet. tt;
+      dialog = λ h k meet. tt;
+      cut = λ h k meet.
+          let w = way h (hands.passes.honest k) k meet in (
+            w.frames,
+            waiting_at (end_of b second) (end_of a first) (Some w.m),
+            w.m,
+            w.spoken,
+            refl,
+            inr (party_stays b0 b talk.of.others talk.of.passes_other, (cut_off h (hands.passes.honest k) k meet fault hands, rests_first a [] h w.used.0.0 w.used.0.1)),
+          );
       between = λ h k meet.
           let is = failed h (hands.passes.honest k) k meet fault hands in
           let w = way h (hands.passes.honest k) k meet in
@@ -397,6 +470,7 @@ module _ (a0 b0 : Store) (party : IsParty (party_of a0)) (party_other : IsParty 
       told = λ h k meet. more_told fault talk.of.faults (talk.of.others ++ hands.faults) (more_told fault talk.of.others hands.faults (failed h (hands.passes.honest k) k meet fault hands).2);
       refused = λ h k none. (refl, (first_frame h (hands.passes.honest k) k none).one, stays h (hands.passes.honest k) k none fault hands);
       long = λ h k meet e u v. long h (hands.passes.honest k) k meet fault hands (err_is fault exchange.TooLong e) v;
+      full = λ h k meet e. too_many h (hands.passes.honest k) k meet fault hands (err_is fault exchange.TooLong e);
       faults = talk.of.faults;
       passes = talk.of.passes;
       others = talk.of.others ++ hands.faults;
@@ -435,6 +509,13 @@ module _ (a0 b0 : Store) (party : IsParty (party_of a0)) (party_other : IsParty 
         )
       ]
 
+      -- what the initiator is left with
+      cut_back : (fault : ExchangeFault) → Hands a c first after back [] there (Err fault) → LeavesFirst c a.content (records_in way_back.m)
+      cut_back fault hands left m = elim (hands.takes way_back.m spelled_of way_back.bytes) [
+        | inl none ↦ stays_first a c (records_in way_back.m) ha way_back.used.0.0 way_back.used.0.1 hc none.0 left m
+        | inr pair ↦ falls_back_first a0 b0 meet (talk.of.passes.honest ha) (talk.of.passes_other.honest hb) party party_other a b c first second after back there n round talk.of way_back (talk.way ha hb meet).1 hc (Err fault) pair.0 ha left m
+      ]
+
       ongoing_back : (s : State) → Rests c → Hands a c first after back [] there (Ok s) → UnderWay a0 b0 c b after second there (n + 1) (round + 1) × (round + 1 ≤ most_frames)
       ongoing_back s rests hands = elim (hands.takes way_back.m spelled_of way_back.bytes) [
         | inl none ↦ absurd (ok_memory s none.2)
@@ -448,6 +529,16 @@ module _ (a0 b0 : Store) (party : IsParty (party_of a0)) (party_other : IsParty 
     pub back_fails : (fault : ExchangeFault) → Hands a c first after back [] there (Err fault) → Converses a0 b0 c b (Err fault)
     back_fails fault hands = record {
       joined = λ h k meet. tt;
+      dialog = λ h k meet. tt;
+      cut = λ h k meet.
+          let w = way_back (hands.passes.honest h) k h meet in (
+            w.frames,
+            waiting_at (end_of a first) (end_of b second) (Some w.m),
+            w.m,
+            w.spoken,
+            refl,
+            inl (party_stays a0 a talk.of.faults talk.of.passes, (cut_back (hands.passes.honest h) k h meet fault hands, rests_first b [] k w.used.1.0 w.used.1.1)),
+          );
       between = λ h k meet.
           let is = failed_back (hands.passes.honest h) k h meet fault hands in
           let w = way_back (hands.passes.honest h) k h meet in
@@ -455,6 +546,7 @@ module _ (a0 b0 : Store) (party : IsParty (party_of a0)) (party_other : IsParty 
       told = λ h k meet. less_told fault (talk.of.faults ++ hands.faults) talk.of.others (more_told fault talk.of.faults hands.faults (failed_back (hands.passes.honest h) k h meet fault hands).2);
       refused = λ h k none. absurd (talk.apart (hands.passes.honest h) k none);
       long = λ h k meet e u v. absurd (not_long fault (failed_back (hands.passes.honest h) k h meet fault hands).0 (err_is fault exchange.TooLong e));
+      full = λ h k meet e. absurd (not_long fault (failed_back (hands.passes.honest h) k h meet fault hands).0 (err_is fault exchange.TooLong e));
       faults = talk.of.faults ++ hands.faults;
       passes = passes-then a0 a c talk.of.faults hands.faults talk.of.passes hands.passes;
       others = talk.of.others;
@@ -475,10 +567,13 @@ module _ (a0 b0 : Store) (party : IsParty (party_of a0)) (party_other : IsParty 
 pub talk_ends : (a0 b0 a b : Store) (first second : Standing) (there : List ℕ) (n round : ℕ) → Talk a0 b0 a b first second there n round → most_frames < round → Converses a0 b0 a b (Err exchange.TooLong)
 talk_ends a0 b0 a b first second there n round talk past = record {
   joined = λ h k meet. tt;
+  dialog = λ h k meet. tt;
+  cut = λ h k meet. absurd (over h k meet);
   between = λ h k meet. absurd (over h k meet);
   told = λ h k meet. tt;
   refused = λ h k none. let first = talk.alone h k none in (refl, first.one, first.other);
   long = λ h k meet e u v. absurd (over h k meet);
+  full = λ h k meet e. absurd (over h k meet);
   faults = talk.of.faults;
   passes = talk.of.passes;
   others = talk.of.others;

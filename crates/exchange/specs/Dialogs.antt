@@ -85,6 +85,18 @@ turned p Serving R (Carries t rs) = learning p Serving R rs
 turned p Serving R (Ends n) = ended_by R n
 turned p state R m = failing R Frame
 
+-- an end in this state asks its store for what answers the message
+abbrev pub asks_store : State → Message → Bool
+asks_store Pulling (Carries t rs) = true
+asks_store Pushing (Asks t) = true
+asks_store Serving (Asks t) = true
+asks_store Serving (Carries t rs) = true
+asks_store state m = false
+
+-- what a broken store comes to where these were to be learned: none is, and so it is told
+abbrev pub broken_at : List Record → ExchangeFault
+broken_at rs = elim rs [ [] ↦ exchange.Store Broken | r ∷ rs ↦ Learn 0 (refused.Store Broken) ]
+
 -- ---- what comes in the way
 
 pub data Way : Type 0 where
@@ -244,6 +256,10 @@ pub record Takes (old new : Store) (before after : Standing) (kind : FrameKind) 
   pub crash : new.honest → (left : Content) → new.may_hold left
       → MayBeLeft old (records_read (received (party_of old) before kind body)) (learned_at (party_of old) before.state old.content way (received (party_of old) before kind body)) left
   pub passes : Passes old new (option_to_list (fault_on way))
+  -- a broken store is told where it is asked, and nothing was learned, or memory was wanting
+  pub ended : old.broken ≡ true → IfOk (received (party_of old) before kind body)
+      (λ m. asks_store before.state m ≡ true
+      → (result ≡ Err (broken_at (records_in m))) ⊎ (result ≡ Err OutOfMemory))
   -- whatever the store, frames are counted
   pub counted : after.taken ≡ (elim (unfit before kind) [ None ↦ before.taken + 1 | Some fault ↦ before.taken ])
   -- and the dialog goes on only behind one that may be taken
@@ -294,6 +310,8 @@ pub record AnswersTo (old new : Store) (state : State) (received : Result Messag
   pub content : new.honest → new.broken ≡ false → new.content ≡ (answered_to (party_of old) state old.content way received).content
   pub crash : new.honest → (left : Content) → new.may_hold left → MayBeLeft old (records_read received) (learned_at (party_of old) state old.content way received) left
   pub passes : Passes old new (option_to_list (fault_on way))
+  pub ended : old.broken ≡ true
+      → IfOk received (λ m. asks_store state m ≡ true → result ≡ Err (broken_at (records_in m)))
 
 -- an end stands as what was answered says, and a fault is told
 abbrev pub Concludes : Standing → Standing → Result Progress ExchangeFault → Result State ExchangeFault → List ℕ → List ℕ → Type 0

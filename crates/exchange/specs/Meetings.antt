@@ -1,20 +1,20 @@
 -- Dialogs of two replicas over memory.
-use Rattle.std.specs.Prelude.{◌≡◌, ◌⊎◌, ⊤, ℕ, ◌+◌, ◌*◌, ◌≤◌, false, List, [], length, Result, Ok, Err, IsErr, IfOk, IfErr, IfSome, ◌++◌, ◌∷◌, Some, option_to_list}
+use Rattle.std.specs.Prelude.{◌≡◌, ◌⊎◌, ⊤, ℕ, ◌+◌, ◌*◌, ◌≤◌, true, false, List, [], take, length, Result, Ok, Err, IsErr, IfOk, IfErr, IfSome, ◌++◌, ◌∷◌, Option, None, Some, option_to_list}
 use Rattle.records.specs.Lists.{Has}
 use Rattle.stamp.specs.Numbers.{number_of}
-use Rattle.records.specs.Contents.{Content, AreCompatible, IsWithin, join, vec}
+use Rattle.records.specs.Contents.{Content, AreCompatible, IsWithin, join, merged, vec}
 use Rattle.records.specs.declared.record.Record.{Record}
 use Rattle.archive.specs.declared.fault.StoreFault.{StoreFault}
 use Rattle.archive.specs.declared.fault.LearnFault.TheVariants as refused
-use Rattle.archive.specs.Store.{Store, Rests, IsLawfulContent, Passes, Stays}
+use Rattle.archive.specs.Store.{Store, Rests, IsLawfulContent, Passes, Stays, IsLeft}
 use Rattle.exchange.specs.declared.message.Title.{Title}
 use Rattle.exchange.specs.declared.message.Message.{Message}
 use Rattle.exchange.specs.declared.message.Message.TheVariants.{Asks, Carries, Ends}
 use Rattle.exchange.specs.declared.message.Party.{Party}
 use Rattle.exchange.specs.declared.message.State.{State}
-use Rattle.exchange.specs.declared.message.State.TheVariants.{Pulling, Pushing}
+use Rattle.exchange.specs.declared.message.State.TheVariants.{Pulling, Pushing, Serving, Done}
 use Rattle.exchange.specs.Frames.{kind_of, body_of, frame_of, checked, IsSpelled}
-use Rattle.exchange.specs.Dialogs.{Standing, Takes, fault_on, turned}
+use Rattle.exchange.specs.Dialogs.{title_by, Turn, turned, Clear, fault_on, Standing, answered, records_in, standing_after, party_of, Takes}
 use Rattle.exchange.specs.Fault.{store_fault_of}
 use Rattle.exchange.specs.declared.fault.ExchangeFault.{ExchangeFault}
 use Rattle.exchange.specs.declared.fault.ExchangeFault.TheVariants as exchange
@@ -62,13 +62,113 @@ pub record AreBetween (a b a' b' : Store) : Type 0 where
 abbrev pub IsTold : ExchangeFault → List StoreFault → Type 0
 IsTold fault faults = IfSome (store_fault_of fault) (Has faults)
 
+-- ---- the frames of a whole dialog
+
+-- an end between two frames: who it is, how it stands and what it holds
+pub record End : Type 0 where
+  pub party : Party
+  pub standing : Standing
+  pub content : Content
+
+-- what it makes of the frame that says m, where nothing comes in the way
+abbrev pub made : End → Message → Turn
+made end m = answered end.party end.standing end.content Clear (kind_of m) (body_of m)
+
+-- how it stands behind that frame, and what it holds then
+abbrev pub past : End → Message → End
+past end m = record {
+  party = end.party;
+  standing = standing_after end.standing end.content (kind_of m) (made end m);
+  content = (made end m).content;
+}
+
+-- two ends, the one that is to take a frame and the other one, and what is on its way
+pub record Meeting : Type 0 where
+  pub taker : End
+  pub giver : End
+  pub way : Option Message
+
+-- the frame was taken, and what answers it is on its way to the other end
+abbrev pub handed : Meeting → Message → Meeting
+handed now m = record {
+  taker = now.giver;
+  giver = past now.taker m;
+  way = (made now.taker m).reply;
+}
+
+-- these frames were handed over, each of them what was on its way then; nothing came in their way
+abbrev pub AreHanded : Meeting → List Message → Meeting → Type 0
+AreHanded now [] last = last ≡ now
+AreHanded now (m ∷ later) last =
+    (now.way ≡ Some m) × ((state : State) × ((made now.taker m).result ≡ Ok state))
+    × AreHanded (handed now m) later last
+
+-- an end in this state that took no frame yet
+abbrev pub fresh_end : State → Store → End
+fresh_end state s = record {
+  party = party_of s;
+  standing = record {
+    state = state;
+    taken = 0;
+    code = None;
+    started = true;
+    learned = 0;
+    sent = 0;
+  };
+  content = s.content;
+}
+
+-- the initiator's first frame is on its way to the responder
+abbrev pub begun : (initiator responder : Store) → Meeting
+begun a b = record {
+  taker = fresh_end Serving b;
+  giver = fresh_end Pulling a;
+  way = Some (Asks (title_by (party_of a) a.content));
+}
+
+-- so many frames were handed over, from the first one up to one that is answered by none; the
+-- responder is done, and both hold what the frames made of what they held
+abbrev pub AreWhole : (a b a' b' : Store) → ℕ → Type 0
+AreWhole a b a' b' count =
+    (frames : List Message) × (last : Meeting) × AreHanded (begun a b) frames last
+    × (count ≡ length frames) × (last.way ≡ None) × (last.giver.standing.state ≡ Done)
+    × (a'.content ≡ last.taker.content) × (b'.content ≡ last.giver.content)
+
+-- an end took 1,000,000 frames, and another one came to it
+abbrev pub AreTooMany : (a b : Store) → Type 0
+AreTooMany a b =
+    (frames : List Message) × (last : Meeting) × AreHanded (begun a b) frames last
+    × ((next : Message) × (last.way ≡ Some next)) × (last.taker.standing.taken ≡ 1000000)
+
+-- it is left with this content, perhaps with some first ones of these records
+abbrev pub LeavesFirst : Store → Content → List Record → Type 0
+LeavesFirst s R rs = (left : Content) → IsLeft s left → (k : ℕ) × (left ≡ merged (take k rs) R)
+
+-- an end failed: it is left with what it held, perhaps with some first ones of these records, which
+-- were to come, and the other end with what that held
+abbrev pub AreLeft : (failed other : Store) → (taker giver : End) → List Record → Type 0
+AreLeft failed other taker giver rs =
+    LeavesFirst failed taker.content rs × LeavesFirst other giver.content []
+
+-- frames were handed over, and the end that was to take the next one failed
+abbrev pub AreCut : (a b a' b' : Store) → Type 0
+AreCut a b a' b' =
+    (frames : List Message) × (last : Meeting) × (next : Message)
+    × AreHanded (begun a b) frames last × (last.way ≡ Some next)
+    × (((last.taker.party ≡ party_of a) × AreLeft a' b' last.taker last.giver (records_in next))
+    ⊎ ((last.taker.party ≡ party_of b) × AreLeft b' a' last.taker last.giver (records_in next)))
+
 pub record Converses (a b a' b' : Store) (result : Result ℕ ExchangeFault) : Type 0 where
   pub joined : a'.honest → b'.honest → CanMeet a b → IfOk result (AreJoined a.content b.content a'.content b'.content)
+  -- it answers how many frames were handed over, by turns, each of them the answer to the last one
+  pub dialog : a'.honest → b'.honest → CanMeet a b → IfOk result (AreWhole a b a' b')
   pub between : a'.honest → b'.honest → CanMeet a b → IfErr result (λ fault. IsOfMeeting fault × AreBetween a b a' b')
+  pub cut : a'.honest → b'.honest → CanMeet a b → IfErr result (λ fault. AreCut a b a' b')
   -- replicas of two archives, or of one number, come to no end, and stay as they were
   pub refused : a'.honest → b'.honest → ((a.id ≡ b.id) × (a.own ≡ b.own → ⊥) → ⊥) → IsErr result × Stays a a' × Stays b b'
   -- so many frames go by only where as many records were added
   pub long : a'.honest → b'.honest → CanMeet a b → result ≡ Err exchange.TooLong → a'.broken ≡ false → b'.broken ≡ false → 999999 + (length a.content + length b.content) ≤ length a'.content + length b'.content
+  pub full : a'.honest → b'.honest → CanMeet a b → result ≡ Err exchange.TooLong → AreTooMany a b
   pub faults : List StoreFault
   pub passes : Passes a a' faults
   pub others : List StoreFault

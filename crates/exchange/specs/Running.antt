@@ -1,5 +1,5 @@
 -- Worlds whose replicas are archives.
-use Rattle.std.specs.Prelude.{◌≡◌, ⊤, ℕ, ◌-◌, ◌^◌, ◌<◌, ◌≤◌, false, List, [], ◌∷◌, ◌++◌, take, slice_get, Some, Result, Ok, Err, IfOk, IfErr, unwrap_or}
+use Rattle.std.specs.Prelude.{◌≡◌, ⊤, ℕ, ◌-◌, ◌^◌, ◌<◌, ◌≤◌, ◌⊎◌, Bool, true, false, List, [], ◌∷◌, ◌++◌, take, slice_get, Some, Result, Ok, Err, IsErr, IfOk, unwrap_or}
 use Rattle.std.specs.List.{AllByRecursion}
 use Rattle.std.specs.Option.{option_map_or}
 use Rattle.stamp.specs.Numbers.{number_of}
@@ -14,7 +14,7 @@ use Rattle.records.specs.declared.record.Record.{Record}
 use Rattle.archive.specs.declared.fault.StoreFault.{StoreFault}
 use Rattle.archive.specs.declared.fault.LearnFault.{LearnFault}
 use Rattle.archive.specs.declared.fault.LearnFault.TheVariants as refused
-use Rattle.archive.specs.Store.{Store, Passes, HasContent}
+use Rattle.archive.specs.Store.{Store, Passes, IsLeft}
 use Rattle.hist_update.specs.Outcome.{Operation, Write, DeleteAt, IsRequest}
 use Rattle.exchange.specs.declared.world.Operation.{Operation as Asked}
 use Rattle.exchange.specs.declared.world.Operation.TheVariants as asked
@@ -47,21 +47,39 @@ IsEvent event = ⊤
 
 -- ---- archives as replicas
 
--- its id, its number and what it holds are the replica's
+-- its id, its number and what it is left with are the replica's
 pub record IsSiteOf (a : Store) (s : Site) : Type 0 where
   pub id : a.id ≡ s.id
   pub number : a.own ≡ s.number
-  pub content : HasContent a s.content
+  pub content : IsLeft a s.content
 
 -- replicas between which these batches were sent
 abbrev pub world_of : List Site → List (List Record) → World
 world_of sites pool = record { sites = sites; pool = pool }
 
--- what a fault leaves of a world in which an event was to happen: what it was, or, of what was delivered, some first records more, at most as
--- many as were to come; behind a break of the store an opening finds that, or that with one record more
-abbrev pub Halts : World → Event → List Site → Type 0
-Halts w (Delivers i batch count) sites = (k : ℕ) × (k ≤ count) × (sites ≡ (step w (Delivers i batch k)).sites)
-Halts w event sites = sites ≡ w.sites
+abbrev pub place_of : Event → ℕ
+place_of (Operates i request op) = i
+place_of (Sends i v limit) = i
+place_of (Delivers i batch count) = i
+place_of (Restarts i) = i
+
+-- an event that reads the store of its replica, whatever that holds
+abbrev pub reads_store : Event → Bool
+reads_store event = elim event [ Sends i v limit ↦ true | Restarts i ↦ true | _ ↦ false ]
+
+-- it ended with no more events than these
+abbrev pub EndsWithin : ℕ → Result (Unit {0}) ℕ → Type 0
+EndsWithin n result = elim result [ Ok u ↦ ⊥ | Err count ↦ count ≤ n ]
+
+-- what a fault leaves of a world in which an event was to happen: what it was; of what was
+-- delivered, some first records more, at most as many as were to come; of an operation behind which
+-- its store is broken, perhaps its record
+abbrev pub Halts : (IsBroken : ℕ → Type 0) → World → Event → List Site → Type 0
+Halts IsBroken w (Delivers i batch count) sites =
+    (k : ℕ) × (k ≤ count) × (sites ≡ (step w (Delivers i batch k)).sites)
+Halts IsBroken w (Operates i request op) sites =
+    (sites ≡ w.sites) ⊎ (IsBroken i × (sites ≡ (step w (Operates i request op)).sites))
+Halts IsBroken w event sites = sites ≡ w.sites
 
 module _ {A : Type 0} (state : A → Store) where
   abbrev pub AreSites : List A → List Site → Type 0
@@ -74,36 +92,60 @@ module _ {A : Type 0} (state : A → Store) where
   abbrev pub AreHonest : List A → Type 0
   AreHonest archives = AllByRecursion (λ a. (state a).honest) archives
 
-  -- so many events happened, and in the next one a fault came
-  pub record StopsIn (archives : List A) (w : World) (events : List Event) (count : ℕ) : Type 0 where
-    pub event : Event
-    pub next : slice_get events count ≡ Some event
-    pub left : List Site
-    pub halts : Halts (run (take count events) w) event left
-    pub are : AreSites archives left
+  -- the store at this place is broken
+  abbrev pub IsBroken : List A → ℕ → Type 0
+  IsBroken archives i = (a : A) × (slice_get archives i ≡ Some a) × ((state a).broken ≡ true)
 
+  -- the events happened; or so many did, and in the next one a fault came
+  abbrev pub Ends : List A → World → List Event → Result (Unit {0}) ℕ → List Site → Type 0
+  Ends new w events (Ok u) sites = sites ≡ (run events w).sites
+  Ends new w events (Err count) sites =
+      (event : Event) × (slice_get events count ≡ Some event)
+      × Halts (IsBroken new) (run (take count events) w) event sites
+
+  -- whatever the archives are left with, they were left with something before of which the events
+  -- made that; an archive in use is left with what it holds
   pub record RunsWorld (old new : List A) (events : List Event) (result : Result (Unit {0}) ℕ) : Type 0 where
-    pub ran : AreHonest new → (sites : List Site) → AreSites old sites → IfOk result (λ _. AreSites new (run events (world_of sites [])).sites)
-    pub stopped : AreHonest new → (sites : List Site) → AreSites old sites → IfErr result (StopsIn new (world_of sites []) events)
+    pub ran : AreHonest new → (left : List Site) → AreSites new left
+        → (sites : List Site) × AreSites old sites × Ends new (world_of sites []) events result left
+    -- no event reads a store that was broken: the events ended there, or before
+    pub ended : (n : ℕ) (event : Event) → slice_get events n ≡ Some event → reads_store event ≡ true
+        → IsBroken old (place_of event) → EndsWithin n result
 
   -- ---- one event
 
+  -- it happened, or a fault came
+  abbrev pub Comes : List A → Event → Result (Unit {0}) Halted → World → World → Type 0
+  Comes new event (Ok u) w v = v ≡ step w event
+  Comes new event (Err end) w v = Halts (IsBroken new) w event v.sites
+
   pub record Happens (old new : List A) (pool later : List (List Record)) (event : Event) (result : Result (Unit {0}) Halted) : Type 0 where
     pub honest : AreHonest new → AreHonest old
-    pub ran : AreHonest new → (sites : List Site) → AreSites old sites → IfOk result (λ _. AreSites new (step (world_of sites pool) event).sites × (later ≡ (step (world_of sites pool) event).pool))
-    pub halted : AreHonest new → (sites : List Site) → AreSites old sites → IfErr result (λ _. (left : List Site) × Halts (world_of sites pool) event left × AreSites new left)
+    pub stays : (i : ℕ) → IsBroken old i → IsBroken new i
+    pub ended : IsBroken old (place_of event) → reads_store event ≡ true → IsErr result
+    pub came : AreHonest new → (left : List Site) → AreSites new left
+        → (sites : List Site) × AreSites old sites × Comes new event result (world_of sites pool) (world_of left later)
 
 -- ---- at one archive
 
--- what it holds is changed so, or a fault came in the way and left this
+-- a content is changed so, or a fault came in the way and left this
+abbrev pub Turned : (Content → Content) → (Content → Content → Type 0) → Result (Unit {0}) Halted → Content → Content → Type 0
+Turned change Leaves (Ok u) R S = S ≡ change R
+Turned change Leaves (Err end) R S = Leaves R S
+
+-- whatever it is left with came so of something that it was left with before
 pub record Turns (old new : Store) (change : Content → Content) (Leaves : Content → Content → Type 0) (result : Result (Unit {0}) Halted) : Type 0 where
   pub faults : List StoreFault
   pub passes : Passes old new faults
-  pub done : new.honest → (R : Content) → HasContent old R → IfOk result (λ _. HasContent new (change R))
-  pub halted : new.honest → (R : Content) → HasContent old R → IfErr result (λ _. (S : Content) × Leaves R S × HasContent new S)
+  pub came : new.honest → (S : Content) → IsLeft new S
+      → (R : Content) × IsLeft old R × Turned change Leaves result R S
 
 abbrev pub IsSame : Content → Content → Type 0
 IsSame R S = S ≡ R
+
+-- as it was, or, where the store is broken then, changed so
+abbrev pub IsSameOr : (broken : Bool) → (Content → Content) → Content → Content → Type 0
+IsSameOr broken change R S = (S ≡ R) ⊎ ((broken ≡ true) × (S ≡ change R))
 
 -- some first records more
 abbrev pub HasFirst : List Record → Content → Content → Type 0
@@ -124,8 +166,9 @@ Puts old new batch (Err end) = new ≡ old
 pub record Gives (old new : Store) (pool later : List (List Record)) (v : ℕ → ℕ) (limit : ℕ) (result : Result (Unit {0}) Halted) : Type 0 where
   pub faults : List StoreFault
   pub passes : Passes old new faults
-  pub stays : new.honest → (R : Content) → HasContent old R → HasContent new R
-  pub batch : new.honest → (R : Content) → HasContent old R → IfOk result (λ _. later ≡ pool ++ missing R v limit ∷ [])
+  pub ended : old.broken ≡ true → IsErr result
+  pub stays : new.honest → (R : Content) → IsLeft new R → IsLeft old R
+  pub batch : new.honest → (R : Content) → IsLeft new R → IfOk result (λ _. later ≡ pool ++ missing R v limit ∷ [])
 
 -- the first records of the batch at this place are learned, if it is there
 abbrev pub came_in : List (List Record) → (place count : ℕ) → Content → Content
@@ -136,12 +179,6 @@ abbrev pub HasSome : List (List Record) → (place count : ℕ) → Content → 
 HasSome pool place count R S = (k : ℕ) × (k ≤ count) × (S ≡ came_in pool place k R)
 
 -- ---- one event, at the replica that it comes to
-
-abbrev pub place_of : Event → ℕ
-place_of (Operates i request op) = i
-place_of (Sends i v limit) = i
-place_of (Delivers i batch count) = i
-place_of (Restarts i) = i
 
 -- what it holds then
 abbrev pub turned : Site → List (List Record) → Event → Content
@@ -156,15 +193,25 @@ pooled s pool (Sends i v limit) = sent v limit pool s
 pooled s pool event = pool
 
 -- what it may hold where a fault came
-abbrev pub IsHalf : Site → List (List Record) → Event → Content → Type 0
-IsHalf s pool (Delivers i batch count) S = HasSome pool batch count s.content S
-IsHalf s pool event S = S ≡ s.content
+abbrev pub IsHalf : (broken : Bool) → Site → List (List Record) → Event → Content → Type 0
+IsHalf broken s pool (Delivers i batch count) S = HasSome pool batch count s.content S
+IsHalf broken s pool (Operates i request op) S =
+    (S ≡ s.content) ⊎ ((broken ≡ true) × (S ≡ turned s pool (Operates i request op)))
+IsHalf broken s pool event S = S ≡ s.content
+
+-- what the replica is then
+abbrev pub Became : (broken : Bool) → Site → (pool later : List (List Record)) → Event → Result (Unit {0}) Halted → Site → Type 0
+Became broken s pool later event (Ok u) t =
+    (t ≡ record s { content = turned s pool event }) × (later ≡ pooled s pool event)
+Became broken s pool later event (Err end) t =
+    (S : Content) × IsHalf broken s pool event S × (t ≡ record s { content = S })
 
 pub record TurnsBy (old new : Store) (pool later : List (List Record)) (event : Event) (result : Result (Unit {0}) Halted) : Type 0 where
   pub faults : List StoreFault
   pub passes : Passes old new faults
-  pub done : new.honest → (s : Site) → IsSiteOf old s → IfOk result (λ _. HasContent new (turned s pool event) × (later ≡ pooled s pool event))
-  pub halted : new.honest → (s : Site) → IsSiteOf old s → IfErr result (λ _. (S : Content) × IsHalf s pool event S × HasContent new S)
+  pub ended : old.broken ≡ true → reads_store event ≡ true → IsErr result
+  pub came : new.honest → (t : Site) → IsSiteOf new t
+      → (s : Site) × IsSiteOf old s × Became new.broken s pool later event result t
 
 -- the code of an update of one operation; its status, where it was refused as a whole
 abbrev pub code_of : HistoryUpdateResult → Status

@@ -1,15 +1,15 @@
 //! Worlds of archives that take updates and exchange records.
 
 ghost use Rattle.ua_binary.specs.declared.codes.TheConstants.Status.{GOOD};
-ghost use Rattle.std.specs.Prelude.{◌≡◌, ◌∷◌, [], List, IsTrue, false, map, take};
+ghost use Rattle.std.specs.Prelude.{◌≡◌, ◌∷◌, [], List, IsErr, IsTrue, true, false, map, take};
 ghost use Rattle.std.specs.List.{AllByRecursion};
 ghost use Rattle.stamp.specs.Numbers.{number_of};
-ghost use Rattle.records.specs.Contents.{merged};
+ghost use Rattle.records.specs.Contents.{Content, merged};
 ghost use Rattle.archive.specs.Store.{Mark};
 ghost use Rattle.archive.specs.Steps.{Acts};
 ghost use Rattle.hist_update.specs.Outcome.{IsRequest, after, outcome};
 ghost use Rattle.hist_update.specs.Updates.{begin};
-ghost use Rattle.exchange.specs.Running.{operation_of, event_of, IsAsked, IsEvent, Turns, TurnsBy, IsSame, HasFirst, HasSome, EndsBy, came_in, Puts, Gives, Happens, RunsWorld, IsClear, code_of};
+ghost use Rattle.exchange.specs.Running.{operation_of, event_of, IsAsked, IsEvent, Turns, TurnsBy, IsSame, IsSameOr, HasFirst, HasSome, EndsBy, came_in, Puts, Gives, Happens, RunsWorld, IsClear, code_of};
 ghost use Rattle.hist_update.specs.Laws.{IsBad};
 
 use crate::replica::Batch;
@@ -154,7 +154,8 @@ fn operate<A: Archive>(
 ) -> Result<(), Halted>
     requires request { IsRequest request.now }
     requires operation { IsAsked operation.now }
-    ensures { Turns (A.state archive.old) (A.state archive.new) (λ R. after R (outcome R (A.state archive.old).own request.now (operation_of operation.now))) IsSame result }
+    ensures { let change : Content → Content = λ R. after R (outcome R (A.state archive.old).own request.now (operation_of operation.now)) in
+        Turns (A.state archive.old) (A.state archive.new) change (IsSameOr (A.state archive.new).broken change) result }
 {
     let before = archive.faults();
     let told = perform(alloc, archive, request, operation);
@@ -225,7 +226,8 @@ fn deliver<A: Archive>(archive: &mut A, records: &[Record]) -> Result<(), Halted
 
 /// Reads a store anew.
 fn restart<A: Archive>(archive: &mut A) -> Result<(), Halted>
-    ensures { Turns (A.state archive.old) (A.state archive.new) (λ R. R) IsSame result }
+    ensures turns { Turns (A.state archive.old) (A.state archive.new) (λ R. R) IsSame result }
+    ensures ended { (A.state archive.old).broken ≡ true → IsErr result }
 {
     archive.reload()?;
     Ok(())
@@ -315,8 +317,9 @@ fn happen<A: Archive>(
 /// Lets events happen, one after the other, between replicas of an archive between which nothing is on its
 /// way yet. A delivery that meets a refusal stops there, and the world goes on. Where memory is wanting or a
 /// store meets a fault the error is the number of events that happened: the next one then left everything as
-/// it was, or, of a delivery, some first records; behind a break of the store an opening finds that, or that
-/// with one record more. What is said here is said of stores that return what was written to them.
+/// it was, or, of a delivery, some first records; of an operation behind which its store is broken an opening
+/// finds what was held, or that with its record. No event reads a store that was broken before: it is the end
+/// there. What else is said here is said of stores that return what was written to them.
 pub fn run_world<A: Archive>(
     alloc: Global,
     replicas: &mut [A],
