@@ -74,10 +74,9 @@ pub another : (image : Image) (id : List ℕ) (own : ℕ) (fault : StoreFault) (
 another image id own fault old opens live found refused = record {
   db = old.committed.trees;
   found = record { holds = found.holds; reads = found.reads };
-  lists = elim refused.schema [
-    | inl is ↦ inl (subst (Lists (old.committed.trees catalog_tree)) is (found_lists old opens live))
-    | inr first ↦ inr (subst (Lists (old.committed.trees catalog_tree)) first (found_lists old opens live))
-  ];
+  schema = old.now.schema;
+  lists = found_lists old opens live;
+  begins = refused.schema;
   judged = subst (λ t. judged id own (meta_cells t) ≡ Err fault) same refused.judged;
 }
   where

@@ -58,7 +58,7 @@ never_comes g told (Ok a) none = tt
 never_comes g told (Err e) none = λ clean of. absurd (none clean of)
 
 -- a quiet step is one that may commit
-widened : (a b : State) (P : Trees → Type 0) → Survives a b (λ _. ⊥) → Survives a b P
+pub widened : (a b : State) (P : Trees → Type 0) → Survives a b (λ _. ⊥) → Survives a b P
 widened a b P one = survives_then a a b (λ _. ⊥) (λ _. ⊥) P (λ clean db none. absurd none) (λ clean db none. absurd none) (survives_itself a) one
 
 module _ {S : Type 0} (g : Ghosts S) (old : State) where

@@ -1,5 +1,5 @@
 -- What the files of an archive hold.
-use Rattle.std.specs.Prelude.{◌≡◌, ◌⊎◌, ℕ, pos, List, [], Err}
+use Rattle.std.specs.Prelude.{◌≡◌, ◌⊎◌, ℕ, pos, List, [], Result, Ok, Err}
 use Rattle.sqlite_disk.specs.declared.Disk.{Ghosts}
 use Rattle.sqlite_disk.specs.declared.Files.{Files}
 use Rattle.sqlite_wal.specs.Recovery.{Image}
@@ -10,12 +10,17 @@ use Rattle.sqlite.specs.Files.{HoldsDatabase, AreFoundIn, LeavesFiles}
 use Rattle.sqlite.specs.Closing.{files_left}
 use Rattle.sqlite.specs.declared.file.Leftover.{Leftover}
 use Rattle.records.specs.Contents.{Content}
-use Rattle.sql_schema.specs.Tables.{no_schema, schema1, archive_schema}
+use Rattle.sqlite_schema.specs.declared.schema.Schema.{Schema}
+use Rattle.sql_schema.specs.Tables.{HasMeta, no_schema}
 use Rattle.sql_tables.specs.State.{IsNewArchive}
 use Rattle.sql_opening.specs.Renewing.{cells1, content1_in, IsStoreOf1, IsRenewed}
 use Rattle.archive.specs.declared.fault.StoreFault.{StoreFault}
 use Rattle.sql_opening.specs.Opening.{judged}
 use Rattle.sql_tables.specs.Rows.{content_in, IsStoreOf, meta_cells}
+
+-- what a closing gives back, whether it went well or not
+abbrev pub given_back : {A : Type 0} → Result A A → A
+given_back r = elim r [ Ok files ↦ files | Err files ↦ files ]
 
 -- an opening finds these trees in the two files: the database that they hold, or none
 pub record IsFound (image : Image) (db : Trees) : Type 0 where
@@ -44,11 +49,13 @@ ResumesOnly image R = (id : List ℕ) (own : ℕ) (S : Content) → Resumes imag
 abbrev pub ResumesAmong : Image → (Trees → Type 0) → Type 0
 ResumesAmong image Among = (id : List ℕ) (own : ℕ) (R : Content) → Resumes image id own R → ∥ ((db : Trees) × Among db × Tells id own db R) ∥₁
 
--- the files hold the tables of an archive, of which meta says that they are another archive's, or another replica's
+-- the files hold tables, the first of which is an archive's meta, and it says that they are another archive's, or another replica's
 pub record IsAnothers (image : Image) (id : List ℕ) (own : ℕ) (fault : StoreFault) : Type 0 where
   pub db : Trees
   pub found : IsFound image db
-  pub lists : Lists (db catalog_tree) archive_schema ⊎ Lists (db catalog_tree) schema1
+  pub schema : Schema
+  pub lists : Lists (db catalog_tree) schema
+  pub begins : HasMeta schema
   pub judged : judged id own (meta_cells db) ≡ Err fault
 
 -- what the engine leaves of files that it can't open

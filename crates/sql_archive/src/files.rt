@@ -1,6 +1,6 @@
 //! Archives in files: a database file and its log.
 
-ghost use Rattle.std.specs.Prelude.{◌≡◌, ◌⊎◌, true, false, IfOk, IfErr, IfSome, IsSomeAnd, IsTrue};
+ghost use Rattle.std.specs.Prelude.{◌≡◌, ◌≢◌, ◌⊎◌, true, false, IfOk, IfErr, IfSome, IsSomeAnd, IsTrue};
 ghost use Rattle.sqlite.specs.State.{HasCleanDisk};
 ghost use Rattle.sqlite_trees.specs.Tree.{Trees};
 ghost use Rattle.sqlite.specs.Files.{file_state, image_of, HoldsDatabase};
@@ -9,9 +9,9 @@ ghost use Rattle.sqlite_std_file.specs.File.{IsFresh};
 ghost use Rattle.sqlite_wal.specs.Reads.{AreClean};
 ghost use Rattle.archive.specs.Store.{IsOfOpening};
 ghost use Rattle.sql_tables.specs.Rows.{content_in, IsStoreOf};
-ghost use Rattle.sql_archive.specs.Files.{Tells, Resumes, ResumesOnly, ResumesAmong, IsAnothers, EngineLeaves, KeepsFound};
+ghost use Rattle.sql_archive.specs.Files.{Tells, Resumes, ResumesOnly, ResumesAmong, IsAnothers, EngineLeaves, KeepsFound, given_back};
 
-use crate::starting::start;
+use crate::starting::{as_told, start};
 use crate::store::SqlArchive;
 use archive::StoreFault;
 use sql_tables::refusal_of;
@@ -40,7 +40,8 @@ impl<D: Disk + Drop> SqlArchive<FileStore<D>> {
     ///
     /// It is refused by `WrongArchive` and `WrongReplica` where the tables are those of another archive or
     /// replica, in this order; and by `Refused` where other tables stand there, where the rows are those of
-    /// no lawful content, and where the files hold no database or can't be read.
+    /// no lawful content, and where the files hold no database, can't be read, or fail while they are read. It
+    /// is never `Broken`.
     pub fn open_files(
         alloc: Global,
         files: Files<D>,
@@ -52,25 +53,32 @@ impl<D: Disk + Drop> SqlArchive<FileStore<D>> {
         requires db { IsTrue (D.Disk.is_usable files.db) }
         ensures own { IfOk result (λ a. (a.id ≡ id) × (a.number ≡ number) × (a.faults ≡ 0) × (a.broken ≡ false)) }
         ensures resumed { IfOk result (λ a. HasCleanDisk (file_state a.conn) → Resumes (image_of D.Disk files) id number (content_in (file_state a.conn).now.trees)) }
+        ensures told { IfErr result (λ e. e.0 ≢ StoreFault.Broken) }
         ensures wrong { IfErr result (λ e. AreClean D.Disk e.1.log e.1.db → IsOfOpening e.0 → IsAnothers (image_of D.Disk files) id number e.0) }
         ensures left { IfErr result (λ e. AreClean D.Disk e.1.log e.1.db → EngineLeaves D.Disk files e.1 ⊎ KeepsFound (image_of D.Disk files) id number (image_of D.Disk e.1)) }
     {
         match Connection::open_files(alloc, files, options) {
             Ok(conn) => match start(alloc, conn, id, number) {
                 Ok(archive) => Ok(archive),
-                Err((fault, conn)) => Err((fault, files_of(conn))),
+                Err((fault, conn)) => Err((as_told(fault), files_of(conn))),
             },
             Err((error, left)) => Err((refusal_of(error), left.into_files())),
         }
     }
 
     /// Copies the log into the database file and gives the files back, which then hold the tables of what the
-    /// archive held, and may be opened again. Where that fails they come back as an error, as they are.
+    /// archive held, and may be opened again. Where that fails they come back as an error, as they are; so do
+    /// those of an archive that is broken, which hold what a crash could leave, and that is what an opening finds.
     pub fn close_files(self) -> Result<Files<D>, Files<D>>
         ensures usable { IfOk result (λ files. IsTrue (D.Disk.is_usable files.log) × IsTrue (D.Disk.is_usable files.db)) }
         ensures held { self.broken ≡ false → IfOk result (λ files. AreClean D.Disk files.log files.db → ∥ ((db : Trees) × HoldsDatabase (image_of D.Disk files) db × Tells self.id self.number db (content_in (file_state self.conn).now.trees)) ∥₁) }
         ensures kept { self.broken ≡ false → IfOk result (λ files. AreClean D.Disk files.log files.db → ResumesOnly (image_of D.Disk files) (content_in (file_state self.conn).now.trees)) }
+        ensures behind { self.broken ≡ true → AreClean D.Disk (given_back result).log (given_back result).db → ∥ ((db : Trees) × (file_state self.conn).may_leave db × HoldsDatabase (image_of D.Disk (given_back result)) db × IsStoreOf self.id self.number db) ∥₁ }
+        ensures among { self.broken ≡ true → AreClean D.Disk (given_back result).log (given_back result).db → ResumesAmong (image_of D.Disk (given_back result)) (file_state self.conn).may_leave }
     {
+        if self.is_broken() {
+            return Err(self.into_files());
+        }
         self.tables_stand();
         let conn = self.into_connection();
         let _schema = conn.schema();
@@ -105,6 +113,7 @@ impl<T: Start> SqlArchive<FileStore<FileFrom<T>>> {
     ) -> Result<SqlArchive<FileStore<FileFrom<T>>>, (StoreFault, Option<Files<FileFrom<T>>>)>
         ensures own { IfOk result (λ a. (a.id ≡ id) × (a.number ≡ number) × (a.faults ≡ 0) × (a.broken ≡ false)) }
         ensures resumed { IfOk result (λ a. HasCleanDisk (file_state a.conn) → Resumes (image_at T.Start) id number (content_in (file_state a.conn).now.trees)) }
+        ensures told { IfErr result (λ e. e.0 ≢ StoreFault.Broken) }
         ensures wrong { IfErr result (λ e. IsOfOpening e.0 → IsSomeAnd e.1 (λ files. AreClean ⟦<FileFrom<T> as Disk>⟧ files.log files.db → IsAnothers (image_at T.Start) id number e.0)) }
         ensures left { IfErr result (λ e. IfSome e.1 (λ left. AreClean ⟦<FileFrom<T> as Disk>⟧ left.log left.db
             → ((files : _) × IsFresh true files.log × IsFresh false files.db × EngineLeaves ⟦<FileFrom<T> as Disk>⟧ files left) ⊎ KeepsFound (image_at T.Start) id number (image_of ⟦<FileFrom<T> as Disk>⟧ left))) }
@@ -112,7 +121,7 @@ impl<T: Start> SqlArchive<FileStore<FileFrom<T>>> {
         match Connection::open_from(rt, path, false, start_of) {
             Ok(conn) => match start(rt.alloc(), conn, id, number) {
                 Ok(archive) => Ok(archive),
-                Err((fault, conn)) => Err((fault, Some(files_of(conn)))),
+                Err((fault, conn)) => Err((as_told(fault), Some(files_of(conn)))),
             },
             Err((error, left)) => match left {
                 Some(left) => Err((refusal_of(error), Some(left.into_files()))),
@@ -131,6 +140,7 @@ impl SqlArchive<FileStore<File>> {
         number: ReplicaNo,
     ) -> Result<FileArchive, StoreFault>
         ensures own { IfOk result (λ a. (a.id ≡ id) × (a.number ≡ number) × (a.faults ≡ 0) × (a.broken ≡ false)) }
+        ensures told { IfErr result (λ e. e ≢ StoreFault.Broken) }
     {
         match SqlArchive::open_from(rt, path, Unknown, id, number) {
             Ok(archive) => Ok(archive),

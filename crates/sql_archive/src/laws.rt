@@ -1,6 +1,6 @@
 //! Laws of the archive. Each function's contract is a law, and its body is empty.
 
-ghost use Rattle.std.specs.Prelude.{◌≡◌, ◌⊎◌, ℕ, pos, List, All};
+ghost use Rattle.std.specs.Prelude.{◌≡◌, ◌⊎◌, ℕ, pos, List, map, All};
 ghost use Rattle.sqlite_wal.specs.Recovery.{Image};
 ghost use Rattle.sqlite_trees.specs.Tree.{Trees};
 ghost use Rattle.sqlite_trees.specs.Objects.{catalog_tree};
@@ -13,6 +13,10 @@ ghost use Rattle.sql_schema.specs.Tables.{no_schema};
 ghost use Rattle.sql_archive.specs.Files.{Resumes, KeepsFound};
 ghost use Rattle.sql_opening.specs.Renewing.{cells1, IsStored1, IsStoreOf1, IsRenewed};
 ghost use Rattle.sql_archive.specs.Kept.{Kept};
+ghost use Rattle.archive.specs.Store.{IsLawfulContent};
+ghost use Rattle.sql_tables.specs.Rows.{AreRecords};
+ghost use Rattle.sql_tables.specs.Derived.{AreKept, current_columns, vector_columns};
+ghost use Rattle.sql_reading.specs.Tables.{AreCurrents, AreLasts};
 
 use crate::store::SqlArchive;
 use archive::Archive;
@@ -35,4 +39,12 @@ pub fn refused_openings_lose_nothing()
 /// The records that a store of format 1 stands for have moments without picoseconds, whatever picoseconds their values have.
 pub fn moments_of_format_1_have_no_picoseconds()
     ensures { (id : List ℕ) (own : ℕ) (db : Trees) (stored : IsStored1 id own db) → All (λ r. pico_of r.time ≡ 0) stored.content }
+{}
+
+/// Where tables are those of an archive's records, their current values are those of the records: for each node and moment with
+/// records one row, that of the last of them by stamp, which tells whether that one holds a value and whether others stand there. And
+/// each origin with records has one row of its last number and that record's tick.
+pub fn tables_are_the_records()
+    ensures currents { (R : Content) (db : Trees) → IsLawfulContent R → AreRecords R db → AreKept db → AreCurrents R (map current_columns (db 4)) }
+    ensures vectors { (R : Content) (db : Trees) → IsLawfulContent R → AreRecords R db → AreKept db → AreLasts R (map vector_columns (db 6)) }
 {}

@@ -11,5 +11,6 @@ mod store;
 pub use files::FileArchive;
 pub use laws::{
     memory_is_honest, moments_of_format_1_have_no_picoseconds, refused_openings_lose_nothing,
+    tables_are_the_records,
 };
 pub use store::SqlArchive;

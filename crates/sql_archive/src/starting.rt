@@ -1,6 +1,6 @@
 //! How an archive begins over a connection.
 
-ghost use Rattle.std.specs.Prelude.{◌≡◌, pos, false, IfOk, IfErr, Err};
+ghost use Rattle.std.specs.Prelude.{◌≡◌, ◌≢◌, pos, false, IfOk, IfErr, Err};
 ghost use Rattle.sqlite.specs.State.{HasCleanDisk, Survives, Opens};
 ghost use Rattle.sqlite.specs.Held.{state};
 ghost use Rattle.archive.specs.Store.{IsOfOpening};
@@ -11,12 +11,25 @@ ghost use Rattle.sql_opening.specs.Opening.{Starts, IsBegunIn, IsRefused};
 use crate::renewing::take_over_first;
 use crate::store::SqlArchive;
 use archive::StoreFault;
+use sql_opening::refusal_by_meta;
 use sql_schema::{Standing, standing_in};
 use sql_tables::{fault_of, first_open, number_of};
 use sqlite::{Alter, Connection};
 use stamp::ReplicaNo;
 use std::alloc::Global;
 use uuid::Uuid;
+
+/// A fault as an opening tells it: an archive that wasn't opened can't be broken, so this is `Refused`.
+pub(crate) fn as_told(fault: StoreFault) -> StoreFault
+    ensures told { result ≢ StoreFault.Broken }
+    ensures same { fault ≢ StoreFault.Broken → result ≡ fault }
+    ensures met { IsOfOpening result → result ≡ fault }
+{
+    match fault {
+        StoreFault::Broken => StoreFault::Refused,
+        other => other,
+    }
+}
 
 /// Makes the tables in a store that has none, in one commit, and begins with them.
 pub(crate) fn make<S: Alter>(
@@ -45,10 +58,10 @@ pub(crate) fn make<S: Alter>(
 
 /// Begins over a connection: in a store without tables they are made; else those that are there have to be
 /// the tables of a lawful content of this archive and replica, and nothing else. Where these are
-/// those of format 1, they are made anew.
+/// those of format 1, they are made anew. Where others stand behind a table `meta`, that one tells first whose store it is.
 pub(crate) fn start<S: Alter>(
     alloc: Global,
-    conn: Connection<S>,
+    mut conn: Connection<S>,
     id: Uuid,
     number: ReplicaNo,
 ) -> Result<SqlArchive<S>, (StoreFault, Connection<S>)>
@@ -64,6 +77,10 @@ pub(crate) fn start<S: Alter>(
         Ok(Standing::Empty) => make(alloc, conn, id, number),
         Ok(Standing::Archive) => SqlArchive::over(alloc, conn, id, number),
         Ok(Standing::First) => take_over_first(alloc, conn, id, number),
+        Ok(Standing::Begun) => {
+            let fault = refusal_by_meta(&mut conn, &id, number);
+            Err((fault, conn))
+        }
         Ok(Standing::Foreign) => Err((StoreFault::Refused, conn)),
         Err(_) => Err((StoreFault::OutOfMemory, conn)),
     }

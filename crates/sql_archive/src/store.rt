@@ -8,12 +8,11 @@ ghost use Rattle.archive.specs.Listed.{failures, is_broken};
 ghost use Rattle.sql_tables.specs.State.{Idles};
 
 use crate::learning::{flat, learn_in};
-use crate::starting::make;
+use crate::starting::{as_told, make};
 use archive::{Archive, Direction, LearnFault, LogPlace, StoreFault};
 use records::{Entry, Held, Moment, Record};
-use sql_opening::{Latest, latest_after, open_all};
+use sql_opening::{Latest, latest_after, open_all, read_again};
 use sql_reading::{log_in, outside_in, range_in, records_at, records_since};
-use sql_tables::still_open;
 use sqlite::{Alter, Connection, MemStore};
 use stamp::{ReplicaNo, Vector};
 use std::alloc::Global;
@@ -214,7 +213,7 @@ impl<S: Alter> Archive for SqlArchive<S> {
         if self.broken {
             return Err(self.refuse());
         }
-        let answer = still_open(&mut self.conn);
+        let answer = read_again(&mut self.conn, &self.id, self.number, &self.latest);
         tell(&mut self.faults, &mut self.broken, answer)
     }
 }
@@ -275,6 +274,13 @@ impl<S: Alter> SqlArchive<S> {
         self.conn
     }
 
+    /// Whether it can't be used until it is opened again.
+    pub(crate) fn is_broken(&self) -> bool
+        ensures { result ≡ self.now.broken }
+    {
+        self.broken
+    }
+
     /// Between any two calls its tables stand for its content, and what a crash leaves is a store that an
     /// opening takes, also where it is broken. This call says so and does nothing.
     pub fn tables_stand(&self)
@@ -303,7 +309,7 @@ impl<S: Alter> SqlArchive<S> {
 }
 
 impl SqlArchive<MemStore> {
-    ghost use Rattle.std.specs.Prelude.{◌≡◌, false, [], IfOk, IfErr};
+    ghost use Rattle.std.specs.Prelude.{◌≡◌, ◌≢◌, false, [], IfOk, IfErr};
     ghost use Rattle.sqlite.specs.Held.{state};
     ghost use Rattle.sqlite.specs.Steps.{over_memory};
     ghost use Rattle.archive.specs.Store.{IsOfOpening};
@@ -317,6 +323,7 @@ impl SqlArchive<MemStore> {
         ensures empty { IfOk result (λ a. content_in (state over_memory a.conn).now.trees ≡ []) }
         ensures begins { IfOk result (λ a. HoldsNothing id number (store_of over_memory a)) }
         ensures refused { IfErr result (λ e. IsOfOpening e → ⊥) }
+        ensures told { IfErr result (λ e. e ≢ StoreFault.Broken) }
     {
         let conn = match Connection::open_in_memory(alloc) {
             Ok(conn) => conn,
@@ -324,7 +331,7 @@ impl SqlArchive<MemStore> {
         };
         match make(alloc, conn, id, number) {
             Ok(archive) => Ok(archive),
-            Err((fault, _)) => Err(fault),
+            Err((fault, _)) => Err(as_told(fault)),
         }
     }
 }

@@ -117,6 +117,9 @@ shows_currents old new rows has h = (
   finds archive_schema all_currents_text 4 made_terms (by 1 ∷ by 2 ∷ by 3 ∷ []) (current_names (codes "pico")) currents_are current_columns (λ c. column c 0 ∷ column c 1 ∷ column c 2 ∷ []) (λ r. refl) old new rows has h,
 )
 
+pub vectors_plain : IsPlain (understood archive_schema all_vectors_text)
+vectors_plain = vectors_are.2
+
 pub shows_vectors : (old new : State) (rows : List Row) → old.now.schema ≡ archive_schema → Shown all_vectors_text [] old new rows → IsUnchanged old new × IsPermutation (map vector_columns (old.now.trees 6)) rows
 shows_vectors old new rows has h = (
   unchanged all_vectors_text old new rows has vectors_are.2 h,

@@ -21,7 +21,17 @@ use Rattle.sqlite_trees.specs.Tree.{Trees}
 use Rattle.records.proofs.Sorting.{all-has}
 use Rattle.sql_tables.specs.Words.{cells}
 use Rattle.sql_tables.specs.Rows.{row_of, content_in, AreRecords, IsFilled}
-use Rattle.sql_tables.proofs.RowLemmas.{content_is}
+use Rattle.sql_tables.proofs.RowLemmas.{content_is, records_back, record_again}
+use Rattle.sql_tables.specs.Rows.{IsNoRecords}
+use Rattle.sql_tables.specs.Words.{name_order}
+use Rattle.sql_tables.proofs.Texts.{all_text}
+use Rattle.sql_tables.proofs.QueryLemmas.{begins_named}
+use Rattle.sql_schema.specs.Tables.{archive_schema}
+use Rattle.std.proofs.Common.{rules, IsSorted, ℤ}
+use Rattle.sql_tables.specs.Words.{cells_of}
+use Rattle.records.specs.declared.fault.RecordFault.{RecordFault}
+use Rattle.records.specs.declared.fault.RecordFault.TheVariants as memory
+use Rattle.archive.specs.Fault.{of_record}
 use Rattle.sql_tables.specs.State.{shown_of}
 use Rattle.sql_tables.proofs.QueryLemmas.{shown_all}
 use Rattle.std.proofs.Common.{Result, Ok, Err, IfOk, IfErr, not, negsuc, length}
@@ -32,11 +42,11 @@ use Rattle.sqlite_value.specs.Order.{column}
 use Rattle.sqlite_value.specs.declared.value.Value.{Value}
 use Rattle.sqlite_value.specs.declared.value.Value.TheVariants.{Null, Int, Real, Text, Blob as Bytes}
 use Rattle.sqlite.specs.Effect.{Database}
-use Rattle.sqlite.specs.State.{State, HasCleanDisk}
+use Rattle.sqlite.specs.State.{State, HasCleanDisk, IsUnchanged, Begins}
 use Rattle.sqlite.proofs.StateLemmas.{survives_then}
 use Rattle.sqlite.proofs.Callers.{one_permutation}
 use Rattle.archive.specs.declared.fault.StoreFault.{StoreFault}
-use Rattle.archive.specs.declared.fault.StoreFault.TheVariants.{WrongArchive, WrongReplica, Refused}
+use Rattle.archive.specs.declared.fault.StoreFault.TheVariants.{OutOfMemory, WrongArchive, WrongReplica, Refused}
 use Rattle.archive.specs.Store.{IsOfOpening, fault_in}
 use Rattle.archive.specs.Listed.{is_broken}
 use Rattle.sql_tables.specs.Rows.{IsStored, meta_row, meta_columns, meta_cells}
@@ -51,7 +61,7 @@ use Rattle.records.proofs.ContentsParts.{number_from}
 use Rattle.sql_opening.specs.Latest.{Remembers, Raises}
 use Rattle.sql_opening.specs.declared.checking.Mark.{Mark}
 use Rattle.sql_opening.specs.declared.checking.Walk.{Walk}
-use Rattle.sql_opening.specs.Opening.{mark_of, nowhere, comes_next, are_in_turn, mark_behind, HasWalked, HasChecked, has_number, has_bytes, judged_row, judged_as, judged, Opens}
+use Rattle.sql_opening.specs.Opening.{mark_of, nowhere, comes_next, are_in_turn, mark_behind, HasWalked, HasChecked, AreOutOfTurn, BeginOutOfTurn, has_number, has_bytes, judged_row, judged_as, judged, Opens}
 
 -- the content ends with this mark: its origin's last number and tick, and no later origin
 record Ends (P : Content) (m : Mark) : Type 0 where
@@ -186,6 +196,79 @@ walked_more rows row before after r w ok is next last up = record {
     newest = up.newest ∙ (ap (λ t. int_max t r.tick) w.remembered.newest ∙ sym (top_end w.items r));
   };
 }
+
+-- ---- rows that aren't those of records in turn
+
+-- the last of rows in turn is that of a record that comes next
+last_in_turn : (rows : List Row) (row : Row) (m : Mark) (items : List Record) → map row_of items ≡ map shown_of (rows ++ row ∷ []) → AllByRecursion IsRecord items → are_in_turn m items ≡ true
+    → (front : List Record) × (r : Record) × (map row_of front ≡ map shown_of rows) × AllByRecursion IsRecord front × IsRecord r × (shown_of row ≡ row_of r) × (comes_next (mark_behind m front) r ≡ true)
+last_in_turn [] row m [] is each turn = absurd (search rules)
+last_in_turn [] row m (r ∷ []) is each turn = let same : shown_of row ≡ row_of r = cc in ([], r, refl, tt, each.0, same, (and_parts (comes_next m r) true turn).0)
+last_in_turn [] row m (r ∷ s ∷ items) is each turn = absurd (search rules)
+last_in_turn (x ∷ rows) row m [] is each turn = absurd (search rules)
+last_in_turn (x ∷ rows) row m (r ∷ items) is each turn =
+    let parts = and_parts (comes_next m r) (are_in_turn (mark_of r) items) turn in
+    let head : row_of r ≡ shown_of x = cc in
+    let rest : map row_of items ≡ map shown_of (rows ++ row ∷ []) = cc in
+    let more = last_in_turn rows row (mark_of r) items rest each.1 parts.1 in
+    (r ∷ more.0, more.1, ap₂ ◌∷◌ head more.2, (each.0, more.3), more.4, more.5, more.6)
+
+same_items : (a b : List Record) → AllByRecursion IsRecord a → AllByRecursion IsRecord b → map row_of a ≡ map row_of b → a ≡ b
+same_items a b every each is = sym (records_back a (λ r has. all-has IsRecord a r every has)) ∙ ap (flat_map records_in) is ∙ records_back b (λ r has. all-has IsRecord b r each has)
+
+same_one : (a b : Record) → IsRecord a → IsRecord b → row_of a ≡ row_of b → a ≡ b
+same_one a b one other is = let both : a ∷ [] ≡ b ∷ [] = sym (record_again a one) ∙ ap records_in is ∙ record_again b other in cc
+
+pub no_turn : (rows : List Row) (row : Row) (fault : StoreFault) → (fault ≡ OutOfMemory) ⊎ ((fault ≡ Refused) × IsNoRecords row) → (fault ≡ OutOfMemory) ⊎ AreOutOfTurn (rows ++ row ∷ [])
+no_turn rows row fault (inl memory) = inl memory
+no_turn rows row fault (inr none) = inr (inl (λ items is each turn. let last = last_in_turn rows row nowhere items is each turn in none.1 last.1 last.4 last.5))
+
+pub not_next : (rows : List Row) (row : Row) (walk : Walk) (r : Record) → HasWalked rows walk → IsRecord r → shown_of row ≡ row_of r → comes_next walk.last r ≡ false → AreOutOfTurn (rows ++ row ∷ [])
+not_next rows row walk r w ok is late = inl (λ items spelled each turn.
+    let last = last_in_turn rows row nowhere items spelled each turn in
+    let front = same_items w.items last.0 w.each last.3 (w.spelled ∙ sym last.2) in
+    let same = same_one r last.1 ok last.4 (sym is ∙ last.5) in
+    let next = ap (λ m. comes_next m r) (w.mark ∙ ap (mark_behind nowhere) front) ∙ (ap (comes_next (mark_behind nowhere last.0)) same ∙ last.6) in
+    absurd (true≢false (sym next ∙ late)))
+
+-- a row by its columns
+pub columns_are : (row : Row) (o n t time pico asked : ℤ) (node who value : List ℕ) → (column row 0 ≡ Int o) × (column row 1 ≡ Int n) × (column row 2 ≡ Int t) → (column row 3 ≡ Bytes node) × (column row 4 ≡ Int time) × (column row 5 ≡ Int pico)
+    → (column row 6 ≡ Int asked) × (column row 7 ≡ Bytes who) × (column row 8 ≡ Bytes value) → shown_of row ≡ cells_of o n t node time pico asked who value
+columns_are row o n t time pico asked node who value a b c = rw (a.0, a.1, a.2, b.0, b.1, b.2, c.0, c.1, c.2) refl
+
+pub are_columns : (row : Row) (o n t time pico asked : ℤ) (node who value : List ℕ) → shown_of row ≡ cells_of o n t node time pico asked who value
+    → ((column row 0 ≡ Int o) × (column row 1 ≡ Int n) × (column row 2 ≡ Int t)) × ((column row 3 ≡ Bytes node) × (column row 4 ≡ Int time) × (column row 5 ≡ Int pico)) × ((column row 6 ≡ Int asked) × (column row 7 ≡ Bytes who) × (column row 8 ≡ Bytes value))
+are_columns row o n t time pico asked node who value is = (
+  (ap (λ x. column x 0) is, ap (λ x. column x 1) is, ap (λ x. column x 2) is),
+  (ap (λ x. column x 3) is, ap (λ x. column x 4) is, ap (λ x. column x 5) is),
+  (ap (λ x. column x 6) is, ap (λ x. column x 7) is, ap (λ x. column x 8) is),
+)
+
+-- the row isn't that of the record that it spells, and so it is no record's
+pub other_row : (row : Row) (r : Record) (c : Row) → records_in row ≡ r ∷ [] → c ≡ row_of r → (shown_of row ≡ c → ⊥) → IsNoRecords row
+other_row row r c found is other s h same =
+    let both : s ∷ [] ≡ r ∷ [] = sym (record_again s h) ∙ sym (ap records_in same) ∙ found in
+    let one : s ≡ r = cc in other (same ∙ ap row_of one ∙ sym is)
+
+-- a fault of reading a row, as one of the store
+pub unread_as : (row : Row) (e : RecordFault) → (e ≡ memory.OutOfMemory) ⊎ IsNoRecords row → (of_record e ≡ OutOfMemory) ⊎ ((of_record e ≡ Refused) × IsNoRecords row)
+unread_as row memory.OutOfMemory h = inl refl
+unread_as row memory.Binary (inl is) = absurd (search rules)
+unread_as row memory.Binary (inr none) = inr (refl, none)
+unread_as row memory.BadField (inl is) = absurd (search rules)
+unread_as row memory.BadField (inr none) = inr (refl, none)
+unread_as row memory.NotCanonical (inl is) = absurd (search rules)
+unread_as row memory.NotCanonical (inr none) = inr (refl, none)
+
+-- the rows that a walk was given begin so
+pub begins_out : (old new : State) (rows : List Row) → old.now.schema ≡ archive_schema → IsUnchanged old new → Begins all_text [] new rows → AreOutOfTurn rows → BeginOutOfTurn old.now.trees
+begins_out old new rows known same begins so = record { rows = rows; rest = found.0; all = subst (λ (t : Trees). IsPermutation (cells (t 1)) (rows ++ found.0)) (ap (λ (d : Database). d.trees) same.0.now_is) found.1; named = found.2; so = so }
+  where
+    still : IsUnchanged new new
+    still = (record { was_open = same.0.is_open; is_open = same.0.is_open; now_is = refl; committed_is = refl; mode = refl }, record { changes = refl; last_rowid = refl }, refl)
+
+    found : (rest : List Row) × IsPermutation (cells (new.now.trees 1)) (rows ++ rest) × IsSorted name_order (rows ++ rest)
+    found = begins_named new rows (ap (λ (d : Database). d.schema) same.0.now_is ∙ known) still begins
 
 -- ---- whose store it is
 

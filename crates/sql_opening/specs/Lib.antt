@@ -1,3 +1,4 @@
 pub mod Latest
 pub mod Opening
 pub mod Renewing
+pub mod Again

@@ -1,5 +1,5 @@
 -- What a walk over the records of a store judges.
-use Rattle.std.specs.Prelude.{◌≡◌, ◌⊎◌, Result, Ok, Err, IfOk, IfErr, not, false, negsuc, ℕ, ◌+◌, ◌==◌, nat_lt, pos, int_lt, Bool, true, ◌&&◌, if◌then◌else◌, List, [], ◌∷◌}
+use Rattle.std.specs.Prelude.{◌≡◌, ◌⊎◌, Result, Ok, Err, IfOk, IfErr, not, false, negsuc, ℕ, ◌-◌, ◌^◌, ◌≤◌, length, ◌++◌, IsSorted, ◌+◌, ◌==◌, nat_lt, pos, int_lt, Bool, true, ◌&&◌, if◌then◌else◌, List, [], ◌∷◌}
 use Rattle.std.specs.Str.{bytes_eq}
 use Rattle.sqlite_value.specs.Order.{Row, column}
 use Rattle.sqlite_value.specs.declared.value.Value.{Value}
@@ -17,7 +17,7 @@ use Rattle.sql_opening.specs.declared.checking.Mark.{Mark}
 use Rattle.sql_opening.specs.declared.checking.Walk.{Walk}
 use Rattle.sql_opening.specs.declared.renewing.Rows1.{Rows1}
 use Rattle.sql_opening.specs.Renewing.{cells1, meta1_row, IsRead1, IsStored1, IsRenewed}
-use Rattle.sql_tables.specs.Words.{cells}
+use Rattle.sql_tables.specs.Words.{cells, name_order}
 use Rattle.sql_opening.specs.Latest.{Remembers}
 use Rattle.sql_tables.specs.Derived.{AreKept}
 use Rattle.sql_tables.specs.Rows.{IsStored, meta_cells, row_of}
@@ -52,6 +52,18 @@ pub record HasWalked (rows : List Row) (walk : Walk) : Type 0 where
   pub turn : are_in_turn nowhere items ≡ true
   pub mark : walk.last ≡ mark_behind nowhere items
   pub remembered : Remembers items walk.latest.numbers walk.latest.tick
+
+-- they aren't those of records in turn, or there are too many to be counted
+abbrev pub AreOutOfTurn : List Row → Type 0
+AreOutOfTurn rows = ((items : List Record) → map row_of items ≡ map shown_of rows → AllByRecursion IsRecord items → are_in_turn nowhere items ≡ true → ⊥) ⊎ (2 ^ 64 - 1 ≤ length rows)
+
+-- the rows of records2, by name, begin with such
+pub record BeginOutOfTurn (db : Trees) : Type 0 where
+  pub rows : List Row
+  pub rest : List Row
+  pub all : IsPermutation (cells (db 1)) (rows ++ rest)
+  pub named : IsSorted name_order (rows ++ rest)
+  pub so : AreOutOfTurn rows
 
 -- all rows of the tables were gone over
 abbrev pub HasChecked : Trees → Walk → Type 0
@@ -127,7 +139,7 @@ IsBegunIn id own old db = IsMadeIn id own old db ⊎ IsRenewedIn id own old db
 abbrev pub Starts : List ℕ → ℕ → Database → Database → Type 0
 Starts id own old new = IsBegunIn id own old new.trees ⊎ ((old.schema ≡ archive_schema) × IsStored id own old.trees × AreKept old.trees × (new ≡ old))
 
--- meta says that this is another archive's store, or another replica's
+-- meta, the first of the tables, says that this is another archive's store, or another replica's
 pub record IsRefused (id : List ℕ) (own : ℕ) (old : Database) (fault : StoreFault) : Type 0 where
   pub schema : HasMeta old.schema
   pub judged : judged id own (meta_cells old.trees) ≡ Err fault

@@ -1,21 +1,20 @@
 //! The records of a store that anybody may have written, gone over one row at a time.
 
-ghost use Rattle.std.specs.Prelude.{◌≡◌, [], ◌∷◌, ◌++◌, List, IfOk, IfErr, OnOk, IsTrue};
+ghost use Rattle.std.specs.Prelude.{◌≡◌, ◌⊎◌, ◌↔◌, [], ◌∷◌, ◌++◌, List, IfOk, IfErr, OnOk, IsTrue};
 ghost use Rattle.sqlite.specs.State.{HasCleanDisk, IsUnchanged, Survives};
 ghost use Rattle.sqlite.specs.Held.{state};
 ghost use Rattle.sqlite_value.specs.Order.{Row as Columns, column};
 ghost use Rattle.sqlite_value.specs.declared.value.Value.TheVariants as value;
-ghost use Rattle.archive.specs.Store.{IsOfOpening};
 ghost use Rattle.records.specs.Spelling.{IsRecord};
 ghost use Rattle.sql_tables.specs.Words.{cells_of};
-ghost use Rattle.sql_tables.specs.Rows.{row_of};
+ghost use Rattle.sql_tables.specs.Rows.{row_of, IsNoRecords};
 ghost use Rattle.sql_schema.specs.Tables.{archive_schema};
 ghost use Rattle.sql_tables.specs.State.{Holds, Rests, shown_of};
-ghost use Rattle.sql_opening.specs.Opening.{comes_next, HasWalked, HasChecked};
+ghost use Rattle.sql_opening.specs.Opening.{comes_next, HasWalked, HasChecked, AreOutOfTurn, BeginOutOfTurn};
 
 use crate::latest::{Latest, raised};
 use archive::StoreFault;
-use records::{Record, RecordFault};
+use records::Record;
 use sql_tables::{Cells, bytes_at, decode, int_at, make_cells};
 use sqlite::{Alter, Connection, Error, Row};
 use stamp::Vector;
@@ -43,7 +42,7 @@ fn comes_next(before: Mark, r: &Record) -> bool
 }
 
 pub(crate) fn is_int(row: &Row, at: usize, n: i64) -> bool
-    ensures { IsTrue result → column row.now at ≡ value.Int n }
+    ensures { IsTrue result ↔ (column row.now at ≡ value.Int n) }
 {
     match int_at(row, at) {
         Ok(found) => found == n,
@@ -52,7 +51,7 @@ pub(crate) fn is_int(row: &Row, at: usize, n: i64) -> bool
 }
 
 pub(crate) fn is_bytes(row: &Row, at: usize, bytes: &[u8]) -> bool
-    ensures { IsTrue result → column row.now at ≡ value.Blob bytes.now }
+    ensures { IsTrue result ↔ (column row.now at ≡ value.Blob bytes.now) }
 {
     match bytes_at(row, at) {
         Ok(found) => found == bytes,
@@ -60,31 +59,41 @@ pub(crate) fn is_bytes(row: &Row, at: usize, bytes: &[u8]) -> bool
     }
 }
 
-/// Whether a row is that of these cells.
-fn is_row(row: &Row, c: &Cells) -> bool
-    ensures { IsTrue result → shown_of row.now ≡ cells_of c.now.origin c.now.number c.now.tick c.now.node.items c.now.time c.now.pico c.now.asked c.now.who.items c.now.value.items }
+/// Whether a row begins with the name and the tick of these cells.
+fn has_name(row: &Row, c: &Cells) -> bool
+    ensures { IsTrue result ↔ ((column row.now 0 ≡ value.Int c.now.origin) × (column row.now 1 ≡ value.Int c.now.number) × (column row.now 2 ≡ value.Int c.now.tick)) }
 {
-    is_int(row, 0, c.origin)
-        && is_int(row, 1, c.number)
-        && is_int(row, 2, c.tick)
-        && is_bytes(row, 3, &c.node)
-        && is_int(row, 4, c.time)
-        && is_int(row, 5, c.pico)
-        && is_int(row, 6, c.asked)
-        && is_bytes(row, 7, &c.who)
-        && is_bytes(row, 8, &c.value)
+    is_int(row, 0, c.origin) && is_int(row, 1, c.number) && is_int(row, 2, c.tick)
 }
 
-/// The record of exactly this row.
+/// Whether it has their node and moment.
+fn has_place(row: &Row, c: &Cells) -> bool
+    ensures { IsTrue result ↔ ((column row.now 3 ≡ value.Blob c.now.node.items) × (column row.now 4 ≡ value.Int c.now.time) × (column row.now 5 ≡ value.Int c.now.pico)) }
+{
+    is_bytes(row, 3, &c.node) && is_int(row, 4, c.time) && is_int(row, 5, c.pico)
+}
+
+/// Whether it has what they say was asked, by whom, and the value.
+fn has_rest(row: &Row, c: &Cells) -> bool
+    ensures { IsTrue result ↔ ((column row.now 6 ≡ value.Int c.now.asked) × (column row.now 7 ≡ value.Blob c.now.who.items) × (column row.now 8 ≡ value.Blob c.now.value.items)) }
+{
+    is_int(row, 6, c.asked) && is_bytes(row, 7, &c.who) && is_bytes(row, 8, &c.value)
+}
+
+/// Whether a row is that of these cells.
+#[tactic(auto, using(crate::proofs::OpenLemmas::columns_are, crate::proofs::OpenLemmas::are_columns))]
+fn is_row(row: &Row, c: &Cells) -> bool
+    ensures { IsTrue result ↔ (shown_of row.now ≡ cells_of c.now.origin c.now.number c.now.tick c.now.node.items c.now.time c.now.pico c.now.asked c.now.who.items c.now.value.items) }
+{
+    has_name(row, c) && has_place(row, c) && has_rest(row, c)
+}
+
+/// The record of exactly this row; a row that is no record's is `Refused`.
 fn read_row(alloc: Global, row: &Row) -> Result<Record, StoreFault>
     ensures read { IfOk result (λ r. IsRecord r × (shown_of row.now ≡ row_of r)) }
-    ensures met { IfErr result (λ fault. IsOfOpening fault → ⊥) }
+    ensures met { IfErr result (λ fault. (fault ≡ StoreFault.OutOfMemory) ⊎ ((fault ≡ StoreFault.Refused) × IsNoRecords row.now)) }
 {
-    let r = match decode(alloc, row) {
-        Ok(r) => r,
-        Err(RecordFault::OutOfMemory) => return Err(StoreFault::OutOfMemory),
-        Err(_) => return Err(StoreFault::Refused),
-    };
+    let r = decode(alloc, row)?;
     let cells = make_cells(alloc, &r)?;
     if !is_row(row, &cells) {
         return Err(StoreFault::Refused);
@@ -119,7 +128,8 @@ pub(crate) fn start() -> Walk
 /// Goes on over one row more, which is that of the next record in turn; else it is refused.
 pub(crate) fn go_on(alloc: Global, walk: Walk, row: &Row) -> Result<Walk, StoreFault>
     ensures walked { (rows : List Columns) → HasWalked rows walk → IfOk result (HasWalked (rows ++ row.now ∷ [])) }
-    ensures met { IfErr result (λ fault. IsOfOpening fault → ⊥) }
+    ensures met { IfErr result (λ fault. (fault ≡ StoreFault.OutOfMemory) ⊎ (fault ≡ StoreFault.Refused)) }
+    ensures refused { (rows : List Columns) → HasWalked rows walk → IfErr result (λ fault. (fault ≡ StoreFault.OutOfMemory) ⊎ AreOutOfTurn (rows ++ row.now ∷ [])) }
 {
     let r = read_row(alloc, row)?;
     if !comes_next(walk.last, &r) {
@@ -135,7 +145,8 @@ pub(crate) fn go_on(alloc: Global, walk: Walk, row: &Row) -> Result<Walk, StoreF
     })
 }
 
-/// Goes over all rows of records, in an archive's tables as they are or as they were, by origin and number, as long as they are those of records in turn.
+/// Goes over all rows of records by origin and number, as long as they are those of records in turn. It is refused where the first
+/// ones aren't, or where there are too many to be counted.
 pub(crate) fn check_rows<S: Alter>(
     alloc: Global,
     conn: &mut Connection<S>,
@@ -143,7 +154,8 @@ pub(crate) fn check_rows<S: Alter>(
     requires rests { HasCleanDisk (state S.Store conn.old) → Rests (state S.Store conn.old) }
     requires known { HasCleanDisk (state S.Store conn.old) → (state S.Store conn.old).now.schema ≡ archive_schema }
     ensures checked { HasCleanDisk (state S.Store conn.new) → IfOk result (λ told. IfOk told (HasChecked (state S.Store conn.old).now.trees)) }
-    ensures met { IfOk result (λ told. IfErr told (λ fault. IsOfOpening fault → ⊥)) }
+    ensures met { IfOk result (λ told. IfErr told (λ fault. (fault ≡ StoreFault.OutOfMemory) ⊎ (fault ≡ StoreFault.Refused))) }
+    ensures refuted { HasCleanDisk (state S.Store conn.new) → IfOk result (λ told. IfErr told (λ fault. (fault ≡ StoreFault.OutOfMemory) ⊎ BeginOutOfTurn (state S.Store conn.old).now.trees)) }
     ensures same { HasCleanDisk (state S.Store conn.new) → OnOk result (IsUnchanged (state S.Store conn.old) (state S.Store conn.new)) }
     ensures refused { HasCleanDisk (state S.Store conn.new) → IfErr result (λ _. IsTrue (state S.Store conn.new).is_open → Holds (state S.Store conn.old) (state S.Store conn.new)) }
     ensures crash { Survives (state S.Store conn.old) (state S.Store conn.new) (λ _. ⊥) }
@@ -153,7 +165,7 @@ pub(crate) fn check_rows<S: Alter>(
         "SELECT origin, number, tick, node, time, pico, asked, who, value FROM records2 ORDER BY origin, number",
         &[],
     )?;
-    'rows: for _ in 0..u64::MAX {
+    'rows: for gone in 0..u64::MAX {
         rows.advance()?;
         let Some(row) = rows.get() else {
             return Ok(Ok(walk));

@@ -2,12 +2,14 @@
 //! today's, in one commit.
 #![tactic(auto)]
 
+mod again;
 mod checking;
 mod filling;
 mod latest;
 mod opening;
 mod renewing;
 
+pub use again::read_again;
 pub use latest::{Latest, latest_after};
-pub use opening::open_all;
+pub use opening::{open_all, refusal_by_meta};
 pub use renewing::{Rows1, open_rows, turn};

@@ -1,15 +1,16 @@
 //! An opening of tables that anybody may have written: whose they are, and what their records are.
 
-ghost use Rattle.std.specs.Prelude.{◌≡◌, ◌<◌, length};
+ghost use Rattle.std.specs.Prelude.{◌≡◌, ◌<◌, length, Err};
 ghost use Rattle.std.specs.List.{AllByRecursion};
-ghost use Rattle.sqlite.specs.State.{HasCleanDisk};
+ghost use Rattle.sqlite.specs.State.{HasCleanDisk, Survives};
+ghost use Rattle.archive.specs.Store.{IsOfOpening};
 ghost use Rattle.sqlite.specs.Held.{state};
 ghost use Rattle.sqlite_value.specs.Order.{column};
 ghost use Rattle.sql_tables.specs.Rows.{content_in, IsFilled, meta_cells};
 ghost use Rattle.sql_opening.specs.Latest.{Remembers};
 ghost use Rattle.sql_schema.specs.Tables.{archive_schema};
 ghost use Rattle.sql_tables.specs.State.{Found, HasMeta, Idles, Rests};
-ghost use Rattle.sql_opening.specs.Opening.{has_number, has_bytes, judged_row, judged_as, Opens, OpensAll};
+ghost use Rattle.sql_opening.specs.Opening.{has_number, has_bytes, judged_row, judged_as, judged, Opens, OpensAll};
 
 use crate::checking::check_rows;
 use crate::latest::Latest;
@@ -141,4 +142,23 @@ pub fn open_all<S: Alter>(
     let latest = open_tables(alloc, conn, id, number)?;
     check_kept(conn)?;
     Ok(latest)
+}
+
+/// Why a store isn't opened whose tables are others than an archive's, behind a table `meta`: `WrongArchive` and `WrongReplica` as
+/// that one says, the archive first, and else `Refused`.
+pub fn refusal_by_meta<S: Alter>(
+    conn: &mut Connection<S>,
+    id: &Uuid,
+    number: ReplicaNo,
+) -> StoreFault
+    requires rests { HasCleanDisk (state S.Store conn.old) → Rests (state S.Store conn.old) }
+    requires known { HasCleanDisk (state S.Store conn.old) → HasMeta (state S.Store conn.old).now.schema }
+    ensures wrong { HasCleanDisk (state S.Store conn.new) → IsOfOpening result → judged id.now number (meta_cells (state S.Store conn.old).now.trees) ≡ Err result }
+    ensures crash { Survives (state S.Store conn.old) (state S.Store conn.new) (λ _. ⊥) }
+{
+    match judge(conn, id, number, 2) {
+        Ok(Ok(())) => StoreFault::Refused,
+        Ok(Err(fault)) => fault,
+        Err(fault) => fault,
+    }
 }

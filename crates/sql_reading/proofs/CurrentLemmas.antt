@@ -1,11 +1,11 @@
 -- What the rows of currents2 stand for: the live values of a node.
-use Rattle.std.proofs.Common.{◌≡◌, ℕ, ℤ, pos, ◌≤◌, ◌≤ℤ◌, Bool, true, false, not, ◌&&◌, ◌||◌, cond, nat_lt, List, [], ◌∷◌, map, filter, take, is_some, Option, Some, None, Ok, refl, sym, ap, ap₂, subst, ◌∙◌, inl, inr, ◌⊎◌, arith, append-nil, Ordering, Less, Equal, Greater, is_eq, is_gt, is_lt, IsPermutation, zero, suc}
+use Rattle.std.proofs.Common.{◌≡◌, ℕ, ℤ, pos, ◌≤◌, ◌≤ℤ◌, Bool, true, false, not, ◌&&◌, ◌||◌, cond, nat_lt, length, lt-ltb, ◌↔◌, List, [], ◌∷◌, map, filter, take, is_some, Option, Some, None, Ok, refl, sym, ap, ap₂, subst, ◌∙◌, inl, inr, ◌⊎◌, arith, append-nil, Ordering, Less, Equal, Greater, is_eq, is_gt, is_lt, IsPermutation, zero, suc}
 use Rattle.std.specs.List.{flat_map, cons_option, list_any}
 use Rattle.std.specs.Cmp.{IsTotalOrder}
 use Rattle.std.specs.Bool.{one_answer}
 use Rattle.std.specs.Ordering.{int_cmp, int_eq, nat_cmp, on, ordering_then, ordering_reverse, is_ge, is_le, is_ne}
 use Rattle.std.proofs.lemmas.Cmp.{on_total, then_total, tied_itself}
-use Rattle.std.proofs.lemmas.Bool.{true≢false, and_parts, and_from}
+use Rattle.std.proofs.lemmas.Bool.{true≢false, and_parts, and_from, cases_lt, cases_Bool}
 use Rattle.std.proofs.lemmas.Bool.Decides.{nat_tests, Decides-int_eq}
 use Rattle.std.proofs.lemmas.Int.{ints}
 use Rattle.std.proofs.lemmas.List.Sorted.{IsPermutation-trans}
@@ -38,11 +38,12 @@ use Rattle.records.specs.declared.record.Record.{Record}
 use Rattle.records.specs.declared.shown.Held.{Held}
 use Rattle.records.proofs.Same.{Decides-is_same}
 use Rattle.records.proofs.Orders.{stamp_total}
-use Rattle.records.proofs.ContentLemmas.{vec_bounds}
+use Rattle.records.proofs.ContentLemmas.{vec_bounds, vec_attained}
+use Rattle.records.proofs.GreatestLemmas.{last_of_last}
 use Rattle.records.proofs.CloseLemmas.{closed_stamps}
 use Rattle.records.proofs.FoundLemmas.{last_more}
 use Rattle.records.proofs.Moments.{in_order}
-use Rattle.records.proofs.LatestLemmas.{latest_written, story_rises, story_has}
+use Rattle.records.proofs.LatestLemmas.{latest_last, latest_written, story_rises, story_has}
 use Rattle.records.proofs.Sorting.{all-has, all_from_has, has-filter, has_from_filter, has-sort_by, has_from_sort_by, rises-sort_by, pairwise-filter, same_members, asymmetric, irreflexive}
 use Rattle.archive.specs.Reading.{times, in_direction, is_past}
 use Rattle.archive.specs.Store.{IsLawfulContent}
@@ -51,14 +52,16 @@ use Rattle.archive.specs.declared.reading.Direction.TheVariants.{Forward, Backwa
 use Rattle.archive.proofs.Turning.{has-map, has_from_map, has-in_direction, pairwise-map}
 use Rattle.archive.proofs.Timing.{times_rise, has_from_get}
 use Rattle.sql_tables.specs.Words.{cells, IsPage}
-use Rattle.sql_tables.specs.Rows.{row_of, content_in, IsFilled}
-use Rattle.sql_tables.specs.Derived.{same, is_later, is_other, flag, int_in, current_of, currents_of, current_columns, AreKept}
+use Rattle.sql_tables.specs.Rows.{row_of, content_in, IsFilled, AreRecords}
+use Rattle.sql_reading.specs.Tables.{current_row, last_row, AreCurrents, AreLasts}
+use Rattle.sql_tables.proofs.KeptLemmas.{newer_is, not_above, is_above as is_above_number, same_origins}
+use Rattle.sql_tables.specs.Derived.{same, is_later, is_other, is_newer, last_of, vectors_of, vector_columns, flag, int_in, current_of, currents_of, current_columns, AreKept}
 use Rattle.sql_tables.specs.Currents.{is_live_after, is_live_before, current_order, AreNextCurrents, values_in, helds_in}
 use Rattle.sql_reading.specs.Walking.{moment_at, IsPlace, stretch, values_at}
 use Rattle.sql_tables.proofs.QueryLemmas.{equals}
 use Rattle.sql_tables.proofs.RowLemmas.{each_record, content_is}
 use Rattle.sql_reading.proofs.StoryLemmas.{same_moment, nodes_as, numbers_cmp, filter_as}
-use Rattle.sql_tables.proofs.DerivedLemmas.{currents_permuted}
+use Rattle.sql_tables.proofs.DerivedLemmas.{currents_permuted, vectors_permuted}
 use Rattle.sql_reading.proofs.WalkLemmas.{along, along_total, turned_total, turned_rise}
 use Rattle.sql_reading.proofs.PageLemmas.{page_of, from_some, truly, compared, either_of, after_by, before_by, time_there}
 use Rattle.sql_reading.proofs.RangeLemmas.{flat_map-filter}
@@ -571,3 +574,135 @@ cut_all R v covers = filter_all (λ r. not (told.is_beyond v r)) R (all_from_has
   where
     below : (m n : ℕ) → n ≤ m → nat_lt m n ≡ false
     below m n le = grind (arith, nat_tests)
+
+-- ---- the tables, in the words of the records
+
+two_or_more : (xs : List Record) (r s : Record) → Has xs r → Has xs s → (s ≡ r → ⊥) → nat_lt 1 (length xs) ≡ true
+two_or_more [] r s h k apart = absurd h
+two_or_more (x ∷ []) r s h k apart = elim h [ inl e ↦ elim k [ inl f ↦ absurd (apart (sym f ∙ e)) | inr m ↦ absurd m ] | inr m ↦ absurd m ]
+two_or_more (x ∷ y ∷ xs) r s h k apart = lt-ltb 1 (length (x ∷ y ∷ xs)) (omega arith)
+
+another_one : (xs : List Record) (r : Record) → Rises told.stamp_cmp xs → Has xs r → nat_lt 1 (length xs) ≡ true → (s : Record) × Has xs s × (s ≡ r → ⊥)
+another_one [] r up h lt = absurd h
+another_one (x ∷ []) r up h lt = absurd (true≢false (sym lt))
+another_one (x ∷ y ∷ xs) r up h lt = elim h [
+  | inl e ↦ (y, inr (inl refl), λ f. irreflexive told.stamp_cmp stamp_total x (subst (λ z. told.stamp_cmp x z ≡ Less) (f ∙ sym e) up.0.0))
+  | inr k ↦ (x, inl refl, λ f. irreflexive told.stamp_cmp stamp_total x (subst (λ z. told.stamp_cmp x z ≡ Less) (sym f) (all-has (λ z. told.stamp_cmp x z ≡ Less) (y ∷ xs) r up.0 k)))
+]
+
+has_last : (xs : List Record) (r : Record) → last xs ≡ Some r → Has xs r
+has_last xs r e = has_from_get xs _ r e
+
+live_flag : (asked : HistoryUpdateType) → binary (Compare Ne Binary) (Int (pos (update_number asked))) (Int (pos 4)) ≡ Int (pos (cond (told.is_delete asked) 0 1))
+live_flag asked = compared Ne (pos (update_number asked)) (pos 4) ∙ each asked
+  where
+    each : (a : HistoryUpdateType) → from_truth (Some (is_ne (int_cmp (pos (update_number a)) (pos 4)))) ≡ Int (pos (cond (told.is_delete a) 0 1))
+    each Insert = refl
+    each Replace = refl
+    each Update = refl
+    each Delete = refl
+
+map_in : {X Y : Type 0} (f g : X → Y) (xs : List X) → ((x : X) → Has xs x → f x ≡ g x) → map f xs ≡ map g xs
+map_in f g [] each = refl
+map_in f g (x ∷ xs) each = ap₂ ◌∷◌ (each x (inl refl)) (map_in f g xs (λ y h. each y (inr h)))
+
+module _ (R : Content) (l : IsLawfulContent R) where
+  in_its_story : (r : Record) → Has R r → Has (told.story R r.node r.time) r
+  in_its_story r h = (story_has R r.node r.time r).1 (h, refl, refl)
+
+  extra_is : (r : Record) → Has R r → (nat_lt 1 (length (told.story R r.node r.time)) ≡ true) ↔ HasOther R r
+  extra_is r h = (
+    λ e.
+        let s = another_one (told.story R r.node r.time) r (story_rises R r.node r.time (apart R l)) (in_its_story r h) e in
+        let k = (story_has R r.node r.time s.0).0 s.1 in
+        (s.0, k.0, k.1, k.2, s.2),
+    λ o. two_or_more (told.story R r.node r.time) r o.0 (in_its_story r h) ((story_has R r.node r.time o.0).1 (o.1, o.2, o.3)) o.4,
+  )
+
+  row_is : (r : Record) → Has R r → row R l r ≡ current_row R r
+  row_is r h =
+      let extra : list_any (is_other (row_of r)) (map row_of R) ≡ nat_lt 1 (length (told.story R r.node r.time)) =
+      extra_as R l r h ∙ sym (one_answer (nat_lt 1 (length (told.story R r.node r.time))) (list_any (is_another r) R) (extra_is r h) (other_is R l r h)) in
+      rw (live_flag r.asked, extra) refl
+
+  last_is_top : (r : Record) → last (told.story R r.node r.time) ≡ Some r → Has R r × (is_top R l r ≡ true)
+  last_is_top r e =
+      let up = story_rises R r.node r.time (apart R l) in
+      let there = (story_has R r.node r.time r).0 (has_last (told.story R r.node r.time) r e) in
+      (there.0, top_of R l r (record { there = there.0; above = λ s k node time. last_greatest (told.story R r.node r.time) r up e s ((story_has R r.node r.time s).1 (k, node, time)) }))
+
+  top_is_last : (r : Record) → Has R r → is_top R l r ≡ true → last (told.story R r.node r.time) ≡ Some r
+  top_is_last r h top = latest_last R r (apart R l) (latest_of R l r h top)
+
+  once_each : (a b : Record) → is_eq (told.stamp_cmp a b) ≡ false → a ≡ b → ⊥
+  once_each a b off e = true≢false (sym (ap is_eq (tied_itself stamp_total a)) ∙ subst (λ z. is_eq (told.stamp_cmp a z) ≡ false) (sym e) off)
+
+  pub currents_are : (db : Trees) → AreRecords R db → AreKept db → AreCurrents R (map current_columns (db 4))
+  currents_are db stand kept = record {
+    records = tops R l;
+    are = subst (λ rows. IsPermutation rows (map current_columns (db 4)))
+        (rows_are R l ∙ map_in (row R l) (current_row R) (tops R l) (λ r h. row_is r (has_from_filter (is_top R l) R r h).0))
+        (IsPermutation-trans (currents_of (map row_of R)) (currents_of (cells (db 1))) (map current_columns (db 4)) (currents_permuted (map row_of R) (cells (db 1)) stand) kept.currents);
+    each = λ r. (
+      λ h. let k = has_from_filter (is_top R l) R r h in top_is_last r k.0 k.1,
+      λ e. let k = last_is_top r e in has-filter (is_top R l) R r k.0 k.1,
+    );
+    once = pairwise_in (λ a b. is_eq (told.stamp_cmp a b) ≡ false) (λ a b. a ≡ b → ⊥) (tops R l) (λ a b h k off. once_each a b off) (pairwise-filter _ (is_top R l) R (apart R l));
+  }
+
+  -- ---- last numbers
+
+  abbrev is_newest : Record → Bool
+  is_newest r = not (list_any (λ s. is_newer (row_of r) (row_of s)) R)
+
+  newest_row : (r : Record) → Has R r → is_newest r ≡ true → r.number ≡ vec R r.origin
+  newest_row r h top = elim (vec_attained R r.origin) [
+    | inl zero_is ↦ let b = vec_bounds R r h in omega (arith, b, zero_is)
+    | inr w ↦
+        let s = w.0 in
+        let off = any_none (λ z. is_newer (row_of r) (row_of z)) R s (unflipped _ top) w.1 in
+        let b = vec_bounds R r h in
+        elim (cases_lt r.number s.number) [
+          | inl lt ↦ absurd (true≢false (sym (newer_is r s ∙ is_above_number s.origin r.origin s.number r.number w.2.0 lt) ∙ off))
+          | inr le ↦ omega (arith, b, w.2.1, le)
+        ]
+  ]
+    where
+      unflipped : (b : Bool) → not b ≡ true → b ≡ false
+      unflipped true e = absurd (true≢false (sym e))
+      unflipped false e = refl
+
+  row_newest : (r : Record) → Has R r → r.number ≡ vec R r.origin → is_newest r ≡ true
+  row_newest r h e = ap not (any_from_none (λ s. is_newer (row_of r) (row_of s)) R (all_from_has (λ s. is_newer (row_of r) (row_of s) ≡ false) R none))
+    where
+      none : (s : Record) → Has R s → is_newer (row_of r) (row_of s) ≡ false
+      none s k = elim (cases_Bool (is_eq (int_cmp (pos s.origin) (pos r.origin)))) [
+        | inl same_origin ↦
+            let from = same_origins s.origin r.origin same_origin in
+            let b = vec_bounds R s k in
+            let le : s.number ≤ r.number = omega (arith, b, e, ap (vec R) from) in
+            newer_is r s ∙ not_above s.number r.number (is_eq (int_cmp (pos s.origin) (pos r.origin))) le
+        | inr other ↦ newer_is r s ∙ ap (λ b. b && is_gt (int_cmp (pos s.number) (pos r.number))) other
+      ]
+
+  vectors_are : vectors_of (map row_of R) ≡ map (λ r. last_of (row_of r)) (filter is_newest R)
+  vectors_are =
+      ap (map last_of) (filter-map (λ c. not (list_any (is_newer c) (map row_of R))) row_of R
+      ∙ ap (map row_of) (filter_as _ is_newest R (λ r h. ap not (any_as (is_newer (row_of r)) (λ s. is_newer (row_of r) (row_of s)) row_of R (λ s k. refl)))))
+      ∙ twice last_of row_of (filter is_newest R)
+
+  last_row_is : (r : Record) → Has R r → r.number ≡ vec R r.origin → last_of (row_of r) ≡ last_row R r
+  last_row_is r h e = ap₂ (λ n t. Int (pos r.origin) ∷ Int (pos n) ∷ Int t ∷ []) e (last_of_last R r l.closed h e)
+
+  pub lasts_are : (db : Trees) → AreRecords R db → AreKept db → AreLasts R (map vector_columns (db 6))
+  lasts_are db stand kept = record {
+    records = filter is_newest R;
+    are = subst (λ rows. IsPermutation rows (map vector_columns (db 6)))
+        (vectors_are ∙ map_in (λ r. last_of (row_of r)) (last_row R) (filter is_newest R) (λ r h. let k = has_from_filter is_newest R r h in last_row_is r k.0 (newest_row r k.0 k.1)))
+        (IsPermutation-trans (vectors_of (map row_of R)) (vectors_of (cells (db 1))) (map vector_columns (db 6)) (vectors_permuted (map row_of R) (cells (db 1)) stand) kept.vectors);
+    each = λ r. (
+      λ h. let k = has_from_filter is_newest R r h in (k.0, newest_row r k.0 k.1),
+      λ k. has-filter is_newest R r k.0 (row_newest r k.0 k.1),
+    );
+    once = pairwise_in (λ a b. is_eq (told.stamp_cmp a b) ≡ false) (λ a b. a ≡ b → ⊥) (filter is_newest R) (λ a b h k off. once_each a b off) (pairwise-filter _ is_newest R (apart R l));
+  }

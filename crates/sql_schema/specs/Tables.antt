@@ -1,5 +1,5 @@
 -- The tables of the archive.
-use Rattle.std.specs.Prelude.{true, false, [], ◌∷◌, Some, None, codes, List, ℕ, pos, Bool}
+use Rattle.std.specs.Prelude.{◌≡◌, true, false, [], ◌∷◌, Some, None, codes, List, ℕ, pos, Bool}
 use Rattle.sqlite_value.specs.declared.keys.Collation.TheVariants.{Binary}
 use Rattle.sqlite_value.specs.declared.value.Value.TheVariants.{Null, Int}
 use Rattle.sqlite_value.specs.Keys.{plain}
@@ -140,3 +140,7 @@ third_table1 = record currents1 { tree = 4 }
 
 abbrev pub indexes1 : List Index
 indexes1 = index_of (codes "sqlite_autoindex_records_1") 2 1 (1 ∷ 2 ∷ []) ∷ index_of (codes "sqlite_autoindex_records_2") 3 1 (4 ∷ 5 ∷ 3 ∷ 1 ∷ []) ∷ index_of (codes "sqlite_autoindex_currents_1") 5 4 (1 ∷ 2 ∷ []) ∷ []
+
+-- the first of the tables is meta, as an archive has it, whatever stands behind it
+abbrev pub HasMeta : Schema → Type 0
+HasMeta schema = (rest : List Table) × (schema.tables ≡ first_table ∷ rest)

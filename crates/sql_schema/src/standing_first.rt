@@ -1,6 +1,6 @@
 //! Whether a store has the tables of format 1.
 
-ghost use Rattle.std.specs.Prelude.{◌≡◌, true, codes, IfOk, IsTrue};
+ghost use Rattle.std.specs.Prelude.{◌≡◌, true, codes, ◌↔◌, IfOk, IsTrue};
 ghost use Rattle.sql_schema.specs.Tables.{strict, records1, currents1, second_table1, third_table1, indexes1, schema1};
 
 use crate::standing::{
@@ -12,15 +12,14 @@ use std::alloc::{AllocError, Global};
 
 /// Whether these are the columns of a node and a time.
 fn are_timed(node: &Column, time: &Column) -> bool
-    ensures { IsTrue result → (node.now ≡ strict (codes "node") Kind.Blob true) × (time.now ≡ strict (codes "time") Kind.Integer true) }
+    ensures { IsTrue result ↔ ((node.now ≡ strict (codes "node") Kind.Blob true) × (time.now ≡ strict (codes "time") Kind.Integer true)) }
 {
     is_strict(node, b"node", Kind::Blob, true) && is_strict(time, b"time", Kind::Integer, true)
 }
 
 /// Whether these are the columns of a current value's node, time and stamp.
 fn are_current(node: &Column, time: &Column, tick: &Column, origin: &Column) -> bool
-    ensures placed { IsTrue result → (node.now ≡ strict (codes "node") Kind.Blob true) × (time.now ≡ strict (codes "time") Kind.Integer true) }
-    ensures stamped { IsTrue result → (tick.now ≡ strict (codes "tick") Kind.Integer true) × (origin.now ≡ strict (codes "origin") Kind.Integer true) }
+    ensures { IsTrue result ↔ ((node.now ≡ strict (codes "node") Kind.Blob true) × (time.now ≡ strict (codes "time") Kind.Integer true) × (tick.now ≡ strict (codes "tick") Kind.Integer true) × (origin.now ≡ strict (codes "origin") Kind.Integer true)) }
 {
     are_timed(node, time)
         && is_strict(tick, b"tick", Kind::Integer, true)
@@ -29,15 +28,14 @@ fn are_current(node: &Column, time: &Column, tick: &Column, origin: &Column) -> 
 
 /// Whether these are the columns behind a record's name and tick.
 fn are_behind(node: &Column, time: &Column, asked: &Column, who: &Column, value: &Column) -> bool
-    ensures placed { IsTrue result → (node.now ≡ strict (codes "node") Kind.Blob true) × (time.now ≡ strict (codes "time") Kind.Integer true) }
-    ensures asked { IsTrue result → (asked.now ≡ strict (codes "asked") Kind.Integer true) × (who.now ≡ strict (codes "who") Kind.Blob true) × (value.now ≡ strict (codes "value") Kind.Blob true) }
+    ensures { IsTrue result ↔ ((node.now ≡ strict (codes "node") Kind.Blob true) × (time.now ≡ strict (codes "time") Kind.Integer true) × (asked.now ≡ strict (codes "asked") Kind.Integer true) × (who.now ≡ strict (codes "who") Kind.Blob true) × (value.now ≡ strict (codes "value") Kind.Blob true)) }
 {
     are_timed(node, time) && are_asked(asked, who, value)
 }
 
 /// Whether the columns are those of `records`.
 fn are_columns_of_records(columns: &[Column]) -> bool
-    ensures { IsTrue result → columns.now ≡ records1.columns }
+    ensures { IsTrue result ↔ (columns.now ≡ records1.columns) }
 {
     match columns {
         [origin, number, tick, node, time, asked, who, value] => {
@@ -49,7 +47,7 @@ fn are_columns_of_records(columns: &[Column]) -> bool
 
 /// Whether the columns are those of `currents`.
 fn are_columns_of_currents(columns: &[Column]) -> bool
-    ensures { IsTrue result → columns.now ≡ currents1.columns }
+    ensures { IsTrue result ↔ (columns.now ≡ currents1.columns) }
 {
     match columns {
         [node, time, tick, origin, live, extra, value] => {
@@ -61,7 +59,7 @@ fn are_columns_of_currents(columns: &[Column]) -> bool
 
 /// Whether it is the table `records`.
 fn is_records(alloc: Global, table: &Table) -> Result<bool, AllocError>
-    ensures { IfOk result (λ same. IsTrue same → table.now ≡ second_table1) }
+    ensures { IfOk result (λ same. IsTrue same ↔ (table.now ≡ second_table1)) }
 {
     let unchecked = are_none(alloc, &table.checks)?;
     let unstamped = are_no_stamps(alloc, &table.stamps)?;
@@ -79,7 +77,7 @@ fn is_records(alloc: Global, table: &Table) -> Result<bool, AllocError>
 
 /// Whether it is the table `currents`.
 fn is_currents(alloc: Global, table: &Table) -> Result<bool, AllocError>
-    ensures { IfOk result (λ same. IsTrue same → table.now ≡ third_table1) }
+    ensures { IfOk result (λ same. IsTrue same ↔ (table.now ≡ third_table1)) }
 {
     let unchecked = are_none(alloc, &table.checks)?;
     let unstamped = are_no_stamps(alloc, &table.stamps)?;
@@ -97,7 +95,7 @@ fn is_currents(alloc: Global, table: &Table) -> Result<bool, AllocError>
 
 /// Whether these are the tables of format 1.
 fn are_tables(alloc: Global, tables: &[Table]) -> Result<bool, AllocError>
-    ensures { IfOk result (λ same. IsTrue same → tables.now ≡ schema1.tables) }
+    ensures { IfOk result (λ same. IsTrue same ↔ (tables.now ≡ schema1.tables)) }
 {
     match tables {
         [meta, records, currents, vectors] => Ok(
@@ -112,7 +110,7 @@ fn are_tables(alloc: Global, tables: &[Table]) -> Result<bool, AllocError>
 
 /// Whether these are the indexes of their keys.
 fn are_indexes(indexes: &[Index]) -> bool
-    ensures { IsTrue result → indexes.now ≡ indexes1 }
+    ensures { IsTrue result ↔ (indexes.now ≡ indexes1) }
 {
     match indexes {
         [names, times, currents] => {
@@ -127,7 +125,7 @@ fn are_indexes(indexes: &[Index]) -> bool
 /// Whether the tables are those of format 1, and nothing else is there.
 #[tactic(auto, using(crate::proofs::StandingLemmas::is_first))]
 pub(crate) fn is_first(alloc: Global, schema: &Schema) -> Result<bool, AllocError>
-    ensures { IfOk result (λ same. IsTrue same → schema.now ≡ schema1) }
+    ensures { IfOk result (λ same. IsTrue same ↔ (schema.now ≡ schema1)) }
 {
     if !are_tables(alloc, schema.tables.as_slice())? {
         return Ok(false);

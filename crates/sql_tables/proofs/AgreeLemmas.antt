@@ -1,7 +1,7 @@
 -- What an opening asks of currents2 and of vectors.
 use Rattle.std.proofs.lemmas.Slice.Eq.{bytes_eq-Decides}
 use Rattle.std.proofs.lemmas.Map.Text.{is_eq-slice_cmp}
-use Rattle.std.proofs.Common.{Ok, Err, Result, IfSome, ◌≤ℤ◌, zero, suc, ◌+◌, Less, ◌≡◌, ◌⊎◌, inl, inr, arith, ℕ, ℤ, pos, negsuc, min, length, take, not, ◌&&◌, ◌||◌, ◌<ℤ◌, Bool, true, false, cond, List, [], ◌∷◌, ◌++◌, drop, map, filter, flat_map, codes, slice_get, Option, Some, None, refl, sym, ap, ap₂, subst, subst₂, ◌∙◌, IsPermutation, is_eq}
+use Rattle.std.proofs.Common.{rules, IsSomeAnd, Option, ◌-◌, ◌^◌, ◌≤◌, Ok, Err, Result, IfSome, ◌≤ℤ◌, zero, suc, ◌+◌, Less, ◌≡◌, ◌⊎◌, inl, inr, arith, ℕ, ℤ, pos, negsuc, min, length, take, not, ◌&&◌, ◌||◌, ◌<ℤ◌, Bool, true, false, cond, List, [], ◌∷◌, ◌++◌, drop, map, filter, flat_map, codes, slice_get, Option, Some, None, refl, sym, ap, ap₂, subst, subst₂, ◌∙◌, IsPermutation, is_eq}
 use Rattle.std.specs.List.{list_any, list_all, AllByRecursion}
 use Rattle.std.specs.Ordering.{int_cmp, on}
 use Rattle.std.specs.Cmp.{IsTotalOrder}
@@ -35,10 +35,10 @@ use Rattle.sqlite_rules.specs.Lists.{Has}
 use Rattle.sqlite_keyed.proofs.ListLemmas.{map-map, filter_same, filter-map, ascending_from_map, all_unmap}
 use Rattle.sqlite_tied.specs.Compute.{everything}
 use Rattle.sqlite.specs.Listing.{understood, reads_listing}
-use Rattle.sqlite.specs.Effect.{Database, Reads}
+use Rattle.sqlite.specs.Effect.{Database, Reads, ReadsFirst}
 use Rattle.sqlite.specs.Given.{IsPlain}
-use Rattle.sqlite.specs.State.{State, Shown}
-use Rattle.sqlite.proofs.Callers.{command_of, reads_as}
+use Rattle.sqlite.specs.State.{State, Shown, Begins}
+use Rattle.sqlite.proofs.Callers.{command_of, reads_as, begins_as}
 use Rattle.sqlite_resolve.specs.declared.compiled.Compiled.{Compiled}
 use Rattle.sqlite_resolve.specs.declared.error.CompileError.{CompileError}
 use Rattle.std.proofs.lemmas.List.{map-append, length-append}
@@ -48,7 +48,7 @@ use Rattle.sqlite_schema.specs.declared.schema.Constraint.TheVariants.{Datatype}
 use Rattle.sql_schema.specs.Tables.{archive_schema, third_table, fourth_table}
 use Rattle.sql_tables.specs.Words.{cells, columns_of}
 use Rattle.sql_tables.specs.Derived.{AreNumbered, IsCells, is_later, is_other, is_newer, same, above, flag, current_of, currents_of, current_columns, last_of, vectors_of, vector_columns}
-use Rattle.sql_tables.specs.Agreeing.{command_in, ShowsOf, AreRising, HasCounted, HasEach, HasRisen}
+use Rattle.sql_tables.specs.Agreeing.{command_in, AreUncountable, ShowsOf, AreRising, HasCounted, HasEach, HasRisen}
 use Rattle.sqlite_schema.specs.declared.schema.Schema.{Schema}
 use Rattle.sql_tables.proofs.Texts.{currents_lack_text, currents_wanted_text, currents_held_text, vectors_lack_text, vectors_wanted_text, vectors_held_text}
 use Rattle.sql_tables.proofs.ApartLemmas.{apart-permuted, all-permuted}
@@ -604,13 +604,27 @@ commands_alike (Err e) = refl
 pub shows_of : (sql : List ℕ) (old new : State) (rows : List Row) → old.now.schema ≡ archive_schema → IsPlain (understood archive_schema sql) → reads_listing archive_schema sql ≡ false → Shown sql [] old new rows → ShowsOf sql old.now rows
 shows_of sql old new rows has plain unlisted h = subst (λ c. Reads c old.now [] rows) (commands_alike (understood archive_schema sql)) (reads_as sql [] old new archive_schema has (command_of (understood archive_schema sql)) refl plain unlisted rows h)
 
+pub begins_of : (sql : List ℕ) (s : State) (rows : List Row) → s.now.schema ≡ archive_schema → IsPlain (understood archive_schema sql) → reads_listing archive_schema sql ≡ false → Begins sql [] s rows
+    → ReadsFirst (command_in (understood archive_schema sql)) s.now [] rows
+begins_of sql s rows has plain unlisted h = subst (λ c. ReadsFirst c s.now [] rows) (commands_alike (understood archive_schema sql)) (begins_as sql [] s s archive_schema has (command_of (understood archive_schema sql)) refl plain unlisted rows h)
+
 -- ---- one row more
+
+all_has : {X : Type 0} (P : X → Type 0) (xs : List X) (x : X) → AllByRecursion P xs → Has xs x → P x
+all_has P [] x all none = absurd none
+all_has P (y ∷ xs) x all (inl e) = subst P (sym e) all.0
+all_has P (y ∷ xs) x all (inr has) = all_has P xs x all.1 has
+
+has_last : {X : Type 0} (xs : List X) (x : X) → Has (xs ++ x ∷ []) x
+has_last [] x = inl refl
+has_last (y ∷ xs) x = inr (has_last xs x)
 
 pub risen_more : (rows : List Row) (row : Row) (before after : Ids) (id : ℤ) → HasRisen rows before → column row 0 ≡ Int id → IfSome before.last (λ last. last <ℤ id) → after.last ≡ Some id → after.count ≡ before.count + 1 → HasRisen (rows ++ row ∷ []) after
 risen_more rows row before after id w is up last count = record {
   numbers = w.numbers ++ id ∷ [];
   rise = record { are = map-append (λ r. column r 0) rows (row ∷ []) ∙ ap₂ ◌++◌ w.rise.are (ap (λ v. v ∷ []) is) ∙ sym (map-append Int w.numbers (id ∷ [])); rising = rises w.numbers w.rise.rising (all_below before.last w.below up w.none) };
   below = subst (λ o. IfSome o (λ l. AllByRecursion (λ i. i ≤ℤ l) (w.numbers ++ id ∷ []))) (sym last) (bounded w.numbers (all_below before.last w.below up w.none));
+  reached = subst (λ o. IfSome o (Has (w.numbers ++ id ∷ []))) (sym last) (has_last w.numbers id);
   none = λ e. absurd (let bad = sym last ∙ e in cc);
   many = count ∙ ap (λ n. n + 1) w.many ∙ sym (length-append rows (row ∷ []));
 }
@@ -640,4 +654,46 @@ risen_more rows row before after id w is up last count = record {
     bounded (y ∷ ys) all = (omega (arith, ints, all.0), bounded ys all.1)
 
 pub none_risen : (ids : Ids) → ids.last ≡ None → ids.count ≡ 0 → HasRisen [] ids
-none_risen ids last count = record { numbers = []; rise = record { are = refl; rising = tt }; below = subst (λ o. IfSome o (λ l. AllByRecursion (λ i. i ≤ℤ l) [])) (sym last) tt; none = λ e. refl; many = count }
+none_risen ids last count = record { numbers = []; rise = record { are = refl; rising = tt }; below = subst (λ o. IfSome o (λ l. AllByRecursion (λ i. i ≤ℤ l) [])) (sym last) tt; reached = subst (λ o. IfSome o (Has [])) (sym last) tt; none = λ e. refl; many = count }
+
+-- ---- rows that can't be counted
+
+-- the last one's first column is no whole number
+pub not_whole : (rows : List Row) (row : Row) (ids : List ℤ) → ((n : ℤ) → column row 0 ≡ Int n → ⊥) → map (λ r. column r 0) (rows ++ row ∷ []) ≡ map Int ids → ⊥
+not_whole [] row [] none are = search rules
+not_whole [] row (i ∷ []) none are = none i cc
+not_whole [] row (i ∷ j ∷ ids) none are = search rules
+not_whole (r ∷ rows) row [] none are = search rules
+not_whole (r ∷ rows) row (i ∷ ids) none are = not_whole rows row ids none cc
+
+last_has : (rows : List Row) (row : Row) (id : ℤ) (ids : List ℤ) → column row 0 ≡ Int id → map (λ r. column r 0) (rows ++ row ∷ []) ≡ map Int ids → Has ids id
+last_has [] row id [] is are = absurd (search rules)
+last_has [] row id (i ∷ ids) is are = inl cc
+last_has (r ∷ rows) row id [] is are = absurd (search rules)
+last_has (r ∷ rows) row id (i ∷ ids) is are = inr (last_has rows row id ids is cc)
+
+-- the last one's is above those before it, where they rise
+above_before : (rows : List Row) (row : Row) (before : List ℤ) (ids : List ℤ) (last id : ℤ) → map (λ r. column r 0) rows ≡ map Int before → map (λ r. column r 0) (rows ++ row ∷ []) ≡ map Int ids
+    → IsAscending (λ a b. a <ℤ b) ids → column row 0 ≡ Int id → Has before last → last <ℤ id
+above_before [] row [] ids last id were are rising is has = absurd has
+above_before [] row (b ∷ before) ids last id were are rising is has = absurd (search rules)
+above_before (r ∷ rows) row [] ids last id were are rising is has = absurd has
+above_before (r ∷ rows) row (b ∷ before) [] last id were are rising is has = absurd (search rules)
+above_before (r ∷ rows) row (b ∷ before) (i ∷ ids) last id were are rising is (inl e) =
+    let same : i ≡ last = cc in subst (λ n. n <ℤ id) same (all_has (λ n. i <ℤ n) ids id rising.0 (last_has rows row id ids is cc))
+above_before (r ∷ rows) row (b ∷ before) (i ∷ ids) last id were are rising is (inr has) = above_before rows row before ids last id (cc) (cc) rising.1 is has
+
+pub not_above : (rows : List Row) (row : Row) (before : Ids) (last id : ℤ) (ids : List ℤ) → HasRisen rows before → before.last ≡ Some last → column row 0 ≡ Int id → id ≤ℤ last → AreRising (rows ++ row ∷ []) ids → ⊥
+not_above rows row before last id ids w is was reached rising =
+    let has = subst (λ o. IfSome o (Has w.numbers)) is w.reached in
+    let up = above_before rows row w.numbers ids last id w.rise.are rising.are rising.rising was has in omega (arith, ints, up, reached)
+
+pub reached_by : (rows : List Row) (row : Row) (before : Ids) (id : ℤ) → HasRisen rows before → column row 0 ≡ Int id → IsSomeAnd before.last (λ last. id ≤ℤ last) → AreUncountable (rows ++ row ∷ [])
+reached_by rows row before id w is reached = inl (λ ids rising. go before.last refl reached ids rising)
+  where
+    go : (o : Option ℤ) → before.last ≡ o → IsSomeAnd o (λ last. id ≤ℤ last) → (ids : List ℤ) → AreRising (rows ++ row ∷ []) ids → ⊥
+    go (Some last) was r ids rising = not_above rows row before last id ids w was is r rising
+    go None was r ids rising = absurd r
+
+pub too_many : (rows : List Row) (row : Row) (ids : Ids) → HasRisen rows ids → 2 ^ 64 - 1 ≤ ids.count → 2 ^ 64 - 1 ≤ length (rows ++ row ∷ [])
+too_many rows row ids w many = omega (arith, w.many, many, length-append rows (row ∷ []))

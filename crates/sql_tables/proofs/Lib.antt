@@ -12,5 +12,6 @@ pub mod AgreedLemmas
 pub mod FreeLemmas
 pub mod QueryLemmas
 pub mod RowLemmas
+pub mod UnreadLemmas
 pub mod LearnLemmas
 pub mod AskLemmas

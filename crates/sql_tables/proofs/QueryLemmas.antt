@@ -1,5 +1,5 @@
 -- What the queries answer.
-use Rattle.std.proofs.Common.{◌≡◌, inl, inr, ℕ, ℤ, pos, negsuc, List, [], ◌∷◌, ◌++◌, map, filter, flat_map, codes, cond, Bool, true, false, ◌&&◌, Some, None, refl, sym, ap, ap₂, subst, ◌∙◌, IsPermutation, IsSorted, Ordering, is_eq, is_lt}
+use Rattle.std.proofs.Common.{◌≡◌, ℕ, ℤ, pos, negsuc, List, [], ◌∷◌, ◌++◌, map, filter, flat_map, codes, cond, Bool, true, false, ◌&&◌, Some, None, refl, sym, ap, ap₂, subst, ◌∙◌, IsPermutation, IsSorted, Ordering, is_eq, is_lt}
 use Rattle.std.specs.List.{list_all, AllByRecursion}
 use Rattle.std.specs.Ordering.{ordering_then}
 use Rattle.std.proofs.lemmas.List.Elements.{recursion_from_All, All-from_recursion}
@@ -24,12 +24,18 @@ use Rattle.sqlite_exec.proofs.RowsLemmas.{IsSorted-map}
 use Rattle.sqlite_exec.proofs.PartitionLemmas.{IsSorted-from_map}
 use Rattle.sqlite_schema.specs.declared.command.Command.TheVariants.{Select}
 use Rattle.sqlite_schema.specs.declared.schema.Schema.{Schema}
+use Rattle.sqlite_schema.specs.declared.schema.Table.{Table}
+use Rattle.sqlite_schema.specs.declared.schema.Index.{Index}
+use Rattle.sqlite_schema.specs.declared.schema.View.{View}
+use Rattle.sql_schema.specs.Tables.{first_table}
 use Rattle.sqlite_tied.specs.Compute.{everything}
-use Rattle.sqlite.specs.Listing.{understood, reads_listing}
-use Rattle.sqlite.specs.State.{State, Shown, ShowsRows, IsUnchanged}
+use Rattle.sqlite.specs.Effect.{Database}
+use Rattle.sqlite_resolve.specs.declared.compiled.Compiled.{Compiled}
+use Rattle.sqlite.specs.Listing.{understood, reads_listing, IsSourceOf}
+use Rattle.sqlite.specs.State.{State, Shown, Begins, IsStatement, ShowsRows, IsUnchanged}
 use Rattle.sqlite.specs.Clock.{timed}
-use Rattle.sqlite.proofs.Callers.{IsPlain, command_of, reads_as}
-use Rattle.sql_schema.specs.Tables.{schema1, archive_schema}
+use Rattle.sqlite.proofs.Callers.{IsPlain, EndsIn, command_of, reads_as, begins_shown}
+use Rattle.sql_schema.specs.Tables.{archive_schema}
 use Rattle.sql_tables.specs.Words.{columns_of, cells, is_at, is_named, is_behind, is_after, is_before, IsPage, name_order, moment_order, stamp_cmp}
 use Rattle.sql_tables.specs.State.{AreAt, HasMeta, shown_of}
 use Rattle.sql_tables.specs.Rows.{meta_columns, meta_cells}
@@ -220,6 +226,27 @@ finds_all old new rows has h =
     let same : rows ≡ all.0 = all.3 in
     subst (λ xs. IsPermutation xs rows) (every (cells (old.now.trees 1))) (subst (IsPermutation (filter (λ _. true) (cells (old.now.trees 1)))) (sym same) all.1)
 
+-- by name
+pub finds_in_order : (old new : State) (rows : List Row) → old.now.schema ≡ archive_schema → Shown all_text [] old new rows → IsPermutation (cells (old.now.trees 1)) rows × IsSorted name_order rows
+finds_in_order old new rows has h =
+    let got = reads_as all_text [] old new old.now.schema refl _ (all_in old.now.schema has).0 (all_in old.now.schema has).2 (all_in old.now.schema has).1 rows h in
+    let all = answered 1 [] each by_name all_rows [] columns_of (λ _. true) (λ c. column c 0 ∷ column c 1 ∷ []) (λ r. refl) (λ r. refl) old.now.trees rows (got.answer Null) in
+    let same : rows ≡ all.0 = all.3 in
+    let sorted = sorted_alike (λ a b. key_cmp 0 (map (λ (k : Term × Key). k.1) by_name) (column a 0 ∷ column a 1 ∷ []) (column b 0 ∷ column b 1 ∷ [])) name_order
+    (λ a b. ap (ordering_then (value_cmp (column a 0) (column b 0))) (then-Equal (value_cmp (column a 1) (column b 1)))) all.0 all.2 in
+    (finds_all old new rows has h, subst (IsSorted name_order) (sym same) sorted)
+
+-- no more than the first rows need be read
+pub begins_named : (s : State) (rows : List Row) → s.now.schema ≡ archive_schema → IsUnchanged s s → Begins all_text [] s rows
+    → (rest : List Row) × IsPermutation (cells (s.now.trees 1)) (rows ++ rest) × IsSorted name_order (rows ++ rest)
+begins_named s rows has same h = let found = finds_in_order s s (rows ++ read.0) has read.1 in (read.0, found.0, found.1)
+  where
+    ends : (c : Compiled) (db : Database) (it : IsStatement s all_text [] c) → IsSourceOf (reads_listing s.now.schema all_text) s.now db → EndsIn c.command db (timed [] c.formats it.now)
+    ends c db it source = subst (λ k. EndsIn k db (timed [] c.formats it.now)) (sym (ap command_of (sym it.is) ∙ (all_in s.now.schema has).0)) tt
+
+    read : (rest : List Row) × Shown all_text [] s s (rows ++ rest)
+    read = begins_shown all_text [] s s rows h same ends
+
 pub shown_all : (rows all : List Row) → IsPermutation (cells rows) all → map shown_of all ≡ all
 shown_all rows all same = shown_whole (λ _. true) rows all (subst (λ xs. IsPermutation xs all) (sym (every (cells rows))) same)
 
@@ -231,17 +258,12 @@ whose = col 1 0 ∷ col 1 2 ∷ col 1 3 ∷ col 1 4 ∷ []
 abbrev IsWhoseIn : Schema → Type 0
 IsWhoseIn schema = (command_of (understood schema whose_text) ≡ Select (record { lets = []; body = simple 0 [] whose [] all_rows }) (codes "one" ∷ codes "format" ∷ codes "archive" ∷ codes "replica" ∷ [])) × (reads_listing schema whose_text ≡ false) × IsPlain (understood schema whose_text)
 
-whose_is : IsWhoseIn archive_schema
+begun_is : (rest : List Table) (ix : List Index) (vs : List View) → IsWhoseIn (record { tables = first_table ∷ rest; indexes = ix; views = vs })
 unfolding understood everything
-whose_is = (refl, refl, (refl, refl))
-
-whose_first : IsWhoseIn schema1
-unfolding understood everything
-whose_first = (refl, refl, (refl, refl))
+begun_is rest ix vs = (refl, refl, (refl, refl))
 
 whose_in : (schema : Schema) → HasMeta schema → IsWhoseIn schema
-whose_in schema (inl is) = subst IsWhoseIn (sym is) whose_is
-whose_in schema (inr first) = subst IsWhoseIn (sym first) whose_first
+whose_in schema (rest, is) = subst IsWhoseIn (sym (ap (λ ts. record { tables = ts; indexes = schema.indexes; views = schema.views }) is)) (begun_is rest schema.indexes schema.views)
 
 pub whose_plain : (schema : Schema) → HasMeta schema → IsPlain (understood schema whose_text)
 whose_plain schema known = (whose_in schema known).2

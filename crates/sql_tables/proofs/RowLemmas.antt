@@ -1,5 +1,5 @@
 -- A content and the rows that stand for it.
-use Rattle.std.proofs.Common.{◌≡◌, false, List, [], ◌∷◌, map, refl, ap, subst, ◌∙◌, inl, inr, Ordering, Less, Equal, Greater, is_eq, IsPermutation}
+use Rattle.std.proofs.Common.{◌≡◌, false, List, [], ◌∷◌, map, refl, ap, subst, ◌∙◌, inl, inr, Ordering, Less, Equal, Greater, is_eq, IsPermutation, Ok}
 use Rattle.std.specs.List.{flat_map, AllByRecursion}
 use Rattle.std.specs.Ordering.{ordering_reverse}
 use Rattle.std.specs.Cmp.{IsTotalOrder}
@@ -28,9 +28,13 @@ fits : (r : Record) → IsRecord r → record_form.Fits r
 unfolding record_form
 fits r h = h
 
+-- what the row of a record spells is read as that record
+pub read_back : (r : Record) → IsRecord r → record_at (spelled (row_of r)) ≡ Ok r
+read_back r h = ap record_at (spelled_is r) ∙ record_only (record_form.canon r) r (record_lawful.written r (fits r h))
+
 -- the row of a record stands for it
 pub record_again : (r : Record) → IsRecord r → records_in (row_of r) ≡ r ∷ []
-record_again r h = ap found (ap record_at (spelled_is r) ∙ record_only (record_form.canon r) r (record_lawful.written r (fits r h)))
+record_again r h = ap found (read_back r h)
 
 pub each_record : (R : Content) → IsLawfulContent R → (r : Record) → Has R r → IsRecord r
 each_record R l r h = (l.records r h, l.closed.ticks r h)

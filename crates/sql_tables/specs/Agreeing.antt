@@ -1,5 +1,5 @@
 -- Whether currents2 and vectors hold the rows that follow from those of records2, as an opening finds out.
-use Rattle.std.specs.Prelude.{◌≡◌, ℕ, ℤ, ◌<ℤ◌, ◌≤ℤ◌, List, [], length, map, IsPermutation, None, IfSome, Result, Ok, Err}
+use Rattle.std.specs.Prelude.{◌≡◌, ◌⊎◌, ℕ, ◌-◌, ◌^◌, ◌≤◌, ℤ, ◌<ℤ◌, ◌≤ℤ◌, List, [], length, map, IsPermutation, None, IfSome, Result, Ok, Err}
 use Rattle.std.specs.List.{AllByRecursion}
 use Rattle.sqlite_value.specs.declared.value.Value.TheVariants.{Int}
 use Rattle.sqlite_value.specs.Order.{Row, column}
@@ -9,7 +9,7 @@ use Rattle.sqlite_resolve.specs.declared.compiled.Compiled.{Compiled}
 use Rattle.sqlite_resolve.specs.declared.error.CompileError.{CompileError}
 use Rattle.sqlite_rules.specs.Lists.{Has}
 use Rattle.sqlite_trees.specs.Tree.{Trees, IsAscending}
-use Rattle.sqlite.specs.Effect.{Database, Reads}
+use Rattle.sqlite.specs.Effect.{Database, Reads, ReadsFirst}
 use Rattle.sqlite.specs.Listing.{understood}
 use Rattle.sql_tables.specs.declared.agreeing.Ids.{Ids}
 use Rattle.sql_schema.specs.Tables.{archive_schema}
@@ -34,6 +34,7 @@ pub record HasRisen (rows : List Row) (ids : Ids) : Type 0 where
   pub numbers : List ℤ
   pub rise : AreRising rows numbers
   pub below : IfSome ids.last (λ last. AllByRecursion (λ i. i ≤ℤ last) numbers)
+  pub reached : IfSome ids.last (Has numbers)
   pub none : ids.last ≡ None → rows ≡ []
   pub many : ids.count ≡ length rows
 
@@ -44,6 +45,16 @@ pub record HasCounted (sql : List ℕ) (db : Database) (count : ℕ) : Type 0 wh
   pub numbers : List ℤ
   pub rise : AreRising rows numbers
   pub many : count ≡ length rows
+
+-- the first columns aren't whole numbers that rise, or there are too many rows to be counted
+abbrev pub AreUncountable : List Row → Type 0
+AreUncountable rows = ((ids : List ℤ) → AreRising rows ids → ⊥) ⊎ (2 ^ 64 - 1 ≤ length rows)
+
+-- the text begins with such rows
+pub record BeginsUncountable (sql : List ℕ) (db : Database) : Type 0 where
+  pub rows : List Row
+  pub shown : ReadsFirst (command_in (understood archive_schema sql)) db [] rows
+  pub so : AreUncountable rows
 
 -- the rows have each of these
 abbrev pub HasEach : List Row → List Row → Type 0

@@ -9,10 +9,10 @@ use Rattle.sqlite_value.specs.Order.{Row, column, bytes}
 use Rattle.sqlite_trees.specs.Objects.{number_in, catalog_tree}
 use Rattle.sqlite_trees.specs.Tree.{Trees}
 use Rattle.sqlite_catalog.specs.Listing.{Lists}
-use Rattle.records.specs.Lists.{sort_by}
+use Rattle.records.specs.Lists.{Has, sort_by}
 use Rattle.records.specs.Records.{name_cmp}
 use Rattle.records.specs.Contents.{Content}
-use Rattle.records.specs.Spelling.{record_at}
+use Rattle.records.specs.Spelling.{IsRecord, record_at}
 use Rattle.records.specs.Moments.{ticks_of, pico_of}
 use Rattle.ua_variant.specs.UpdateType.{update_number}
 use Rattle.records.specs.declared.record.Record.{Record}
@@ -22,6 +22,7 @@ use Rattle.sql_tables.specs.Words.{cells, cells_of}
 pub use Rattle.sql_tables.specs.Derived.{int_in}
 use Rattle.sql_schema.specs.Tables.{archive_schema}
 use Rattle.sql_tables.specs.Derived.{AreKept}
+use Rattle.sql_tables.specs.State.{shown_of}
 
 -- ---- records
 
@@ -42,6 +43,14 @@ found (Err e) = []
 -- the record that a row stands for, if there is one
 abbrev pub records_in : Row → List Record
 records_in row = found (record_at (spelled row))
+
+-- no record has this row
+abbrev pub IsNoRecords : Row → Type 0
+IsNoRecords row = (r : Record) → IsRecord r → shown_of row ≡ row_of r → ⊥
+
+-- one of these rows is no record's
+abbrev pub HasNoRecords : List Row → Type 0
+HasNoRecords rows = (row : Row) × Has rows row × IsNoRecords row
 
 -- the records in the tables, by name
 abbrev pub content_in : Trees → Content

@@ -1,5 +1,5 @@
 -- What a connection to an archive shows.
-use Rattle.std.specs.Prelude.{◌⊎◌, ◌≡◌, true, false, pos, List, ℕ, ℤ, [], ◌∷◌, filter, IsPermutation, IsSorted, IsTrue, Result, IfOk, IfErr}
+use Rattle.std.specs.Prelude.{◌≡◌, true, false, pos, List, ℕ, ℤ, [], ◌∷◌, filter, IsPermutation, IsSorted, IsTrue, Result, IfOk, IfErr}
 use Rattle.sqlite_value.specs.Order.{Row, column}
 use Rattle.sqlite_trees.specs.Tree.{Trees}
 use Rattle.sqlite_trees.specs.Objects.{catalog_tree}
@@ -10,17 +10,14 @@ use Rattle.archive.specs.Store.{fault_in, IsOfOpening}
 use Rattle.archive.specs.Listed.{is_broken}
 use Rattle.sqlite_schema.specs.declared.schema.Schema.{Schema}
 use Rattle.sqlite_value.specs.declared.value.Value.TheVariants.{Null, Int, Blob as Bytes}
-use Rattle.sql_schema.specs.Tables.{archive_schema, with_records, schema1}
+use Rattle.sql_schema.specs.Tables.{archive_schema, with_records}
+pub use Rattle.sql_schema.specs.Tables.{HasMeta}
 use Rattle.sql_tables.specs.Derived.{AreKept}
 use Rattle.sql_tables.specs.Words.{cells, is_at, stamp_cmp}
 
 -- the connection has the tables of an archive
 abbrev pub HasTables : State → Type 0
 HasTables s = s.now.schema ≡ archive_schema
-
--- the tables are those of an archive, or those of a store of format 1
-abbrev pub HasMeta : Schema → Type 0
-HasMeta schema = (schema ≡ archive_schema) ⊎ (schema ≡ schema1)
 
 -- open, nothing pending, whatever the tables
 pub record Rests (s : State) : Type 0 where

@@ -1,6 +1,6 @@
 //! Whether the tables of current values and of vectors hold the rows that follow from the records.
 
-ghost use Rattle.std.specs.Prelude.{◌≡◌, ◌++◌, ◌∷◌, [], false, length, map, ◌<ℤ◌, IfSome, List, IfOk, IfErr, OnOk, IsTrue};
+ghost use Rattle.std.specs.Prelude.{◌≡◌, ◌++◌, ◌∷◌, [], false, length, map, ◌<ℤ◌, ◌≤ℤ◌, IfSome, IsSomeAnd, List, IfOk, IfErr, OnOk, OnErr, IsTrue};
 ghost use Rattle.sqlite.specs.State.{HasCleanDisk, IsUnchanged, Survives};
 ghost use Rattle.sqlite.specs.Held.{state};
 ghost use Rattle.sqlite.specs.Given.{IsPlain};
@@ -12,7 +12,7 @@ ghost use Rattle.sql_tables.specs.Words.{cells};
 ghost use Rattle.sql_tables.specs.Derived.{AreKept, AreNumbered, currents_of, current_columns, vectors_of, vector_columns};
 ghost use Rattle.sql_tables.specs.Rows.{IsFilled};
 ghost use Rattle.sql_tables.specs.State.{Asked, Holds, Idles};
-ghost use Rattle.sql_tables.specs.Agreeing.{ShowsOf, HasRisen, HasCounted, HasEach, HasCurrents, HasVectors};
+ghost use Rattle.sql_tables.specs.Agreeing.{ShowsOf, HasRisen, HasCounted, AreUncountable, BeginsUncountable, HasEach, HasCurrents, HasVectors};
 
 use crate::decoding::int_at;
 use crate::statements::{fault_of, select};
@@ -37,7 +37,8 @@ fn no_ids() -> Ids
 
 /// Whether a number isn't above the last one.
 fn is_reached(last: Option<i64>, id: i64) -> bool
-    ensures { result ≡ false → IfSome last (λ before. before <ℤ id) }
+    ensures below { result ≡ false → IfSome last (λ before. before <ℤ id) }
+    ensures reached { IsTrue result → IsSomeAnd last (λ before. id ≤ℤ before) }
 {
     match last {
         Some(before) => id <= before,
@@ -48,7 +49,8 @@ fn is_reached(last: Option<i64>, id: i64) -> bool
 /// Goes on over one row more; it is refused where its number isn't above the last.
 fn next_id(ids: Ids, row: &Row) -> Result<Ids, StoreFault>
     ensures risen { (rows : List Columns) → HasRisen rows ids → IfOk result (HasRisen (rows ++ row.now ∷ [])) }
-    ensures met { IfErr result (λ fault. IsOfOpening fault → ⊥) }
+    ensures met { IfErr result (λ fault. fault ≡ StoreFault.Refused) }
+    ensures refused { (rows : List Columns) → HasRisen rows ids → OnErr result (AreUncountable (rows ++ row.now ∷ [])) }
 {
     let id = match int_at(row, 0) {
         Ok(id) => id,
@@ -66,7 +68,8 @@ fn next_id(ids: Ids, row: &Row) -> Result<Ids, StoreFault>
     }
 }
 
-/// How many rows a query shows, whose first columns have to rise. It goes over them one at a time.
+/// How many rows a query shows, whose first columns have to rise: it is refused where those of its first rows don't,
+/// or where there are too many. It goes over them one at a time.
 fn count_ids<S: Alter>(
     conn: &mut Connection<S>,
     sql: &str,
@@ -75,14 +78,14 @@ fn count_ids<S: Alter>(
     requires plain { IsPlain (understood archive_schema sql.now) }
     requires unlisted { reads_listing archive_schema sql.now ≡ false }
     ensures counted { HasCleanDisk (state S.Store conn.new) → IfOk result (λ told. IfOk told (HasCounted sql.now (state S.Store conn.old).now)) }
-    ensures met { IfOk result (λ told. IfErr told (λ fault. IsOfOpening fault → ⊥)) }
+    ensures met { IfOk result (λ told. IfErr told (λ fault. (fault ≡ StoreFault.Refused) × (HasCleanDisk (state S.Store conn.new) → BeginsUncountable sql.now (state S.Store conn.old).now))) }
     ensures same { HasCleanDisk (state S.Store conn.new) → OnOk result (IsUnchanged (state S.Store conn.old) (state S.Store conn.new)) }
     ensures refused { HasCleanDisk (state S.Store conn.new) → IfErr result (λ _. IsTrue (state S.Store conn.new).is_open → Holds (state S.Store conn.old) (state S.Store conn.new)) }
     ensures crash { Survives (state S.Store conn.old) (state S.Store conn.new) (λ _. ⊥) }
 {
     let mut ids = no_ids();
     let mut rows = conn.query(sql, &[])?;
-    'rows: for _ in 0..u64::MAX {
+    'rows: for gone in 0..u64::MAX {
         rows.advance()?;
         let Some(row) = rows.get() else {
             return Ok(Ok(ids.count));

@@ -1,6 +1,6 @@
 //! Rows as records.
 
-ghost use Rattle.std.specs.Prelude.{◌≡◌, ◌∷◌, ◌++◌, ◌<◌, ◌^◌, [], length, Some, IfOk, IfErr};
+ghost use Rattle.std.specs.Prelude.{◌≡◌, ◌⊎◌, ◌∷◌, ◌++◌, ◌<◌, ◌≤◌, ◌^◌, ℕ, ℤ, pos, List, [], length, Some, IfOk, IfErr, IsUtf8};
 ghost use Rattle.std.specs.List.{flat_map};
 ghost use Rattle.std.specs.Int.{w16, w64};
 ghost use Rattle.sqlite_value.specs.Order.{column, bytes};
@@ -8,7 +8,7 @@ ghost use Rattle.sqlite_value.specs.declared.value.Value.TheVariants as value;
 ghost use Rattle.sqlite_trees.specs.Objects.{number_in};
 ghost use Rattle.ua_binary.specs.Binary.{unsigned, signed, text};
 ghost use Rattle.records.specs.Spelling.{IsRecord};
-ghost use Rattle.sql_tables.specs.Rows.{int_in, spelled, records_in};
+ghost use Rattle.sql_tables.specs.Rows.{int_in, spelled, records_in, IsNoRecords, HasNoRecords};
 
 use archive::StoreFault;
 use records::{Record, RecordFault, read_record};
@@ -21,6 +21,7 @@ use ua_binary::{put_i64, put_text, put_u8, put_u16, put_u64};
 pub fn int_at(row: &Row, at: usize) -> Result<i64, RecordFault>
     ensures found { IfOk result (λ n. column row.now at ≡ value.Int n) }
     ensures err { IfErr result (λ fault. fault ≡ RecordFault.BadField) }
+    ensures other { IfErr result (λ _. (n : ℤ) → column row.now at ≡ value.Int n → ⊥) }
 {
     match row.get_ref(at) {
         Ok(ValueRef::Int(n)) => Ok(n),
@@ -32,6 +33,7 @@ pub fn int_at(row: &Row, at: usize) -> Result<i64, RecordFault>
 pub fn bytes_at(row: &Row, at: usize) -> Result<&[u8], RecordFault>
     ensures found { IfOk result (λ b. column row.now at ≡ value.Blob b.now) }
     ensures err { IfErr result (λ fault. fault ≡ RecordFault.BadField) }
+    ensures other { IfErr result (λ _. (b : List ℕ) → column row.now at ≡ value.Blob b → ⊥) }
 {
     match row.get_ref(at) {
         Ok(ValueRef::Blob(bytes)) => Ok(bytes),
@@ -43,6 +45,7 @@ pub fn bytes_at(row: &Row, at: usize) -> Result<&[u8], RecordFault>
 pub fn tick_at(row: &Row, at: usize) -> Result<i64, RecordFault>
     ensures found { IfOk result (λ n. int_in (column row.now at) ≡ n) }
     ensures err { IfErr result (λ fault. fault ≡ RecordFault.BadField) }
+    ensures other { IfErr result (λ _. (n : ℤ) → column row.now at ≡ value.Int n → ⊥) }
 {
     int_at(row, at)
 }
@@ -51,6 +54,7 @@ pub fn tick_at(row: &Row, at: usize) -> Result<i64, RecordFault>
 pub fn number_at(row: &Row, at: usize) -> Result<u64, RecordFault>
     ensures found { IfOk result (λ n. number_in (column row.now at) ≡ n) }
     ensures err { IfErr result (λ fault. fault ≡ RecordFault.BadField) }
+    ensures other { IfErr result (λ _. (n : ℕ) → column row.now at ≡ value.Int (pos n) → ⊥) }
 {
     match u64::try_from(int_at(row, at)?) {
         Ok(n) => Ok(n),
@@ -61,6 +65,7 @@ pub fn number_at(row: &Row, at: usize) -> Result<u64, RecordFault>
 fn byte_at(row: &Row, at: usize) -> Result<u8, RecordFault>
     ensures found { IfOk result (λ n. number_in (column row.now at) ≡ n) }
     ensures err { IfErr result (λ fault. fault ≡ RecordFault.BadField) }
+    ensures other { IfErr result (λ _. (n : ℕ) → n < 256 → column row.now at ≡ value.Int (pos n) → ⊥) }
 {
     match u8::try_from(number_at(row, at)?) {
         Ok(n) => Ok(n),
@@ -72,6 +77,7 @@ fn byte_at(row: &Row, at: usize) -> Result<u8, RecordFault>
 pub fn short_at(row: &Row, at: usize) -> Result<u16, RecordFault>
     ensures found { IfOk result (λ n. number_in (column row.now at) ≡ n) }
     ensures err { IfErr result (λ fault. fault ≡ RecordFault.BadField) }
+    ensures other { IfErr result (λ _. (n : ℕ) → n < 65536 → column row.now at ≡ value.Int (pos n) → ⊥) }
 {
     match u16::try_from(number_at(row, at)?) {
         Ok(n) => Ok(n),
@@ -80,7 +86,8 @@ pub fn short_at(row: &Row, at: usize) -> Result<u16, RecordFault>
 }
 
 fn text_at(row: &Row, at: usize) -> Result<&str, RecordFault>
-    ensures { IfOk result (λ s. (bytes (column row.now at) ≡ s.now) × (length s.now < 2 ^ 31)) }
+    ensures found { IfOk result (λ s. (bytes (column row.now at) ≡ s.now) × (length s.now < 2 ^ 31)) }
+    ensures other { IfErr result (λ _. (b : List ℕ) → IsUtf8 b → length b ≤ 256 → column row.now at ≡ value.Blob b → ⊥) }
 {
     match std::str::from_utf8(bytes_at(row, at)?) {
         Ok(text) if text.len() <= 256 => Ok(text),
@@ -89,15 +96,18 @@ fn text_at(row: &Row, at: usize) -> Result<&str, RecordFault>
 }
 
 fn push_bytes(out: &mut Vec<u8>, bytes: &[u8]) -> Result<(), RecordFault>
-    ensures { IfOk result (λ _. out.new.items ≡ out.old.items ++ bytes.now) }
+    ensures pushed { IfOk result (λ _. out.new.items ≡ out.old.items ++ bytes.now) }
+    ensures err { IfErr result (λ fault. fault ≡ RecordFault.OutOfMemory) }
 {
     out.extend_from_slice(bytes)?;
     Ok(())
 }
 
 /// Puts what a row spells before its node.
+#[tactic(auto, using(crate::proofs::UnreadLemmas::no_origin, crate::proofs::UnreadLemmas::no_number, crate::proofs::UnreadLemmas::no_tick))]
 fn put_head(out: &mut Vec<u8>, row: &Row) -> Result<(), RecordFault>
-    ensures { IfOk result (λ _. out.new.items ≡ out.old.items ++ ((2 ∷ []) ++ ((number_in (column row.now 0) ∷ []) ++ ((unsigned w64).canon (number_in (column row.now 1)) ++ (signed w64).canon (int_in (column row.now 2)))))) }
+    ensures spelled { IfOk result (λ _. out.new.items ≡ out.old.items ++ ((2 ∷ []) ++ ((number_in (column row.now 0) ∷ []) ++ ((unsigned w64).canon (number_in (column row.now 1)) ++ (signed w64).canon (int_in (column row.now 2)))))) }
+    ensures unread { IfErr result (λ fault. (fault ≡ RecordFault.OutOfMemory) ⊎ IsNoRecords row.now) }
 {
     put_u8(out, 2)?;
     put_u8(out, byte_at(row, 0)?)?;
@@ -107,8 +117,10 @@ fn put_head(out: &mut Vec<u8>, row: &Row) -> Result<(), RecordFault>
 }
 
 /// Puts what it spells from its node on.
+#[tactic(auto, using(crate::proofs::UnreadLemmas::no_node, crate::proofs::UnreadLemmas::no_time, crate::proofs::UnreadLemmas::no_pico, crate::proofs::UnreadLemmas::no_asked, crate::proofs::UnreadLemmas::no_user, crate::proofs::UnreadLemmas::no_value))]
 fn put_tail(out: &mut Vec<u8>, row: &Row) -> Result<(), RecordFault>
-    ensures { IfOk result (λ _. out.new.items ≡ out.old.items ++ (bytes (column row.now 3) ++ ((signed w64).canon (int_in (column row.now 4)) ++ ((unsigned w16).canon (number_in (column row.now 5)) ++ ((number_in (column row.now 6) ∷ []) ++ (text.canon (Some (bytes (column row.now 7))) ++ bytes (column row.now 8))))))) }
+    ensures spelled { IfOk result (λ _. out.new.items ≡ out.old.items ++ (bytes (column row.now 3) ++ ((signed w64).canon (int_in (column row.now 4)) ++ ((unsigned w16).canon (number_in (column row.now 5)) ++ ((number_in (column row.now 6) ∷ []) ++ (text.canon (Some (bytes (column row.now 7))) ++ bytes (column row.now 8))))))) }
+    ensures unread { IfErr result (λ fault. (fault ≡ RecordFault.OutOfMemory) ⊎ IsNoRecords row.now) }
 {
     push_bytes(out, bytes_at(row, 3)?)?;
     put_i64(out, int_at(row, 4)?)?;
@@ -120,7 +132,8 @@ fn put_tail(out: &mut Vec<u8>, row: &Row) -> Result<(), RecordFault>
 
 /// The bytes that a row spells.
 fn spelling(alloc: Global, row: &Row) -> Result<Vec<u8>, RecordFault>
-    ensures { IfOk result (λ b. b.items ≡ spelled row.now) }
+    ensures spelled { IfOk result (λ b. b.items ≡ spelled row.now) }
+    ensures unread { IfErr result (λ fault. (fault ≡ RecordFault.OutOfMemory) ⊎ IsNoRecords row.now) }
 {
     let mut out = Vec::new(alloc);
     put_head(&mut out, row)?;
@@ -128,11 +141,13 @@ fn spelling(alloc: Global, row: &Row) -> Result<Vec<u8>, RecordFault>
     Ok(out)
 }
 
-/// The record that a row of nine columns spells. `OutOfMemory` for want of memory; a row that spells no record is another fault
+/// The record that a row of nine columns spells. `OutOfMemory` for want of memory; a row that is no record's is another fault
 /// of its first field that can't be read.
+#[tactic(auto, using(crate::proofs::UnreadLemmas::unread_by))]
 pub fn decode(alloc: Global, row: &Row) -> Result<Record, RecordFault>
     ensures found { IfOk result (λ r. records_in row.now ≡ r ∷ []) }
     ensures lawful { IfOk result IsRecord }
+    ensures unread { IfErr result (λ fault. (fault ≡ RecordFault.OutOfMemory) ⊎ IsNoRecords row.now) }
 {
     let bytes = spelling(alloc, row)?;
     read_record(alloc, &bytes)
@@ -140,7 +155,8 @@ pub fn decode(alloc: Global, row: &Row) -> Result<Record, RecordFault>
 
 /// The records that rows spell, in their order, or the fault of the first that spells none; `OutOfMemory` for want of memory.
 pub fn decode_all(alloc: Global, rows: &[Row]) -> Result<Vec<Record>, RecordFault>
-    ensures { IfOk result (λ all. all.items ≡ flat_map records_in rows.now) }
+    ensures read { IfOk result (λ all. all.items ≡ flat_map records_in rows.now) }
+    ensures unread { IfErr result (λ fault. (fault ≡ RecordFault.OutOfMemory) ⊎ HasNoRecords rows.now) }
 {
     let mut all = Vec::new(alloc);
     for row in rows {

@@ -17,5 +17,5 @@ pub use queries::{
     Behind, Name, Next, Place, place_of, rows_at, rows_behind, rows_last, rows_named, rows_next,
     rows_of_meta,
 };
-pub use statements::{ask, fault_of, refusal_of, select, still_open};
+pub use statements::{ask, fault_of, refusal_of, select};
 pub use writes::{Cells, make_cells, store_record};

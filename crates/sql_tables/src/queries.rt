@@ -160,7 +160,7 @@ pub fn rows_behind<S: Alter>(
     )
 }
 
-/// The rows of meta, in an archive's tables as they are or as they were, or in those of format 1.
+/// The rows of meta, where it is the first table, whatever stands behind it.
 pub fn rows_of_meta<S: Alter>(conn: &mut Connection<S>) -> Result<Vec<Row>, StoreFault>
     requires rests { HasCleanDisk (state S.Store conn.old) → Rests (state S.Store conn.old) }
     requires known { HasCleanDisk (state S.Store conn.old) → HasMeta (state S.Store conn.old).now.schema }

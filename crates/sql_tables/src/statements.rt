@@ -1,6 +1,6 @@
 //! Statements over a connection, and what their faults tell.
 
-ghost use Rattle.std.specs.Prelude.{◌≡◌, ◌≢◌, ◌⊎◌, ⊤, IsTrue, IfOk, IfErr, OnOk};
+ghost use Rattle.std.specs.Prelude.{◌≡◌, ◌≢◌, ◌⊎◌, IsTrue, IfOk, IfErr, OnOk};
 ghost use Rattle.sqlite.specs.State.{HasCleanDisk, IsUnchanged, Shown, Survives};
 ghost use Rattle.sqlite.specs.Held.{state};
 ghost use Rattle.sqlite.specs.Values.{bound};
@@ -42,18 +42,6 @@ pub fn refusal_of(error: Error) -> StoreFault
     match error {
         Error::SqliteFailure(ErrorCode::OutOfMemory) => StoreFault::OutOfMemory,
         _ => StoreFault::Refused,
-    }
-}
-
-/// Nothing, where the connection is still open, and else `Broken`.
-pub fn still_open<S: Alter>(conn: &mut Connection<S>) -> Result<(), StoreFault>
-    requires { HasCleanDisk (state S.Store conn.old) → Idles (state S.Store conn.old) }
-    ensures { Asked (state S.Store conn.old) (state S.Store conn.new) result (λ _. ⊤) }
-{
-    if is_alive(conn) {
-        Ok(())
-    } else {
-        Err(StoreFault::Broken)
     }
 }
 

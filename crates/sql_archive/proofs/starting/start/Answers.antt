@@ -1,20 +1,22 @@
-use Rattle.std.proofs.Common.{◌∙◌, sym, inl, inr}
+use Rattle.std.proofs.Common.{◌∙◌, sym, subst}
 use Rattle.sqlite.specs.Held.{state}
+use Rattle.sql_schema.specs.Tables.{HasMeta}
 use Rattle.sql_opening.specs.Opening.{IsBegunIn}
-use Rattle.sql_archive.proofs.StartLemmas.{started_new, started_old, refused_by, opened_quiet, left_quiet, opened_new, left_new, started_renewed, opened_renewed, left_renewed}
+use Rattle.sql_schema.proofs.StandingLemmas.{archive_has_meta, first_has_meta}
+use Rattle.sql_archive.proofs.StartLemmas.{widened, started_new, started_old, refused_by, opened_quiet, left_quiet, opened_new, left_new, started_renewed, opened_renewed, left_renewed}
 use Rattle.sql_archive.proofs.starting.start.Goals as goal
 
 pub returns-in-Ok-Empty-clause-started : goal.returns-in-Ok-Empty-clause-started
 returns-in-Ok-Empty-clause-started g c =
-    started_new g.S.Store (state g.S.Store c.args.conn) c.args.id c.args.number c.make.result (sym c.schema.ensures.value ∙ c.in-Ok-Empty.ensures.empty c.in-Ok-Empty.field-0-is) c.make.ensures.made
+    started_new g.S.Store (state g.S.Store c.args.conn) c.args.id c.args.number c.make.result (sym c.schema.ensures.value ∙ c.in-Ok-Empty.ensures.empty.0 c.in-Ok-Empty.field-0-is) c.make.ensures.made
 
 pub returns-in-Ok-Archive-clause-started : goal.returns-in-Ok-Archive-clause-started
 returns-in-Ok-Archive-clause-started g c =
-    started_old g.S.Store (state g.S.Store c.args.conn) c.args.id c.args.number c.over.result (sym c.schema.ensures.value ∙ c.in-Ok-Archive.ensures.archive c.in-Ok-Archive.field-0-is) c.over.ensures.stored c.over.ensures.kept c.over.ensures.same
+    started_old g.S.Store (state g.S.Store c.args.conn) c.args.id c.args.number c.over.result (sym c.schema.ensures.value ∙ c.in-Ok-Archive.ensures.archive.0 c.in-Ok-Archive.field-0-is) c.over.ensures.stored c.over.ensures.kept c.over.ensures.same
 
 pub returns-in-Ok-Archive-clause-wrong : goal.returns-in-Ok-Archive-clause-wrong
 returns-in-Ok-Archive-clause-wrong g c =
-    refused_by g.S.Store (state g.S.Store c.args.conn) c.args.id c.args.number c.over.result (inl (sym c.schema.ensures.value ∙ c.in-Ok-Archive.ensures.archive c.in-Ok-Archive.field-0-is)) c.over.ensures.wrong
+    refused_by g.S.Store (state g.S.Store c.args.conn) c.args.id c.args.number c.over.result (archive_has_meta _ (sym c.schema.ensures.value ∙ c.in-Ok-Archive.ensures.archive.0 c.in-Ok-Archive.field-0-is)) c.over.ensures.wrong
 
 pub returns-in-Ok-Archive-clause-opened : goal.returns-in-Ok-Archive-clause-opened
 returns-in-Ok-Archive-clause-opened g c = opened_quiet g.S.Store (state g.S.Store c.args.conn) (IsBegunIn c.args.id c.args.number (state g.S.Store c.args.conn).now) c.over.result c.over.ensures.opened
@@ -24,11 +26,11 @@ returns-in-Ok-Archive-clause-left g c = left_quiet g.S.Store (state g.S.Store c.
 
 pub returns-in-Ok-Empty-clause-opened : goal.returns-in-Ok-Empty-clause-opened
 returns-in-Ok-Empty-clause-opened g c =
-    opened_new g.S.Store (state g.S.Store c.args.conn) c.args.id c.args.number c.make.result (sym c.schema.ensures.value ∙ c.in-Ok-Empty.ensures.empty c.in-Ok-Empty.field-0-is) c.make.ensures.opened
+    opened_new g.S.Store (state g.S.Store c.args.conn) c.args.id c.args.number c.make.result (sym c.schema.ensures.value ∙ c.in-Ok-Empty.ensures.empty.0 c.in-Ok-Empty.field-0-is) c.make.ensures.opened
 
 pub returns-in-Ok-Empty-clause-left : goal.returns-in-Ok-Empty-clause-left
 returns-in-Ok-Empty-clause-left g c =
-    left_new g.S.Store (state g.S.Store c.args.conn) c.args.id c.args.number c.make.result (sym c.schema.ensures.value ∙ c.in-Ok-Empty.ensures.empty c.in-Ok-Empty.field-0-is) c.make.ensures.left
+    left_new g.S.Store (state g.S.Store c.args.conn) c.args.id c.args.number c.make.result (sym c.schema.ensures.value ∙ c.in-Ok-Empty.ensures.empty.0 c.in-Ok-Empty.field-0-is) c.make.ensures.left
 
 pub take_over_first-requires-clause-rests : goal.take_over_first-requires-clause-rests
 take_over_first-requires-clause-rests g c clean = let o = c.requires.open clean in record { is_open = o.is_open; autocommit = o.autocommit; settled = sym o.clean }
@@ -38,10 +40,17 @@ returns-in-Ok-First-clause-started g c = started_renewed g.S.Store (state g.S.St
 
 pub returns-in-Ok-First-clause-wrong : goal.returns-in-Ok-First-clause-wrong
 returns-in-Ok-First-clause-wrong g c =
-    refused_by g.S.Store (state g.S.Store c.args.conn) c.args.id c.args.number c.take_over_first.result (inr (sym c.schema.ensures.value ∙ c.in-Ok-First.ensures.first c.in-Ok-First.field-0-is)) c.take_over_first.ensures.wrong
+    refused_by g.S.Store (state g.S.Store c.args.conn) c.args.id c.args.number c.take_over_first.result (first_has_meta _ (sym c.schema.ensures.value ∙ c.in-Ok-First.ensures.first.0 c.in-Ok-First.field-0-is)) c.take_over_first.ensures.wrong
 
 pub returns-in-Ok-First-clause-opened : goal.returns-in-Ok-First-clause-opened
 returns-in-Ok-First-clause-opened g c = opened_renewed g.S.Store (state g.S.Store c.args.conn) c.args.id c.args.number c.take_over_first.result c.take_over_first.ensures.opened
 
 pub returns-in-Ok-First-clause-left : goal.returns-in-Ok-First-clause-left
 returns-in-Ok-First-clause-left g c = left_renewed g.S.Store (state g.S.Store c.args.conn) c.args.id c.args.number c.take_over_first.result c.take_over_first.ensures.left
+
+pub returns-in-Ok-Begun-clause-wrong : goal.returns-in-Ok-Begun-clause-wrong
+returns-in-Ok-Begun-clause-wrong g c clean of =
+    record { schema = subst HasMeta c.schema.ensures.value (c.in-Ok-Begun.ensures.begun c.in-Ok-Begun.field-0-is); judged = c.refusal_by_meta-fault.ensures.wrong clean of }
+
+pub returns-in-Ok-Begun-clause-left : goal.returns-in-Ok-Begun-clause-left
+returns-in-Ok-Begun-clause-left g c = widened (state g.S.Store c.args.conn) (state g.S.Store c.refusal_by_meta-fault.new.conn) (IsBegunIn c.args.id c.args.number (state g.S.Store c.args.conn).now) c.refusal_by_meta-fault.ensures.crash

@@ -1,11 +1,13 @@
-use Rattle.std.proofs.Common.{◌≡◌, [], Result, Ok, Err, IfErr, IsTrue, None, IsPermutation, refl, ap, arith, rules, sym, subst, ◌∙◌}
+use Rattle.sql_opening.proofs.OpenLemmas.{begins_out}
+use Rattle.std.proofs.lemmas.List.{length-append}
+use Rattle.std.proofs.Common.{inl, inr, ◌∷◌, ◌≡◌, [], Result, Ok, Err, IfErr, IsTrue, None, IsPermutation, refl, ap, arith, rules, sym, subst, ◌∙◌}
 use Rattle.std.specs.Option.{option_copied}
 use Rattle.sqlite.specs.Given.{Advances, GivesOn, row_if}
 use Rattle.sqlite.specs.Effect.{Database}
 use Rattle.sqlite.specs.State.{State, HasCleanDisk, Survives, CommitsShowing, FailsToQuery}
 use Rattle.sqlite.specs.Held.{state}
-use Rattle.sqlite.proofs.StateLemmas.{survives_weaker}
-use Rattle.sqlite.proofs.Callers.{never_commits, begun_plain}
+use Rattle.sqlite.proofs.StateLemmas.{survives_weaker, survives_then}
+use Rattle.sqlite.proofs.Callers.{never_commits, begun_plain, unchanged_then, given_begin}
 use Rattle.sql_schema.specs.Tables.{archive_schema}
 use Rattle.sql_tables.specs.State.{Holds}
 use Rattle.sql_tables.specs.Words.{cells}
@@ -47,7 +49,7 @@ rows-init g c =
       commits_nothing old _ c.requires.known made.survives,
       λ clean.
           let begun = begun_plain g.S.Store all_text [] c.args.conn.now _ (all_plain old.now.schema (c.requires.known (omega (arith, made.survives.clean, clean)))) (made.begun clean) in
-          ([], begun.0, begun.1, c.start-walk.ensures),
+          ([], begun.0, begun.1, c.start-walk.ensures, refl),
     )
 
 pub returns-in_default-clause-checked : goal.returns-in_default-clause-checked
@@ -64,3 +66,50 @@ returns-in_default-clause-checked g c clean =
     let known = c.requires.known (omega (arith, c.rows.invariant.1.clean, moved.survives.clean, late)) in
     let tables = subst (λ x. x ≡ archive_schema) (sym (ap (λ (d : Database). d.schema) was.2.0.now_is)) known in
     (was.0, subst (λ (d : Database). IsPermutation (cells (d.trees 1)) was.0) was.2.0.now_is (finds_all (state g.S.Store mid) (state g.S.Store now) was.0 tables shown), was.3)
+
+pub returns-in-Err-clause-refuted : goal.returns-in-Err-clause-refuted
+returns-in-Err-clause-refuted g c clean =
+    let old = state g.S.Store c.args.conn.now in
+    let mid = c.rows.rows.conn.now in
+    let now = c.advance.new.self.conn.now in
+    let moved = c.in_ok-advance.ensures in
+    let late : HasCleanDisk (state g.S.Store now) = search rules in
+    let was = c.rows.invariant.2 (omega (arith, moved.survives.clean, late)) in
+    let on : Advances g.S.Store mid now (row_if c.advance.new.self.has_row now) = moved.ok late in
+    let some = sym c.get.ensures ∙ ap option_copied c.in-Some.is in
+    let given = subst (GivesOn g.S.Store all_text [] mid now was.0) some (on all_text [] was.0 was.1) in
+    let known = c.requires.known (omega (arith, c.rows.invariant.1.clean, moved.survives.clean, late)) in
+    let same = unchanged_then old (state g.S.Store mid) (state g.S.Store now) was.2 (moved.same late) in
+    elim (c.in-Err.ensures.refused was.0 was.3) [
+      | inl memory ↦ inl memory
+      | inr so ↦ inr (begins_out old (state g.S.Store now) _ known same (given_begin g.S.Store all_text [] now _ given) so)
+    ]
+
+pub returns-clause-refuted : goal.returns-clause-refuted
+returns-clause-refuted g c clean =
+    let old = state g.S.Store c.args.conn.now in
+    let mid = c.rows.rows.conn.now in
+    let late : HasCleanDisk (state g.S.Store mid) = search rules in
+    let was = c.rows.invariant.2 late in
+    let known = c.requires.known (omega (arith, c.rows.invariant.1.clean, late)) in
+    inr (begins_out old (state g.S.Store mid) was.0 known was.2 (given_begin g.S.Store all_text [] mid was.0 was.1) (inr (omega (arith, was.4, c.rows-test.false))))
+
+pub rows-preserved : goal.rows-preserved
+rows-preserved g c =
+    let old = state g.S.Store c.args.conn.now in
+    let mid = c.rows.rows.conn.now in
+    let now = c.advance.new.self.conn.now in
+    let moved = c.in_ok-advance.ensures in (
+      moved.same_reference ∙ c.rows.invariant.0,
+      survives_then old (state g.S.Store mid) (state g.S.Store now) _ _ _ (λ clean db none. none) (λ clean db none. none) c.rows.invariant.1 moved.survives,
+      λ clean.
+          let was = c.rows.invariant.2 (omega (arith, moved.survives.clean, clean)) in
+          let on : Advances g.S.Store mid now (row_if c.advance.new.self.has_row now) = moved.ok clean in
+          let some = sym c.get.ensures ∙ ap option_copied c.in-Some.is in (
+            _,
+            subst (GivesOn g.S.Store all_text [] mid now was.0) some (on all_text [] was.0 was.1),
+            unchanged_then old (state g.S.Store mid) (state g.S.Store now) was.2 (moved.same clean),
+            c.in-Ok.ensures.walked was.0 was.3,
+            omega (arith, was.4, length-append was.0 (c.in-Some.row.now ∷ [])),
+          ),
+    )

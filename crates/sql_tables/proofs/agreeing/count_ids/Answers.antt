@@ -1,17 +1,19 @@
-use Rattle.std.proofs.Common.{◌≡◌, [], Result, Ok, Err, IfErr, IsTrue, None, List, ℕ, refl, ap, arith, rules, sym, subst, ◌∙◌}
+use Rattle.std.proofs.Common.{◌∷◌, false, inr, ◌≡◌, [], Result, Ok, Err, IfErr, IsTrue, None, List, ℕ, refl, ap, arith, rules, sym, subst, ◌∙◌}
 use Rattle.std.specs.Option.{option_copied}
 use Rattle.sqlite.specs.Given.{IsPlain, Advances, GivesOn, row_if}
-use Rattle.sqlite.specs.Effect.{Database}
-use Rattle.sqlite.specs.Listing.{understood}
-use Rattle.sqlite.specs.State.{State, HasCleanDisk, Survives, CommitsShowing, FailsToQuery}
+use Rattle.sqlite.specs.Effect.{Database, ReadsFirst}
+use Rattle.sqlite.specs.Listing.{understood, reads_listing}
+use Rattle.sqlite_value.specs.Order.{Row}
+use Rattle.std.proofs.lemmas.List.{length-append}
+use Rattle.sqlite.specs.State.{State, HasCleanDisk, Survives, CommitsShowing, FailsToQuery, Begins}
 use Rattle.sqlite.specs.Held.{state}
 use Rattle.sqlite.proofs.StateLemmas.{survives_weaker, survives_then}
-use Rattle.sqlite.proofs.Callers.{never_commits, begun_plain, unchanged_then}
+use Rattle.sqlite.proofs.Callers.{never_commits, begun_plain, unchanged_then, given_begin}
 use Rattle.sql_tables.specs.State.{Holds, Idles}
 use Rattle.sql_schema.specs.Tables.{archive_schema}
-use Rattle.sql_tables.specs.Agreeing.{ShowsOf}
+use Rattle.sql_tables.specs.Agreeing.{command_in, ShowsOf, AreUncountable, BeginsUncountable}
 use Rattle.sql_tables.proofs.AskLemmas.{rests_of}
-use Rattle.sql_tables.proofs.AgreeLemmas.{shows_of}
+use Rattle.sql_tables.proofs.AgreeLemmas.{shows_of, begins_of}
 use Rattle.sql_tables.proofs.WriteLemmas.{fails_query}
 use Rattle.sql_tables.proofs.agreeing.count_ids.Goals as goal
 
@@ -20,6 +22,10 @@ plain_in sql s plain was = subst (λ d. IsPlain (understood d sql)) (sym was.tab
 
 commits_nothing : (sql : List ℕ) (old new : State) → IsPlain (understood archive_schema sql) → (HasCleanDisk old → Idles old) → Survives old new (CommitsShowing sql [] old) → Survives old new (λ _. ⊥)
 commits_nothing sql old new plain idles s = survives_weaker old new _ _ (λ clean db. never_commits sql [] old db (plain_in sql old plain (idles (omega (arith, s.clean, clean))))) s
+
+begins_with : (sql : List ℕ) (s : State) (db : Database) (rows : List Row) → s.now ≡ db → s.now.schema ≡ archive_schema → IsPlain (understood archive_schema sql) → reads_listing archive_schema sql ≡ false
+    → Begins sql [] s rows → AreUncountable rows → BeginsUncountable sql db
+begins_with sql s db rows same has plain unlisted begins so = record { rows = rows; shown = subst (λ d. ReadsFirst (command_in (understood archive_schema sql)) d [] rows) same (begins_of sql s rows has plain unlisted begins); so = so }
 
 each_err : {A E : Type 0} {P : Type 0} (r : Result A E) → P → IfErr r (λ _. P)
 each_err (Ok a) p = tt
@@ -51,7 +57,7 @@ rows-init g c =
       commits_nothing c.args.sql.now old _ c.requires.plain c.requires.idles made.survives,
       λ clean.
           let begun = begun_plain g.S.Store c.args.sql.now [] c.args.conn.now _ (plain_in c.args.sql.now old c.requires.plain (c.requires.idles (omega (arith, made.survives.clean, clean)))) (made.begun clean) in
-          ([], begun.0, begun.1, c.no_ids-ids.ensures),
+          ([], begun.0, begun.1, c.no_ids-ids.ensures, refl),
     )
 
 pub returns-in_default-clause-counted : goal.returns-in_default-clause-counted
@@ -87,5 +93,38 @@ rows-preserved g c =
           let was = c.rows.invariant.2 (omega (arith, moved.survives.clean, clean)) in
           let on : Advances g.S.Store mid now (row_if c.advance.new.self.has_row now) = moved.ok clean in
           let some = sym c.get.ensures ∙ ap option_copied c.in-Some.is in
-          (_, subst (GivesOn g.S.Store c.args.sql.now [] mid now was.0) some (on c.args.sql.now [] was.0 was.1), unchanged_then old (state g.S.Store mid) (state g.S.Store now) was.2 (moved.same clean), c.in-Ok.ensures.risen was.0 was.3),
+          (_, subst (GivesOn g.S.Store c.args.sql.now [] mid now was.0) some (on c.args.sql.now [] was.0 was.1), unchanged_then old (state g.S.Store mid) (state g.S.Store now) was.2 (moved.same clean), c.in-Ok.ensures.risen was.0 was.3, omega (arith, was.4, length-append was.0 (c.in-Some.row.now ∷ []))),
     )
+
+pub returns-in-Err-clause-met : goal.returns-in-Err-clause-met
+returns-in-Err-clause-met g c = (
+  c.in-Err.ensures.met,
+  λ clean.
+      let old = state g.S.Store c.args.conn.now in
+      let mid = c.rows.rows.conn.now in
+      let now = c.advance.new.self.conn.now in
+      let moved = c.in_ok-advance.ensures in
+      let late : HasCleanDisk (state g.S.Store now) = search rules in
+      let was = c.rows.invariant.2 (omega (arith, moved.survives.clean, late)) in
+      let on : Advances g.S.Store mid now (row_if c.advance.new.self.has_row now) = moved.ok late in
+      let some = sym c.get.ensures ∙ ap option_copied c.in-Some.is in
+      let given = subst (GivesOn g.S.Store c.args.sql.now [] mid now was.0) some (on c.args.sql.now [] was.0 was.1) in
+      let same = (unchanged_then old (state g.S.Store mid) (state g.S.Store now) was.2 (moved.same late)).0.now_is in
+      let idles = c.requires.idles (omega (arith, c.rows.invariant.1.clean, moved.survives.clean, late)) in
+      let tables = ap (λ (d : Database). d.schema) same ∙ idles.tables in
+      begins_with c.args.sql.now (state g.S.Store now) old.now _ same tables c.requires.plain c.requires.unlisted (given_begin g.S.Store c.args.sql.now [] now _ given) (c.in-Err.ensures.refused was.0 was.3),
+)
+
+pub returns-clause-met : goal.returns-clause-met
+returns-clause-met g c = (
+  refl,
+  λ clean.
+      let old = state g.S.Store c.args.conn.now in
+      let mid = c.rows.rows.conn.now in
+      let late : HasCleanDisk (state g.S.Store mid) = search rules in
+      let was = c.rows.invariant.2 late in
+      let same = was.2.0.now_is in
+      let idles = c.requires.idles (omega (arith, c.rows.invariant.1.clean, late)) in
+      let tables = ap (λ (d : Database). d.schema) same ∙ idles.tables in
+      begins_with c.args.sql.now (state g.S.Store mid) old.now was.0 same tables c.requires.plain c.requires.unlisted (given_begin g.S.Store c.args.sql.now [] mid was.0 was.1) (inr (omega (arith, was.4, c.rows-test.false))),
+)

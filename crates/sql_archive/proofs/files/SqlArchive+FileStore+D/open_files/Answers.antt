@@ -1,5 +1,7 @@
-use Rattle.std.proofs.Common.{inl, inr, arith}
+use Rattle.std.proofs.Common.{inl, inr, sym, subst, arith}
 use Rattle.sqlite.specs.State.{HasCleanDisk}
+use Rattle.archive.specs.Store.{IsOfOpening}
+use Rattle.sql_archive.specs.Files.{IsAnothers}
 use Rattle.sqlite.specs.Files.{file_state, image_of}
 use Rattle.sql_archive.proofs.FileLemmas.{resumes, another, engine_left, archive_left}
 use Rattle.sql_archive.proofs.files.SqlArchive+FileStore+D.open_files.Goals as goal
@@ -17,7 +19,9 @@ returns-in-Err-start-clause-wrong g c clean of =
     let early : HasCleanDisk (file_state c.in-Ok.conn) = omega (arith, c.in-Err-start.ensures.left.clean, late) in
     let opened = c.in-Ok.ensures.opened early in
     let found = c.in-Ok.ensures.found early in
-    another (image_of g.D.Disk c.args.files) c.args.id c.args.number c.in-Err-start.fault (file_state c.in-Ok.conn) opened.0 opened.1 (record { holds = found.holds; reads = found.reads }) (c.in-Err-start.ensures.wrong late of)
+    let same = c.as_told.ensures.met of in
+    subst (IsAnothers (image_of g.D.Disk c.args.files) c.args.id c.args.number) (sym same)
+    (another (image_of g.D.Disk c.args.files) c.args.id c.args.number c.in-Err-start.fault (file_state c.in-Ok.conn) opened.0 opened.1 (record { holds = found.holds; reads = found.reads }) (c.in-Err-start.ensures.wrong late (subst IsOfOpening same of)))
 
 pub returns-in-Err-start-clause-left : goal.returns-in-Err-start-clause-left
 returns-in-Err-start-clause-left g c clean =

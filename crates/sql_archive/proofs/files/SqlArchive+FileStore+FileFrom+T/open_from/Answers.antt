@@ -1,5 +1,7 @@
-use Rattle.std.proofs.Common.{inl, inr, refl, arith}
+use Rattle.std.proofs.Common.{inl, inr, sym, subst, refl, arith}
 use Rattle.sqlite.specs.State.{HasCleanDisk}
+use Rattle.archive.specs.Store.{IsOfOpening}
+use Rattle.sql_archive.specs.Files.{IsAnothers}
 use Rattle.sqlite.specs.Files.{file_state}
 use Rattle.sqlite_wal.specs.Files.{image_at}
 use Rattle.sql_archive.proofs.FileLemmas.{resumes, another, engine_left, archive_left}
@@ -19,7 +21,9 @@ returns-in-Err-start-clause-wrong g c of clean =
     let late = c.files_of.ensures.clean clean in
     let early : HasCleanDisk (file_state c.in-Ok.conn) = omega (arith, c.in-Err-start.ensures.left.clean, late) in
     let opened = c.in-Ok.ensures.opened early in
-    another (image_at g.T.Start) c.args.id c.args.number c.in-Err-start.fault (file_state c.in-Ok.conn) opened.0 opened.1 (c.in-Ok.ensures.found early) (c.in-Err-start.ensures.wrong late of)
+    let same = c.as_told.ensures.met of in
+    subst (IsAnothers (image_at g.T.Start) c.args.id c.args.number) (sym same)
+    (another (image_at g.T.Start) c.args.id c.args.number c.in-Err-start.fault (file_state c.in-Ok.conn) opened.0 opened.1 (c.in-Ok.ensures.found early) (c.in-Err-start.ensures.wrong late (subst IsOfOpening same of)))
 
 pub returns-in-Err-start-clause-left : goal.returns-in-Err-start-clause-left
 returns-in-Err-start-clause-left g c clean =

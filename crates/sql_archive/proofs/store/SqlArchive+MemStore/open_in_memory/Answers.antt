@@ -1,3 +1,5 @@
+use Rattle.std.proofs.Common.{subst}
+use Rattle.archive.specs.Store.{IsOfOpening}
 use Rattle.sqlite.specs.Held.{state}
 use Rattle.sqlite.specs.Steps.{over_memory}
 use Rattle.sqlite.proofs.Callers.{memory_is_clean}
@@ -17,4 +19,4 @@ returns-in-Ok-make-clause-begins c =
     record { id = own.0; own = own.1; honest = clean; whole = own.3; empty = nothing_in (state over_memory c.in-Ok-make.archive.conn).now.trees made.records }
 
 pub returns-clause-refused : goal.returns-clause-refused
-returns-clause-refused c = c.in-Err-make.ensures.wrong (memory_is_clean c.in-Err-make.field-0-1)
+returns-clause-refused c of = c.in-Err-make.ensures.wrong (memory_is_clean c.in-Err-make.field-0-1) (subst IsOfOpening (c.as_told.ensures.met of) of)
