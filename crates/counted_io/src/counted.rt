@@ -1,6 +1,7 @@
 //! Readers and writers whose failed calls are counted.
 
-ghost use Rattle.std.specs.Prelude.{◌≡◌, ◌≤◌, ◌<◌, ◌-◌, ◌++◌, ◌∷◌, length, take, drop, [], IfOk, OnOk, OnErr, IsErrOf, Err};
+ghost use Rattle.std.specs.Prelude.{◌≡◌, ◌≢◌, ◌≤◌, ◌<◌, ◌-◌, ◌++◌, ◌∷◌, length, take, drop, [], IfOk, IfErr, OnOk, OnErr, IsErrOf, Err};
+ghost use Rattle.std.specs.IoError.{error_kind};
 ghost use Rattle.std.specs.Io.KnownBytes.{Appends, Consumes, IsAtEnd, Keeps};
 ghost use Rattle.counted_io.specs.Bytes.{AppendsPart, counted};
 
@@ -54,7 +55,7 @@ impl<T> Counted<T> {
     }
 }
 
-/// Reads the next bytes, none only at the end; a read that was interrupted is tried again.
+/// Reads the next bytes, none only at the end; a read that was interrupted is tried again, up to 2^64 - 1 times.
 #[tactic(auto, using(crate::proofs::Tried::trying))]
 fn read_through<R: Read>(reader: &mut R, piece: &mut [u8]) -> io::Result<usize>
     requires { 0 < length piece.old }
@@ -62,6 +63,7 @@ fn read_through<R: Read>(reader: &mut R, piece: &mut [u8]) -> io::Result<usize>
     ensures bytes { IfOk result (λ n. Consumes (R.remaining reader.old) (R.remaining reader.new) (take n piece.new)) }
     ensures end { IfOk result (λ n. n ≡ 0 → IsAtEnd (R.remaining reader.new)) }
     ensures kept { OnErr result (Keeps (R.remaining reader.old) (R.remaining reader.new)) }
+    ensures retried { IfErr result (λ error. error_kind error ≢ ErrorKind.Interrupted) }
 {
     for _ in 0..u64::MAX {
         match reader.read(piece) {
@@ -73,15 +75,16 @@ fn read_through<R: Read>(reader: &mut R, piece: &mut [u8]) -> io::Result<usize>
             }
         }
     }
-    Err(io::Error::from(ErrorKind::Interrupted))
+    Err(io::Error::from(ErrorKind::TimedOut))
 }
 
-/// Writes a first part of the bytes; a write that was interrupted is tried again.
+/// Writes a first part of the bytes; a write that was interrupted is tried again, up to 2^64 - 1 times.
 #[tactic(auto, using(crate::proofs::Tried::trying))]
 fn write_through<W: Write>(writer: &mut W, bytes: &[u8]) -> io::Result<usize>
     ensures within { IfOk result (λ n. n ≤ length bytes.now) }
     ensures bytes { IfOk result (λ n. Appends (W.contents writer.old) (W.contents writer.new) (take n bytes.now)) }
     ensures kept { OnErr result (Keeps (W.contents writer.old) (W.contents writer.new)) }
+    ensures retried { IfErr result (λ error. error_kind error ≢ ErrorKind.Interrupted) }
 {
     for _ in 0..u64::MAX {
         match writer.write(bytes) {
@@ -93,7 +96,7 @@ fn write_through<W: Write>(writer: &mut W, bytes: &[u8]) -> io::Result<usize>
             }
         }
     }
-    Err(io::Error::from(ErrorKind::Interrupted))
+    Err(io::Error::from(ErrorKind::TimedOut))
 }
 
 impl<R: Read> Counted<R> {
