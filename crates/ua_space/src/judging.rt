@@ -10,7 +10,14 @@ use crate::fault::BuildFault;
 use crate::plan::{FolderPlan, Plan, VariablePlan};
 
 /// How many folders and variables a space may have.
-const MAX_NODES: usize = 1000;
+pub const MAX_NODES: usize = 1000;
+
+/// Whether a variable may have the type of this name (Part 6, 5.1.2).
+pub fn is_type_name(name: &str) -> bool
+    ensures { result ≡ is_some (type_number name.now) }
+{
+    type_number(name).is_some()
+}
 
 /// The number of the type of this name (Part 6, 5.1.2), where a variable may have it.
 #[tactic(auto, unfolding(crate::specs::Plan::type_number))]

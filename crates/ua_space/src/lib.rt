@@ -17,6 +17,7 @@ mod space;
 
 pub use attributes::Answered;
 pub use fault::BuildFault;
+pub use judging::{MAX_NODES, is_type_name};
 pub use laws::variables_hang_below_their_parents;
 pub use plan::{FolderPlan, Plan, VariablePlan};
 pub use space::{Space, VariableInfo};
