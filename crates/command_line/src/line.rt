@@ -3,6 +3,7 @@
 ghost use Rattle.std.specs.Prelude.{◌≡◌, [], map, IfOk, OnErr, IsErrOf, None, true, false, codes};
 ghost use Rattle.clap.specs.Words.{app_of, rule_of, rows_of, found_of, subcommand_of, subcommand_rows_of};
 ghost use Rattle.clap.specs.declared.builder.command.Command.TheViews.{out-Command};
+ghost use Rattle.clap.specs.declared.error.ErrorKind.TheVariants as clap;
 ghost use Rattle.clap.specs.Takes.{takes};
 ghost use Rattle.clap.specs.Faults.{fault_of as fault_kinds};
 ghost use Rattle.command_line.specs.Line.{IsLine, option, uahist};
@@ -199,7 +200,7 @@ fn command<'a>(alloc: Global) -> Result<Command<'a>, AllocError>
 
 /// What a refusal of `clap`'s is called here.
 fn fault_of(kind: ErrorKind) -> LineFault
-    ensures { result ≡ LineFault.Words → kind ≡ ErrorKind.OutOfMemory → ⊥ }
+    ensures { result ≡ (elim kind [ clap.OutOfMemory ↦ LineFault.OutOfMemory | _ ↦ LineFault.Words ]) }
 {
     match kind {
         ErrorKind::OutOfMemory => LineFault::OutOfMemory,

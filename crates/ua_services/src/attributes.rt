@@ -4,9 +4,10 @@ ghost use Rattle.std.specs.Prelude.{◌≡◌, length, map, IfOk};
 ghost use Rattle.ua_binary.specs.Format.{Puts, PutsPart, Reads, ReadsUnless, saturated};
 ghost use Rattle.ua_variant.specs.DataValue.{data_value};
 ghost use Rattle.ua_services.specs.Unkept.{AreFew};
-ghost use Rattle.ua_services.specs.Attributes.{timestamps_of, timestamps, ReadFields, read_fields, read_value_id, read_asked, read_request, data_values, AreShortValues};
+ghost use Rattle.ua_services.specs.Attributes.{timestamps_of, timestamps, ReadFields, read_fields, read_value_id, read_asked, read_request, data_values, read_response, AreShortValues};
 
 use crate::first::{OF_A_THOUSAND, read_first};
+use crate::many::put_null_array;
 use std::alloc::Global;
 use ua_binary::{BinaryFault, Cursor, Decode, NodeIdRef, QualifiedRef, or_undone, put_count};
 use ua_variant::{DataValue, put_data_value};
@@ -142,4 +143,28 @@ pub(crate) fn data_values_size(values: &[DataValue]) -> usize
         size = size.saturating_add(value.size());
     }
     size
+}
+
+#[tactic(auto, using(ua_binary::proofs::Kept::kept), unfolding(crate::specs::Attributes::read_response))]
+fn put_read_parts(out: &mut Vec<u8>, values: &[DataValue]) -> Result<(), BinaryFault>
+    requires { AreShortValues values.now }
+    ensures puts { PutsPart BinaryFault.OutOfMemory result out.old.items out.new.items (read_response.canon values.now) }
+    ensures spelled { IfOk result (λ _. AreFew data_value values.now) }
+{
+    put_data_values(out, values)?;
+    put_null_array(out)?;
+    Ok(())
+}
+
+/// Writes a Read response (Part 4, 5.11.2) behind its header: the array of the values, and a null one of
+/// diagnostics. Its one error is `OutOfMemory`, and then the vector is as it was. What was written has a
+/// spelling.
+pub fn put_read_response(out: &mut Vec<u8>, values: &[DataValue]) -> Result<(), BinaryFault>
+    requires { AreShortValues values.now }
+    ensures puts { Puts BinaryFault.OutOfMemory result out.old.items out.new.items (read_response.canon values.now) }
+    ensures spelled { IfOk result (λ _. AreFew data_value values.now) }
+{
+    let len = out.len();
+    let put = put_read_parts(out, values);
+    or_undone(put, out, len)
 }

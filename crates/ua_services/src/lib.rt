@@ -19,7 +19,9 @@ mod skipping;
 mod structure;
 mod updates;
 
-pub use attributes::{ReadRequest, ReadValueId, TimestampsToReturn, read_read_request};
+pub use attributes::{
+    ReadRequest, ReadValueId, TimestampsToReturn, put_read_response, read_read_request,
+};
 pub use browsing::{
     BrowseDescription, BrowseDirection, BrowseRequest, BrowseResult, NodeClass,
     ReferenceDescription, put_browse_response, read_browse_request,
