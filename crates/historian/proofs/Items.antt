@@ -9,7 +9,7 @@ use Rattle.ua_binary.specs.declared.codes.TheConstants.Status.{BAD_OUT_OF_MEMORY
 use Rattle.records.specs.Contents.{Content}
 use Rattle.archive.specs.Store.{Store, Mark, Fine, Starved}
 use Rattle.archive.specs.Steps.{Marked, give, and_then, each, Does, Acts}
-use Rattle.archive.proofs.Acting.{moves-none-by, moves-told, moves-as, acts-give, acts-as, acts-each}
+use Rattle.archive.proofs.Acting.{moves-none-by, moves-behind-quiet, moves-as, acts-give, acts-as, acts-each}
 use Rattle.historian.specs.declared.answer.Answer.{Answer as Made}
 use Rattle.historian.specs.Answers.{Answer, Response}
 use Rattle.hist_update.specs.Codes.{list_refusal}
@@ -55,7 +55,7 @@ pub acts-wanting : {X Y : Type 0} (s : Store) (service : Content → Served) (an
     → ((R : Content) (marks : List Mark) → service R marks ≡ items answer item xs R marks) → (used : List Mark) × Acts s s used service (Err BAD_OUT_OF_MEMORY)
 acts-wanting s service answer item xs is = (
   Starved ∷ [],
-  moves-none-by s (Starved ∷ []) refl (λ R S. Does (service R) (Starved ∷ []) ((Err BAD_OUT_OF_MEMORY, S))) (λ R. record { does = λ later. is R (Starved ∷ later) }),
+  moves-none-by s (Starved ∷ []) refl (λ marks R S. Does (service R) marks ((Err BAD_OUT_OF_MEMORY, S))) (λ R. record { does = λ later. is R (Starved ∷ later) }),
 )
 
 pub comes-starved : {X Y : Type 0} (s : Store) (service : Content → Served) (answer : List Y → Answer) (item : X → Content → Marked (Y × Content)) (xs : List X)
@@ -69,9 +69,9 @@ pub acts-items : {X Y : Type 0} (a b : Store) (service : Content → Served) (an
     → ((R : Content) (marks : List Mark) → service R marks ≡ items answer item xs R marks) → ((used : List Mark) × Acts a b used (each item xs) ys) → (used : List Mark) × Acts a b used service (Ok (answer ys))
 acts-items {X} {Y} a b service answer item xs ys is all = (
   Fine ∷ all.0,
-  moves-told a b all.0 (Fine ∷ all.0) (λ R S. Does (each item xs R) all.0 (ys, S)) (λ R S. Does (service R) (Fine ∷ all.0) (Ok (answer ys), S)) refl (λ R S d. record {
+  moves-behind-quiet a b (Fine ∷ []) all.0 (λ marks R S. Does (each item xs R) marks (ys, S)) (λ marks R S. Does (service R) marks (Ok (answer ys), S)) refl (λ ms R S d. record {
     does = λ later.
-        is R (Fine ∷ (all.0 ++ later))
+        is R (Fine ∷ (ms ++ later))
         ∙ ap (λ (r : (List Y × Content) × List Mark). let z : (Response × Content) × List Mark = ((Ok (answer r.0.0), r.0.1), r.1) in z) (d.does later);
   }) all.1,
 )
@@ -101,14 +101,14 @@ acts-none s f x is = ([], acts-as s s [] (λ R. give (x, R)) f x (λ R marks. sy
 
 -- memory for one is wanting
 pub acts-starved : {X : Type 0} (s : Store) (f : Content → Marked (X × Content)) (x : X) → ((R : Content) (later : List Mark) → f R (Starved ∷ later) ≡ ((x, R), later)) → (used : List Mark) × Acts s s used f x
-acts-starved s f x is = (Starved ∷ [], moves-none-by s (Starved ∷ []) refl (λ R S. Does (f R) (Starved ∷ []) (x, S)) (λ R. record { does = λ later. is R later }))
+acts-starved s f x is = (Starved ∷ [], moves-none-by s (Starved ∷ []) refl (λ marks R S. Does (f R) marks (x, S)) (λ R. record { does = λ later. is R later }))
 
 -- nothing came in the way of the first, and then others
 pub acts-past : {X : Type 0} (a b : Store) (f g : Content → Marked (X × Content)) (x : X) → ((used : List Mark) × Acts a b used g x) → ((R : Content) (marks : List Mark) → f R (Fine ∷ marks) ≡ g R marks)
     → (used : List Mark) × Acts a b used f x
 acts-past a b f g x (used, acts) is = (
   Fine ∷ used,
-  moves-told a b used (Fine ∷ used) (λ R S. Does (g R) used (x, S)) (λ R S. Does (f R) (Fine ∷ used) (x, S)) refl (λ R S d. record { does = λ later. is R (used ++ later) ∙ d.does later }) acts,
+  moves-behind-quiet a b (Fine ∷ []) used (λ marks R S. Does (g R) marks (x, S)) (λ marks R S. Does (f R) marks (x, S)) refl (λ ms R S d. record { does = λ later. is R (ms ++ later) ∙ d.does later }) acts,
 )
 
 -- some steps, and what is made of their value
@@ -116,9 +116,9 @@ pub acts-made : {X Y : Type 0} (a b : Store) (g : Content → Marked (X × Conte
     → ((R : Content) (marks : List Mark) → f R marks ≡ and_then (g R) (λ p. give (make p.0, p.1)) marks) → y ≡ make x → (used : List Mark) × Acts a b used f y
 acts-made {X} {Y} a b g f make x y (used, acts) is made = (
   used,
-  moves-as a b used (λ R S. Does (g R) used (x, S)) (λ R S. Does (f R) used (y, S)) (λ R S d. record {
+  moves-as a b used (λ marks R S. Does (g R) marks (x, S)) (λ marks R S. Does (f R) marks (y, S)) (λ ms R S d. record {
     does = λ later.
-        is R (used ++ later)
+        is R (ms ++ later)
         ∙ (ap (λ (r : (X × Content) × List Mark). let z : (Y × Content) × List Mark = ((make r.0.0, r.0.1), r.1) in z) (d.does later)
         ∙ ap (λ (w : Y). let z : (Y × Content) × List Mark = ((w, S), later) in z) (sym made));
   }) acts,

@@ -12,13 +12,13 @@ use Rattle.ua_session.specs.Fault.{code_of}
 use Rattle.ua_session.specs.Sessions.{State, user_at}
 use Rattle.records.specs.Contents.{Content}
 use Rattle.archive.specs.Store.{Store, Mark, Fine, Starved, faults_of}
-use Rattle.archive.proofs.Acting.{moves-none-by, moves-told}
+use Rattle.archive.proofs.Acting.{moves-none-by, moves-behind-quiet}
 use Rattle.archive.specs.Steps.{Marked, give, step, Does, Acts}
 use Rattle.historian.specs.declared.service.Service.{Service}
 use Rattle.historian.specs.declared.answer.Answer.{Answer as Made}
 use Rattle.historian.specs.Answers.{Answer, Response}
 use Rattle.historian.specs.Requests.{Call, call_in}
-use Rattle.historian.specs.Services.{Site, Outcome, called, left_outside, in_session, served, answered_call, answered_request}
+use Rattle.historian.specs.Services.{Site, Outcome, called, in_session, served, answered_call, answered_request}
 use Rattle.historian.specs.Telling.{Asks, answer_of, Tells, Comes, Performs, PerformsHere, Written, Responds}
 
 -- a call that was read is served
@@ -127,7 +127,7 @@ pub performs-here : (s : Store) (service : Content → Marked Outcome) (sessions
 performs-here s service sessions result (used, told, faultless, does, tells) = (
   used,
   told,
-  moves-none-by s used faultless (λ R S. Does (service R) used ((told, sessions), S)) does,
+  moves-none-by s used faultless (λ marks R S. Does (service R) marks ((told, sessions), S)) does,
   tells,
 )
 
@@ -142,63 +142,62 @@ performs-none s site now sessions status result is =
 -- ---- services of a session
 
 -- the session isn't there, or wasn't activated
-pub performs-outside : (site : Site) (now : Ticks) (token : NodeId) (sessions new : State) (asked : Service) (call : Call) (bytes : List ℕ) (f : Content → List ℕ → Marked (Response × Content)) (fault : SessionFault) (status : Status)
+pub performs-outside : (site : Site) (now : Ticks) (token : NodeId) (sessions : State) (asked : Service) (call : Call) (bytes : List ℕ) (f : Content → List ℕ → Marked (Response × Content)) (fault : SessionFault) (status : Status)
     (result : Result Made Status)
-    → call_in asked bytes ≡ Some call → ((R : Content) (marks : List Mark) → served site now token call sessions R marks ≡ in_session token sessions (user_at sessions token) (f R) R marks) → user_at sessions token ≡ Err fault
-    → new ≡ left_outside sessions token fault → status ≡ code_of fault → result ≡ Err status → PerformsHere (answered_call site now token (call_in asked bytes) sessions) new result
-performs-outside site now token sessions new asked call bytes f fault status result is same none leaves code err =
-    let P : State → Type 0 = λ s. PerformsHere (answered_call site now token (call_in asked bytes) sessions) s result in
-    subst P (sym leaves) (performs-read site now token sessions (left_outside sessions token fault) asked call bytes [] (Err (code_of fault)) result is refl
-    (λ R. record { does = λ later. same R later ∙ ap (λ (u : Result (List ℕ) SessionFault). in_session token sessions u (f R) R later) none })
-    (subst (Tells (Err (code_of fault))) (sym err) (inl (ap Err (sym code)))))
+    → call_in asked bytes ≡ Some call → ((R : Content) (marks : List Mark) → served site now token call sessions R marks ≡ in_session sessions (user_at sessions token) (f R) R marks) → user_at sessions token ≡ Err fault
+    → status ≡ code_of fault → result ≡ Err status → PerformsHere (answered_call site now token (call_in asked bytes) sessions) sessions result
+performs-outside site now token sessions asked call bytes f fault status result is same none code err =
+    performs-read site now token sessions sessions asked call bytes [] (Err (code_of fault)) result is refl
+    (λ R. record { does = λ later. same R later ∙ ap (λ (u : Result (List ℕ) SessionFault). in_session sessions u (f R) R later) none })
+    (subst (Tells (Err (code_of fault))) (sym err) (inl (ap Err (sym code))))
 
-does-in : (token : NodeId) (sessions : State) (user : List ℕ) (g : List ℕ → Marked (Response × Content)) (R S : Content) (used : List Mark) (told : Response) → Does (g user) used (told, S)
-    → Does (in_session token sessions (Ok user) g R) used ((told, sessions), S)
-does-in token sessions user g R S used told does = record { does = λ later. ap (λ (x : (Response × Content) × List Mark). let r : Outcome × List Mark = (((x.0.0, sessions), x.0.1), x.1) in r) (does.does later) }
+does-in : (sessions : State) (user : List ℕ) (g : List ℕ → Marked (Response × Content)) (R S : Content) (used : List Mark) (told : Response) → Does (g user) used (told, S)
+    → Does (in_session sessions (Ok user) g R) used ((told, sessions), S)
+does-in sessions user g R S used told does = record { does = λ later. ap (λ (x : (Response × Content) × List Mark). let r : Outcome × List Mark = (((x.0.0, sessions), x.0.1), x.1) in r) (does.does later) }
 
 -- a service that asks no archive, in a session of this user
 pub performs-inside : (site : Site) (now : Ticks) (token : NodeId) (sessions : State) (asked : Service) (call : Call) (bytes : List ℕ) (user : List ℕ) (f : Content → List ℕ → Marked (Response × Content)) (used : List Mark) (told : Response)
     (result : Result Made Status)
-    → call_in asked bytes ≡ Some call → ((R : Content) (marks : List Mark) → served site now token call sessions R marks ≡ in_session token sessions (user_at sessions token) (f R) R marks) → user_at sessions token ≡ Ok user
+    → call_in asked bytes ≡ Some call → ((R : Content) (marks : List Mark) → served site now token call sessions R marks ≡ in_session sessions (user_at sessions token) (f R) R marks) → user_at sessions token ≡ Ok user
     → faults_of used ≡ [] → ((R : Content) → Does (f R user) used (told, R)) → Tells told result → PerformsHere (answered_call site now token (call_in asked bytes) sessions) sessions result
 performs-inside site now token sessions asked call bytes user f used told result is same in_use faultless does tells =
     performs-read site now token sessions sessions asked call bytes used told result is faultless
     (λ R. record {
       does = λ later.
           same R (used ++ later)
-          ∙ ap (λ (u : Result (List ℕ) SessionFault). in_session token sessions u (f R) R (used ++ later)) in_use
-          ∙ (does-in token sessions user (f R) R R used told (does R)).does later;
+          ∙ ap (λ (u : Result (List ℕ) SessionFault). in_session sessions u (f R) R (used ++ later)) in_use
+          ∙ (does-in sessions user (f R) R R used told (does R)).does later;
     })
     tells
 
 -- one that asks it, where something holds of what it tells
 pub performs-with : (T : Response → Type 0) (a b : Store) (site : Site) (now : Ticks) (token : NodeId) (sessions : State) (asked : Service) (call : Call) (bytes : List ℕ) (user : List ℕ) (f : Content → List ℕ → Marked (Response × Content))
-    → call_in asked bytes ≡ Some call → ((R : Content) (marks : List Mark) → served site now token call sessions R marks ≡ in_session token sessions (user_at sessions token) (f R) R marks) → user_at sessions token ≡ Ok user
+    → call_in asked bytes ≡ Some call → ((R : Content) (marks : List Mark) → served site now token call sessions R marks ≡ in_session sessions (user_at sessions token) (f R) R marks) → user_at sessions token ≡ Ok user
     → ((used : List Mark) × (told : Response) × Acts a b used (λ R. f R user) told × T told)
     → (used : List Mark) × (told : Response) × Acts a b used (answered_call site now token (call_in asked bytes) sessions) (told, sessions) × T told
 performs-with T a b site now token sessions asked call bytes user f is same in_use (used, told, acts, tells) = (
   Fine ∷ used,
   told,
-  moves-told a b used (Fine ∷ used) (λ R S. Does (f R user) used (told, S)) (λ R S. Does (answered_call site now token (call_in asked bytes) sessions R) (Fine ∷ used) ((told, sessions), S)) refl
-      (λ R S d. does-read site now token (call_in asked bytes) call sessions R used ((told, sessions), S) is (record {
+  moves-behind-quiet a b (Fine ∷ []) used (λ marks R S. Does (f R user) marks (told, S)) (λ marks R S. Does (answered_call site now token (call_in asked bytes) sessions R) marks ((told, sessions), S)) refl
+      (λ ms R S d. does-read site now token (call_in asked bytes) call sessions R ms ((told, sessions), S) is (record {
         does = λ later.
-            same R (used ++ later)
-            ∙ ap (λ (u : Result (List ℕ) SessionFault). in_session token sessions u (f R) R (used ++ later)) in_use
-            ∙ (does-in token sessions user (f R) R S used told d).does later;
+            same R (ms ++ later)
+            ∙ ap (λ (u : Result (List ℕ) SessionFault). in_session sessions u (f R) R (ms ++ later)) in_use
+            ∙ (does-in sessions user (f R) R S ms told d).does later;
       })) acts,
   tells,
 )
 
 pub performs-over : (a b : Store) (site : Site) (now : Ticks) (token : NodeId) (sessions : State) (asked : Service) (call : Call) (bytes : List ℕ) (user : List ℕ) (f : Content → List ℕ → Marked (Response × Content)) (used : List Mark)
     (told : Response) (result : Result Made Status)
-    → call_in asked bytes ≡ Some call → ((R : Content) (marks : List Mark) → served site now token call sessions R marks ≡ in_session token sessions (user_at sessions token) (f R) R marks) → user_at sessions token ≡ Ok user
+    → call_in asked bytes ≡ Some call → ((R : Content) (marks : List Mark) → served site now token call sessions R marks ≡ in_session sessions (user_at sessions token) (f R) R marks) → user_at sessions token ≡ Ok user
     → Acts a b used (λ R. f R user) told → Tells told result → Performs a b (answered_call site now token (call_in asked bytes) sessions) sessions result
 performs-over a b site now token sessions asked call bytes user f used told result is same in_use acts tells =
     performs-with (λ told. Tells told result) a b site now token sessions asked call bytes user f is same in_use (used, told, acts, tells)
 
 -- what it comes to is told
 pub performs-comes : (a b : Store) (site : Site) (now : Ticks) (token : NodeId) (sessions : State) (asked : Service) (call : Call) (bytes : List ℕ) (user : List ℕ) (f : Content → List ℕ → Marked (Response × Content)) (result : Result Made Status)
-    → call_in asked bytes ≡ Some call → ((R : Content) (marks : List Mark) → served site now token call sessions R marks ≡ in_session token sessions (user_at sessions token) (f R) R marks) → user_at sessions token ≡ Ok user
+    → call_in asked bytes ≡ Some call → ((R : Content) (marks : List Mark) → served site now token call sessions R marks ≡ in_session sessions (user_at sessions token) (f R) R marks) → user_at sessions token ≡ Ok user
     → Comes a b (λ R. f R user) result → Performs a b (answered_call site now token (call_in asked bytes) sessions) sessions result
 performs-comes a b site now token sessions asked call bytes user f result is same in_use (used, told, acts, tells) =
     performs-over a b site now token sessions asked call bytes user f used told result is same in_use acts tells

@@ -23,9 +23,9 @@ use Rattle.archive.specs.declared.reading.Direction.{Direction}
 use Rattle.archive.specs.declared.reading.Direction.TheVariants.{Backward}
 use Rattle.archive.specs.Fault.{status_of, status_told}
 use Rattle.archive.specs.Reading.{range_of}
-use Rattle.archive.specs.Store.{Store, Mark, Fine, Starved, Met, faults_of, Passes, Stays, HasContent, Asks}
+use Rattle.archive.specs.Store.{Store, Mark, Fine, Starved, Met, faults_of, Passes, Stays, IsLeft, IsThere, Asks}
 use Rattle.archive.specs.Steps.{Marked, give, step, and_then, Does, Acts}
-use Rattle.archive.proofs.Acting.{moves-none-by, moves-as, acts-as, acts-stays}
+use Rattle.archive.proofs.Acting.{left-before, there-behind, moves-none-by, moves-as, acts-as, acts-stays}
 use Rattle.archive.proofs.Calls.{passes-leaves, in_use, asks-then}
 use Rattle.hist_read.specs.Asking.{first_time}
 use Rattle.hist_read.specs.Reads.{greatest_time}
@@ -57,7 +57,7 @@ listed a b c v node from to d limit {B} items result p q =
 pub value-here : (s : Store) (told : Marked (Option Status)) (value : Content → Result DataValue Status) (mark : Mark) (reason : Option Status) (x : Result DataValue Status) → faults_of (mark ∷ []) ≡ []
     → ((later : List Mark) → told (mark ∷ later) ≡ (reason, later)) → ((R : Content) → x ≡ unless_met reason (value R)) → Acts s s (mark ∷ []) (value_step told value) x
 value-here s told value mark reason x faultless is so =
-    moves-none-by s (mark ∷ []) faultless (λ R S. Does (value_step told value R) (mark ∷ []) (x, S)) (λ R. record {
+    moves-none-by s (mark ∷ []) faultless (λ marks R S. Does (value_step told value R) marks (x, S)) (λ R. record {
       does = λ later.
           ap (λ (r : Option Status × List Mark). let z : (Result DataValue Status × Content) × List Mark = ((unless_met r.0 (value R), R), r.1) in z) (is later)
           ∙ ap (λ (v : Result DataValue Status). let z : (Result DataValue Status × Content) × List Mark = ((v, R), later) in z) (sym (so R));
@@ -69,9 +69,9 @@ step-told value R [] = refl
 step-told value R (mark ∷ marks) = refl
 
 value-stays : (a b : Store) (value : Content → Result DataValue Status) (mark : Mark) (x : Result DataValue Status) → Passes a b (faults_of (mark ∷ [])) → Stays a b
-    → (b.honest → (R : Content) → HasContent a R → x ≡ unless_met (status_told mark) (value R)) → Acts a b (mark ∷ []) (value_step (step status_told) value) x
-value-stays a b value mark x passes stays so =
-    acts-as a b (mark ∷ []) (λ R. step (λ m. (unless_met (status_told m) (value R), R))) (value_step (step status_told) value) x (step-told value) (acts-stays a b mark (λ R m. unless_met (status_told m) (value R)) x passes stays so)
+    → (IsThere a → IsThere b) → (b.honest → (R : Content) → IsLeft a R → x ≡ unless_met (status_told mark) (value R)) → Acts a b (mark ∷ []) (value_step (step status_told) value) x
+value-stays a b value mark x passes stays there so =
+    acts-as a b (mark ∷ []) (λ R. step (λ m. (unless_met (status_told m) (value R), R))) (value_step (step status_told) value) x (step-told value) (acts-stays a b mark (λ R m. unless_met (status_told m) (value R)) x passes stays there so)
 
 first-stored : (l : List Held) → stored (take 1 l) ≡ stored l
 first-stored [] = refl
@@ -83,22 +83,22 @@ pub value-found : {B : Type 0} (a b : Store) (node : NodeId) (items : B → List
     → (mark : Mark) × Acts a b (mark ∷ []) (value_step (step status_told) (latest node)) x
 value-found a b node items lives x p (inl told) = (
   Fine,
-  value-stays a b (latest node) Fine x (passes-leaves a b None p.leaves) p.stays (λ honest R h.
+  value-stays a b (latest node) Fine x (passes-leaves a b None p.leaves) p.stays (there-behind a b None p.leaves) (λ honest R h.
       told
       ∙ (ap stored (p.answer honest)
       ∙ (first-stored (range_of a.content node first_time greatest_time Backward)
-      ∙ ap (λ S. stored (range_of S node first_time greatest_time Backward)) (h.content (in_use a b p.leaves))))),
+      ∙ ap (λ S. stored (range_of S node first_time greatest_time Backward)) (left-before a b R p.leaves honest h)))),
 )
 value-found a b node items lives x p (inr starved) = (
   Starved,
-  value-stays a b (latest node) Starved x (passes-leaves a b None p.leaves) p.stays (λ honest R h. starved),
+  value-stays a b (latest node) Starved x (passes-leaves a b None p.leaves) p.stays (there-behind a b None p.leaves) (λ honest R h. starved),
 )
 
 -- the store met a fault
 pub value-failed : {B : Type 0} (a b : Store) (node : NodeId) (P : B → Type 0) (fault : StoreFault) (x : Result DataValue Status) → Asks a b (Err fault) P → x ≡ Err (status_of fault)
     → Acts a b (Met fault ∷ []) (value_step (step status_told) (latest node)) x
 value-failed a b node P fault x p is =
-    value-stays a b (latest node) (Met fault) x (passes-leaves a b (Some fault) p.leaves) p.stays (λ honest R h. is)
+    value-stays a b (latest node) (Met fault) x (passes-leaves a b (Some fault) p.leaves) p.stays (there-behind a b (Some fault) p.leaves) (λ honest R h. is)
 
 -- ---- items
 
@@ -179,8 +179,8 @@ told_step stamps now told value R = and_then told (λ reason. give (item_told st
 pub item-told : (a b : Store) (stamps : TimestampsToReturn) (now : Ticks) (told : Marked (Option Status)) (value : Content → Result DataValue Status) (mark : Mark) (x : Result DataValue Status) (y : DataValue) → y ≡ item_told stamps now x
     → Acts a b (mark ∷ []) (value_step told value) x → Acts a b (mark ∷ []) (told_step stamps now told value) y
 item-told a b stamps now told value mark x y is acts =
-    moves-as a b (mark ∷ []) (λ R S. Does (value_step told value R) (mark ∷ []) (x, S)) (λ R S. Does (told_step stamps now told value R) (mark ∷ []) (y, S))
-    (λ R S does. record {
+    moves-as a b (mark ∷ []) (λ marks R S. Does (value_step told value R) marks (x, S)) (λ marks R S. Does (told_step stamps now told value R) marks (y, S))
+    (λ ms R S does. record {
       does = λ later.
           ap (λ (r : (Result DataValue Status × Content) × List Mark). let z : (DataValue × Content) × List Mark = ((item_told stamps now r.0.0, r.0.1), r.1) in z) (does.does later)
           ∙ ap (λ (v : DataValue). let z : (DataValue × Content) × List Mark = ((v, S), later) in z) (sym is);

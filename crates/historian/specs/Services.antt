@@ -6,7 +6,6 @@ use Rattle.ua_binary.specs.declared.codes.TheConstants.Status.{BAD_OUT_OF_MEMORY
 use Rattle.ua_binary.specs.declared.values.NodeId.{NodeId}
 use Rattle.ua_binary.specs.declared.values.Ticks.{Ticks}
 use Rattle.ua_session.specs.declared.fault.SessionFault.{SessionFault}
-use Rattle.ua_session.specs.declared.fault.SessionFault.TheVariants.{NotActivated}
 use Rattle.ua_session.specs.Fault.{code_of}
 use Rattle.ua_session.specs.Sessions.{State, create_answer, activate_answer, close_answer, user_at, with_new, with_user, without_session}
 use Rattle.ua_settings.specs.Settings.{Values}
@@ -44,13 +43,10 @@ called sessions done (Ok a) mark = let d = done a in (Ok d.0, d.1)
 
 -- ---- services
 
--- a session that nobody activated is closed where a service is asked for in it (Part 4, 5.7.3)
-abbrev pub left_outside : State → NodeId → SessionFault → State
-left_outside sessions token fault = elim fault [ NotActivated ↦ record sessions { alive = without_session token sessions.alive } | _ ↦ sessions ]
-
-abbrev pub in_session : NodeId → State → Result (List ℕ) SessionFault → (List ℕ → Marked (Response × Content)) → Content → Marked Outcome
-in_session token sessions (Err fault) service R = give ((Err (code_of fault), left_outside sessions token fault), R)
-in_session token sessions (Ok user) service R = and_then (service user) (λ told. give ((told.0, sessions), told.1))
+-- a service that wants a session which was activated; where it wasn't the session stays as it is
+abbrev pub in_session : State → Result (List ℕ) SessionFault → (List ℕ → Marked (Response × Content)) → Content → Marked Outcome
+in_session sessions (Err fault) service R = give ((Err (code_of fault), sessions), R)
+in_session sessions (Ok user) service R = and_then (service user) (λ told. give ((told.0, sessions), told.1))
 
 -- what a service answers, and what it leaves: a session more, a session's user, a session less, which takes no memory;
 -- the last four want a session that was activated
@@ -62,11 +58,11 @@ served site now token (ActivateSession claim) sessions R = step (λ mark.
     (called sessions (λ user. (Activated, record sessions { alive = with_user token user sessions.alive })) (activate_answer sessions token site.settings.users claim) mark, R))
 served site now token CloseSession sessions R =
     give (called sessions (λ _. (Closed, record sessions { alive = without_session token sessions.alive })) (close_answer sessions token) Fine, R)
-served site now token (Browse nodes) sessions R = in_session token sessions (user_at sessions token) (λ user. give (browse site.settings.space nodes, R)) R
-served site now token (Read asked) sessions R = in_session token sessions (user_at sessions token) (λ user. read site.settings.space now asked R) R
-served site now token (HistoryRead asked) sessions R = in_session token sessions (user_at sessions token) (λ user. read_history site.id site.settings.space asked R) R
+served site now token (Browse nodes) sessions R = in_session sessions (user_at sessions token) (λ user. give (browse site.settings.space nodes, R)) R
+served site now token (Read asked) sessions R = in_session sessions (user_at sessions token) (λ user. read site.settings.space now asked R) R
+served site now token (HistoryRead asked) sessions R = in_session sessions (user_at sessions token) (λ user. read_history site.id site.settings.space asked R) R
 served site now token (HistoryUpdate details) sessions R =
-    in_session token sessions (user_at sessions token) (λ user. update_history site.own site.settings.space user now details R) R
+    in_session sessions (user_at sessions token) (λ user. update_history site.own site.settings.space user now details R) R
 
 -- ---- messages
 

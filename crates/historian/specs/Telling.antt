@@ -7,8 +7,7 @@ use Rattle.ua_services.specs.Sessions.{session_made, IsShortSession}
 use Rattle.ua_services.specs.Browsing.{AreShortBrowsed}
 use Rattle.ua_services.specs.Updates.{AreShortUpdates}
 use Rattle.ua_services.specs.History.{AreShortHistoryReads}
-use Rattle.ua_session.specs.Sessions.{State, user_at}
-use Rattle.ua_session.specs.declared.fault.SessionFault.{SessionFault}
+use Rattle.ua_session.specs.Sessions.{State}
 use Rattle.ua_binary.specs.declared.values.NodeId.{NodeId}
 use Rattle.records.specs.Contents.{Content}
 use Rattle.archive.specs.Store.{Store, Mark, faults_of}
@@ -23,7 +22,7 @@ use Rattle.historian.specs.declared.answer.Answer.TheVariants as made
 use Rattle.historian.specs.Answers.{Answer, Endpoints, Created, Activated, Closed, Browsed, Updated, Histories, Response, IsSpelled, response}
 use Rattle.historian.specs.Requests.{Call, call_in, Request}
 use Rattle.historian.specs.Reading.{Served}
-use Rattle.historian.specs.Services.{Outcome, left_outside}
+use Rattle.historian.specs.Services.{Outcome}
 
 -- what a message asks whose type id and header were read
 abbrev pub asked_of : Result Opened Status → Result Request Status
@@ -44,11 +43,6 @@ refusal_of None = BAD_SERVICE_UNSUPPORTED
 abbrev pub Asks : {T : Type 0} → Service → (T → Call) → List ℕ → Result T Status → Type 0
 Asks service call bytes (Ok request) = call_in service bytes ≡ Some (call request)
 Asks service call bytes (Err status) = ((status ≡ BAD_DECODING_ERROR) × (call_in service bytes ≡ None)) ⊎ (status ≡ BAD_OUT_OF_MEMORY)
-
--- a session may be gone on in, or why it may not, and what is left then
-abbrev pub Enters : State → NodeId → Result (Unit {0}) SessionFault → State → Type 0
-Enters old token (Ok _) new = (user : List ℕ) × (user_at old token ≡ Ok user) × (new ≡ old)
-Enters old token (Err fault) new = (user_at old token ≡ Err fault) × (new ≡ left_outside old token fault)
 
 -- an answer of the code as one of the services
 abbrev pub answer_of : Made → Answer

@@ -13,7 +13,6 @@ ghost use Rattle.historian.specs.Telling.{IsShort, Tells, PerformsHere};
 
 use crate::answer::Answer;
 use crate::requests::browse_request;
-use crate::sessions::enter;
 use std::alloc::Global;
 use ua_binary::{Cursor, Listing, NodeIdRef, Status};
 use ua_services::{BrowseDescription, BrowseResult};
@@ -97,15 +96,15 @@ fn browse_all(
 pub(crate) fn browse(
     alloc: Global,
     settings: &Settings,
-    sessions: &mut Sessions,
+    sessions: &Sessions,
     token: NodeIdRef<'_>,
     request: Cursor<'_>,
 ) -> Result<Answer, Status>
     ensures performs { (site : Site) (now : _) → site.settings ≡ settings.now
-        → PerformsHere (answered_call site now (node_of token.entry) (call_in service.Browse request.entry) sessions.old) sessions.new result }
+        → PerformsHere (answered_call site now (node_of token.entry) (call_in service.Browse request.entry) sessions.now) sessions.now result }
     ensures short { IfOk result IsShort }
 {
     let asked = browse_request(alloc, request)?;
-    enter(sessions, token)?;
+    sessions.user_of(token)?;
     browse_all(alloc, settings.space(), &asked.nodes)
 }

@@ -18,7 +18,6 @@ use crate::answer::Answer;
 use crate::browsing::list_refusal;
 use crate::reading::judge_value;
 use crate::requests::history_read_request;
-use crate::sessions::enter;
 use archive::Archive;
 use hist_read::{Query, read_node};
 use std::alloc::Global;
@@ -181,17 +180,17 @@ pub(crate) fn read_history<A: Archive>(
     alloc: Global,
     settings: &Settings,
     archive: &mut A,
-    sessions: &mut Sessions,
+    sessions: &Sessions,
     now: Ticks,
     token: NodeIdRef<'_>,
     request: Cursor<'_>,
 ) -> Result<Answer, Status>
     ensures performs { Performs (A.state archive.old) (A.state archive.new)
-        (answered_call (site_of settings.now (A.state archive.old)) now (node_of token.entry) (call_in service.HistoryRead request.entry) sessions.old) sessions.new result }
+        (answered_call (site_of settings.now (A.state archive.old)) now (node_of token.entry) (call_in service.HistoryRead request.entry) sessions.now) sessions.now result }
     ensures short { IfOk result IsShort }
 {
     let asked = history_read_request(alloc, request)?;
-    enter(sessions, token)?;
+    sessions.user_of(token)?;
     read_all(
         alloc,
         settings,

@@ -30,7 +30,6 @@ ghost use Rattle.historian.specs.Telling.{ComesWritten, Responds};
 use crate::browsing::list_refusal;
 use crate::requests::read_request;
 use crate::responses::put_head;
-use crate::sessions::enter;
 use archive::{Archive, Direction, Setback, StoreFault};
 use hist_read::{is_short_value, with_stamps};
 use records::{Held, Moment};
@@ -331,7 +330,7 @@ pub(crate) fn read<A: Archive>(
     alloc: Global,
     settings: &Settings,
     archive: &mut A,
-    sessions: &mut Sessions,
+    sessions: &Sessions,
     now: Ticks,
     handle: u32,
     token: NodeIdRef<'_>,
@@ -340,10 +339,10 @@ pub(crate) fn read<A: Archive>(
 ) -> Result<(), Status>
     requires { body.old.items ≡ [] }
     ensures { Responds (A.state archive.old) (A.state archive.new)
-        (answered_call (site_of settings.now (A.state archive.old)) now (node_of token.entry) (call_in service.Read request.entry) sessions.old) sessions.new now handle result body.new.items }
+        (answered_call (site_of settings.now (A.state archive.old)) now (node_of token.entry) (call_in service.Read request.entry) sessions.now) sessions.now now handle result body.new.items }
 {
     let asked = read_request(alloc, request)?;
-    enter(sessions, token)?;
+    sessions.user_of(token)?;
     put_read(
         alloc,
         settings.space(),

@@ -5,7 +5,7 @@ ghost use Rattle.ua_binary.specs.Binary.{node_of};
 ghost use Rattle.historian.specs.declared.service.Service.TheVariants as service;
 ghost use Rattle.historian.specs.Requests.{call_in};
 ghost use Rattle.historian.specs.Services.{Site, answered_call};
-ghost use Rattle.historian.specs.Telling.{IsShort, Enters, PerformsHere};
+ghost use Rattle.historian.specs.Telling.{IsShort, PerformsHere};
 
 use crate::answer::Answer;
 use crate::endpoints::{all_endpoints, takes_transport};
@@ -13,7 +13,7 @@ use crate::requests::{activation_request, closing_request, creation_request, end
 use std::alloc::Global;
 use ua_binary::{Cursor, NodeIdRef, Status};
 use ua_services::CreateSessionResponse;
-use ua_session::{SessionFault, Sessions};
+use ua_session::Sessions;
 use ua_settings::Settings;
 
 /// The most bytes of a request that are taken.
@@ -95,20 +95,5 @@ pub(crate) fn close_session(
     match sessions.close(token) {
         Ok(()) => Ok(Answer::Closed),
         Err(fault) => Err(fault.code()),
-    }
-}
-
-/// Goes on in a session that was activated. `NotActivated` where it wasn't, and then it is closed (Part 4, 5.7.3); `IdInvalid`
-/// where there is no such session. It takes no memory.
-pub(crate) fn enter(sessions: &mut Sessions, token: NodeIdRef<'_>) -> Result<(), SessionFault>
-    ensures { Enters sessions.old (node_of token.entry) result sessions.new }
-{
-    match sessions.user_of(token) {
-        Ok(_) => Ok(()),
-        Err(SessionFault::NotActivated) => {
-            sessions.close(token)?;
-            Err(SessionFault::NotActivated)
-        }
-        Err(fault) => Err(fault),
     }
 }

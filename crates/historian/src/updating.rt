@@ -19,7 +19,6 @@ ghost use Rattle.historian.specs.Telling.{IsShort, Comes, Performs};
 use crate::answer::Answer;
 use crate::browsing::list_refusal;
 use crate::requests::history_update_request;
-use crate::sessions::enter;
 use archive::Archive;
 use hist_update::{Request, delete_at, delete_raw, update_data};
 use std::alloc::{AllocError, Global};
@@ -211,17 +210,16 @@ pub(crate) fn update_history<A: Archive>(
     alloc: Global,
     settings: &Settings,
     archive: &mut A,
-    sessions: &mut Sessions,
+    sessions: &Sessions,
     now: Ticks,
     token: NodeIdRef<'_>,
     request: Cursor<'_>,
 ) -> Result<Answer, Status>
     ensures performs { Performs (A.state archive.old) (A.state archive.new)
-        (answered_call (site_of settings.now (A.state archive.old)) now (node_of token.entry) (call_in service.HistoryUpdate request.entry) sessions.old) sessions.new result }
+        (answered_call (site_of settings.now (A.state archive.old)) now (node_of token.entry) (call_in service.HistoryUpdate request.entry) sessions.now) sessions.now result }
     ensures short { IfOk result IsShort }
 {
     let asked = history_update_request(alloc, request)?;
-    enter(sessions, token)?;
     let user = sessions.user_of(token)?;
     update_all(alloc, settings.space(), archive, user, now, &asked.details)
 }

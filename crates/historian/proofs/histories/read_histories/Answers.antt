@@ -1,7 +1,11 @@
-use Rattle.std.proofs.Common.{◌∙◌, ◌∷◌, ◌++◌, ◌+◌, [], vec_len, sym, ap, subst, arith, refl}
+use Rattle.std.proofs.Common.{◌≡◌, ◌∙◌, ◌∷◌, ◌++◌, ◌+◌, List, [], map, take, vec_len, sym, ap, subst, arith, refl}
 use Rattle.std.specs.Prelude.{All}
+use Rattle.std.proofs.lemmas.List.{take_all}
 use Rattle.std.proofs.lemmas.List.Elements.{All-nil, All-cons, All-append}
 use Rattle.ua_services.specs.History.{history_read_fields, IsShortHistoryRead}
+use Rattle.ua_services.specs.declared.history.HistoryReadValueId.{HistoryReadValueId}
+use Rattle.archive.specs.Store.{Mark}
+use Rattle.archive.specs.Steps.{Acts, each}
 use Rattle.hist_update.proofs.Updating.{pushed}
 use Rattle.historian.specs.Reading.{read_history_of}
 use Rattle.historian.proofs.Items.{each-next-by}
@@ -21,3 +25,12 @@ loop-item-preserved g c =
       count = pushed c.push.result c.unwrap.result (vec_len c.loop-item.results + 1) (vec_len c.loop-item.results) (vec_len c.push.new.self) c.push.ensures.len c.unwrap.ensures ∙ ap (λ n. n + 1) c.loop-item.invariant.count;
       room = omega (arith, c.push.ensures.capacity, c.loop-item.invariant.room);
     }
+
+pub returns-clause-acts : goal.returns-clause-acts
+returns-clause-acts g c =
+    let a = g.A.Archive.state c.args.archive.now in
+    let b = g.A.Archive.state c.loop-item.archive in
+    let read = read_history_of a.id c.args.space.now c.args.query.now c.args.release in
+    let P : List HistoryReadValueId → Type 0 = λ items.
+    (used : List Mark) × Acts a b used (each read (map history_read_fields items)) c.loop-item.results.items in
+    subst P (take_all _ _ (omega (arith, c.loop-item-test.false))) c.loop-item.invariant.acts

@@ -5,7 +5,6 @@ use Rattle.ua_services.specs.declared.history.HistoryReadRequest.{HistoryReadReq
 use Rattle.ua_services.specs.declared.history.HistoryReadValueId.{HistoryReadValueId}
 use Rattle.ua_services.specs.History.{history_read_fields, history_asked}
 use Rattle.historian.specs.declared.service.Service.TheVariants as service
-use Rattle.ua_session.specs.Sessions.{State}
 use Rattle.historian.specs.Reading.{read_history}
 use Rattle.historian.specs.Requests.{HistoryRead, call_in}
 use Rattle.historian.specs.Services.{site_of, answered_call}
@@ -23,17 +22,17 @@ returns-in_err-asked-clause-performs g c =
     performs-here s (answered_call site c.args.now token (call_in service.HistoryRead c.args.request) sessions) sessions c.from_residual.result
     (performs-unread site c.args.now token sessions service.HistoryRead (λ (asked : HistoryReadRequest). HistoryRead (history_asked asked)) c.args.request c.in_err-asked.field-0.0 c.from_residual.result c.in_err-asked.ensures (p.1 ∙ ap Err p.2))
 
-pub returns-in_err-enter-clause-performs : goal.returns-in_err-enter-clause-performs
-returns-in_err-enter-clause-performs g c =
+pub returns-in_err-user_of-clause-performs : goal.returns-in_err-user_of-clause-performs
+returns-in_err-user_of-clause-performs g c =
     let s = g.A.Archive.state c.args.archive.now in
     let site = site_of c.args.settings.now s in
     let token = node_of c.args.token in
     let sessions = c.args.sessions.now in
     let asked = history_asked c.in_ok-asked.asked in
-    let p = err_from_is_err_and c.from_residual-in_err-enter.result c.from_residual-in_err-enter.ensures.1 in
-    performs-here s (answered_call site c.args.now token (call_in service.HistoryRead c.args.request) sessions) c.enter.new.sessions c.from_residual-in_err-enter.result
-    (performs-outside site c.args.now token sessions c.enter.new.sessions service.HistoryRead (HistoryRead asked) c.args.request (λ R user. read_history site.id site.settings.space asked R) c.in_err-enter.field-0.0 p.0 c.from_residual-in_err-enter.result
-    c.in_ok-asked.ensures (λ R marks. refl) c.in_err-enter.ensures.0 c.in_err-enter.ensures.1 p.2 p.1)
+    let p = err_from_is_err_and c.from_residual-in_err-user_of.result c.from_residual-in_err-user_of.ensures.1 in
+    performs-here s (answered_call site c.args.now token (call_in service.HistoryRead c.args.request) sessions) sessions c.from_residual-in_err-user_of.result
+    (performs-outside site c.args.now token sessions service.HistoryRead (HistoryRead asked) c.args.request (λ R user. read_history site.id site.settings.space asked R) c.in_err-user_of.field-0.0 p.0 c.from_residual-in_err-user_of.result
+    c.in_ok-asked.ensures (λ R marks. refl) (sym c.in_err-user_of.ensures.value) p.2 p.1)
 
 pub returns-clause-performs : goal.returns-clause-performs
 returns-clause-performs g c =
@@ -42,9 +41,7 @@ returns-clause-performs g c =
     let site = site_of c.args.settings.now a in
     let asked = history_asked c.in_ok-asked.asked in
     let d = c.in_ok-asked.asked in
-    let (user, in_use, stays) = c.in_ok-enter.ensures in
-    let S : State → Type 0 = λ s. Performs a b (answered_call site c.args.now (node_of c.args.token) (call_in service.HistoryRead c.args.request) c.args.sessions.now) s c.read_all.result in
+    let user = c.in_ok-user_of.field-0.now in
     let Q : List HistoryReadValueId → Type 0 = λ nodes. Comes a b (read_history a.id c.args.settings.now.space (d.details, (d.timestamps, (d.release_continuation_points, map history_read_fields nodes)))) c.read_all.result in
-    subst S (sym stays)
-    (performs-comes a b site c.args.now (node_of c.args.token) c.args.sessions.now service.HistoryRead (HistoryRead asked) c.args.request user (λ R user. read_history site.id site.settings.space asked R) c.read_all.result
-    c.in_ok-asked.ensures (λ R marks. refl) in_use (subst Q c.deref.ensures.value c.read_all.ensures.comes))
+    performs-comes a b site c.args.now (node_of c.args.token) c.args.sessions.now service.HistoryRead (HistoryRead asked) c.args.request user (λ R user. read_history site.id site.settings.space asked R) c.read_all.result
+    c.in_ok-asked.ensures (λ R marks. refl) (sym c.in_ok-user_of.ensures.value) (subst Q c.deref.ensures.value c.read_all.ensures.comes)

@@ -1,8 +1,10 @@
-use Rattle.std.proofs.Common.{Err, Result, refl, sym, subst}
+use Rattle.std.proofs.Common.{◌∙◌, Ok, Err, Result, refl, sym, ap, subst}
 use Rattle.ua_binary.specs.declared.codes.Status.{Status}
 use Rattle.historian.specs.declared.service.Request.{Request as Opened}
-use Rattle.historian.specs.Services.{site_of, answered_request}
-use Rattle.historian.specs.Telling.{Performs, asked_of}
+use Rattle.historian.specs.Services.{site_of, answered_call, answered_request}
+use Rattle.historian.specs.Requests.{call_in}
+use Rattle.ua_binary.specs.Binary.{node_of}
+use Rattle.historian.specs.Telling.{Performs, Responds, asked_of}
 use Rattle.historian.proofs.Performing.{performs-none}
 use Rattle.historian.proofs.message.perform.Goals as goal
 
@@ -12,4 +14,21 @@ returns-in-Err g c =
     let site = site_of c.args.settings.now s in
     let P : Result Opened Status → Type 0 = λ request. Performs s s (answered_request site c.args.now (asked_of request) c.args.sessions.now) c.args.sessions.now (Err c.in-Err.status) in
     let (used, told, acts, tells) = subst P (sym c.in-Err.is) (performs-none s site c.args.now c.args.sessions.now c.in-Err.status (Err c.in-Err.status) refl) in
+    (used, told, acts, tells)
+
+pub returns-in-Ok : goal.returns-in-Ok
+returns-in-Ok g c =
+    let a = g.A.Archive.state c.args.archive.now in
+    let b = g.A.Archive.state c.serve.new.archive in
+    let site = site_of c.args.settings.now a in
+    let P : Result Opened Status → Type 0 = λ request.
+    Responds a b (answered_request site c.args.now (asked_of request) c.args.sessions.now) c.serve.new.sessions c.args.now
+    c.args.message.handle c.serve.result c.serve.new.body.items in
+    let Q : _ → Type 0 = λ handle.
+    Responds a b (answered_request site c.args.now (asked_of (Ok c.in-Ok.request)) c.args.sessions.now) c.serve.new.sessions
+    c.args.now handle c.serve.result c.serve.new.body.items in
+    let R : Opened → Type 0 = λ request.
+    Responds a b (answered_call site c.args.now (node_of request.token) (call_in request.service request.body) c.args.sessions.now)
+    c.serve.new.sessions c.args.now c.handle-handle.result c.serve.result c.serve.new.body.items in
+    let (used, told, acts, tells) = subst P (sym c.in-Ok.is) (subst Q c.handle-handle.ensures (subst R c.in-Ok.request-is c.serve.ensures)) in
     (used, told, acts, tells)

@@ -25,7 +25,7 @@ returns g c =
       | in-CreateSession w ↦ subst P (sym w.in-CreateSession.is) (rw (w.archive-is, w.sessions-is, w.answer-is) (performs-here a (does service.CreateSession) w.create_session-answer.new.sessions w.create_session-answer.result (w.create_session-answer.ensures.performs site c.args.now token refl)))
       | in-ActivateSession w ↦ subst P (sym w.in-ActivateSession.is) (rw (w.archive-is, w.sessions-is, w.answer-is) (performs-here a (does service.ActivateSession) w.activate_session-answer.new.sessions w.activate_session-answer.result (w.activate_session-answer.ensures.performs site c.args.now refl)))
       | in-CloseSession w ↦ subst P (sym w.in-CloseSession.is) (rw (w.archive-is, w.sessions-is, w.answer-is) (performs-here a (does service.CloseSession) w.close_session-answer.new.sessions w.close_session-answer.result (w.close_session-answer.ensures.performs site c.args.now)))
-      | in-Browse w ↦ subst P (sym w.in-Browse.is) (rw (w.archive-is, w.sessions-is, w.answer-is) (performs-here a (does service.Browse) w.browse-answer.new.sessions w.browse-answer.result (w.browse-answer.ensures.performs site c.args.now refl)))
+      | in-Browse w ↦ subst P (sym w.in-Browse.is) (rw (w.archive-is, w.sessions-is, w.answer-is) (performs-here a (does service.Browse) S w.browse-answer.result (w.browse-answer.ensures.performs site c.args.now refl)))
       | in-HistoryRead w ↦ subst P (sym w.in-HistoryRead.is) (rw (w.archive-is, w.sessions-is, w.answer-is) (w.read_history-answer.ensures.performs))
       | in-HistoryUpdate w ↦ subst P (sym w.in-HistoryUpdate.is) (rw (w.archive-is, w.sessions-is, w.answer-is) (w.update_history-answer.ensures.performs))
     ] in

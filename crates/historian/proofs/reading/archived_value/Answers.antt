@@ -1,15 +1,24 @@
-use Rattle.std.proofs.Common.{◌≡◌, [], ◌∷◌, take, Err, ap, subst}
+use Rattle.std.proofs.Common.{◌≡◌, [], ◌∷◌, take, Some, Err, refl, ap, subst}
+use Rattle.ua_binary.specs.Binary.{node_of}
+use Rattle.ua_binary.specs.declared.codes.TheConstants.Status.{BAD_OUT_OF_MEMORY}
 use Rattle.ua_binary.specs.declared.values.NodeId.{NodeId}
 use Rattle.archive.specs.declared.reading.Direction.TheVariants.{Backward}
 use Rattle.archive.specs.Reading.{range_of}
 use Rattle.archive.specs.Steps.{step, Acts}
-use Rattle.archive.specs.Store.{Mark, Met}
+use Rattle.archive.specs.Store.{Mark, Starved, Met}
 use Rattle.hist_read.specs.Asking.{first_time}
 use Rattle.hist_read.specs.Reads.{greatest_time}
 use Rattle.archive.specs.Fault.{status_told}
 use Rattle.historian.specs.Reading.{latest, value_step}
-use Rattle.historian.proofs.Values.{value-found, value-failed}
+use Rattle.historian.proofs.Values.{value-here, value-found, value-failed}
 use Rattle.historian.proofs.reading.archived_value.Goals as goal
+
+pub returns-in_default-clause-acts : goal.returns-in_default-clause-acts
+returns-in_default-clause-acts g c = (
+  Starved,
+  value-here (g.A.Archive.state c.args.archive.now) (step status_told) (latest (node_of c.args.node)) Starved (Some BAD_OUT_OF_MEMORY)
+      (Err BAD_OUT_OF_MEMORY) refl (λ later. refl) (λ R. refl),
+)
 
 pub returns-in-Ok-newest-clause-acts : goal.returns-in-Ok-newest-clause-acts
 returns-in-Ok-newest-clause-acts g c =

@@ -7,7 +7,6 @@ use Rattle.ua_services.specs.Attributes.{read_fields, read_asked}
 use Rattle.ua_space.specs.declared.layout.Layout.{Layout}
 use Rattle.historian.specs.declared.service.Service.TheVariants as service
 use Rattle.historian.specs.Answers.{Response}
-use Rattle.ua_session.specs.Sessions.{State}
 use Rattle.historian.specs.Reading.{read}
 use Rattle.historian.specs.Requests.{Read, call_in}
 use Rattle.historian.specs.Services.{site_of, answered_call}
@@ -27,19 +26,19 @@ returns-in_err-asked g c =
     (performs-here s does sessions (Err p.0)
     (performs-unread site c.args.now token sessions service.Read (λ (asked : ReadRequest). Read (read_asked asked)) c.args.request c.in_err-asked.field-0.0 (Err p.0) c.in_err-asked.ensures (ap Err p.2))) p.1
 
-pub returns-in_err-enter : goal.returns-in_err-enter
-returns-in_err-enter g c =
+pub returns-in_err-user_of : goal.returns-in_err-user_of
+returns-in_err-user_of g c =
     let s = g.A.Archive.state c.args.archive.now in
     let site = site_of c.args.settings.now s in
     let token = node_of c.args.token in
     let sessions = c.args.sessions.now in
     let asked = read_asked c.in_ok-asked.asked in
-    let p = err_from_is_err_and c.from_residual-in_err-enter.result c.from_residual-in_err-enter.ensures.1 in
+    let p = err_from_is_err_and c.from_residual-in_err-user_of.result c.from_residual-in_err-user_of.ensures.1 in
     let does = answered_call site c.args.now token (call_in service.Read c.args.request) sessions in
-    responds-refused s s does c.enter.new.sessions c.args.now c.args.handle p.0 c.from_residual-in_err-enter.result c.args.body.now.items
-    (performs-here s does c.enter.new.sessions (Err p.0)
-    (performs-outside site c.args.now token sessions c.enter.new.sessions service.Read (Read asked) c.args.request (λ R user. read site.settings.space c.args.now asked R) c.in_err-enter.field-0.0 p.0 (Err p.0)
-    c.in_ok-asked.ensures (λ R marks. refl) c.in_err-enter.ensures.0 c.in_err-enter.ensures.1 p.2 refl)) p.1
+    responds-refused s s does sessions c.args.now c.args.handle p.0 c.from_residual-in_err-user_of.result c.args.body.now.items
+    (performs-here s does sessions (Err p.0)
+    (performs-outside site c.args.now token sessions service.Read (Read asked) c.args.request (λ R user. read site.settings.space c.args.now asked R) c.in_err-user_of.field-0.0 p.0 (Err p.0)
+    c.in_ok-asked.ensures (λ R marks. refl) (sym c.in_err-user_of.ensures.value) p.2 refl)) p.1
 
 pub returns : goal.returns
 returns g c =
@@ -50,8 +49,6 @@ returns g c =
     let bytes = c.put_read.new.body.items in
     let P : Layout → Type 0 = λ space. ComesWritten a b (read space c.args.now asked) c.args.now c.args.handle c.put_read.result bytes in
     let Q : List ReadValueId → Type 0 = λ nodes. ComesWritten a b (read c.space.result.now c.args.now (c.in_ok-asked.asked.timestamps, map read_fields nodes)) c.args.now c.args.handle c.put_read.result bytes in
-    let (user, in_use, stays) = c.in_ok-enter.ensures in
-    let S : State → Type 0 = λ s. Responds a b (answered_call site c.args.now (node_of c.args.token) (call_in service.Read c.args.request) c.args.sessions.now) s c.args.now c.args.handle c.put_read.result bytes in
-    subst S (sym stays)
-    (performs-with (λ (told : Response). Written c.args.now c.args.handle told c.put_read.result bytes) a b site c.args.now (node_of c.args.token) c.args.sessions.now service.Read (Read asked) c.args.request user
-    (λ R user. read site.settings.space c.args.now asked R) c.in_ok-asked.ensures (λ R marks. refl) in_use (subst P c.space.ensures (subst Q c.deref.ensures.value c.put_read.ensures)))
+    let user = c.in_ok-user_of.field-0.now in
+    performs-with (λ (told : Response). Written c.args.now c.args.handle told c.put_read.result bytes) a b site c.args.now (node_of c.args.token) c.args.sessions.now service.Read (Read asked) c.args.request user
+    (λ R user. read site.settings.space c.args.now asked R) c.in_ok-asked.ensures (λ R marks. refl) (sym c.in_ok-user_of.ensures.value) (subst P c.space.ensures (subst Q c.deref.ensures.value c.put_read.ensures))

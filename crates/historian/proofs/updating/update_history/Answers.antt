@@ -2,13 +2,11 @@ use Rattle.std.proofs.Common.{◌≡◌, ◌∙◌, ℕ, List, map, Ok, Err, ref
 use Rattle.std.proofs.lemmas.Result.{err_from_is_err_and}
 use Rattle.std.specs.Prelude.{Result}
 use Rattle.ua_binary.specs.Binary.{node_of}
-use Rattle.ua_session.specs.declared.fault.SessionFault.{SessionFault}
 use Rattle.ua_services.specs.declared.updates.HistoryUpdateRequest.{HistoryUpdateRequest}
 use Rattle.ua_services.specs.declared.updates.HistoryUpdateDetails.{HistoryUpdateDetails}
 use Rattle.ua_services.specs.Updates.{details_of}
 use Rattle.ua_space.specs.declared.layout.Layout.{Layout}
 use Rattle.historian.specs.declared.service.Service.TheVariants as service
-use Rattle.ua_session.specs.Sessions.{State, user_at}
 use Rattle.historian.specs.Updating.{update_history}
 use Rattle.historian.specs.Requests.{HistoryUpdate, call_in}
 use Rattle.historian.specs.Services.{site_of, answered_call}
@@ -26,28 +24,17 @@ returns-in_err-asked-clause-performs g c =
     performs-here s (answered_call site c.args.now token (call_in service.HistoryUpdate c.args.request) sessions) sessions c.from_residual.result
     (performs-unread site c.args.now token sessions service.HistoryUpdate (λ (asked : HistoryUpdateRequest). HistoryUpdate (map details_of asked.details.items)) c.args.request c.in_err-asked.field-0.0 c.from_residual.result c.in_err-asked.ensures.asks (p.1 ∙ ap Err p.2))
 
-pub returns-in_err-enter-clause-performs : goal.returns-in_err-enter-clause-performs
-returns-in_err-enter-clause-performs g c =
+pub returns-in_err-user-clause-performs : goal.returns-in_err-user-clause-performs
+returns-in_err-user-clause-performs g c =
     let s = g.A.Archive.state c.args.archive.now in
     let site = site_of c.args.settings.now s in
     let token = node_of c.args.token in
     let sessions = c.args.sessions.now in
     let asked = map details_of c.in_ok-asked.asked.details.items in
-    let p = err_from_is_err_and c.from_residual-in_err-enter.result c.from_residual-in_err-enter.ensures.1 in
-    performs-here s (answered_call site c.args.now token (call_in service.HistoryUpdate c.args.request) sessions) c.enter.new.sessions c.from_residual-in_err-enter.result
-    (performs-outside site c.args.now token sessions c.enter.new.sessions service.HistoryUpdate (HistoryUpdate asked) c.args.request (λ R user. update_history site.own site.settings.space user c.args.now asked R) c.in_err-enter.field-0.0 p.0 c.from_residual-in_err-enter.result
-    c.in_ok-asked.ensures.asks (λ R marks. refl) c.in_err-enter.ensures.0 c.in_err-enter.ensures.1 p.2 p.1)
-
--- a session that may be gone on in has a user
-has_user : {P : Type 0} (answer : Result (List ℕ) SessionFault) (user : List ℕ) (fault : SessionFault) → answer ≡ Ok user → answer ≡ Err fault → P
-has_user answer user fault is other = absurd cc
-
-pub returns-in_err-user-clause-performs : goal.returns-in_err-user-clause-performs
-returns-in_err-user-clause-performs g c =
-    let (user, in_use, stays) = c.in_ok-enter.ensures in
-    let fault = c.in_err-user.field-0.0 in
-    let T : State → Type 0 = λ s. user_at s (node_of c.args.token) ≡ Err fault in
-    has_user (user_at c.args.sessions.now (node_of c.args.token)) user fault in_use (subst T stays (sym c.in_err-user.ensures.value))
+    let p = err_from_is_err_and c.from_residual-in_err-user.result c.from_residual-in_err-user.ensures.1 in
+    performs-here s (answered_call site c.args.now token (call_in service.HistoryUpdate c.args.request) sessions) sessions c.from_residual-in_err-user.result
+    (performs-outside site c.args.now token sessions service.HistoryUpdate (HistoryUpdate asked) c.args.request (λ R user. update_history site.own site.settings.space user c.args.now asked R) c.in_err-user.field-0.0 p.0 c.from_residual-in_err-user.result
+    c.in_ok-asked.ensures.asks (λ R marks. refl) (sym c.in_err-user.ensures.value) p.2 p.1)
 
 pub returns-clause-performs : goal.returns-clause-performs
 returns-clause-performs g c =
@@ -56,11 +43,7 @@ returns-clause-performs g c =
     let site = site_of c.args.settings.now a in
     let asked = map details_of c.in_ok-asked.asked.details.items in
     let user = c.in_ok-user.user.now in
-    let (name, in_use, stays) = c.in_ok-enter.ensures in
-    let S : State → Type 0 = λ s. Performs a b (answered_call site c.args.now (node_of c.args.token) (call_in service.HistoryUpdate c.args.request) c.args.sessions.now) s c.update_all.result in
-    let T : State → Type 0 = λ s. user_at s (node_of c.args.token) ≡ Ok user in
     let P : Layout → Type 0 = λ space. Comes a b (update_history a.own space user c.args.now asked) c.update_all.result in
     let Q : List HistoryUpdateDetails → Type 0 = λ details. Comes a b (update_history a.own c.space.result.now user c.args.now (map details_of details)) c.update_all.result in
-    subst S (sym stays)
-    (performs-comes a b site c.args.now (node_of c.args.token) c.args.sessions.now service.HistoryUpdate (HistoryUpdate asked) c.args.request user (λ R user. update_history site.own site.settings.space user c.args.now asked R) c.update_all.result
-    c.in_ok-asked.ensures.asks (λ R marks. refl) (subst T stays (sym c.in_ok-user.ensures.value)) (subst P c.space.ensures (subst Q c.deref.ensures.value c.update_all.ensures.comes)))
+    performs-comes a b site c.args.now (node_of c.args.token) c.args.sessions.now service.HistoryUpdate (HistoryUpdate asked) c.args.request user (λ R user. update_history site.own site.settings.space user c.args.now asked R) c.update_all.result
+    c.in_ok-asked.ensures.asks (λ R marks. refl) (sym c.in_ok-user.ensures.value) (subst P c.space.ensures (subst Q c.deref.ensures.value c.update_all.ensures.comes))

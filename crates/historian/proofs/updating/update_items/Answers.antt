@@ -1,4 +1,5 @@
-use Rattle.std.proofs.Common.{rules, ◌∙◌, ◌∷◌, ◌++◌, ◌+◌, [], List, vec_len, sym, ap, subst, arith, refl}
+use Rattle.std.proofs.Common.{rules, ◌≡◌, ◌∙◌, ◌∷◌, ◌++◌, ◌+◌, [], List, map, take, vec_len, sym, ap, subst, arith, refl}
+use Rattle.std.proofs.lemmas.List.{take_all}
 use Rattle.std.specs.Prelude.{All}
 use Rattle.std.proofs.lemmas.List.Elements.{All-nil, All-cons, All-append}
 use Rattle.ua_services.specs.Updates.{details_of, HasShortValues, IsShortUpdate}
@@ -42,3 +43,12 @@ loop-details-init g c =
       own = refl;
       room = c.requires.room;
     }
+
+pub returns-clause-acts : goal.returns-clause-acts
+returns-clause-acts g c =
+    let a = g.A.Archive.state c.args.archive.now in
+    let b = g.A.Archive.state c.loop-details.archive in
+    let update = update_item a.own c.args.space.now c.args.user.now c.args.now in
+    let P : List HistoryUpdateDetails → Type 0 = λ items.
+    (used : List Mark) × Acts a b used (each update (map details_of items)) c.loop-details.results.items in
+    subst P (take_all _ _ (omega (arith, c.loop-details-test.false))) c.loop-details.invariant.acts

@@ -5,7 +5,7 @@ use Rattle.archive.specs.Store.{Mark}
 use Rattle.archive.specs.Steps.{Acts}
 use Rattle.ua_services.specs.Updates.{details_of}
 use Rattle.historian.specs.Updating.{update_of}
-use Rattle.hist_update.specs.Updates.{update_data, delete_at}
+use Rattle.hist_update.specs.Updates.{update_data, delete_raw, delete_at}
 use Rattle.archive.specs.Steps.{give}
 use Rattle.historian.proofs.Items.{acts-none, acts-same}
 use Rattle.historian.proofs.updating.update_of.Goals as goal
@@ -22,6 +22,17 @@ returns-in-UpdateData-clause-acts g c =
     ap (λ l. update_data a.own c.args.request.now c.args.value_type perform l R marks) c.as_slice-values.ensures
     ∙ ap (λ d. update_of a.own (λ _. c.args.request.now) c.args.value_type (details_of d) R marks) (sym c.in-UpdateData.is))
     (subst P (to_z-of_z w32 perform fits) (c.update_data.ensures.acts.0, c.update_data.ensures.acts.1))
+
+pub returns-in-DeleteRawModified-clause-acts : goal.returns-in-DeleteRawModified-clause-acts
+returns-in-DeleteRawModified-clause-acts g c =
+    let a = g.A.Archive.state c.args.archive.now in
+    let b = g.A.Archive.state c.delete_raw.new.archive in
+    let asked = c.in-DeleteRawModified.details in
+    acts-same a b (delete_raw a.own c.args.request.now asked.is_delete_modified asked.start_time asked.end_time)
+    (update_of a.own (λ _. c.args.request.now) c.args.value_type (details_of c.args.details.now)) c.delete_raw.result
+    (λ R marks.
+    ap (λ d. update_of a.own (λ _. c.args.request.now) c.args.value_type (details_of d) R marks)
+    (sym c.in-DeleteRawModified.is)) (c.delete_raw.ensures.acts.0, c.delete_raw.ensures.acts.1)
 
 pub returns-in-DeleteAtTime-clause-acts : goal.returns-in-DeleteAtTime-clause-acts
 returns-in-DeleteAtTime-clause-acts g c =
