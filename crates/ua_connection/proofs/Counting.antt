@@ -19,7 +19,7 @@ use Rattle.ua_channel.specs.declared.taken.Taken.{Taken}
 use Rattle.ua_channel.specs.declared.taken.Taken.TheVariants as taken
 use Rattle.ua_channel.specs.Placed.{Placed, judged}
 use Rattle.ua_channel.specs.Taking.{State, after, answer_of}
-use Rattle.archive.specs.Store.{Mark, Fine, Starved, Met}
+use Rattle.archive.specs.Store.{Mark, Fine, Starved, Stands, Met}
 use Rattle.historian.specs.Services.{Site, Outcome, answered as performed}
 use Rattle.counted_io.specs.declared.fault.ServeFault.TheVariants.{TooLong}
 use Rattle.archive.specs.Steps.{give, and_then}
@@ -47,6 +47,7 @@ made-counts : (n : ℕ) (went starved : Answering) → Counted n went → Counte
 made-counts n went starved a b [] readings = a [] readings
 made-counts n went starved a b (Fine ∷ marks) readings = a marks readings
 made-counts n went starved a b (Starved ∷ marks) readings = b marks readings
+made-counts n went starved a b (Stands ∷ marks) readings = a marks readings
 made-counts n went starved a b (Met fault ∷ marks) readings = a marks readings
 
 then-counts : {A : Type 0} (n : ℕ) (m : Given A) (f : A → Answering) → ((a : A) → Counted n (f a)) → Counted n (and_then m f)

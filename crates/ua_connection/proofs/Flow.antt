@@ -1,9 +1,8 @@
 -- How the answers to item after item make the answer to a connection.
-use Rattle.std.proofs.Common.{◌≡◌, ◌≤◌, ◌<◌, length, arith, Bool, true, false, nat_lt, inl, inr, ℕ, List, [], ◌++◌, Some, None, Ok, Err, refl, sym, ◌∙◌, ap, subst, append_assoc}
+use Rattle.std.proofs.Common.{◌≡◌, ◌≤◌, ◌<◌, length, arith, Bool, true, false, nat_lt, inl, inr, ℕ, List, [], ◌∷◌, ◌++◌, Some, None, Ok, Err, refl, sym, ◌∙◌, ap, subst, append_assoc}
 use Rattle.std.specs.Prelude.{Option, Result}
-use Rattle.std.specs.Io.KnownBytes.{Appends}
-use Rattle.std.proofs.KnownBytes.{Appends-trans, Appends-nil}
 use Rattle.std.proofs.lemmas.List.{append-nil}
+use Rattle.std.proofs.lemmas.Grind.{flat_map-append}
 use Rattle.std.proofs.lemmas.Bool.{lt-ltb}
 use Rattle.uacp.specs.Chunks.{cut, greatest}
 use Rattle.uacp.specs.Stream.{IsPartial}
@@ -24,8 +23,8 @@ use Rattle.counted_io.specs.declared.fault.ServeFault.{ServeFault}
 use Rattle.counted_io.specs.declared.fault.ServeFault.TheVariants.{Read, Write, TooLong, OutOfMemory}
 use Rattle.ua_connection.specs.declared.turn.Turn.{Turn}
 use Rattle.ua_connection.specs.declared.turn.Turn.TheVariants.{Waits, Greets, Goes, Ends}
-use Rattle.counted_io.specs.Bytes.{AppendsPart}
 use Rattle.ua_connection.specs.Given.{Outside, before}
+use Rattle.ua_connection.specs.Passing.{Event, Came, Went, AreWrites, went_of}
 use Rattle.ua_connection.specs.Run.{Answers}
 use Rattle.ua_connection.specs.Client.{Client, new_client, Standing, Ending, chunks}
 use Rattle.ua_connection.specs.Turns.{Link, IsShort, IsSmall, Reaches, Turned, TurnedInto, Drained, DrainsTo, DrainedSoFar, IsOwnEnd, IsNoLess, IsOwn, Shortens, new_link, ending_of, end_of}
@@ -64,10 +63,24 @@ pub turned-then : (settings : Values) (a b c : Store) (link middle next : Link) 
     → Turned settings a c link (before used more) (xs ++ ys) ending next
 turned-then settings a b c link middle next used more xs ys ending first second =
     let same = site_same settings a b (faults_of used.marks) first.passes in
-    let P : Site → Type 0 = λ s. Moves b c more.marks (λ S T. Reaches s middle S more ys ending next T) in
-    moves-then a b c used.marks more.marks (λ R S. Reaches (site_of settings a) link R used xs None middle S) (λ S T. Reaches (site_of settings a) middle S more ys ending next T)
-    (λ R T. Reaches (site_of settings a) link R (before used more) (xs ++ ys) ending next T)
-    (λ R S T p q. reaches-then (site_of settings a) link middle next R S T used more xs ys ending p q) first (subst P same second)
+    let P : Site → Type 0 = λ s. Moves b c more.marks (λ marks S T. Reaches s middle S (record more { marks = marks }) ys ending next T) in
+    moves-then a b c used.marks more.marks (λ marks R S. Reaches (site_of settings a) link R (record used { marks = marks }) xs None middle S)
+    (λ marks S T. Reaches (site_of settings a) middle S (record more { marks = marks }) ys ending next T)
+    (λ marks R T. Reaches (site_of settings a) link R (record (before used more) { marks = marks }) (xs ++ ys) ending next T)
+    (λ ms ns R S T p q. reaches-then (site_of settings a) link middle next R S T (record used { marks = ms }) (record more { marks = ns }) xs ys ending p q) first (subst P same second)
+
+-- the same where something is kept of the outside and of what was held before
+pub kept-then : (settings : Values) (a b c : Store) (link middle next : Link) (used more : Outside) (xs ys : List ℕ) (ending : Option Ending) (K L : Outside → Content → Type 0) → ((o m : Outside) (R : Content) → K o R → L (before o m) R)
+    → Moves a b used.marks (λ marks R S. Reaches (site_of settings a) link R (record used { marks = marks }) xs None middle S × K (record used { marks = marks }) R) → Turned settings b c middle more ys ending next
+    → Moves a c (before used more).marks (λ marks R T. Reaches (site_of settings a) link R (record (before used more) { marks = marks }) (xs ++ ys) ending next T × L (record (before used more) { marks = marks }) R)
+kept-then settings a b c link middle next used more xs ys ending K L keeps first second =
+    let same = site_same settings a b (faults_of used.marks) first.passes in
+    let P : Site → Type 0 = λ s. Moves b c more.marks (λ marks S T. Reaches s middle S (record more { marks = marks }) ys ending next T) in
+    moves-then a b c used.marks more.marks (λ marks R S. Reaches (site_of settings a) link R (record used { marks = marks }) xs None middle S × K (record used { marks = marks }) R)
+    (λ marks S T. Reaches (site_of settings a) middle S (record more { marks = marks }) ys ending next T)
+    (λ marks R T. Reaches (site_of settings a) link R (record (before used more) { marks = marks }) (xs ++ ys) ending next T × L (record (before used more) { marks = marks }) R)
+    (λ ms ns R S T p q. (reaches-then (site_of settings a) link middle next R S T (record used { marks = ms }) (record more { marks = ns }) xs ys ending p.0 q, keeps (record used { marks = ms }) (record more { marks = ns }) R p.1)) first
+    (subst P same second)
 
 pub into-then : (settings : Values) (a b c : Store) (link middle next : Link) (used more : Outside) (old now new : List ℕ) (ending : Option Ending) → TurnedInto settings a b link used old now None middle
     → TurnedInto settings b c middle more now new ending next → TurnedInto settings a c link (before used more) old new ending next
@@ -86,46 +99,59 @@ into-empty settings a b link next used old new ending empty into =
 
 -- ---- what is written
 
-pub drains-start : (settings : Values) (a : Store) (old : Option (List ℕ)) (link : Link) → DrainedSoFar settings a a old old link nothing link
-drains-start settings a old link = ([], Appends-nil old, turned-none settings a link)
+-- nothing was read in either part
+pub writes-append : (xs ys : List Event) → AreWrites xs → AreWrites ys → AreWrites (xs ++ ys)
+writes-append [] ys p q = q
+writes-append (Came piece ∷ xs) ys p q = absurd p
+writes-append (Went bytes ∷ xs) ys p q = writes-append xs ys p q
 
-pub drains-goes : (settings : Values) (a b c : Store) (old written sent : Option (List ℕ)) (link middle next : Link) (used more : Outside) (empty out : List ℕ) → DrainedSoFar settings a b old written link used middle → empty ≡ []
-    → TurnedInto settings b c middle more empty out None next → Appends written sent out → DrainedSoFar settings a c old sent link (before used more) next
-drains-goes settings a b c old written sent link middle next used more empty out so none into appends =
-    (so.0 ++ out, Appends-trans old written sent so.0 out so.1 appends, turned-then settings a b c link middle next used more so.0 out None so.2 (into-empty settings b c middle next more empty out None none into))
+-- one write more
+pub went-more : (events : List Event) (out : List ℕ) → went_of (events ++ Went out ∷ []) ≡ went_of events ++ out
+went-more events out = flat_map-append (λ (event : Event). elim event [ Went bytes ↦ bytes | _ ↦ [] ]) events (Went out ∷ []) ∙ ap (λ o. went_of events ++ o) (append-nil out)
 
-pub drains-waits : (settings : Values) (a b c : Store) (old written sent : Option (List ℕ)) (link middle next : Link) (used more : Outside) (empty out : List ℕ) → DrainedSoFar settings a b old written link used middle → empty ≡ []
-    → TurnedInto settings b c middle more empty out None next → Appends written sent out → Drained settings a c old sent link (before used more) (Ok None) next
-drains-waits settings a b c old written sent link middle next used more empty out so none into appends = drains-goes settings a b c old written sent link middle next used more empty out so none into appends
+pub drains-start : (settings : Values) (a : Store) (link : Link) → DrainedSoFar settings a a link nothing [] link
+drains-start settings a link = (tt, turned-none settings a link)
 
-pub drains-ends : (settings : Values) (a b c : Store) (old written sent : Option (List ℕ)) (link middle next : Link) (used more : Outside) (empty out : List ℕ) (served : Served) → DrainedSoFar settings a b old written link used middle → empty ≡ []
-    → TurnedInto settings b c middle more empty out (Some (Ok served)) next → Appends written sent out → Drained settings a c old sent link (before used more) (Ok (Some served)) next
-drains-ends settings a b c old written sent link middle next used more empty out served so none into appends =
-    (so.0 ++ out, Appends-trans old written sent so.0 out so.1 appends, turned-then settings a b c link middle next used more so.0 out (Some (Ok served)) so.2 (into-empty settings b c middle next more empty out (Some (Ok served)) none into))
+-- what was answered so far, and then into an empty buffer
+drains-into : (settings : Values) (a b c : Store) (link middle next : Link) (used more : Outside) (events : List Event) (empty out : List ℕ) (ending : Option Ending) → DrainedSoFar settings a b link used events middle → empty ≡ []
+    → TurnedInto settings b c middle more empty out ending next → Turned settings a c link (before used more) (went_of events ++ out) ending next
+drains-into settings a b c link middle next used more events empty out ending so none into =
+    turned-then settings a b c link middle next used more (went_of events) out ending so.1 (into-empty settings b c middle next more empty out ending none into)
 
-pub drains-fails : (settings : Values) (a b c : Store) (old written sent : Option (List ℕ)) (link middle next : Link) (used more : Outside) (empty out : List ℕ) (fault : ServeFault) → DrainedSoFar settings a b old written link used middle → empty ≡ []
-    → TurnedInto settings b c middle more empty out (Some (Err fault)) next → Appends written sent out → Drained settings a c old sent link (before used more) (Err fault) next
-drains-fails settings a b c old written sent link middle next used more empty out fault so none into appends =
-    let all = turned-then settings a b c link middle next used more so.0 out (Some (Err fault)) so.2 (into-empty settings b c middle next more empty out (Some (Err fault)) none into) in
-    (so.0 ++ out, Appends-trans old written sent so.0 out so.1 appends, go fault all)
+-- and what was answered is written
+drains-out : (settings : Values) (a b c : Store) (link middle next : Link) (used more : Outside) (events : List Event) (empty out : List ℕ) (ending : Option Ending) → DrainedSoFar settings a b link used events middle → empty ≡ []
+    → TurnedInto settings b c middle more empty out ending next → Turned settings a c link (before used more) (went_of (events ++ Went out ∷ [])) ending next
+drains-out settings a b c link middle next used more events empty out ending so none into =
+    subst (λ o. Turned settings a c link (before used more) o ending next) (sym (went-more events out)) (drains-into settings a b c link middle next used more events empty out ending so none into)
+
+pub drains-goes : (settings : Values) (a b c : Store) (link middle next : Link) (used more : Outside) (events : List Event) (empty out : List ℕ) → DrainedSoFar settings a b link used events middle → empty ≡ []
+    → TurnedInto settings b c middle more empty out None next → DrainedSoFar settings a c link (before used more) (events ++ Went out ∷ []) next
+drains-goes settings a b c link middle next used more events empty out so none into =
+    (writes-append events (Went out ∷ []) so.0 tt, drains-out settings a b c link middle next used more events empty out None so none into)
+
+drains-fails : (settings : Values) (a b c : Store) (link middle next : Link) (used more : Outside) (events : List Event) (empty out : List ℕ) (fault : ServeFault) → DrainedSoFar settings a b link used events middle → empty ≡ []
+    → TurnedInto settings b c middle more empty out (Some (Err fault)) next → DrainsTo settings a c link (before used more) (went_of (events ++ Went out ∷ [])) (Err fault) next
+drains-fails settings a b c link middle next used more events empty out fault so none into = go fault (drains-out settings a b c link middle next used more events empty out (Some (Err fault)) so none into)
   where
-    go : (f : ServeFault) → Turned settings a c link (before used more) (so.0 ++ out) (Some (Err f)) next → DrainsTo settings a c link (before used more) (so.0 ++ out) (Err f) next
+    go : (f : ServeFault) → Turned settings a c link (before used more) (went_of (events ++ Went out ∷ [])) (Some (Err f)) next → DrainsTo settings a c link (before used more) (went_of (events ++ Went out ∷ [])) (Err f) next
     go Read t = t
     go Write t =
         let P : List ℕ → Type 0 = λ o. Turned settings a c link (before used more) o (Some (Err Write)) next in
-        ([], Some (Err Write), subst P (sym (append-nil (so.0 ++ out))) t)
+        ([], Some (Err Write), subst P (sym (append-nil (went_of (events ++ Went out ∷ [])))) t)
     go TooLong t = t
     go OutOfMemory t = t
 
 -- a write that failed
-pub drains-part : (settings : Values) (a b c : Store) (old written sent : Option (List ℕ)) (link middle next : Link) (used more : Outside) (empty out : List ℕ) (ending : Option Ending) (result : Result (Option Served) ServeFault)
-    → DrainedSoFar settings a b old written link used middle → empty ≡ [] → TurnedInto settings b c middle more empty out ending next → AppendsPart written sent out → result ≡ Err Write
-    → Drained settings a c old sent link (before used more) result next
-drains-part settings a b c old written sent link middle next used more empty out ending result so none into part is =
-    let P : Result (Option Served) ServeFault → Type 0 = λ x. Drained settings a c old sent link (before used more) x next in
+pub drains-part : (settings : Values) (a b c : Store) (link middle next : Link) (used more : Outside) (events : List Event) (empty out sent unsent : List ℕ) (ending : Option Ending) (result : Result (Option Served) ServeFault)
+    → DrainedSoFar settings a b link used events middle → empty ≡ [] → TurnedInto settings b c middle more empty out ending next → out ≡ sent ++ unsent → result ≡ Err Write
+    → Drained settings a c link (before used more) (events ++ Went sent ∷ []) result next
+drains-part settings a b c link middle next used more events empty out sent unsent ending result so none into cut_so is =
+    let P : Result (Option Served) ServeFault → Type 0 = λ x. Drained settings a c link (before used more) (events ++ Went sent ∷ []) x next in
     let Q : List ℕ → Type 0 = λ o. Turned settings a c link (before used more) o ending next in
-    let all = turned-then settings a b c link middle next used more so.0 out ending so.2 (into-empty settings b c middle next more empty out ending none into) in
-    subst P (sym is) (so.0 ++ part.0, Appends-trans old written sent so.0 part.0 so.1 part.3, (part.1, ending, subst Q (ap (λ (o : List ℕ). so.0 ++ o) part.2 ∙ sym (append_assoc so.0 part.0 part.1)) all))
+    let all = drains-into settings a b c link middle next used more events empty out ending so none into in
+    let same : went_of events ++ out ≡ went_of (events ++ Went sent ∷ []) ++ unsent =
+    ap (λ (o : List ℕ). went_of events ++ o) cut_so ∙ sym (append_assoc (went_of events) sent unsent) ∙ ap (λ (o : List ℕ). o ++ unsent) (sym (went-more events sent)) in
+    subst P (sym is) (writes-append events (Went sent ∷ []) so.0 tt, (unsent, ending, subst Q same all))
 
 -- ---- measures
 
@@ -180,31 +206,31 @@ fed-short link fed first is more few =
 
 -- ---- the end of a stretch
 
-pub drains-end : (settings : Values) (a b c : Store) (old written sent : Option (List ℕ)) (link middle next : Link) (used more : Outside) (empty out : List ℕ) (result : Result Turn ServeFault) (end : Result (Option Served) ServeFault)
-    → Some end ≡ end_of result → DrainedSoFar settings a b old written link used middle → empty ≡ [] → TurnedInto settings b c middle more empty out (ending_of result) next → Appends written sent out
-    → Drained settings a c old sent link (before used more) end next
-drains-end settings a b c old written sent link middle next used more empty out (Ok Waits) end is so none into appends =
+pub drains-end : (settings : Values) (a b c : Store) (link middle next : Link) (used more : Outside) (events : List Event) (empty out : List ℕ) (result : Result Turn ServeFault) (end : Result (Option Served) ServeFault)
+    → Some end ≡ end_of result → DrainedSoFar settings a b link used events middle → empty ≡ [] → TurnedInto settings b c middle more empty out (ending_of result) next
+    → Drained settings a c link (before used more) (events ++ Went out ∷ []) end next
+drains-end settings a b c link middle next used more events empty out (Ok Waits) end is so none into =
     let same : end ≡ Ok None = cc in
-    let P : Result (Option Served) ServeFault → Type 0 = λ e. Drained settings a c old sent link (before used more) e next in
-    subst P (sym same) (drains-waits settings a b c old written sent link middle next used more empty out so none into appends)
-drains-end settings a b c old written sent link middle next used more empty out (Ok (Greets limit)) end is so none into appends = absurd cc
-drains-end settings a b c old written sent link middle next used more empty out (Ok Goes) end is so none into appends = absurd cc
-drains-end settings a b c old written sent link middle next used more empty out (Ok (Ends served)) end is so none into appends =
+    let P : Result (Option Served) ServeFault → Type 0 = λ e. Drained settings a c link (before used more) (events ++ Went out ∷ []) e next in
+    subst P (sym same) (drains-goes settings a b c link middle next used more events empty out so none into)
+drains-end settings a b c link middle next used more events empty out (Ok (Greets limit)) end is so none into = absurd cc
+drains-end settings a b c link middle next used more events empty out (Ok Goes) end is so none into = absurd cc
+drains-end settings a b c link middle next used more events empty out (Ok (Ends served)) end is so none into =
     let same : end ≡ Ok (Some served) = cc in
-    let P : Result (Option Served) ServeFault → Type 0 = λ e. Drained settings a c old sent link (before used more) e next in
-    subst P (sym same) (drains-ends settings a b c old written sent link middle next used more empty out served so none into appends)
-drains-end settings a b c old written sent link middle next used more empty out (Err fault) end is so none into appends =
+    let P : Result (Option Served) ServeFault → Type 0 = λ e. Drained settings a c link (before used more) (events ++ Went out ∷ []) e next in
+    subst P (sym same) (writes-append events (Went out ∷ []) so.0 tt, drains-out settings a b c link middle next used more events empty out (Some (Ok served)) so none into)
+drains-end settings a b c link middle next used more events empty out (Err fault) end is so none into =
     let same : end ≡ Err fault = cc in
-    let P : Result (Option Served) ServeFault → Type 0 = λ e. Drained settings a c old sent link (before used more) e next in
-    subst P (sym same) (drains-fails settings a b c old written sent link middle next used more empty out fault so none into appends)
+    let P : Result (Option Served) ServeFault → Type 0 = λ e. Drained settings a c link (before used more) (events ++ Went out ∷ []) e next in
+    subst P (sym same) (writes-append events (Went out ∷ []) so.0 tt, drains-fails settings a b c link middle next used more events empty out fault so none into)
 
-pub drains-more : (settings : Values) (a b c : Store) (old written sent : Option (List ℕ)) (link middle next : Link) (used more : Outside) (empty out : List ℕ) (result : Result Turn ServeFault) → None ≡ end_of result
-    → DrainedSoFar settings a b old written link used middle → empty ≡ [] → TurnedInto settings b c middle more empty out (ending_of result) next → Appends written sent out → DrainedSoFar settings a c old sent link (before used more) next
-drains-more settings a b c old written sent link middle next used more empty out (Ok Waits) is so none into appends = absurd cc
-drains-more settings a b c old written sent link middle next used more empty out (Ok (Greets limit)) is so none into appends = drains-goes settings a b c old written sent link middle next used more empty out so none into appends
-drains-more settings a b c old written sent link middle next used more empty out (Ok Goes) is so none into appends = drains-goes settings a b c old written sent link middle next used more empty out so none into appends
-drains-more settings a b c old written sent link middle next used more empty out (Ok (Ends served)) is so none into appends = absurd cc
-drains-more settings a b c old written sent link middle next used more empty out (Err fault) is so none into appends = absurd cc
+pub drains-more : (settings : Values) (a b c : Store) (link middle next : Link) (used more : Outside) (events : List Event) (empty out : List ℕ) (result : Result Turn ServeFault) → None ≡ end_of result
+    → DrainedSoFar settings a b link used events middle → empty ≡ [] → TurnedInto settings b c middle more empty out (ending_of result) next → DrainedSoFar settings a c link (before used more) (events ++ Went out ∷ []) next
+drains-more settings a b c link middle next used more events empty out (Ok Waits) is so none into = absurd cc
+drains-more settings a b c link middle next used more events empty out (Ok (Greets limit)) is so none into = drains-goes settings a b c link middle next used more events empty out so none into
+drains-more settings a b c link middle next used more events empty out (Ok Goes) is so none into = drains-goes settings a b c link middle next used more events empty out so none into
+drains-more settings a b c link middle next used more events empty out (Ok (Ends served)) is so none into = absurd cc
+drains-more settings a b c link middle next used more events empty out (Err fault) is so none into = absurd cc
 
 pub more-shorter : (a b : Link) (result : Result Turn ServeFault) → None ≡ end_of result → Shortens result a b → (length b.waiting < length a.waiting) × IsNoLess a b
 more-shorter a b (Ok Waits) is less = absurd cc

@@ -5,8 +5,6 @@ pub mod Cutting
 pub mod Turning
 pub mod Flow
 pub mod Whole
-pub mod Hexing
 pub mod Counting
-pub mod SingleParts
 pub mod RunParts
 pub mod ServingParts

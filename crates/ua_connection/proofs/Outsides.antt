@@ -3,6 +3,7 @@ use Rattle.std.proofs.Common.{◌≡◌, ℤ, List, [], ◌∷◌, refl, ap, ◌
 use Rattle.std.proofs.lemmas.List.{append-nil}
 use Rattle.archive.specs.Store.{Mark, Fine, Starved}
 use Rattle.archive.specs.Steps.{Marked, Does as DoesMarked, give, and_then}
+pub use Rattle.ua_connection.specs.Given.{nothing}
 use Rattle.ua_connection.specs.Given.{Outside, before, Given, by_marks, made, clock, Does}
 
 outside_same : (m n : List Mark) (r s : List ℤ) → m ≡ n → r ≡ s → ◌≡◌ {A = Outside} (record { marks = m; readings = r }) (record { marks = n; readings = s })
@@ -14,10 +15,6 @@ outside_same m n r s e f =
 -- one stretch before another
 pub before-before : (a b later : Outside) → before (before a b) later ≡ before a (before b later)
 before-before a b later = outside_same _ _ _ _ (append_assoc a.marks b.marks later.marks) (append_assoc a.readings b.readings later.readings)
-
--- nothing is used
-abbrev pub nothing : Outside
-nothing = record { marks = []; readings = [] }
 
 pub before-nothing : (a : Outside) → before a nothing ≡ a
 before-nothing a = outside_same _ _ _ _ (append-nil a.marks) (append-nil a.readings)

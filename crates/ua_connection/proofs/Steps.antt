@@ -25,7 +25,7 @@ use Rattle.ua_session.specs.Sessions as session
 use Rattle.records.specs.Contents.{Content}
 use Rattle.archive.specs.Store.{Store, Mark, Fine, Starved, faults_of}
 use Rattle.archive.specs.Steps.{Acts, Does as DoesMarked, give, and_then}
-use Rattle.archive.proofs.Acting.{moves-none-by, moves-told, faults-append}
+use Rattle.archive.proofs.Acting.{moves-none-by, moves-behind-quiet, moves-before-quiet}
 use Rattle.historian.specs.Services.{Site, Outcome, answered as performed}
 use Rattle.historian.specs.Requests.{handle_of}
 use Rattle.historian.specs.Answers.{Response, response, service_fault}
@@ -60,13 +60,16 @@ here-by f g used more old new ending client quiet so h = record {
   replies = λ R. replies-by (f R) (g R) (marked used) (marked more) h.made ending client R (so R) (h.replies R);
 }
 
-pub answered-by : (a b : Store) (f g : Content → Answering) (used more : Outside) (old new : List ℕ) (ending : Option Ending) (client : Client) → faults_of more.marks ≡ faults_of used.marks
-    → ((R : Content) (r : Reply Standing Ending) → Does (f R) used r → Does (g R) more r) → Answered a b f used old new ending client → Answered a b g more old new ending client
-answered-by a b f g used more old new ending client same so h = record {
+-- the same answer in other words, behind steps in whose way no fault of the store came
+pub answered-by : (a b : Store) (f g : Content → Answering) (quiet used : Outside) (old new : List ℕ) (ending : Option Ending) (client : Client) → faults_of quiet.marks ≡ []
+    → ((marks : List Mark) (R : Content) (r : Reply Standing Ending) → Does (f R) (record used { marks = marks }) r → Does (g R) (before quiet (record used { marks = marks })) r)
+    → Answered a b f used old new ending client → Answered a b g (before quiet used) old new ending client
+answered-by a b f g quiet used old new ending client none so h = record {
   made = h.made;
   appended = h.appended;
-  moves = moves-told a b used.marks more.marks (λ R S. Replies (f R) used h.made ending client S) (λ R S. Replies (g R) more h.made ending client S) same
-      (λ R S r. replies-by (f R) (g R) used more h.made ending client S (so R) r) h.moves;
+  moves = moves-behind-quiet a b quiet.marks used.marks (λ marks R S. Replies (f R) (record used { marks = marks }) h.made ending client S)
+      (λ marks R S. Replies (g R) (record (before quiet used) { marks = marks }) h.made ending client S) none
+      (λ ms R S r. replies-by (f R) (g R) (record used { marks = ms }) (before quiet (record used { marks = ms })) h.made ending client S (so ms R) r) h.moves;
 }
 
 -- no archive is asked
@@ -75,7 +78,7 @@ pub answered-here : (a : Store) (f : Content → Answering) (used : List Mark) (
 answered-here a f used old new ending client h = record {
   made = h.made;
   appended = h.appended;
-  moves = moves-none-by a used h.quiet (λ R S. Replies (f R) (marked used) h.made ending client S) h.replies;
+  moves = moves-none-by a used h.quiet (λ marks R S. Replies (f R) (marked marks) h.made ending client S) h.replies;
 }
 
 pub answered-client : (a b : Store) (f : Content → Answering) (used : Outside) (old new : List ℕ) (ending : Option Ending) (client other : Client) → client ≡ other
@@ -95,14 +98,14 @@ here-starved f g used old new ending client h = here-by g (λ R. made (f R) (g R
 
 pub answered-fine : (a b : Store) (f g : Content → Answering) (used : Outside) (old new : List ℕ) (ending : Option Ending) (client : Client) → Answered a b f used old new ending client
     → Answered a b (λ R. made (f R) (g R)) (before (marked (Fine ∷ [])) used) old new ending client
-answered-fine a b f g used old new ending client h = answered-by a b f (λ R. made (f R) (g R)) used (before (marked (Fine ∷ [])) used) old new ending client refl (λ R r does. does-made (f R) (g R) used r does) h
+answered-fine a b f g used old new ending client h = answered-by a b f (λ R. made (f R) (g R)) (marked (Fine ∷ [])) used old new ending client refl (λ ms R r does. does-made (f R) (g R) (record used { marks = ms }) r does) h
 
 -- a reading more
 pub answered-timed : (a b : Store) (f : Content → Ticks → Answering) (now : ℤ) (used : Outside) (old new : List ℕ) (ending : Option Ending) (client : Client)
     → Answered a b (λ R. f R (record { 0 = now })) used old new ending client → Answered a b (λ R. and_then clock (f R)) (before (read now) used) old new ending client
 answered-timed a b f now used old new ending client h =
-    answered-by a b (λ R. f R (record { 0 = now })) (λ R. and_then clock (f R)) used (before (read now) used) old new ending client refl
-    (λ R r does. does-then clock (f R) (read now) used (record { 0 = now }) r (does-clock now) does) h
+    answered-by a b (λ R. f R (record { 0 = now })) (λ R. and_then clock (f R)) (read now) used old new ending client refl
+    (λ ms R r does. does-then clock (f R) (read now) (record used { marks = ms }) (record { 0 = now }) r (does-clock now) does) h
 
 -- ---- refusals
 
@@ -239,17 +242,16 @@ tells a b site client next sessions state request message now ms vs answer old n
   record {
     made = out;
     appended = appended;
-    moves = moves-told a b ms (ms ++ vs) (λ R S. DoesMarked (performed site now message sessions R) ms (answer, S))
-        (λ R S. Replies (responded site (standing_of client sessions R) state request message now) (marked (ms ++ vs)) out ending next S)
-        (faults-append ms vs ∙ (ap (λ fs. faults_of ms ++ fs) quiet ∙ append-nil (faults_of ms))) (λ R S d.
+    moves = moves-before-quiet a b ms vs (λ marks R S. DoesMarked (performed site now message sessions R) marks (answer, S))
+        (λ marks R S. Replies (responded site (standing_of client sessions R) state request message now) (marked marks) out ending next S) quiet (λ ks R S d.
         let f : Outcome → Answering = told (standing_of client sessions R) state request message now in
         let r = so R S in
         record {
           last = r.last;
           content = r.content;
           goes = r.goes;
-          does = does-then (by_marks (performed site now message sessions R)) f (marked ms) (marked vs) (answer, S) (record { out = out; ending = ending; state = r.last })
-              (does-marked (performed site now message sessions R) ms (answer, S) d) r.does;
+          does = does-then (by_marks (performed site now message sessions R)) f (marked ks) (marked vs) (answer, S) (record { out = out; ending = ending; state = r.last })
+              (does-marked (performed site now message sessions R) ks (answer, S) d) r.does;
         }) acts;
   },
 )
@@ -388,7 +390,7 @@ pub tried-other : (a b : Store) (site : Site) (client next : Client) (sessions :
 tried-other a b site client next sessions piece used old new ending other h =
     let f : Content → Answering = λ R. tried_on site (standing_of client sessions R) client.channel piece in
     let g : Content → Answering = λ R. tried site (standing_of client sessions R) piece in
-    answered-by a b f g used used old new ending next refl
-    (λ R r does.
-    let D : Answering → Type 0 = λ m. Does (made m (refuse (standing_of client sessions R) BAD_OUT_OF_MEMORY)) used r in
+    answered-by a b f g nothing used old new ending next refl
+    (λ ms R r does.
+    let D : Answering → Type 0 = λ m. Does (made m (refuse (standing_of client sessions R) BAD_OUT_OF_MEMORY)) (record used { marks = ms }) r in
     subst D (sym (tried-same site (standing_of client sessions R) piece.kind piece other)) does) h

@@ -17,7 +17,7 @@ use Rattle.ua_session.specs.Sessions as session
 use Rattle.ua_settings.specs.Settings.{Values}
 use Rattle.records.specs.Contents.{Content}
 use Rattle.archive.specs.Store.{Store, Mark, Fine, Starved}
-use Rattle.archive.proofs.Acting.{moves-as, moves-none}
+use Rattle.archive.proofs.Acting.{moves-as, moves-none, moves-none-by}
 use Rattle.historian.specs.Services.{site_of}
 use Rattle.counted_io.specs.declared.fault.ServeFault.{ServeFault}
 use Rattle.ua_connection.specs.declared.outcome.Served.TheVariants.{EndOfInput, Closed, Refused}
@@ -26,20 +26,20 @@ use Rattle.ua_connection.specs.declared.turn.Turn.{Turn}
 use Rattle.ua_connection.specs.declared.turn.Turn.TheVariants.{Waits, Greets, Goes, Ends}
 use Rattle.archive.specs.Steps.{give}
 use Rattle.ua_connection.specs.Given.{Outside, made, Does}
-use Rattle.ua_connection.specs.Run.{Reply}
+use Rattle.ua_connection.specs.Run.{Reply, Answers}
 use Rattle.ua_connection.specs.Client.{Client, Standing, Ending, Answering, Item, whole, ill, partial, ends, refuse, answered_item, answered_piece, answer, found, next, chunks}
-use Rattle.ua_connection.specs.Turns.{tried, Link, link_of, Replies, Answered, Reaches, Turned, TurnedInto, RefusesTurn, IsSound, GivesOne, LeavesIntake, IsOwn, IsCounted, ending_of}
+use Rattle.ua_connection.specs.Turns.{tried, Link, link_of, Replies, Answered, AnsweredHere, Reaches, Turned, TurnedInto, RefusesTurn, IsSound, GivesOne, LeavesIntake, IsOwn, IsCounted, ending_of}
 use Rattle.ua_connection.proofs.Outsides.{marked, nothing}
 use Rattle.ua_connection.proofs.Runs.{answers-start, answers-item, answers-end}
 use Rattle.ua_connection.proofs.Cutting.{falls, next-some, some_more, chunk-stands, fault-stands}
-use Rattle.ua_connection.proofs.Steps.{here-refused, here-starved, here-fine, answered-here, answered-by}
+use Rattle.ua_connection.proofs.Steps.{here-refused, here-starved, here-fine, answered-by}
 
 at : Link → Content → Standing
 at link R = record { client = link.client; content = R }
 
 -- nothing more was answered
 pub turned-none : (settings : Values) (a : Store) (link : Link) → Turned settings a a link nothing [] None link
-turned-none settings a link = moves-none a (λ R S. Reaches (site_of settings a) link R nothing [] None link S) (λ R. record {
+turned-none settings a link = moves-none a (λ marks R S. Reaches (site_of settings a) link R (record nothing { marks = marks }) [] None link S) (λ R. record {
   last = record { client = link.client; content = R };
   content = refl;
   goes = λ e. refl;
@@ -56,33 +56,55 @@ turned-item settings a b link item n used old new ending client stands h =
     let f : Content → Answering = λ R. answer site (record { client = link.client; content = R }) item in (
       h.made,
       h.appended,
-      moves-as a b used.marks (λ R S. Replies (f R) used h.made ending client S) (λ R S. Reaches site link R used h.made ending (record { client = client; waiting = drop n link.waiting }) S) (λ R S r. record {
-        last = r.last;
-        content = r.content;
-        goes = r.goes;
-        answers = answers-item (chunks site) (falls site) (record { client = link.client; content = R }) link.waiting (item, n) used (record { out = h.made; ending = ending; state = r.last }) (stands R) r.does;
-      }) h.moves,
+      moves-as a b used.marks (λ marks R S. Replies (f R) (record used { marks = marks }) h.made ending client S)
+          (λ marks R S. Reaches site link R (record used { marks = marks }) h.made ending (record { client = client; waiting = drop n link.waiting }) S) (λ ms R S r. record {
+            last = r.last;
+            content = r.content;
+            goes = r.goes;
+            answers = answers-item (chunks site) (falls site) (record { client = link.client; content = R }) link.waiting (item, n) (record used { marks = ms }) (record { out = h.made; ending = ending; state = r.last }) (stands R) r.does;
+          }) h.moves,
     )
 
--- an end, by whichever item stands first, whatever follows
-pub turned-end : (settings : Values) (a b : Store) (link : Link) (item : List ℕ → Item × ℕ) (used : Outside) (old new : List ℕ) (ending : Ending) (left : Link)
+-- an end that asks no archive, by whichever item stands first, whatever follows
+pub turned-end : (settings : Values) (a : Store) (link : Link) (item : List ℕ → Item × ℕ) (used : List Mark) (old new : List ℕ) (ending : Ending) (left : Link)
     → ((R : Content) (more : List ℕ) → next (record { client = link.client; content = R }) (link.waiting ++ more) ≡ Some (item more))
-    → (f : Content → Answering) → ((R : Content) (more : List ℕ) (r : Reply Standing Ending) → Does (f R) used r → Does (answer (site_of settings a) (record { client = link.client; content = R }) (item more).0) used r)
-    → Answered a b f used old new (Some ending) left.client
-    → TurnedInto settings a b link used old new (Some ending) left
-turned-end settings a b link item used old new ending left stands f same h =
+    → (f : Content → Answering)
+    → ((R : Content) (more : List ℕ) (r : Reply Standing Ending) → Does (f R) (marked used) r → Does (answer (site_of settings a) (record { client = link.client; content = R }) (item more).0) (marked used) r)
+    → AnsweredHere f used old new (Some ending) left.client → TurnedInto settings a a link (marked used) old new (Some ending) left
+turned-end settings a link item used old new ending left stands f same h =
     let site = site_of settings a in (
       h.made,
       h.appended,
-      moves-as a b used.marks (λ R S. Replies (f R) used h.made (Some ending) left.client S) (λ R S. Reaches site link R used h.made (Some ending) left S) (λ R S r.
+      moves-none-by a used h.quiet (λ marks R S. Reaches site link R (record (marked used) { marks = marks }) h.made (Some ending) left S) (λ R.
+          let r = h.replies R in
           let reply : Reply Standing Ending = record { out = h.made; ending = Some ending; state = r.last } in
           record {
             last = r.last;
             content = r.content;
             goes = λ e. absurd cc;
-            answers = answers-end (chunks site) (falls site) (record { client = link.client; content = R }) link.waiting left.waiting used reply ending refl (λ more. (item more, stands R more, same R more reply r.does));
-          }) h.moves,
+            answers = answers-end (chunks site) (falls site) (record { client = link.client; content = R }) link.waiting left.waiting (marked used) reply ending refl (λ more. (item more, stands R more, same R more reply r.does));
+          }),
     )
+
+-- behind an end the bytes that wait are all that is told of the connection
+pub into-ended : (settings : Values) (a b : Store) (link next other : Link) (used : Outside) (old new : List ℕ) (ending : Ending) → next.waiting ≡ other.waiting
+    → TurnedInto settings a b link used old new (Some ending) next → TurnedInto settings a b link used old new (Some ending) other
+into-ended settings a b link next other used old new ending same into =
+    let site = site_of settings a in (
+      into.0,
+      into.1,
+      moves-as a b used.marks (λ marks R S. Reaches site link R (record used { marks = marks }) into.0 (Some ending) next S)
+          (λ marks R S. Reaches site link R (record used { marks = marks }) into.0 (Some ending) other S) (λ ms R S r.
+          let P : List ℕ → Type 0 = λ w. Answers (chunks site) (record { client = link.client; content = R }) link.waiting (record used { marks = ms }) (record { out = into.0; ending = Some ending; state = r.last }) w in
+          record { last = r.last; content = r.content; goes = λ e. absurd cc; answers = subst P same r.answers }) into.2,
+    )
+
+pub ends-other : (settings : Values) (a b : Store) (start link next other : Link) (used : Outside) (old new : List ℕ) (result : Result Turn ServeFault) (ending : Ending) → start ≡ link → ending_of result ≡ Some ending
+    → next.waiting ≡ other.waiting → TurnedInto settings a b start used old new (ending_of result) next → TurnedInto settings a b link used old new (ending_of result) other
+ends-other settings a b start link next other used old new result ending is ends_so same into =
+    let P : Link → Type 0 = λ l. TurnedInto settings a b l used old new (ending_of result) other in
+    let Q : Option Ending → Link → Type 0 = λ e l. TurnedInto settings a b start used old new e l in
+    subst P is (subst (λ e. Q e other) (sym ends_so) (into-ended settings a b start next other used old new ending same (subst (λ e. Q e next) ends_so into)))
 
 -- ---- what an intake gives
 
@@ -119,9 +141,10 @@ chunk-turned settings a b held taken channel sessions chunk left used old new en
     let P : List ℕ → Type 0 = λ l. TurnedInto settings a b link used old new ending (record { client = client; waiting = l }) in
     subst P (sym leaves)
     (turned-item settings a b link (whole (piece_of chunk)) (8 + length chunk.body.now) used old new ending client (λ R more. given-stands held taken channel sessions chunk R more sound gives)
-    (answered-by a b f g used used old new ending client refl
-    (λ R r does.
-    let D : Bool → Type 0 = λ t. Does (made (if t then give (ends (start R) [] (Err TooLong)) else answered_piece site (start R) chunk.kind (piece_of chunk)) (refuse (start R) BAD_OUT_OF_MEMORY)) used r in
+    (answered-by a b f g nothing used old new ending client refl
+    (λ ms R r does.
+    let D : Bool → Type 0 = λ t.
+    Does (made (if t then give (ends (start R) [] (Err TooLong)) else answered_piece site (start R) chunk.kind (piece_of chunk)) (refuse (start R) BAD_OUT_OF_MEMORY)) (record used { marks = ms }) r in
     subst D (sym (few_test taken few)) does) h))
 
 -- a chunk too many
@@ -132,9 +155,8 @@ many-turned settings a held taken channel sessions chunk left old sound gives ma
     let site = site_of settings a in
     let start : Content → Standing = λ R. record { client = link.client; content = R } in
     let g : Content → Answering = λ R. answer site (start R) (whole (piece_of chunk)) in
-    turned-end settings a a link (λ more. (whole (piece_of chunk), 8 + length chunk.body.now)) (marked (Fine ∷ [])) old old (Err TooLong) left (λ R more. given-stands held taken channel sessions chunk R more sound gives)
+    turned-end settings a link (λ more. (whole (piece_of chunk), 8 + length chunk.body.now)) (Fine ∷ []) old old (Err TooLong) left (λ R more. given-stands held taken channel sessions chunk R more sound gives)
     g (λ R more r does. does)
-    (answered-here a g (Fine ∷ []) old old (Some (Err TooLong)) left.client
     (record {
       quiet = refl;
       made = [];
@@ -147,7 +169,7 @@ many-turned settings a held taken channel sessions chunk left old sound gives ma
           does = λ later. ap (λ (t : Bool). (if t then give (ends (start R) [] (Err TooLong)) else answered_piece site (start R) chunk.kind (piece_of chunk)) later) many;
         };
       };
-    }))
+    })
 
 -- a refusal is an end
 refusal_ends : (code : Status) (result : Result Turn ServeFault) (old new : List ℕ) → RefusesTurn code result old new → (e : Ending) × (ending_of result ≡ Some e)
@@ -165,13 +187,12 @@ fault-refused settings a held taken channel sessions fault left old new result s
     let h = here-refused (code_of fault) start left.client old new result (λ R. refl) refuses in
     let end = refusal_ends (code_of fault) result old new refuses in
     let f : Content → Answering = λ R. answer site (start R) (ill fault) in
-    let answered = answered-here a f (Fine ∷ h.0) old new (ending_of result) left.client
-    (here-fine (λ R. refuse (start R) (code_of fault)) (λ R. refuse (start R) BAD_OUT_OF_MEMORY) h.0 old new (ending_of result) left.client h.1) in
-    let P : Option Ending → Type 0 = λ e. Answered a a f (marked (Fine ∷ h.0)) old new e left.client in
+    let answered = here-fine (λ R. refuse (start R) (code_of fault)) (λ R. refuse (start R) BAD_OUT_OF_MEMORY) h.0 old new (ending_of result) left.client h.1 in
+    let P : Option Ending → Type 0 = λ e. AnsweredHere f (Fine ∷ h.0) old new e left.client in
     let Q : Option Ending → Type 0 = λ e. TurnedInto settings a a link (marked (Fine ∷ h.0)) old new e left in (
       Fine ∷ h.0,
       subst Q (sym end.1)
-          (turned-end settings a a link (λ more. (ill fault, length (held.waiting ++ more))) (marked (Fine ∷ h.0)) old new end.0 left (λ R more. fault-stands (start R) held.waiting more fault (sym sound ∙ gives)) f (λ R more r does. does)
+          (turned-end settings a link (λ more. (ill fault, length (held.waiting ++ more))) (Fine ∷ h.0) old new end.0 left (λ R more. fault-stands (start R) held.waiting more fault (sym sound ∙ gives)) f (λ R more r does. does)
           (subst P end.1 answered)),
     )
 
@@ -193,12 +214,12 @@ starved-turned settings a link left old new result some refuses =
     let end = refusal_ends BAD_OUT_OF_MEMORY result old new refuses in
     let f : Content → Answering = λ R. refuse (start R) BAD_OUT_OF_MEMORY in
     let starved : Content → Answering = λ R. made (answered_item site (start R) partial) (f R) in
-    let answered = answered-here a starved (Starved ∷ h.0) old new (ending_of result) left.client (here-starved (λ R. answered_item site (start R) partial) f h.0 old new (ending_of result) left.client h.1) in
-    let P : Option Ending → Type 0 = λ e. Answered a a starved (marked (Starved ∷ h.0)) old new e left.client in
+    let answered = here-starved (λ R. answered_item site (start R) partial) f h.0 old new (ending_of result) left.client h.1 in
+    let P : Option Ending → Type 0 = λ e. AnsweredHere starved (Starved ∷ h.0) old new e left.client in
     let Q : Option Ending → Type 0 = λ e. TurnedInto settings a a link (marked (Starved ∷ h.0)) old new e left in (
       Starved ∷ h.0,
       subst Q (sym end.1)
-          (turned-end settings a a link item (marked (Starved ∷ h.0)) old new end.0 left (λ R more. next-some (start R) (link.waiting ++ more) (some_more link.waiting more some)) starved
+          (turned-end settings a link item (Starved ∷ h.0) old new end.0 left (λ R more. next-some (start R) (link.waiting ++ more) (some_more link.waiting more some)) starved
           (λ R more r does. record { does = λ later. does.does later }) (subst P end.1 answered)),
     )
 

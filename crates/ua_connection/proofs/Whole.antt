@@ -1,9 +1,11 @@
 -- How stretches of the answer make the answer to a connection.
 use Rattle.std.proofs.Common.{◌≡◌, ◌<◌, length, arith, ℕ, List, [], ◌∷◌, ◌++◌, Some, None, Ok, Err, refl, sym, ◌∙◌, ap, subst, append_assoc}
 use Rattle.std.specs.Prelude.{Option}
-use Rattle.std.specs.Io.KnownBytes.{Appends, Consumes, Keeps, IsAtEnd}
-use Rattle.std.proofs.KnownBytes.{Appends-trans, Appends-nil, Consumes-trans, Consumes-nil, Consumes-kept}
+use Rattle.std.specs.Io.KnownBytes.{Appends, Consumes, IsAtEnd}
+use Rattle.std.proofs.KnownBytes.{Appends-trans, Appends-nil, Consumes-trans, Consumes-nil}
 use Rattle.std.proofs.lemmas.List.{append-nil, length-append}
+use Rattle.std.proofs.lemmas.Grind.{flat_map-append}
+use Rattle.counted_io.proofs.Tried.{kept_consumes, kept_appends}
 use Rattle.uacp.specs.Chunks.{cut}
 use Rattle.uacp.specs.Greeting.{error}
 use Rattle.ua_settings.specs.Settings.{Values}
@@ -11,7 +13,7 @@ use Rattle.ua_binary.specs.declared.codes.TheConstants.Status.{BAD_OUT_OF_MEMORY
 use Rattle.records.specs.Contents.{Content}
 use Rattle.archive.specs.Store.{Store, Mark, Fine, faults_of}
 use Rattle.archive.specs.Steps.{Moves}
-use Rattle.archive.proofs.Acting.{moves-told, moves-as, faults-append}
+use Rattle.archive.proofs.Acting.{moves-as, moves-before-quiet}
 use Rattle.historian.specs.Services.{Site, site_of}
 use Rattle.ua_connection.specs.declared.outcome.Served.{Served}
 use Rattle.ua_connection.specs.declared.outcome.Served.TheVariants.{EndOfInput, Closed, Refused}
@@ -19,137 +21,31 @@ use Rattle.counted_io.specs.declared.fault.ServeFault.{ServeFault}
 use Rattle.counted_io.specs.declared.fault.ServeFault.TheVariants.{Read, Write, TooLong, OutOfMemory}
 use Rattle.ua_connection.specs.declared.turn.Turn.TheVariants.{Ends}
 use Rattle.ua_connection.specs.Given.{Outside, before}
+use Rattle.ua_connection.specs.Passing.{Event, Came, Went, AreWrites, Ways, Passes, came_in, came_of, went_of}
 use Rattle.ua_connection.specs.Run.{Reply, Answers, answered}
-use Rattle.ua_connection.specs.Client.{Client, Standing, Ending, partial, chunks, new_client, found, next}
+use Rattle.ua_connection.specs.Client.{Client, Standing, Ending, Item, partial, chunks, new_client, found, next}
 use Rattle.ua_connection.specs.Turns.{Link, IsShort, Reaches, Turned, Drained, IsOwnEnd, ServesSoFar, SendsRefusal}
-use Rattle.ua_connection.specs.Serving.{IsWhole, IsServed, ServesBehind}
-use Rattle.ua_connection.proofs.Outsides.{nothing, marked, before-before}
+use Rattle.ua_connection.specs.Serving.{IsWhole, IsServed, IsPrompt, ArePrompt, ServesPromptly, ServesBehind}
+use Rattle.ua_connection.proofs.Outsides.{nothing, marked, before-before, before-nothing}
+use Rattle.ua_connection.proofs.RunParts.{stepped}
 use Rattle.ua_connection.proofs.Runs.{answered-step, answered-item, answers-more, joined-same}
 use Rattle.ua_connection.proofs.Cutting.{falls, next-some}
 use Rattle.ua_connection.proofs.Turning.{turned-none, starved-turned}
-use Rattle.ua_connection.proofs.Flow.{turned-then}
+use Rattle.ua_connection.proofs.Flow.{kept-then}
 
 -- before the first of these bytes is answered
 abbrev pub start_of : List ℕ → Link
 start_of came = record { client = new_client; waiting = came }
 
-pub serves-start : (settings : Values) (a : Store) (unread written : Option (List ℕ)) (link : Link) → link.client ≡ new_client → ServesSoFar settings a a link.waiting unread unread written written nothing link
-serves-start settings a unread written link is =
+pub serves-start : (settings : Values) (a : Store) (link : Link) → link.client ≡ new_client → ServesSoFar settings a a link.waiting [] nothing link
+serves-start settings a link is =
     let P : Client → Type 0 = λ c. Turned settings a a (record { client = c; waiting = link.waiting }) nothing [] None link in
     let Q : List ℕ → Type 0 = λ w. Turned settings a a (start_of w) nothing [] None link in
-    record { came = []; out = []; read = Consumes-nil unread; written = Appends-nil written; turned = subst Q (sym (append-nil link.waiting)) (subst P is (turned-none settings a link)) }
+    moves-as a a [] (λ marks R S. Reaches (site_of settings a) (start_of (link.waiting ++ [])) R (record nothing { marks = marks }) [] None link S)
+    (λ marks R S. Reaches (site_of settings a) (start_of (link.waiting ++ [])) R (record nothing { marks = marks }) [] None link S × Unit {0}) (λ ms R S r. (r, tt))
+    (subst Q (sym (append-nil link.waiting)) (subst P is (turned-none settings a link)))
 
--- more bytes came
-turned-more : (settings : Values) (a b : Store) (link next : Link) (piece : List ℕ) (used : Outside) (out : List ℕ) → Turned settings a b link used out None next
-    → Turned settings a b (record { client = link.client; waiting = link.waiting ++ piece }) used out None (record { client = next.client; waiting = next.waiting ++ piece })
-turned-more settings a b link next piece used out turned =
-    let site = site_of settings a in
-    let more : Link = record { client = link.client; waiting = link.waiting ++ piece } in
-    let left : Link = record { client = next.client; waiting = next.waiting ++ piece } in
-    moves-as a b used.marks (λ R S. Reaches site link R used out None next S) (λ R S. Reaches site more R used out None left S)
-    (λ R S r. record {
-      last = r.last;
-      content = r.content;
-      goes = r.goes;
-      answers = answers-more (chunks site) (record { client = link.client; content = R }) link.waiting piece used (record { out = out; ending = None; state = r.last }) next.waiting r.answers;
-    }) turned
-
-pub serves-fed : (settings : Values) (a b : Store) (first : List ℕ) (unread left rest old written : Option (List ℕ)) (used : Outside) (link fed : Link) (piece : List ℕ) → ServesSoFar settings a b first unread left old written used link → Consumes left rest piece
-    → fed ≡ record link { waiting = link.waiting ++ piece } → ServesSoFar settings a b first unread rest old written used fed
-serves-fed settings a b first unread left rest old written used link fed piece so read is =
-    let P : Link → Type 0 = λ l. Turned settings a b (start_of (first ++ (so.came ++ piece))) used so.out None l in
-    let Q : List ℕ → Type 0 = λ w. Turned settings a b (start_of w) used so.out None (record link { waiting = link.waiting ++ piece }) in
-    record {
-      came = so.came ++ piece;
-      out = so.out;
-      read = Consumes-trans unread left rest so.came piece so.read read;
-      written = so.written;
-      turned = subst P (sym is) (subst Q (append_assoc first so.came piece) (turned-more settings a b (start_of (first ++ so.came)) link piece used so.out so.turned));
-    }
-
--- what waited was answered
-pub serves-drained : (settings : Values) (a b c : Store) (first : List ℕ) (unread left old written sent : Option (List ℕ)) (used more : Outside) (link next : Link) → ServesSoFar settings a b first unread left old written used link
-    → Drained settings b c written sent link more (Ok None) next → ServesSoFar settings a c first unread left old sent (before used more) next
-serves-drained settings a b c first unread left old written sent used more link next so drained = record {
-  came = so.came;
-  out = so.out ++ drained.0;
-  read = so.read;
-  written = Appends-trans old written sent so.out drained.0 so.written drained.1;
-  turned = turned-then settings a b c (start_of (first ++ so.came)) link next used more so.out drained.0 None so.turned drained.2;
-}
-
--- ---- ends
-
--- ends of the answer's own
-abbrev pub IsFinal : Ending → Type 0
-IsFinal (Ok EndOfInput) = ⊥
-IsFinal (Ok Closed) = Unit {0}
-IsFinal (Ok (Refused code)) = Unit {0}
-IsFinal (Err Read) = ⊥
-IsFinal (Err Write) = ⊥
-IsFinal (Err TooLong) = Unit {0}
-IsFinal (Err OutOfMemory) = Unit {0}
-
-final-served : (site : Site) (came out : List ℕ) (used : Outside) (ending : Ending) (next : Link) (R S : Content) → IsFinal ending → Reaches site (start_of came) R used out (Some ending) next S
-    → (last : Standing) × (last.content ≡ S) × IsServed (chunks site) (record { client = new_client; content = R }) came used out ending last
-final-served site came out used (Ok EndOfInput) next R S final r = absurd final
-final-served site came out used (Ok Closed) next R S final r = (r.last, r.content, (next.waiting, r.answers))
-final-served site came out used (Ok (Refused code)) next R S final r = (r.last, r.content, (next.waiting, r.answers))
-final-served site came out used (Err Read) next R S final r = absurd final
-final-served site came out used (Err Write) next R S final r = absurd final
-final-served site came out used (Err TooLong) next R S final r = (r.last, r.content, (next.waiting, r.answers))
-final-served site came out used (Err OutOfMemory) next R S final r = (r.last, r.content, (next.waiting, r.answers))
-
-final-over : (ending : Ending) → IsFinal ending → ending ≡ Ok EndOfInput → ⊥
-final-over ending final is = let P : Ending → Type 0 = IsFinal in subst P is final
-
-serves-final : (settings : Values) (a b c : Store) (first : List ℕ) (unread left old written sent : Option (List ℕ)) (used more : Outside) (link next : Link) (out : List ℕ) (ending : Ending) → ServesSoFar settings a b first unread left old written used link
-    → Appends written sent out → Turned settings b c link more out (Some ending) next → IsFinal ending → ServesBehind settings a c first unread left old sent (before used more) ending
-serves-final settings a b c first unread left old written sent used more link next out ending so appends turned final =
-    let all = turned-then settings a b c (start_of (first ++ so.came)) link next used more so.out out (Some ending) so.turned turned in
-    record {
-      came = so.came;
-      out = so.out ++ out;
-      read = so.read;
-      over = λ e. absurd (final-over ending final e);
-      written = Appends-trans old written sent so.out out so.written appends;
-      served = moves-as a c (before used more).marks (λ R S. Reaches (site_of settings a) (start_of (first ++ so.came)) R (before used more) (so.out ++ out) (Some ending) next S)
-          (λ R S. (last : Standing) × (last.content ≡ S) × IsServed (chunks (site_of settings a)) (record { client = new_client; content = R }) (first ++ so.came) (before used more) (so.out ++ out) ending last)
-          (λ R S r. final-served (site_of settings a) (first ++ so.came) (so.out ++ out) (before used more) ending next R S final r) all;
-    }
-
--- a fault of the writer
-serves-part : (settings : Values) (a b c : Store) (first : List ℕ) (unread left old written sent : Option (List ℕ)) (used more : Outside) (link next : Link) (out unsent : List ℕ) (ending : Option Ending) → ServesSoFar settings a b first unread left old written used link
-    → Appends written sent out → Turned settings b c link more (out ++ unsent) ending next → ServesBehind settings a c first unread left old sent (before used more) (Err Write)
-serves-part settings a b c first unread left old written sent used more link next out unsent ending so appends turned =
-    let P : List ℕ → Type 0 = λ o. Turned settings a c (start_of (first ++ so.came)) (before used more) o ending next in
-    let all = subst P (sym (append_assoc so.out out unsent)) (turned-then settings a b c (start_of (first ++ so.came)) link next used more so.out (out ++ unsent) ending so.turned turned) in
-    record {
-      came = so.came;
-      out = so.out ++ out;
-      read = so.read;
-      over = λ e. absurd cc;
-      written = Appends-trans old written sent so.out out so.written appends;
-      served = moves-as a c (before used more).marks (λ R S. Reaches (site_of settings a) (start_of (first ++ so.came)) R (before used more) ((so.out ++ out) ++ unsent) ending next S)
-          (λ R S. (last : Standing) × (last.content ≡ S) × IsServed (chunks (site_of settings a)) (record { client = new_client; content = R }) (first ++ so.came) (before used more) (so.out ++ out) (Err Write) last)
-          (λ R S r. (r.last, r.content, (unsent, next.waiting, ending, r.answers))) all;
-    }
-
-pub serves-ended : (settings : Values) (a b c : Store) (first : List ℕ) (unread left old written sent : Option (List ℕ)) (used more : Outside) (link next : Link) (waits : Type 0) (served : Served) → ServesSoFar settings a b first unread left old written used link
-    → Drained settings b c written sent link more (Ok (Some served)) next → IsOwnEnd waits (Ok (Some served)) → ServesBehind settings a c first unread left old sent (before used more) (Ok served)
-serves-ended settings a b c first unread left old written sent used more link next waits EndOfInput so drained own = absurd own
-serves-ended settings a b c first unread left old written sent used more link next waits Closed so drained own = serves-final settings a b c first unread left old written sent used more link next drained.0 (Ok Closed) so drained.1 drained.2 tt
-serves-ended settings a b c first unread left old written sent used more link next waits (Refused code) so drained own = serves-final settings a b c first unread left old written sent used more link next drained.0 (Ok (Refused code)) so drained.1 drained.2 tt
-
-pub serves-failed : (settings : Values) (a b c : Store) (first : List ℕ) (unread left old written sent : Option (List ℕ)) (used more : Outside) (link next : Link) (waits : Type 0) (fault : ServeFault) → ServesSoFar settings a b first unread left old written used link
-    → Drained settings b c written sent link more (Err fault) next → IsOwnEnd waits (Err fault) → ServesBehind settings a c first unread left old sent (before used more) (Err fault)
-serves-failed settings a b c first unread left old written sent used more link next waits Read so drained own = absurd own
-serves-failed settings a b c first unread left old written sent used more link next waits Write so drained own =
-    serves-part settings a b c first unread left old written sent used more link next drained.0 drained.2.0 drained.2.1 so drained.1 drained.2.2
-serves-failed settings a b c first unread left old written sent used more link next waits TooLong so drained own = serves-final settings a b c first unread left old written sent used more link next drained.0 (Err TooLong) so drained.1 drained.2 tt
-serves-failed settings a b c first unread left old written sent used more link next waits OutOfMemory so drained own = serves-final settings a b c first unread left old written sent used more link next drained.0 (Err OutOfMemory) so drained.1 drained.2 tt
-
--- ---- the end of the input
+-- ---- where nothing more comes
 
 -- what is left, if anything, is answered by nothing
 abbrev end_marks : List ℕ → List Mark
@@ -183,83 +79,367 @@ whole-of site start last came waiting out used answers short = λ later.
     ∙ joined-same reply (answered p last (waiting ++ [])) (λ o. over_answer last later) (before ms later) (ap (λ (b : List ℕ). answered p last b (before ms later)) (append-nil waiting) ∙ ends-waiting site last waiting later short)
     ∙ ap (λ (o : List ℕ). let a : Reply Standing Ending = record { out = o; ending = Some (Ok EndOfInput); state = last } in (a, later)) (append-nil out)
 
-moves-more : (a b : Store) (us vs : List Mark) (P To : Content → Content → Type 0) → faults_of vs ≡ [] → ((R S : Content) → P R S → To R S) → Moves a b us P → Moves a b (us ++ vs) To
-moves-more a b us vs P To quiet so m = moves-told a b us (us ++ vs) P To (faults-append us vs ∙ (ap (λ fs. faults_of us ++ fs) quiet ∙ append-nil (faults_of us))) so m
+-- ---- all that came was answered
 
--- less than a chunk waits, and this was read so far
-serves-over : (settings : Values) (a b : Store) (first : List ℕ) (unread left rest old written : Option (List ℕ)) (used : Outside) (link : Link) (ending : Ending) (so : ServesSoFar settings a b first unread left old written used link) → Consumes unread rest so.came
-    → (ending ≡ Ok EndOfInput → IsAtEnd rest) → IsShort link
-    → ((R : Content) (all : Outside) (last : Standing) → IsWhole (chunks (site_of settings a)) (record { client = new_client; content = R }) (first ++ so.came) all so.out (Ok EndOfInput) last
-    → IsServed (chunks (site_of settings a)) (record { client = new_client; content = R }) (first ++ so.came) all so.out ending last)
-    → (more : Outside) × (more.readings ≡ []) × ServesBehind settings a b first unread rest old written (before used more) ending
-serves-over settings a b first unread left rest old written used link ending so read over short is =
+-- where no mark is left, nothing comes in the way of the end
+quiet-end : (site : Site) (standing : Standing) (waiting : List ℕ) → cut standing.client.greeted standing.client.limit waiting ≡ Ok None → answered (chunks site) standing waiting nothing ≡ over_answer standing nothing
+quiet-end site standing [] short = answered-step (chunks site) (falls site) standing [] nothing
+quiet-end site standing (b ∷ waiting) short =
+    let bytes = b ∷ waiting in
+    let stands : next standing bytes ≡ Some (partial, length bytes) = next-some standing bytes (omega arith) ∙ ap (λ o. Some (found bytes o)) short in
+    answered-step (chunks site) (falls site) standing bytes nothing ∙ ap (λ (o : Option (Item × ℕ)). stepped (answered (chunks site)) (chunks site) standing bytes o nothing) stands
+
+-- less than a chunk waits
+prompt-now : (site : Site) (came out : List ℕ) (used : Outside) (link : Link) (R S : Content) → Reaches site (start_of came) R used out None link S → IsShort link → IsPrompt site R used came out
+prompt-now site came out used link R S r short =
+    let p = chunks site in
+    let start : Standing = record { client = new_client; content = R } in
+    let reply : Reply Standing Ending = record { out = out; ending = None; state = r.last } in
+    let C : Client → Type 0 = λ c. cut c.greeted c.limit link.waiting ≡ Ok None in
+    record {
+      now = used;
+      later = nothing;
+      first = before-nothing used;
+      last = r.last;
+      whole =
+          ap (λ (b : List ℕ). answered p start b used) (sym (append-nil came))
+          ∙ ap (λ (o : Outside). answered p start (came ++ []) o) (sym (before-nothing used))
+          ∙ r.answers.goes [] nothing
+          ∙ joined-same reply (answered p r.last (link.waiting ++ [])) (λ o. over_answer r.last nothing) nothing
+          (ap (λ (b : List ℕ). answered p r.last b nothing) (append-nil link.waiting) ∙ quiet-end site r.last link.waiting (subst C (sym (r.goes refl)) short))
+          ∙ ap (λ (o : List ℕ). let a : Reply Standing Ending = record { out = o; ending = Some (Ok EndOfInput); state = r.last } in (a, nothing)) (append-nil out);
+    }
+
+-- it was, whatever was used since
+prompts-later : (site : Site) (R : Content) (used more : Outside) (came out : List ℕ) (events : List Event) → ArePrompt site R used came out events → ArePrompt site R (before used more) came out events
+prompts-later site R used more came out [] p = tt
+prompts-later site R used more came out (Came piece ∷ events) p =
+    let now = p.0 in (
+      record {
+        now = now.now;
+        later = before now.later more;
+        first = sym (before-before now.now now.later more) ∙ ap (λ (o : Outside). before o more) now.first;
+        last = now.last;
+        whole = now.whole;
+      },
+      prompts-later site R used more (came ++ came_in (Came piece)) out events p.1,
+    )
+prompts-later site R used more came out (Went bytes ∷ events) p = prompts-later site R used more came (out ++ bytes) events p
+
+prompts-append : (site : Site) (R : Content) (used : Outside) (came out : List ℕ) (xs ys : List Event) → ArePrompt site R used came out xs → ArePrompt site R used (came ++ came_of xs) (out ++ went_of xs) ys
+    → ArePrompt site R used came out (xs ++ ys)
+prompts-append site R used came out [] ys p q =
+    let P : List ℕ → Type 0 = λ c. ArePrompt site R used c (out ++ []) ys in
+    let Q : List ℕ → Type 0 = λ o. ArePrompt site R used came o ys in
+    subst Q (append-nil out) (subst P (append-nil came) q)
+prompts-append site R used came out (Came piece ∷ xs) ys p q =
+    let P : List ℕ → Type 0 = λ c. ArePrompt site R used c (out ++ went_of xs) ys in
+    (p.0, prompts-append site R used (came ++ came_in (Came piece)) out xs ys p.1 (subst P (sym (append_assoc came (came_in (Came piece)) (came_of xs))) q))
+prompts-append site R used came out (Went bytes ∷ xs) ys p q =
+    let P : List ℕ → Type 0 = λ o. ArePrompt site R used (came ++ came_of xs) o ys in
+    prompts-append site R used came (out ++ bytes) xs ys p (subst P (sym (append_assoc out bytes (went_of xs))) q)
+
+prompts-writes : (site : Site) (R : Content) (used : Outside) (came out : List ℕ) (events : List Event) → AreWrites events → ArePrompt site R used came out events
+prompts-writes site R used came out [] p = tt
+prompts-writes site R used came out (Came piece ∷ events) p = absurd p
+prompts-writes site R used came out (Went bytes ∷ events) p = prompts-writes site R used came (out ++ bytes) events p
+
+-- then more was written, while other things were used
+prompts-written : (site : Site) (R : Content) (used more : Outside) (first : List ℕ) (events writes : List Event) → AreWrites writes → ArePrompt site R used first [] events → ArePrompt site R (before used more) first [] (events ++ writes)
+prompts-written site R used more first events writes only p =
+    prompts-append site R (before used more) first [] events writes (prompts-later site R used more first [] events p)
+    (prompts-writes site R (before used more) (first ++ came_of events) (went_of events) writes only)
+
+-- then more was read
+prompts-read : (site : Site) (R S : Content) (used : Outside) (first : List ℕ) (events : List Event) (piece : Option (List ℕ)) (link : Link) → Reaches site (start_of (first ++ came_of events)) R used (went_of events) None link S → IsShort link
+    → ArePrompt site R used first [] events → ArePrompt site R used first [] (events ++ Came piece ∷ [])
+prompts-read site R S used first events piece link r short p = prompts-append site R used first [] events (Came piece ∷ []) p (prompt-now site (first ++ came_of events) (went_of events) used link R S r short, tt)
+
+-- ---- what came and what went
+
+came-writes : (events : List Event) → AreWrites events → came_of events ≡ []
+came-writes [] p = refl
+came-writes (Came piece ∷ events) p = absurd p
+came-writes (Went bytes ∷ events) p = came-writes events p
+
+came-written : (events writes : List Event) → AreWrites writes → came_of (events ++ writes) ≡ came_of events
+came-written events writes only = flat_map-append came_in events writes ∙ ap (λ c. came_of events ++ c) (came-writes writes only) ∙ append-nil (came_of events)
+
+came-read : (events : List Event) (piece : Option (List ℕ)) → came_of (events ++ Came piece ∷ []) ≡ came_of events ++ came_in (Came piece)
+came-read events piece = flat_map-append came_in events (Came piece ∷ []) ∙ ap (λ c. came_of events ++ c) (append-nil (came_in (Came piece)))
+
+went-written : (events writes : List Event) → went_of (events ++ writes) ≡ went_of events ++ went_of writes
+went-written events writes = flat_map-append (λ (event : Event). elim event [ Went bytes ↦ bytes | _ ↦ [] ]) events writes
+
+went-read : (events : List Event) (piece : Option (List ℕ)) → went_of (events ++ Came piece ∷ []) ≡ went_of events
+went-read events piece = went-written events (Came piece ∷ []) ∙ append-nil (went_of events)
+
+-- ---- stretches
+
+-- what was answered, and when, in other words for what came and went
+abbrev SoFar : Values → Store → Store → List ℕ → List Event → (came out : List ℕ) → Outside → Option Ending → Link → Type 0
+SoFar settings a b first events came out used ending link = Moves a b used.marks (λ marks R S.
+    Reaches (site_of settings a) (start_of came) R (record used { marks = marks }) out ending link S × ArePrompt (site_of settings a) R (record used { marks = marks }) first [] events)
+
+so-as : (settings : Values) (a b : Store) (first : List ℕ) (events : List Event) (came more out also : List ℕ) (used : Outside) (ending : Option Ending) (link : Link) → came ≡ more → out ≡ also → SoFar settings a b first events came out used ending link
+    → SoFar settings a b first events more also used ending link
+so-as settings a b first events came more out also used ending link e f so =
+    let P : List ℕ → Type 0 = λ c. SoFar settings a b first events c also used ending link in
+    let Q : List ℕ → Type 0 = λ o. SoFar settings a b first events came o used ending link in
+    subst P e (subst Q f so)
+
+-- more bytes came
+reaches-more : (site : Site) (came piece out : List ℕ) (link : Link) (used : Outside) (R S : Content) → Reaches site (start_of came) R used out None link S
+    → Reaches site (start_of (came ++ piece)) R used out None (record link { waiting = link.waiting ++ piece }) S
+reaches-more site came piece out link used R S r = record {
+  last = r.last;
+  content = r.content;
+  goes = r.goes;
+  answers = answers-more (chunks site) (record { client = new_client; content = R }) came piece used (record { out = out; ending = None; state = r.last }) link.waiting r.answers;
+}
+
+pub serves-fed : (settings : Values) (a b : Store) (first : List ℕ) (events : List Event) (used : Outside) (link fed : Link) (piece : List ℕ) → ServesSoFar settings a b first events used link → IsShort link
+    → fed ≡ record link { waiting = link.waiting ++ piece } → ServesSoFar settings a b first (events ++ Came (Some piece) ∷ []) used fed
+serves-fed settings a b first events used link fed piece so short is =
     let site = site_of settings a in
-    let ms = end_marks link.waiting in (
+    let came = first ++ came_of events in
+    let more : Link = record link { waiting = link.waiting ++ piece } in
+    let after = events ++ Came (Some piece) ∷ [] in
+    let P : Link → Type 0 = λ l. ServesSoFar settings a b first after used l in
+    subst P (sym is)
+    (so-as settings a b first after (came ++ piece) (first ++ came_of after) (went_of events) (went_of after) used None more
+    (append_assoc first (came_of events) piece ∙ ap (λ (c : List ℕ). first ++ c) (sym (came-read events (Some piece)))) (sym (went-read events (Some piece)))
+    (moves-as a b used.marks (λ marks R S. Reaches site (start_of came) R (record used { marks = marks }) (went_of events) None link S × ArePrompt site R (record used { marks = marks }) first [] events)
+    (λ marks R S. Reaches site (start_of (came ++ piece)) R (record used { marks = marks }) (went_of events) None more S × ArePrompt site R (record used { marks = marks }) first [] after)
+    (λ ms R S r. (reaches-more site came piece (went_of events) link (record used { marks = ms }) R S r.0, prompts-read site R S (record used { marks = ms }) first events (Some piece) link r.0 short r.1)) so))
+
+-- what waits was answered, and this was written
+serves-then : (settings : Values) (a b c : Store) (first : List ℕ) (events writes : List Event) (used more : Outside) (link next : Link) (out : List ℕ) (ending : Option Ending) → ServesSoFar settings a b first events used link → AreWrites writes
+    → Turned settings b c link more out ending next → SoFar settings a c first (events ++ writes) (first ++ came_of (events ++ writes)) (went_of events ++ out) (before used more) ending next
+serves-then settings a b c first events writes used more link next out ending so only turned =
+    let site = site_of settings a in
+    let came = first ++ came_of events in
+    so-as settings a c first (events ++ writes) came (first ++ came_of (events ++ writes)) (went_of events ++ out) (went_of events ++ out) (before used more) ending next
+    (ap (λ (c : List ℕ). first ++ c) (sym (came-written events writes only))) refl
+    (kept-then settings a b c (start_of came) link next used more (went_of events) out ending (λ o R. ArePrompt site R o first [] events) (λ o R. ArePrompt site R o first [] (events ++ writes))
+    (λ o m R p. prompts-written site R o m first events writes only p) so turned)
+
+pub serves-drained : (settings : Values) (a b c : Store) (first : List ℕ) (events writes : List Event) (used more : Outside) (link next : Link) → ServesSoFar settings a b first events used link
+    → Drained settings b c link more writes (Ok None) next → ServesSoFar settings a c first (events ++ writes) (before used more) next
+serves-drained settings a b c first events writes used more link next so drained =
+    let came = first ++ came_of (events ++ writes) in
+    so-as settings a c first (events ++ writes) came came (went_of events ++ went_of writes) (went_of (events ++ writes)) (before used more) None next refl (sym (went-written events writes))
+    (serves-then settings a b c first events writes used more link next (went_of writes) None so drained.0 drained.1)
+
+-- ---- ends
+
+-- ends of the answer's own
+abbrev pub IsFinal : Ending → Type 0
+IsFinal (Ok EndOfInput) = ⊥
+IsFinal (Ok Closed) = Unit {0}
+IsFinal (Ok (Refused code)) = Unit {0}
+IsFinal (Err Read) = ⊥
+IsFinal (Err Write) = ⊥
+IsFinal (Err TooLong) = Unit {0}
+IsFinal (Err OutOfMemory) = Unit {0}
+
+final-served : (site : Site) (came out : List ℕ) (used : Outside) (ending : Ending) (next : Link) (R S : Content) → IsFinal ending → Reaches site (start_of came) R used out (Some ending) next S
+    → (last : Standing) × (last.content ≡ S) × IsServed (chunks site) (record { client = new_client; content = R }) came used out ending last
+final-served site came out used (Ok EndOfInput) next R S final r = absurd final
+final-served site came out used (Ok Closed) next R S final r = (r.last, r.content, (next.waiting, r.answers))
+final-served site came out used (Ok (Refused code)) next R S final r = (r.last, r.content, (next.waiting, r.answers))
+final-served site came out used (Err Read) next R S final r = absurd final
+final-served site came out used (Err Write) next R S final r = absurd final
+final-served site came out used (Err TooLong) next R S final r = (r.last, r.content, (next.waiting, r.answers))
+final-served site came out used (Err OutOfMemory) next R S final r = (r.last, r.content, (next.waiting, r.answers))
+
+final-over : (ending : Ending) → IsFinal ending → ending ≡ Ok EndOfInput → ⊥
+final-over ending final is = let P : Ending → Type 0 = IsFinal in subst P is final
+
+serves-final : (settings : Values) (a b c : Store) (first : List ℕ) (events writes : List Event) (used more : Outside) (link next : Link) (ending : Ending) → ServesSoFar settings a b first events used link → AreWrites writes
+    → Turned settings b c link more (went_of writes) (Some ending) next → IsFinal ending → ServesPromptly settings a c first (events ++ writes) (before used more) ending
+serves-final settings a b c first events writes used more link next ending so only turned final =
+    let site = site_of settings a in
+    let all = events ++ writes in
+    let came = first ++ came_of all in
+    record {
+      over = λ e. absurd (final-over ending final e);
+      served = moves-as a c (before used more).marks (λ marks R S. Reaches site (start_of came) R (record (before used more) { marks = marks }) (went_of all) (Some ending) next S × ArePrompt site R (record (before used more) { marks = marks }) first [] all)
+          (λ marks R S. (last : Standing) × (last.content ≡ S) × IsServed (chunks site) (record { client = new_client; content = R }) came (record (before used more) { marks = marks }) (went_of all) ending last
+          × ArePrompt site R (record (before used more) { marks = marks }) first [] all)
+          (λ ms R S r.
+          let (last, content, served) = final-served site came (went_of all) (record (before used more) { marks = ms }) ending next R S final r.0 in
+          (last, content, served, r.1))
+          (so-as settings a c first all came came (went_of events ++ went_of writes) (went_of all) (before used more) (Some ending) next refl (sym (went-written events writes))
+          (serves-then settings a b c first events writes used more link next (went_of writes) (Some ending) so only turned));
+    }
+
+-- a fault of the writer
+serves-part : (settings : Values) (a b c : Store) (first : List ℕ) (events writes : List Event) (used more : Outside) (link next : Link) (unsent : List ℕ) (ending : Option Ending) → ServesSoFar settings a b first events used link → AreWrites writes
+    → Turned settings b c link more (went_of writes ++ unsent) ending next → ServesPromptly settings a c first (events ++ writes) (before used more) (Err Write)
+serves-part settings a b c first events writes used more link next unsent ending so only turned =
+    let site = site_of settings a in
+    let all = events ++ writes in
+    let came = first ++ came_of all in
+    record {
+      over = λ e. absurd cc;
+      served = moves-as a c (before used more).marks
+          (λ marks R S. Reaches site (start_of came) R (record (before used more) { marks = marks }) (went_of all ++ unsent) ending next S × ArePrompt site R (record (before used more) { marks = marks }) first [] all)
+          (λ marks R S. (last : Standing) × (last.content ≡ S) × IsServed (chunks site) (record { client = new_client; content = R }) came (record (before used more) { marks = marks }) (went_of all) (Err Write) last
+          × ArePrompt site R (record (before used more) { marks = marks }) first [] all)
+          (λ ms R S r. (r.0.last, r.0.content, (unsent, next.waiting, ending, r.0.answers), r.1))
+          (so-as settings a c first all came came (went_of events ++ (went_of writes ++ unsent)) (went_of all ++ unsent) (before used more) ending next refl
+          (sym (append_assoc (went_of events) (went_of writes) unsent) ∙ ap (λ (o : List ℕ). o ++ unsent) (sym (went-written events writes)))
+          (serves-then settings a b c first events writes used more link next (went_of writes ++ unsent) ending so only turned));
+    }
+
+pub serves-ended : (settings : Values) (a b c : Store) (first : List ℕ) (events writes : List Event) (used more : Outside) (link next : Link) (waits : Type 0) (served : Served) → ServesSoFar settings a b first events used link
+    → Drained settings b c link more writes (Ok (Some served)) next → IsOwnEnd waits (Ok (Some served)) → ServesPromptly settings a c first (events ++ writes) (before used more) (Ok served)
+serves-ended settings a b c first events writes used more link next waits EndOfInput so drained own = absurd own
+serves-ended settings a b c first events writes used more link next waits Closed so drained own = serves-final settings a b c first events writes used more link next (Ok Closed) so drained.0 drained.1 tt
+serves-ended settings a b c first events writes used more link next waits (Refused code) so drained own = serves-final settings a b c first events writes used more link next (Ok (Refused code)) so drained.0 drained.1 tt
+
+pub serves-failed : (settings : Values) (a b c : Store) (first : List ℕ) (events writes : List Event) (used more : Outside) (link next : Link) (waits : Type 0) (fault : ServeFault) → ServesSoFar settings a b first events used link
+    → Drained settings b c link more writes (Err fault) next → IsOwnEnd waits (Err fault) → ServesPromptly settings a c first (events ++ writes) (before used more) (Err fault)
+serves-failed settings a b c first events writes used more link next waits Read so drained own = absurd own
+serves-failed settings a b c first events writes used more link next waits Write so drained own = serves-part settings a b c first events writes used more link next drained.1.0 drained.1.1 so drained.0 drained.1.2
+serves-failed settings a b c first events writes used more link next waits TooLong so drained own = serves-final settings a b c first events writes used more link next (Err TooLong) so drained.0 drained.1 tt
+serves-failed settings a b c first events writes used more link next waits OutOfMemory so drained own = serves-final settings a b c first events writes used more link next (Err OutOfMemory) so drained.0 drained.1 tt
+
+-- ---- the end of the input
+
+-- less than a chunk waits, and nothing more was read
+serves-over : (settings : Values) (a b : Store) (first : List ℕ) (events : List Event) (piece : Option (List ℕ)) (used : Outside) (link : Link) (ending : Ending) → ServesSoFar settings a b first events used link → came_in (Came piece) ≡ []
+    → (ending ≡ Ok EndOfInput → piece ≡ Some []) → IsShort link
+    → ((R : Content) (came out : List ℕ) (all : Outside) (last : Standing) → IsWhole (chunks (site_of settings a)) (record { client = new_client; content = R }) came all out (Ok EndOfInput) last
+    → IsServed (chunks (site_of settings a)) (record { client = new_client; content = R }) came all out ending last)
+    → (more : Outside) × (more.readings ≡ []) × ServesPromptly settings a b first (events ++ Came piece ∷ []) (before used more) ending
+serves-over settings a b first events piece used link ending so none over short is =
+    let site = site_of settings a in
+    let ms = end_marks link.waiting in
+    let all = events ++ Came piece ∷ [] in
+    let came = first ++ came_of events in
+    let same : came ≡ first ++ came_of all = ap (λ (c : List ℕ). first ++ c) (sym (came-read events piece ∙ ap (λ (c : List ℕ). came_of events ++ c) none ∙ append-nil (came_of events))) in
+    let Goal : (cs out : List ℕ) → Type 0 = λ cs out. Moves a b (used.marks ++ ms) (λ marks R S. (last : Standing) × (last.content ≡ S)
+    × IsServed (chunks site) (record { client = new_client; content = R }) cs (record (before used (marked ms)) { marks = marks }) out ending last × ArePrompt site R (record (before used (marked ms)) { marks = marks }) first [] all) in
+    let P : List ℕ → Type 0 = λ c. Goal c (went_of all) in
+    let Q : List ℕ → Type 0 = λ o. Goal came o in (
       marked ms,
       refl,
       record {
-        came = so.came;
-        out = so.out;
-        read = read;
-        over = over;
-        written = so.written;
-        served = moves-more a b used.marks ms (λ R S. Reaches site (start_of (first ++ so.came)) R used so.out None link S)
-            (λ R S. (last : Standing) × (last.content ≡ S) × IsServed (chunks site) (record { client = new_client; content = R }) (first ++ so.came) (before used (marked ms)) so.out ending last)
+        over = λ e. (events, ap (λ (p : Option (List ℕ)). events ++ Came p ∷ []) (over e));
+        served = subst P same (subst Q (sym (went-read events piece))
+            (moves-before-quiet a b used.marks ms (λ marks R S. Reaches site (start_of came) R (record used { marks = marks }) (went_of events) None link S × ArePrompt site R (record used { marks = marks }) first [] events)
+            (λ marks R S. (last : Standing) × (last.content ≡ S) × IsServed (chunks site) (record { client = new_client; content = R }) came (record (before used (marked ms)) { marks = marks }) (went_of events) ending last
+            × ArePrompt site R (record (before used (marked ms)) { marks = marks }) first [] all)
             (end-quiet link.waiting)
-            (λ R S r.
+            (λ ks R S r.
+            let outside : Outside = record used { marks = ks } in
             let C : Client → Type 0 = λ c. cut c.greeted c.limit link.waiting ≡ Ok None in
-            let whole = whole-of site (record { client = new_client; content = R }) r.last (first ++ so.came) link.waiting so.out used r.answers (subst C (sym (r.goes refl)) short) in
-            (r.last, r.content, is R (before used (marked ms)) r.last whole)) so.turned;
+            let whole = whole-of site (record { client = new_client; content = R }) r.0.last came link.waiting (went_of events) outside r.0.answers (subst C (sym (r.0.goes refl)) short) in (
+              r.0.last,
+              r.0.content,
+              is R came (went_of events) (before outside (marked ms)) r.0.last whole,
+              prompts-later site R outside (marked ms) first [] all (prompts-read site R S outside first events piece link r.0 short r.1),
+            )) so));
       },
     )
 
 -- the input is at its end
-pub serves-end : (settings : Values) (a b : Store) (first : List ℕ) (unread left rest old written : Option (List ℕ)) (used : Outside) (link : Link) (bytes : List ℕ) → ServesSoFar settings a b first unread left old written used link → Consumes left rest bytes → bytes ≡ []
-    → IsAtEnd rest → IsShort link → (more : Outside) × (more.readings ≡ []) × ServesBehind settings a b first unread rest old written (before used more) (Ok EndOfInput)
-serves-end settings a b first unread left rest old written used link bytes so read empty end short =
-    let N : List ℕ → Type 0 = λ c. Consumes unread rest c in
-    let none : so.came ++ bytes ≡ so.came = ap (λ (x : List ℕ). so.came ++ x) empty ∙ append-nil so.came in
-    serves-over settings a b first unread left rest old written used link (Ok EndOfInput) so (subst N none (Consumes-trans unread left rest so.came bytes so.read read)) (λ e. end) short (λ R all last w. w)
+pub serves-end : (settings : Values) (a b : Store) (first : List ℕ) (events : List Event) (used : Outside) (link : Link) (bytes : List ℕ) → ServesSoFar settings a b first events used link → bytes ≡ [] → IsShort link
+    → (more : Outside) × (more.readings ≡ []) × ServesPromptly settings a b first (events ++ Came (Some bytes) ∷ []) (before used more) (Ok EndOfInput)
+serves-end settings a b first events used link bytes so empty short = serves-over settings a b first events (Some bytes) used link (Ok EndOfInput) so empty (λ e. ap (λ (b : List ℕ). Some b) empty) short (λ R came out all last w. w)
 
 -- a fault of the reader
-pub serves-read : (settings : Values) (a b : Store) (first : List ℕ) (unread left rest old written : Option (List ℕ)) (used : Outside) (link : Link) → ServesSoFar settings a b first unread left old written used link → Keeps left rest → IsShort link
-    → (more : Outside) × (more.readings ≡ []) × ServesBehind settings a b first unread rest old written (before used more) (Err Read)
-serves-read settings a b first unread left rest old written used link so keeps short =
-    serves-over settings a b first unread left rest old written used link (Err Read) so (Consumes-kept unread left rest so.came so.read keeps) (λ e. absurd cc) short (λ R all last w. w)
+pub serves-read : (settings : Values) (a b : Store) (first : List ℕ) (events : List Event) (used : Outside) (link : Link) → ServesSoFar settings a b first events used link → IsShort link
+    → (more : Outside) × (more.readings ≡ []) × ServesPromptly settings a b first (events ++ Came None ∷ []) (before used more) (Err Read)
+serves-read settings a b first events used link so short = serves-over settings a b first events None used link (Err Read) so refl (λ e. absurd cc) short (λ R came out all last w. w)
 
 -- ---- memory for bytes that came is wanting
 
 -- an ERR says so, for bytes that wait
-serves-want : (settings : Values) (a b : Store) (first : List ℕ) (unread rest old written sent : Option (List ℕ)) (used : Outside) (fed : Link) (result : Ending) → ServesSoFar settings a b first unread rest old written used fed
-    → 0 < length fed.waiting → SendsRefusal written sent BAD_OUT_OF_MEMORY result → (more : Outside) × (more.readings ≡ []) × ServesBehind settings a b first unread rest old sent (before used more) result
-serves-want settings a b first unread rest old written sent used fed result now more sends = go result sends
+serves-want : (settings : Values) (a b : Store) (first : List ℕ) (events writes : List Event) (used : Outside) (fed : Link) (result : Ending) → ServesSoFar settings a b first events used fed
+    → 0 < length fed.waiting → SendsRefusal BAD_OUT_OF_MEMORY writes result → (more : Outside) × (more.readings ≡ []) × ServesPromptly settings a b first (events ++ writes) (before used more) result
+serves-want settings a b first events writes used fed result now some sends = go result sends
   where
-    go : (r : Ending) → SendsRefusal written sent BAD_OUT_OF_MEMORY r → (more : Outside) × (more.readings ≡ []) × ServesBehind settings a b first unread rest old sent (before used more) r
+    -- what was written is a part of the message
+    wrote : (out : List ℕ) (x : Ending) → (more : Outside) × (more.readings ≡ []) × ServesPromptly settings a b first (events ++ Went out ∷ []) (before used more) x → writes ≡ Went out ∷ []
+        → (more : Outside) × (more.readings ≡ []) × ServesPromptly settings a b first (events ++ writes) (before used more) x
+    wrote out x p is = let P : List Event → Type 0 = λ w. (more : Outside) × (more.readings ≡ []) × ServesPromptly settings a b first (events ++ w) (before used more) x in subst P (sym is) p
+
+    go : (r : Ending) → SendsRefusal BAD_OUT_OF_MEMORY writes r → (more : Outside) × (more.readings ≡ []) × ServesPromptly settings a b first (events ++ writes) (before used more) r
     go (Ok served) s =
-        let t = starved-turned settings b fed fed [] (error.canon BAD_OUT_OF_MEMORY) (Ok (Ends (Refused BAD_OUT_OF_MEMORY))) more (refl, refl) in
-        let P : Served → Type 0 = λ x. ServesBehind settings a b first unread rest old sent (before used (marked t.0)) (Ok x) in
+        let code = error.canon BAD_OUT_OF_MEMORY in
+        let t = starved-turned settings b fed fed [] code (Ok (Ends (Refused BAD_OUT_OF_MEMORY))) some (refl, refl) in
+        let P : Served → Type 0 = λ x. ServesPromptly settings a b first (events ++ Went code ∷ []) (before used (marked t.0)) (Ok x) in
         let T : List ℕ → Type 0 = λ o. Turned settings b b fed (marked t.0) o (Some (Ok (Refused BAD_OUT_OF_MEMORY))) fed in
-        (marked t.0, refl, subst P (sym s.0) (serves-final settings a b b first unread rest old written sent used (marked t.0) fed fed (error.canon BAD_OUT_OF_MEMORY) (Ok (Refused BAD_OUT_OF_MEMORY)) now s.1 (subst T (sym t.1.1) t.1.2) tt))
+        wrote code (Ok served)
+        (marked t.0, refl, subst P (sym s.0) (serves-final settings a b b first events (Went code ∷ []) used (marked t.0) fed fed (Ok (Refused BAD_OUT_OF_MEMORY)) now tt (subst T (sym t.1.1 ∙ sym (append-nil code)) t.1.2) tt)) s.1
     go (Err Read) s = absurd s
     go (Err Write) s =
-        let t = starved-turned settings b fed fed [] (error.canon BAD_OUT_OF_MEMORY) (Ok (Ends (Refused BAD_OUT_OF_MEMORY))) more (refl, refl) in
+        let code = error.canon BAD_OUT_OF_MEMORY in
+        let t = starved-turned settings b fed fed [] code (Ok (Ends (Refused BAD_OUT_OF_MEMORY))) some (refl, refl) in
         let T : List ℕ → Type 0 = λ o. Turned settings b b fed (marked t.0) o (Some (Ok (Refused BAD_OUT_OF_MEMORY))) fed in
-        (marked t.0, refl, serves-part settings a b b first unread rest old written sent used (marked t.0) fed fed s.0 s.1 (Some (Ok (Refused BAD_OUT_OF_MEMORY))) now s.3 (subst T (sym t.1.1 ∙ s.2) t.1.2))
+        wrote s.0 (Err Write) (
+          marked t.0,
+          refl,
+          serves-part settings a b b first events (Went s.0 ∷ []) used (marked t.0) fed fed s.1 (Some (Ok (Refused BAD_OUT_OF_MEMORY))) now tt
+              (subst T (sym t.1.1 ∙ s.2 ∙ ap (λ (o : List ℕ). o ++ s.1) (sym (append-nil s.0))) t.1.2),
+        ) s.3
     go (Err TooLong) s = absurd s
     go (Err OutOfMemory) s =
-        let t = starved-turned settings b fed fed [] [] (Err OutOfMemory) more (refl, refl) in
+        let t = starved-turned settings b fed fed [] [] (Err OutOfMemory) some (refl, refl) in
         let T : List ℕ → Type 0 = λ o. Turned settings b b fed (marked t.0) o (Some (Err OutOfMemory)) fed in
-        (marked t.0, refl, serves-final settings a b b first unread rest old written sent used (marked t.0) fed fed [] (Err OutOfMemory) now s (subst T (sym t.1.1) t.1.2) tt)
+        let P : List Event → Type 0 = λ w. ServesPromptly settings a b first (events ++ w) (before used (marked t.0)) (Err OutOfMemory) in
+        (marked t.0, refl, subst P (sym s) (serves-final settings a b b first events [] used (marked t.0) fed fed (Err OutOfMemory) now tt (subst T (sym t.1.1) t.1.2) tt))
 
-pub serves-starved : (settings : Values) (a b : Store) (first : List ℕ) (unread left rest old written sent : Option (List ℕ)) (used : Outside) (link : Link) (bytes : List ℕ) (result : Ending)
-    → ServesSoFar settings a b first unread left old written used link → Consumes left rest bytes → 0 < length bytes → SendsRefusal written sent BAD_OUT_OF_MEMORY result
-    → (more : Outside) × (more.readings ≡ []) × ServesBehind settings a b first unread rest old sent (before used more) result
-serves-starved settings a b first unread left rest old written sent used link bytes result so read some sends =
+pub serves-starved : (settings : Values) (a b : Store) (first : List ℕ) (events writes : List Event) (used : Outside) (link : Link) (bytes : List ℕ) (result : Ending) → ServesSoFar settings a b first events used link → IsShort link
+    → 0 < length bytes → SendsRefusal BAD_OUT_OF_MEMORY writes result
+    → (more : Outside) × (more.readings ≡ []) × ServesPromptly settings a b first ((events ++ Came (Some bytes) ∷ []) ++ writes) (before used more) result
+serves-starved settings a b first events writes used link bytes result so short some sends =
     let fed : Link = record link { waiting = link.waiting ++ bytes } in
-    serves-want settings a b first unread rest old written sent used fed result (serves-fed settings a b first unread left rest old written used link fed bytes so read refl) (omega (arith, some, length-append link.waiting bytes)) sends
+    serves-want settings a b first (events ++ Came (Some bytes) ∷ []) writes used fed result (serves-fed settings a b first events used link fed bytes so short refl) (omega (arith, some, length-append link.waiting bytes)) sends
 
 -- memory for bytes that were read before was wanting
-pub serves-unfed : (settings : Values) (a : Store) (unread written sent : Option (List ℕ)) (first : List ℕ) (result : Ending) → 0 < length first → SendsRefusal written sent BAD_OUT_OF_MEMORY result
-    → (more : Outside) × (more.readings ≡ []) × ServesBehind settings a a first unread unread written sent (before nothing more) result
-serves-unfed settings a unread written sent first result some sends =
-    serves-want settings a a first unread unread written written sent nothing (start_of first) result (serves-start settings a unread written (start_of first) refl) some sends
+pub serves-unfed : (settings : Values) (a : Store) (first : List ℕ) (writes : List Event) (result : Ending) → 0 < length first → SendsRefusal BAD_OUT_OF_MEMORY writes result
+    → (more : Outside) × (more.readings ≡ []) × ServesPromptly settings a a first writes (before nothing more) result
+serves-unfed settings a first writes result some sends = serves-want settings a a first [] writes nothing (start_of first) result (serves-start settings a (start_of first) refl) some sends
+
+-- ---- over a reader and a writer
+
+passed-known : (a b : Ways) (events : List Event) → Passes a events b → Consumes a.unread b.unread (came_of events) × Appends a.written b.written (went_of events)
+passed-known a b [] p =
+    let P : Ways → Type 0 = λ w. Consumes a.unread w.unread [] × Appends a.written w.written [] in
+    subst P p (Consumes-nil a.unread, Appends-nil a.written)
+passed-known a b (Came None ∷ events) p =
+    let later = passed-known p.0 b events p.2 in
+    (kept_consumes a.unread p.0.unread b.unread (came_of events) p.1.0 later.0, kept_appends a.written p.0.written b.written (went_of events) p.1.1 later.1)
+passed-known a b (Came (Some bytes) ∷ events) p =
+    let later = passed-known p.0 b events p.2 in
+    (Consumes-trans a.unread p.0.unread b.unread bytes (came_of events) p.1.0 later.0, kept_appends a.written p.0.written b.written (went_of events) p.1.2 later.1)
+passed-known a b (Went bytes ∷ events) p =
+    let later = passed-known p.0 b events p.2 in
+    (kept_consumes a.unread p.0.unread b.unread (came_of events) p.1.0 later.0, Appends-trans a.written p.0.written b.written bytes (went_of events) p.1.1 later.1)
+
+-- the last read gave nothing
+passed-over : (a b : Ways) (front : List Event) → Passes a (front ++ Came (Some []) ∷ []) b → IsAtEnd b.unread
+passed-over a b [] p = let P : Ways → Type 0 = λ w. IsAtEnd w.unread in subst P p.2 (p.1.1 refl)
+passed-over a b (event ∷ front) p = passed-over p.0 b front p.2
+
+pub behind_known : (settings : Values) (a b : Store) (first : List ℕ) (events : List Event) (old new : Ways) (used : Outside) (ending : Ending) → ServesPromptly settings a b first events used ending → Passes old events new
+    → ServesBehind settings a b first old.unread new.unread old.written new.written used ending
+behind_known settings a b first events old new used ending serves passes =
+    let known = passed-known old new events passes in
+    let P : List Event → Type 0 = λ e. Passes old e new in
+    let site = site_of settings a in
+    record {
+      came = came_of events;
+      out = went_of events;
+      read = known.0;
+      over = λ e. let end = serves.over e in passed-over old new end.0 (subst P end.1 passes);
+      written = known.1;
+      served = moves-as a b used.marks (λ marks R S. (last : Standing) × (last.content ≡ S)
+          × IsServed (chunks site) (record { client = new_client; content = R }) (first ++ came_of events) (record used { marks = marks }) (went_of events) ending last × ArePrompt site R (record used { marks = marks }) first [] events)
+          (λ marks R S. (last : Standing) × (last.content ≡ S) × IsServed (chunks site) (record { client = new_client; content = R }) (first ++ came_of events) (record used { marks = marks }) (went_of events) ending last)
+          (λ ms R S r. (r.0, r.1, r.2)) serves.served;
+    }

@@ -8,6 +8,10 @@ use Rattle.archive.specs.Steps.{Marked, step, and_then}
 abbrev pub Outside : Type 0
 Outside = record { marks : List Mark; readings : List ℤ }
 
+-- nothing comes in the way, and the time isn't asked for
+abbrev pub nothing : Outside
+nothing = record { marks = []; readings = [] }
+
 -- what was used, before what is left for later
 abbrev pub before : Outside → Outside → Outside
 before used later = record { marks = used.marks ++ later.marks; readings = used.readings ++ later.readings }

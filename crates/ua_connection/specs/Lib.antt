@@ -1,8 +1,7 @@
 pub mod Readings
 pub mod Given
+pub mod Passing
 pub mod Run
 pub mod Client
 pub mod Turns
 pub mod Serving
-pub mod Hexed
-pub mod Single

@@ -1,6 +1,5 @@
 -- What the server's steps come to.
-use Rattle.std.specs.Prelude.{◌≡◌, ◌≤◌, ◌<◌, ◌+◌, ◌*◌, ℕ, true, List, [], ◌++◌, length, Option, None, Some, Result, Ok, Err}
-use Rattle.std.specs.Io.KnownBytes.{Appends, Consumes}
+use Rattle.std.specs.Prelude.{◌≡◌, ◌≤◌, ◌<◌, ◌+◌, ◌*◌, ℕ, true, List, [], ◌∷◌, ◌++◌, length, Option, None, Some, Result, Ok, Err}
 use Rattle.ua_binary.specs.declared.codes.Status.{Status}
 use Rattle.ua_binary.specs.declared.codes.TheConstants.Status.{BAD_OUT_OF_MEMORY}
 use Rattle.uacp.specs.Stream.{Piece}
@@ -22,7 +21,9 @@ use Rattle.counted_io.specs.declared.fault.ServeFault.TheVariants.{Read, Write, 
 use Rattle.ua_connection.specs.declared.turn.Turn.{Turn}
 use Rattle.ua_connection.specs.declared.turn.Turn.TheVariants.{Waits, Greets, Goes, Ends}
 use Rattle.ua_connection.specs.Given.{Outside, made, Does}
+use Rattle.ua_connection.specs.Passing.{Event, Went, AreWrites, came_of, went_of}
 use Rattle.ua_connection.specs.Run.{Answers}
+use Rattle.ua_connection.specs.Serving.{ArePrompt}
 use Rattle.ua_connection.specs.Client.{Client, new_client, Standing, Ending, Answering, refuse, answered_on, answered_piece, chunks}
 
 -- what a connection keeps: what is known of its client, and the bytes that came and weren't answered yet
@@ -104,7 +105,7 @@ pub record Replies (given : Answering) (used : Outside) (made : List ℕ) (endin
 pub record Answered (old new : Store) (given : Content → Answering) (used : Outside) (before after : List ℕ) (ending : Option Ending) (client : Client) : Type 0 where
   pub made : List ℕ
   pub appended : after ≡ before ++ made
-  pub moves : Moves old new used.marks (λ R S. Replies (given R) used made ending client S)
+  pub moves : Moves old new used.marks (λ marks R S. Replies (given R) (record used { marks = marks }) made ending client S)
 
 -- the same by steps that ask no archive
 pub record AnsweredHere (given : Content → Answering) (used : List Mark) (before after : List ℕ) (ending : Option Ending) (client : Client) : Type 0 where
@@ -133,7 +134,8 @@ pub record Reaches (site : Site) (link : Link) (R : Content) (used : Outside) (m
 
 -- a stretch of the answer over an archive
 abbrev pub Turned : Values → Store → Store → Link → Outside → List ℕ → Option Ending → Link → Type 0
-Turned settings old new link used made ending next = Moves old new used.marks (λ R S. Reaches (site_of settings old) link R used made ending next S)
+Turned settings old new link used made ending next =
+    Moves old new used.marks (λ marks R S. Reaches (site_of settings old) link R (record used { marks = marks }) made ending next S)
 
 -- the same, where the bytes were appended
 abbrev pub TurnedInto : Values → Store → Store → Link → Outside → List ℕ → List ℕ → Option Ending → Link → Type 0
@@ -202,19 +204,20 @@ IsCounted taken (Err fault) = Unit {0}
 
 -- ---- what was written
 
--- known contents grew by the answer to the chunks at hand; where the writer failed, by a first part of that
+-- this is the answer to the chunks at hand; where the writer failed, a first part of that
 abbrev pub DrainsTo : Values → Store → Store → Link → Outside → List ℕ → Result (Option Served) ServeFault → Link → Type 0
 DrainsTo settings old new link used out (Ok None) next = Turned settings old new link used out None next
 DrainsTo settings old new link used out (Ok (Some served)) next = Turned settings old new link used out (Some (Ok served)) next
 DrainsTo settings old new link used out (Err Write) next = (unsent : List ℕ) × (ending : Option Ending) × Turned settings old new link used (out ++ unsent) ending next
 DrainsTo settings old new link used out (Err fault) next = Turned settings old new link used out (Some (Err fault)) next
 
-abbrev pub Drained : Values → Store → Store → Option (List ℕ) → Option (List ℕ) → Link → Outside → Result (Option Served) ServeFault → Link → Type 0
-Drained settings old new before after link used result next = (out : List ℕ) × Appends before after out × DrainsTo settings old new link used out result next
+-- the chunks at hand were answered, and the answer was written
+abbrev pub Drained : Values → Store → Store → Link → Outside → List Event → Result (Option Served) ServeFault → Link → Type 0
+Drained settings old new link used events result next = AreWrites events × DrainsTo settings old new link used (went_of events) result next
 
 -- the answer so far, and what went out of it
-abbrev pub DrainedSoFar : Values → Store → Store → Option (List ℕ) → Option (List ℕ) → Link → Outside → Link → Type 0
-DrainedSoFar settings old new before after link used next = (out : List ℕ) × Appends before after out × Turned settings old new link used out None next
+abbrev pub DrainedSoFar : Values → Store → Store → Link → Outside → List Event → Link → Type 0
+DrainedSoFar settings old new link used events next = AreWrites events × Turned settings old new link used (went_of events) None next
 
 -- ends of a stretch that answering makes itself
 abbrev pub IsOwnEnd : (waits : Type 0) → Result (Option Served) ServeFault → Type 0
@@ -230,18 +233,16 @@ IsOwnEnd waits (Err fault) = Unit {0}
 abbrev pub new_link : Link
 new_link = record { client = new_client; waiting = [] }
 
--- by what was read so far, this was written, and the connection stands like this
-pub record ServesSoFar (settings : Values) (old new : Store) (first : List ℕ) (unread left : Option (List ℕ)) (before after : Option (List ℕ)) (used : Outside) (link : Link) : Type 0 where
-  pub came : List ℕ
-  pub out : List ℕ
-  pub read : Consumes unread left came
-  pub written : Appends before after out
-  pub turned : Turned settings old new (record { client = new_client; waiting = first ++ came }) used out None link
+-- by what passed so far the connection stands like this, and whenever more was read, all that had come till then was answered
+abbrev pub ServesSoFar : Values → Store → Store → (first : List ℕ) → List Event → Outside → Link → Type 0
+ServesSoFar settings old new first events used link = Moves old new used.marks (λ marks R S.
+    Reaches (site_of settings old) (record { client = new_client; waiting = first ++ came_of events }) R (record used { marks = marks }) (went_of events) None link S
+    × ArePrompt (site_of settings old) R (record used { marks = marks }) first [] events)
 
 -- an ERR with this code was written, or a first part of it where the writer failed, or nothing where memory for it was wanting
-abbrev pub SendsRefusal : Option (List ℕ) → Option (List ℕ) → Status → Ending → Type 0
-SendsRefusal before after code (Ok served) = (served ≡ Refused code) × Appends before after (error.canon code)
-SendsRefusal before after code (Err Read) = ⊥
-SendsRefusal before after code (Err Write) = (sent unsent : List ℕ) × (error.canon code ≡ sent ++ unsent) × Appends before after sent
-SendsRefusal before after code (Err TooLong) = ⊥
-SendsRefusal before after code (Err OutOfMemory) = Appends before after []
+abbrev pub SendsRefusal : Status → List Event → Ending → Type 0
+SendsRefusal code events (Ok served) = (served ≡ Refused code) × (events ≡ Went (error.canon code) ∷ [])
+SendsRefusal code events (Err Read) = ⊥
+SendsRefusal code events (Err Write) = (sent unsent : List ℕ) × (error.canon code ≡ sent ++ unsent) × (events ≡ Went sent ∷ [])
+SendsRefusal code events (Err TooLong) = ⊥
+SendsRefusal code events (Err OutOfMemory) = events ≡ []

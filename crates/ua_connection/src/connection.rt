@@ -143,7 +143,9 @@ impl Connection {
                 self.taken += 1;
             }
             Ok(Turn::Goes) => self.taken += 1,
-            Ok(Turn::Waits | Turn::Ends(_)) | Err(_) => {}
+            Ok(Turn::Waits) => {}
+            Ok(Turn::Ends(_)) => {}
+            Err(_) => {}
         }
         turn
     }

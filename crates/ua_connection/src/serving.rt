@@ -1,16 +1,17 @@
 //! A connection, from the first byte read to the last one written.
 
 ghost use Rattle.std.specs.Prelude.{◌≡◌, ◌≤◌, ◌<◌, ◌⊎◌, List, [], None, IfOk, OnOk, OnErr, IsErrOf, length};
-ghost use Rattle.std.specs.Io.KnownBytes.{Appends};
 ghost use Rattle.counted_io.specs.Bytes.{counted};
 ghost use Rattle.ua_connection.specs.Client.{new_client};
 ghost use Rattle.ua_binary.specs.declared.codes.TheConstants.Status.{BAD_OUT_OF_MEMORY};
 ghost use Rattle.ua_connection.specs.Given.{Outside};
+ghost use Rattle.ua_connection.specs.Passing.{Event, Passes};
 ghost use Rattle.ua_connection.specs.Turns.{IsShort, IsSmall, IsOwn, IsOwnEnd, IsNoLess, Shortens, TurnedInto, Drained, SendsRefusal, ending_of};
-ghost use Rattle.ua_connection.specs.Serving.{ServesBehind};
+ghost use Rattle.ua_connection.specs.Serving.{ServesPromptly, ServesBehind};
 
 use crate::clock::Clock;
 use crate::connection::Connection;
+use crate::line::{Line, Wires};
 use crate::outcome::Served;
 use crate::turn::{Turn, end_of, put_refusal};
 use archive::Archive;
@@ -59,27 +60,28 @@ fn answer_some<A: Archive, C: Clock>(
 }
 
 /// Answers the items that wait, and sends the answers.
-fn answer_waiting<A: Archive, W: Write, C: Clock>(
+fn answer_waiting<A: Archive, X: Line, C: Clock>(
     alloc: Global,
     settings: &Settings,
     archive: &mut A,
     connection: &mut Connection,
-    writer: &mut Counted<W>,
+    line: &mut X,
     clock: &mut C,
     out: &mut Vec<u8>,
 ) -> Result<Option<Served>, ServeFault>
     requires { IsSmall connection.old }
-    ensures drained { (used : Outside) × C.gave clock.old used.readings clock.new
-        × Drained settings.now (A.state archive.old) (A.state archive.new) (W.contents writer.old.inner) (W.contents writer.new.inner) connection.old used result connection.new }
+    ensures drained { (used : Outside) × C.gave clock.old used.readings clock.new × (events : List Event) × X.passed line.old events line.new
+        × Drained settings.now (A.state archive.old) (A.state archive.new) connection.old used events result connection.new }
     ensures own { IsOwnEnd (IsShort connection.new × IsNoLess connection.old connection.new) result }
     ensures small { IsSmall connection.new }
-    ensures write { IsErrOf result ServeFault.Write → writer.new.faults ≡ counted writer.old.faults }
-    ensures kept { (IsErrOf result ServeFault.Write → ⊥) → writer.new.faults ≡ writer.old.faults }
+    ensures write { IsErrOf result ServeFault.Write → X.failed_writes line.new ≡ counted (X.failed_writes line.old) }
+    ensures kept { (IsErrOf result ServeFault.Write → ⊥) → X.failed_writes line.new ≡ X.failed_writes line.old }
+    ensures reads { X.failed_reads line.new ≡ X.failed_reads line.old }
 {
     'parts: loop {
         out.clear();
         let turn = answer_some(alloc, settings, archive, connection, clock, out);
-        writer.send(out.as_slice())?;
+        line.send(out.as_slice())?;
         match end_of(turn) {
             Some(end) => return end,
             None => {}
@@ -88,50 +90,48 @@ fn answer_waiting<A: Archive, W: Write, C: Clock>(
 }
 
 /// Ends the connection by an Error message that says that memory ran out.
-fn send_starved<W: Write>(writer: &mut Counted<W>, out: &mut Vec<u8>) -> Result<Served, ServeFault>
-    ensures sends { SendsRefusal (W.contents writer.old.inner) (W.contents writer.new.inner) BAD_OUT_OF_MEMORY result }
-    ensures write { IsErrOf result ServeFault.Write → writer.new.faults ≡ counted writer.old.faults }
-    ensures kept { (IsErrOf result ServeFault.Write → ⊥) → writer.new.faults ≡ writer.old.faults }
+fn send_starved<X: Line>(line: &mut X, out: &mut Vec<u8>) -> Result<Served, ServeFault>
+    ensures sends { (events : List Event) × X.passed line.old events line.new × SendsRefusal BAD_OUT_OF_MEMORY events result }
+    ensures write { IsErrOf result ServeFault.Write → X.failed_writes line.new ≡ counted (X.failed_writes line.old) }
+    ensures kept { (IsErrOf result ServeFault.Write → ⊥) → X.failed_writes line.new ≡ X.failed_writes line.old }
+    ensures reads { X.failed_reads line.new ≡ X.failed_reads line.old }
 {
     out.clear();
     let served = put_refusal(Status::BAD_OUT_OF_MEMORY, out)?;
-    writer.send(out.as_slice())?;
+    line.send(out.as_slice())?;
     Ok(served)
 }
 
 /// Answers a connection on, of which nothing was answered yet.
-fn serve_on<R: Read, W: Write, C: Clock, A: Archive>(
+fn serve_on<X: Line, C: Clock, A: Archive>(
     alloc: Global,
     settings: &Settings,
     archive: &mut A,
     connection: &mut Connection,
-    reader: &mut Counted<R>,
-    writer: &mut Counted<W>,
+    line: &mut X,
     clock: &mut C,
 ) -> Result<Served, ServeFault>
     requires fresh { connection.old.client ≡ new_client }
     requires short { IsShort connection.old }
-    ensures serves { (used : Outside) × C.gave clock.old used.readings clock.new
-        × ServesBehind settings.now (A.state archive.old) (A.state archive.new) connection.old.waiting (R.remaining reader.old.inner) (R.remaining reader.new.inner) (W.contents writer.old.inner) (W.contents writer.new.inner) used result }
-    ensures read { IsErrOf result ServeFault.Read → reader.new.faults ≡ counted reader.old.faults }
-    ensures write { IsErrOf result ServeFault.Write → writer.new.faults ≡ counted writer.old.faults }
-    ensures read_kept { (IsErrOf result ServeFault.Read → ⊥) → reader.new.faults ≡ reader.old.faults }
-    ensures write_kept { (IsErrOf result ServeFault.Write → ⊥) → writer.new.faults ≡ writer.old.faults }
+    ensures serves { (used : Outside) × C.gave clock.old used.readings clock.new × (events : List Event) × X.passed line.old events line.new
+        × ServesPromptly settings.now (A.state archive.old) (A.state archive.new) connection.old.waiting events used result }
+    ensures read { IsErrOf result ServeFault.Read → X.failed_reads line.new ≡ counted (X.failed_reads line.old) }
+    ensures write { IsErrOf result ServeFault.Write → X.failed_writes line.new ≡ counted (X.failed_writes line.old) }
+    ensures read_kept { (IsErrOf result ServeFault.Read → ⊥) → X.failed_reads line.new ≡ X.failed_reads line.old }
+    ensures write_kept { (IsErrOf result ServeFault.Write → ⊥) → X.failed_writes line.new ≡ X.failed_writes line.old }
 {
     let mut out = Vec::new(alloc);
     let mut piece = [0u8; PIECE];
     'reads: loop {
-        let n = reader.read_piece(&mut piece)?;
+        let n = line.receive(&mut piece)?;
         if n == 0 {
             return Ok(Served::EndOfInput);
         }
         match connection.feed(&piece[..n]) {
             Ok(()) => {}
-            Err(_) => return send_starved(writer, &mut out),
+            Err(_) => return send_starved(line, &mut out),
         }
-        match answer_waiting(
-            alloc, settings, archive, connection, writer, clock, &mut out,
-        ) {
+        match answer_waiting(alloc, settings, archive, connection, line, clock, &mut out) {
             Ok(None) => {}
             Ok(Some(served)) => return Ok(served),
             Err(fault) => return Err(fault),
@@ -139,44 +139,84 @@ fn serve_on<R: Read, W: Write, C: Clock, A: Archive>(
     }
 }
 
-/// Answers the connection of one client over an archive.
-///
-/// Where the reader's bytes and the writer's contents are known, what goes out is the answer to the bytes that were read, by
-/// the readings that the clock gave, and what the archive holds then is what that answer left; after a fault of the writer it
-/// is a first part of it. The answers to what was read are sent before the next read; the writer is not flushed.
-///
-/// Errors: `Read` and `Write` where a call of the reader or the writer failed (its `faults` rose, and it rises nowhere else),
-/// `TooLong` where a chunk comes after 1,000,000 of them, `OutOfMemory` where memory was wanting and the Error message that
-/// tells it could not be made either.
-pub fn serve<R: Read, W: Write, C: Clock, A: Archive>(
+/// Answers the connection of one client of which nothing was read before.
+fn serve_first<X: Line, C: Clock, A: Archive>(
     alloc: Global,
     settings: &Settings,
     archive: &mut A,
-    reader: &mut Counted<R>,
-    writer: &mut Counted<W>,
+    line: &mut X,
     clock: &mut C,
 ) -> Result<Served, ServeFault>
-    ensures serves { (used : Outside) × C.gave clock.old used.readings clock.new
-        × ServesBehind settings.now (A.state archive.old) (A.state archive.new) [] (R.remaining reader.old.inner) (R.remaining reader.new.inner) (W.contents writer.old.inner) (W.contents writer.new.inner) used result }
-    ensures read { IsErrOf result ServeFault.Read → reader.new.faults ≡ counted reader.old.faults }
-    ensures write { IsErrOf result ServeFault.Write → writer.new.faults ≡ counted writer.old.faults }
-    ensures read_kept { (IsErrOf result ServeFault.Read → ⊥) → reader.new.faults ≡ reader.old.faults }
-    ensures write_kept { (IsErrOf result ServeFault.Write → ⊥) → writer.new.faults ≡ writer.old.faults }
+    ensures serves { (used : Outside) × C.gave clock.old used.readings clock.new × (events : List Event) × X.passed line.old events line.new
+        × ServesPromptly settings.now (A.state archive.old) (A.state archive.new) [] events used result }
+    ensures read { IsErrOf result ServeFault.Read → X.failed_reads line.new ≡ counted (X.failed_reads line.old) }
+    ensures write { IsErrOf result ServeFault.Write → X.failed_writes line.new ≡ counted (X.failed_writes line.old) }
+    ensures read_kept { (IsErrOf result ServeFault.Read → ⊥) → X.failed_reads line.new ≡ X.failed_reads line.old }
+    ensures write_kept { (IsErrOf result ServeFault.Write → ⊥) → X.failed_writes line.new ≡ X.failed_writes line.old }
 {
     let mut connection = Connection::new(alloc);
-    serve_on(
-        alloc,
-        settings,
-        archive,
-        &mut connection,
-        reader,
-        writer,
-        clock,
-    )
+    serve_on(alloc, settings, archive, &mut connection, line, clock)
 }
 
-/// Answers the connection of one client of which these first bytes were read before, as `serve` does.
-fn serve_behind<R: Read, W: Write, C: Clock, A: Archive>(
+/// Answers the connection of one client of which these first bytes were read before.
+fn serve_behind<X: Line, C: Clock, A: Archive>(
+    alloc: Global,
+    settings: &Settings,
+    archive: &mut A,
+    first: &[u8],
+    line: &mut X,
+    clock: &mut C,
+) -> Result<Served, ServeFault>
+    requires some { 0 < length first.now }
+    requires few { length first.now < 8 }
+    ensures serves { (used : Outside) × C.gave clock.old used.readings clock.new × (events : List Event) × X.passed line.old events line.new
+        × ServesPromptly settings.now (A.state archive.old) (A.state archive.new) first.now events used result }
+    ensures read { IsErrOf result ServeFault.Read → X.failed_reads line.new ≡ counted (X.failed_reads line.old) }
+    ensures write { IsErrOf result ServeFault.Write → X.failed_writes line.new ≡ counted (X.failed_writes line.old) }
+    ensures read_kept { (IsErrOf result ServeFault.Read → ⊥) → X.failed_reads line.new ≡ X.failed_reads line.old }
+    ensures write_kept { (IsErrOf result ServeFault.Write → ⊥) → X.failed_writes line.new ≡ X.failed_writes line.old }
+{
+    let mut connection = Connection::new(alloc);
+    match connection.feed(first) {
+        Ok(()) => {}
+        Err(_) => return send_starved(line, &mut Vec::new(alloc)),
+    }
+    serve_on(alloc, settings, archive, &mut connection, line, clock)
+}
+
+/// Answers the connection of one client over an archive, of which these first bytes, if any, were read before.
+///
+/// What is written is the answer to the bytes that were read, by the readings that the clock gave, and what the archive holds
+/// then is what that answer left; after a fault of a write it is a first part of it. Whenever more is read, all that can be
+/// answered of what came till then was written before. What is written is not flushed.
+///
+/// Errors: `Read` and `Write` where a read or a write failed, `TooLong` where a chunk comes after 1,000,000 of them,
+/// `OutOfMemory` where memory was wanting and the Error message that tells it could not be made either.
+pub fn serve_over<X: Line, C: Clock, A: Archive>(
+    alloc: Global,
+    settings: &Settings,
+    archive: &mut A,
+    first: &[u8],
+    line: &mut X,
+    clock: &mut C,
+) -> Result<Served, ServeFault>
+    requires { length first.now < 8 }
+    ensures serves { (used : Outside) × C.gave clock.old used.readings clock.new × (events : List Event) × X.passed line.old events line.new
+        × ServesPromptly settings.now (A.state archive.old) (A.state archive.new) first.now events used result }
+    ensures read { IsErrOf result ServeFault.Read → X.failed_reads line.new ≡ counted (X.failed_reads line.old) }
+    ensures write { IsErrOf result ServeFault.Write → X.failed_writes line.new ≡ counted (X.failed_writes line.old) }
+    ensures read_kept { (IsErrOf result ServeFault.Read → ⊥) → X.failed_reads line.new ≡ X.failed_reads line.old }
+    ensures write_kept { (IsErrOf result ServeFault.Write → ⊥) → X.failed_writes line.new ≡ X.failed_writes line.old }
+{
+    if first.is_empty() {
+        serve_first(alloc, settings, archive, line, clock)
+    } else {
+        serve_behind(alloc, settings, archive, first, line, clock)
+    }
+}
+
+/// Answers the connection of one client over a reader and a writer.
+fn serve_wires<R: Read, W: Write, C: Clock, A: Archive>(
     alloc: Global,
     settings: &Settings,
     archive: &mut A,
@@ -185,29 +225,17 @@ fn serve_behind<R: Read, W: Write, C: Clock, A: Archive>(
     writer: &mut Counted<W>,
     clock: &mut C,
 ) -> Result<Served, ServeFault>
-    requires some { 0 < length first.now }
-    requires few { length first.now < 8 }
-    ensures serves { (used : Outside) × C.gave clock.old used.readings clock.new
-        × ServesBehind settings.now (A.state archive.old) (A.state archive.new) first.now (R.remaining reader.old.inner) (R.remaining reader.new.inner) (W.contents writer.old.inner) (W.contents writer.new.inner) used result }
+    requires { length first.now < 8 }
+    ensures serves { (used : Outside) × C.gave clock.old used.readings clock.new × (events : List Event)
+        × Passes (record { unread = R.remaining reader.old.inner; written = W.contents writer.old.inner }) events (record { unread = R.remaining reader.new.inner; written = W.contents writer.new.inner })
+        × ServesPromptly settings.now (A.state archive.old) (A.state archive.new) first.now events used result }
     ensures read { IsErrOf result ServeFault.Read → reader.new.faults ≡ counted reader.old.faults }
     ensures write { IsErrOf result ServeFault.Write → writer.new.faults ≡ counted writer.old.faults }
     ensures read_kept { (IsErrOf result ServeFault.Read → ⊥) → reader.new.faults ≡ reader.old.faults }
     ensures write_kept { (IsErrOf result ServeFault.Write → ⊥) → writer.new.faults ≡ writer.old.faults }
 {
-    let mut connection = Connection::new(alloc);
-    match connection.feed(first) {
-        Ok(()) => {}
-        Err(_) => return send_starved(writer, &mut Vec::new(alloc)),
-    }
-    serve_on(
-        alloc,
-        settings,
-        archive,
-        &mut connection,
-        reader,
-        writer,
-        clock,
-    )
+    let mut wires = Wires { reader, writer };
+    serve_over(alloc, settings, archive, first, &mut wires, clock)
 }
 
 /// Answers the connection of one client of which these first bytes, if any, were read before, as `serve` does.
@@ -228,9 +256,33 @@ pub fn serve_from<R: Read, W: Write, C: Clock, A: Archive>(
     ensures read_kept { (IsErrOf result ServeFault.Read → ⊥) → reader.new.faults ≡ reader.old.faults }
     ensures write_kept { (IsErrOf result ServeFault.Write → ⊥) → writer.new.faults ≡ writer.old.faults }
 {
-    if first.is_empty() {
-        serve(alloc, settings, archive, reader, writer, clock)
-    } else {
-        serve_behind(alloc, settings, archive, first, reader, writer, clock)
-    }
+    serve_wires(alloc, settings, archive, first, reader, writer, clock)
+}
+
+/// Answers the connection of one client over an archive.
+///
+/// Where the reader's bytes and the writer's contents are known, what goes out is the answer to the bytes that were read, by
+/// the readings that the clock gave, and what the archive holds then is what that answer left; after a fault of the writer it
+/// is a first part of it. The answers to what was read are sent before the next read, as `serve_over` has it; the writer is not
+/// flushed.
+///
+/// Errors: `Read` and `Write` where a call of the reader or the writer failed (its `faults` rose, and it rises nowhere else),
+/// `TooLong` where a chunk comes after 1,000,000 of them, `OutOfMemory` where memory was wanting and the Error message that
+/// tells it could not be made either.
+pub fn serve<R: Read, W: Write, C: Clock, A: Archive>(
+    alloc: Global,
+    settings: &Settings,
+    archive: &mut A,
+    reader: &mut Counted<R>,
+    writer: &mut Counted<W>,
+    clock: &mut C,
+) -> Result<Served, ServeFault>
+    ensures serves { (used : Outside) × C.gave clock.old used.readings clock.new
+        × ServesBehind settings.now (A.state archive.old) (A.state archive.new) [] (R.remaining reader.old.inner) (R.remaining reader.new.inner) (W.contents writer.old.inner) (W.contents writer.new.inner) used result }
+    ensures read { IsErrOf result ServeFault.Read → reader.new.faults ≡ counted reader.old.faults }
+    ensures write { IsErrOf result ServeFault.Write → writer.new.faults ≡ counted writer.old.faults }
+    ensures read_kept { (IsErrOf result ServeFault.Read → ⊥) → reader.new.faults ≡ reader.old.faults }
+    ensures write_kept { (IsErrOf result ServeFault.Write → ⊥) → writer.new.faults ≡ writer.old.faults }
+{
+    serve_from(alloc, settings, archive, &[], reader, writer, clock)
 }

@@ -1,7 +1,8 @@
-use Rattle.std.proofs.Common.{◌≡◌, Err, arith, refl, ◌∙◌}
+use Rattle.std.proofs.Common.{◌≡◌, ◌∷◌, ◌++◌, [], Err, arith, refl, ◌∙◌}
 use Rattle.std.proofs.lemmas.Result.{err_from_is_err_and}
 use Rattle.counted_io.specs.declared.fault.ServeFault.TheVariants.{Write}
 use Rattle.ua_connection.specs.Given.{before}
+use Rattle.ua_connection.specs.Passing.{Went}
 use Rattle.ua_connection.specs.Turns.{ending_of}
 use Rattle.ua_connection.proofs.Outsides.{nothing}
 use Rattle.ua_connection.proofs.Flow.{drains-start, drains-end, drains-more, drains-part, more-shorter, own-end, no-less-then}
@@ -11,8 +12,9 @@ pub parts-init : goal.parts-init
 parts-init g c = record {
   small = c.requires;
   no_less = omega arith;
-  faults = refl;
-  so_far = (nothing, g.met.C.Clock.gave_none c.args.clock.now, drains-start c.args.settings.now (g.A.Archive.state c.args.archive.now) (g.W.Write.contents c.args.writer.now.inner) c.args.connection.now);
+  writes = refl;
+  reads = refl;
+  so_far = (nothing, g.met.C.Clock.gave_none c.args.clock.now, [], g.X.Line.passed_none c.args.line.now, drains-start c.args.settings.now (g.A.Archive.state c.args.archive.now) c.args.connection.now);
 }
 
 pub returns-in_err-send-clause-drained : goal.returns-in_err-send-clause-drained
@@ -20,15 +22,16 @@ returns-in_err-send-clause-drained g c =
     let so = c.parts.invariant.so_far in
     let turned = c.answer_some-turn.ensures.turned in
     let state = g.A.Archive.state in
-    let contents = g.W.Write.contents in
     let part = rw c.as_slice.ensures.value at c.in_err-send.ensures.part in
     let p = err_from_is_err_and c.from_residual.result c.from_residual.ensures.1 in
     let fault = c.in_err-send.ensures.fault.0 in
     let is : c.from_residual.result ≡ Err Write = cc (fault, p.1, p.2) in (
       before so.0 turned.0,
       g.met.C.Clock.gave_more _ _ _ _ _ so.1 turned.1,
-      drains-part c.args.settings.now (state c.args.archive.now) (state c.parts.archive) (state c.answer_some-turn.new.archive) (contents c.args.writer.now.inner) (contents c.parts.writer.inner) (contents c.send.new.self.inner) c.args.connection.now c.parts.connection c.answer_some-turn.new.connection
-          so.0 turned.0 c.clear.new.self.items c.answer_some-turn.new.out.items (ending_of c.answer_some-turn.result) c.from_residual.result so.2 c.clear.ensures.items turned.2 part is,
+      so.2 ++ Went part.0 ∷ [],
+      g.X.Line.passed_more _ _ _ _ _ so.3 part.3,
+      drains-part c.args.settings.now (state c.args.archive.now) (state c.parts.archive) (state c.answer_some-turn.new.archive) c.args.connection.now c.parts.connection c.answer_some-turn.new.connection so.0 turned.0 so.2
+          c.clear.new.self.items c.answer_some-turn.new.out.items part.0 part.1 (ending_of c.answer_some-turn.result) c.from_residual.result so.4 c.clear.ensures.items turned.2 part.2 is,
     )
 
 pub returns-in-Some-clause-drained : goal.returns-in-Some-clause-drained
@@ -36,12 +39,14 @@ returns-in-Some-clause-drained g c =
     let so = c.parts.invariant.so_far in
     let turned = c.answer_some-turn.ensures.turned in
     let state = g.A.Archive.state in
-    let contents = g.W.Write.contents in
-    let all = rw c.as_slice.ensures.value at c.in_ok-send.ensures.ok in (
+    let out = c.answer_some-turn.new.out.items in
+    let all = rw c.as_slice.ensures.value at c.in_ok-send.ensures.went in (
       before so.0 turned.0,
       g.met.C.Clock.gave_more _ _ _ _ _ so.1 turned.1,
-      drains-end c.args.settings.now (state c.args.archive.now) (state c.parts.archive) (state c.answer_some-turn.new.archive) (contents c.args.writer.now.inner) (contents c.parts.writer.inner) (contents c.send.new.self.inner) c.args.connection.now c.parts.connection c.answer_some-turn.new.connection
-          so.0 turned.0 c.clear.new.self.items c.answer_some-turn.new.out.items c.answer_some-turn.result c.in-Some.end c.in-Some.ensures so.2 c.clear.ensures.items turned.2 all,
+      so.2 ++ Went out ∷ [],
+      g.X.Line.passed_more _ _ _ _ _ so.3 all,
+      drains-end c.args.settings.now (state c.args.archive.now) (state c.parts.archive) (state c.answer_some-turn.new.archive) c.args.connection.now c.parts.connection c.answer_some-turn.new.connection so.0 turned.0 so.2
+          c.clear.new.self.items out c.answer_some-turn.result c.in-Some.end c.in-Some.ensures so.4 c.clear.ensures.items turned.2,
     )
 
 pub returns-in-Some-clause-own : goal.returns-in-Some-clause-own
@@ -53,18 +58,21 @@ parts-preserved g c =
     let so = c.parts.invariant.so_far in
     let turned = c.answer_some-turn.ensures.turned in
     let state = g.A.Archive.state in
-    let contents = g.W.Write.contents in
-    let all = rw c.as_slice.ensures.value at c.in_ok-send.ensures.ok in
+    let out = c.answer_some-turn.new.out.items in
+    let all = rw c.as_slice.ensures.value at c.in_ok-send.ensures.went in
     let less = more-shorter c.parts.connection c.answer_some-turn.new.connection c.answer_some-turn.result c.in-None.ensures c.answer_some-turn.ensures.shorter in
     record {
       small = c.answer_some-turn.ensures.small;
       no_less = no-less-then c.args.connection.now c.parts.connection c.answer_some-turn.new.connection c.parts.invariant.no_less less.1;
-      faults = c.in_ok-send.ensures.faults ∙ c.parts.invariant.faults;
+      writes = c.in_ok-send.ensures.faults ∙ c.parts.invariant.writes;
+      reads = c.in_ok-send.ensures.reads ∙ c.parts.invariant.reads;
       so_far = (
         before so.0 turned.0,
         g.met.C.Clock.gave_more _ _ _ _ _ so.1 turned.1,
-        drains-more c.args.settings.now (state c.args.archive.now) (state c.parts.archive) (state c.answer_some-turn.new.archive) (contents c.args.writer.now.inner) (contents c.parts.writer.inner) (contents c.send.new.self.inner) c.args.connection.now c.parts.connection c.answer_some-turn.new.connection
-            so.0 turned.0 c.clear.new.self.items c.answer_some-turn.new.out.items c.answer_some-turn.result c.in-None.ensures so.2 c.clear.ensures.items turned.2 all,
+        so.2 ++ Went out ∷ [],
+        g.X.Line.passed_more _ _ _ _ _ so.3 all,
+        drains-more c.args.settings.now (state c.args.archive.now) (state c.parts.archive) (state c.answer_some-turn.new.archive) c.args.connection.now c.parts.connection c.answer_some-turn.new.connection so.0 turned.0 so.2
+            c.clear.new.self.items out c.answer_some-turn.result c.in-None.ensures so.4 c.clear.ensures.items turned.2,
       );
     }
 

@@ -1,6 +1,6 @@
 use Rattle.std.proofs.Common.{List, ℕ, ℤ, subst, sym}
 use Rattle.ua_connection.specs.Given.{before}
-use Rattle.ua_connection.specs.Serving.{ServesBehind}
+use Rattle.ua_connection.specs.Serving.{ServesPromptly}
 use Rattle.ua_connection.proofs.Outsides.{nothing}
 use Rattle.ua_connection.proofs.Flow.{fed-short}
 use Rattle.ua_connection.proofs.Whole.{serves-unfed}
@@ -8,19 +8,17 @@ use Rattle.ua_connection.proofs.serving.serve_behind.Goals as goal
 
 pub returns-in-Err-clause-serves : goal.returns-in-Err-clause-serves
 returns-in-Err-clause-serves g c =
-    let contents = g.W.Write.contents in
-    let end = serves-unfed c.args.settings.now (g.A.Archive.state c.args.archive.now) (g.R.Read.remaining c.args.reader.now.inner) (contents c.args.writer.now.inner) (contents c.send_starved.new.writer.inner) c.args.first.now c.send_starved.result
-    c.requires.some c.send_starved.ensures.sends in
+    let sends = c.send_starved.ensures.sends in
+    let end = serves-unfed c.args.settings.now (g.A.Archive.state c.args.archive.now) c.args.first.now sends.0 c.send_starved.result c.requires.some sends.2 in
     let P : List ℤ → Type 0 = λ r. g.C.Clock.gave c.args.clock.now r c.args.clock.now in
-    (before nothing end.0, subst P (sym end.1) (g.met.C.Clock.gave_none c.args.clock.now), end.2)
+    (before nothing end.0, subst P (sym end.1) (g.met.C.Clock.gave_none c.args.clock.now), sends.0, sends.1, end.2)
 
 pub returns-clause-serves : goal.returns-clause-serves
 returns-clause-serves g c =
     let s = c.serve_on.ensures.serves in
     let state = g.A.Archive.state in
-    let unread = g.R.Read.remaining c.args.reader.now.inner in
     let fed = fed-short c.new-connection.result c.feed.new.self c.args.first.now c.new-connection.ensures c.in-Ok.ensures.ok c.requires.few in
-    (s.0, s.1, subst (λ (l : List ℕ). ServesBehind c.args.settings.now (state c.args.archive.now) (state c.serve_on.new.archive) l unread (g.R.Read.remaining c.serve_on.new.reader.inner) (g.W.Write.contents c.args.writer.now.inner) (g.W.Write.contents c.serve_on.new.writer.inner) s.0 c.serve_on.result) fed.1 s.2)
+    (s.0, s.1, s.2, s.3, subst (λ (l : List ℕ). ServesPromptly c.args.settings.now (state c.args.archive.now) (state c.serve_on.new.archive) l s.2 s.0 c.serve_on.result) fed.1 s.4)
 
 pub serve_on-requires-clause-short : goal.serve_on-requires-clause-short
 serve_on-requires-clause-short g c = (fed-short c.new-connection.result c.feed.new.self c.args.first.now c.new-connection.ensures c.in-Ok.ensures.ok c.requires.few).2

@@ -1,8 +1,9 @@
-use Rattle.std.proofs.Common.{◌≡◌, ◌<◌, ◌++◌, List, ℤ, Err, ◌∙◌, arith, take, refl, ap, length, subst, sym}
+use Rattle.std.proofs.Common.{◌≡◌, ◌<◌, ◌∷◌, ◌++◌, [], List, ℤ, Some, None, Err, ◌∙◌, arith, take, refl, ap, length, subst, sym}
 use Rattle.std.proofs.lemmas.Result.{err_from_is_err_and}
 use Rattle.std.proofs.lemmas.List.{length-append, length-take, append-nil}
 use Rattle.counted_io.specs.declared.fault.ServeFault.TheVariants.{Read}
 use Rattle.ua_connection.specs.Given.{before}
+use Rattle.ua_connection.specs.Passing.{Came}
 use Rattle.ua_connection.specs.Turns.{Link, IsShort, IsNoLess}
 use Rattle.ua_connection.proofs.Outsides.{nothing}
 use Rattle.ua_connection.proofs.Flow.{fresh-small, short-length}
@@ -13,9 +14,15 @@ pub reads-init : goal.reads-init
 reads-init g c = record {
   small = fresh-small c.args.connection.now c.requires.fresh;
   short = c.requires.short;
-  read_faults = refl;
-  write_faults = refl;
-  so_far = (nothing, g.met.C.Clock.gave_none c.args.clock.now, serves-start c.args.settings.now (g.A.Archive.state c.args.archive.now) (g.R.Read.remaining c.args.reader.now.inner) (g.W.Write.contents c.args.writer.now.inner) c.args.connection.now c.requires.fresh);
+  reads = refl;
+  writes = refl;
+  so_far = (
+    nothing,
+    g.met.C.Clock.gave_none c.args.clock.now,
+    [],
+    g.X.Line.passed_none c.args.line.now,
+    serves-start c.args.settings.now (g.A.Archive.state c.args.archive.now) c.args.connection.now c.requires.fresh,
+  );
 }
 
 pub returns-in_err-n-clause-serves : goal.returns-in_err-n-clause-serves
@@ -25,68 +32,80 @@ returns-in_err-n-clause-serves g c =
     let fault = c.in_err-n.ensures.fault.0 in
     let is : c.from_residual.result ≡ Err Read = cc (fault, p.1, p.2) in
     let state = g.A.Archive.state in
-    let left = g.R.Read.remaining in
-    let contents = g.W.Write.contents in
-    let end = serves-read c.args.settings.now (state c.args.archive.now) (state c.reads.archive) c.args.connection.now.waiting (left c.args.reader.now.inner) (left c.reads.reader.inner) (left c.read_piece.new.self.inner) (contents c.args.writer.now.inner) (contents c.reads.writer.inner) so.0
-    c.reads.connection so.2 c.in_err-n.ensures.kept c.reads.invariant.short in
-    let P : List ℤ → Type 0 = λ r. g.C.Clock.gave c.args.clock.now r c.reads.clock in
-    (before so.0 end.0, subst P (sym (append-nil so.0.readings) ∙ ap (λ (r : List ℤ). so.0.readings ++ r) (sym end.1)) so.1, rw is end.2)
+    let end = serves-read c.args.settings.now (state c.args.archive.now) (state c.reads.archive) c.args.connection.now.waiting so.2 so.0 c.reads.connection so.4 c.reads.invariant.short in
+    let P : List ℤ → Type 0 = λ r. g.C.Clock.gave c.args.clock.now r c.reads.clock in (
+      before so.0 end.0,
+      subst P (sym (append-nil so.0.readings) ∙ ap (λ (r : List ℤ). so.0.readings ++ r) (sym end.1)) so.1,
+      so.2 ++ Came None ∷ [],
+      g.X.Line.passed_more _ _ _ _ _ so.3 c.in_err-n.ensures.none,
+      rw is end.2,
+    )
 
 pub returns-then-n-eq0-clause-serves : goal.returns-then-n-eq0-clause-serves
 returns-then-n-eq0-clause-serves g c =
     let so = c.reads.invariant.so_far in
     let n = c.in_ok-n.n in
+    let bytes = take n c.receive.new.piece in
     let none : n ≡ 0 = omega arith in
     let state = g.A.Archive.state in
-    let left = g.R.Read.remaining in
-    let contents = g.W.Write.contents in
-    let end = serves-end c.args.settings.now (state c.args.archive.now) (state c.reads.archive) c.args.connection.now.waiting (left c.args.reader.now.inner) (left c.reads.reader.inner) (left c.read_piece.new.self.inner) (contents c.args.writer.now.inner) (contents c.reads.writer.inner) so.0 c.reads.connection
-    (take n c.read_piece.new.piece) so.2 c.in_ok-n.ensures.bytes (ap (λ k. take k c.read_piece.new.piece) none) (c.in_ok-n.ensures.end none) c.reads.invariant.short in
-    let P : List ℤ → Type 0 = λ r. g.C.Clock.gave c.args.clock.now r c.reads.clock in
-    (before so.0 end.0, subst P (sym (append-nil so.0.readings) ∙ ap (λ (r : List ℤ). so.0.readings ++ r) (sym end.1)) so.1, end.2)
+    let end = serves-end c.args.settings.now (state c.args.archive.now) (state c.reads.archive) c.args.connection.now.waiting so.2 so.0 c.reads.connection bytes so.4 (ap (λ k. take k c.receive.new.piece) none) c.reads.invariant.short in
+    let P : List ℤ → Type 0 = λ r. g.C.Clock.gave c.args.clock.now r c.reads.clock in (
+      before so.0 end.0,
+      subst P (sym (append-nil so.0.readings) ∙ ap (λ (r : List ℤ). so.0.readings ++ r) (sym end.1)) so.1,
+      so.2 ++ Came (Some bytes) ∷ [],
+      g.X.Line.passed_more _ _ _ _ _ so.3 c.in_ok-n.ensures.came,
+      end.2,
+    )
 
 pub returns-in-Err-clause-serves : goal.returns-in-Err-clause-serves
 returns-in-Err-clause-serves g c =
     let so = c.reads.invariant.so_far in
     let n = c.in_ok-n.n in
+    let bytes = take n c.receive.new.piece in
     let within = c.in_ok-n.ensures.within in
+    let sends = c.send_starved.ensures.sends in
     let state = g.A.Archive.state in
-    let left = g.R.Read.remaining in
-    let contents = g.W.Write.contents in
-    let end = serves-starved c.args.settings.now (state c.args.archive.now) (state c.reads.archive) c.args.connection.now.waiting (left c.args.reader.now.inner) (left c.reads.reader.inner) (left c.read_piece.new.self.inner) (contents c.args.writer.now.inner) (contents c.reads.writer.inner) (contents c.send_starved.new.writer.inner) so.0
-    c.reads.connection (take n c.read_piece.new.piece) c.send_starved.result so.2 c.in_ok-n.ensures.bytes (omega (arith, length-take n c.read_piece.new.piece)) c.send_starved.ensures.sends in
-    let P : List ℤ → Type 0 = λ r. g.C.Clock.gave c.args.clock.now r c.reads.clock in
-    (before so.0 end.0, subst P (sym (append-nil so.0.readings) ∙ ap (λ (r : List ℤ). so.0.readings ++ r) (sym end.1)) so.1, end.2)
+    let end = serves-starved c.args.settings.now (state c.args.archive.now) (state c.reads.archive) c.args.connection.now.waiting so.2 sends.0 so.0 c.reads.connection bytes c.send_starved.result so.4 c.reads.invariant.short
+    (omega (arith, length-take n c.receive.new.piece)) sends.2 in
+    let P : List ℤ → Type 0 = λ r. g.C.Clock.gave c.args.clock.now r c.reads.clock in (
+      before so.0 end.0,
+      subst P (sym (append-nil so.0.readings) ∙ ap (λ (r : List ℤ). so.0.readings ++ r) (sym end.1)) so.1,
+      (so.2 ++ Came (Some bytes) ∷ []) ++ sends.0,
+      g.X.Line.passed_more _ _ _ _ _ (g.X.Line.passed_more _ _ _ _ _ so.3 c.in_ok-n.ensures.came) sends.1,
+      end.2,
+    )
 
 pub returns-in-Ok-Some-clause-serves : goal.returns-in-Ok-Some-clause-serves
 returns-in-Ok-Some-clause-serves g c =
     let so = c.reads.invariant.so_far in
+    let bytes = take c.in_ok-n.n c.receive.new.piece in
+    let after = so.2 ++ Came (Some bytes) ∷ [] in
     let state = g.A.Archive.state in
-    let left = g.R.Read.remaining in
-    let contents = g.W.Write.contents in
-    let fed = serves-fed c.args.settings.now (state c.args.archive.now) (state c.reads.archive) c.args.connection.now.waiting (left c.args.reader.now.inner) (left c.reads.reader.inner) (left c.read_piece.new.self.inner) (contents c.args.writer.now.inner) (contents c.reads.writer.inner) so.0
-    c.reads.connection c.feed.new.self (take c.in_ok-n.n c.read_piece.new.piece) so.2 c.in_ok-n.ensures.bytes c.in-Ok.ensures.ok in
+    let fed = serves-fed c.args.settings.now (state c.args.archive.now) (state c.reads.archive) c.args.connection.now.waiting so.2 so.0 c.reads.connection c.feed.new.self bytes so.4 c.reads.invariant.short c.in-Ok.ensures.ok in
     let drained = rw c.in-Ok-Some.field-0-is at c.in-Ok-Some.ensures.drained in
     let own = rw c.in-Ok-Some.field-0-is at c.in-Ok-Some.ensures.own in (
       before so.0 drained.0,
       g.met.C.Clock.gave_more _ _ _ _ _ so.1 drained.1,
-      serves-ended c.args.settings.now (state c.args.archive.now) (state c.reads.archive) (state c.answer_waiting.new.archive) c.args.connection.now.waiting (left c.args.reader.now.inner) (left c.read_piece.new.self.inner) (contents c.args.writer.now.inner) (contents c.reads.writer.inner) (contents c.answer_waiting.new.writer.inner)
-          so.0 drained.0 c.feed.new.self c.answer_waiting.new.connection (IsShort c.answer_waiting.new.connection × IsNoLess c.feed.new.self c.answer_waiting.new.connection) c.in-Ok-Some.served fed drained.2 own,
+      after ++ drained.2,
+      g.X.Line.passed_more _ _ _ _ _ (g.X.Line.passed_more _ _ _ _ _ so.3 c.in_ok-n.ensures.came) drained.3,
+      serves-ended c.args.settings.now (state c.args.archive.now) (state c.reads.archive) (state c.answer_waiting.new.archive) c.args.connection.now.waiting after drained.2 so.0 drained.0 c.feed.new.self c.answer_waiting.new.connection
+          (IsShort c.answer_waiting.new.connection × IsNoLess c.feed.new.self c.answer_waiting.new.connection) c.in-Ok-Some.served fed drained.4 own,
     )
 
 pub returns-in-Err-answer_waiting-clause-serves : goal.returns-in-Err-answer_waiting-clause-serves
 returns-in-Err-answer_waiting-clause-serves g c =
     let so = c.reads.invariant.so_far in
+    let bytes = take c.in_ok-n.n c.receive.new.piece in
+    let after = so.2 ++ Came (Some bytes) ∷ [] in
     let state = g.A.Archive.state in
-    let left = g.R.Read.remaining in
-    let contents = g.W.Write.contents in
-    let fed = serves-fed c.args.settings.now (state c.args.archive.now) (state c.reads.archive) c.args.connection.now.waiting (left c.args.reader.now.inner) (left c.reads.reader.inner) (left c.read_piece.new.self.inner) (contents c.args.writer.now.inner) (contents c.reads.writer.inner) so.0
-    c.reads.connection c.feed.new.self (take c.in_ok-n.n c.read_piece.new.piece) so.2 c.in_ok-n.ensures.bytes c.in-Ok.ensures.ok in
+    let fed = serves-fed c.args.settings.now (state c.args.archive.now) (state c.reads.archive) c.args.connection.now.waiting so.2 so.0 c.reads.connection c.feed.new.self bytes so.4 c.reads.invariant.short c.in-Ok.ensures.ok in
     let drained = c.in-Err-answer_waiting.ensures.drained in (
       before so.0 drained.0,
       g.met.C.Clock.gave_more _ _ _ _ _ so.1 drained.1,
-      serves-failed c.args.settings.now (state c.args.archive.now) (state c.reads.archive) (state c.answer_waiting.new.archive) c.args.connection.now.waiting (left c.args.reader.now.inner) (left c.read_piece.new.self.inner) (contents c.args.writer.now.inner) (contents c.reads.writer.inner) (contents c.answer_waiting.new.writer.inner)
-          so.0 drained.0 c.feed.new.self c.answer_waiting.new.connection (IsShort c.answer_waiting.new.connection × IsNoLess c.feed.new.self c.answer_waiting.new.connection) c.in-Err-answer_waiting.fault fed drained.2 c.in-Err-answer_waiting.ensures.own,
+      after ++ drained.2,
+      g.X.Line.passed_more _ _ _ _ _ (g.X.Line.passed_more _ _ _ _ _ so.3 c.in_ok-n.ensures.came) drained.3,
+      serves-failed c.args.settings.now (state c.args.archive.now) (state c.reads.archive) (state c.answer_waiting.new.archive) c.args.connection.now.waiting after drained.2 so.0 drained.0 c.feed.new.self c.answer_waiting.new.connection
+          (IsShort c.answer_waiting.new.connection × IsNoLess c.feed.new.self c.answer_waiting.new.connection) c.in-Err-answer_waiting.fault fed drained.4 c.in-Err-answer_waiting.ensures.own,
     )
 
 pub reads-smaller : goal.reads-smaller
@@ -99,27 +118,28 @@ reads-smaller g c =
     let within = c.in_ok-n.ensures.within in
     let more = own.1 in
     let most = small.0 in
-    omega (arith, length-append c.reads.connection.waiting (take c.in_ok-n.n c.read_piece.new.piece), length-take c.in_ok-n.n c.read_piece.new.piece)
+    omega (arith, length-append c.reads.connection.waiting (take c.in_ok-n.n c.receive.new.piece), length-take c.in_ok-n.n c.receive.new.piece)
 
 pub reads-preserved : goal.reads-preserved
 reads-preserved g c =
     let so = c.reads.invariant.so_far in
+    let bytes = take c.in_ok-n.n c.receive.new.piece in
+    let after = so.2 ++ Came (Some bytes) ∷ [] in
     let state = g.A.Archive.state in
-    let left = g.R.Read.remaining in
-    let contents = g.W.Write.contents in
-    let fed = serves-fed c.args.settings.now (state c.args.archive.now) (state c.reads.archive) c.args.connection.now.waiting (left c.args.reader.now.inner) (left c.reads.reader.inner) (left c.read_piece.new.self.inner) (contents c.args.writer.now.inner) (contents c.reads.writer.inner) so.0
-    c.reads.connection c.feed.new.self (take c.in_ok-n.n c.read_piece.new.piece) so.2 c.in_ok-n.ensures.bytes c.in-Ok.ensures.ok in
+    let fed = serves-fed c.args.settings.now (state c.args.archive.now) (state c.reads.archive) c.args.connection.now.waiting so.2 so.0 c.reads.connection c.feed.new.self bytes so.4 c.reads.invariant.short c.in-Ok.ensures.ok in
     let drained = rw c.in-Ok-None.field-0-is at c.in-Ok-None.ensures.drained in
     let own = rw c.in-Ok-None.field-0-is at c.in-Ok-None.ensures.own in
     record {
       small = c.in-Ok-None.ensures.small;
       short = own.0;
-      read_faults = c.in_ok-n.ensures.faults ∙ c.reads.invariant.read_faults;
-      write_faults = (rw c.in-Ok-None.field-0-is at c.in-Ok-None.ensures.kept) (λ e. cc) ∙ c.reads.invariant.write_faults;
+      reads = c.in-Ok-None.ensures.reads ∙ (c.in_ok-n.ensures.faults ∙ c.reads.invariant.reads);
+      writes = (rw c.in-Ok-None.field-0-is at c.in-Ok-None.ensures.kept) (λ e. cc) ∙ (c.in_ok-n.ensures.writes ∙ c.reads.invariant.writes);
       so_far = (
         before so.0 drained.0,
         g.met.C.Clock.gave_more _ _ _ _ _ so.1 drained.1,
-        serves-drained c.args.settings.now (state c.args.archive.now) (state c.reads.archive) (state c.answer_waiting.new.archive) c.args.connection.now.waiting (left c.args.reader.now.inner) (left c.read_piece.new.self.inner) (contents c.args.writer.now.inner) (contents c.reads.writer.inner) (contents c.answer_waiting.new.writer.inner)
-            so.0 drained.0 c.feed.new.self c.answer_waiting.new.connection fed drained.2,
+        after ++ drained.2,
+        g.X.Line.passed_more _ _ _ _ _ (g.X.Line.passed_more _ _ _ _ _ so.3 c.in_ok-n.ensures.came) drained.3,
+        serves-drained c.args.settings.now (state c.args.archive.now) (state c.reads.archive) (state c.answer_waiting.new.archive) c.args.connection.now.waiting after drained.2 so.0 drained.0 c.feed.new.self c.answer_waiting.new.connection
+            fed drained.4,
       );
     }

@@ -1,5 +1,6 @@
-use Rattle.std.proofs.Common.{◌≡◌, ◌-◌, ◌*◌, ◌+◌, length}
+use Rattle.std.proofs.Common.{◌≡◌, ◌-◌, ◌*◌, ◌+◌, length, List}
 use Rattle.ua_connection.specs.Given.{Outside}
+use Rattle.ua_connection.specs.Passing.{Event}
 use Rattle.ua_connection.specs.Turns.{IsShort, IsSmall, ServesSoFar}
 use Rattle.ua_connection.proofs.serving.serve_on.Given as goal
 
@@ -7,11 +8,10 @@ abbrev pub invariant-reads : goal.invariant-reads
 invariant-reads g l = record {
   small : IsSmall l.connection;
   short : IsShort l.connection;
-  read_faults : l.reader.faults ≡ l.initial.reader.faults;
-  write_faults : l.writer.faults ≡ l.initial.writer.faults;
-  so_far : (used : Outside) × g.C.Clock.gave l.initial.clock used.readings l.clock
-      × ServesSoFar l.settings (g.A.Archive.state l.initial.archive) (g.A.Archive.state l.archive) l.initial.connection.waiting (g.R.Read.remaining l.initial.reader.inner) (g.R.Read.remaining l.reader.inner)
-      (g.W.Write.contents l.initial.writer.inner) (g.W.Write.contents l.writer.inner) used l.connection;
+  reads : g.X.Line.failed_reads l.line ≡ g.X.Line.failed_reads l.initial.line;
+  writes : g.X.Line.failed_writes l.line ≡ g.X.Line.failed_writes l.initial.line;
+  so_far : (used : Outside) × g.C.Clock.gave l.initial.clock used.readings l.clock × (events : List Event) × g.X.Line.passed l.initial.line events l.line
+      × ServesSoFar l.settings (g.A.Archive.state l.initial.archive) (g.A.Archive.state l.archive) l.initial.connection.waiting events used l.connection;
 }
 
 -- a chunk has at most 65,536 bytes, and less than one waits
