@@ -1,20 +1,20 @@
 -- What a call between two replicas leaves, as sends and deliveries.
 use Rattle.std.proofs.Common.{◌≡◌, ◌⊎◌, ℕ, zero, suc, ◌+◌, ◌^◌, ◌<◌, false, List, [], ◌∷◌, ◌++◌, map, take, length, Option, Some, None, Result, Ok, Err, refl, sym, ap, ◌∙◌, subst, append_assoc, arith, inl, inr}
-use Rattle.std.specs.Prelude.{slice_get}
+use Rattle.std.specs.Prelude.{slice_get, nat_lt, true}
 use Rattle.std.specs.List.{flat_map}
 use Rattle.std.specs.Option.{option_map_or}
-use Rattle.std.proofs.lemmas.Bool.{true≢false}
+use Rattle.std.proofs.lemmas.Bool.{true≢false, cases_Bool, ltb-true, ltb-false}
 use Rattle.std.proofs.lemmas.List.{append-nil}
 use Rattle.stamp.specs.Numbers.{number_of}
 use Rattle.records.specs.Records.{missing}
 use Rattle.records.specs.Lists.{Has}
-use Rattle.records.specs.Contents.{Content, merged, put, IsClosed}
-use Rattle.records.proofs.ContentLemmas.{has_from_append}
+use Rattle.records.specs.Contents.{Content, Adds, finding, merged, put, IsClosed}
+use Rattle.records.proofs.ContentLemmas.{has-append, has_from_append}
 use Rattle.records.proofs.PutLemmas.{has-put}
 use Rattle.records.proofs.LearnLemmas.{has-merged, next_found, closed-next}
 use Rattle.records.specs.declared.record.Record.{Record}
 use Rattle.archive.specs.declared.fault.LearnFault.TheVariants as refused
-use Rattle.archive.specs.Store.{Store, Rests, IsLawfulContent}
+use Rattle.archive.specs.Store.{Store, Rests, IsLawfulContent, IsLeft}
 use Rattle.exchange.specs.declared.fault.ExchangeFault.{ExchangeFault}
 use Rattle.exchange.specs.declared.fault.ExchangeFault.TheVariants as exchange
 use Rattle.exchange.specs.declared.message.Message.TheVariants.{Asks, Carries, Ends}
@@ -34,7 +34,7 @@ use Rattle.exchange.proofs.FrameLemmas.{read_own}
 use Rattle.exchange.proofs.TitleLemmas.{batch_is}
 use Rattle.exchange.proofs.WorldLemmas.{get_last}
 use Rattle.exchange.proofs.OneMore.{all_but, merged_one}
-use Rattle.exchange.proofs.LeftLemmas.{merged_none, answered_left}
+use Rattle.exchange.proofs.LeftLemmas.{merged_none, answered_left, next_merged}
 use Rattle.exchange.proofs.DialogLemmas.{batch_has, between_first, between_merged}
 use Rattle.exchange.proofs.ConverseLemmas.{IsParty, title_spelled, carries_spelled, check_title}
 use Rattle.counted_io.specs.declared.fault.ServeFault.{ServeFault}
@@ -43,11 +43,70 @@ use Rattle.ua_peers.specs.declared.peers.Parted.{Parted}
 use Rattle.ua_peers.specs.declared.peers.Parted.TheVariants as parted
 use Rattle.ua_peers.specs.Wires.{IsFirstPart}
 use Rattle.ua_peers.specs.Calling.{calling}
-use Rattle.ua_peers.specs.Peers.{Taken, Side, side_of, turn_of, after, after_all, AreAnswered, records_of, HasAtMostOneMore, responding, Talks, Speaks}
+use Rattle.ua_peers.specs.Peers.{Taken, Side, side_of, turn_of, after, after_all, AreAnswered, message_to, learned_by, IsLeftBy, responding, Talks, Speaks}
 use Rattle.ua_peers.proofs.PeersParts.{is_open}
-use Rattle.ua_peers.specs.Events.{AreExchanges, AreUpdated, IsLeft, AreEnds}
+use Rattle.ua_peers.specs.Events.{AreExchanges, AreUpdated, AreEnds}
 use Rattle.ua_peers.proofs.Delivered.{delivered_here}
 use Rattle.ua_peers.proofs.Joined.{first_frame, no_frame, numbered, got_by, IsLastWord, GoesOn, goes_by}
+
+-- ---- what a dialog may leave
+
+-- the records that came in some frames
+abbrev records_of : Party → Side → List Taken → List Record
+records_of p side [] = []
+records_of p side (t ∷ later) = records_read (received p side.standing t.frame.kind t.frame.body) ++ records_of p (after p side t) later
+
+-- this content, or it with one of these records more, which may be added to it
+abbrev HasAtMostOneMore : Content → List Record → Content → Type 0
+HasAtMostOneMore R rs left = (left ≡ R) ⊎ ((r : Record) × Has rs r × (finding R r ≡ Adds) × (left ≡ put r R))
+
+more-in : (R : Content) (rs more : List Record) (left : Content) → ((r : Record) → Has rs r → Has more r)
+    → HasAtMostOneMore R rs left → HasAtMostOneMore R more left
+more-in R rs more left has (inl is) = inl is
+more-in R rs more left has (inr q) = inr (q.0, has q.0 q.1, q.2, q.3)
+
+-- what the last frame may leave is what is held behind it, or that with one record more
+left-more : (p : Party) (side : Side) (taken : List Taken) (left : Content) → IsLeftBy p side taken left
+    → HasAtMostOneMore (after_all p side taken).content (records_of p side taken) left
+left-more p side [] left by = inl by
+left-more p side (t ∷ []) left by = go (cases_Bool (nat_lt n by.0))
+  where
+    rs : List Record
+    rs = records_read (message_to p side t)
+
+    n : ℕ
+    n = learned_by p side t
+
+    with-first : ℕ → Content
+    with-first k = merged (take k rs) side.content
+
+    is : (after p side t).content ≡ with-first n
+    is = answered_left p side.standing.state side.content t.way (message_to p side t)
+
+    last : by.0 ≡ suc n → HasAtMostOneMore (after p side t).content (rs ++ []) left
+    last more = elim (next_merged rs n side.content) [
+      | inl same ↦ inl (by.3 ∙ (ap with-first more ∙ (same ∙ sym is)))
+      | inr one ↦ inr (
+        one.0,
+        subst (λ (l : List Record). Has l one.0) (sym (append-nil rs)) one.1,
+        subst (λ (X : Content). finding X one.0 ≡ Adds) (sym is) one.2,
+        by.3 ∙ (ap with-first more ∙ (one.3 ∙ ap (put one.0) (sym is))),
+      )
+    ]
+
+    go : (nat_lt n by.0 ≡ true) ⊎ (nat_lt n by.0 ≡ false) → HasAtMostOneMore (after p side t).content (rs ++ []) left
+    go (inl above) =
+        let more = ltb-true n by.0 above in
+        let most = by.2 in
+        last (omega (arith, more, most))
+    go (inr not-above) =
+        let most = ltb-false n by.0 not-above in
+        let least = by.1 in
+        let same : by.0 ≡ n = omega (arith, most, least) in
+        inl (by.3 ∙ (ap with-first same ∙ sym is))
+left-more p side (t ∷ u ∷ later) left by =
+    more-in (after_all p side (t ∷ u ∷ later)).content (records_of p (after p side t) (u ∷ later)) (records_of p side (t ∷ u ∷ later)) left
+    (λ r has. has-append (records_read (message_to p side t)) (records_of p (after p side t) (u ∷ later)) r (inr has)) (left-more p (after p side t) (u ∷ later) left by)
 
 -- ---- what an end says
 
@@ -396,7 +455,7 @@ left_at : (start : Rattle.exchange.specs.Dialogs.Standing) (old new : Store) (ca
 left_at start old new came out part A rests used honest (inl held) = inl (sym held.1 ∙ part.talks.content honest old.content (λ u. refl) held.0)
 left_at start old new came out part A rests used honest (inr found) = elim (part.talks.crash honest old.content (λ u. refl) A found) [
   | inl before ↦ inl ((rests (part.talks.passes.honest honest) used).only A before.0 ∙ sym (before.1 used))
-  | inr more ↦ more.1
+  | inr more ↦ left-more (party_of old) (side_of start old.content) part.talks.taken A more.1
 ]
 
 -- one record more that the other holds

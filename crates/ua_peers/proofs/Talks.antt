@@ -1,15 +1,12 @@
 -- How the frames of a dialog make the dialog.
 use Rattle.std.proofs.Common.{◌≡◌, ◌⊎◌, ℕ, suc, ◌+◌, Bool, true, false, List, [], ◌∷◌, ◌++◌, map, take, drop, length, Option, Some, None, Result, Ok, Err, refl, sym, ◌∙◌, ap, subst, append_assoc, arith, inl, inr, option_to_list}
 use Rattle.std.specs.List.{flat_map}
-use Rattle.std.proofs.lemmas.List.{map-append, append-nil, take-append-drop}
+use Rattle.std.proofs.lemmas.List.{map-append, append-nil, take-append-drop, take_all}
 use Rattle.std.proofs.lemmas.Grind.{flat_map-append}
 use Rattle.std.proofs.Math.Bool.{or-false}
-use Rattle.std.proofs.lemmas.Bool.{cases_Bool, ltb-true, ltb-false}
-use Rattle.std.specs.Prelude.{nat_lt}
-use Rattle.records.specs.Lists.{Has}
-use Rattle.records.specs.Contents.{Content, Adds, finding, put, merged}
+use Rattle.std.proofs.lemmas.Bool.{true≢false}
+use Rattle.records.specs.Contents.{Content, merged}
 use Rattle.records.specs.declared.record.Record.{Record}
-use Rattle.records.proofs.ContentLemmas.{has-append}
 use Rattle.archive.specs.declared.fault.StoreFault.{StoreFault}
 use Rattle.archive.specs.Store.{Store, Passes}
 use Rattle.archive.proofs.Calls.{passes-none, passes-then}
@@ -20,16 +17,16 @@ use Rattle.exchange.specs.declared.message.State.TheVariants.{Pulling, Pushing, 
 use Rattle.exchange.specs.Named.{Party, Message, end_frame}
 use Rattle.exchange.specs.Frames.{cut}
 use Rattle.exchange.specs.Streams.{Piece, AreFrames, header_of}
-use Rattle.exchange.specs.Dialogs.{Turn, Way, Clear, Unread, Stopped, Starved, Met, Standing, fault_on, received, records_read, learned_at, answered_to, answered, party_of, IsHeld, Writes, Takes, TellsFault}
+use Rattle.exchange.specs.Dialogs.{Turn, Way, Clear, Unread, Stopped, Starved, Met, Standing, fault_on, received, records_in, records_read, learned_at, answered_to, answered, party_of, IsHeld, Writes, Takes, TellsFault}
 use Rattle.exchange.proofs.StreamLemmas.{given_frame}
-use Rattle.exchange.specs.Merging.{MayBeLeft}
+use Rattle.exchange.specs.Merging.{MayBeLeft, learned_of}
 use Rattle.exchange.proofs.HandleLemmas.{unbroken_before}
-use Rattle.exchange.proofs.LeftLemmas.{answered_left, next_merged}
+use Rattle.exchange.proofs.LeftLemmas.{answered_left}
 use Rattle.counted_io.specs.declared.fault.ServeFault.{ServeFault}
 use Rattle.ua_peers.specs.declared.peers.Parted.{Parted}
 use Rattle.ua_peers.specs.declared.peers.Parted.TheVariants as parted
-use Rattle.ua_peers.specs.Peers.{Taken, Side, side_of, after, after_all, AreAnswered, records_of, HasAtMostOneMore, AreOpen, failed_as, ended_as, is_silent, IsEnd, Talks}
-use Rattle.ua_peers.proofs.PeersParts.{faults_met}
+use Rattle.ua_peers.specs.Peers.{Taken, Side, side_of, turn_of, after, after_all, AreAnswered, message_to, learned_by, IsLeftBy, AreOpen, failed_as, ended_as, is_silent, IsEnd, Talks}
+use Rattle.ua_peers.proofs.PeersParts.{faults_met, is_open}
 
 -- ---- lists of frames
 
@@ -40,16 +37,6 @@ answered-append p side (x ∷ xs) ys a b = (a.0, answered-append p (after p side
 after-append : (p : Party) (side : Side) (xs ys : List Taken) → after_all p side (xs ++ ys) ≡ after_all p (after_all p side xs) ys
 after-append p side [] ys = refl
 after-append p side (x ∷ xs) ys = after-append p (after p side x) xs ys
-
-records-append : (p : Party) (side : Side) (xs ys : List Taken) → records_of p side (xs ++ ys) ≡ records_of p side xs ++ records_of p (after_all p side xs) ys
-records-append p side [] ys = refl
-records-append p side (x ∷ xs) ys =
-    ap (λ (rs : List Record). records_read (received p side.standing x.frame.kind x.frame.body) ++ rs) (records-append p (after p side x) xs ys)
-    ∙ sym (append_assoc (records_read (received p side.standing x.frame.kind x.frame.body)) (records_of p (after p side x) xs) (records_of p (after_all p (after p side x) xs) ys))
-
-one-more-in : (R S : Content) (rs more : List Record) (left : Content) → R ≡ S → ((r : Record) → Has rs r → Has more r) → HasAtMostOneMore R rs left → HasAtMostOneMore S more left
-one-more-in R S rs more left e has (inl is) = inl (is ∙ e)
-one-more-in R S rs more left e has (inr q) = inr (q.0, has q.0 q.1, subst (λ (X : Content). finding X q.0 ≡ Adds) e q.2, q.3 ∙ ap (put q.0) e)
 
 open-append : (xs ys : List Taken) → AreOpen xs → AreOpen ys → AreOpen (xs ++ ys)
 open-append [] ys a b = b
@@ -82,6 +69,74 @@ end-behind xs ys code rest beside (Some ending) on e = elim e [
     | inr w ↦ inr (inr (record { goes = open-append xs ys on w.goes; told = w.told; ends = w.ends }))
   ]
 ]
+
+-- ---- what a frame may leave
+
+pub written-so : (turn : Turn) (next : State) (said : List ℕ) → Writes turn (Ok next) [] said → turn.result ≡ Ok next
+written-so turn next said w = elim w [
+  | inl told ↦ sym told.0
+  | inr starved ↦ absurd (cc)
+]
+
+-- where the dialog goes on, all records of the frame were learned
+all-learned : (p : Party) (state next : State) (R : Content) (way : Way) (r : Result Message ExchangeFault)
+    → (answered_to p state R way r).result ≡ Ok next → learned_at p state R way r ≡ length (records_read r)
+all-learned p state next R Clear (Ok m) e =
+    ap (λ (v : Result State ExchangeFault). learned_of (records_in m) v) e
+all-learned p state next R Clear (Err f) e = refl
+all-learned p state next R Unread (Ok m) e = absurd (cc)
+all-learned p state next R Unread (Err f) e = refl
+all-learned p state next R Starved (Ok m) e = absurd (cc)
+all-learned p state next R Starved (Err f) e = refl
+all-learned p state next R (Stopped learned fault) (Ok m) e = absurd (cc)
+all-learned p state next R (Stopped learned fault) (Err f) e = refl
+all-learned p state next R (Met fault) (Ok m) e = absurd (cc)
+all-learned p state next R (Met fault) (Err f) e = refl
+
+-- so it leaves what the side holds then
+open-left : (p : Party) (side : Side) (t : Taken) (left : Content) → AreAnswered p side (t ∷ []) → AreOpen (t ∷ []) → IsLeftBy p side (t ∷ []) left → left ≡ (after p side t).content
+open-left p side t left answers on by = go t.result refl
+  where
+    rs : List Record
+    rs = records_read (message_to p side t)
+
+    held : (after p side t).content ≡ merged (take (learned_by p side t) rs) side.content
+    held = answered_left p side.standing.state side.content t.way (message_to p side t)
+
+    go : (result : Result State ExchangeFault) → t.result ≡ result → left ≡ (after p side t).content
+    go (Err fault) is = absurd (true≢false (sym on.0 ∙ ap is_open is))
+    go (Ok next) is =
+        let w = subst (λ (r : Result State ExchangeFault). Writes (turn_of p side t) r [] t.said) is answers.0.1 in
+        let all : learned_by p side t ≡ length rs =
+        all-learned p side.standing.state next side.content t.way (message_to p side t) (written-so (turn_of p side t) next t.said w) in
+        let least = by.1 in
+        let whole : take by.0 rs ≡ rs = take_all by.0 rs (omega (arith, least, all)) in
+        let same : take (learned_by p side t) rs ≡ rs = take_all (learned_by p side t) rs (omega (arith, all)) in
+        by.3 ∙ (ap (λ (l : List Record). merged l side.content) (whole ∙ sym same) ∙ sym held)
+
+-- what is held behind the last frame may be left
+holds-left : (p : Party) (side : Side) (taken : List Taken) → IsLeftBy p side taken (after_all p side taken).content
+holds-left p side [] = refl
+holds-left p side (t ∷ []) = (
+  learned_by p side t,
+  omega arith,
+  omega arith,
+  answered_left p side.standing.state side.content t.way (message_to p side t),
+)
+holds-left p side (t ∷ u ∷ later) = holds-left p (after p side t) (u ∷ later)
+
+-- an open dialog leaves what the side holds then
+all-open-left : (p : Party) (side : Side) (taken : List Taken) (left : Content) → AreAnswered p side taken → AreOpen taken → IsLeftBy p side taken left → left ≡ (after_all p side taken).content
+all-open-left p side [] left answers on by = by
+all-open-left p side (t ∷ []) left answers on by = open-left p side t left answers on by
+all-open-left p side (t ∷ u ∷ later) left answers on by = all-open-left p (after p side t) (u ∷ later) left answers.1 on.1 by
+
+-- and what frames behind it may leave, the whole may
+left-behind : (p : Party) (side : Side) (xs ys : List Taken) (left : Content) → IsLeftBy p (after_all p side xs) ys left → IsLeftBy p side (xs ++ ys) left
+left-behind p side [] ys left by = by
+left-behind p side (x ∷ []) [] left by = subst (IsLeftBy p side (x ∷ [])) (sym by) (holds-left p side (x ∷ []))
+left-behind p side (x ∷ []) (y ∷ ys) left by = by
+left-behind p side (x ∷ z ∷ xs) ys left by = left-behind p (after p side x) (z ∷ xs) ys left by
 
 -- ---- dialogs
 
@@ -143,18 +198,21 @@ talks-then start mid last a b c came out rest more left ending t s =
           elim (s.crash h (then R).content held-then x m) [
             | inl p ↦ elim (t.crash (before h) R held x p.0) [
               | inl q ↦ inl (q.0, λ u. ap (λ (y : Side). y.content) (sym (whole h R held)) ∙ (p.1 (t.used (before h) u refl) ∙ q.1 u))
-              | inr q ↦ inr (
-                q.0,
-                one-more-in (then R).content (after_all (party_of a) (side_of start R) (t.taken ++ s.taken)).content (records_of (party_of a) (side_of start R) t.taken)
-                    (records_of (party_of a) (side_of start R) (t.taken ++ s.taken)) x (sym (p.1 (t.used (before h) q.0 refl)) ∙ ap (λ (y : Side). y.content) (whole h R held))
-                    (λ r has. subst (λ (rs : List Record). Has rs r) (sym (records-append (party_of a) (side_of start R) t.taken s.taken)) (has-append (records_of (party_of a) (side_of start R) t.taken) _ r (inl has))) q.1,
-              )
+              | inr q ↦
+                  let same : x ≡ (then R).content = all-open-left (party_of a) (side_of start R) t.taken x (t.answered (before h) R held) t.ends.0 q.1 in
+                  let stays : x ≡ (after_all (party_of a) (side_of start R) (t.taken ++ s.taken)).content =
+                  same ∙ (sym (p.1 (t.used (before h) q.0 refl)) ∙ ap (λ (y : Side). y.content) (whole h R held)) in
+                  inr (
+                    q.0,
+                    subst (IsLeftBy (party_of a) (side_of start R) (t.taken ++ s.taken)) (sym stays)
+                        (holds-left (party_of a) (side_of start R) (t.taken ++ s.taken)),
+                  )
             ]
             | inr p ↦ inr (
               unbroken_before a b (faults_met t.taken) t.passes p.0,
-              one-more-in (after_all (party_of b) (side_of mid (then R).content) s.taken).content (after_all (party_of a) (side_of start R) (t.taken ++ s.taken)).content (records_of (party_of b) (side_of mid (then R).content) s.taken)
-                  (records_of (party_of a) (side_of start R) (t.taken ++ s.taken)) x (ap (λ (y : Side). y.content) (whole h R held))
-                  (λ r has. subst (λ (rs : List Record). Has rs r) (sym (records-append (party_of a) (side_of start R) t.taken s.taken)) (has-append (records_of (party_of a) (side_of start R) t.taken) _ r (inr (subst (λ (y : Side). Has (records_of (party_of a) y s.taken) r) (at h R held) (subst (λ (q : Party). Has (records_of q (side_of mid (then R).content) s.taken) r) party has))))) p.1,
+              left-behind (party_of a) (side_of start R) t.taken s.taken x
+                  (subst (λ (y : Side). IsLeftBy (party_of a) y s.taken x) (at h R held)
+                  (subst (λ (q : Party). IsLeftBy q (side_of mid (then R).content) s.taken x) party p.1)),
             )
           ];
     }
@@ -204,12 +262,6 @@ clear-so p state next R (Stopped learned fault) (Err f) e = absurd (cc)
 clear-so p state next R (Met fault) (Ok m) e = absurd (cc)
 clear-so p state next R (Met fault) (Err f) e = absurd (cc)
 
-pub written-so : (turn : Turn) (next : State) (said : List ℕ) → Writes turn (Ok next) [] said → turn.result ≡ Ok next
-written-so turn next said w = elim w [
-  | inl told ↦ sym told.0
-  | inr starved ↦ absurd (cc)
-]
-
 end-one : (frame : Piece) (way : Way) (said : List ℕ) (result : Result State ExchangeFault) (code : Option ℕ) (rest : List ℕ)
     → IsEnd ((record { frame = frame; way = way; result = result; said = said }) ∷ []) code rest [] (ended_as code (is_silent said) result)
 end-one frame way said (Ok Pulling) code rest = ((refl, tt), refl)
@@ -229,36 +281,22 @@ still-used a b fault p none u =
     q.broken ∙ (or-false a.broken ∙ u)
 
 -- one frame, by what the store may hold behind it
-left-frame : (a : Store) (s : State) (R : Content) (way : Way) (r : Result Message ExchangeFault) (left : Content) → IsHeld a R → MayBeLeft a (records_read r) (learned_at (party_of a) s a.content way r) left
-    → (a.may_hold left × (a.broken ≡ false → (answered_to (party_of a) s R way r).content ≡ R))
-    ⊎ ((a.broken ≡ false) × HasAtMostOneMore (answered_to (party_of a) s R way r).content (records_read r ++ []) left)
-left-frame a s R way r left held (inl old) =
-    inl (old.0, λ u. subst (λ (S : Content). (answered_to (party_of a) s S way r).content ≡ S) (held u) (answered_left (party_of a) s a.content way r ∙ ap (λ (n : ℕ). merged (take n (records_read r)) a.content) old.1))
-left-frame a s R way r left held (inr q) = inr (q.0, subst (λ (S : Content). HasAtMostOneMore (answered_to (party_of a) s S way r).content (records_read r ++ []) left) (held q.0) (go (cases_Bool (nat_lt learned q.1))))
-  where
-    learned : ℕ
-    learned = learned_at (party_of a) s a.content way r
-
-    is : (answered_to (party_of a) s a.content way r).content ≡ merged (take learned (records_read r)) a.content
-    is = answered_left (party_of a) s a.content way r
-
-    last : (k : ℕ) → left ≡ merged (take k (records_read r)) a.content → k ≡ suc learned → HasAtMostOneMore (answered_to (party_of a) s a.content way r).content (records_read r ++ []) left
-    last k e more = elim (next_merged (records_read r) learned a.content) [
-      | inl same ↦ inl (e ∙ (ap (λ (n : ℕ). merged (take n (records_read r)) a.content) more ∙ (same ∙ sym is)))
-      | inr one ↦ inr (one.0, subst (λ (rs : List Record). Has rs one.0) (sym (append-nil (records_read r))) one.1, subst (λ (X : Content). finding X one.0 ≡ Adds) (sym is) one.2, e ∙ (ap (λ (n : ℕ). merged (take n (records_read r)) a.content) more ∙ (one.3 ∙ ap (put one.0) (sym is))))
-    ]
-
-    go : (nat_lt learned q.1 ≡ true) ⊎ (nat_lt learned q.1 ≡ false) → HasAtMostOneMore (answered_to (party_of a) s a.content way r).content (records_read r ++ []) left
-    go (inl t) =
-        let most = q.3 in
-        let above = ltb-true learned q.1 t in
-        let more : q.1 ≡ suc learned = omega (arith, most, above) in
-        last q.1 q.4 more
-    go (inr f) =
-        let least = q.2 in
-        let most = ltb-false learned q.1 f in
-        let same : q.1 ≡ learned = omega (arith, least, most) in
-        inl (q.4 ∙ (ap (λ (n : ℕ). merged (take n (records_read r)) a.content) same ∙ sym is))
+left-frame : (a : Store) (before : Standing) (R : Content) (t : Taken) (left : Content) → IsHeld a R
+    → MayBeLeft a (records_read (message_to (party_of a) (side_of before R) t)) (learned_by (party_of a) (side_of before a.content) t) left
+    → (a.may_hold left × (a.broken ≡ false → (after (party_of a) (side_of before R) t).content ≡ R))
+    ⊎ ((a.broken ≡ false) × IsLeftBy (party_of a) (side_of before R) (t ∷ []) left)
+left-frame a before R t left held (inl old) =
+    let p = party_of a in
+    let r = message_to p (side_of before a.content) t in
+    inl (
+      old.0,
+      λ u.
+          subst (λ (S : Content). (answered_to p before.state S t.way r).content ≡ S) (held u)
+          (answered_left p before.state a.content t.way r ∙ ap (λ (n : ℕ). merged (take n (records_read r)) a.content) old.1),
+    )
+left-frame a before R t left held (inr q) =
+    let last : IsLeftBy (party_of a) (side_of before a.content) (t ∷ []) left = (q.1, q.2, q.3, q.4) in
+    inr (q.0, subst (λ (S : Content). IsLeftBy (party_of a) (side_of before S) (t ∷ []) left) (held q.0) last)
 
 pub talks-frame : (a b : Store) (before next : Standing) (frame : Piece) (waiting said : List ℕ) (result : Result State ExchangeFault)
     → cut waiting ≡ Ok (Some (header_of frame)) → Rattle.exchange.specs.Frames.IsWithin waiting (header_of frame) → frame.body ≡ drop 8 (take (8 + length frame.body) waiting)
@@ -287,7 +325,7 @@ talks-frame a b before next frame waiting said result stands within body takes =
           let w = subst (λ (r : Result State ExchangeFault). Writes (answered (party_of a) before a.content takes.way frame.kind frame.body) r [] said) on.1 (takes.writes h a.content (λ x. refl)) in
           let none = clear-so (party_of a) before.state on.0 a.content takes.way (received (party_of a) before frame.kind frame.body) (written-so (answered (party_of a) before a.content takes.way frame.kind frame.body) on.0 said w) in
           still-used a b (fault_on takes.way) takes.passes none u;
-      crash = λ h R held left m. left-frame a before.state R takes.way (received (party_of a) before frame.kind frame.body) left held (takes.crash h left m);
+      crash = λ h R held left m. left-frame a before R t left held (takes.crash h left m);
     }
 
 -- what came is no frame

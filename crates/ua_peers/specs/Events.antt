@@ -1,5 +1,5 @@
 -- What connections bring, as events of a world of replicas.
-use Rattle.std.specs.Prelude.{◌≡◌, ◌⊎◌, ⊤, false, ℕ, List, [], ◌∷◌, ◌++◌, slice_get, Some, Result}
+use Rattle.std.specs.Prelude.{◌≡◌, ◌⊎◌, ⊤, ℕ, List, [], ◌∷◌, ◌++◌, slice_get, Some, Result}
 use Rattle.std.specs.List.{AllByRecursion}
 use Rattle.records.specs.declared.record.Record.{Record}
 use Rattle.exchange.specs.Named.{Party, asking_frame}
@@ -41,10 +41,6 @@ pub record AreUpdated (w v : World) (i j : ℕ) (s t : Site) (A B : Content) : T
   pub here : IsSite v i (record s { content = A })
   pub there : IsSite v j (record t { content = B })
   pub others : (k : ℕ) → (k ≡ i → ⊥) → (k ≡ j → ⊥) → slice_get v.sites k ≡ slice_get w.sites k
-
--- what an archive in use holds, or an opening may find, if its store broke or it was stopped there
-abbrev pub IsLeft : Store → Content → Type 0
-IsLeft s R = ((s.broken ≡ false) × (s.content ≡ R)) ⊎ s.may_hold R
 
 -- both ends of one call, over stores that held and hold this: what came at each is a first part of what went out at the other
 pub record AreEnds (s s' t t' : Store) : Type 0 where

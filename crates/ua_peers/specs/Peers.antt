@@ -1,19 +1,17 @@
 -- A dialog with a peer over a connection: which frames came, what an end made of them, and what went out.
-use Rattle.std.specs.Prelude.{◌≡◌, ◌⊎◌, ⊤, ℕ, ◌==◌, Bool, true, false, not, List, [], ◌∷◌, ◌++◌, map, length, Option, None, Some, unwrap_or, Result, Ok, Err, option_to_list}
+use Rattle.std.specs.Prelude.{◌≡◌, ◌⊎◌, ⊤, ℕ, ◌+◌, ◌≤◌, ◌==◌, Bool, true, false, not, List, [], ◌∷◌, ◌++◌, map, take, length, Option, None, Some, unwrap_or, Result, Ok, Err, option_to_list}
 use Rattle.std.specs.List.{AllByRecursion, flat_map}
 use Rattle.std.specs.Io.KnownBytes.{Appends, Consumes, IsAtEnd}
-use Rattle.records.specs.Lists.{Has}
-use Rattle.records.specs.Contents.{Content, Adds, finding, put}
-use Rattle.records.specs.declared.record.Record.{Record}
+use Rattle.records.specs.Contents.{Content, merged}
 use Rattle.archive.specs.Store.{Store, Passes}
 use Rattle.exchange.specs.declared.fault.ExchangeFault.{ExchangeFault}
 use Rattle.exchange.specs.declared.fault.ExchangeFault.TheVariants as exchange
 use Rattle.exchange.specs.declared.message.State.{State}
 use Rattle.exchange.specs.declared.message.State.TheVariants.{Done, Failed}
-use Rattle.exchange.specs.Named.{Party, end_frame}
+use Rattle.exchange.specs.Named.{Party, Message, end_frame}
 use Rattle.exchange.specs.Frames.{cut}
 use Rattle.exchange.specs.Streams.{Piece, AreFrames}
-use Rattle.exchange.specs.Dialogs.{Turn, Way, IsWay, Standing, fault_on, is_over, received, records_read, answered, standing_after, party_of, IsHeld, Writes, TellsFault}
+use Rattle.exchange.specs.Dialogs.{Turn, Way, IsWay, Standing, fault_on, is_over, received, records_read, learned_at, answered, standing_after, party_of, IsHeld, Writes, TellsFault}
 use Rattle.counted_io.specs.declared.fault.ServeFault.{ServeFault}
 use Rattle.counted_io.specs.declared.fault.ServeFault.TheVariants.{Read, Write, OutOfMemory}
 use Rattle.ua_peers.specs.declared.peers.Parted.{Parted}
@@ -54,14 +52,22 @@ AreAnswered p side [] = ⊤
 AreAnswered p side (t ∷ later) =
     (IsWay (records_read (received p side.standing t.frame.kind t.frame.body)) t.way × Writes (turn_of p side t) t.result [] t.said) × AreAnswered p (after p side t) later
 
--- the records that came in them
-abbrev pub records_of : Party → Side → List Taken → List Record
-records_of p side [] = []
-records_of p side (t ∷ later) = records_read (received p side.standing t.frame.kind t.frame.body) ++ records_of p (after p side t) later
+-- the message that a frame is to the side, if it is one
+abbrev pub message_to : Party → Side → Taken → Result Message ExchangeFault
+message_to p side t = received p side.standing t.frame.kind t.frame.body
 
--- this content, or it with one of these records more, which may be added to it
-abbrev pub HasAtMostOneMore : Content → List Record → Content → Type 0
-HasAtMostOneMore R rs left = (left ≡ R) ⊎ ((r : Record) × Has rs r × (finding R r ≡ Adds) × (left ≡ put r R))
+-- how many of its records the side learns
+abbrev pub learned_by : Party → Side → Taken → ℕ
+learned_by p side t = learned_at p side.standing.state side.content t.way (message_to p side t)
+
+-- what the last frame may leave: what the side held before it, with those of the frame's records that
+-- were learned, or also the next one of them; before any frame what the side held
+abbrev pub IsLeftBy : Party → Side → List Taken → Content → Type 0
+IsLeftBy p side [] left = left ≡ side.content
+IsLeftBy p side (t ∷ []) left =
+    (k : ℕ) × (learned_by p side t ≤ k) × (k ≤ learned_by p side t + 1)
+    × (left ≡ merged (take k (records_read (message_to p side t))) side.content)
+IsLeftBy p side (t ∷ u ∷ later) left = IsLeftBy p (after p side t) (u ∷ later) left
 
 -- ---- ends
 
@@ -104,10 +110,10 @@ pub record Talks (start : Standing) (old new : Store) (came out rest : List ℕ)
   pub content : new.honest → (R : Content) → IsHeld old R → IsHeld new (after_all (party_of old) (side_of start R) taken).content
   -- while it goes on the store stays in use
   pub used : new.honest → old.broken ≡ false → ending ≡ None → new.broken ≡ false
-  -- a crash leaves what is held then, or that with one record more; where nothing was added, what it could leave before
+  -- a crash leaves what the last frame may leave; where nothing was added, what it could leave before
   pub crash : new.honest → (R : Content) → IsHeld old R → (left : Content) → new.may_hold left
       → (old.may_hold left × (old.broken ≡ false → (after_all (party_of old) (side_of start R) taken).content ≡ R))
-      ⊎ ((old.broken ≡ false) × HasAtMostOneMore (after_all (party_of old) (side_of start R) taken).content (records_of (party_of old) (side_of start R) taken) left)
+      ⊎ ((old.broken ≡ false) × IsLeftBy (party_of old) (side_of start R) taken left)
 
 -- the dialog is open, and no whole frame is left
 abbrev pub Waits : Standing → Store → Store → List ℕ → List ℕ → Standing → Type 0
