@@ -1,5 +1,5 @@
 -- A dump: what is behind the first records of a content, and the batches one after the other.
-use Rattle.std.proofs.Common.{◌≡◌, ◌⊎◌, ℕ, zero, suc, ◌+◌, ◌≤◌, ◌<◌, max, cond, List, [], ◌∷◌, ◌++◌, take, drop, get_or, length, filter, flat_map, append-nil, append_assoc, Option, Ok, Err, refl, sym, ap, ◌∙◌, subst, arith, inl, inr, Less}
+use Rattle.std.proofs.Common.{◌≡◌, ◌⊎◌, ℕ, zero, suc, ◌+◌, ◌≤◌, ◌<◌, max, cond, List, [], ◌∷◌, ◌++◌, take, drop, get_or, length, filter, flat_map, append-nil, append_assoc, Option, None, Some, Ok, Err, refl, sym, ap, ◌∙◌, subst, arith, inl, inr, Less}
 use Rattle.std.specs.Prelude.{◌==◌, true}
 use Rattle.std.specs.List.{AllByRecursion}
 use Rattle.std.specs.Io.KnownBytes.{Appends}
@@ -23,11 +23,11 @@ use Rattle.records.proofs.MissingLemmas.{missing_is}
 use Rattle.records.proofs.LackLemmas.{missing_within}
 use Rattle.archive.specs.declared.fault.StoreFault.{StoreFault}
 use Rattle.archive.specs.declared.fault.StoreFault.TheVariants.{Refused}
-use Rattle.archive.specs.Store.{Store, Met, Asks, IsLawfulContent}
+use Rattle.archive.specs.Store.{Store, Mark, Met, Asks, IsLawfulContent}
 use Rattle.archive.specs.Steps.{Moves}
 use Rattle.archive.proofs.ListLemmas.{vec_more}
 use Rattle.archive.proofs.Calls.{in_use}
-use Rattle.archive.proofs.Acting.{moves-none, moves-stays, moves-then, moves-as, held-before}
+use Rattle.archive.proofs.Acting.{there-behind, moves-none, moves-stays, moves-then, moves-as, left-before}
 use Rattle.ua_server.specs.declared.dumps.DumpFault.{DumpFault}
 use Rattle.ua_server.specs.declared.dumps.DumpFault.TheVariants as dump
 use Rattle.counted_io.specs.Bytes.{AppendsPart}
@@ -112,16 +112,16 @@ known_more old mid new xs i d lt so raised others o =
 
 -- the records that the archive answered
 pub asked : {A : Type 0} (t u : Store) (items_of : A → List Record) (v : ℕ → ℕ) (k : ℕ) (a : A) → Asks t u (Ok a) (λ x. items_of x ≡ missing t.content v k)
-    → Moves t u [] (λ R S. (S ≡ R) × IsLawfulContent R × (items_of a ≡ missing R v k))
+    → Moves t u [] (λ marks R S. (S ≡ R) × IsLawfulContent R × (items_of a ≡ missing R v k))
 asked t u items_of v k a asks =
-    moves-stays t u [] (λ R S. (S ≡ R) × IsLawfulContent R × (items_of a ≡ missing R v k)) asks.leaves.passes asks.stays (λ honest R h.
-    let is : t.content ≡ R = held-before t u R asks.leaves h in
+    moves-stays t u [] (λ marks R S. (S ≡ R) × IsLawfulContent R × (items_of a ≡ missing R v k)) asks.leaves.passes asks.stays (there-behind t u None asks.leaves) (λ honest R h.
+    let is : t.content ≡ R = left-before t u R asks.leaves honest h in
     let rests = asks.leaves.before (asks.leaves.passes.honest honest) (in_use t u asks.leaves) in
     (refl, subst IsLawfulContent is rests.lawful, asks.answer honest ∙ ap (λ C. missing C v k) is))
 
 -- a fault of its store
-pub asked-none : {A : Type 0} (t u : Store) (fault : StoreFault) (P : A → Type 0) → Asks {A = A} t u (Err fault) P → Moves t u (Met fault ∷ []) (λ R S. S ≡ R)
-asked-none t u fault P asks = moves-stays t u (Met fault ∷ []) (λ R S. S ≡ R) asks.leaves.passes asks.stays (λ honest R h. refl)
+pub asked-none : {A : Type 0} (t u : Store) (fault : StoreFault) (P : A → Type 0) → Asks {A = A} t u (Err fault) P → Moves t u (Met fault ∷ []) (λ marks R S. S ≡ R)
+asked-none t u fault P asks = moves-stays t u (Met fault ∷ []) (λ marks R S. S ≡ R) asks.leaves.passes asks.stays (there-behind t u (Some fault) asks.leaves) (λ honest R h. refl)
 
 lines-parts : (R : Content) (n : ℕ) → lines_of R ≡ lines_of (take n R) ++ lines_of (drop n R)
 lines-parts R n = ap lines_of (sym (take-append-drop n R)) ∙ flat_map-append line_of (take n R) (drop n R)
@@ -131,7 +131,7 @@ pub so-far-part : (R : Content) (known : List ℕ) (before now : Option (List �
 so-far-part R known before now (n, is, appends) = (lines_of (take n R), lines_of (drop n R), lines-parts R n, appends)
 
 pub begun : (s : Store) (known : List ℕ) (before : Option (List ℕ)) → ((o : ℕ) → number_of known o ≡ 0) → Dumping s s known before before
-begun s known before zeros = moves-none s (λ R S. (S ≡ R) × IsSoFar R known before before) (λ R. (refl, (0, zeros, Appends-nil before)))
+begun s known before zeros = moves-none s (λ marks R S. (S ≡ R) × IsSoFar R known before before) (λ R. (refl, (0, zeros, Appends-nil before)))
 
 take-none : {X : Type 0} (k : ℕ) (l : List X) → 0 < k → take k l ≡ [] → l ≡ []
 take-none k [] h e = refl
@@ -155,24 +155,24 @@ take-grows : (R : Content) (n k : ℕ) → take (n + k) R ≡ take n R ++ take k
 take-grows R n k = take-add n k R
 
 -- what the last batch told, in terms of what was held at the start
-abbrev pub Answered : (ℕ → ℕ) → ℕ → List Record → Content → Content → Type 0
-Answered v k records R S = (S ≡ R) × IsLawfulContent R × (records ≡ missing R v k)
+abbrev pub Answered : (ℕ → ℕ) → ℕ → List Record → List Mark → Content → Content → Type 0
+Answered v k records marks R S = (S ≡ R) × IsLawfulContent R × (records ≡ missing R v k)
 
 module _ (s t u : Store) (known : List ℕ) (before now after : Option (List ℕ)) (so : Dumping s t known before now) where
-  pub failed : (fault : StoreFault) → Moves t u (Met fault ∷ []) (λ R S. S ≡ R) → Dumps s u before now (Err (dump.Store fault))
+  pub failed : (fault : StoreFault) → Moves t u (Met fault ∷ []) (λ marks R S. S ≡ R) → Dumps s u before now (Err (dump.Store fault))
   failed fault q = (
     Met fault ∷ [],
-    moves-then s t u [] (Met fault ∷ []) (λ R S. (S ≡ R) × IsSoFar R known before now) (λ R S. S ≡ R) (λ R S. (S ≡ R) × IsDumped R before now (fault ∷ []) (Err (dump.Store fault)))
-        (λ R S T p e. (e ∙ p.0, (refl, so-far-part R known before now p.1))) so q,
+    moves-then s t u [] (Met fault ∷ []) (λ marks R S. (S ≡ R) × IsSoFar R known before now) (λ marks R S. S ≡ R) (λ marks R S. (S ≡ R) × IsDumped R before now (fault ∷ []) (Err (dump.Store fault)))
+        (λ ms ns R S T p e. (e ∙ p.0, (refl, so-far-part R known before now p.1))) so q,
   )
 
   module _ (k : ℕ) (records : List Record) (q : Moves t u [] (Answered (number_of known) k records)) where
     -- of any content that was held, by how many of its records were written
     told : (To : Content → Type 0) → ((R : Content) (n : ℕ) → IsLawfulContent R → records ≡ missing R (number_of known) k → ((o : ℕ) → number_of known o ≡ vec (take n R) o) → Appends before now (lines_of (take n R)) → To R)
-        → Moves s u [] (λ R S. (S ≡ R) × To R)
+        → Moves s u [] (λ marks R S. (S ≡ R) × To R)
     told To f =
-        moves-then s t u [] [] (λ R S. (S ≡ R) × IsSoFar R known before now) (Answered (number_of known) k records) (λ R S. (S ≡ R) × To R)
-        (λ R S T p a.
+        moves-then s t u [] [] (λ marks R S. (S ≡ R) × IsSoFar R known before now) (Answered (number_of known) k records) (λ marks R S. (S ≡ R) × To R)
+        (λ ms ns R S T p a.
         let here = subst (λ C. IsSoFar C known before now) (sym p.0) p.1 in
         (a.0 ∙ p.0, subst To p.0 (f S here.0 a.1 a.2 here.1 here.2)))
         so q
@@ -223,4 +223,4 @@ module _ (s t u : Store) (known : List ℕ) (before now after : Option (List ℕ
 
   -- it goes on for longer than anybody counts
   pub endless : Dumps s t before now (Err dump.OutOfMemory)
-  endless = ([], moves-as s t [] (λ R S. (S ≡ R) × IsSoFar R known before now) (λ R S. (S ≡ R) × IsDumped R before now [] (Err dump.OutOfMemory)) (λ R S p. (p.0, (refl, so-far-part R known before now p.1))) so)
+  endless = ([], moves-as s t [] (λ marks R S. (S ≡ R) × IsSoFar R known before now) (λ marks R S. (S ≡ R) × IsDumped R before now [] (Err dump.OutOfMemory)) (λ ms R S p. (p.0, (refl, so-far-part R known before now p.1))) so)

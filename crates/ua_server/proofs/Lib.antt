@@ -8,3 +8,5 @@ pub mod ProgramParts
 pub mod TellingParts
 pub mod DumpingParts
 pub mod EitherParts
+pub mod Hexing
+pub mod SingleParts

@@ -5,8 +5,7 @@ use Rattle.archive.specs.Store.{Store}
 use Rattle.ua_settings.specs.Settings.{Values}
 use Rattle.counted_io.specs.Bytes.{counted}
 use Rattle.counted_io.specs.declared.fault.ServeFault.TheVariants.{Read, Write}
-use Rattle.ua_server.specs.Either.{ServesEither}
-use Rattle.ua_server.proofs.EitherParts.{Ends}
+use Rattle.ua_server.specs.Either.{Ending, ServesEither}
 use Rattle.ua_connection.specs.Given.{Outside}
 use Rattle.counted_io.specs.Tally.{Tally, HasCounted}
 use Rattle.ua_server.specs.Network.{Wires, Around, Connects, ServesEach}
@@ -18,7 +17,7 @@ has-counted {T} first last inner begins one none = (λ f. one f ∙ ap (λ (t : 
 
 -- a connection that came was served
 pub connected : {L R W A C : Type 0} (wires : Wires L R W) (gave : C → List ℤ → C → Type 0) (holds : A → Store) (settings : Values) (came : Option (R × W)) (reader : R) (writer : W) (first-read last-read : Tally R) (first-wrote last-wrote : Tally W)
-    (source between after : L) (archive held : A) (clock later : C) (ending : Ends)
+    (source between after : L) (archive held : A) (clock later : C) (ending : Ending)
     → wires.comes source came between → came ≡ Some (reader, writer) → first-read ≡ record { inner = reader; faults = 0 } → first-wrote ≡ record { inner = writer; faults = 0 }
     → ((used : Outside) × gave clock used.readings later
     × ServesEither settings (holds archive) (holds held) (wires.unread first-read.inner) (wires.unread last-read.inner) (wires.written first-wrote.inner) (wires.written last-wrote.inner) used ending)
@@ -47,7 +46,7 @@ connected {L} {R} {W} wires gave holds settings came reader writer first-read la
     )
 
 -- one connection more
-pub each-more : {L R W A C E : Type 0} (wires : Wires L R W) (gave : C → List ℤ → C → Type 0) (holds : A → Store) (told : E → Option (List ℕ)) (settings : Values) (count : ℕ) (old middle new : Around L A C) (before meanwhile after : Tally E) (ending : Ends)
+pub each-more : {L R W A C E : Type 0} (wires : Wires L R W) (gave : C → List ℤ → C → Type 0) (holds : A → Store) (told : E → Option (List ℕ)) (settings : Values) (count : ℕ) (old middle new : Around L A C) (before meanwhile after : Tally E) (ending : Ending)
     → ServesEach wires gave holds told settings count old before middle meanwhile → Connects wires gave holds settings middle new ending → Tells told ending meanwhile after → ServesEach wires gave holds told settings (suc count) old before new after
 each-more {L} {R} {W} {A} {C} {E} wires gave holds told settings zero old middle new before meanwhile after ending so connects tells =
     let P : Around L A C → Type 0 = λ m. Connects wires gave holds settings m new ending in

@@ -3,8 +3,8 @@ use Rattle.std.proofs.Common.{Bor, ◌≡◌, ℕ, ℤ, Bool, true, List, [], So
 use Rattle.std.specs.Result.{result_map_both}
 use Rattle.clap.specs.Words.{Row, Text}
 use Rattle.std.specs.Prelude.{Option, Result}
-use Rattle.ua_connection.specs.declared.hexed.HexFault.{HexFault}
-use Rattle.ua_connection.specs.declared.hexed.HexFault.TheVariants as hexed
+use Rattle.ua_server.specs.declared.hexed.HexFault.{HexFault}
+use Rattle.ua_server.specs.declared.hexed.HexFault.TheVariants as hexed
 use Rattle.ua_server.specs.declared.program.ProgramFault.{ProgramFault}
 use Rattle.ua_server.specs.declared.program.ProgramFault.TheVariants.{Line, File, Settings, BadHex, Address, Connection}
 use Rattle.ua_server.specs.declared.program.ProgramFault.TheVariants as program

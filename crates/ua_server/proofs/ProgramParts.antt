@@ -9,10 +9,10 @@ use Rattle.command_line.specs.declared.line.Line.TheVariants.{Answer, Serve, Dum
 use Rattle.command_line.specs.declared.line.LineFault.{LineFault}
 use Rattle.command_line.specs.declared.line.LineFault.TheVariants.{Words, OutOfMemory as NoMemory}
 use Rattle.ua_settings.specs.Settings.{Values}
-use Rattle.ua_connection.specs.declared.hexed.HexFault.{HexFault}
-use Rattle.ua_connection.specs.declared.hexed.HexFault.TheVariants as hexed
+use Rattle.ua_server.specs.declared.hexed.HexFault.{HexFault}
+use Rattle.ua_server.specs.declared.hexed.HexFault.TheVariants as hexed
 use Rattle.ua_connection.specs.Given.{Outside}
-use Rattle.ua_connection.specs.Single.{AnswersAt}
+use Rattle.ua_server.specs.Single.{AnswersAt}
 use Rattle.ua_peers.specs.declared.calling.Synced.{Synced}
 use Rattle.ua_peers.specs.declared.calling.SyncFault.{SyncFault}
 use Rattle.ua_peers.specs.declared.calling.SyncFault.TheVariants as sync

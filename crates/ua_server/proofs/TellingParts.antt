@@ -1,10 +1,63 @@
 -- Names for parts of the definitions in specs/Telling, for the lemmas on these parts.
-use Rattle.std.proofs.Common.{◌≡◌, ℕ, List, [], Some, None, refl}
+use Rattle.std.proofs.Common.{◌≡◌, ◌≤◌, ◌<◌, ◌+◌, ◌-◌, ℕ, Bool, List, [], ◌++◌, length, take, codes, cond, Some, None, refl, ap, ◌∙◌, arith}
+use Rattle.std.proofs.lemmas.Bool.{le-leb}
+use Rattle.std.proofs.lemmas.List.{length-append}
+use Rattle.std.specs.Fmt.{decimal}
+use Rattle.std.specs.Fmt.Cut.{cut_to, dots, floor_char_boundary}
 use Rattle.std.specs.Prelude.{Option}
 use Rattle.ua_server.specs.declared.program.ProgramFault.{ProgramFault}
 use Rattle.ua_server.specs.declared.program.ProgramFault.TheVariants.{Line, File, Settings, Store, BadHex, Address, Connection, Call, Exchange, Peer}
-use Rattle.ua_server.specs.Telling.{told_line}
+use Rattle.ua_server.specs.Telling.{words_of, number_told, numbered, text_of, told_line}
 use Rattle.ua_server.specs.Parts.{place_line}
+
+-- the text of a fault without a number, and of one with it
+pub text-without : (fault : ProgramFault) → number_told fault ≡ None → text_of fault ≡ words_of fault
+text-without fault e = ap (λ (o : Option ℕ). elim o [ None ↦ words_of fault | Some n ↦ numbered (words_of fault) n ]) e
+
+pub text-with : (fault : ProgramFault) (number : ℕ) → number_told fault ≡ Some number → text_of fault ≡ numbered (words_of fault) number
+text-with fault number e = ap (λ (o : Option ℕ). elim o [ None ↦ words_of fault | Some n ↦ numbered (words_of fault) n ]) e
+
+-- the words of a fault that has a number are short
+pub short-words : (fault : ProgramFault) (number : ℕ) → number_told fault ≡ Some number → length (words_of fault) ≤ 40
+short-words (Line fault) number e = absurd cc
+short-words File number e = absurd cc
+short-words (Settings fault place) number e = omega arith
+short-words (Store fault) number e = omega arith
+short-words BadHex number e = absurd cc
+short-words Address number e = absurd cc
+short-words (Connection fault) number e = omega arith
+short-words (Call fault) number e = omega arith
+short-words (Exchange fault) number e = omega arith
+short-words (Peer told) number e = omega arith
+
+-- what has room isn't cut
+cut-fits : (room : ℕ) (text : List ℕ) → length text ≤ room → cut_to room text ≡ text
+unfolding cut_to
+cut-fits room text h =
+    ap (λ (b : Bool). cond b text (take (floor_char_boundary text (room - 3)) text ++ dots room)) (le-leb (length text) room h)
+
+-- words and a number that are put one behind the other where there is room for all of them
+pub numbered-text : (t0 t1 t2 t3 t4 words digits : List ℕ) (n : ℕ) → t0 ≡ [] → length words ≤ 40 → digits ≡ decimal n → length digits ≤ 40
+    → (length t0 + 40 < 100 → t1 ≡ t0 ++ cut_to 40 words)
+    → (length t1 + 2 < 100 → t2 ≡ t1 ++ cut_to 2 (codes " ("))
+    → (length t2 + 40 < 100 → t3 ≡ t2 ++ cut_to 40 digits)
+    → (length t3 + 1 < 100 → t4 ≡ t3 ++ cut_to 1 (codes ")"))
+    → t4 ≡ numbered words n
+numbered-text t0 t1 t2 t3 t4 words digits n none short is few one two three four =
+    let left = codes " (" in
+    let first : t1 ≡ words =
+    one (omega (arith, ap length none)) ∙ (ap (λ (l : List ℕ). l ++ cut_to 40 words) none ∙ cut-fits 40 words short) in
+    let second : t2 ≡ words ++ left =
+    two (omega (arith, ap length first, short))
+    ∙ (ap (λ (l : List ℕ). l ++ cut_to 2 left) first ∙ ap (λ (l : List ℕ). words ++ l) (cut-fits 2 left (omega arith))) in
+    let third : t3 ≡ (words ++ left) ++ decimal n =
+    three (omega (arith, ap length second, length-append words left, short))
+    ∙ (ap (λ (l : List ℕ). l ++ cut_to 40 digits) second ∙ ap (λ (l : List ℕ). (words ++ left) ++ l) (cut-fits 40 digits few ∙ is)) in
+    let fourth : t4 ≡ ((words ++ left) ++ decimal n) ++ codes ")" =
+    four (omega (arith, ap length third, length-append (words ++ left) (decimal n), length-append words left, ap length is, few, short))
+    ∙ (ap (λ (l : List ℕ). l ++ cut_to 1 (codes ")")) third
+    ∙ ap (λ (l : List ℕ). ((words ++ left) ++ decimal n) ++ l) (cut-fits 1 (codes ")") (omega arith))) in
+    fourth
 
 -- where settings are refused
 abbrev pub place_of : ProgramFault → Option (List ℕ)

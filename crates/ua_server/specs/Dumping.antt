@@ -21,7 +21,7 @@ lines_of R = flat_map (λ r. decimal r.origin ++ 32 ∷ (decimal r.number ++ 32 
 -- the fault that the dump ended by, if that is one of the store's, and no other.
 abbrev pub Dumps : Store → Store → Option (List ℕ) → Option (List ℕ) → Result (Unit {0}) DumpFault → Type 0
 Dumps old new before after result =
-    (used : List Mark) × Moves old new used (λ R S. (S ≡ R) × ((faults_of used ≡ elim result [ Err (dump.Store fault) ↦ fault ∷ [] | _ ↦ [] ])
+    (used : List Mark) × Moves old new used (λ marks R S. (S ≡ R) × ((faults_of used ≡ elim result [ Err (dump.Store fault) ↦ fault ∷ [] | _ ↦ [] ])
     × MatchResult result (λ done. Appends before after (lines_of R)) (λ fault. AppendsPart before after (lines_of R))))
 
 -- so far the lines of a content's first records were written, of which these are the numbers
@@ -29,4 +29,4 @@ abbrev pub IsSoFar : Content → List ℕ → Option (List ℕ) → Option (List
 IsSoFar R known before now = (n : ℕ) × ((origin : ℕ) → number_of known origin ≡ vec (take n R) origin) × Appends before now (lines_of (take n R))
 
 abbrev pub Dumping : Store → Store → List ℕ → Option (List ℕ) → Option (List ℕ) → Type 0
-Dumping old new known before now = Moves old new [] (λ R S. (S ≡ R) × IsSoFar R known before now)
+Dumping old new known before now = Moves old new [] (λ marks R S. (S ≡ R) × IsSoFar R known before now)

@@ -1,5 +1,7 @@
 pub mod Telling
 pub mod Either
+pub mod Hexed
+pub mod Single
 pub mod Network
 pub mod Dumping
 pub mod Program

@@ -8,8 +8,7 @@ use Rattle.counted_io.specs.declared.fault.ServeFault.{ServeFault}
 use Rattle.counted_io.specs.declared.fault.ServeFault.TheVariants.{Read, Write}
 use Rattle.ua_server.specs.declared.program.ProgramFault.{ProgramFault}
 use Rattle.ua_server.specs.declared.program.ProgramFault.TheVariants.{Address, Connection}
-use Rattle.ua_server.specs.declared.either.Ended.{Ended}
-use Rattle.ua_server.specs.Either.{ServesEither}
+use Rattle.ua_server.specs.Either.{Ending, ServesEither}
 use Rattle.ua_connection.specs.Given.{Outside}
 use Rattle.counted_io.specs.Tally.{Tally, HasCounted}
 use Rattle.ua_server.specs.Telling.{IsTold, error_lines}
@@ -30,7 +29,7 @@ abbrev pub Counts : {R W : Type 0} → (ended_by : ServeFault → Type 0) → (d
 Counts {R} {W} ended_by done = (read : Tally R) × (wrote : Tally W) × HasCounted (ended_by Read) read × HasCounted (ended_by Write) wrote × done read wrote
 
 -- the next connection was waited for, a client's or a peer's, served over what the archive held, and given back, and it ended so; that none came is a fault of reading
-abbrev pub Connects : {L R W A C : Type 0} → Wires L R W → (C → List ℤ → C → Type 0) → (A → Store) → Values → Around L A C → Around L A C → Result Ended ServeFault → Type 0
+abbrev pub Connects : {L R W A C : Type 0} → Wires L R W → (C → List ℤ → C → Type 0) → (A → Store) → Values → Around L A C → Around L A C → Ending → Type 0
 Connects {L} {R} {W} wires gave held settings old new ending = (came : Option (R × W)) × (between : L) × wires.comes old.source came between × elim came [
   | None ↦ (ending ≡ Err Read) × (new ≡ record old { source = between })
   | Some (reader, writer) ↦ (used : Outside) × gave old.clock used.readings new.clock
@@ -43,7 +42,7 @@ Connects {L} {R} {W} wires gave held settings old new ending = (came : Option (R
 abbrev pub ServesEach : {L R W A C E : Type 0} → Wires L R W → (C → List ℤ → C → Type 0) → (A → Store) → (E → Option (List ℕ)) → Values → ℕ → Around L A C → Tally E → Around L A C → Tally E → Type 0
 ServesEach wires gave held told settings zero old before new after = (new ≡ old) × (after ≡ before)
 ServesEach {L} {R} {W} {A} {C} {E} wires gave held told settings (suc more) old before new after =
-    (middle : Around L A C) × (soon : Tally E) × (ending : Result Ended ServeFault) × Connects wires gave held settings old middle ending
+    (middle : Around L A C) × (soon : Tally E) × (ending : Ending) × Connects wires gave held settings old middle ending
     × (elim ending [ Ok ended ↦ soon ≡ before | Err fault ↦ IsTold told before soon (error_lines (Connection fault)) ]) × ServesEach wires gave held told settings more middle soon new after
 
 -- the text is no address, or nothing was had there

@@ -1,34 +1,34 @@
 -- Names for the parts of the other definitions, for the contracts of the functions that do these parts.
-use Rattle.std.specs.Prelude.{◌≡◌, ◌≤◌, ℕ, ℤ, List, [], ◌∷◌, ◌++◌, length, Option, None, Some, IfSome, Result, Ok, Err, Bool}
+use Rattle.std.specs.Prelude.{◌≡◌, ℕ, ℤ, List, [], ◌∷◌, ◌++◌, Option, None, Some, IfSome, Result, Ok, Err, Bool}
 use Rattle.std.specs.Result.{result_map_both}
 use Rattle.std.specs.Fmt.{decimal, signed_decimal}
 use Rattle.std.specs.declared.net.socket_addr.SocketAddr.{SocketAddr}
 use Rattle.hex.specs.Hex.{encode_upper}
+use Rattle.toml.specs.Parse.{parse_document}
 use Rattle.records.specs.declared.record.Record.{Record}
 use Rattle.records.specs.Spelling.{record_form}
-use Rattle.counted_io.specs.declared.fault.ServeFault.{ServeFault}
 use Rattle.counted_io.specs.declared.fault.ServeFault.TheVariants.{Write, OutOfMemory}
 use Rattle.counted_io.specs.Tally.{Tally}
 use Rattle.command_line.specs.declared.line.LineFault.TheVariants.{OutOfMemory as NoMemory}
 use Rattle.ua_settings.specs.declared.fault.SettingsFault.{SettingsFault}
 use Rattle.ua_settings.specs.declared.fault.SettingsFault.TheVariants as refused
 use Rattle.ua_settings.specs.Settings.{Values, bare}
-use Rattle.ua_connection.specs.declared.hexed.HexFault.{HexFault}
-use Rattle.ua_connection.specs.declared.hexed.HexFault.TheVariants as hexed
+use Rattle.ua_server.specs.declared.hexed.HexFault.{HexFault}
+use Rattle.ua_server.specs.declared.hexed.HexFault.TheVariants as hexed
 use Rattle.ua_connection.specs.Given.{Outside}
-use Rattle.ua_connection.specs.Single.{AnswersAt}
+use Rattle.ua_server.specs.Single.{AnswersAt}
 use Rattle.ua_peers.specs.declared.calling.SyncFault.{SyncFault}
 use Rattle.ua_peers.specs.declared.calling.SyncFault.TheVariants as sync
 use Rattle.ua_server.specs.declared.dumps.DumpFault.{DumpFault}
 use Rattle.ua_server.specs.declared.dumps.DumpFault.TheVariants as dump
-use Rattle.ua_server.specs.declared.either.Ended.{Ended}
+use Rattle.ua_server.specs.Either.{Ending}
 use Rattle.ua_server.specs.declared.program.ProgramFault.{ProgramFault}
 use Rattle.ua_server.specs.declared.program.ProgramFault.TheVariants.{Line, BadHex, Connection}
 use Rattle.ua_server.specs.declared.program.ProgramFault.TheVariants as program
 use Rattle.ua_server.specs.Telling.{IsTold, told_line, error_lines}
 use Rattle.ua_server.specs.Dumping.{Dumps}
 use Rattle.ua_server.specs.Network.{Wires, Listens}
-use Rattle.ua_server.specs.Program.{Machine, By, CallsPeer}
+use Rattle.ua_server.specs.Program.{Machine, By, TellsPlace, CallsPeer}
 
 -- a record's line
 abbrev pub line_of : Record → List ℕ
@@ -39,16 +39,16 @@ abbrev pub place_line : Option (List ℕ) → List ℕ
 place_line given = elim given [ None ↦ [] | Some place ↦ told_line place ]
 
 -- what is told of an end
-abbrev pub Tells : {E : Type 0} → (E → Option (List ℕ)) → Result Ended ServeFault → Tally E → Tally E → Type 0
+abbrev pub Tells : {E : Type 0} → (E → Option (List ℕ)) → Ending → Tally E → Tally E → Type 0
 Tells told v old new = elim v [ Ok ended ↦ new ≡ old | Err fault ↦ IsTold told old new (error_lines (Connection fault)) ]
 
 -- the settings without a file
 abbrev pub IsBare : Result Values ProgramFault → Type 0
 IsBare result = elim result [ Ok settings ↦ settings ≡ bare | Err (Line NoMemory) ↦ Unit {0} | Err fault ↦ ⊥ ]
 
--- what tells where settings are refused has at most 180 bytes; want of memory has no place
-abbrev pub IsPlace : SettingsFault → Option (List ℕ) → Type 0
-IsPlace fault place = IfSome place (λ told. (length told ≤ 180) × (fault ≡ refused.OutOfMemory → ⊥))
+-- what tells where a text is refused by this fault; want of memory has no place
+abbrev pub IsPlace : List ℕ → SettingsFault → Option (List ℕ) → Type 0
+IsPlace text fault place = IfSome place (λ told. TellsPlace (parse_document text) told × (fault ≡ refused.OutOfMemory → ⊥))
 
 -- what a fault of a connection is called by the program
 abbrev pub fault_of : HexFault → ProgramFault

@@ -1,12 +1,14 @@
 -- What a run of the program does.
-use Rattle.std.specs.Prelude.{◌≡◌, ◌≤◌, ℕ, ℤ, List, [], length, Option, None, Some, IfSome, option_copied, Result, Ok, Err, IfOk, MatchResult, Bool, true, ◌⊎◌}
+use Rattle.std.specs.Prelude.{◌≡◌, ℕ, ℤ, List, [], Option, None, Some, IfSome, option_copied, Result, Ok, Err, IfOk, MatchResult, Bool, true, ◌⊎◌}
 use Rattle.std.specs.Result.{result_map_both}
 use Rattle.std.specs.Io.KnownBytes.{Appends}
 use Rattle.std.specs.declared.net.socket_addr.SocketAddr.{SocketAddr}
+use Rattle.std.specs.Fmt.Cut.{cut_to}
+use Rattle.toml.specs.Data.{Members}
 use Rattle.toml.specs.Parse.{parse_document}
 use Rattle.counted_io.specs.declared.fault.ServeFault.TheVariants.{Write, OutOfMemory}
-use Rattle.ua_connection.specs.declared.hexed.HexFault.{HexFault}
-use Rattle.ua_connection.specs.declared.hexed.HexFault.TheVariants as hexed
+use Rattle.ua_server.specs.declared.hexed.HexFault.{HexFault}
+use Rattle.ua_server.specs.declared.hexed.HexFault.TheVariants as hexed
 use Rattle.ua_server.specs.declared.program.ProgramFault.{ProgramFault}
 use Rattle.ua_server.specs.declared.program.ProgramFault.TheVariants.{Line, File, Settings, BadHex, Address, Connection}
 use Rattle.ua_server.specs.declared.program.ProgramFault.TheVariants as program
@@ -17,12 +19,14 @@ use Rattle.counted_io.specs.Tally.{Tally}
 use Rattle.ua_settings.specs.declared.fault.SettingsFault.{SettingsFault}
 use Rattle.ua_settings.specs.declared.fault.SettingsFault.TheVariants as refused
 use Rattle.ua_settings.specs.Settings.{Values, bare}
+use Rattle.ua_settings.specs.declared.place.Place.{Place}
+use Rattle.ua_settings.specs.Place.{IsPlaceOf, text_of}
 use Rattle.ua_settings.specs.Reading.{IsReadOrStarved}
 use Rattle.archive.specs.declared.fault.StoreFault.{StoreFault}
 use Rattle.archive.specs.Store.{Store}
 use Rattle.archive.specs.Beginning.{HoldsNothing}
 use Rattle.ua_connection.specs.Given.{Outside}
-use Rattle.ua_connection.specs.Single.{AnswersAt}
+use Rattle.ua_server.specs.Single.{AnswersAt}
 use Rattle.ua_server.specs.Dumping.{Dumps}
 use Rattle.ua_peers.specs.Calling.{Syncs}
 use Rattle.ua_server.specs.Telling.{synced_line}
@@ -47,11 +51,16 @@ OpensArchive opened untouched held settings (Some path) opening = opened path se
 
 -- ---- settings
 
--- the settings that a text gives; where they are refused the place may be told, which has at most 180 bytes, and which want of memory hasn't
+-- the text of where a document is refused, cut behind 180 bytes
+abbrev pub TellsPlace : Option Members → List ℕ → Type 0
+TellsPlace document told = (place : Place) × IsPlaceOf document place × (told ≡ cut_to 180 (text_of place))
+
+-- the settings that a text gives; where they are refused the place may be told, which want of memory hasn't
 abbrev pub IsSetIn : List ℕ → Result Values ProgramFault → Type 0
 IsSetIn text result =
     (read : Result Values SettingsFault) × (place : Option (List ℕ)) × IsReadOrStarved (parse_document text) read
-    × IfSome place (λ told. (length told ≤ 180) × (read ≡ Err refused.OutOfMemory → ⊥)) × (result ≡ result_map_both (λ settings. settings) (λ fault. Settings fault place) read)
+    × IfSome place (λ told. TellsPlace (parse_document text) told × (read ≡ Err refused.OutOfMemory → ⊥))
+    × (result ≡ result_map_both (λ settings. settings) (λ fault. Settings fault place) read)
 
 -- The settings of a server that is given this path, by what was read at it. Without a path they are those without a file, unless memory for them was wanting, and no file was
 -- asked for.

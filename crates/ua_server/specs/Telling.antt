@@ -1,9 +1,8 @@
 -- What a run of the program tells on standard error, its exit status, and the line of a call of a peer.
-use Rattle.std.specs.Prelude.{◌+◌, ◌≡◌, ℕ, List, [], ◌∷◌, ◌++◌, Option, Some, Result, Ok, Err, ◌⊎◌, codes, nat_lt, ◌&&◌, if◌then◌else◌}
+use Rattle.std.specs.Prelude.{◌≡◌, ℕ, List, [], ◌∷◌, ◌++◌, Option, None, Some, Result, Ok, Err, ◌⊎◌, codes}
 use Rattle.std.specs.Fmt.{decimal}
 use Rattle.std.specs.Io.KnownBytes.{Appends}
-use Rattle.counted_io.specs.declared.fault.ServeFault.{ServeFault}
-use Rattle.counted_io.specs.declared.fault.ServeFault.TheVariants.{Read, Write, TooLong, OutOfMemory}
+use Rattle.counted_io.specs.Fault.{number_of as connection_number}
 use Rattle.ua_server.specs.declared.program.ProgramFault.{ProgramFault}
 use Rattle.ua_server.specs.declared.program.ProgramFault.TheVariants.{Line, File, Settings, Store, BadHex, Address, Connection, Call, Exchange, Peer}
 use Rattle.ua_peers.specs.declared.calling.Synced.{Synced}
@@ -12,7 +11,7 @@ use Rattle.counted_io.specs.Bytes.{AppendsPart, counted}
 use Rattle.counted_io.specs.Tally.{Tally}
 use Rattle.exchange.specs.Fault.{exchange_number}
 use Rattle.archive.specs.Fault.{store_number}
-use Rattle.ua_settings.specs.Fault.{number_of}
+use Rattle.ua_settings.specs.Fault.{number_of as settings_number}
 
 abbrev pub fault_status : ProgramFault → ℕ
 fault_status fault = elim fault [ Line fault ↦ 2 | File ↦ 2 | Settings fault place ↦ 2 | Store fault ↦ 3 | BadHex ↦ 2 | _ ↦ 1 ]
@@ -20,30 +19,36 @@ fault_status fault = elim fault [ Line fault ↦ 2 | File ↦ 2 | Settings fault
 abbrev pub status_of : Result (Unit {0}) ProgramFault → ℕ
 status_of result = elim result [ Ok done ↦ 0 | Err fault ↦ fault_status fault ]
 
--- a text with the number of a fault, which has one digit
+-- what is said of a fault
+abbrev pub words_of : ProgramFault → List ℕ
+words_of (Line fault) = line_text_of fault
+words_of File = codes "settings file can't be read"
+words_of (Settings fault place) = codes "settings refused"
+words_of (Store fault) = codes "store refused"
+words_of BadHex = codes "bad hex"
+words_of Address = codes "address refused"
+words_of (Connection fault) = codes "connection ended"
+words_of (Call fault) = codes "connection ended"
+words_of (Exchange fault) = codes "exchange ended"
+words_of (Peer number) = codes "exchange ended"
+
+-- its number, if it has one; a peer may give any
+abbrev pub number_told : ProgramFault → Option ℕ
+number_told (Settings fault place) = Some (settings_number fault)
+number_told (Store fault) = Some (store_number fault)
+number_told (Connection fault) = Some (connection_number fault)
+number_told (Call fault) = Some (connection_number fault)
+number_told (Exchange fault) = Some (exchange_number fault)
+number_told (Peer number) = Some number
+number_told fault = None
+
+-- words, and a number in brackets behind them
 abbrev pub numbered : List ℕ → ℕ → List ℕ
-numbered text n = text ++ (codes " (" ++ ((48 + n) ∷ codes ")"))
+numbered words n = words ++ codes " (" ++ decimal n ++ codes ")"
 
--- the text that tells a fault of a connection
-abbrev pub connection_text : ServeFault → List ℕ
-connection_text fault = numbered (codes "connection ended") (elim fault [ Read ↦ 1 | Write ↦ 2 | TooLong ↦ 3 | OutOfMemory ↦ 4 ])
-
--- the text that tells why an exchange ended, by its number; a peer may give a number that is none
-abbrev pub exchange_text : ℕ → List ℕ
-exchange_text number = if nat_lt 0 number && nat_lt number 9 then numbered (codes "exchange ended") number else codes "exchange ended by the peer"
-
--- the text that tells a fault
+-- the text that tells a fault: its words, and its number, if it has one
 abbrev pub text_of : ProgramFault → List ℕ
-text_of (Line fault) = line_text_of fault
-text_of File = codes "settings file can't be read"
-text_of (Settings fault place) = numbered (codes "settings refused") (number_of fault)
-text_of (Store fault) = numbered (codes "store refused") (store_number fault)
-text_of BadHex = codes "bad hex"
-text_of Address = codes "address refused"
-text_of (Connection fault) = connection_text fault
-text_of (Call fault) = connection_text fault
-text_of (Exchange fault) = exchange_text (exchange_number fault)
-text_of (Peer number) = exchange_text number
+text_of fault = elim (number_told fault) [ None ↦ words_of fault | Some n ↦ numbered (words_of fault) n ]
 
 -- the line that tells how many records a call of a peer moved
 abbrev pub synced_line : Synced → List ℕ

@@ -6,7 +6,7 @@ ghost use Rattle.std.specs.declared.net.socket_addr.SocketAddr.{SocketAddr};
 ghost use Rattle.ua_server.specs.Network.{Connects, ServesEach, IsUnheard, Listens};
 ghost use Rattle.ua_server.specs.Parts.{Tells};
 
-use crate::either::{Ended, serve_either};
+use crate::either::{Served, serve};
 use crate::network::{Listener, Network};
 use crate::program::{ProgramFault, report};
 use archive::Archive;
@@ -25,7 +25,7 @@ fn serve_next<A: Archive, L: Listener, C: Clock>(
     replica: &mut Replica<A>,
     listener: &mut L,
     clock: &mut C,
-) -> Result<Ended, ServeFault>
+) -> Result<Served, ServeFault>
     ensures { Connects (record { comes = L.accepted; closed = L.closed; unread = L.Reader.remaining; written = L.Writer.contents }) C.gave A.state settings.now
         (record { source = listener.old; archive = replica.old.archive; clock = clock.old }) (record { source = listener.new; archive = replica.new.archive; clock = clock.new }) result }
 {
@@ -34,13 +34,13 @@ fn serve_next<A: Archive, L: Listener, C: Clock>(
     };
     let mut reader = Counted::new(reader);
     let mut writer = Counted::new(writer);
-    let ending = serve_either(alloc, settings, replica, &mut reader, &mut writer, clock);
+    let ending = serve(alloc, settings, replica, &mut reader, &mut writer, clock);
     listener.close(reader, writer);
     ending
 }
 
 /// Tells on `errors` how a connection ended, where that is a fault.
-fn tell_ending<W: Write>(ending: Result<Ended, ServeFault>, errors: &mut Counted<W>)
+fn tell_ending<W: Write>(ending: Result<Served, ServeFault>, errors: &mut Counted<W>)
     ensures { Tells W.contents ending errors.old errors.new }
 {
     let ending = match ending {
@@ -50,7 +50,7 @@ fn tell_ending<W: Write>(ending: Result<Ended, ServeFault>, errors: &mut Counted
     let _ = report(ending, errors);
 }
 
-/// Serves so many connections, one after the other, over one replica: clients and peers, as `serve_either` tells them apart.
+/// Serves so many connections, one after the other, over one replica: clients and peers, as `serve` tells them apart.
 ///
 /// Each begins with what the one before it left in the replica's archive, whatever that one's end was. Of each that ended by
 /// a fault a line tells on `errors`, and nothing of a peer's dialog that failed, since the peer was told; where one can't be

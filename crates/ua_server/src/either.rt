@@ -1,31 +1,58 @@
 //! A connection of which the first letters tell whose it is.
 
 ghost use Rattle.std.specs.Prelude.{◌≡◌, ◌≤◌, ◌<◌, length, take, IfOk, OnOk, OnErr, IsErrOf, Err, ℕ, List};
-ghost use Rattle.ua_server.specs.declared.either.Ended.TheVariants.{Client, Peer};
 ghost use Rattle.std.specs.Result.{result_map_both};
 ghost use Rattle.std.specs.Io.KnownBytes.{Consumes, IsAtEnd};
 ghost use Rattle.counted_io.specs.Bytes.{counted};
 ghost use Rattle.ua_connection.specs.Given.{Outside};
 ghost use Rattle.ua_connection.specs.Serving.{ServesBehind};
 ghost use Rattle.ua_peers.specs.Peers.{MeetsBehind, responding};
-ghost use Rattle.ua_server.specs.Either.{is_peers, ServesEither};
+ghost use Rattle.ua_server.specs.Either.{is_peers, end_of_client, end_of_peer, ServesEither};
 
 use archive::Archive;
 use counted_io::{Counted, ServeFault};
 use exchange::Replica;
 use std::alloc::Global;
 use std::io::{Read, Write};
-use ua_connection::{Clock, Served, serve_from};
+use ua_connection::{Clock, serve_from};
 use ua_peers::{Parted, serve_peer_from};
 use ua_settings::Settings;
 
 /// How a connection ended that met no fault.
 #[derive(Clone, Copy, Debug, PartialEq, Eq)]
-pub enum Ended {
-    /// A client's.
-    Client(Served),
-    /// A peer's.
-    Peer(Parted),
+pub enum Served {
+    /// The input was over.
+    EndOfInput,
+    /// The client closed its channel.
+    Closed,
+    /// This number ended it: the status code of the Error message that refused a client (Part 6, 7.1.2.5), or the number by
+    /// which either side ended a peer's dialog.
+    Refused(u32),
+    /// The exchange with a peer came to its end.
+    Exchanged,
+}
+
+/// How a client's connection ended.
+fn end_of_client(served: ua_connection::Served) -> Served
+    ensures { result ≡ end_of_client served }
+{
+    match served {
+        ua_connection::Served::EndOfInput => Served::EndOfInput,
+        ua_connection::Served::Closed => Served::Closed,
+        ua_connection::Served::Refused(code) => Served::Refused(code.0),
+    }
+}
+
+/// How a peer's dialog ended.
+fn end_of_peer(parted: Parted) -> Served
+    ensures { result ≡ end_of_peer parted }
+{
+    match parted {
+        Parted::EndOfInput => Served::EndOfInput,
+        Parted::Done => Served::Exchanged,
+        Parted::Refused(number) => Served::Refused(number),
+        Parted::Failed(fault) => Served::Refused(u32::from(fault.number())),
+    }
 }
 
 /// Reads the first three bytes, or all where there are fewer, and answers how many.
@@ -64,9 +91,9 @@ fn meet_peer<R: Read, W: Write, A: Archive>(
     first: &[u8],
     reader: &mut Counted<R>,
     writer: &mut Counted<W>,
-) -> Result<Ended, ServeFault>
+) -> Result<Served, ServeFault>
     requires { length first.now < 8 }
-    ensures meets { (parted : _) × (result ≡ result_map_both Peer (λ fault. fault) parted)
+    ensures meets { (parted : _) × (result ≡ result_map_both end_of_peer (λ fault. fault) parted)
         × MeetsBehind responding (A.state replica.old.archive) (A.state replica.new.archive) first.now (R.remaining reader.old.inner) (R.remaining reader.new.inner) (W.contents writer.old.inner) (W.contents writer.new.inner) parted }
     ensures read { IsErrOf result ServeFault.Read → reader.new.faults ≡ counted reader.old.faults }
     ensures write { IsErrOf result ServeFault.Write → writer.new.faults ≡ counted writer.old.faults }
@@ -74,7 +101,7 @@ fn meet_peer<R: Read, W: Write, A: Archive>(
     ensures write_kept { (IsErrOf result ServeFault.Write → ⊥) → writer.new.faults ≡ writer.old.faults }
 {
     match serve_peer_from(alloc, replica, first, reader, writer) {
-        Ok(parted) => Ok(Ended::Peer(parted)),
+        Ok(parted) => Ok(end_of_peer(parted)),
         Err(fault) => Err(fault),
     }
 }
@@ -88,9 +115,9 @@ fn serve_client<R: Read, W: Write, C: Clock, A: Archive>(
     reader: &mut Counted<R>,
     writer: &mut Counted<W>,
     clock: &mut C,
-) -> Result<Ended, ServeFault>
+) -> Result<Served, ServeFault>
     requires { length first.now < 8 }
-    ensures serves { (used : Outside) × C.gave clock.old used.readings clock.new × (served : _) × (result ≡ result_map_both Client (λ fault. fault) served)
+    ensures serves { (used : Outside) × C.gave clock.old used.readings clock.new × (served : _) × (result ≡ result_map_both end_of_client (λ fault. fault) served)
         × ServesBehind settings.now (A.state archive.old) (A.state archive.new) first.now (R.remaining reader.old.inner) (R.remaining reader.new.inner) (W.contents writer.old.inner) (W.contents writer.new.inner) used served }
     ensures read { IsErrOf result ServeFault.Read → reader.new.faults ≡ counted reader.old.faults }
     ensures write { IsErrOf result ServeFault.Write → writer.new.faults ≡ counted writer.old.faults }
@@ -98,28 +125,28 @@ fn serve_client<R: Read, W: Write, C: Clock, A: Archive>(
     ensures write_kept { (IsErrOf result ServeFault.Write → ⊥) → writer.new.faults ≡ writer.old.faults }
 {
     match serve_from(alloc, settings, archive, first, reader, writer, clock) {
-        Ok(served) => Ok(Ended::Client(served)),
+        Ok(served) => Ok(end_of_client(served)),
         Err(fault) => Err(fault),
     }
 }
 
 /// Answers a connection: a peer's dialog over the replica, as `serve_peer` does, where its first three letters are `RXV` or
-/// `RXD`; any other as `serve` does, over the replica's archive.
+/// `RXD`; any other as a client's, over the replica's archive.
 ///
 /// It waits for three bytes, or the end of the input. Where a read fails before, nothing is written and the archive is as it
 /// was. The clock is read for a client alone.
 ///
-/// Errors: those of `serve` and `serve_peer`: `Read` and `Write` where a call of the reader or the writer failed (its `faults`
+/// Errors: `Read` and `Write` where a call of the reader or the writer failed (its `faults`
 /// rose, and it rises nowhere else), `TooLong` of a client alone, `OutOfMemory` where memory was wanting and the message that
 /// tells it could not be made either.
-pub fn serve_either<R: Read, W: Write, C: Clock, A: Archive>(
+pub fn serve<R: Read, W: Write, C: Clock, A: Archive>(
     alloc: Global,
     settings: &Settings,
     replica: &mut Replica<A>,
     reader: &mut Counted<R>,
     writer: &mut Counted<W>,
     clock: &mut C,
-) -> Result<Ended, ServeFault>
+) -> Result<Served, ServeFault>
     ensures serves { (used : Outside) × C.gave clock.old used.readings clock.new
         × ServesEither settings.now (A.state replica.old.archive) (A.state replica.new.archive) (R.remaining reader.old.inner) (R.remaining reader.new.inner) (W.contents writer.old.inner) (W.contents writer.new.inner) used result }
     ensures read { IsErrOf result ServeFault.Read → reader.new.faults ≡ counted reader.old.faults }

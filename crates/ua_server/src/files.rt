@@ -1,7 +1,8 @@
 //! Settings files.
 
-ghost use Rattle.std.specs.Prelude.{◌≡◌, ◌≤◌, ℕ, List, Option, IfSome, length, option_map, option_copied, string_bytes};
-ghost use Rattle.ua_server.specs.Program.{IsSetIn, SettingsAt};
+ghost use Rattle.std.specs.Prelude.{◌≡◌, ℕ, List, Option, IfSome, option_map, option_copied, string_bytes};
+ghost use Rattle.toml.specs.Parse.{parse_document};
+ghost use Rattle.ua_server.specs.Program.{IsSetIn, SettingsAt, TellsPlace};
 ghost use Rattle.ua_server.specs.Parts.{IsBare, IsPlace};
 
 use crate::program::ProgramFault;
@@ -36,12 +37,15 @@ fn bare_settings(alloc: Global) -> Result<Settings, ProgramFault>
 
 /// Where a text is refused, in at most 180 bytes; none where memory is wanting.
 fn place_in(alloc: Global, text: &str) -> Option<Text>
-    ensures { IfSome result (λ told. length told ≤ 180) }
+    ensures { IfSome result (TellsPlace (parse_document text.now)) }
 {
     let Ok(place) = Place::of(alloc, text) else {
         return None;
     };
-    let told = InlineText::<MOST_PLACE>::of(&place);
+    let Ok(whole) = place.text(alloc) else {
+        return None;
+    };
+    let told = InlineText::<MOST_PLACE>::new().and_str(whole.as_str(), MOST_PLACE);
     match Text::from_str(alloc, told.as_str()) {
         Ok(told) => Some(told),
         Err(_) => None,
@@ -50,7 +54,7 @@ fn place_in(alloc: Global, text: &str) -> Option<Text>
 
 /// Where a text is refused by this fault, in at most 180 bytes; none where memory is wanting.
 fn place_of(alloc: Global, fault: SettingsFault, text: &str) -> Option<Text>
-    ensures { IsPlace fault result }
+    ensures { IsPlace text.now fault result }
 {
     match fault {
         SettingsFault::OutOfMemory => None,

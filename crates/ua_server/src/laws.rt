@@ -5,13 +5,12 @@ ghost use Rattle.records.specs.Lists.{Has};
 ghost use Rattle.records.specs.Contents.{Content};
 ghost use Rattle.records.specs.Spelling.{IsLawfulRecord};
 ghost use Rattle.records.specs.declared.record.Record.{Record};
-ghost use Rattle.archive.specs.Store.{Rests};
+ghost use Rattle.archive.specs.Store.{Rests, IsLeft};
 ghost use Rattle.exchange.specs.Worlds.{World, Site as Replica, Event, IsSite, IsUpdated, AreUpdates, run};
 ghost use Rattle.ua_settings.specs.Settings.{Values};
 ghost use Rattle.ua_connection.specs.Given.{Outside};
 ghost use Rattle.ua_connection.specs.Serving.{ServesBehind};
 ghost use Rattle.ua_connection.specs.Client.{Ending};
-ghost use Rattle.ua_peers.specs.Events.{IsLeft};
 
 use archive::Archive;
 

@@ -5,24 +5,27 @@ mod connections;
 mod dumps;
 mod either;
 mod files;
+mod hexed;
 mod laws;
 mod network;
 mod program;
+mod single;
 mod stores;
 
 pub use command_line::{Line, LineFault, read_line};
 pub use connections::serve_connections;
 pub use counted_io::{Counted, ServeFault};
 pub use dumps::{DumpFault, dump};
-pub use either::{Ended, serve_either};
+pub use either::{Served, serve};
 pub use files::SettingsFiles;
+pub use hexed::{HexFault, answer_hex};
 pub use laws::connections_are_updates;
 pub use network::{Listener, Network};
 pub use program::{ProgramFault, report, run};
+pub use single::answer_at;
 pub use stores::Stores;
 pub use ua_connection::{
-    Clock, ConstantClock, HexFault, MOST_CHUNKS, Served, SystemClock, answer_hex,
-    answers_go_item_by_item, chunks_are_counted, serve,
+    Clock, ConstantClock, MOST_CHUNKS, SystemClock, answers_go_item_by_item, chunks_are_counted,
 };
 pub use ua_peers::{
     Parted, SyncFault, Synced, a_call_that_ends_joins, calls_are_exchanges, dialogs_are_deliveries,

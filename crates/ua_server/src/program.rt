@@ -1,14 +1,13 @@
 //! The program, over any reader and writers.
 
-ghost use Rattle.std.specs.Prelude.{◌≡◌, ◌+◌, ℕ, ℤ, List, [], ◌∷◌, ◌++◌, IfOk, IfErr, OnOk, OnErr, IsErrOf, map, codes, option_copied, string_bytes, None};
-ghost use Rattle.archive.specs.Fault.{store_number};
-ghost use Rattle.ua_settings.specs.Fault.{number_of};
+ghost use Rattle.std.specs.Prelude.{◌≡◌, ◌≤◌, ℕ, ℤ, List, [], ◌∷◌, ◌++◌, IfOk, IfErr, OnOk, OnErr, IsErrOf, map, codes, option_copied, string_bytes, None, length};
+ghost use Rattle.std.specs.Fmt.InlineText.{inline_text};
 ghost use Rattle.std.specs.Result.{result_map_both};
 ghost use Rattle.std.specs.Io.KnownBytes.{Appends};
 ghost use Rattle.counted_io.specs.Bytes.{counted, AppendsPart};
 ghost use Rattle.ua_connection.specs.Given.{Outside};
-ghost use Rattle.ua_connection.specs.Single.{AnswersAt};
-ghost use Rattle.ua_server.specs.Telling.{status_of, IsTold, numbered, connection_text, exchange_text, told_line, error_lines, synced_line};
+ghost use Rattle.ua_server.specs.Single.{AnswersAt};
+ghost use Rattle.ua_server.specs.Telling.{status_of, IsTold, text_of, numbered, told_line, error_lines, synced_line};
 ghost use Rattle.ua_server.specs.Program.{OpensArchive, PrintsSynced, CallsPeer, DoesLine, Runs};
 ghost use Rattle.ua_server.specs.Parts.{fault_of, dump_fault, sync_fault, AnswersBy, ServesBy, DumpsBy, SyncsBy, place_line};
 ghost use Rattle.ua_server.specs.Dumping.{Dumps};
@@ -20,21 +19,24 @@ ghost use Rattle.command_line.specs.Line.{uahist};
 use crate::connections::serve_at;
 use crate::dumps::{DumpFault, dump};
 use crate::files::{SettingsFiles, settings_at};
+use crate::hexed::HexFault;
 use crate::network::Network;
+use crate::single::answer_at;
 use crate::stores::Stores;
 use archive::{Archive, StoreFault};
 use command_line::{Line, LineFault, read_line};
 use counted_io::{Counted, ServeFault};
 use exchange::{ExchangeFault, Replica};
+use itoa::Buffer;
 use std::alloc::{AllocError, Global};
 use std::convert::AsStr;
 use std::error::Error;
 use std::fmt;
-use std::fmt::Write as _;
+use std::fmt::{InlineText, Write as _};
 use std::io::{Read, Write};
 use std::net::SocketAddr;
 use ua_binary::Text;
-use ua_connection::{Clock, HexFault, answer_at};
+use ua_connection::Clock;
 use ua_peers::{SyncFault, Synced, sync};
 use ua_settings::{Settings, SettingsFault};
 
@@ -65,22 +67,40 @@ pub enum ProgramFault {
 
 impl ProgramFault {
     ghost use Rattle.ua_server.specs.declared.program.ProgramFault.TheVariants as told;
-    ghost use Rattle.ua_server.specs.Telling.{text_of};
+    ghost use Rattle.ua_server.specs.Telling.{words_of, number_told};
 
-    /// The text that tells it: of settings and of a connection the number of the fault.
-    pub fn text(&self) -> &'static str
-        ensures { result.now ≡ text_of self.now }
+    /// What is said of it, without its number.
+    pub fn words(&self) -> &'static str
+        ensures { result.now ≡ words_of self.now }
     {
         match self {
             ProgramFault::Line(fault) => fault.text(),
             ProgramFault::File => "settings file can't be read",
-            ProgramFault::Settings(fault, _) => refusal_text(*fault),
-            ProgramFault::Store(fault) => store_text(*fault),
+            ProgramFault::Settings(..) => "settings refused",
+            ProgramFault::Store(_) => "store refused",
             ProgramFault::BadHex => "bad hex",
             ProgramFault::Address => "address refused",
-            ProgramFault::Connection(fault) | ProgramFault::Call(fault) => connection_text(*fault),
-            ProgramFault::Exchange(fault) => exchange_text(u32::from(fault.number())),
-            ProgramFault::Peer(number) => exchange_text(*number),
+            ProgramFault::Connection(_) | ProgramFault::Call(_) => "connection ended",
+            ProgramFault::Exchange(_) | ProgramFault::Peer(_) => "exchange ended",
+        }
+    }
+
+    /// Its number, if it has one.
+    pub fn number(&self) -> Option<u32>
+        ensures { result ≡ number_told self.now }
+    {
+        match self {
+            ProgramFault::Settings(fault, _) => Some(u32::from(fault.number())),
+            ProgramFault::Store(fault) => Some(u32::from(fault.number())),
+            ProgramFault::Connection(fault) | ProgramFault::Call(fault) => {
+                Some(u32::from(fault.number()))
+            }
+            ProgramFault::Exchange(fault) => Some(u32::from(fault.number())),
+            ProgramFault::Peer(number) => Some(*number),
+            ProgramFault::Line(_)
+            | ProgramFault::File
+            | ProgramFault::BadHex
+            | ProgramFault::Address => None,
         }
     }
 
@@ -104,62 +124,6 @@ impl ProgramFault {
     }
 }
 
-/// The text that tells a fault of the settings, with its number.
-fn refusal_text(fault: SettingsFault) -> &'static str
-    ensures { result.now ≡ numbered (codes "settings refused") (number_of fault) }
-{
-    match fault {
-        SettingsFault::NotToml => "settings refused (1)",
-        SettingsFault::MissingKey => "settings refused (2)",
-        SettingsFault::BadValue => "settings refused (3)",
-        SettingsFault::UnknownKey => "settings refused (4)",
-        SettingsFault::Space(_) => "settings refused (5)",
-        SettingsFault::OutOfMemory => "settings refused (6)",
-    }
-}
-
-/// The text that tells a store that can't be opened or read, with the number of the fault.
-fn store_text(fault: StoreFault) -> &'static str
-    ensures { result.now ≡ numbered (codes "store refused") (store_number fault) }
-{
-    match fault {
-        StoreFault::OutOfMemory => "store refused (1)",
-        StoreFault::Refused => "store refused (2)",
-        StoreFault::WrongReplica => "store refused (3)",
-        StoreFault::WrongArchive => "store refused (4)",
-        StoreFault::Broken => "store refused (5)",
-    }
-}
-
-/// The text that tells a fault of a connection, with its number.
-fn connection_text(fault: ServeFault) -> &'static str
-    ensures { result.now ≡ connection_text fault }
-{
-    match fault {
-        ServeFault::Read => "connection ended (1)",
-        ServeFault::Write => "connection ended (2)",
-        ServeFault::TooLong => "connection ended (3)",
-        ServeFault::OutOfMemory => "connection ended (4)",
-    }
-}
-
-/// The text that tells why an exchange ended, by its number.
-fn exchange_text(number: u32) -> &'static str
-    ensures { result.now ≡ exchange_text number }
-{
-    match number {
-        1 => "exchange ended (1)",
-        2 => "exchange ended (2)",
-        3 => "exchange ended (3)",
-        4 => "exchange ended (4)",
-        5 => "exchange ended (5)",
-        6 => "exchange ended (6)",
-        7 => "exchange ended (7)",
-        8 => "exchange ended (8)",
-        _ => "exchange ended by the peer",
-    }
-}
-
 impl fmt::Display for ProgramFault {
     ghost use Rattle.std.specs.Prelude.{Some};
     ghost use Rattle.ua_server.specs.Telling.{text_of};
@@ -167,7 +131,11 @@ impl fmt::Display for ProgramFault {
     ghost output = { λ fault. Some (text_of fault) };
 
     fn fmt<W: fmt::Write>(&self, f: &mut fmt::Formatter<W>) -> fmt::Result {
-        f.write_str(self.text())
+        f.write_str(self.words())?;
+        match self.number() {
+            None => Ok(()),
+            Some(number) => write!(f, " ({number})"),
+        }
     }
 }
 
@@ -193,11 +161,11 @@ fn open_archive<D: Stores>(settings: &Settings, stores: &mut D) -> Result<D::Kep
     }
 }
 
-/// Answers one connection over an archive, as the program tells it.
+/// Answers one connection over a replica, as the program tells it.
 fn answer_over<A: Archive, R: Read, W: Write, C: Clock>(
     alloc: Global,
     settings: &Settings,
-    archive: &mut A,
+    replica: &mut Replica<A>,
     hex: bool,
     now: Option<i64>,
     input: &mut Counted<R>,
@@ -207,9 +175,9 @@ fn answer_over<A: Archive, R: Read, W: Write, C: Clock>(
     ensures read { IsErrOf result (ProgramFault.Connection ServeFault.Read) → input.new.faults ≡ counted input.old.faults }
     ensures write { IsErrOf result (ProgramFault.Connection ServeFault.Write) → output.new.faults ≡ counted output.old.faults }
     ensures does { (used : Outside) × C.gave clock.old used.readings clock.new × (answered : _)
-        × AnswersAt settings.now (A.state archive.old) (A.state archive.new) hex now (R.remaining input.old.inner) (R.remaining input.new.inner) (W.contents output.old.inner) (W.contents output.new.inner) used answered × (result ≡ result_map_both (λ done. done) fault_of answered) }
+        × AnswersAt settings.now (A.state replica.old.archive) (A.state replica.new.archive) hex now (R.remaining input.old.inner) (R.remaining input.new.inner) (W.contents output.old.inner) (W.contents output.new.inner) used answered × (result ≡ result_map_both (λ done. done) fault_of answered) }
 {
-    match answer_at(alloc, settings, archive, hex, now, input, output, clock) {
+    match answer_at(alloc, settings, replica, hex, now, input, output, clock) {
         Ok(()) => Ok(()),
         Err(fault) => Err(fault_of(fault)),
     }
@@ -237,10 +205,10 @@ fn answer_by<F: SettingsFiles, D: Stores, R: Read, W: Write, C: Clock>(
         Err(fault) => return Err(fault),
     };
     match open_archive(&settings, stores) {
-        Ok(mut archive) => answer_over(
+        Ok(archive) => answer_over(
             alloc,
             &settings,
-            &mut archive,
+            &mut Replica { archive },
             hex,
             now,
             input,
@@ -572,10 +540,39 @@ fn tell_fault<W: Write>(fault: &ProgramFault, errors: &mut Counted<W>) -> Result
     ensures part { OnErr result (AppendsPart (W.contents errors.old.inner) (W.contents errors.new.inner) (error_lines fault.now)) }
     ensures write { OnErr result (errors.new.faults ≡ counted errors.old.faults) }
 {
-    match tell(fault.text().as_bytes(), errors) {
+    match tell_text(fault, errors) {
         Ok(()) => tell_place(fault.place(), errors),
         Err(cause) => Err(cause),
     }
+}
+
+/// Writes the line that says what went wrong.
+fn tell_text<W: Write>(fault: &ProgramFault, errors: &mut Counted<W>) -> Result<(), ServeFault>
+    ensures ok { OnOk result (Appends (W.contents errors.old.inner) (W.contents errors.new.inner) (told_line (text_of fault.now))) }
+    ensures kept { OnOk result (errors.new.faults ≡ errors.old.faults) }
+    ensures part { OnErr result (AppendsPart (W.contents errors.old.inner) (W.contents errors.new.inner) (told_line (text_of fault.now))) }
+    ensures write { OnErr result (errors.new.faults ≡ counted errors.old.faults) }
+{
+    match fault.number() {
+        None => tell(fault.words().as_bytes(), errors),
+        Some(number) => tell(numbered(fault.words(), number).as_str().as_bytes(), errors),
+    }
+}
+
+/// The most bytes of words that have a number, and of such a number.
+const MOST_WORDS: usize = 40;
+
+/// Words, and a number in brackets behind them.
+fn numbered(words: &str, number: u32) -> InlineText<100>
+    requires { length words.now ≤ 40 }
+    ensures { inline_text result ≡ numbered words.now number }
+{
+    let mut digits = Buffer::new();
+    InlineText::new()
+        .and_str(words, MOST_WORDS)
+        .and_str(" (", 2)
+        .and_str(digits.format(number), MOST_WORDS)
+        .and_str(")", 1)
 }
 
 /// Writes a line that begins with `uahist: `, unless there is nothing to tell.

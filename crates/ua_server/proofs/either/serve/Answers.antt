@@ -1,16 +1,15 @@
 use Rattle.std.proofs.Common.{◌≡◌, ◌∙◌, Err, take, sym, inl, inr}
 use Rattle.counted_io.specs.declared.fault.ServeFault.TheVariants.{Read}
-use Rattle.ua_server.specs.Either.{is_peers}
-use Rattle.ua_server.proofs.EitherParts.{Ends}
+use Rattle.ua_server.specs.Either.{is_peers, Ending}
 use Rattle.ua_connection.proofs.Outsides.{nothing}
 use Rattle.ua_server.proofs.Firsts.{are-first, breaks-off, goes-as-peer, goes-as-client}
-use Rattle.ua_server.proofs.either.serve_either.Goals as goal
+use Rattle.ua_server.proofs.either.serve.Goals as goal
 
 pub returns-in-Err-clause-serves : goal.returns-in-Err-clause-serves
 returns-in-Err-clause-serves g c =
     let left = g.R.Read.remaining in
     let fault = c.in-Err.ensures.fault.0 in
-    let ends : ◌≡◌ {A = Ends} (Err c.in-Err.fault) (Err Read) = cc fault in (
+    let ends : ◌≡◌ {A = Ending} (Err c.in-Err.fault) (Err Read) = cc fault in (
       nothing,
       g.met.C.Clock.gave_none c.args.clock.now,
       inl (breaks-off (g.A.Archive.state c.args.replica.now.archive) (left c.args.reader.now.inner) (left c.read_first.new.reader.inner) (g.W.Write.contents c.args.writer.now.inner) (Err c.in-Err.fault) c.in-Err.ensures.broken ends),
