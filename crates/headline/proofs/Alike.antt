@@ -1,6 +1,9 @@
 -- Replicas that have learned the same answer alike.
-use Rattle.std.proofs.Common.{◌≡◌, ℕ, List, [], ◌∷◌, map, Option, Some, Result, Ok, Err, refl, sym, ap, ◌∙◌, subst, inl, inr}
-use Rattle.std.specs.List.{AllByRecursion}
+use Rattle.std.proofs.Common.{◌≡◌, ℕ, true, false, List, [], ◌∷◌, ◌++◌, map, Option, Some, Result, Ok, Err, refl, sym, ap, ◌∙◌, subst, inl, inr}
+use Rattle.std.specs.Prelude.{◌||◌}
+use Rattle.std.specs.List.{AllByRecursion, list_any}
+use Rattle.std.proofs.Math.Bool.{or-false}
+use Rattle.std.proofs.lemmas.Bool.{cases_Bool, true≢false}
 use Rattle.std.proofs.lemmas.Option.{none-some, same_Some}
 use Rattle.ua_binary.specs.declared.values.NodeId.{NodeId}
 use Rattle.ua_binary.specs.declared.codes.Status.{Status}
@@ -8,8 +11,9 @@ use Rattle.ua_services.specs.declared.history.HistoryReadResult.{HistoryReadResu
 use Rattle.records.specs.Contents.{Content}
 use Rattle.archive.specs.declared.fault.StoreFault.{StoreFault}
 use Rattle.archive.specs.declared.fault.StoreFault.TheVariants as store
-use Rattle.archive.specs.Store.{Store, Mark, Fine, Starved, Met}
+use Rattle.archive.specs.Store.{Store, Mark, Fine, Starved, Stands, Met, faults_of, is_break, IsLeft}
 use Rattle.archive.specs.Steps.{Does}
+use Rattle.archive.proofs.Acting.{left-alone, found-faults}
 use Rattle.hist_read.specs.declared.query.Query.{Query}
 use Rattle.hist_read.specs.Node.{Behind, judged, page_from, read_node}
 use Rattle.hist_read.proofs.NodeParts.{read_from, told}
@@ -64,6 +68,10 @@ same_turns s t node query point pages others id content a b c d =
 
 -- ---- archives
 
+-- a step more would be left
+none_left : (mark : Mark) (used : List Mark) → (mark ∷ used) ++ [] ≡ [] → ⊥
+none_left mark used e = cc
+
 -- what a fault is told as
 hindered : (answer : HistoryReadResult) (fault : StoreFault) → IsFree (told answer (Met fault)) → ⊥
 hindered answer store.OutOfMemory free = free.memory refl
@@ -76,6 +84,9 @@ module _ (id : List ℕ) (node : NodeId) (query : Query) (R S : Content) (one : 
   abbrev first_of : (HistoryReadResult × Content) × List Mark → HistoryReadResult
   first_of x = x.0.0
 
+  abbrev left_of : (HistoryReadResult × Content) × List Mark → List Mark
+  left_of x = x.1
+
   by_marks : (j : Result (Option Behind) Status) (used : List Mark) → Does (read_from id node query R j) used (one, S) → IsFree one → one ≡ (read_from id node query R j []).0.0
   by_marks (Err status) used does free = ap first_of (sym (does.does []))
   by_marks (Ok behind) [] does free = ap first_of (sym (does.does []))
@@ -83,16 +94,59 @@ module _ (id : List ℕ) (node : NodeId) (query : Query) (R S : Content) (one : 
   by_marks (Ok behind) (Starved ∷ used) does free =
       let e : one ≡ told (page_from R id node query behind) Starved = ap first_of (sym (does.does [])) in
       absurd ((subst IsFree e free).memory refl)
+  by_marks (Ok behind) (Stands ∷ used) does free =
+      let e : one ≡ told (page_from R id node query behind) Stands = ap first_of (sym (does.does [])) in
+      absurd ((subst IsFree e free).store refl)
   by_marks (Ok behind) (Met fault ∷ used) does free =
       let e : one ≡ told (page_from R id node query behind) (Met fault) = ap first_of (sym (does.does [])) in
       absurd (hindered (page_from R id node query behind) fault (subst IsFree e free))
 
+  -- no fault of the store came in its way
+  no_fault : (j : Result (Option Behind) Status) (used : List Mark) → Does (read_from id node query R j) used (one, S) → IsFree one → faults_of used ≡ []
+  no_fault (Err status) [] does free = refl
+  no_fault (Err status) (mark ∷ used) does free = absurd (none_left mark used (ap left_of (does.does [])))
+  no_fault (Ok behind) [] does free = refl
+  no_fault (Ok behind) (Fine ∷ []) does free = refl
+  no_fault (Ok behind) (Fine ∷ mark ∷ used) does free = absurd (none_left mark used (ap left_of (does.does [])))
+  no_fault (Ok behind) (Starved ∷ used) does free =
+      let e : one ≡ told (page_from R id node query behind) Starved = ap first_of (sym (does.does [])) in
+      absurd ((subst IsFree e free).memory refl)
+  no_fault (Ok behind) (Stands ∷ used) does free =
+      let e : one ≡ told (page_from R id node query behind) Stands = ap first_of (sym (does.does [])) in
+      absurd ((subst IsFree e free).store refl)
+  no_fault (Ok behind) (Met fault ∷ used) does free =
+      let e : one ≡ told (page_from R id node query behind) (Met fault) = ap first_of (sym (does.does [])) in
+      absurd (hindered (page_from R id node query behind) fault (subst IsFree e free))
+
+-- what an archive in use is left with is what its replica holds
+in_site : (a : Store) (s : Site) (R : Content) → IsReplicaOf a s → IsLeft a R → R ≡ s.content
+in_site a s R is left = left-alone a R is.used.rests is.used.honest is.used.whole left ∙ is.content
+
+-- an answer that reports nothing leaves the store in use
+free_in_use : (s : Site) (a c : Store) (node : NodeId) (query : Query) (point : Option (List ℕ)) (one : HistoryReadResult) → IsReplicaOf a s → c.honest → IsAnswered a c node query point one → IsFree one
+    → c.broken ≡ false
+free_in_use s a c node query point one is honest answered free = elim (cases_Bool c.broken) [
+  | inl broken ↦ absurd (answered.1.there (λ h none. none a.content (inl (is.used.whole, refl))) honest (λ S left. unbroken broken S left))
+  | inr whole ↦ whole
+]
+  where
+    unbroken : c.broken ≡ true → (S : Content) → IsLeft c S → ⊥
+    unbroken broken S left =
+        let found = answered.1.acts honest S left in
+        let none : faults_of found.0 ≡ [] = no_fault a.id node query found.2 S one (judged a.id node query.details point) found.0 found.4 free in
+        let quiet : faults_of answered.0 ≡ [] = sym (found-faults a.broken answered.0 found.0 found.1) ∙ none in
+        let used : c.broken ≡ false =
+        answered.1.passes.broken ∙ (ap (λ (fs : List StoreFault). a.broken || list_any is_break fs) quiet ∙ (or-false a.broken ∙ is.used.whole)) in
+        true≢false (sym broken ∙ used)
+
 pub answered_so : (s : Site) (a c : Store) (node : NodeId) (query : Query) (point : Option (List ℕ)) (one : HistoryReadResult) → IsReplicaOf a s → c.honest → IsAnswered a c node query point one → IsFree one
     → one ≡ answer_of query s node point
 answered_so s a c node query point one is honest answered free =
-    let found = answered.1.acts honest s.content is.content in
-    by_marks s.id node query s.content found.0 one (judged s.id node query.details point) answered.0
-    (subst (λ i. Does (read_node i node query point s.content) answered.0 (one, found.0)) is.id found.1) free
+    let found = answered.1.acts honest c.content (inl (free_in_use s a c node query point one is honest answered free, refl)) in
+    let same : found.2 ≡ s.content = in_site a s found.2 is found.3 in
+    let does : Does (read_node s.id node query point s.content) found.0 (one, c.content) =
+    subst (λ i. Does (read_node i node query point s.content) found.0 (one, c.content)) is.id (subst (λ R. Does (read_node a.id node query point R) found.0 (one, c.content)) same found.4) in
+    by_marks s.id node query s.content c.content one (judged s.id node query.details point) found.0 does free
 
 pub answered_alike : (p : Past) (s t : Site) (a c b d : Store) (node : NodeId) (query : Query) (point : Option (List ℕ)) (one other : HistoryReadResult) → IsPast p → Was p s → Was p t → HaveLearnedSame s t
     → IsReplicaOf a s → IsReplicaOf b t → c.honest → d.honest → IsAnswered a c node query point one → IsAnswered b d node query point other → IsFree one → IsFree other → one ≡ other

@@ -1,8 +1,10 @@
 pub mod Times
 pub mod Alike
+pub mod Messages
 pub mod Updates
 pub mod Shown
 pub mod Paging
 pub mod Merging
 pub mod Machines
+pub mod Witnesses
 pub mod Told

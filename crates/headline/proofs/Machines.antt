@@ -12,9 +12,10 @@ use Rattle.records.specs.Lists.{Has}
 use Rattle.records.specs.Contents.{Content, vec}
 use Rattle.records.specs.Spelling.{IsLawfulRecord}
 use Rattle.records.specs.declared.record.Record.{Record}
-use Rattle.archive.specs.Store.{Store, IsSettled, HasContent}
+use Rattle.archive.specs.Store.{Store, IsSettled, IsLeft}
+use Rattle.archive.proofs.Acting.{left-alone}
 use Rattle.hist_read.specs.declared.query.Query.{Query}
-use Rattle.exchange.specs.Dialogs.{party_of, IsHeld}
+use Rattle.exchange.specs.Dialogs.{party_of}
 use Rattle.exchange.specs.Meetings.{CanMeet}
 use Rattle.exchange.specs.Running.{AreSites, IsSiteOf}
 use Rattle.exchange.specs.Worlds as worlds
@@ -25,9 +26,9 @@ use Rattle.exchange.proofs.ConverseLemmas.{IsParty}
 use Rattle.ua_peers.specs.Events.{IsExchange, AreExchanges}
 use Rattle.ua_server.proofs.Updated.{updates_made}
 use Rattle.ua_peers.proofs.Exchanged.{run_append, exchanged, ends_kept}
-use Rattle.headline.specs.Pasts.{IsLawfulEvent, Past, IsPast, world_at, IsAt, Was, HaveLearnedSame}
-use Rattle.headline.specs.Answers.{IsReplicaOf, IsAnswered, IsFree}
-use Rattle.headline.specs.Machines.{IsInUse, GoesOnAs, IsMachine, AreInUse, AreNew, AreOf, GoOn, Serves, Meet, Restarts}
+use Rattle.headline.specs.Pasts.{IsLawfulEvent, Past, IsPast, world_at, IsAt, Was, HaveLearnedSame, IsBeginning}
+use Rattle.headline.specs.Answers.{IsInUse, IsReplicaOf, IsAnswered, IsFree}
+use Rattle.headline.specs.Machines.{GoesOnAs, IsMachine, AreInUse, AreNew, AreOf, GoOn, Serves, Meet, Restarts}
 use Rattle.headline.proofs.Times.{sound_at, replica_at, learned_even}
 use Rattle.headline.proofs.Alike.{answered_alike}
 
@@ -51,7 +52,7 @@ get_map f [] i y e = absurd (none-some y e)
 get_map f (x ∷ xs) zero y e = (x, refl, sym (same_Some _ _ e))
 get_map f (x ∷ xs) (suc i) y e = get_map f xs i y e
 
-all_there : {X : Type 0} (P : X → Type 0) (xs : List X) (i : ℕ) (x : X) → AllByRecursion P xs → slice_get xs i ≡ Some x → P x
+pub all_there : {X : Type 0} (P : X → Type 0) (xs : List X) (i : ℕ) (x : X) → AllByRecursion P xs → slice_get xs i ≡ Some x → P x
 all_there P [] i x all e = absurd (none-some x e)
 all_there P (y ∷ xs) zero x all e = subst P (same_Some _ _ e) all.0
 all_there P (y ∷ xs) (suc i) x all e = all_there P xs i x all.1 e
@@ -84,29 +85,45 @@ exchanges_lawful i j (e ∷ es) are = (elim are.0 [ inl h ↦ exchange_lawful i 
 settled : (a : Store) → IsInUse a → IsSettled a
 settled a used = used.rests used.honest used.whole
 
--- it holds what its store does
-held_by : (a : Store) (R : Content) → IsInUse a → IsHeld a R → HasContent a R
-held_by a R used held = record { content = held; found = λ left may. inl ((settled a used).only left may ∙ held used.whole) }
+-- it is left with what it holds
+held_by : (a : Store) (R : Content) → IsInUse a → a.content ≡ R → IsLeft a R
+held_by a R used held = inl (used.whole, held)
 
-lawful_in : (a : Store) (R : Content) → IsInUse a → HasContent a R → (r : Record) → Has R r → IsLawfulRecord r
-lawful_in a R used has r h = (settled a used).lawful.records r (subst (λ (S : Content). Has S r) (sym (has.content used.whole)) h)
+-- and it holds what its replica does
+in_site : (a : Store) (s : Site) → IsInUse a → IsSiteOf a s → a.content ≡ s.content
+in_site a s used is = sym (left-alone a s.content used.rests used.honest used.whole is.content)
 
 -- the end of a past is a time of it
-ends_at : (p : Past) → world_at p (length p.events) ≡ run p.events p.start
+pub ends_at : (p : Past) → world_at p (length p.events) ≡ run p.events p.start
 ends_at p = ap (λ (l : List Event). run l p.start) (take_all (length p.events) p.events (omega arith))
 
 module _ {A : Type 0} (state : A → Store) where
   -- ---- the beginning
 
-  abbrev first_site : A → Site
+  abbrev pub first_site : A → Site
   first_site a = record { id = (state a).id; number = (state a).own; content = [] }
 
   first_sites : (machines : List A) → AreInUse state machines → AllByRecursion (λ a. (state a).content ≡ []) machines → AreSites state machines (map first_site machines)
   first_sites [] used empty = tt
-  first_sites (a ∷ machines) used empty = (record { id = refl; number = refl; content = held_by (state a) [] used.0 (λ u. empty.0) }, first_sites machines used.1 empty.1)
+  first_sites (a ∷ machines) used empty = (record { id = refl; number = refl; content = held_by (state a) [] used.0 empty.0 }, first_sites machines used.1 empty.1)
 
-  abbrev first_world : List A → World
+  abbrev pub first_world : List A → World
   first_world machines = record { sites = map first_site machines; pool = [] }
+
+  pub beginning : (machines : List A) → AreNew state machines → IsBeginning (first_world machines)
+  beginning machines new = record {
+    replicas = λ i s at.
+        let a = get_map first_site machines i s at in
+        let is = all_there (λ a. IsReplica (state a).own × (length (state a).id ≡ 16)) machines i a.0 new.replicas a.1 in
+        subst (λ (x : Site). IsReplica x.number × (length x.id ≡ 16) × (x.content ≡ [])) (sym a.2) (is.0, is.1, refl);
+    together = λ i j s t at to.
+        let a = get_map first_site machines i s at in
+        let b = get_map first_site machines j t to in (
+          ap (λ (x : Site). x.id) a.2 ∙ (new.one i j a.0 b.0 a.1 b.1 ∙ ap (λ (x : Site). x.id) (sym b.2)),
+          λ e. new.apart i j a.0 b.0 a.1 b.1 (ap (λ (x : Site). x.number) (sym a.2) ∙ (e ∙ ap (λ (x : Site). x.number) b.2)),
+        );
+    pool = refl;
+  }
 
   pub begun : (machines : List A) → AreNew state machines → (p : Past) × (p.events ≡ []) × AreOf state p machines
   begun machines new = (
@@ -114,19 +131,7 @@ module _ {A : Type 0} (state : A → Store) where
     refl,
     record {
       past = record {
-        begins = record {
-          replicas = λ i s at.
-              let a = get_map first_site machines i s at in
-              let is = all_there (λ a. IsReplica (state a).own × (length (state a).id ≡ 16)) machines i a.0 new.replicas a.1 in
-              subst (λ (x : Site). IsReplica x.number × (length x.id ≡ 16) × (x.content ≡ [])) (sym a.2) (is.0, is.1, refl);
-          together = λ i j s t at to.
-              let a = get_map first_site machines i s at in
-              let b = get_map first_site machines j t to in (
-                ap (λ (x : Site). x.id) a.2 ∙ (new.one i j a.0 b.0 a.1 b.1 ∙ ap (λ (x : Site). x.id) (sym b.2)),
-                λ e. new.apart i j a.0 b.0 a.1 b.1 (ap (λ (x : Site). x.number) (sym a.2) ∙ (e ∙ ap (λ (x : Site). x.number) b.2)),
-              );
-          pool = refl;
-        };
+        begins = beginning machines new;
         lawful = tt;
       };
       used = new.used;
@@ -150,7 +155,7 @@ module _ {A : Type 0} (state : A → Store) where
 
   -- a machine that goes on holds what its replica does
   goes_as : (left later : Store) (s : Site) → GoesOnAs left later → left.id ≡ s.id → left.own ≡ s.number → IsSiteOf later (record s { content = later.content })
-  goes_as left later s goes id own = record { id = goes.id ∙ id; number = goes.own ∙ own; content = held_by later later.content goes.used (λ u. refl) }
+  goes_as left later s goes id own = record { id = goes.id ∙ id; number = goes.own ∙ own; content = held_by later later.content goes.used refl }
 
   lawful_later : (a : Store) → IsInUse a → (r : Record) → Has a.content r → IsLawfulRecord r
   lawful_later a used r h = (settled a used).lawful.records r h
@@ -162,7 +167,7 @@ module _ {A : Type 0} (state : A → Store) where
       let s = site.0 in
       let used = all_there (λ a. IsInUse (state a)) old serves.place serves.before are.used serves.there in
       let made = updates_made serves.settings (state serves.before) (state serves.behind) serves.first serves.unread serves.left serves.written serves.after serves.given serves.ending serves.serves used.rests used.whole serves.honest
-      w serves.place s (state serves.later).content serves.goes.content (lawful_later (state serves.later) serves.goes.used) site.1 (sym site.2.number) (sym (site.2.content.content used.whole)) in
+      w serves.place s (state serves.later).content serves.goes.content (lawful_later (state serves.later) serves.goes.used) site.1 (sym site.2.number) (sym (in_site (state serves.before) s used site.2)) in
       let v = run made.0 w in
       let t : Site = record s { content = (state serves.later).content } in
       let sites : v.sites ≡ slice_set w.sites serves.place t = set_by w.sites v.sites serves.place s t site.1 made.2.here made.2.others in
@@ -185,8 +190,8 @@ module _ {A : Type 0} (state : A → Store) where
       let sound : IsSound w = subst IsSound (ends_at p) (sound_at p are.past (length p.events)) in
       let is = replica_at p (length p.events) i x.0 are.past (subst (λ (v : World). IsSite v i x.0) (sym (ends_at p)) x.1) in
       let is' = replica_at p (length p.events) j y.0 are.past (subst (λ (v : World). IsSite v j y.0) (sym (ends_at p)) y.1) in
-      let content : (state a).content ≡ x.0.content = x.2.content.content used.whole in
-      let content' : (state b).content ≡ y.0.content = y.2.content.content used'.whole in (
+      let content : (state a).content ≡ x.0.content = in_site (state a) x.0 used x.2 in
+      let content' : (state b).content ≡ y.0.content = in_site (state b) y.0 used' y.2 in (
         record {
           id = x.2.id ∙ (sound.one i j x.0 y.0 x.1 y.1 ∙ sym y.2.id);
           apart = λ e. other (sound.apart i j x.0 y.0 x.1 y.1 (sym x.2.number ∙ (e ∙ y.2.number)));
@@ -209,7 +214,7 @@ module _ {A : Type 0} (state : A → Store) where
       let A' = (state meet.later).content in
       let B' = (state meet.peer_later).content in
       let traded = exchanged (state meet.before) (state meet.behind) (state meet.peer_before) (state meet.peer_behind) w meet.caller meet.peer x.0 y.0 A' B' can.1 can.2 can.0 meet.honest.0 meet.honest.1 meet.ends meet.goes.content meet.peer_goes.content
-      meet.apart x.1 (sym (x.2.content.content used.whole)) y.1 (sym (y.2.content.content used'.whole)) in
+      meet.apart x.1 (sym (in_site (state meet.before) x.0 used x.2)) y.1 (sym (in_site (state meet.peer_before) y.0 used' y.2)) in
       let events = traded.0 in
       let to = traded.2 in
       let v = run events w in
@@ -237,9 +242,9 @@ module _ {A : Type 0} (state : A → Store) where
       let x = site_there state old w.sites restarts.place restarts.before are.hold restarts.there in
       let used = all_there (λ a. IsInUse (state a)) old restarts.place restarts.before are.used restarts.there in
       let left : (state restarts.later).content ≡ (state restarts.before).content = elim restarts.goes.content [ inl is ↦ sym is.1 | inr found ↦ (settled (state restarts.before) used).only (state restarts.later).content found ] in
-      let content : (state restarts.later).content ≡ x.0.content = left ∙ x.2.content.content used.whole in
+      let content : (state restarts.later).content ≡ x.0.content = left ∙ in_site (state restarts.before) x.0 used x.2 in
       let hold = sites_set state old w.sites restarts.place restarts.later x.0 are.hold
-      (record { id = restarts.goes.id ∙ x.2.id; number = restarts.goes.own ∙ x.2.number; content = held_by (state restarts.later) x.0.content restarts.goes.used (λ u. content) }) in
+      (record { id = restarts.goes.id ∙ x.2.id; number = restarts.goes.own ∙ x.2.number; content = held_by (state restarts.later) x.0.content restarts.goes.used content }) in
       subst (GoOn state p) (sym restarts.now)
       (goes_on p (slice_set old restarts.place restarts.later) (worlds.Restarts restarts.place ∷ []) are.past (all_set (λ a. IsInUse (state a)) old restarts.place restarts.later are.used restarts.goes.used) (tt, tt)
       (subst (AreSites state (slice_set old restarts.place restarts.later)) (set_same w.sites restarts.place x.0 x.1) hold))
@@ -251,7 +256,7 @@ module _ {A : Type 0} (state : A → Store) where
   replica_now p machines place a are at =
       let x = site_there state machines (run p.events p.start).sites place a are.hold at in
       let used = all_there (λ a. IsInUse (state a)) machines place a are.used at in
-      (x.0, subst (λ (v : World). IsSite v place x.0) (sym (ends_at p)) x.1, record { id = x.2.id; content = x.2.content }, x.2.number, x.2.content.content used.whole)
+      (x.0, subst (λ (v : World). IsSite v place x.0) (sym (ends_at p)) x.1, record { used = used; id = x.2.id; content = in_site (state a) x.0 used x.2 }, x.2.number, in_site (state a) x.0 used x.2)
 
   pub alike : (p : Past) (machines : List A) (i j : ℕ) (a b c d : A) (node : NodeId) (query : Query) (point : Option (List ℕ)) (one other : HistoryReadResult) → AreOf state p machines → IsMachine state machines i a → IsMachine state machines j b
       → ((origin : ℕ) → vec (state a).content origin ≡ vec (state b).content origin) → (state c).honest → (state d).honest

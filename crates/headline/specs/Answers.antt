@@ -1,11 +1,11 @@
 -- What replicas answer to reads of history.
-use Rattle.std.specs.Prelude.{◌≡◌, ◌⊎◌, ℕ, List, [], map, Option}
+use Rattle.std.specs.Prelude.{◌≡◌, ◌⊎◌, ℕ, false, List, [], map, Option}
 use Rattle.std.specs.List.{AllByRecursion}
 use Rattle.ua_binary.specs.declared.values.NodeId.{NodeId}
 use Rattle.ua_binary.specs.declared.codes.TheConstants.Status.{BAD_OUT_OF_MEMORY, BAD_RESOURCE_UNAVAILABLE}
 use Rattle.ua_services.specs.History.{history_fields, history_read_response}
 use Rattle.ua_services.specs.declared.history.HistoryReadResult.{HistoryReadResult}
-use Rattle.archive.specs.Store.{Store, Mark, HasContent}
+use Rattle.archive.specs.Store.{Store, Mark, Rests}
 use Rattle.archive.specs.Steps.{Acts}
 use Rattle.hist_read.specs.declared.query.Query.{Query}
 use Rattle.hist_read.specs.Node.{read_node}
@@ -35,10 +35,17 @@ AreFromEither s t pages = AllByRecursion (λ page. (page.content ≡ s.content) 
 
 -- ---- archives
 
--- the archive holds what a replica of a world does
+-- its store returned what was written to it, and isn't broken, and so what it holds is what an opening finds
+pub record IsInUse (a : Store) : Type 0 where
+  pub honest : a.honest
+  pub whole : a.broken ≡ false
+  pub rests : Rests a
+
+-- the archive is in use, and holds what a replica of a world does
 pub record IsReplicaOf (a : Store) (s : Site) : Type 0 where
+  pub used : IsInUse a
   pub id : a.id ≡ s.id
-  pub content : HasContent a s.content
+  pub content : a.content ≡ s.content
 
 -- an archive was read, and this was answered
 abbrev pub IsAnswered : Store → Store → NodeId → Query → Option (List ℕ) → HistoryReadResult → Type 0

@@ -1,5 +1,6 @@
 pub mod Pasts
 pub mod Answers
+pub mod Messages
 pub mod Readings
 pub mod Joins
 pub mod Machines

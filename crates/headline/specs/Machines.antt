@@ -1,22 +1,17 @@
 -- Machines: archives in use, what may be done to them over a network, and the pasts whose replicas hold what they do.
-use Rattle.std.specs.Prelude.{◌≡◌, ℕ, false, List, [], ◌++◌, length, slice_get, slice_set, Option, Some}
+use Rattle.std.specs.Prelude.{◌≡◌, ℕ, List, [], ◌++◌, length, slice_get, slice_set, Option, Some}
 use Rattle.std.specs.List.{AllByRecursion}
 use Rattle.stamp.specs.Limits.{IsReplica}
 use Rattle.ua_settings.specs.Settings.{Values}
-use Rattle.archive.specs.Store.{Store, Rests}
+use Rattle.archive.specs.Store.{Store, IsLeft}
 use Rattle.exchange.specs.Worlds.{Event, run}
 use Rattle.exchange.specs.Running.{AreSites}
 use Rattle.ua_connection.specs.Given.{Outside}
 use Rattle.ua_connection.specs.Client.{Ending}
 use Rattle.ua_connection.specs.Serving.{ServesBehind}
-use Rattle.ua_peers.specs.Events.{IsLeft, AreEnds}
+use Rattle.ua_peers.specs.Events.{AreEnds}
+use Rattle.headline.specs.Answers.{IsInUse}
 use Rattle.headline.specs.Pasts.{Past, IsPast}
-
--- its store returned what was written to it, and isn't broken, and so what it holds is what an opening finds
-pub record IsInUse (a : Store) : Type 0 where
-  pub honest : a.honest
-  pub whole : a.broken ≡ false
-  pub rests : Rests a
 
 -- what it goes on as: as it is, or its store was opened anew, since it broke, or the machine was stopped; it is the same replica, and holds what it is left with
 pub record GoesOnAs (left later : Store) : Type 0 where

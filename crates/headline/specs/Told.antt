@@ -1,5 +1,5 @@
 -- What the response to a HistoryUpdate tells, and what is held for it (Part 4, 5.11.5).
-use Rattle.std.specs.Prelude.{◌≡◌, ◌⊎◌, ℕ, List, [], ◌∷◌, map, slice_get, Some, Ok}
+use Rattle.std.specs.Prelude.{◌≡◌, ◌⊎◌, ℕ, Bool, List, [], ◌∷◌, map, slice_get, Some, Ok}
 use Rattle.ua_binary.specs.declared.codes.Status.{Status}
 use Rattle.ua_binary.specs.declared.values.NodeId.{NodeId}
 use Rattle.ua_binary.specs.declared.values.Ticks.{Ticks}
@@ -27,14 +27,18 @@ pub record IsHeldFor (own : ℕ) (space : Layout) (user : List ℕ) (now : Ticks
       → (node : NodeId) × (type : ValueType) × (operation : Operation) × (node_asked details ≡ Some node) × (type_asked space (Some node) ≡ Ok type) × (slice_get (operations_of type R details) k ≡ Some operation)
       × HasRecordOf R S (asked_for user now node) own operation
 
--- these details added what their result tells, over R: a record for each operation whose code is Good, one after the other, and nothing else; or they were refused, and added nothing
-abbrev pub AddsFrom : ℕ → Layout → List ℕ → Ticks → Content → Details → HistoryUpdateResult → Content → Type 0
-AddsFrom own space user now R details result S =
-    ((node : NodeId) × (type : ValueType) × (node_asked details ≡ Some node) × (type_asked space (Some node) ≡ Ok type) × AddsFor (asked_for user now node) own (operations_of type R details) result R S)
+-- these details added what their result tells, over R: a record for each operation whose code is Good, one
+-- after the other, and for one that broke the store where a record may stand behind a break, and nothing
+-- else; or they were refused, and added nothing
+abbrev pub AddsFrom : (may : Bool) → ℕ → Layout → List ℕ → Ticks → Content → Details → HistoryUpdateResult → Content → Type 0
+AddsFrom may own space user now R details result S =
+    ((node : NodeId) × (type : ValueType) × (node_asked details ≡ Some node) × (type_asked space (Some node) ≡ Ok type)
+    × AddsFor may (asked_for user now node) own (operations_of type R details) result R S)
     ⊎ ((result.operation_results ≡ []) × (S ≡ R))
 
 -- so did all of them, each behind those before it
-abbrev pub AddsAll : ℕ → Layout → List ℕ → Ticks → List Details → List HistoryUpdateResult → Content → Content → Type 0
-AddsAll own space user now [] results R S = (results ≡ []) × (S ≡ R)
-AddsAll own space user now (details ∷ more) [] R S = ⊥
-AddsAll own space user now (details ∷ more) (result ∷ results) R S = (T : Content) × AddsFrom own space user now R details result T × AddsAll own space user now more results T S
+abbrev pub AddsAll : (may : Bool) → ℕ → Layout → List ℕ → Ticks → List Details → List HistoryUpdateResult → Content → Content → Type 0
+AddsAll may own space user now [] results R S = (results ≡ []) × (S ≡ R)
+AddsAll may own space user now (details ∷ more) [] R S = ⊥
+AddsAll may own space user now (details ∷ more) (result ∷ results) R S =
+    (T : Content) × AddsFrom may own space user now R details result T × AddsAll may own space user now more results T S

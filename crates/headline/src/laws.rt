@@ -17,17 +17,18 @@ ghost use Rattle.records.specs.Contents.{Content, IsWithin, IsLatest, numbers_of
 ghost use Rattle.records.specs.declared.record.Record.{Record};
 ghost use Rattle.records.specs.declared.shown.Entry.{Entry};
 ghost use Rattle.records.specs.declared.shown.Held.{Held};
-ghost use Rattle.archive.specs.Store.{Mark, HasContent};
+ghost use Rattle.archive.specs.Store.{Mark};
 ghost use Rattle.ua_binary.specs.declared.values.Ticks.{Ticks as Time};
 ghost use Rattle.ua_services.specs.Updates.{Details};
 ghost use Rattle.ua_services.specs.declared.updates.HistoryUpdateResult.{HistoryUpdateResult};
 ghost use Rattle.ua_session.specs.Sessions.{State as Sessions, user_at};
-ghost use Rattle.historian.specs.Answers.{Updated};
+ghost use Rattle.ua_services.specs.History.{HistoryAsked};
+ghost use Rattle.historian.specs.Answers.{Updated, Histories};
 ghost use Rattle.historian.specs.Requests.{HistoryUpdate, request_in};
 ghost use Rattle.historian.specs.Services.{Site as Server, answered};
 ghost use Rattle.hist_update.specs.declared.request.Request.{Request};
 ghost use Rattle.hist_update.specs.Outcome.{Operation};
-ghost use Rattle.hist_update.specs.Laws.{IsGood, IsRecordOf};
+ghost use Rattle.hist_update.specs.Laws.{IsGood, IsRecordOf, MayStand};
 ghost use Rattle.hist_read.specs.declared.query.Query.{Query};
 ghost use Rattle.hist_read.specs.Node.{judged, refused, point_at};
 ghost use Rattle.hist_read.specs.declared.point.Position.{Position};
@@ -37,6 +38,7 @@ ghost use Rattle.hist_read.specs.Point.{Point, IsDetails, point_in};
 ghost use Rattle.exchange.specs.Worlds.{Site, World, IsSite, Sends, Delivers, run};
 ghost use Rattle.headline.specs.Pasts.{Past, IsPast, IsAt, Was, world_at, HaveLearnedSame, AreEven, Covers, WasAnswered, WasRecorded};
 ghost use Rattle.headline.specs.Answers.{Asked, answer_of, results_of, bytes_of, AreFromEither, IsReplicaOf, IsAnswered, IsFree};
+ghost use Rattle.headline.specs.Messages.{IsServerOf, HaveSameNodes, AsksHistory, response_of, AreAlike, AreFree};
 ghost use Rattle.headline.specs.Joins.{IsLeastAbove};
 ghost use Rattle.headline.specs.Told.{IsHeldFor, AddsAll};
 ghost use Rattle.headline.specs.Machines.{IsMachine, AreNew, AreOf, GoOn, Serves, Meet, Restarts};
@@ -70,6 +72,12 @@ fn whole_reads(details: ReadRawModifiedDetails)
 /// repeats, answer reads of history alike: any nodes, any details and any continuation points, to the byte. That they have
 /// learned the same is told by their vectors. So pages may be taken at both, in any turns: they are the pages that are
 /// taken in any other turns, or at one of them alone.
+///
+/// So do their servers, message for message: two HistoryReads that ask the same, each in an activated session of its server, are
+/// answered by the same results, node by node, whatever else differs in the messages (their time, their handle, the session), as
+/// long as both servers have the same nodes. Excepted are results that report want of memory or a fault of the store, and a whole
+/// response that reports want of memory; one that is larger than its client takes is replaced behind this, by what that client
+/// said it takes. Where no result reports any of these, the bytes of the responses behind their headers are equal.
 pub fn replicas_answer_alike()
     ensures vectors { (p : Past) (s t : Site) → IsPast p → Was p s → Was p t → HaveLearnedSame s t ↔ AreEven s t }
     ensures contents { (p : Past) (s t : Site) → IsPast p → Was p s → Was p t → HaveLearnedSame s t → (s.id ≡ t.id) × (s.content ≡ t.content) }
@@ -77,6 +85,15 @@ pub fn replicas_answer_alike()
     ensures bytes { (p : Past) (s t : Site) (asked : Asked) → IsPast p → Was p s → Was p t → HaveLearnedSame s t → bytes_of (results_of asked s) ≡ bytes_of (results_of asked t) }
     ensures turns { (p : Past) (s t : Site) (node : NodeId) (query : Query) (point : Option (List ℕ)) (pages others : List Page) → IsPast p → Was p s → Was p t → HaveLearnedSame s t
         → AreFromEither s t pages → AreFromEither s t others → Chain s.id node query point pages → Chain t.id node query point others → map (λ page. page.result) pages ≡ map (λ page. page.result) others }
+    ensures messages { (p : Past) (s t : Site) (here there : Server) (now then : Time) (message other : List ℕ) (asked : HistoryAsked) (sessions others : Sessions) (marks more : List Mark)
+        → IsPast p → Was p s → Was p t → HaveLearnedSame s t → IsServerOf here s → IsServerOf there t → HaveSameNodes here there
+        → AsksHistory message asked sessions → AsksHistory other asked others
+        → AreAlike (response_of here now message sessions s.content marks) (response_of there then other others t.content more) }
+    ensures responses { (results others : List HistoryReadResult) → AreAlike (Ok (Histories results)) (Ok (Histories others)) → AreFree results → AreFree others → bytes_of results ≡ bytes_of others }
+    ensures clear { (p : Past) (s t : Site) (here there : Server) (now then : Time) (message other : List ℕ) (asked : HistoryAsked) (sessions others : Sessions)
+        → IsPast p → Was p s → Was p t → HaveLearnedSame s t → IsServerOf here s → IsServerOf there t → HaveSameNodes here there
+        → AsksHistory message asked sessions → AsksHistory other asked others
+        → response_of here now message sessions s.content [] ≡ response_of there then other others t.content [] }
 {}
 
 /// Two archives, in whatever stores, that hold what replicas do that have learned the same updates: where neither answer
@@ -173,12 +190,12 @@ pub fn machines_are_replicas_of_a_past<A: Archive>()
 /// Good has its record in what is held behind it, asked for by the session's user: a new one, whose tick is above all that were held before the details it is of,
 /// and of the message's moment or a later one. The operations are those that the details ask where something is held that has all that was held before the
 /// message, for the details before them were done. And nothing else is added: what is held behind the message is what was held before it and these records,
-/// one for each such operation, in order.
+/// one for each such operation, in order; but where an operation broke the store its record may stand too, if `may` says that one may.
 #[tactic(auto, using(crate::proofs::Told::good_held))]
 pub fn what_is_told_as_good_is_held()
-    ensures { (site : Server) (now : Time) (message : List ℕ) (token : NodeId) (details : List Details) (sessions : Sessions) (R : Content) (marks : List Mark) (results : List HistoryUpdateResult)
-        → request_in message ≡ Ok (token, Some (HistoryUpdate details)) → (answered site now message sessions R marks).0.0.0 ≡ Ok (Updated results)
+    ensures { (may : Bool) (site : Server) (now : Time) (message : List ℕ) (token : NodeId) (details : List Details) (sessions : Sessions) (R : Content) (marks : List Mark) (results : List HistoryUpdateResult)
+        → request_in message ≡ Ok (token, Some (HistoryUpdate details)) → (answered site now message sessions R marks).0.0.0 ≡ Ok (Updated results) → MayStand may marks
         → (user : List ℕ) × (user_at sessions token ≡ Ok user) × ((i : ℕ) (d : Details) (result : HistoryUpdateResult) → slice_get details i ≡ Some d → slice_get results i ≡ Some result
         → (S : Content) × IsWithin R S × IsHeldFor site.own site.settings.space user now S d result (answered site now message sessions R marks).0.1)
-        × AddsAll site.own site.settings.space user now details results R (answered site now message sessions R marks).0.1 }
+        × AddsAll may site.own site.settings.space user now details results R (answered site now message sessions R marks).0.1 }
 {}

@@ -16,9 +16,12 @@
 //! - `what_is_told_as_good_is_held`: behind a message each operation that its response tells as Good has its record.
 #![tactic(auto)]
 
+mod lawful;
 mod laws;
+mod witness;
 
 pub use laws::{
     archives_answer_alike, every_update_stands, machines_are_replicas_of_a_past, merging_is_a_join,
     pages_stay, replicas_answer_alike, what_is_told_as_good_is_held,
 };
+pub use witness::two_machines;
