@@ -173,17 +173,28 @@ pub(crate) fn changed(
     conn.close_files().ok()
 }
 
+/// What opening files as this archive and replica is refused by after these statements.
+fn refused_as(
+    alloc: Global,
+    files: Files<Memory>,
+    statements: &[&str],
+    id: Uuid,
+    number: ReplicaNo,
+) -> Option<StoreFault> {
+    let files = changed(alloc, files, statements)?;
+    match open(alloc, files, id, number) {
+        Ok(_) => None,
+        Err((fault, _)) => Some(fault),
+    }
+}
+
 /// What opening files is refused by after these statements.
 pub(crate) fn refused_after(
     alloc: Global,
     files: Files<Memory>,
     statements: &[&str],
 ) -> Option<StoreFault> {
-    let files = changed(alloc, files, statements)?;
-    match open(alloc, files, Uuid::nil(), one().ok()?) {
-        Ok(_) => None,
-        Err((fault, _)) => Some(fault),
-    }
+    refused_as(alloc, files, statements, Uuid::nil(), one().ok()?)
 }
 
 static OTHER_TABLES: [&[&str]; 6] = [
@@ -246,6 +257,44 @@ fn are_refused_unfilled(alloc: Global, spoiled: &[&[&str]]) -> Option<bool> {
 #[test]
 fn other_tables_are_refused(rt: HostRuntime) -> Result<(), Fail> {
     assert!(rt; are_refused_unfilled(rt.alloc(), &OTHER_TABLES) == Some(true));
+    Ok(())
+}
+
+/// Other tables behind `meta`.
+static BEHIND_META: [&[&str]; 4] = [
+    &["DROP TABLE vectors"],
+    &["DROP TABLE vectors", "DROP TABLE currents2"],
+    &["CREATE TABLE more (a INTEGER)"],
+    &["CREATE INDEX more ON records2 (tick)"],
+];
+
+/// Whether a store with other tables is told as another archive's first, then as another replica's.
+fn are_told_by_meta(alloc: Global) -> Option<bool> {
+    for statements in BEHIND_META {
+        let archive = refused_as(
+            alloc,
+            unfilled(alloc)?,
+            statements,
+            Uuid::max(),
+            two().ok()?,
+        );
+        let replica = refused_as(
+            alloc,
+            unfilled(alloc)?,
+            statements,
+            Uuid::nil(),
+            two().ok()?,
+        );
+        if archive != Some(StoreFault::WrongArchive) || replica != Some(StoreFault::WrongReplica) {
+            return Some(false);
+        }
+    }
+    Some(true)
+}
+
+#[test]
+fn meta_tells_whose_store_it_is_whatever_stands_behind_it(rt: HostRuntime) -> Result<(), Fail> {
+    assert!(rt; are_told_by_meta(rt.alloc()) == Some(true));
     Ok(())
 }
 

@@ -6,6 +6,7 @@ mod runs;
 
 use archive::{Archive, ListArchive};
 use clients::{BEGIN, BEGUN, CLIENTS};
+use exchange::Replica;
 use records::read_record;
 use rows::{ACK, ANSWER, HELLO, OPEN, OPENED, REQUEST, ROWS, SESSION};
 use sql_archive::SqlArchive;
@@ -14,7 +15,7 @@ use std::alloc::Global;
 use std::io;
 use std::io::{Read, Write};
 use std::test::Fail;
-use ua_binary::{Status, Text};
+use ua_binary::Text;
 use ua_server::{
     Clock, ConstantClock, Counted, HexFault, ServeFault, Served, SystemClock, answer_hex,
     answers_go_item_by_item, chunks_are_counted, dump, serve,
@@ -149,8 +150,8 @@ fn answer(alloc: Global, text: &str, out: &mut Vec<u8>) -> Result<Served, HexFau
     let Ok(settings) = Settings::bare(alloc) else {
         return Err(HexFault::Serve(ServeFault::OutOfMemory));
     };
-    let mut archive = archive_of(alloc, &settings);
-    answer_hex(alloc, &settings, &mut archive, text, out, &mut clock())
+    let mut replica = Replica::new(archive_of(alloc, &settings));
+    answer_hex(alloc, &settings, &mut replica, text, out, &mut clock())
 }
 
 /// Such a server serves a client.
@@ -162,8 +163,8 @@ fn serve_bare<R: Read, W: Write>(
     let Ok(settings) = Settings::bare(alloc) else {
         return Err(ServeFault::OutOfMemory);
     };
-    let mut archive = archive_of(alloc, &settings);
-    serve(alloc, &settings, &mut archive, reader, writer, &mut clock())
+    let mut replica = Replica::new(archive_of(alloc, &settings));
+    serve(alloc, &settings, &mut replica, reader, writer, &mut clock())
 }
 
 /// A connection in hex digits is answered so.
@@ -210,11 +211,11 @@ pub(crate) fn plant(alloc: Global) -> Result<Settings, Fail> {
     }))
 }
 
-/// What a plant writes over this archive to a client that begins a session and asks this.
+/// What a plant writes over this replica to a client that begins a session and asks this.
 fn served_to<A: Archive>(
     alloc: Global,
     settings: &Settings,
-    archive: &mut A,
+    replica: &mut Replica<A>,
     rows: &[(&str, &str, &str)],
 ) -> Result<Vec<u8>, Fail> {
     let mut input = bytes_of(alloc, &[HELLO, OPEN, BEGIN[0], BEGIN[1]])?;
@@ -227,7 +228,7 @@ fn served_to<A: Archive>(
     serve(
         alloc,
         settings,
-        archive,
+        replica,
         &mut reader,
         &mut writer,
         &mut clock(),
@@ -261,8 +262,8 @@ fn first_other<'a>(
 fn serves_clients_of_a_plant(rt: HostRuntime) -> Result<(), Fail> {
     let settings = plant(rt.alloc())?;
     for (client, rows) in CLIENTS {
-        let mut archive = archive_of(rt.alloc(), &settings);
-        let written = served_to(rt.alloc(), &settings, &mut archive, rows)?;
+        let mut replica = Replica::new(archive_of(rt.alloc(), &settings));
+        let written = served_to(rt.alloc(), &settings, &mut replica, rows)?;
         assert_eq!(rt;
             first_other(rt.alloc(), written.as_slice(), rows)?,
             None,
@@ -277,12 +278,13 @@ fn serves_clients_of_a_plant(rt: HostRuntime) -> Result<(), Fail> {
 fn serves_clients_over_a_store(rt: HostRuntime) -> Result<(), Fail> {
     let settings = plant(rt.alloc())?;
     for (client, rows) in CLIENTS {
-        let mut archive = SqlArchive::open_in_memory(
+        let archive = SqlArchive::open_in_memory(
             rt.alloc(),
             settings.archive(),
             settings.replica(),
         )?;
-        let written = served_to(rt.alloc(), &settings, &mut archive, rows)?;
+        let mut replica = Replica::new(archive);
+        let written = served_to(rt.alloc(), &settings, &mut replica, rows)?;
         assert_eq!(rt;
             first_other(rt.alloc(), written.as_slice(), rows)?,
             None,
@@ -456,7 +458,7 @@ static COUNTS: [(u8, &[&str], Served); 2] = [
     (
         65,
         &[ACK, OPENED, "455252461000000000008080FFFFFFFF"],
-        Served::Refused(Status(0x8080_0000)),
+        Served::Refused(0x8080_0000),
     ),
 ];
 
@@ -470,6 +472,35 @@ fn bounds_a_message(rt: HostRuntime) -> Result<(), Fail> {
             is_answered(rt.alloc(), text.as_str(), want, ending)?,
             "{count}"
         );
+    }
+    Ok(())
+}
+
+/// A connection with so many chunks behind the opening, each of which gives up a message.
+fn many_given_up(alloc: Global, count: u32) -> Result<Vec<u8>, Fail> {
+    let mut bytes = bytes_of(alloc, &[HELLO, OPEN])?;
+    for number in 0..count {
+        bytes.extend_from_slice(b"MSGA\x18\0\0\0\x01\0\0\0\x01\0\0\0")?;
+        bytes.extend_from_slice(&number.saturating_add(2).to_le_bytes())?;
+        bytes.extend_from_slice(b"\x02\0\0\0")?;
+    }
+    Ok(bytes)
+}
+
+/// A connection has 1,000,000 chunks, the Hello and the opening among them, and not one more.
+#[test]
+fn bounds_a_connection(rt: HostRuntime) -> Result<(), Fail> {
+    let want = bytes_of(rt.alloc(), &[ACK, OPENED])?;
+    for (count, ending) in [
+        (999_998, Ok(Served::EndOfInput)),
+        (999_999, Err(ServeFault::TooLong)),
+    ] {
+        let input = many_given_up(rt.alloc(), count)?;
+        let mut reader = Counted::new(input.as_slice());
+        let mut writer = Counted::new(Vec::new(rt.alloc()));
+        let result = serve_bare(rt.alloc(), &mut reader, &mut writer);
+        assert_eq!(rt; result, ending);
+        assert_eq!(rt; writer.into_inner().as_slice(), want.as_slice());
     }
     Ok(())
 }

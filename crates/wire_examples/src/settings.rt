@@ -205,7 +205,7 @@ fn faults_have_numbers(rt: HostRuntime) {
 }
 
 /// What goes on behind the start, and the place where it is refused.
-static PLACES: [(&str, &str); 8] = [
+static PLACES: [(&str, &str); 11] = [
     ("namespace =", "line 8"),
     ("namespace = ''\nanonymous = 1", "[server] anonymous"),
     (
@@ -227,7 +227,19 @@ static PLACES: [(&str, &str); 8] = [
     ),
     (
         "namespace = ''\nanonymous = true\n[[folder]]\nid = 'T'\nname = ''\n'a\\nb' = 1",
-        "[[folder]] 1, a\\\\nb",
+        "[[folder]] 1, a\\nb",
+    ),
+    (
+        "namespace = ''\nanonymous = true\n[[folder]]\nid = 'T'\nname = ''\n'' = 1",
+        "[[folder]] 1, \"\"",
+    ),
+    (
+        "namespace = ''\nanonymous = true\n[[folder]]\nid = 'T'\nname = ''\n\"gr\\u00F6\\u00DFe\" = 1",
+        "[[folder]] 1, gr\u{f6}\u{df}e",
+    ),
+    (
+        "namespace = ''\nanonymous = true\n[[folder]]\nid = 'T'\nname = ''\n\"a\\tb\" = 1",
+        "[[folder]] 1, a?b",
     ),
 ];
 
@@ -236,7 +248,7 @@ fn places_are_told(rt: HostRuntime) -> Result<(), Fail> {
     for (rest, place) in &PLACES {
         let text = format!(in rt.alloc(); "{HEAD}{rest}\n")?;
         let told = Place::of(rt.alloc(), text.as_str())?;
-        let shown = format!(in rt.alloc(); "{told}")?;
+        let shown = told.text(rt.alloc())?;
         assert_eq!(rt; shown.as_str(), *place, "{rest}");
     }
     Ok(())

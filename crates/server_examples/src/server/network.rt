@@ -78,6 +78,13 @@ static QUIET_PEER: [Option<Client<'static>>; 1] = [Some(Client {
     room: 1000,
 })];
 
+/// A peer that ends each exchange by a number of its own.
+static REFUSING_PEER: [Option<Client<'static>>; 1] = [Some(Client {
+    bytes: b"RXEF\x0c\0\0\0\x15\xcd\x5b\x07",
+    breaks: false,
+    room: 1000,
+})];
+
 /// A machine that can be listened at on port 4840, and whom these clients reach there.
 #[derive(Drop)]
 pub(super) struct Machine<'a> {
@@ -106,11 +113,13 @@ impl<'a> Network for Machine<'a> {
         }
     }
 
-    /// The first of the clients is the peer at port 4840; the one at port 4842 holds nothing.
+    /// The first of the clients is the peer at port 4840; the one at port 4842 holds nothing, and that at 4843
+    /// refuses.
     fn call(&mut self, address: SocketAddr) -> Option<(Slow<'a>, Narrow)> {
         match address.port() {
             4840 => Clients::new(self.alloc, self.clients).accept(),
             4842 => Clients::new(self.alloc, &QUIET_PEER).accept(),
+            4843 => Clients::new(self.alloc, &REFUSING_PEER).accept(),
             _ => None,
         }
     }

@@ -145,6 +145,39 @@ fn answers_peers(rt: HostRuntime) -> Result<(), Fail> {
     Ok(())
 }
 
+/// A peer that asks so many times for what it lacks.
+fn asked_often(alloc: Global, count: u32) -> Result<Vec<u8>, Fail> {
+    let mut bytes = Vec::new(alloc);
+    for _ in 0..count {
+        bytes.extend_from_slice(ASKED)?;
+    }
+    Ok(bytes)
+}
+
+const TOO_MANY_FRAMES: &[u8] = b"RXEF\x0c\0\0\0\x07\0\0\0";
+
+/// An end takes 1,000,000 frames; the next one ends the dialog, and the peer is told.
+#[test]
+fn bounds_a_dialog(rt: HostRuntime) -> Result<(), Fail> {
+    for (count, parted, end) in [
+        (1_000_000, Parted::EndOfInput, NOTHING),
+        (
+            1_000_001,
+            Parted::Failed(ExchangeFault::TooLong),
+            TOO_MANY_FRAMES,
+        ),
+    ] {
+        let bytes = asked_often(rt.alloc(), count)?;
+        let mut one = replica(rt.alloc(), 1)?;
+        let mut reader = Counted::new(bytes.as_slice());
+        let mut writer = Counted::new(Vec::new(rt.alloc()));
+        let result = serve_peer(rt.alloc(), &mut one, &mut reader, &mut writer);
+        assert_eq!(rt; result, Ok(parted));
+        assert!(rt; writer.into_inner().as_slice().ends_with(end));
+    }
+    Ok(())
+}
+
 fn is_lawful(held: &Record) -> bool
     ensures { IsTrue result → IsLawfulRecord held.now }
 {

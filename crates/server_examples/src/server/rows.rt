@@ -1,6 +1,5 @@
 //! Connections: what comes in, and what goes out.
 
-use ua_binary::Status;
 use ua_server::Served;
 
 /// A Hello: receive and send size 65,536, no limits, `opc.tcp://localhost:4840`.
@@ -58,7 +57,7 @@ pub(super) const RENEWED_AGAIN: &str =
 pub(super) const CLOSE: &str = "434C4F461800000001000000010000000200000002000000";
 
 /// A name, what comes in, what goes out, and how the connection ends.
-pub(super) static ROWS: [(&str, &[&str], &[&str], Served); 39] = [
+pub(super) static ROWS: [(&str, &[&str], &[&str], Served); 46] = [
     ("a Hello", &[HELLO], &[ACK], Served::EndOfInput),
     (
         "a receive size of 8,191",
@@ -66,7 +65,7 @@ pub(super) static ROWS: [(&str, &[&str], &[&str], Served); 39] = [
             "48454C463800000000000000FF1F0000000001000000000000000000180000006F70632E7463703A2F2F6C6F63616C686F73743A34383430",
         ],
         &["45525246100000000000AC80FFFFFFFF"],
-        Served::Refused(Status(0x80AC0000)),
+        Served::Refused(0x80AC_0000),
     ),
     (
         "lower case",
@@ -74,37 +73,85 @@ pub(super) static ROWS: [(&str, &[&str], &[&str], Served); 39] = [
             "48454c463800000000000000ff1f0000000001000000000000000000180000006f70632e7463703a2f2f6c6f63616c686f73743a34383430",
         ],
         &["45525246100000000000AC80FFFFFFFF"],
-        Served::Refused(Status(0x80AC0000)),
+        Served::Refused(0x80AC_0000),
     ),
     (
         "a Hello of 31 bytes",
         &["48454C461F000000"],
         &["455252461000000000000780FFFFFFFF"],
-        Served::Refused(Status(0x80070000)),
+        Served::Refused(0x8007_0000),
     ),
     (
         "no OPC UA",
         &["474554202F000000"],
         &["455252461000000000007E80FFFFFFFF"],
-        Served::Refused(Status(0x807E0000)),
+        Served::Refused(0x807E_0000),
     ),
     (
-        "a vector",
+        "a front of a peer's frame",
         &["525856461B000000"],
-        &["455252461000000000007E80FFFFFFFF"],
-        Served::Refused(Status(0x807E0000)),
+        &[],
+        Served::EndOfInput,
     ),
     (
-        "records",
-        &["525844461B000000"],
+        "a front of a peer's records",
+        &["525844461F000000"],
+        &[],
+        Served::EndOfInput,
+    ),
+    (
+        "no peer, by three letters",
+        &["525845460C00000000000000"],
         &["455252461000000000007E80FFFFFFFF"],
-        Served::Refused(Status(0x807E0000)),
+        Served::Refused(0x807E_0000),
+    ),
+    (
+        "a peer's letters, and another fourth one",
+        &["525856431B000000"],
+        &["525845460C00000001000000"],
+        Served::Refused(1),
+    ),
+    (
+        "a peer that asks",
+        &["525856461B0000000200000000000000000000000000000000 0200"],
+        &["525844461F0000000200000000000000000000000000000000010000000000"],
+        Served::EndOfInput,
+    ),
+    (
+        "a peer that asks, and ends",
+        &[
+            "525856461B0000000200000000000000000000000000000000 0200",
+            "525845460C00000000000000",
+        ],
+        &["525844461F0000000200000000000000000000000000000000010000000000"],
+        Served::Exchanged,
+    ),
+    (
+        "a peer of this replica's number",
+        &["525856461B0000000200000000000000000000000000000000 0100"],
+        &["525845460C00000005000000"],
+        Served::Refused(5),
+    ),
+    (
+        "a peer of an older format",
+        &["525856461B0000000100000000000000000000000000000000 0200"],
+        &["525845460C00000008000000"],
+        Served::Refused(8),
+    ),
+    (
+        "a peer that breaks off by a number of its own",
+        &[
+            "525856461B0000000200000000000000000000000000000000 0200",
+            "525845460C000000FF000000",
+        ],
+        &["525844461F0000000200000000000000000000000000000000010000000000"],
+        Served::Refused(255),
     ),
     (
         "a Hello too large",
         &["48454C4621100000"],
         &["455252461000000000008080FFFFFFFF"],
-        Served::Refused(Status(0x80800000)),
+        Served::Refused(0x8080_0000),
     ),
     (
         "a front of a Hello",
@@ -117,7 +164,7 @@ pub(super) static ROWS: [(&str, &[&str], &[&str], Served); 39] = [
         "bytes after a Hello",
         &["48454C46 21000000 00000000 00000100 00000100 00000000 00000000 FFFFFFFF 00"],
         &["455252461000000000000780FFFFFFFF"],
-        Served::Refused(Status(0x80070000)),
+        Served::Refused(0x8007_0000),
     ),
     (
         "a null URL",
@@ -187,7 +234,7 @@ pub(super) static ROWS: [(&str, &[&str], &[&str], Served); 39] = [
             RENEWED_AGAIN,
             "455252461000000000008780FFFFFFFF",
         ],
-        Served::Refused(Status(0x80870000)),
+        Served::Refused(0x8087_0000),
     ),
     (
         "closed",
@@ -254,7 +301,7 @@ pub(super) static ROWS: [(&str, &[&str], &[&str], Served); 39] = [
             "4D53474637000000010000000100000002000000020000000001000000000000000000000200000000000000FFFFFFFF00000000000000",
         ],
         &[ACK, "455252461000000000002280FFFFFFFF"],
-        Served::Refused(Status(0x80220000)),
+        Served::Refused(0x8022_0000),
     ),
     (
         "opened twice",
@@ -264,7 +311,7 @@ pub(super) static ROWS: [(&str, &[&str], &[&str], Served); 39] = [
             "4F504E4684000000010000002F000000687474703A2F2F6F7063666F756E646174696F6E2E6F72672F55412F5365637572697479506F6C696379234E6F6E65FFFFFFFFFFFFFFFF02000000020000000100BE01000000000000000000000100000000000000FFFFFFFF00000000000000000000000000000001000000FFFFFFFF80EE3600",
         ],
         &[ACK, OPENED, "455252461000000000005380FFFFFFFF"],
-        Served::Refused(Status(0x80530000)),
+        Served::Refused(0x8053_0000),
     ),
     (
         "the last number",
@@ -288,7 +335,7 @@ pub(super) static ROWS: [(&str, &[&str], &[&str], Served); 39] = [
             "4D53474637000000010000000100000000000000020000000001000000000000000000000200000000000000FFFFFFFF00000000000000",
         ],
         &[ACK, OPENED, "455252461000000000008880FFFFFFFF"],
-        Served::Refused(Status(0x80880000)),
+        Served::Refused(0x8088_0000),
     ),
     (
         "three messages",
@@ -325,25 +372,25 @@ pub(super) static ROWS: [(&str, &[&str], &[&str], Served); 39] = [
             "4F504E4620000000000000000000000000000000000000000000000000000000",
         ],
         &[ACK, "455252461000000000005580FFFFFFFF"],
-        Served::Refused(Status(0x80550000)),
+        Served::Refused(0x8055_0000),
     ),
     (
         "a Hello again",
         &[HELLO, "48454C4638000000"],
         &[ACK, "455252461000000000007E80FFFFFFFF"],
-        Served::Refused(Status(0x807E0000)),
+        Served::Refused(0x807E_0000),
     ),
     (
         "a small chunk",
         &[HELLO, "4D53474617000000"],
         &[ACK, "455252461000000000000780FFFFFFFF"],
-        Served::Refused(Status(0x80070000)),
+        Served::Refused(0x8007_0000),
     ),
     (
         "a large chunk",
         &[HELLO, "4D53474601000100"],
         &[ACK, "455252461000000000008080FFFFFFFF"],
-        Served::Refused(Status(0x80800000)),
+        Served::Refused(0x8080_0000),
     ),
     (
         "less than a chunk",
@@ -442,9 +489,9 @@ pub(super) static SESSION: [(&str, &str, &str); 11] = [
         "4D534746340000000100000001000000040000000400000001008D0100803ED5DEB19D01040000000000278000FFFFFFFF000000",
     ),
     (
-        "ActivateSession of that session, which is closed",
+        "ActivateSession of that session, which stays",
         "4D53474656000000010000000100000005000000050000000100D3010101030000000000000000000500000000000000FFFFFFFF00000000000000FFFFFFFFFFFFFFFFFFFFFFFFFFFFFFFF000000FFFFFFFFFFFFFFFF",
-        "4D534746340000000100000001000000050000000500000001008D0100803ED5DEB19D01050000000000258000FFFFFFFF000000",
+        "4D53474640000000010000000100000005000000050000000100D60100803ED5DEB19D01050000000000000000FFFFFFFF000000FFFFFFFFFFFFFFFFFFFFFFFF",
     ),
     (
         "CreateSession once more",
@@ -457,8 +504,8 @@ pub(super) static SESSION: [(&str, &str, &str); 11] = [
         "4D53474640000000010000000100000007000000070000000100D60100803ED5DEB19D01070000000000000000FFFFFFFF000000FFFFFFFFFFFFFFFFFFFFFFFF",
     ),
     (
-        "Browse of the Objects folder",
-        "4D534746620000000100000001000000080000000800000001000F020101050000000000000000000800000000000000FFFFFFFF0000000000000000000000000000000000000000000000000001000000005500000000002101000000003F000000",
+        "Browse of the Objects folder, in the first session",
+        "4D534746620000000100000001000000080000000800000001000F020101030000000000000000000800000000000000FFFFFFFF0000000000000000000000000000000000000000000000000001000000005500000000002101000000003F000000",
         "4D53474648000000010000000100000008000000080000000100120200803ED5DEB19D01080000000000000000FFFFFFFF0000000100000000000000FFFFFFFF00000000FFFFFFFF",
     ),
     (

@@ -194,7 +194,7 @@ fn reads_lines(rt: HostRuntime) {
 }
 
 /// Command lines, the input, the room of the output, what it has then, what is said, and the exit status.
-static RUNS: [(&[&str], &[u8], usize, &str, &str, u8); 26] = [
+static RUNS: [(&[&str], &[u8], usize, &str, &str, u8); 28] = [
     (
         &[
             "uahist",
@@ -262,6 +262,29 @@ static RUNS: [(&[&str], &[u8], usize, &str, &str, u8); 26] = [
         "",
         "uahist: exchange ended (1)\n",
         1,
+    ),
+    (
+        &[
+            "uahist",
+            "sync",
+            "--settings",
+            "good",
+            "--peer",
+            "127.0.0.1:4843",
+        ],
+        b"",
+        1000,
+        "",
+        "uahist: exchange ended (123456789)\n",
+        1,
+    ),
+    (
+        &["uahist", "answer", "--hex"],
+        b"525856461B00000002000000000000000000000000000000000200",
+        1000,
+        "525844461F0000000200000000000000000000000000000000010000000000\n",
+        "",
+        0,
     ),
     (
         &["uahist", "dump", "--settings", "good"],
