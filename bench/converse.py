@@ -35,7 +35,7 @@ def copied(folder):
 
 def built(folder):
     """The program, from the repository's crates."""
-    unproved.module(copied(folder), folder, ["sql", "one", "1", "0"])
+    unproved.module(copied(folder), folder, ["--steps", "1", "--", "sql", "one", "1", "0"])
     return unproved.linked(folder, "module.bc", "-O2")
 
 

@@ -17,13 +17,13 @@ MARK = re.compile(r"#\[inline\((always|never)\)\]\n(?:\s*#\[[^\n]*\]\n)*\s*(?:pu
 WORDS = {"always": "alwaysinline", "never": "noinline"}
 
 
-def module(crate, folder, words):
-    """The module that `rt try` makes of a program, kept before it goes on to check it."""
+def module(crate, folder, flags):
+    """The module that `rt try` makes of a program or of tests, kept before it goes on to check it."""
     work = os.path.join(folder, "try")
     os.makedirs(work)
     said = open(os.path.join(folder, "said"), "wb")
     environment = {**os.environ, "TMPDIR": work}
-    trying = subprocess.Popen(["rt", "try", "--steps", "1", "--", *words], cwd=crate, env=environment, stdin=subprocess.DEVNULL, stdout=said, stderr=said)
+    trying = subprocess.Popen(["rt", "try", *flags], cwd=crate, env=environment, stdin=subprocess.DEVNULL, stdout=said, stderr=said)
     try:
         while trying.poll() is None:
             for place, _, files in os.walk(work):
@@ -90,7 +90,7 @@ def main():
         sys.exit(__doc__)
     os.makedirs(words[0], exist_ok=True)
     with tempfile.TemporaryDirectory() as folder:
-        module(os.path.join(top, "crates", "uahist"), folder, ["answer"])
+        module(os.path.join(top, "crates", "uahist"), folder, ["--steps", "1", "--", "answer"])
         light = "--light" in sys.argv
         made = linked(folder, lightened(folder, os.path.join(top, "crates")), "-O3") if light else linked(folder, "module.bc", "-O2")
         shutil.copy(made, os.path.join(words[0], "uahist"))
