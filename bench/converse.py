@@ -11,9 +11,11 @@ the exchange; and the greatest kB of an exchange beside those of two filled arch
 a copy of the crates: the module that `rt try` makes of it, compiled at -O2 without what `rt try` checks. Needs gcc and GNU time.
 """
 import os, shutil, signal, sys, tempfile
+
+top = os.path.dirname(os.path.dirname(os.path.abspath(__file__)))
+sys.path[1:1] = [os.path.join(top, "tests"), os.path.join(top, "tools")]
 import running, unproved
 
-top = os.path.dirname(running.here)
 NAME = "bench_converse"
 BELOW = "exchange sql_archive sql_opening sql_reading sql_tables sql_schema archive records stamp ua_variant ua_binary uuid anyhow sqlite sqlite_disk"
 # What is filled: the kind of archive, each how many-th record is a correction, its name, and how many records.
@@ -29,7 +31,7 @@ def copied(folder):
     open(os.path.join(folder, "crates.txt"), "w").write(f"{listed}{NAME}: {BELOW}\n")
     crate = os.path.join(folder, "crates", NAME)
     os.makedirs(os.path.join(crate, "src"))
-    shutil.copy(os.path.join(running.here, "converse", "main.txt"), os.path.join(crate, "src", "main.rt"))
+    shutil.copy(os.path.join(top, "bench", "converse", "main.txt"), os.path.join(crate, "src", "main.rt"))
     return crate
 
 

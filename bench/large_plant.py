@@ -10,6 +10,9 @@ variables. With --instructions millions of instructions a request too (valgrind'
 of them go. Over memory a Read of 999 takes seconds: the whole table takes some minutes.
 """
 import os, re, shutil, subprocess, sys, tempfile
+
+top = os.path.dirname(os.path.dirname(os.path.abspath(__file__)))
+sys.path[1:1] = [os.path.join(top, "tests"), os.path.join(top, "tools")]
 import running
 import struct
 from opcua import *
@@ -25,7 +28,7 @@ MORE = {True: 10, False: 2}  # requests more, over a store and in memory
 def settings(count, store):
     """The settings of a plant with a folder of so many variables."""
     path = os.path.join(folder, f"{count}.toml")
-    head = open(os.path.join(running.here, "bench.toml")).read().split("[[variable]]")[0]
+    head = open(os.path.join(running.here, "settings.toml")).read().split("[[variable]]")[0]
     if store:
         head = head.replace("replica = 1", f"replica = 1\nstore = '{store}'")
     variables = [f"[[variable]]\nid = 'line{k % 7}.machine{k}.temperature'\nname = 'Temperature {k}'\ntype = 'Int32'\nfolder = 'hall'\n" for k in range(count)]

@@ -9,10 +9,12 @@ each; and the store is sent to an empty one. As many are inserted into an archiv
 The shell inserts as many, each in one transaction of three statements, into a file and in memory, and reads the same page. Needs sqlite3.
 """
 import os, shutil, socket, subprocess, sys, tempfile, time
+
+top = os.path.dirname(os.path.dirname(os.path.abspath(__file__)))
+sys.path[1:1] = [os.path.join(top, "tests"), os.path.join(top, "tools")]
 import opcua
 from opcua import Client, int32, node, value_at
 
-here = os.path.dirname(os.path.abspath(__file__))
 program = os.path.abspath(sys.argv[1])
 folder = tempfile.mkdtemp()
 tag, first = node("T", 1), opcua.EPOCH
@@ -24,7 +26,7 @@ def settings(name, replica, stored=True):
     with socket.socket() as probe:
         probe.bind(("127.0.0.1", 0))
         port = probe.getsockname()[1]
-    text = open(os.path.join(here, "bench.toml")).read().replace("127.0.0.1:4840", f"127.0.0.1:{port}").replace("replica = 1", f"replica = {replica}")
+    text = open(os.path.join(top, "tests", "settings.toml")).read().replace("127.0.0.1:4840", f"127.0.0.1:{port}").replace("replica = 1", f"replica = {replica}")
     path = os.path.join(folder, f"{name}.toml")
     open(path, "w").write(text.replace("[server]", f"store = '{os.path.join(folder, name)}.db'\n[server]", 1) if stored else text)
     return path, port
@@ -61,7 +63,7 @@ def less(of, start):
 def of_shell(count):
     """The shell's inserts, and its pages."""
     store = os.path.join(folder, f"shell-{count}.db")
-    tables = open(os.path.join(here, "..", "docs", "FORMATS.md")).read().split("```sql\n")[1].split("```")[0]
+    tables = open(os.path.join(top, "docs", "FORMATS.md")).read().split("```sql\n")[1].split("```")[0]
     made = "".join(table.strip() + ";\n" for table in tables.strip().replace("\nCREATE", "\x00CREATE").split("\x00"))
     rows = []
     for k in range(count):

@@ -1,17 +1,16 @@
 #!/usr/bin/env python3
 """Makes the program of these sources in some seven minutes of a processor, unproved.
 
-    bench/unproved.py FOLDER [--light]
+    tools/unproved.py FOLDER [--light]
 
-It is FOLDER/uahist, for the other scripts of bench: of the module that `rt try` makes. As it is, it tests on its way what unsafe code
+It is FOLDER/uahist, for the scripts of tests and bench: of the module that `rt try` makes. As it is, it tests on its way what unsafe code
 asks, fills what isn't written yet, and takes two to three times the instructions of the proved program. With --light these tests
 are taken out, and the functions that the sources mark are compiled into their callers: then `bench/run` tells some 2 to 8 in a hundred
 more instructions than of the proved one, so that a change can be measured before it is proved. Needs gcc.
 """
 import os, pathlib, re, shutil, signal, subprocess, sys, tempfile, time
-import running
 
-top = os.path.dirname(running.here)
+top = os.path.dirname(os.path.dirname(os.path.abspath(__file__)))
 TESTS = re.compile(r'call void @"rattle-llvm-checks::|call void @llvm\.memset\.p0\.i64\(ptr %r\d+, i8 -86,|call void @llvm\.trap\(\)')
 MARK = re.compile(r"#\[inline\((always|never)\)\]\n(?:\s*#\[[^\n]*\]\n)*\s*(?:pub(?:\([a-z]+\))? )?fn (\w+)")
 WORDS = {"always": "alwaysinline", "never": "noinline"}

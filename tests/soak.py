@@ -1,7 +1,7 @@
 #!/usr/bin/env python3
 """Two machines of one archive at work: random updates, deletes and reads at either, calls between them, and sudden ends.
 
-    bench/soak.py PROGRAM [--minutes N] [--seed N]
+    tests/soak.py PROGRAM [--minutes N] [--seed N]
 
 Each has a store in a file and serves in turn. Clients write values that no other write has, delete stretches and single times, and
 read pages, which have to join to the whole read; each third client's server is killed (SIGKILL) at a random moment, and so is one
@@ -91,7 +91,7 @@ class Machine:
     def __init__(self, number):
         self.number, self.port = number, running.free_port()
         self.store = os.path.join(folder, f"{number}.db")
-        self.settings = running.write_settings(os.path.join(folder, f"{number}.toml"), "bench.toml", number, self.port, self.store)
+        self.settings = running.write_settings(os.path.join(folder, f"{number}.toml"), "settings.toml", number, self.port, self.store)
         self.tried, self.good = set(), set()
 
     def command(self, name, *more):

@@ -1,7 +1,7 @@
 #!/usr/bin/env python3
 """Makes worked rows with each growth of memory that they ask for refused in turn, once.
 
-    bench/hostile.py [TEST ..]
+    tests/hostile.py [TEST ..]
 
 The rows are tests (`hostile/rows.txt` is their table), compiled for this run alone in a copy of the crates, and not proved. A test
 makes a row's call again where it was told want of memory, and looks at what was left before; so it has to pass whichever growth is
@@ -10,7 +10,10 @@ many of these refused it came through; the exit status is 1 where that isn't eac
 """
 import os, shutil, subprocess, sys, tempfile
 from concurrent.futures import ThreadPoolExecutor
-import running, unproved
+import running
+
+sys.path.append(os.path.join(os.path.dirname(running.here), "tools"))
+import unproved
 
 top = os.path.dirname(running.here)
 NAME = "hostile_examples"

@@ -1,14 +1,14 @@
 #!/usr/bin/env python3
 """A plain model of a historian's updates and reads, and random clients that compare a server with it, answer by answer.
 
-    bench/model.py CLIENTS REQUESTS FIRST COMMAND [WORD ..]
+    tests/model.py CLIENTS REQUESTS FIRST COMMAND [WORD ..]
 
 Each client begins a session (every other one as `ann`), and then asks at random: writes, deletes and reads of values and of
 modifications, at times and picoseconds that meet often, with bounds, with counts, forward and backward, and with the
 continuation points that earlier reads gave, also behind later updates. COMMAND answers one connection from standard input
-to standard output, over an empty archive, at the moment 116444736000000000 and over bench/bench.toml, as
+to standard output, over an empty archive, at the moment 116444736000000000 and over tests/settings.toml, as
 
-    uahist answer --settings bench/bench.toml --now 116444736000000000
+    uahist answer --settings tests/settings.toml --now 116444736000000000
 
 does. The model keeps a list of records and knows nothing of how uahist is written; it was made from the rules in docs/.
 FIRST is the number of the first client, so that a run can be told from another one.

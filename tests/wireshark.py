@@ -1,10 +1,10 @@
 #!/usr/bin/env python3
 """Has Wireshark's OPC UA dissector read what the built program answers. It is made from the standard's own schema, and nothing here.
 
-    bench/wireshark.py PROGRAM
+    tests/wireshark.py PROGRAM
 
 PROGRAM is the built uahist. Needs tshark (Debian's package of that name). The plant's day of crates/uahist, and streams of each kind that
-bench/streams.py makes, are answered by the program; both sides' bytes are written to a capture file, a chunk a TCP segment, and tshark reads
+tests/streams.py makes, are answered by the program; both sides' bytes are written to a capture file, a chunk a TCP segment, and tshark reads
 that. Each answer has to be one that the dissector knows, with nothing malformed in it, and where it is one chunk the fields have to reach
 its last byte: no byte is left over, none was missed. Prints how many messages of each type there were.
 """
@@ -89,7 +89,7 @@ day = b"".join(bytes.fromhex(line) for line in open(os.path.join(uahist, "stdin"
 streams = [("day", os.path.join(uahist, "data", "plant.toml"), day)]
 for kind, count in (("unknown", 5), ("state", 5), ("chunks", 2), ("insert", 5), ("insert100", 3), ("update", 5)):
     made = subprocess.run([os.path.join(here, "streams.py"), kind, str(count)], capture_output=True, check=True).stdout
-    streams.append((kind, os.path.join(here, "bench.toml") if kind in ("insert", "insert100", "update") else None, made))
+    streams.append((kind, os.path.join(here, "settings.toml") if kind in ("insert", "insert100", "update") else None, made))
 for name, settings, stream in streams:
     path = os.path.join(folder, name + ".pcap")
     asked, told = list(chunks(stream)), list(chunks(answered(settings, stream)))

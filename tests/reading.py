@@ -1,6 +1,6 @@
 """Reads what a client or a peer sends, byte by byte, by docs/FORMATS.md alone, and says which records it makes.
 
-It knows nothing of how uahist is written, and stands beside the forged bytes of bench/forged.py: whatever they are, the
+It knows nothing of how uahist is written, and stands beside the forged bytes of tests/forged.py: whatever they are, the
 built program has to hold these records and no others.
 """
 import struct

@@ -1,7 +1,7 @@
 #!/usr/bin/env python3
 """Lists every public function that may refuse, with its refusals, their numbers, and the clauses that say something of them.
 
-    bench/promises.py [--silent] [CRATE ..]
+    tools/promises.py [--silent] [CRATE ..]
 
 It reads the sources in crates/*/src. A clause says something of the Err side where it speaks of the whole `result`, and not
 only of what stands in an Ok (IfOk, OnOk, or the Ok of an equation under it). With --silent only the functions are listed of

@@ -1,7 +1,7 @@
 #!/usr/bin/env python3
 """Two replicas of one archive, each with a store of its own, that take updates apart, are killed, and call each other.
 
-    bench/two_machines.py PROGRAM [ROUNDS [SEED]]
+    tests/two_machines.py PROGRAM [ROUNDS [SEED]]
 
 In each round a client updates values at one of them, at few moments so that the two contradict each other, and then one
 calls the other (`sync`); in every third round a program is killed (SIGKILL) in between. At the end they are synced once more:
@@ -26,7 +26,7 @@ class Replica:
     def __init__(self, number):
         self.number, self.port, self.good = number, one.free_port(), 0
         self.settings = os.path.join(folder, f"{number}.toml")
-        text = open(os.path.join(here, "bench.toml")).read().replace("127.0.0.1:4840", f"127.0.0.1:{self.port}")
+        text = open(os.path.join(here, "settings.toml")).read().replace("127.0.0.1:4840", f"127.0.0.1:{self.port}")
         text = text.replace("replica = 1", f"replica = {number}\nstore = '{folder}/{number}.db'")
         open(self.settings, "w").write(text)
 

@@ -1,7 +1,7 @@
 #!/usr/bin/env python3
 """Writes the bytes that one client sends: a Hello, a channel, a session, and then COUNT requests of one kind.
 
-    bench/streams.py KIND COUNT > stream
+    tests/streams.py KIND COUNT > stream
 
 KIND is `unknown` (a service that isn't served), `state` (Read of the server's state), `chunks` (Read of one node's
 state a thousand times over, in 57 chunks), `decode` (a HistoryUpdate of a hundred values of a node that isn't there),

@@ -1,7 +1,7 @@
 #!/usr/bin/env python3
 """Runs the built program as a server on the loopback address, with clients of its own, and checks what they are answered.
 
-    bench/network.py PROGRAM [--silent]
+    tests/network.py PROGRAM [--silent]
 
 Each check prints a line, the first that fails ends the script by an error. With --silent it also waits for the two minutes
 after which a client that says nothing is given up.
@@ -24,8 +24,8 @@ def free_port():
 
 
 def serve(port, connections):
-    """The program with the settings of bench.toml, but for the port, once it listens."""
-    text = open(os.path.join(here, "bench.toml")).read().replace("127.0.0.1:4840", f"127.0.0.1:{port}")
+    """The program with the settings of settings.toml, but for the port, once it listens."""
+    text = open(os.path.join(here, "settings.toml")).read().replace("127.0.0.1:4840", f"127.0.0.1:{port}")
     open(settings, "w").write(text)
     command = [program, "serve", "--settings", settings, "--connections", str(connections)]
     return subprocess.Popen(command, stdin=subprocess.DEVNULL, stdout=subprocess.PIPE, stderr=subprocess.PIPE, text=True)

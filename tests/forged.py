@@ -1,7 +1,7 @@
 #!/usr/bin/env python3
 """Gives the built program bytes that no client and no peer would send, and looks at how it ends and at what it keeps.
 
-    bench/forged.py PROGRAM [--every N] [PART ..]
+    tests/forged.py PROGRAM [--every N] [PART ..]
 
 Parts: `cuts` cuts each stream at each byte; `bytes` replaces each byte by 00, 7F, 80 and FF; `hex` forges the digits of `--hex`;
 `counts` replaces each four bytes by 7FFFFFFF; `points` replaces each byte of continuation points by each other one; `frames` does
@@ -9,7 +9,7 @@ what `cuts` and `bytes` do to what a peer sends to `serve`; `large` sends the la
 `long` sends a chunk and a frame more than a connection and a dialog may have.
 Each run has to end in one of the ways that README states, soon, and with hardly more memory than the whole stream takes, and its
 answer has to be whole chunks; a cut stream is answered as its whole chunks are. Behind each run `dump` has to show the records that
-bench/reading.py, made from docs/FORMATS.md alone, finds in the bytes, and no others. Whatever is otherwise is told with the smallest
+tests/reading.py, made from docs/FORMATS.md alone, finds in the bytes, and no others. Whatever is otherwise is told with the smallest
 bytes that show it; the exit status is 1 then. With --every N each N-th of the forged
 streams is tried. Needs gcc and GNU time.
 """
@@ -44,11 +44,11 @@ def streams():
     """Each stream with its name and its settings."""
     day = open(os.path.join(here, "..", "crates", "uahist", "stdin")).read()
     yield "the plant's day", os.path.join("..", "crates", "uahist", "data", "plant.toml"), bytes.fromhex(day)
-    yield "all calls", "bench.toml", all_calls()
+    yield "all calls", "settings.toml", all_calls()
     talk = model.Talk(3)
     for _ in range(20):
         talk.ask()
-    yield "a client of the model", "bench.toml", b"".join(talk.sent)
+    yield "a client of the model", "settings.toml", b"".join(talk.sent)
 
 
 def all_calls():
@@ -248,7 +248,7 @@ def points():
         forged = [point[:k] + bytes([b]) + point[k + 1:] for k in range(len(point)) for b in range(256) if b != point[k]]
         forged += [point[:k] for k in range(1, len(point))] + [point + b"\0"]
         sent += [client.history_read([node("T", 1)], start, end, count, bounds, modified, 0, p) for p in forged]
-        run = running.run([program, "answer", "--settings", os.path.join(here, "bench.toml"), "--now", str(EPOCH)], b"".join(sent))
+        run = running.run([program, "answer", "--settings", os.path.join(here, "settings.toml"), "--now", str(EPOCH)], b"".join(sent))
         answers = [chunk for _, chunk in cut(run.out)][-len(forged):]
         if run.status != 0 or len(answers) != len(forged):
             fault("points", f"ended by {run.status} {run.said!r}", point)
@@ -303,12 +303,12 @@ def large_messages():
 
 def large():
     """The memory that the largest messages take, which are refused or answered like others: at most 80 bytes for each of theirs."""
-    room = Room("large", "bench.toml")
+    room = Room("large", "settings.toml")
     for name, type_id, body in large_messages():
         client = Client()
         sent = client.hello() + client.open() + client.create_session() + client.activate("ann", b"pw")
         sent += client.chunks(type_id, body, 65_536 - 24)
-        for settings in (os.path.join(here, "bench.toml"), room.settings):
+        for settings in (os.path.join(here, "settings.toml"), room.settings):
             running.forget(room.store)
             run = running.weighed([program, "answer", "--settings", settings, "--now", str(NOW)], sent)
             answers = [chunk for letters, chunk in cut(run.out)]
@@ -334,7 +334,7 @@ class Peer:
 
     def __init__(self, name, connections):
         self.port = running.free_port()
-        self.settings = running.write_settings(os.path.join(folder, f"{name}.toml"), "bench.toml", 1, self.port)
+        self.settings = running.write_settings(os.path.join(folder, f"{name}.toml"), "settings.toml", 1, self.port)
         words = [program, "serve", "--settings", self.settings, "--connections", str(connections)]
         self.out, self.said = tempfile.TemporaryFile(), tempfile.TemporaryFile()
         self.process = running.subprocess.Popen(words, stdin=running.subprocess.DEVNULL, stdout=self.out, stderr=self.said)

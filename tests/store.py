@@ -1,7 +1,7 @@
 #!/usr/bin/env python3
 """Kills the built program, which serves over a store on disk, at random moments of 1,000 inserts, and looks at what it kept.
 
-    bench/store.py PROGRAM [ROUNDS [SEED]]
+    tests/store.py PROGRAM [ROUNDS [SEED]]
 
 In each round a client inserts value after value, and the program is killed (SIGKILL) while it answers. Then `dump` has to
 show each insert that was answered Good, in order, and at most one more; and Debian's sqlite3, on a copy of the files, has to
@@ -28,7 +28,7 @@ def free_port():
 
 
 def write_settings(port):
-    text = open(os.path.join(here, "bench.toml")).read().replace("127.0.0.1:4840", f"127.0.0.1:{port}")
+    text = open(os.path.join(here, "settings.toml")).read().replace("127.0.0.1:4840", f"127.0.0.1:{port}")
     open(settings, "w").write(text.replace("[server]", f"store = '{store}'\n[server]", 1))
 
 

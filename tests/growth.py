@@ -1,7 +1,7 @@
 #!/usr/bin/env python3
 """Refuses each growth of memory that the built program asks for in turn, once (and with `from` that one and all behind it).
 
-    bench/growth.py PROGRAM [--every N] [RUN ..]
+    tests/growth.py PROGRAM [--every N] [RUN ..]
 
 Runs: `memory` answers the plant's day over an archive in memory, `hex` the same in hex digits, `store` over an empty store in a
 file, `again` over a store that holds the day already, `dump` prints that store, `sync` calls a replica that serves, `serve` is the

@@ -1,0 +1,78 @@
+#!/usr/bin/env python3
+"""Runs the commands of the pages, and compares what they print with what the page says.
+
+    tests/documents.py PROGRAM [PAGE ..]
+
+PROGRAM is the built uahist. In README.md, docs/TOUR.md and docs/OPERATIONS.md (or the pages that are named) a block that begins
+with ```console has commands behind a `$`, each with what it prints below it. The blocks of a page run one after the other in a
+folder of its own, with plant.toml and stdin of crates/uahist, and `uahist` and the scripts of tests to be called by name. A
+command that serves without an end is stopped. Links between pages have to lead to a file. Exit status 1 where one differs.
+"""
+import glob, os, re, shutil, signal, subprocess, sys, tempfile
+
+here = os.path.dirname(os.path.abspath(__file__))
+top = os.path.dirname(here)
+PAGES = ["README.md", "docs/TOUR.md", "docs/OPERATIONS.md"]
+ENDLESS = re.compile(r"uahist serve (?!.*--connections)")
+
+
+def commands(page):
+    """The commands of a page, each with what it has to print."""
+    for block in re.findall(r"^```console\n(.*?)^```", open(page).read(), re.M | re.S):
+        for part in re.split(r"^\$ ", block, flags=re.M)[1:]:
+            command, _, wanted = part.partition("\n")
+            yield command, wanted
+
+
+def run(command, folder, path):
+    """What a command prints; one without an end is stopped after two seconds."""
+    process = subprocess.Popen(["bash", "-c", command], cwd=folder, env={**os.environ, "PATH": path}, stdin=subprocess.DEVNULL,
+                               stdout=subprocess.PIPE, stderr=subprocess.STDOUT, text=True, start_new_session=True)
+    try:
+        return process.communicate(timeout=2 if ENDLESS.search(command) else 60)[0]
+    except subprocess.TimeoutExpired:
+        os.killpg(process.pid, signal.SIGKILL)
+        return process.communicate()[0]
+
+
+def wrong_commands(program, page):
+    """How many commands of a page print something else, and how many there are."""
+    wrong = count = 0
+    with tempfile.TemporaryDirectory() as folder:
+        programs = os.path.join(folder, "bin")
+        os.mkdir(programs)
+        os.symlink(program, os.path.join(programs, "uahist"))
+        for name in ("data/plant.toml", "stdin"):
+            shutil.copy(os.path.join(top, "crates", "uahist", name), folder)
+        for command, wanted in commands(os.path.join(top, page)):
+            count += 1
+            printed = run(command, folder, f"{programs}:{here}:{os.environ['PATH']}")
+            if printed != wanted:
+                wrong += 1
+                print(f"{page}: $ {command}\n  wanted {wanted!r}\n  printed {printed!r}")
+    return wrong, count
+
+
+def dead_links():
+    """The links of the pages that lead to no file."""
+    for page in glob.glob(os.path.join(top, "*.md")) + glob.glob(os.path.join(top, "*", "README.md")) + glob.glob(os.path.join(top, "docs", "*.md")):
+        for link in re.findall(r"\]\(([^)#]+)(?:#[^)]*)?\)", re.sub(r"```.*?```|`[^`\n]*`", "", open(page).read(), flags=re.S)):
+            if "://" not in link and not os.path.exists(os.path.join(os.path.dirname(page), link)):
+                yield f"{os.path.relpath(page, top)}: {link}"
+
+
+def main():
+    if len(sys.argv) < 2 or sys.argv[1].startswith("-"):
+        sys.exit(__doc__)
+    program, wrong, count = os.path.abspath(sys.argv[1]), 0, 0
+    for page in sys.argv[2:] or PAGES:
+        differ, all_ = wrong_commands(program, page)
+        wrong, count = wrong + differ, count + all_
+    dead = list(dead_links())
+    for link in dead:
+        print(f"leads nowhere: {link}")
+    print(f"{count} commands, {wrong} print something else; {len(dead)} links lead nowhere")
+    sys.exit(1 if wrong or dead else 0)
+
+
+main()
