@@ -1,33 +1,75 @@
 -- The command line.
-use Rattle.std.specs.Prelude.{◌≡◌, ℤ, List, [], ◌∷◌, ℕ, Bool, true, false, Option, None, Some, Ok, option_copied, codes, fold}
+use Rattle.std.specs.Prelude.{◌≡◌, ℤ, List, [], ◌∷◌, ℕ, Bool, true, false, ◌⊎◌, Option, None, Some, Ok, option_copied, codes, fold}
 use Rattle.std.specs.Int.{w64}
 use Rattle.std.specs.Str.Parse.{ParsesSigned, ParsesUnsigned}
 use Rattle.std.specs.declared.num.ParseIntError.{ParseIntError}
-use Rattle.clap.specs.Words.{App, Row, Rule, Text, new_app, new_rule, first_of, one_of, with_rule, with_subcommand}
+use Rattle.clap.specs.Words.{App, IsAmong, Kinds, Row, Rule, Text, new_app, new_rule, first_of, one_of, with_rule, with_subcommand}
+use Rattle.clap.specs.Simple.{on_top}
+use Rattle.clap.specs.declared.error.ErrorKind.TheVariants.{DisplayHelp, DisplayVersion}
 use Rattle.clap.specs.declared.builder.action.ArgAction.TheVariants.{Set, SetTrue}
 use Rattle.clap.specs.declared.builder.value_parser.ValueParser.TheVariants.{Unsigned}
 use Rattle.command_line.specs.declared.line.Line.{Line}
 use Rattle.command_line.specs.declared.line.Line.TheVariants.{Answer, Serve, Dump, Sync}
+use Rattle.command_line.specs.declared.line.Asked.{Asked}
+use Rattle.command_line.specs.declared.line.Asked.TheVariants.{Work, Text as Shown}
 use Rattle.command_line.specs.declared.line.LineFault.{LineFault}
 use Rattle.command_line.specs.declared.line.LineFault.TheVariants.{Words, OutOfMemory as NoMemory}
 
 -- an option of this name that takes a value
 abbrev pub option : Text → Rule
-option name = record (new_rule name) { long = Some name; action = Some Set }
+option name = record (new_rule name) { long = Some name; action = Some Set; value_names = 1 }
+
+-- the same, and it has to be given
+abbrev pub needed : Text → Rule
+needed name = record (option name) { required = true }
+
+-- an option of this name that takes none
+abbrev pub flag : Text → Rule
+flag name = record (new_rule name) { long = Some name; action = Some SetTrue }
+
+-- the value of `now` is a number of at most 2^63 - 1
+abbrev pub now : Rule
+now = record (option (codes "now")) { parser = Some (Unsigned 0 9223372036854775807) }
+
+-- the value of `connections` is a number from 1 to 2^32 - 1
+abbrev pub connections : Rule
+connections = record (option (codes "connections")) { parser = Some (Unsigned 1 4294967295) }
 
 -- a command of this name with these options
 abbrev pub command : Text → List Rule → App
 command name options = fold with_rule (new_app name) options
 
--- The program's commands and their options. The value of `settings` is a path, that of `now` a number of at most 2^63 - 1, that of `connections` one from 1
--- to 2^32 - 1, and that of `peer` an address; `hex` takes none.
+-- `answer [--settings FILE] [--hex] [--now N]`
+abbrev pub answer : App
+answer = command (codes "answer") (option (codes "settings") ∷ flag (codes "hex") ∷ now ∷ [])
+
+-- `serve --settings FILE [--connections N]`
+abbrev pub serve : App
+serve = command (codes "serve") (needed (codes "settings") ∷ connections ∷ [])
+
+-- `dump --settings FILE`
+abbrev pub dump : App
+dump = command (codes "dump") (needed (codes "settings") ∷ [])
+
+-- `sync --settings FILE --peer ADDRESS`
+abbrev pub sync : App
+sync = command (codes "sync") (needed (codes "settings") ∷ needed (codes "peer") ∷ [])
+
+-- the program with no commands yet: it has a version, which its commands have too
+abbrev pub program : App
+program = on_top (λ top. record top { has_version = true; propagate_version = true }) (new_app (codes "uahist"))
+
+-- the program with its commands
 abbrev pub uahist : App
-uahist =
-    fold (λ all one. with_subcommand all one.top) (new_app (codes "uahist"))
-    (command (codes "answer")
-    (option (codes "settings") ∷ record (option (codes "hex")) { action = Some SetTrue } ∷ record (option (codes "now")) { parser = Some (Unsigned 0 9223372036854775807) } ∷ [])
-    ∷ command (codes "serve") (option (codes "settings") ∷ record (option (codes "connections")) { parser = Some (Unsigned 1 4294967295) } ∷ [])
-    ∷ command (codes "dump") (option (codes "settings") ∷ []) ∷ command (codes "sync") (option (codes "settings") ∷ option (codes "peer") ∷ []) ∷ [])
+uahist = fold (λ all one. with_subcommand all one.top) program (answer ∷ serve ∷ dump ∷ sync ∷ [])
+
+-- where the first fault that clap finds may be that help, or the version, is asked for
+abbrev pub MayAskForText : Kinds → Type 0
+MayAskForText faults = IsAmong DisplayHelp faults ⊎ IsAmong DisplayVersion faults
+
+-- where it is that
+abbrev pub AsksForText : Kinds → Type 0
+AsksForText faults = (faults ≡ DisplayHelp ∷ []) ⊎ (faults ≡ DisplayVersion ∷ [])
 
 -- a flag is set where its value is true, and unset where that is false or absent
 abbrev pub IsFlag : Option Text → Bool → Type 0
@@ -45,6 +87,12 @@ IsLine matches (Serve path count) =
 IsLine matches (Dump path) = (rows : List Row) × (matches ≡ Some (codes "dump", rows)) × (first_of (codes "settings") rows ≡ Some path.now)
 IsLine matches (Sync path address) =
     (rows : List Row) × (matches ≡ Some (codes "sync", rows)) × (first_of (codes "settings") rows ≡ Some path.now) × (first_of (codes "peer") rows ≡ Some address.now)
+
+-- What a line asks for, by the faults that clap finds in it and by its matches: where there is no
+-- fault what the matches name, and a text only where help or the version is asked for.
+abbrev pub Asks : Kinds → Option (Text × List Row) → Asked → Type 0
+Asks faults matches (Work line) = (faults ≡ []) × IsLine matches line
+Asks faults matches (Shown text) = MayAskForText faults
 
 -- the text that tells a refused command line
 abbrev pub line_text_of : LineFault → List ℕ

@@ -1,21 +1,26 @@
 //! The command line.
 
 ghost use Rattle.std.specs.Prelude.{◌≡◌, [], map, IfOk, OnErr, IsErrOf, None, true, false, codes};
-ghost use Rattle.clap.specs.Words.{app_of, rule_of, rows_of, found_of, subcommand_of, subcommand_rows_of};
+ghost use Rattle.clap.specs.Words.{app_of, kind_of, rule_of, rows_of, found_of, subcommand_of, subcommand_rows_of};
 ghost use Rattle.clap.specs.declared.builder.command.Command.TheViews.{out-Command};
 ghost use Rattle.clap.specs.declared.error.ErrorKind.TheVariants as clap;
 ghost use Rattle.clap.specs.Takes.{takes};
 ghost use Rattle.clap.specs.Faults.{fault_of as fault_kinds};
-ghost use Rattle.command_line.specs.Line.{IsLine, option, uahist};
-ghost use Rattle.command_line.specs.Parts.{IsAnswer, IsServe, IsDump, IsSync, NoLine, answer, connections, dump, now, serve, servers, sync};
+ghost use Rattle.command_line.specs.Line.{Asks, AsksForText, IsLine, option, uahist};
+ghost use Rattle.command_line.specs.Line.{answer, connections, dump, flag, now, serve, sync};
+ghost use Rattle.command_line.specs.Parts.{IsAnswer, IsServe, IsDump, IsMistake, IsSync, IsText, IsTextOf, NoLine, servers};
 
 use clap::builder::ValueParser;
-use clap::error::ErrorKind;
+use clap::error::{Error as Refusal, ErrorKind};
 use clap::{Arg, ArgAction, ArgMatches, Command};
 use std::alloc::{AllocError, Global};
 use std::convert::AsStr;
 use std::error::Error;
 use std::fmt;
+use std::fmt::Write as _;
+
+/// The program's version.
+const VERSION: &str = "0.1.0";
 
 /// The greatest moment that a clock may stand at, 2^63 - 1.
 const MOST_NOW: u64 = 9_223_372_036_854_775_807;
@@ -49,10 +54,19 @@ pub enum Line<'a> {
     },
 }
 
+/// What a command line asks for.
+#[derive(Debug, PartialEq, Eq, Drop)]
+pub enum Asked<'a> {
+    /// To do this.
+    Work(Line<'a>),
+    /// To print this text: help, or the version.
+    Text(String),
+}
+
 /// Why a command line is no command.
 #[derive(Clone, Copy, Debug, PartialEq, Eq)]
 pub enum LineFault {
-    /// The words are no command of the program's, or ask for help.
+    /// The words are no command of the program's.
     Words,
     /// Memory ran out.
     OutOfMemory,
@@ -93,8 +107,21 @@ fn now_option<'a>(alloc: Global) -> Arg<'a>
 {
     Arg::new(alloc, "now")
         .long("now")
+        .value_name("N")
+        .help("Stops the clock at N, in ticks of 100 ns since 1601")
         .action(ArgAction::Set)
         .value_parser(ValueParser::unsigned(0, MOST_NOW))
+}
+
+/// The option `--hex`.
+fn hex_option<'a>(alloc: Global) -> Arg<'a>
+    ensures rule { rule_of result ≡ flag (codes "hex") }
+    ensures local { result.global ≡ false }
+{
+    Arg::new(alloc, "hex")
+        .long("hex")
+        .help("Reads and writes hex digits in place of bytes")
+        .action(ArgAction::SetTrue)
 }
 
 /// The option `--settings FILE`.
@@ -104,6 +131,8 @@ fn settings_option<'a>(alloc: Global) -> Arg<'a>
 {
     Arg::new(alloc, "settings")
         .long("settings")
+        .value_name("FILE")
+        .help("The settings file")
         .action(ArgAction::Set)
 }
 
@@ -114,6 +143,8 @@ fn connections_option<'a>(alloc: Global) -> Arg<'a>
 {
     Arg::new(alloc, "connections")
         .long("connections")
+        .value_name("N")
+        .help("Ends after N connections")
         .action(ArgAction::Set)
         .value_parser(ValueParser::unsigned(1, MOST_CONNECTIONS))
 }
@@ -123,12 +154,12 @@ fn answer_command<'a>(alloc: Global) -> Result<Command<'a>, AllocError>
     ensures app { IfOk result (λ command. app_of command ≡ answer) }
     ensures local { IfOk result (λ command. (out-Command command).has_globals ≡ false) }
 {
-    let hex = Arg::new(alloc, "hex")
-        .long("hex")
-        .action(ArgAction::SetTrue);
     let settings = settings_option(alloc);
+    let hex = hex_option(alloc);
     let now = now_option(alloc);
-    let command = Command::new(alloc, "answer");
+    let command = Command::new(alloc, "answer").about(
+        "Answers one connection, from standard input to standard output",
+    );
     let command = command.arg(settings)?.arg(hex)?.arg(now)?;
     Ok(command)
 }
@@ -138,9 +169,9 @@ fn serve_command<'a>(alloc: Global) -> Result<Command<'a>, AllocError>
     ensures app { IfOk result (λ command. app_of command ≡ serve) }
     ensures local { IfOk result (λ command. (out-Command command).has_globals ≡ false) }
 {
-    let settings = settings_option(alloc);
+    let settings = settings_option(alloc).required(true);
     let connections = connections_option(alloc);
-    let command = Command::new(alloc, "serve");
+    let command = Command::new(alloc, "serve").about("Serves clients and peers over TCP");
     let command = command.arg(settings)?.arg(connections)?;
     Ok(command)
 }
@@ -150,8 +181,8 @@ fn dump_command<'a>(alloc: Global) -> Result<Command<'a>, AllocError>
     ensures app { IfOk result (λ command. app_of command ≡ dump) }
     ensures local { IfOk result (λ command. (out-Command command).has_globals ≡ false) }
 {
-    let settings = settings_option(alloc);
-    let command = Command::new(alloc, "dump");
+    let settings = settings_option(alloc).required(true);
+    let command = Command::new(alloc, "dump").about("Prints the archive, a line a record");
     let command = command.arg(settings)?;
     Ok(command)
 }
@@ -161,7 +192,11 @@ fn peer_option<'a>(alloc: Global) -> Arg<'a>
     ensures rule { rule_of result ≡ option (codes "peer") }
     ensures local { result.global ≡ false }
 {
-    Arg::new(alloc, "peer").long("peer").action(ArgAction::Set)
+    Arg::new(alloc, "peer")
+        .long("peer")
+        .value_name("ADDRESS")
+        .help("The IP address and port where the peer serves")
+        .action(ArgAction::Set)
 }
 
 /// The command `sync` and its options.
@@ -169,9 +204,9 @@ fn sync_command<'a>(alloc: Global) -> Result<Command<'a>, AllocError>
     ensures app { IfOk result (λ command. app_of command ≡ sync) }
     ensures local { IfOk result (λ command. (out-Command command).has_globals ≡ false) }
 {
-    let settings = settings_option(alloc);
-    let peer = peer_option(alloc);
-    let command = Command::new(alloc, "sync");
+    let settings = settings_option(alloc).required(true);
+    let peer = peer_option(alloc).required(true);
+    let command = Command::new(alloc, "sync").about("Calls a peer and exchanges records with it");
     let command = command.arg(settings)?.arg(peer)?;
     Ok(command)
 }
@@ -182,7 +217,10 @@ fn servers<'a>(alloc: Global) -> Result<Command<'a>, AllocError>
 {
     let answer = answer_command(alloc)?;
     let serve = serve_command(alloc)?;
-    let whole = Command::new(alloc, "uahist");
+    let whole = Command::new(alloc, "uahist")
+        .about("An OPC UA historian whose archive lives on several machines")
+        .version(VERSION)
+        .propagate_version(true);
     let whole = whole.subcommand(answer)?.subcommand(serve)?;
     Ok(whole)
 }
@@ -198,13 +236,27 @@ fn command<'a>(alloc: Global) -> Result<Command<'a>, AllocError>
     Ok(whole)
 }
 
-/// What a refusal of `clap`'s is called here.
-fn fault_of(kind: ErrorKind) -> LineFault
-    ensures { result ≡ (elim kind [ clap.OutOfMemory ↦ LineFault.OutOfMemory | _ ↦ LineFault.Words ]) }
+/// What `clap` makes of a line that it gives no matches of: the text that is asked for, or why the line is no command.
+fn asked_in<'a>(alloc: Global, refusal: &Refusal) -> Result<Asked<'a>, LineFault>
+    ensures text { IfOk result (IsTextOf (kind_of refusal.now)) }
+    ensures words { IsErrOf result LineFault.Words → IsMistake (kind_of refusal.now) }
 {
-    match kind {
-        ErrorKind::OutOfMemory => LineFault::OutOfMemory,
-        _ => LineFault::Words,
+    match refusal.kind() {
+        ErrorKind::DisplayHelp | ErrorKind::DisplayVersion => text_of(alloc, refusal),
+        ErrorKind::OutOfMemory => Err(LineFault::OutOfMemory),
+        _ => Err(LineFault::Words),
+    }
+}
+
+/// The text of help or of the version.
+fn text_of<'a>(alloc: Global, refusal: &Refusal) -> Result<Asked<'a>, LineFault>
+    ensures ok { IfOk result IsText }
+    ensures memory { OnErr result (IsErrOf result LineFault.OutOfMemory) }
+{
+    let mut text = String::new(alloc);
+    match write!(text, "{refusal}") {
+        Ok(()) => Ok(Asked::Text(text)),
+        Err(_) => Err(LineFault::OutOfMemory),
     }
 }
 
@@ -285,18 +337,19 @@ fn read_matches<'a>(matches: &ArgMatches<'a>) -> Result<Line<'a>, LineFault>
 
 /// Reads a command line, the program's name first, as `clap` reads it.
 ///
-/// `Ok` has the command that `clap`'s matches name and the values that they give for it. Errors: `Words` where `clap`
-/// refuses the words, they name no command, or a value is no number; `OutOfMemory` where memory ran out.
-pub fn read_line<'a, S: AsStr>(alloc: Global, words: &'a [S]) -> Result<Line<'a>, LineFault>
-    ensures ok { IfOk result (IsLine (subcommand_of uahist (map S.text words.now))) }
-    ensures taken { IfOk result (λ line. fault_kinds uahist (map S.text words.now) ≡ []) }
+/// `Ok` has the command that `clap`'s matches name and the values that they give for it, or the text of help or of the
+/// version where that is asked for. Errors: `Words` where `clap` refuses the words, they name no command, or a value is no
+/// number; `OutOfMemory` where memory ran out.
+pub fn read_line<'a, S: AsStr>(alloc: Global, words: &'a [S]) -> Result<Asked<'a>, LineFault>
+    ensures ok { IfOk result (Asks (fault_kinds uahist (map S.text words.now)) (subcommand_of uahist (map S.text words.now))) }
     ensures words { IsErrOf result LineFault.Words → takes uahist (map S.text words.now) ≡ true → NoLine (IsLine (subcommand_of uahist (map S.text words.now))) }
+    ensures help { IsErrOf result LineFault.Words → AsksForText (fault_kinds uahist (map S.text words.now)) → ⊥ }
 {
     let Ok(command) = command(alloc) else {
         return Err(LineFault::OutOfMemory);
     };
     match command.try_get_matches_from(words) {
-        Ok(matches) => read_matches(&matches),
-        Err(error) => Err(fault_of(error.kind())),
+        Ok(matches) => Ok(Asked::Work(read_matches(&matches)?)),
+        Err(refusal) => asked_in(alloc, &refusal),
     }
 }
