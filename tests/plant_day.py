@@ -54,7 +54,7 @@ def told(letters, chunk):
         return "Error %08X" % struct.unpack_from("<I", chunk, 8)
     start = 24 if letters == "MSGF" else 8 + 4 + 4 + len(opcua.POLICY) + 4 + 4 + 8
     type_id, handle, status = struct.unpack_from("<H", chunk, start + 2)[0], *struct.unpack_from("<II", chunk, start + 12)
-    return f"{TYPES.get(type_id, type_id)}: request {handle}, status {status:08X}, {len(chunk) - start} bytes"
+    return f"{TYPES.get(type_id, type_id)}: handle {handle}, status {status:08X}, {len(chunk) - start} bytes"
 
 
 def over_network(address):

@@ -16,11 +16,11 @@ use Rattle.ua_server.specs.declared.dumps.DumpFault.TheVariants as dump
 use Rattle.command_line.specs.declared.line.Line.TheVariants.{Answer, Serve, Dump, Sync}
 use Rattle.command_line.specs.declared.line.LineFault.{LineFault}
 use Rattle.command_line.specs.declared.line.LineFault.TheVariants.{Words, OutOfMemory as NoMemory}
-use Rattle.command_line.specs.Line.{IsLine}
+use Rattle.command_line.specs.Line.{IsLine, MayAskForText}
 use Rattle.clap.specs.declared.error.ErrorKind.{ErrorKind}
 use Rattle.ua_settings.specs.Settings.{Values}
 use Rattle.archive.specs.Store.{Store}
-use Rattle.ua_server.specs.Program.{SettingsAt, Machine, By, CallsPeer, Scene, PrintsSynced, DoesLine, Runs}
+use Rattle.ua_server.specs.Program.{SettingsAt, Machine, By, CallsPeer, Scene, PrintsSynced, PrintsText, Shows, IsMistaken, DoesLine, Runs}
 use Rattle.ua_server.specs.Parts.{dump_fault, fault_of, AnswersBy, ServesBy, DumpsBy, SyncsBy}
 use Rattle.counted_io.specs.Tally.{Tally}
 use Rattle.ua_server.proofs.ProgramParts.{IsUnbegun, path_of, Done, Refused}
@@ -113,28 +113,44 @@ same-line : (line : LineFault) (fault : ProgramFault) (x : Result (Unit {0}) Pro
 same-line line fault x is so = cc
 
 -- memory for the server was wanting, so nothing is said of the words
-only-memory : (taken : Bool) (matches : Option (Text × List Row)) (fault : LineFault) → IsUnbegun fault → fault ≡ Words → taken ≡ true → (line : CommandLine) → IsLine matches line → ⊥
-only-memory taken matches Words so = absurd so
-only-memory taken matches NoMemory so = λ words. absurd cc
+only-memory : (faults : List ErrorKind) (taken : Bool) (matches : Option (Text × List Row)) (fault : LineFault) → IsUnbegun fault → fault ≡ Words → IsMistaken faults taken matches
+only-memory faults taken matches Words so = absurd so
+only-memory faults taken matches NoMemory so = λ words. absurd cc
 
 -- a command that a line names
 pub line-done : {K N L R W C E P Q : Type 0} (faults : List ErrorKind) (taken : Bool) (matches : Option (Text × List Row)) (machine : Machine K) (calls : SocketAddr → Wires N P Q) (wires : Wires L R W) (gave : C → List ℤ → C → Type 0) (listened : N → SocketAddr → Option L → N → Type 0) (told : E → Option (List ℕ))
     (line : CommandLine) (old new : Scene N C E) (result : Result (Unit {0}) ProgramFault)
     → faults ≡ [] → IsLine matches line → DoesLine machine calls wires gave listened told line old new result → Runs faults taken matches machine calls wires gave listened told old new result
-line-done faults taken matches machine calls wires gave listened told line old new (Ok done) free is so = (free, (line, is, so))
+line-done faults taken matches machine calls wires gave listened told line old new (Ok done) free is so = inl (free, (line, is, so))
 line-done faults taken matches machine calls wires gave listened told line old new (Err (Line fault)) free is so =
     let b =
     by-line machine (path_of line) (Done machine calls wires gave listened told line old new (Err (Line fault))) (Refused old new (Err (Line fault))) fault (new ≡ old) (never-line machine calls wires gave listened told line old new fault)
     (λ f x. (same-line fault f (Err (Line fault)) refl x.0, x.1)) so in
-    (only-memory taken matches fault b.0, b.1, b.2, b.3)
-line-done faults taken matches machine calls wires gave listened told line old new (Err File) free is so = (free, (line, is, so))
-line-done faults taken matches machine calls wires gave listened told line old new (Err (Settings fault place)) free is so = (free, (line, is, so))
-line-done faults taken matches machine calls wires gave listened told line old new (Err (program.Store fault)) free is so = (free, (line, is, so))
-line-done faults taken matches machine calls wires gave listened told line old new (Err BadHex) free is so = (free, (line, is, so))
-line-done faults taken matches machine calls wires gave listened told line old new (Err Address) free is so = (free, (line, is, so))
-line-done faults taken matches machine calls wires gave listened told line old new (Err (Connection fault)) free is so = (free, (line, is, so))
-line-done faults taken matches machine calls wires gave listened told line old new (Err (program.Call fault)) free is so = (free, (line, is, so))
-line-done faults taken matches machine calls wires gave listened told line old new (Err (program.Exchange fault)) free is so = (free, (line, is, so))
-line-done faults taken matches machine calls wires gave listened told line old new (Err (program.Peer number)) free is so = (free, (line, is, so))
+    (only-memory faults taken matches fault b.0, b.1, b.2, b.3)
+line-done faults taken matches machine calls wires gave listened told line old new (Err File) free is so = inl (free, (line, is, so))
+line-done faults taken matches machine calls wires gave listened told line old new (Err (Settings fault place)) free is so = inl (free, (line, is, so))
+line-done faults taken matches machine calls wires gave listened told line old new (Err (program.Store fault)) free is so = inl (free, (line, is, so))
+line-done faults taken matches machine calls wires gave listened told line old new (Err BadHex) free is so = inl (free, (line, is, so))
+line-done faults taken matches machine calls wires gave listened told line old new (Err Address) free is so = inl (free, (line, is, so))
+line-done faults taken matches machine calls wires gave listened told line old new (Err (Connection fault)) free is so = inl (free, (line, is, so))
+line-done faults taken matches machine calls wires gave listened told line old new (Err (program.Call fault)) free is so = inl (free, (line, is, so))
+line-done faults taken matches machine calls wires gave listened told line old new (Err (program.Exchange fault)) free is so = inl (free, (line, is, so))
+line-done faults taken matches machine calls wires gave listened told line old new (Err (program.Peer number)) free is so = inl (free, (line, is, so))
 
-pub ruleset lines = (line-done)
+-- a text that was asked for was printed, and nothing else was done
+pub text-shown : {K N L R W C E P Q : Type 0} (faults : List ErrorKind) (taken : Bool) (matches : Option (Text × List Row)) (machine : Machine K) (calls : SocketAddr → Wires N P Q) (wires : Wires L R W) (gave : C → List ℤ → C → Type 0) (listened : N → SocketAddr → Option L → N → Type 0) (told : E → Option (List ℕ))
+    (old new : Scene N C E) (result : Result (Unit {0}) ProgramFault)
+    → MayAskForText faults → Shows machine old new result → Runs faults taken matches machine calls wires gave listened told old new result
+text-shown faults taken matches machine calls wires gave listened told old new (Ok done) may so = inr (may, so)
+text-shown faults taken matches machine calls wires gave listened told old new (Err (Line fault)) may so = let is = so.3.0 in absurd cc
+text-shown faults taken matches machine calls wires gave listened told old new (Err File) may so = let is = so.3.0 in absurd cc
+text-shown faults taken matches machine calls wires gave listened told old new (Err (Settings fault place)) may so = let is = so.3.0 in absurd cc
+text-shown faults taken matches machine calls wires gave listened told old new (Err (program.Store fault)) may so = let is = so.3.0 in absurd cc
+text-shown faults taken matches machine calls wires gave listened told old new (Err BadHex) may so = let is = so.3.0 in absurd cc
+text-shown faults taken matches machine calls wires gave listened told old new (Err Address) may so = let is = so.3.0 in absurd cc
+text-shown faults taken matches machine calls wires gave listened told old new (Err (Connection fault)) may so = inr (may, so)
+text-shown faults taken matches machine calls wires gave listened told old new (Err (program.Call fault)) may so = let is = so.3.0 in absurd cc
+text-shown faults taken matches machine calls wires gave listened told old new (Err (program.Exchange fault)) may so = let is = so.3.0 in absurd cc
+text-shown faults taken matches machine calls wires gave listened told old new (Err (program.Peer number)) may so = let is = so.3.0 in absurd cc
+
+pub ruleset lines = (line-done, text-shown)

@@ -40,7 +40,7 @@ use Rattle.clap.specs.declared.error.ErrorKind.{ErrorKind}
 use Rattle.command_line.specs.declared.line.Line.{Line as CommandLine}
 use Rattle.command_line.specs.declared.line.Line.TheVariants.{Answer, Serve, Dump, Sync}
 use Rattle.command_line.specs.declared.line.LineFault.TheVariants.{Words, OutOfMemory as NoMemory}
-use Rattle.command_line.specs.Line.{IsLine}
+use Rattle.command_line.specs.Line.{AsksForText, IsLine, MayAskForText}
 
 -- ---- the archive of a program
 
@@ -129,11 +129,29 @@ DoesLine {K} machine calls wires gave listened told line old new result =
     ])
     (λ fault. (result ≡ Err fault) × (new ≡ old))
 
--- A run by the faults that clap finds in a command line, by whether it takes it, and by its matches. What is done is done for a line without
--- faults; where the line is refused nothing is, and no file is asked for or opened. Its words are refused only where clap refuses it, or its matches name no command,
--- don't give what it needs, or give a text that spells no number of its width.
+-- a text was printed, a first part of it where the writer failed
+abbrev pub PrintsText : Option (List ℕ) → Option (List ℕ) → Result (Unit {0}) ProgramFault → Type 0
+PrintsText old written (Ok done) = (text : List ℕ) × Appends old written text
+PrintsText old written (Err fault) = (fault ≡ Connection Write) × ((text : List ℕ) × AppendsPart old written text)
+
+-- a text was printed, and nothing else was done
+abbrev pub Shows : {K N C E : Type 0} → Machine K → Scene N C E → Scene N C E → Result (Unit {0}) ProgramFault → Type 0
+Shows machine old new result =
+    (new ≡ record old { written = new.written }) × machine.unasked × machine.untouched
+    × PrintsText old.written new.written result
+
+-- A line is refused for its words only where clap refuses them and no help and no version is asked
+-- for, or where its matches name no command, or don't give what that needs.
+abbrev pub IsMistaken : List ErrorKind → Bool → Option (Text × List Row) → Type 0
+IsMistaken faults taken matches =
+    (taken ≡ true → (line : CommandLine) → IsLine matches line → ⊥) × (AsksForText faults → ⊥)
+
+-- A run by the faults that clap finds in a command line, by whether it takes it, and by its matches.
+-- A refused line does nothing: no file is asked for or opened. A line without faults is done; where
+-- help or the version is asked for, its text is printed.
 abbrev pub Runs : {K N L R W C E P Q : Type 0} → List ErrorKind → Bool → Option (Text × List Row) → Machine K → (SocketAddr → Wires N P Q) → Wires L R W → (C → List ℤ → C → Type 0) → (N → SocketAddr → Option L → N → Type 0) → (E → Option (List ℕ)) → Scene N C E → Scene N C E → Result (Unit {0}) ProgramFault → Type 0
 Runs faults taken matches machine calls wires gave listened told old new (Err (Line fault)) =
-    (fault ≡ Words → taken ≡ true → (line : CommandLine) → IsLine matches line → ⊥) × (new ≡ old) × machine.unasked × machine.untouched
+    (fault ≡ Words → IsMistaken faults taken matches) × (new ≡ old) × machine.unasked × machine.untouched
 Runs faults taken matches machine calls wires gave listened told old new result =
-    (faults ≡ []) × ((line : CommandLine) × IsLine matches line × DoesLine machine calls wires gave listened told line old new result)
+    ((faults ≡ []) × ((line : CommandLine) × IsLine matches line × DoesLine machine calls wires gave listened told line old new result))
+    ⊎ (MayAskForText faults × Shows machine old new result)

@@ -12,7 +12,7 @@ mod program;
 mod single;
 mod stores;
 
-pub use command_line::{Line, LineFault, read_line};
+pub use command_line::{Asked, Line, LineFault, read_line};
 pub use connections::serve_connections;
 pub use counted_io::{Counted, ServeFault};
 pub use dumps::{DumpFault, dump};

@@ -8,7 +8,7 @@ ghost use Rattle.counted_io.specs.Bytes.{counted, AppendsPart};
 ghost use Rattle.ua_connection.specs.Given.{Outside};
 ghost use Rattle.ua_server.specs.Single.{AnswersAt};
 ghost use Rattle.ua_server.specs.Telling.{status_of, IsTold, text_of, numbered, told_line, error_lines, synced_line};
-ghost use Rattle.ua_server.specs.Program.{OpensArchive, PrintsSynced, CallsPeer, DoesLine, Runs};
+ghost use Rattle.ua_server.specs.Program.{OpensArchive, PrintsSynced, PrintsText, CallsPeer, DoesLine, Runs};
 ghost use Rattle.ua_server.specs.Parts.{fault_of, dump_fault, sync_fault, AnswersBy, ServesBy, DumpsBy, SyncsBy, place_line};
 ghost use Rattle.ua_server.specs.Dumping.{Dumps};
 ghost use Rattle.clap.specs.Words.{subcommand_of};
@@ -24,7 +24,7 @@ use crate::network::Network;
 use crate::single::answer_at;
 use crate::stores::Stores;
 use archive::{Archive, StoreFault};
-use command_line::{Line, LineFault, read_line};
+use command_line::{Asked, Line, LineFault, read_line};
 use counted_io::{Counted, ServeFault};
 use exchange::{ExchangeFault, Replica};
 use itoa::Buffer;
@@ -444,6 +444,18 @@ fn do_line<F: SettingsFiles, D: Stores, N: Network, R: Read, W: Write, E: Write,
     }
 }
 
+/// Prints the text of help, or of the version.
+fn print_text<W: Write>(text: &[u8], output: &mut Counted<W>) -> Result<(), ProgramFault>
+    ensures prints { PrintsText (W.contents output.old.inner) (W.contents output.new.inner) result }
+    ensures read { IsErrOf result (ProgramFault.Connection ServeFault.Read) → ⊥ }
+    ensures write { IsErrOf result (ProgramFault.Connection ServeFault.Write) → output.new.faults ≡ counted output.old.faults }
+{
+    match output.send(text) {
+        Ok(()) => Ok(()),
+        Err(_) => Err(ProgramFault::Connection(ServeFault::Write)),
+    }
+}
+
 /// Does what a command line asks for. Where that names a file of settings, it is read first, and then the store that they
 /// name is opened; where it gives a moment, the clock isn't read. What a connection over the network ended by is told on
 /// `errors` when it ends.
@@ -486,9 +498,10 @@ pub fn run<
         (record { unread = R.remaining input.new.inner; written = W.contents output.new.inner; network = network.new; clock = clock.new; errors = errors.new }) result }
 {
     match read_line(alloc, words) {
-        Ok(line) => do_line(
+        Ok(Asked::Work(line)) => do_line(
             alloc, line, files, stores, network, input, output, errors, clock,
         ),
+        Ok(Asked::Text(text)) => print_text(text.as_bytes(), output),
         Err(fault) => Err(ProgramFault::Line(fault)),
     }
 }
