@@ -165,7 +165,9 @@ def silent(port):
     ends(server, ENDED % 1)
 
 
-for check in [one_client, one_after_the_other, broken_off, deaf, taken_address] + [silent] * ("--silent" in sys.argv):
+checks = [one_client, one_after_the_other, broken_off, deaf, taken_address] + [silent] * ("--silent" in sys.argv)
+for check in checks:
     begin = time.monotonic()
     check(free_port())
     print(f"{check.__name__}: {time.monotonic() - begin:.1f} s", flush=True)
+print(f"{len(checks)} kinds of clients over TCP: each is answered as it should be")
