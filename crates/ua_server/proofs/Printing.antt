@@ -20,7 +20,7 @@ use Rattle.command_line.specs.Line.{IsLine, MayAskForText}
 use Rattle.clap.specs.declared.error.ErrorKind.{ErrorKind}
 use Rattle.ua_settings.specs.Settings.{Values}
 use Rattle.archive.specs.Store.{Store}
-use Rattle.ua_server.specs.Program.{SettingsAt, Machine, By, CallsPeer, Scene, PrintsSynced, PrintsText, Shows, IsMistaken, DoesLine, Runs}
+use Rattle.ua_server.specs.Program.{SettingsAt, Machine, By, CallsPeer, Scene, PrintsSynced, Shows, IsMistaken, DoesLine, Runs}
 use Rattle.ua_server.specs.Parts.{dump_fault, fault_of, AnswersBy, ServesBy, DumpsBy, SyncsBy}
 use Rattle.counted_io.specs.Tally.{Tally}
 use Rattle.ua_server.proofs.ProgramParts.{IsUnbegun, path_of, Done, Refused}
