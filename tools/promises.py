@@ -3,7 +3,7 @@
 
     tools/promises.py [--silent] [CRATE ..]
 
-It reads the sources in crates/*/src. A clause says something of the Err side where it speaks of the whole `result`, and not
+It reads the sources in crates/*/src, but for those of tests and of their rows. A clause says something of the Err side where it speaks of the whole `result`, and not
 only of what stands in an Ok (IfOk, OnOk, or the Ok of an equation under it). With --silent only the functions are listed of
 whose Err no clause says anything. How much a clause says it can't tell: that is for a reader.
 """
@@ -85,7 +85,7 @@ def functions(crate):
 
 
 def main():
-    crates = words or sorted(os.listdir(top))
+    crates = words or [crate for crate in sorted(os.listdir(top)) if not crate.endswith(("_rows", "_tests"))]
     every = {}
     for crate in sorted(os.listdir(top)):
         every.update(numbers_of(crate))

@@ -1,0 +1,446 @@
+//! Connections of clients: rows in hex digits, and in pieces, over lists in memory and over SQLite.
+
+use crate::clients::CLIENTS;
+use crate::rows::{ROWS, SESSION};
+use archive::Archive;
+use exchange::Replica;
+use records::read_record;
+use server_rows::ends::{Narrow, Slow};
+use server_rows::plant::{archive_of, clock, plant};
+use server_rows::streams::{
+    ACK, ANSWER, BEGIN, BEGUN, HELLO, OPEN, OPENED, REQUEST, bytes_of, is_joined,
+};
+use sql_archive::SqlArchive;
+use stamp::ReplicaNo;
+use std::alloc::Global;
+use std::io;
+use std::io::{Read, Write};
+use std::test::Fail;
+use ua_server::{
+    Clock, Counted, HexFault, ServeFault, Served, SystemClock, answer_hex, answers_go_item_by_item,
+    chunks_are_counted, dump, serve,
+};
+use ua_settings::Settings;
+use uuid::Uuid;
+
+/// Is interrupted before each byte that it gives or takes.
+#[derive(Drop)]
+struct Halting<T> {
+    inner: T,
+    halts: bool,
+}
+
+impl<T> Halting<T> {
+    fn halt(&mut self) -> io::Result<()> {
+        self.halts = !self.halts;
+        if self.halts {
+            return Err(io::Error::from(io::ErrorKind::Interrupted));
+        }
+        Ok(())
+    }
+}
+
+impl Read for Halting<Slow<'_>> {
+    fn read(&mut self, buf: &mut [u8]) -> io::Result<usize> {
+        self.halt()?;
+        self.inner.read(buf)
+    }
+}
+
+impl Write for Halting<Narrow> {
+    fn write(&mut self, buf: &[u8]) -> io::Result<usize> {
+        self.halt()?;
+        self.inner.write(buf)
+    }
+
+    fn flush(&mut self) -> io::Result<()> {
+        Ok(())
+    }
+}
+
+/// The parts, one after the other.
+fn joined(alloc: Global, parts: &[&str]) -> Result<String, Fail> {
+    let mut text = String::new(alloc);
+    for part in parts {
+        text.push_str(part)?;
+    }
+    Ok(text)
+}
+
+/// The answer of a server without settings, over an archive that holds nothing.
+fn answer(alloc: Global, text: &str, out: &mut Vec<u8>) -> Result<Served, HexFault> {
+    let Ok(settings) = Settings::bare(alloc) else {
+        return Err(HexFault::Serve(ServeFault::OutOfMemory));
+    };
+    let mut replica = Replica::new(archive_of(alloc, &settings));
+    answer_hex(alloc, &settings, &mut replica, text, out, &mut clock())
+}
+
+/// Such a server serves a client.
+fn serve_bare<R: Read, W: Write>(
+    alloc: Global,
+    reader: &mut Counted<R>,
+    writer: &mut Counted<W>,
+) -> Result<Served, ServeFault> {
+    let Ok(settings) = Settings::bare(alloc) else {
+        return Err(ServeFault::OutOfMemory);
+    };
+    let mut replica = Replica::new(archive_of(alloc, &settings));
+    serve(alloc, &settings, &mut replica, reader, writer, &mut clock())
+}
+
+/// A connection in hex digits is answered so.
+fn is_answered(alloc: Global, text: &str, want: &[&str], ending: Served) -> Result<bool, Fail> {
+    let mut out = Vec::new(alloc);
+    let served = answer(alloc, text, &mut out)?;
+    Ok(served == ending && is_joined(out.as_slice(), want))
+}
+
+#[test]
+fn answers_in_hex(rt: HostRuntime) -> Result<(), Fail> {
+    for (what, input, want, ending) in ROWS {
+        let text = joined(rt.alloc(), input)?;
+        assert!(rt;
+            is_answered(rt.alloc(), text.as_str(), want, ending)?,
+            "{what}"
+        );
+    }
+    Ok(())
+}
+
+/// What a plant writes over this replica to a client that begins a session and asks this.
+fn served_to<A: Archive>(
+    alloc: Global,
+    settings: &Settings,
+    replica: &mut Replica<A>,
+    rows: &[(&str, &str, &str)],
+) -> Result<Vec<u8>, Fail> {
+    let mut input = bytes_of(alloc, &[HELLO, OPEN, BEGIN[0], BEGIN[1]])?;
+    for (_, request, _) in rows {
+        let bytes = bytes_of(alloc, &[request])?;
+        input.extend_from_slice(bytes.as_slice())?;
+    }
+    let mut reader = Counted::new(input.as_slice());
+    let mut writer = Counted::new(Vec::new(alloc));
+    serve(
+        alloc,
+        settings,
+        replica,
+        &mut reader,
+        &mut writer,
+        &mut clock(),
+    )?;
+    Ok(writer.into_inner())
+}
+
+/// The first row, by its name, whose answer isn't the next one that was written; what is behind all rows is named so.
+fn first_other<'a>(
+    alloc: Global,
+    written: &[u8],
+    rows: &[(&'a str, &str, &str)],
+) -> Result<Option<&'a str>, Fail> {
+    let begun = bytes_of(alloc, &[ACK, OPENED, BEGUN[0], BEGUN[1]])?;
+    let mut rest = written.strip_prefix(begun.as_slice()).ok_or("a session")?;
+    for (name, _, answer) in rows {
+        let want = bytes_of(alloc, &[answer])?;
+        match rest.strip_prefix(want.as_slice()) {
+            Some(after) => rest = after,
+            None => return Ok(Some(name)),
+        }
+    }
+    Ok(if rest.is_empty() {
+        None
+    } else {
+        Some("the end")
+    })
+}
+
+#[test]
+fn serves_clients_of_a_plant(rt: HostRuntime) -> Result<(), Fail> {
+    let settings = plant(rt.alloc())?;
+    for (client, rows) in CLIENTS {
+        let mut replica = Replica::new(archive_of(rt.alloc(), &settings));
+        let written = served_to(rt.alloc(), &settings, &mut replica, rows)?;
+        assert_eq!(rt;
+            first_other(rt.alloc(), written.as_slice(), rows)?,
+            None,
+            "{client}"
+        );
+    }
+    Ok(())
+}
+
+/// The same over an archive in SQLite.
+#[test]
+fn serves_clients_over_a_store(rt: HostRuntime) -> Result<(), Fail> {
+    let settings = plant(rt.alloc())?;
+    for (client, rows) in CLIENTS {
+        let archive = SqlArchive::open_in_memory(
+            rt.alloc(),
+            settings.archive(),
+            settings.replica(),
+        )?;
+        let mut replica = Replica::new(archive);
+        let written = served_to(rt.alloc(), &settings, &mut replica, rows)?;
+        assert_eq!(rt;
+            first_other(rt.alloc(), written.as_slice(), rows)?,
+            None,
+            "{client}"
+        );
+    }
+    Ok(())
+}
+
+/// The record of an insert of 7 at 10.
+const INSERT_7: &str =
+    "02010100000000000000640000000000000003010001000000540A0000000000000000000103000000616E6E010607000000";
+
+/// What a dump writes of an archive in SQLite that learned the record with these digits.
+fn dumped(alloc: Global, digits: &str) -> Result<Vec<u8>, Fail> {
+    let one = ReplicaNo::new(1).ok_or("a replica")?;
+    let mut archive = SqlArchive::open_in_memory(alloc, Uuid::nil(), one)?;
+    let bytes = bytes_of(alloc, &[digits])?;
+    let record = read_record(alloc, bytes.as_slice())?;
+    if !record.is_lawful() || archive.learn(&record) != Ok(true) {
+        return Err(Fail::from("not learned"));
+    }
+    let mut output = Counted::new(Vec::new(alloc));
+    match dump(alloc, &mut archive, &mut output) {
+        Ok(()) => Ok(output.into_inner()),
+        Err(_) => Err(Fail::from("not dumped")),
+    }
+}
+
+#[test]
+fn dumps_a_store(rt: HostRuntime) -> Result<(), Fail> {
+    let line = joined(rt.alloc(), &["1 1 100 ", INSERT_7, "\n"])?;
+    let written = dumped(rt.alloc(), INSERT_7)?;
+    assert_eq!(rt; written.as_slice(), line.as_bytes());
+    Ok(())
+}
+
+/// The connection is served so from pieces of this size, with no fault; the reader fails at its end where it is told to.
+fn is_served(alloc: Global, bytes: &[u8], size: usize, fails: bool, want: &[u8]) -> bool {
+    let mut reader = Counted::new(Slow { bytes, size, fails });
+    let mut writer = Counted::new(Vec::new(alloc));
+    let result = serve_bare(alloc, &mut reader, &mut writer);
+    let ending = if fails {
+        Err(ServeFault::Read)
+    } else {
+        Ok(Served::EndOfInput)
+    };
+    let faults = if fails { 1 } else { 0 };
+    result == ending
+        && reader.faults() == faults
+        && writer.faults() == 0
+        && writer.into_inner().as_slice() == want
+}
+
+/// A writer that takes so many bytes has just these, and its failed call is counted.
+fn is_written(alloc: Global, bytes: &[u8], room: usize, want: &[u8]) -> bool {
+    let mut reader = Counted::new(bytes);
+    let mut writer = Counted::new(Narrow {
+        bytes: Vec::new(alloc),
+        room,
+    });
+    let result = serve_bare(alloc, &mut reader, &mut writer);
+    let (ending, faults) = if room < want.len() {
+        (Err(ServeFault::Write), 1)
+    } else {
+        (Ok(Served::EndOfInput), 0)
+    };
+    result == ending
+        && reader.faults() == 0
+        && writer.faults() == faults
+        && Some(writer.into_inner().bytes.as_slice()) == want.get(..room.min(want.len()))
+}
+
+/// How many bytes answer a front of a Hello, an opening and a message.
+fn answered_of(front: usize) -> usize {
+    match front {
+        0..56 => 0,
+        56..188 => 28,
+        188..243 => 163,
+        _ => 215,
+    }
+}
+
+#[test]
+fn serves_in_pieces(rt: HostRuntime) -> Result<(), Fail> {
+    let input = bytes_of(rt.alloc(), &[HELLO, OPEN, REQUEST])?;
+    let want = bytes_of(rt.alloc(), &[ACK, OPENED, ANSWER])?;
+    assert_eq!(rt; (input.len(), want.len()), (243, 215));
+    for size in 1..244 {
+        assert!(rt;
+            is_served(rt.alloc(), input.as_slice(), size, false, want.as_slice()),
+            "{size}"
+        );
+    }
+    Ok(())
+}
+
+#[test]
+fn serves_each_front(rt: HostRuntime) -> Result<(), Fail> {
+    let input = bytes_of(rt.alloc(), &[HELLO, OPEN, REQUEST])?;
+    let want = bytes_of(rt.alloc(), &[ACK, OPENED, ANSWER])?;
+    for count in 0..244 {
+        let bytes = input.get(..count).ok_or("a front")?;
+        let out = want.get(..answered_of(count)).ok_or("a front")?;
+        for fails in [true, false] {
+            assert!(rt; is_served(rt.alloc(), bytes, 1, fails, out), "{count}");
+        }
+    }
+    Ok(())
+}
+
+#[test]
+fn stops_where_the_writer_does(rt: HostRuntime) -> Result<(), Fail> {
+    let input = bytes_of(rt.alloc(), &[HELLO, OPEN, REQUEST])?;
+    let want = bytes_of(rt.alloc(), &[ACK, OPENED, ANSWER])?;
+    for room in 0..217 {
+        assert!(rt;
+            is_written(rt.alloc(), input.as_slice(), room, want.as_slice()),
+            "{room}"
+        );
+    }
+    Ok(())
+}
+
+/// Whether such a connection is served so where each call is interrupted before.
+fn is_served_halting(alloc: Global, bytes: &[u8], want: &[u8]) -> bool {
+    let mut reader = Counted::new(Halting {
+        inner: Slow {
+            bytes,
+            size: 1,
+            fails: false,
+        },
+        halts: false,
+    });
+    let mut writer = Counted::new(Halting {
+        inner: Narrow {
+            bytes: Vec::new(alloc),
+            room: 1000,
+        },
+        halts: false,
+    });
+    let result = serve_bare(alloc, &mut reader, &mut writer);
+    result == Ok(Served::EndOfInput)
+        && reader.faults() == 0
+        && writer.faults() == 0
+        && writer.into_inner().inner.bytes.as_slice() == want
+}
+
+/// A call that was interrupted is tried again, and counts as no failed one.
+#[test]
+fn goes_on_where_it_was_interrupted(rt: HostRuntime) -> Result<(), Fail> {
+    let input = bytes_of(rt.alloc(), &[HELLO, OPEN, REQUEST])?;
+    let want = bytes_of(rt.alloc(), &[ACK, OPENED, ANSWER])?;
+    assert!(rt; is_served_halting(rt.alloc(), input.as_slice(), want.as_slice()));
+    Ok(())
+}
+
+/// A connection with so many chunks of one message, of no byte each.
+fn many_chunks(alloc: Global, count: u8) -> Result<Vec<u8>, Fail> {
+    let mut bytes = bytes_of(alloc, &[HELLO, OPEN])?;
+    for number in 0..count {
+        bytes.extend_from_slice(b"MSGC\x18\0\0\0\x01\0\0\0\x01\0\0\0")?;
+        bytes.extend_from_slice(&[number.saturating_add(2), 0, 0, 0, 2, 0, 0, 0])?;
+    }
+    Ok(bytes)
+}
+
+/// How many chunks of one message come, what goes out, and how the connection ends.
+static COUNTS: [(u8, &[&str], Served); 2] = [
+    (64, &[ACK, OPENED], Served::EndOfInput),
+    (
+        65,
+        &[ACK, OPENED, "455252461000000000008080FFFFFFFF"],
+        Served::Refused(0x8080_0000),
+    ),
+];
+
+/// A message has 64 chunks, and not 65.
+#[test]
+fn bounds_a_message(rt: HostRuntime) -> Result<(), Fail> {
+    for (count, want, ending) in COUNTS {
+        let input = many_chunks(rt.alloc(), count)?;
+        let text = hex::encode(rt.alloc(), input.as_slice())?;
+        assert!(rt;
+            is_answered(rt.alloc(), text.as_str(), want, ending)?,
+            "{count}"
+        );
+    }
+    Ok(())
+}
+
+/// A connection with so many chunks behind the opening, each of which gives up a message.
+fn many_given_up(alloc: Global, count: u32) -> Result<Vec<u8>, Fail> {
+    let mut bytes = bytes_of(alloc, &[HELLO, OPEN])?;
+    for number in 0..count {
+        bytes.extend_from_slice(b"MSGA\x18\0\0\0\x01\0\0\0\x01\0\0\0")?;
+        bytes.extend_from_slice(&number.saturating_add(2).to_le_bytes())?;
+        bytes.extend_from_slice(b"\x02\0\0\0")?;
+    }
+    Ok(bytes)
+}
+
+/// A connection has 1,000,000 chunks, the Hello and the opening among them, and not one more.
+#[test]
+fn bounds_a_connection(rt: HostRuntime) -> Result<(), Fail> {
+    let want = bytes_of(rt.alloc(), &[ACK, OPENED])?;
+    for (count, ending) in [
+        (999_998, Ok(Served::EndOfInput)),
+        (999_999, Err(ServeFault::TooLong)),
+    ] {
+        let input = many_given_up(rt.alloc(), count)?;
+        let mut reader = Counted::new(input.as_slice());
+        let mut writer = Counted::new(Vec::new(rt.alloc()));
+        let result = serve_bare(rt.alloc(), &mut reader, &mut writer);
+        assert_eq!(rt; result, ending);
+        assert_eq!(rt; writer.into_inner().as_slice(), want.as_slice());
+    }
+    Ok(())
+}
+
+/// The requests or the answers of a session, one behind the other.
+fn session_of(alloc: Global, begin: &[&str], answers: bool) -> Result<String, Fail> {
+    let mut text = joined(alloc, begin)?;
+    for (_, request, response) in SESSION {
+        text.push_str(if answers { response } else { request })?;
+    }
+    Ok(text)
+}
+
+/// Each request of a session is answered so, behind those before it.
+#[test]
+fn serves_a_session(rt: HostRuntime) -> Result<(), Fail> {
+    let text = session_of(rt.alloc(), &[HELLO, OPEN], false)?;
+    let want = session_of(rt.alloc(), &[ACK, OPENED], true)?;
+    assert!(rt;
+        is_answered(
+            rt.alloc(),
+            text.as_str(),
+            &[want.as_str()],
+            Served::EndOfInput
+        )?
+    );
+    Ok(())
+}
+
+#[test]
+fn numbers_its_faults(rt: HostRuntime) {
+    chunks_are_counted();
+    answers_go_item_by_item();
+    for (at, fault) in [
+        ServeFault::Read,
+        ServeFault::Write,
+        ServeFault::TooLong,
+        ServeFault::OutOfMemory,
+    ]
+    .iter()
+    .enumerate()
+    {
+        assert!(rt; fault.number() as usize == at + 1);
+    }
+    assert!(rt; SystemClock::new(&rt).now() >= clock().now());
+}

@@ -1,0 +1,5 @@
+//! Tests: exchanges between replicas, over lists in memory.
+#![tactic(auto)]
+
+#[cfg(test)]
+mod exchanges;

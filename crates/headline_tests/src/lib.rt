@@ -1,0 +1,5 @@
+//! Tests: archives of which the laws' premises hold, run.
+#![tactic(auto)]
+
+#[cfg(test)]
+mod machines;

@@ -1,0 +1,179 @@
+//! Reads over lists in memory: their pages, long ones, and a script of failures.
+
+use HistoryUpdateType::Insert;
+use archive::{Failure, LearnFault, ListArchive, ScriptedArchive};
+use history_rows::archives::{learn, list_archive, scripted_archive};
+use history_rows::reads::{
+    are_of_what_was_held, are_told, asked, first_other_modified, first_other_of_five,
+    first_other_of_one, goes_on_as_before, learn_values, read, refuses_foreign_points,
+};
+use records::HistoryUpdateType;
+use std::alloc::Global;
+use std::test::Fail;
+use ua_binary::{Bytes, Status};
+use ua_services::{HistoryData, ReadRawModifiedDetails, TimestampsToReturn};
+
+#[test]
+fn raw_reads_have_their_pages(rt: HostRuntime) -> Result<(), Fail> {
+    let mut archive = list_archive(rt.alloc())?;
+    assert!(rt; first_other_of_five(rt.alloc(), &mut archive)? == None);
+    Ok(())
+}
+
+#[test]
+fn backward_from_the_only_value(rt: HostRuntime) -> Result<(), Fail> {
+    let mut archive = list_archive(rt.alloc())?;
+    assert!(rt; first_other_of_one(rt.alloc(), &mut archive)? == None);
+    Ok(())
+}
+
+#[test]
+fn modified_reads_have_their_pages(rt: HostRuntime) -> Result<(), Fail> {
+    let mut archive = list_archive(rt.alloc())?;
+    assert!(rt; first_other_modified(rt.alloc(), &mut archive)? == None);
+    Ok(())
+}
+
+#[test]
+fn later_pages_are_of_what_was_held(rt: HostRuntime) -> Result<(), Fail> {
+    let mut archive = list_archive(rt.alloc())?;
+    assert!(rt; are_of_what_was_held(rt.alloc(), &mut archive)?);
+    Ok(())
+}
+
+#[test]
+fn foreign_points_are_refused(rt: HostRuntime) -> Result<(), Fail> {
+    let mut archive = list_archive(rt.alloc())?;
+    assert!(rt; refuses_foreign_points(rt.alloc(), &mut archive)?);
+    Ok(())
+}
+
+// ---- long reads
+
+/// An archive with so many values, at 1 and each time behind it.
+fn long_archive(alloc: Global, count: u16) -> Result<ListArchive, LearnFault> {
+    let mut archive = list_archive(alloc)?;
+    for i in 1..=count {
+        let row = (
+            1,
+            u64::from(i),
+            i64::from(i),
+            i64::from(i),
+            Insert,
+            Some(i32::from(i)),
+        );
+        learn(alloc, &mut archive, &row)?;
+    }
+    Ok(archive)
+}
+
+fn length_of(read: &HistoryData) -> usize {
+    match read {
+        HistoryData::Raw(values) => values.len(),
+        _ => 0,
+    }
+}
+
+/// How many items the page has from a point, and the next one.
+fn next_length(
+    alloc: Global,
+    archive: &mut ListArchive,
+    details: ReadRawModifiedDetails,
+    point: &Option<Bytes>,
+) -> Option<(usize, Option<Bytes>)> {
+    let bytes = point.as_ref().map(|point| point.as_slice());
+    match read(alloc, archive, details, TimestampsToReturn::Source, bytes) {
+        Ok(told) => Some((length_of(&told.history_data), told.continuation_point)),
+        Err(_) => None,
+    }
+}
+
+/// Whether the read has two pages of so many items, and no more.
+fn has_two(
+    alloc: Global,
+    archive: &mut ListArchive,
+    details: ReadRawModifiedDetails,
+    first: usize,
+    second: usize,
+) -> bool {
+    let Some((length, point)) = next_length(alloc, archive, details, &None) else {
+        return false;
+    };
+    length == first
+        && point.is_some()
+        && next_length(alloc, archive, details, &point) == Some((second, None))
+}
+
+/// The end and the count of a read from 1 on, and the lengths of its two pages: of 1,001 values, and of 1,500 of more.
+static LONG_READS: [(i64, u32, usize, usize); 2] = [(1002, 0, 1000, 1), (0, 1500, 1000, 500)];
+
+#[test]
+fn pages_and_reads_have_a_greatest_length(rt: HostRuntime) -> Result<(), Fail> {
+    let mut archive = long_archive(rt.alloc(), 1600)?;
+    for (end, most, first, second) in &LONG_READS {
+        let details = asked(false, 1, *end, *most, false);
+        assert!(rt;
+            has_two(rt.alloc(), &mut archive, details, *first, *second),
+            "{end} {most}"
+        );
+    }
+    Ok(())
+}
+
+// ---- faults
+
+/// The archive of the five values, whose call of this number behind its learning fails so.
+fn failing(alloc: Global, call: u64, failure: Failure) -> Result<ScriptedArchive, LearnFault> {
+    let mut archive = scripted_archive(alloc, call, failure)?;
+    learn_values(alloc, &mut archive)?;
+    Ok(archive)
+}
+
+/// The call that fails behind five of learning, how, and what the read is answered, twice.
+static FAULTS: [(u64, Failure, Status, Status); 5] = [
+    (
+        6,
+        Failure::OutOfMemory,
+        Status::BAD_OUT_OF_MEMORY,
+        Status::GOOD,
+    ),
+    (
+        6,
+        Failure::Refused,
+        Status::BAD_RESOURCE_UNAVAILABLE,
+        Status::GOOD,
+    ),
+    (
+        7,
+        Failure::Refused,
+        Status::BAD_RESOURCE_UNAVAILABLE,
+        Status::GOOD,
+    ),
+    (
+        7,
+        Failure::BrokenBefore,
+        Status::BAD_RESOURCE_UNAVAILABLE,
+        Status::BAD_RESOURCE_UNAVAILABLE,
+    ),
+    (0, Failure::Refused, Status::GOOD, Status::GOOD),
+];
+
+#[test]
+fn faults_are_told(rt: HostRuntime) -> Result<(), Fail> {
+    for (call, failure, first, second) in &FAULTS {
+        let mut archive = failing(rt.alloc(), *call, *failure)?;
+        assert!(rt;
+            are_told(rt.alloc(), &mut archive, *first, *second),
+            "{call} {failure:?}"
+        );
+    }
+    Ok(())
+}
+
+#[test]
+fn no_more_is_asked_than_a_page_needs(rt: HostRuntime) -> Result<(), Fail> {
+    let mut archive = failing(rt.alloc(), 0, Failure::Refused)?;
+    assert!(rt; goes_on_as_before(rt.alloc(), &mut archive));
+    assert!(rt; archive.greatest_limit() <= 4);
+    Ok(())
+}

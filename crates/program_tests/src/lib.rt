@@ -1,0 +1,5 @@
+//! Tests: command lines, and what a run of the program prints and tells.
+#![tactic(auto)]
+
+#[cfg(test)]
+mod runs;

@@ -1,0 +1,620 @@
+//! Command lines, settings files and what runs print.
+
+use archive::{ListArchive, StoreFault};
+use server_rows::ends::Narrow;
+use server_rows::network::{Client, Machine};
+use stamp::ReplicaNo;
+use std::alloc::Global;
+use ua_server::{
+    ConstantClock, Counted, Line, LineFault, ProgramFault, ServeFault, SettingsFiles, Stores,
+    read_line, report, run,
+};
+use uuid::Uuid;
+
+/// Command lines, and what they are.
+static LINES: [(&[&str], Result<Line<'static>, LineFault>); 38] = [
+    (
+        &[
+            "uahist",
+            "sync",
+            "--settings",
+            "plant.toml",
+            "--peer",
+            "10.0.0.2:4840",
+        ],
+        Ok(Line::Sync {
+            settings: "plant.toml",
+            peer: "10.0.0.2:4840",
+        }),
+    ),
+    (&["uahist", "sync"], Err(LineFault::Words)),
+    (
+        &["uahist", "sync", "--settings", "a"],
+        Err(LineFault::Words),
+    ),
+    (
+        &["uahist", "sync", "--peer", "10.0.0.2:4840"],
+        Err(LineFault::Words),
+    ),
+    (
+        &["uahist", "dump", "--settings", "plant.toml"],
+        Ok(Line::Dump {
+            settings: "plant.toml",
+        }),
+    ),
+    (&["uahist", "dump"], Err(LineFault::Words)),
+    (
+        &["uahist", "dump", "--settings", "a", "--hex"],
+        Err(LineFault::Words),
+    ),
+    (
+        &["uahist", "answer"],
+        Ok(Line::Answer {
+            settings: None,
+            hex: false,
+            now: None,
+        }),
+    ),
+    (
+        &["uahist", "answer", "--hex"],
+        Ok(Line::Answer {
+            settings: None,
+            hex: true,
+            now: None,
+        }),
+    ),
+    (
+        &["uahist", "answer", "--now", "0"],
+        Ok(Line::Answer {
+            settings: None,
+            hex: false,
+            now: Some(0),
+        }),
+    ),
+    (
+        &["uahist", "answer", "--now=5"],
+        Ok(Line::Answer {
+            settings: None,
+            hex: false,
+            now: Some(5),
+        }),
+    ),
+    (
+        &["uahist", "answer", "--now", "116444736000000000", "--hex"],
+        Ok(Line::Answer {
+            settings: None,
+            hex: true,
+            now: Some(116_444_736_000_000_000),
+        }),
+    ),
+    (
+        &["uahist", "answer", "--now", "9223372036854775807"],
+        Ok(Line::Answer {
+            settings: None,
+            hex: false,
+            now: Some(i64::MAX),
+        }),
+    ),
+    (
+        &["uahist", "answer", "--now", "9223372036854775808"],
+        Err(LineFault::Words),
+    ),
+    (&["uahist", "answer", "--now=-1"], Err(LineFault::Words)),
+    (
+        &["uahist", "answer", "--settings", "plant.toml", "--hex"],
+        Ok(Line::Answer {
+            settings: Some("plant.toml"),
+            hex: true,
+            now: None,
+        }),
+    ),
+    (&["uahist", "answer", "--settings"], Err(LineFault::Words)),
+    (
+        &["uahist", "answer", "--settings=a", "--settings=b"],
+        Err(LineFault::Words),
+    ),
+    (&["uahist", "answer", "--now", "5x"], Err(LineFault::Words)),
+    (&["uahist", "answer", "--now"], Err(LineFault::Words)),
+    (
+        &["uahist", "answer", "--now", "5", "--now", "6"],
+        Err(LineFault::Words),
+    ),
+    (&[], Err(LineFault::Words)),
+    (&["uahist"], Err(LineFault::Words)),
+    (&["uahist", "--help"], Err(LineFault::Words)),
+    (&["uahist", "help"], Err(LineFault::Words)),
+    (&["uahist", "dump"], Err(LineFault::Words)),
+    (&["uahist", "answer", "--hex=1"], Err(LineFault::Words)),
+    (&["uahist", "answer", "more"], Err(LineFault::Words)),
+    (
+        &["uahist", "answer", "--hex", "--hex"],
+        Err(LineFault::Words),
+    ),
+    (
+        &["uahist", "serve", "--settings", "plant.toml"],
+        Ok(Line::Serve {
+            settings: "plant.toml",
+            connections: u32::MAX,
+        }),
+    ),
+    (
+        &[
+            "uahist",
+            "serve",
+            "--connections",
+            "4294967295",
+            "--settings=a",
+        ],
+        Ok(Line::Serve {
+            settings: "a",
+            connections: u32::MAX,
+        }),
+    ),
+    (
+        &["uahist", "serve", "--settings", "a", "--connections", "1"],
+        Ok(Line::Serve {
+            settings: "a",
+            connections: 1,
+        }),
+    ),
+    (&["uahist", "serve"], Err(LineFault::Words)),
+    (
+        &["uahist", "serve", "--connections", "1"],
+        Err(LineFault::Words),
+    ),
+    (
+        &["uahist", "serve", "--settings", "a", "--connections", "0"],
+        Err(LineFault::Words),
+    ),
+    (
+        &[
+            "uahist",
+            "serve",
+            "--settings=a",
+            "--connections=4294967296",
+        ],
+        Err(LineFault::Words),
+    ),
+    (
+        &["uahist", "serve", "--settings", "a", "--hex"],
+        Err(LineFault::Words),
+    ),
+    (
+        &["uahist", "answer", "--connections", "1"],
+        Err(LineFault::Words),
+    ),
+];
+
+#[test]
+fn reads_lines(rt: HostRuntime) {
+    for (at, (words, want)) in LINES.iter().enumerate() {
+        assert!(rt; read_line(rt.alloc(), words) == *want, "{at}");
+    }
+}
+
+/// Command lines, the input, the room of the output, what it has then, what is said, and the exit status.
+static RUNS: [(&[&str], &[u8], usize, &str, &str, u8); 28] = [
+    (
+        &[
+            "uahist",
+            "sync",
+            "--settings",
+            "good",
+            "--peer",
+            "127.0.0.1:4842",
+        ],
+        b"",
+        1000,
+        "learned 0 sent 0\n",
+        "",
+        0,
+    ),
+    (
+        &[
+            "uahist",
+            "sync",
+            "--settings",
+            "good",
+            "--peer",
+            "127.0.0.1:4842",
+        ],
+        b"",
+        5,
+        "learn",
+        "uahist: connection ended (2)\n",
+        1,
+    ),
+    (
+        &["uahist", "sync", "--settings", "good", "--peer", "plant"],
+        b"",
+        1000,
+        "",
+        "uahist: address refused\n",
+        1,
+    ),
+    (
+        &[
+            "uahist",
+            "sync",
+            "--settings",
+            "good",
+            "--peer",
+            "127.0.0.1:4841",
+        ],
+        b"",
+        1000,
+        "",
+        "uahist: address refused\n",
+        1,
+    ),
+    (
+        &[
+            "uahist",
+            "sync",
+            "--settings",
+            "good",
+            "--peer",
+            "127.0.0.1:4840",
+        ],
+        b"",
+        1000,
+        "",
+        "uahist: exchange ended (1)\n",
+        1,
+    ),
+    (
+        &[
+            "uahist",
+            "sync",
+            "--settings",
+            "good",
+            "--peer",
+            "127.0.0.1:4843",
+        ],
+        b"",
+        1000,
+        "",
+        "uahist: exchange ended (123456789)\n",
+        1,
+    ),
+    (
+        &["uahist", "answer", "--hex"],
+        b"525856461B00000002000000000000000000000000000000000200",
+        1000,
+        "525844461F0000000200000000000000000000000000000000010000000000\n",
+        "",
+        0,
+    ),
+    (
+        &["uahist", "dump", "--settings", "good"],
+        b"",
+        1000,
+        "",
+        "",
+        0,
+    ),
+    (
+        &["uahist", "dump", "--settings", "kept"],
+        b"",
+        1000,
+        "",
+        "",
+        0,
+    ),
+    (
+        &["uahist", "dump", "--settings", "others"],
+        b"",
+        1000,
+        "",
+        "uahist: store refused (4)\n",
+        3,
+    ),
+    (
+        &["uahist", "answer", "--settings", "others", "--hex"],
+        b"4G",
+        1000,
+        "",
+        "uahist: store refused (4)\n",
+        3,
+    ),
+    (
+        &["uahist", "answer", "--hex"],
+        b"474554202F000000",
+        1000,
+        "455252461000000000007E80FFFFFFFF\n",
+        "",
+        0,
+    ),
+    (&["uahist", "answer", "--hex"], b"", 1000, "\n", "", 0),
+    (
+        &["uahist", "answer"],
+        b"GET /\0\0\0",
+        1000,
+        "ERRF\x10\0\0\0",
+        "",
+        0,
+    ),
+    (
+        &["uahist", "answer", "--hex"],
+        b"4G",
+        1000,
+        "",
+        "uahist: bad hex\n",
+        2,
+    ),
+    (
+        &["uahist", "answer", "--hex"],
+        b"48\xFF",
+        1000,
+        "",
+        "uahist: bad hex\n",
+        2,
+    ),
+    (
+        &["uahist", "answer", "--hex"],
+        b"474554202F000000",
+        5,
+        "45525",
+        "uahist: connection ended (2)\n",
+        1,
+    ),
+    (
+        &["uahist", "serve"],
+        b"",
+        1000,
+        "",
+        "uahist: usage: uahist answer [--settings FILE] [--hex] [--now N] | serve --settings FILE [--connections N] | dump --settings FILE | sync --settings FILE --peer ADDRESS\n",
+        2,
+    ),
+    (
+        &["uahist", "answer", "--settings", "good", "--hex"],
+        b"474554202F000000",
+        1000,
+        "455252461000000000007E80FFFFFFFF\n",
+        "",
+        0,
+    ),
+    (
+        &["uahist", "answer", "--settings", "none", "--hex"],
+        b"4G",
+        1000,
+        "",
+        "uahist: settings file can't be read\n",
+        2,
+    ),
+    (
+        &["uahist", "answer", "--settings", "short", "--hex"],
+        b"4G",
+        1000,
+        "",
+        "uahist: settings refused (2)\nuahist: [server] namespace\n",
+        2,
+    ),
+    (
+        &["uahist", "answer", "--settings", "cut", "--hex"],
+        b"4G",
+        1000,
+        "",
+        "uahist: settings refused (1)\nuahist: line 6\n",
+        2,
+    ),
+    (
+        &["uahist", "answer", "--settings", "good", "--hex"],
+        b"4G",
+        1000,
+        "",
+        "uahist: bad hex\n",
+        2,
+    ),
+    (
+        &["uahist", "serve", "--settings", "none"],
+        b"",
+        1000,
+        "",
+        "uahist: settings file can't be read\n",
+        2,
+    ),
+    (
+        &["uahist", "serve", "--settings", "short"],
+        b"",
+        1000,
+        "",
+        "uahist: settings refused (2)\nuahist: [server] namespace\n",
+        2,
+    ),
+    (
+        &["uahist", "serve", "--settings", "good"],
+        b"",
+        1000,
+        "",
+        "uahist: address refused\n",
+        1,
+    ),
+    (
+        &["uahist", "serve", "--settings", "busy"],
+        b"",
+        1000,
+        "",
+        "uahist: address refused\n",
+        1,
+    ),
+    (
+        &[
+            "uahist",
+            "serve",
+            "--settings",
+            "open",
+            "--connections",
+            "3",
+        ],
+        b"",
+        1000,
+        "",
+        "uahist: connection ended (2)\nuahist: connection ended (1)\n",
+        0,
+    ),
+];
+
+/// Settings files that are kept in memory: their names, and their texts.
+static FILES: [(&str, &str); 7] = [
+    (
+        "kept",
+        "[archive]\nid = '00000000000000000000000000000000'\nreplica = 1\nstore = 'own.db'\n[server]\nlisten = ''\nurl = ''\napplication = ''\nnamespace = ''\nanonymous = true\n",
+    ),
+    (
+        "others",
+        "[archive]\nid = '00000000000000000000000000000000'\nreplica = 1\nstore = 'other.db'\n[server]\nlisten = ''\nurl = ''\napplication = ''\nnamespace = ''\nanonymous = true\n",
+    ),
+    (
+        "open",
+        "[archive]\nid = '00000000000000000000000000000000'\nreplica = 1\n[server]\nlisten = '127.0.0.1:4840'\nurl = ''\napplication = ''\nnamespace = ''\nanonymous = true\n",
+    ),
+    (
+        "busy",
+        "[archive]\nid = '00000000000000000000000000000000'\nreplica = 1\n[server]\nlisten = '[::1]:4841'\nurl = ''\napplication = ''\nnamespace = ''\nanonymous = true\n",
+    ),
+    (
+        "good",
+        "[archive]\nid = '00000000000000000000000000000000'\nreplica = 1\n[server]\nlisten = ''\nurl = ''\napplication = ''\nnamespace = ''\nanonymous = true\n",
+    ),
+    (
+        "short",
+        "[archive]\nid = '00000000000000000000000000000000'\nreplica = 1\n[server]\nlisten = ''\nurl = ''\napplication = ''\nanonymous = true\n",
+    ),
+    (
+        "cut",
+        "[archive]\nid = '00000000000000000000000000000000'\nreplica = 1\n[server]\nlisten = ''\nurl =\n",
+    ),
+];
+
+/// The files above.
+#[derive(Drop)]
+struct Kept(Global);
+
+impl SettingsFiles for Kept {
+    ghost gave = { λ old path text new. Unit {0} };
+
+    fn text(&mut self, path: &str) -> Option<String> {
+        let (_, text) = FILES.iter().find(|(name, _)| *name == path)?;
+        String::from_str(self.0, text).ok()
+    }
+}
+
+/// Stores in memory: each path but one opens an archive that holds nothing.
+#[derive(Drop)]
+struct Memories(Global);
+
+impl Stores for Memories {
+    type Kept = ListArchive;
+
+    ghost opened = { λ old path id number opening new. Unit {0} };
+
+    fn open(&mut self, path: &str, id: Uuid, number: ReplicaNo) -> Result<ListArchive, StoreFault> {
+        if path == "other.db" {
+            return Err(StoreFault::WrongArchive);
+        }
+        Ok(ListArchive::new(self.0, id, number))
+    }
+
+    fn in_memory(&self, id: Uuid, number: ReplicaNo) -> Result<ListArchive, StoreFault> {
+        Ok(ListArchive::new(self.0, id, number))
+    }
+}
+
+/// Over the network come a client that ends well, one that takes no answer, and then nobody.
+static CALLERS: [Option<Client<'static>>; 2] = [
+    Some(Client {
+        bytes: b"GET /\0\0\0",
+        breaks: false,
+        room: 100,
+    }),
+    Some(Client {
+        bytes: b"GET /\0\0\0",
+        breaks: false,
+        room: 0,
+    }),
+];
+
+/// They come to this machine.
+fn machine(alloc: Global) -> Machine<'static> {
+    Machine {
+        alloc,
+        clients: &CALLERS,
+    }
+}
+
+/// What a run prints begins so, and this is said.
+fn is_run(
+    alloc: Global,
+    words: &[&str],
+    input: &[u8],
+    room: usize,
+    printed: &str,
+    said: &str,
+    status: u8,
+) -> bool {
+    let mut errors = Counted::new(Vec::new(alloc));
+    let mut reader = Counted::new(input);
+    let mut writer = Counted::new(Narrow {
+        bytes: Vec::new(alloc),
+        room,
+    });
+    let ending = run(
+        alloc,
+        words,
+        &mut Kept(alloc),
+        &mut Memories(alloc),
+        &mut machine(alloc),
+        &mut reader,
+        &mut writer,
+        &mut errors,
+        &mut ConstantClock(116_444_736_000_000_000),
+    );
+    report(ending, &mut errors) == status
+        && writer.into_inner().bytes.starts_with(printed.as_bytes())
+        && errors.into_inner().as_slice() == said.as_bytes()
+}
+
+#[test]
+fn runs_and_reports(rt: HostRuntime) {
+    for (words, input, room, printed, said, status) in RUNS {
+        assert!(rt;
+            is_run(rt.alloc(), words, input, room, printed, said, status),
+            "{said}"
+        );
+    }
+}
+
+/// What is said of this ending, and the exit status.
+fn is_told(alloc: Global, ending: Result<(), ProgramFault>, said: &str, status: u8) -> bool {
+    let mut errors = Counted::new(Vec::new(alloc));
+    report(ending, &mut errors) == status && errors.into_inner().as_slice() == said.as_bytes()
+}
+
+#[test]
+fn tells_each_fault(rt: HostRuntime) {
+    for (fault, said, status) in [
+        (
+            ProgramFault::Connection(ServeFault::Read),
+            "uahist: connection ended (1)\n",
+            1,
+        ),
+        (
+            ProgramFault::Connection(ServeFault::TooLong),
+            "uahist: connection ended (3)\n",
+            1,
+        ),
+        (
+            ProgramFault::Connection(ServeFault::OutOfMemory),
+            "uahist: connection ended (4)\n",
+            1,
+        ),
+        (
+            ProgramFault::Line(LineFault::OutOfMemory),
+            "uahist: memory ran out before the command began\n",
+            2,
+        ),
+    ] {
+        assert!(rt; is_told(rt.alloc(), Err(fault), said, status), "{said}");
+    }
+}

@@ -1,0 +1,53 @@
+//! A plant, its archive and its clock.
+
+use archive::ListArchive;
+use stamp::ReplicaNo;
+use std::alloc::Global;
+use std::test::Fail;
+use ua_binary::Text;
+use ua_server::ConstantClock;
+use ua_session::Users;
+use ua_settings::{Parts, Settings};
+use ua_space::{Plan, Space, VariablePlan};
+use uuid::Uuid;
+
+/// A clock that stands at 1970-01-01.
+pub fn clock() -> ConstantClock {
+    ConstantClock(116_444_736_000_000_000)
+}
+
+/// The archive of these settings, which holds nothing.
+pub fn archive_of(alloc: Global, settings: &Settings) -> ListArchive {
+    ListArchive::new(alloc, settings.archive(), settings.replica())
+}
+
+/// A plant with the one variable `ns=1;s=T`, an Int32, at the replica of this number; none where it is no replica's, or for want
+/// of memory.
+pub fn plant_of(alloc: Global, number: u8) -> Option<Settings> {
+    let plan = Plan {
+        namespace: "urn:uahist:archive",
+        folders: &[],
+        variables: &[VariablePlan {
+            id: "T",
+            name: "T",
+            type_name: "Int32",
+            array: false,
+            folder: None,
+        }],
+    };
+    Some(Settings::of(Parts {
+        archive: Uuid::nil(),
+        replica: ReplicaNo::new(number)?,
+        store: None,
+        listen: Text::from_str(alloc, "127.0.0.1:4840").ok()?,
+        url: Text::from_str(alloc, "opc.tcp://localhost:4840").ok()?,
+        application: Text::from_str(alloc, "urn:uahist").ok()?,
+        users: Users::new(alloc, true),
+        space: Space::build(alloc, &plan).ok()?,
+    }))
+}
+
+/// The plant of replica 1.
+pub fn plant(alloc: Global) -> Result<Settings, Fail> {
+    Ok(plant_of(alloc, 1).ok_or("a plant")?)
+}

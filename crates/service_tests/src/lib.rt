@@ -1,0 +1,5 @@
+//! Tests: requests to the services in rows.
+#![tactic(auto)]
+
+#[cfg(test)]
+mod services;
