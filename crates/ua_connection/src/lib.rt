@@ -17,4 +17,4 @@ pub use connection::MOST_CHUNKS;
 pub use laws::{answers_go_item_by_item, chunks_are_counted};
 pub use line::{Line, Wires};
 pub use outcome::Served;
-pub use serving::{serve, serve_from, serve_over};
+pub use serving::serve;
