@@ -1,4 +1,4 @@
-use Rattle.std.proofs.Common.{◌≡◌, ◌∙◌, Ok, Err, sym, ap}
+use Rattle.std.proofs.Common.{◌≡◌, ◌∙◌, Ok, sym, ap}
 use Rattle.std.specs.Result.{result_map_both}
 use Rattle.ua_connection.specs.Client.{Ending as ClientEnding}
 use Rattle.ua_connection.proofs.Whole.{behind_known}
