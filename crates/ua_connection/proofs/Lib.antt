@@ -6,5 +6,6 @@ pub mod Turning
 pub mod Flow
 pub mod Whole
 pub mod Counting
+pub mod Conversing
 pub mod RunParts
 pub mod ServingParts

@@ -379,7 +379,7 @@ tried-hello a site client next other sessions kind piece body used old new endin
     (answered-client a a (λ R. made (f R) (g R)) (before (marked (Fine ∷ [])) (marked used)) old new ending next other to
     (answered-fine a a f g (marked used) old new ending next (answered-here a f used old new ending next (subst Q (sym same) h))))
 
-tried-same : (site : Site) (standing : Standing) (kind : Kind) (piece : Piece) → (kind ≡ Hello → ⊥) → answered_piece site standing kind piece ≡ answered_on site standing standing.client.channel piece
+pub tried-same : (site : Site) (standing : Standing) (kind : Kind) (piece : Piece) → (kind ≡ Hello → ⊥) → answered_piece site standing kind piece ≡ answered_on site standing standing.client.channel piece
 tried-same site standing Hello piece other = absurd (other refl)
 tried-same site standing Open piece other = refl
 tried-same site standing Close piece other = refl

@@ -5,3 +5,4 @@ pub mod Run
 pub mod Client
 pub mod Turns
 pub mod Serving
+pub mod Conversation

@@ -2,11 +2,14 @@
 
 ghost use Rattle.std.specs.Prelude.{◌≡◌, ◌+◌, ℕ, List, [], drop, None, Some, Err};
 ghost use Rattle.uacp.specs.Stream.{Piece};
+ghost use Rattle.records.specs.Contents.{Content};
 ghost use Rattle.historian.specs.Services.{Site};
 ghost use Rattle.ua_connection.specs.Given.{Outside};
 ghost use Rattle.archive.specs.Steps.{and_then};
 ghost use Rattle.ua_connection.specs.Run.{answered, joined, ended};
-ghost use Rattle.ua_connection.specs.Client.{Standing, Item, whole, ends, answered_item, answer, chunks, next};
+ghost use Rattle.ua_connection.specs.Client.{Standing, Ending, Item, whole, ends, answered_item, answer, chunks, next};
+ghost use Rattle.ua_connection.specs.Serving.{new_standing, IsServed};
+ghost use Rattle.ua_connection.specs.Conversation.{Chunked, answered_stream, IsConversed};
 
 use counted_io::ServeFault;
 
@@ -28,4 +31,17 @@ pub fn answers_go_item_by_item()
     ensures item { (site : Site) (standing : Standing) (bytes : List ℕ) (item : Item × ℕ) (outside : Outside) → next standing bytes ≡ Some item
         → answered (chunks site) standing bytes outside ≡ and_then (answer site standing item.0) (λ reply. joined (answered (chunks site) reply.state (drop item.1 bytes)) reply) outside }
     ensures none { (site : Site) (standing : Standing) (bytes : List ℕ) (outside : Outside) → next standing bytes ≡ None → answered (chunks site) standing bytes outside ≡ ended (chunks site) standing outside }
+{}
+
+/// A client's whole connection, in the words of the stream. All bytes are whole chunks, later ones judged by the size that the
+/// Acknowledge grants, and a rest. The answer to them is the answer to the Hello, and then to each chunk by its place among
+/// those before it, whatever comes in the way. So was a client answered that was served with no fault of a read or a write.
+#[tactic(auto, using(crate::proofs::Conversing::conversing))]
+pub fn connections_are_answered_chunk_by_chunk()
+    ensures chunked { (bytes : List ℕ) → Chunked bytes }
+    ensures answers { (site : Site) (R : Content) (bytes : List ℕ) (stream : Chunked bytes) (outside : Outside)
+        → answered (chunks site) (new_standing R) bytes outside ≡ answered_stream site R bytes stream outside }
+    ensures served { (site : Site) (R : Content) (came out : List ℕ) (used : Outside) (ending : Ending) (last : Standing)
+        → IsServed (chunks site) (new_standing R) came used out ending last → (ending ≡ Err ServeFault.Read → ⊥) → (ending ≡ Err ServeFault.Write → ⊥)
+        → IsConversed site R came used out ending last }
 {}

@@ -14,7 +14,9 @@ mod turn;
 
 pub use clock::{Clock, ConstantClock, SystemClock};
 pub use connection::MOST_CHUNKS;
-pub use laws::{answers_go_item_by_item, chunks_are_counted};
+pub use laws::{
+    answers_go_item_by_item, chunks_are_counted, connections_are_answered_chunk_by_chunk,
+};
 pub use line::{Line, Wires};
 pub use outcome::Served;
-pub use serving::{serve, serve_from, serve_over};
+pub use serving::serve;

@@ -5,19 +5,18 @@ ghost use Rattle.counted_io.specs.Bytes.{counted};
 ghost use Rattle.ua_connection.specs.Client.{new_client};
 ghost use Rattle.ua_binary.specs.declared.codes.TheConstants.Status.{BAD_OUT_OF_MEMORY};
 ghost use Rattle.ua_connection.specs.Given.{Outside};
-ghost use Rattle.ua_connection.specs.Passing.{Event, Passes};
+ghost use Rattle.ua_connection.specs.Passing.{Event};
 ghost use Rattle.ua_connection.specs.Turns.{IsShort, IsSmall, IsOwn, IsOwnEnd, IsNoLess, Shortens, TurnedInto, Drained, SendsRefusal, ending_of};
-ghost use Rattle.ua_connection.specs.Serving.{ServesPromptly, ServesBehind};
+ghost use Rattle.ua_connection.specs.Serving.{ServesPromptly};
 
 use crate::clock::Clock;
 use crate::connection::Connection;
-use crate::line::{Line, Wires};
+use crate::line::Line;
 use crate::outcome::Served;
 use crate::turn::{Turn, end_of, put_refusal};
 use archive::Archive;
-use counted_io::{Counted, ServeFault};
+use counted_io::ServeFault;
 use std::alloc::Global;
-use std::io::{Read, Write};
 use ua_binary::Status;
 use ua_settings::Settings;
 
@@ -192,7 +191,7 @@ fn serve_behind<X: Line, C: Clock, A: Archive>(
 ///
 /// Errors: `Read` and `Write` where a read or a write failed, `TooLong` where a chunk comes after 1,000,000 of them,
 /// `OutOfMemory` where memory was wanting and the Error message that tells it could not be made either.
-pub fn serve_over<X: Line, C: Clock, A: Archive>(
+pub fn serve<X: Line, C: Clock, A: Archive>(
     alloc: Global,
     settings: &Settings,
     archive: &mut A,
@@ -213,76 +212,4 @@ pub fn serve_over<X: Line, C: Clock, A: Archive>(
     } else {
         serve_behind(alloc, settings, archive, first, line, clock)
     }
-}
-
-/// Answers the connection of one client over a reader and a writer.
-fn serve_wires<R: Read, W: Write, C: Clock, A: Archive>(
-    alloc: Global,
-    settings: &Settings,
-    archive: &mut A,
-    first: &[u8],
-    reader: &mut Counted<R>,
-    writer: &mut Counted<W>,
-    clock: &mut C,
-) -> Result<Served, ServeFault>
-    requires { length first.now < 8 }
-    ensures serves { (used : Outside) × C.gave clock.old used.readings clock.new × (events : List Event)
-        × Passes (record { unread = R.remaining reader.old.inner; written = W.contents writer.old.inner }) events (record { unread = R.remaining reader.new.inner; written = W.contents writer.new.inner })
-        × ServesPromptly settings.now (A.state archive.old) (A.state archive.new) first.now events used result }
-    ensures read { IsErrOf result ServeFault.Read → reader.new.faults ≡ counted reader.old.faults }
-    ensures write { IsErrOf result ServeFault.Write → writer.new.faults ≡ counted writer.old.faults }
-    ensures read_kept { (IsErrOf result ServeFault.Read → ⊥) → reader.new.faults ≡ reader.old.faults }
-    ensures write_kept { (IsErrOf result ServeFault.Write → ⊥) → writer.new.faults ≡ writer.old.faults }
-{
-    let mut wires = Wires { reader, writer };
-    serve_over(alloc, settings, archive, first, &mut wires, clock)
-}
-
-/// Answers the connection of one client of which these first bytes, if any, were read before, as `serve` does.
-pub fn serve_from<R: Read, W: Write, C: Clock, A: Archive>(
-    alloc: Global,
-    settings: &Settings,
-    archive: &mut A,
-    first: &[u8],
-    reader: &mut Counted<R>,
-    writer: &mut Counted<W>,
-    clock: &mut C,
-) -> Result<Served, ServeFault>
-    requires { length first.now < 8 }
-    ensures serves { (used : Outside) × C.gave clock.old used.readings clock.new
-        × ServesBehind settings.now (A.state archive.old) (A.state archive.new) first.now (R.remaining reader.old.inner) (R.remaining reader.new.inner) (W.contents writer.old.inner) (W.contents writer.new.inner) used result }
-    ensures read { IsErrOf result ServeFault.Read → reader.new.faults ≡ counted reader.old.faults }
-    ensures write { IsErrOf result ServeFault.Write → writer.new.faults ≡ counted writer.old.faults }
-    ensures read_kept { (IsErrOf result ServeFault.Read → ⊥) → reader.new.faults ≡ reader.old.faults }
-    ensures write_kept { (IsErrOf result ServeFault.Write → ⊥) → writer.new.faults ≡ writer.old.faults }
-{
-    serve_wires(alloc, settings, archive, first, reader, writer, clock)
-}
-
-/// Answers the connection of one client over an archive.
-///
-/// Where the reader's bytes and the writer's contents are known, what goes out is the answer to the bytes that were read, by
-/// the readings that the clock gave, and what the archive holds then is what that answer left; after a fault of the writer it
-/// is a first part of it. The answers to what was read are sent before the next read, as `serve_over` has it; the writer is not
-/// flushed.
-///
-/// Errors: `Read` and `Write` where a call of the reader or the writer failed (its `faults` rose, and it rises nowhere else),
-/// `TooLong` where a chunk comes after 1,000,000 of them, `OutOfMemory` where memory was wanting and the Error message that
-/// tells it could not be made either.
-pub fn serve<R: Read, W: Write, C: Clock, A: Archive>(
-    alloc: Global,
-    settings: &Settings,
-    archive: &mut A,
-    reader: &mut Counted<R>,
-    writer: &mut Counted<W>,
-    clock: &mut C,
-) -> Result<Served, ServeFault>
-    ensures serves { (used : Outside) × C.gave clock.old used.readings clock.new
-        × ServesBehind settings.now (A.state archive.old) (A.state archive.new) [] (R.remaining reader.old.inner) (R.remaining reader.new.inner) (W.contents writer.old.inner) (W.contents writer.new.inner) used result }
-    ensures read { IsErrOf result ServeFault.Read → reader.new.faults ≡ counted reader.old.faults }
-    ensures write { IsErrOf result ServeFault.Write → writer.new.faults ≡ counted writer.old.faults }
-    ensures read_kept { (IsErrOf result ServeFault.Read → ⊥) → reader.new.faults ≡ reader.old.faults }
-    ensures write_kept { (IsErrOf result ServeFault.Write → ⊥) → writer.new.faults ≡ writer.old.faults }
-{
-    serve_from(alloc, settings, archive, &[], reader, writer, clock)
 }

@@ -5,7 +5,8 @@ ghost use Rattle.std.specs.Result.{result_map_both};
 ghost use Rattle.std.specs.Io.KnownBytes.{Consumes, IsAtEnd};
 ghost use Rattle.counted_io.specs.Bytes.{counted};
 ghost use Rattle.ua_connection.specs.Given.{Outside};
-ghost use Rattle.ua_connection.specs.Serving.{ServesBehind};
+ghost use Rattle.ua_connection.specs.Passing.{Event, Passes};
+ghost use Rattle.ua_connection.specs.Serving.{ServesBehind, ServesPromptly};
 ghost use Rattle.ua_peers.specs.Peers.{MeetsBehind, responding};
 ghost use Rattle.ua_server.specs.Either.{is_peers, end_of_client, end_of_peer, ServesEither};
 
@@ -14,7 +15,7 @@ use counted_io::{Counted, ServeFault};
 use exchange::Replica;
 use std::alloc::Global;
 use std::io::{Read, Write};
-use ua_connection::{Clock, serve_from};
+use ua_connection::{Clock, Wires};
 use ua_peers::{Parted, serve_peer_from};
 use ua_settings::Settings;
 
@@ -106,6 +107,29 @@ fn meet_peer<R: Read, W: Write, A: Archive>(
     }
 }
 
+/// Serves a client of whom these first bytes, if any, were read before, over a reader and a writer.
+fn serve_wires<R: Read, W: Write, C: Clock, A: Archive>(
+    alloc: Global,
+    settings: &Settings,
+    archive: &mut A,
+    first: &[u8],
+    reader: &mut Counted<R>,
+    writer: &mut Counted<W>,
+    clock: &mut C,
+) -> Result<ua_connection::Served, ServeFault>
+    requires { length first.now < 8 }
+    ensures serves { (used : Outside) × C.gave clock.old used.readings clock.new × (events : List Event)
+        × Passes (record { unread = R.remaining reader.old.inner; written = W.contents writer.old.inner }) events (record { unread = R.remaining reader.new.inner; written = W.contents writer.new.inner })
+        × ServesPromptly settings.now (A.state archive.old) (A.state archive.new) first.now events used result }
+    ensures read { IsErrOf result ServeFault.Read → reader.new.faults ≡ counted reader.old.faults }
+    ensures write { IsErrOf result ServeFault.Write → writer.new.faults ≡ counted writer.old.faults }
+    ensures read_kept { (IsErrOf result ServeFault.Read → ⊥) → reader.new.faults ≡ reader.old.faults }
+    ensures write_kept { (IsErrOf result ServeFault.Write → ⊥) → writer.new.faults ≡ writer.old.faults }
+{
+    let mut wires = Wires { reader, writer };
+    ua_connection::serve(alloc, settings, archive, first, &mut wires, clock)
+}
+
 /// Serves a client of whom these first bytes, if any, were read before, and says that it was a client's connection.
 fn serve_client<R: Read, W: Write, C: Clock, A: Archive>(
     alloc: Global,
@@ -124,7 +148,7 @@ fn serve_client<R: Read, W: Write, C: Clock, A: Archive>(
     ensures read_kept { (IsErrOf result ServeFault.Read → ⊥) → reader.new.faults ≡ reader.old.faults }
     ensures write_kept { (IsErrOf result ServeFault.Write → ⊥) → writer.new.faults ≡ writer.old.faults }
 {
-    match serve_from(alloc, settings, archive, first, reader, writer, clock) {
+    match serve_wires(alloc, settings, archive, first, reader, writer, clock) {
         Ok(served) => Ok(end_of_client(served)),
         Err(fault) => Err(fault),
     }

@@ -26,6 +26,7 @@ pub use single::answer_at;
 pub use stores::Stores;
 pub use ua_connection::{
     Clock, ConstantClock, MOST_CHUNKS, SystemClock, answers_go_item_by_item, chunks_are_counted,
+    connections_are_answered_chunk_by_chunk,
 };
 pub use ua_peers::{
     Parted, SyncFault, Synced, a_call_that_ends_joins, calls_are_exchanges, dialogs_are_deliveries,

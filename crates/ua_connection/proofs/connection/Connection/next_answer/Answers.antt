@@ -1,6 +1,4 @@
-use Rattle.std.proofs.Common.{◌≡◌, ◌∙◌, Ok, Err, ap, refl, sym}
-use Rattle.std.specs.Prelude.{Result}
-use Rattle.counted_io.specs.declared.fault.ServeFault.{ServeFault}
+use Rattle.std.proofs.Common.{◌≡◌, ◌∙◌, Ok, Err, ap, refl}
 use Rattle.ua_connection.specs.declared.turn.Turn.{Turn}
 use Rattle.ua_connection.specs.declared.turn.Turn.TheVariants.{Ends}
 use Rattle.ua_connection.specs.Turns.{ending_of, link_of}

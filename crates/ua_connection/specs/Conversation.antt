@@ -1,0 +1,128 @@
+-- A client's whole connection in the words of the stream: its bytes are whole chunks and a rest
+-- (Part 6, 7.1.2.2), and each chunk of the channel has its place among those before it (6.7.2).
+use Rattle.std.specs.Prelude.{◌≡◌, ◌+◌, ◌==◌, if◌then◌else◌, ℕ, zero, suc, List, [], ◌∷◌, ◌++◌, Option, None, Some, Ok, Err}
+use Rattle.ua_binary.specs.declared.codes.TheConstants.Status.{BAD_OUT_OF_MEMORY, BAD_TCP_MESSAGE_TYPE_INVALID}
+use Rattle.uacp.specs.declared.types.Letter.TheVariants.{Final}
+use Rattle.uacp.specs.declared.types.UacpFault.{UacpFault}
+use Rattle.uacp.specs.declared.greeting.Hello.{Hello}
+use Rattle.uacp.specs.declared.greeting.Ack.{Ack}
+use Rattle.uacp.specs.Stream.{Piece, Splits}
+use Rattle.uacp.specs.Greeting.{hello_at, ack_of}
+use Rattle.uacp.specs.Fault.{code_of}
+use Rattle.ua_channel.specs.Fault as channel
+use Rattle.ua_channel.specs.declared.taken.OpenRequest.{OpenRequest}
+use Rattle.ua_channel.specs.Placed.{Placed, Opens, Says, Closes, heard_of, openings_of, open_run, bodies_of, judged}
+use Rattle.ua_channel.specs.Taking.{State}
+use Rattle.records.specs.Contents.{Content}
+use Rattle.archive.specs.Steps.{give, and_then}
+use Rattle.historian.specs.Services.{Site}
+use Rattle.counted_io.specs.declared.fault.ServeFault.TheVariants.{TooLong}
+use Rattle.ua_connection.specs.declared.outcome.Served.TheVariants.{EndOfInput, Closed}
+use Rattle.ua_connection.specs.Given.{Outside, before, made, clock}
+use Rattle.ua_connection.specs.Run.{joined}
+use Rattle.ua_connection.specs.Client.{Standing, Ending, Answering, ends, goes, refuse, greeted, opened, responded}
+use Rattle.ua_connection.specs.Serving.{new_standing}
+
+-- ---- the bytes
+
+-- the greatest size by which each chunk is judged: 65,536 bytes, and once it was granted that
+abbrev pub limits_by : ℕ → ℕ → ℕ
+limits_by granted zero = 65536
+limits_by granted (suc k) = granted
+
+-- the receive size of the Acknowledge was granted, where the first chunk is a Hello that has one
+abbrev pub IsGranted : List Piece → ℕ → Type 0
+IsGranted [] granted = Unit {0}
+IsGranted (first ∷ pieces) granted = (hello : Hello) (ack : Ack)
+    → hello_at first.body ≡ Ok hello → ack_of hello ≡ Ok ack → granted ≡ ack.receive_size
+
+-- a stream of bytes is these whole chunks, and this rest that is none
+pub record Chunked (bytes : List ℕ) : Type 0 where
+  pub granted : ℕ
+  pub pieces : List Piece
+  pub rest : List ℕ
+  pub fault : Option UacpFault
+  pub splits : Splits (limits_by granted) bytes pieces rest fault
+  pub grants : IsGranted pieces granted
+
+-- ---- a chunk of the channel
+
+-- a request to open, behind these chunks: its token is the number of the opening
+abbrev pub opening_behind : List Placed → (request handle lifetime : ℕ) → OpenRequest
+opening_behind past request handle lifetime =
+    let token = openings_of past + 1 in
+    record { request_id = request; handle = handle; lifetime = lifetime; token = token }
+
+-- A well placed chunk is answered, behind these: an opening; a message whose last chunk it is, all
+-- bodies joined, by its service; a chunk within a message by nothing; and CLO ends the connection.
+abbrev pub answered_well : Site → Standing → State → List Placed → Placed → Answering
+answered_well site standing state past (Opens sequence asked) = and_then clock
+    (opened standing state (opening_behind past sequence.1 asked.handle asked.lifetime))
+answered_well site standing state past (Says Final numbers body) = and_then clock
+    (responded site standing state numbers.request_id (bodies_of (open_run past) ++ body))
+answered_well site standing state past (Says letter numbers body) =
+    give (goes standing [] (Some state))
+answered_well site standing state past (Closes numbers) = give (ends standing [] (Ok Closed))
+
+-- any chunk, by its place behind these, the newest first; one that isn't well placed is refused
+abbrev pub answered_at : Site → List Placed → Standing → State → Piece → Answering
+answered_at site past standing state piece = elim (judged (heard_of past) piece) [
+  | Ok placed ↦
+      answered_well site standing (record state { heard = heard_of (placed ∷ past) }) past placed
+  | Err fault ↦ refuse standing (channel.code_of fault)
+]
+
+-- 1,000,000 chunks are answered and no more
+abbrev pub answered_next : Site → List Placed → Standing → Piece → Answering
+answered_next site past standing piece =
+    if standing.client.taken == 1000000 then give (ends standing [] (Err TooLong))
+    else elim standing.client.channel [
+      | None ↦ refuse standing BAD_TCP_MESSAGE_TYPE_INVALID
+      | Some state ↦ answered_at site past standing state piece
+    ]
+
+-- ---- the connection
+
+-- memory for what stands first is had, and it is answered so; or it is wanting, and that is told
+abbrev pub had : Standing → Answering → Answering
+had standing answering = made answering (refuse standing BAD_OUT_OF_MEMORY)
+
+-- the chunks that were taken once this one came
+abbrev pub taken_with : List Placed → Piece → List Placed
+taken_with past piece =
+    elim (judged (heard_of past) piece) [ Ok placed ↦ placed ∷ past | Err fault ↦ past ]
+
+-- the chunks of the channel behind these are answered one after the other, and then the end
+abbrev pub conversed
+    : Site → (Standing → Answering) → List Placed → Standing → List Piece → Answering
+conversed site end past standing [] = end standing
+conversed site end past standing (piece ∷ pieces) =
+    and_then (had standing (answered_next site past standing piece))
+    (λ reply. joined (conversed site end (taken_with past piece) reply.state pieces) reply)
+
+-- the end of the stream: a fault is refused; less than a chunk, or nothing, is the input's end
+abbrev pub answered_rest : Option UacpFault → List ℕ → Standing → Answering
+answered_rest (Some fault) rest standing = had standing (refuse standing (code_of fault))
+answered_rest None [] standing = give (ends standing [] (Ok EndOfInput))
+answered_rest None (byte ∷ rest) standing = had standing (give (ends standing [] (Ok EndOfInput)))
+
+-- a whole connection: its Hello is answered, then the chunks of the channel, then the end
+abbrev pub answered_chunks : Site → (Standing → Answering) → Standing → List Piece → Answering
+answered_chunks site end standing [] = end standing
+answered_chunks site end standing (first ∷ pieces) =
+    and_then (had standing (greeted standing (hello_at first.body)))
+    (λ reply. joined (conversed site end [] reply.state pieces) reply)
+
+-- the same of a stream, of a client of whom nothing was answered, over what the archive holds
+abbrev pub answered_stream : Site → Content → (bytes : List ℕ) → Chunked bytes → Answering
+answered_stream site R bytes stream =
+    answered_chunks site (answered_rest stream.fault stream.rest) (new_standing R) stream.pieces
+
+-- What came is such chunks and a rest, and by this, and no more, of the outside this is the answer to
+-- them, which ended so, and this stands then.
+pub record IsConversed (site : Site) (R : Content) (came : List ℕ) (used : Outside)
+    (out : List ℕ) (ending : Ending) (last : Standing) : Type 0 where
+  pub stream : Chunked came
+  pub answers : (later : Outside)
+      → answered_stream site R came stream (before used later)
+      ≡ (record { out = out; ending = Some ending; state = last }, later)
