@@ -1,3 +1,4 @@
 pub mod OpenLemmas
 pub mod FirstLemmas
 pub mod RenewLemmas
+pub mod AgainLemmas
