@@ -2,3 +2,4 @@ pub mod OpenLemmas
 pub mod FirstLemmas
 pub mod RenewLemmas
 pub mod AgainLemmas
+pub mod ClearLemmas
