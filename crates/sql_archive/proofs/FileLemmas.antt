@@ -31,12 +31,17 @@ use Rattle.sqlite.specs.Closing.{IsCopied, files_left}
 use Rattle.sqlite.specs.declared.file.Leftover.{Leftover}
 use Rattle.sqlite.specs.declared.file.Leftover.TheVariants as left
 use Rattle.records.specs.Contents.{Content}
-use Rattle.sql_schema.specs.Tables.{meta, no_schema, schema1, archive_schema}
+use Rattle.sql_schema.specs.Tables.{meta, no_schema, schema1, archive_schema, beside_schema}
+use Rattle.std.specs.List.{flat_map}
+use Rattle.sqlite_value.specs.Order.{Row}
+use Rattle.records.specs.Lists.{sort_by}
+use Rattle.records.specs.Records.{name_cmp}
+use Rattle.sql_opening.specs.Clearing.{AreBare, IsCleared}
 use Rattle.std.proofs.lemmas.List.Sorted.{IsPermutation-trans}
 use Rattle.sql_opening.specs.Renewing.{cells1, content1_in, IsStored1, IsStoreOf1, IsRenewed}
 use Rattle.sql_tables.proofs.RowLemmas.{content_from}
-use Rattle.sql_tables.specs.Rows.{content_in, row_of, meta_row, IsStored, IsStoreOf, meta_cells}
-use Rattle.sql_tables.specs.Derived.{AreKept}
+use Rattle.sql_tables.specs.Rows.{content_in, row_of, records_in, meta_row, meta_columns, IsStored, IsStoreOf, meta_cells}
+use Rattle.sql_tables.specs.Derived.{AreKept, AreNumbered, currents_of, current_columns, vectors_of, vector_columns}
 use Rattle.sql_tables.specs.Words.{cells}
 use Rattle.sql_archive.specs.Kept.{Stands}
 use Rattle.archive.specs.declared.fault.StoreFault.{StoreFault}
@@ -48,6 +53,28 @@ use Rattle.sql_opening.proofs.OpenLemmas.{nothing_in}
 renewed_content : (id : List ℕ) (own : ℕ) (replica : ℤ) (old new : Trees) → IsStored1 id own old → IsRenewed id replica (cells1 old) new → content_in new ≡ content1_in old
 renewed_content id own replica old new stored made =
     content_from stored.content (cells (new 1)) stored.lawful (IsPermutation-trans (map row_of stored.content) (cells1 old) (cells (new 1)) stored.records made.records) ∙ sym (content_from stored.content (cells1 old) stored.lawful stored.records)
+
+-- tables that are left hold the content that they held
+same_content : (old new : Trees) → IsCleared old new → content_in new ≡ content_in old
+same_content old new cleared = ap (λ rows. sort_by name_cmp (flat_map records_in (cells rows))) cleared.keeps.records
+
+-- and so do those of which they were left
+pub stored_before : (id : List ℕ) (own : ℕ) (old new : Trees) → IsCleared old new → IsStored id own new → IsStored id own old
+stored_before id own old new cleared stored = record {
+  content = stored.content;
+  lawful = stored.lawful;
+  stands = record {
+    meta = ap (map meta_columns) (sym cleared.keeps.meta) ∙ stored.stands.meta;
+    records = subst (λ rows. IsPermutation (map row_of stored.content) (cells rows)) cleared.keeps.records stored.stands.records;
+  };
+}
+
+pub kept_before : (old new : Trees) → IsCleared old new → AreKept new → AreKept old
+kept_before old new cleared kept =
+    let k = cleared.keeps in
+    let P : List Row → List Row → List Row → Type 0 = λ records currents vectors. IsPermutation (currents_of (cells records)) (map current_columns currents) × IsPermutation (vectors_of (cells records)) (map vector_columns vectors) × AreNumbered currents × AreNumbered vectors in
+    let all : P (old 1) (old 4) (old 6) = subst (λ r. P r (old 4) (old 6)) k.records (subst (λ c. P (new 1) c (old 6)) k.currents (subst (λ v. P (new 1) (new 4) v) k.vectors (kept.currents, kept.vectors, kept.numbered.0, kept.numbered.1))) in
+    record { currents = all.0; vectors = all.1; numbered = (all.2, all.3) }
 
 -- what was opened lists its schema
 found_lists : (old : State) → Opens old → IsLive old → Lists (old.committed.trees catalog_tree) old.now.schema
@@ -65,9 +92,11 @@ resumes image id own old new opens live found starts = record { db = old.committ
 
     go : Starts id own old.now new.now → Tells id own old.committed.trees (content_in new.now.trees)
     go (inl (inl made)) = inl (subst (Lists (old.committed.trees catalog_tree)) made.0 lists, nothing_in new.now.trees made.1.records)
-    go (inl (inr made)) = inr (inr ((subst (Lists (old.committed.trees catalog_tree)) made.0 lists, subst (IsStored1 id own) same made.1), renewed_content id own (pos own) old.now.trees new.now.trees made.1 made.2 ∙ ap content1_in same))
-    go (inr stood) =
-        inr (inl ((subst (Lists (old.committed.trees catalog_tree)) stood.0 lists, subst (IsStored id own) same stood.1, subst AreKept same stood.2), ap content_in (ap (λ (d : Database). d.trees) stood.3 ∙ same)))
+    go (inl (inr made)) = inr (inr (inl ((subst (Lists (old.committed.trees catalog_tree)) made.0 lists, subst (IsStored1 id own) same made.1), renewed_content id own (pos own) old.now.trees new.now.trees made.1 made.2 ∙ ap content1_in same)))
+    go (inr (stored, kept, inl stood)) =
+        inr (inl ((subst (Lists (old.committed.trees catalog_tree)) stood.0 lists, subst (IsStored id own) same stored, subst AreKept same kept), ap content_in (ap (λ (d : Database). d.trees) stood.1 ∙ same)))
+    go (inr (stored, kept, inr cleared)) =
+        inr (inr (inr ((subst (Lists (old.committed.trees catalog_tree)) cleared.0 lists, subst AreBare same cleared.1, subst (IsStored id own) same stored, subst AreKept same kept), same_content old.now.trees new.now.trees cleared.3 ∙ ap content_in same)))
 
 -- the files of another archive, or of another replica, say so
 pub another : (image : Image) (id : List ℕ) (own : ℕ) (fault : StoreFault) (old : State) → Opens old → IsLive old → FindsIn image old → IsRefused id own old.now fault → IsAnothers image id own fault
@@ -82,6 +111,15 @@ another image id own fault old opens live found refused = record {
   where
     same : old.now.trees ≡ old.committed.trees
     same = ap (λ (d : Database). d.trees) opens.clean
+
+no_beside : no_schema ≡ beside_schema → ⊥
+no_beside e = let n : 0 ≡ 6 = ap (λ (s : Schema). length s.tables) e in absurd (omega (arith, n))
+
+apart_beside : beside_schema ≡ archive_schema → ⊥
+apart_beside e = let n : 6 ≡ 4 = ap (λ (s : Schema). length s.tables) e in absurd (omega (arith, n))
+
+first_beside : beside_schema ≡ schema1 → ⊥
+first_beside e = let n : 6 ≡ 4 = ap (λ (s : Schema). length s.tables) e in absurd (omega (arith, n))
 
 no_first : no_schema ≡ schema1 → ⊥
 no_first e = let n : 0 ≡ 4 = ap (λ (s : Schema). length s.tables) e in absurd (omega (arith, n))
@@ -110,7 +148,8 @@ closed_is {D} {g} c files whose number numbers tick stands live copied id own S 
     go : Tells id own resumed.db S → S ≡ content_in (file_state c).now.trees
     go (inl none) = absurd (two_schemas (lists_once (resumed.db catalog_tree) no_schema archive_schema none.0 lists))
     go (inr (inl all)) = all.1 ∙ ap content_in same
-    go (inr (inr first)) = absurd (apart_first (lists_once (resumed.db catalog_tree) schema1 archive_schema first.0.0 lists))
+    go (inr (inr (inl first))) = absurd (apart_first (lists_once (resumed.db catalog_tree) schema1 archive_schema first.0.0 lists))
+    go (inr (inr (inr beside))) = absurd (apart_beside (lists_once (resumed.db catalog_tree) beside_schema archive_schema beside.0.0 lists))
 
 -- and they hold its tables
 pub closed_holds : {D : Type 0} {g : Ghosts D} (c : Held (FileStore D g)) (files : Files D) (id : List ℕ) (own : ℕ) (numbers : List ℕ) (tick : ℤ) → (HasCleanDisk (file_state c) → Stands id own numbers tick (file_state c)) → IsLive (file_state c) → IsCopied c files
@@ -166,12 +205,14 @@ archive_left {D} {g} image files id own was new stays opens live found survives 
 
     by : (db : Trees) → (file_state was).may_leave db ⊎ IsBegunIn id own (file_state was).now db → IsLeftOf id own old db
     by db (inl same) = inl (settled_at was.store stays db opens.is_open same)
-    by db (inr (inl made)) = inr (inl (subst (Lists (old catalog_tree)) made.0 (found_lists (file_state was) opens live), made.1))
-    by db (inr (inr made)) = inr (inr ((subst (Lists (old catalog_tree)) made.0 (found_lists (file_state was) opens live), subst (IsStored1 id own) trees made.1), subst (λ t. IsRenewed id (pos own) (cells1 t) db) trees made.2))
+    by db (inr (inl (inl made))) = inr (inl (subst (Lists (old catalog_tree)) made.0 (found_lists (file_state was) opens live), made.1))
+    by db (inr (inl (inr made))) = inr (inr (inl ((subst (Lists (old catalog_tree)) made.0 (found_lists (file_state was) opens live), subst (IsStored1 id own) trees made.1), subst (λ t. IsRenewed id (pos own) (cells1 t) db) trees made.2)))
+    by db (inr (inr cleared)) = inr (inr (inr (subst (Lists (old catalog_tree)) cleared.0 (found_lists (file_state was) opens live), subst AreBare trees cleared.1, subst (λ t. IsCleared t db) trees cleared.3)))
 
--- files that held a database with tables hold it still, save where that was a store of format 1
-pub still_held : (image left : Image) (id : List ℕ) (own : ℕ) → KeepsFound image id own left → (db : Trees) → HoldsDatabase image db → ¬ Lists (db catalog_tree) no_schema → ¬ IsStoreOf1 id own db → ∥ HoldsDatabase left db ∥₁
-still_held image left id own (old, found, holds) db held some later = ∥∥₁_map holds (λ it. by it.0 it.1 it.2)
+-- files that held a database with tables hold it still, save where that was a store of format 1, or had empty tables of that
+pub still_held : (image left : Image) (id : List ℕ) (own : ℕ) → KeepsFound image id own left → (db : Trees) → HoldsDatabase image db → ¬ Lists (db catalog_tree) no_schema → ¬ IsStoreOf1 id own db → ¬ (Lists (db catalog_tree) beside_schema × AreBare db)
+    → ∥ HoldsDatabase left db ∥₁
+still_held image left id own (old, found, holds) db held some later bare = ∥∥₁_map holds (λ it. by it.0 it.1 it.2)
   where
     is : old ≡ db
     is = found.holds db held
@@ -179,7 +220,8 @@ still_held image left id own (old, found, holds) db held some later = ∥∥₁_
     by : (now : Trees) → HoldsDatabase left now → IsLeftOf id own old now → HoldsDatabase left db
     by now held (inl same) = subst (HoldsDatabase left) (same ∙ is) held
     by now held (inr (inl new)) = absurd (some (subst (λ (t : Trees). Lists (t catalog_tree) no_schema) is new.0))
-    by now held (inr (inr made)) = absurd (later (subst (IsStoreOf1 id own) is made.0))
+    by now held (inr (inr (inl made))) = absurd (later (subst (IsStoreOf1 id own) is made.0))
+    by now held (inr (inr (inr cleared))) = absurd (bare (subst (λ (t : Trees). Lists (t catalog_tree) beside_schema × AreBare t) is (cleared.0, cleared.1)))
 
 -- and that one holds what it held, or the tables of an archive with the same records
 pub still_renewed : (image left : Image) (id : List ℕ) (own : ℕ) → KeepsFound image id own left → (db : Trees) → HoldsDatabase image db → IsStoreOf1 id own db
@@ -192,7 +234,22 @@ still_renewed image left id own (old, found, holds) db held first = ∥∥₁_ma
     by : (now : Trees) → IsLeftOf id own old now → (now ≡ db) ⊎ IsRenewed id (pos own) (cells1 db) now
     by now (inl same) = inl (same ∙ is)
     by now (inr (inl new)) = absurd (no_first (lists_once (db catalog_tree) no_schema schema1 (subst (λ (t : Trees). Lists (t catalog_tree) no_schema) is new.0) first.0))
-    by now (inr (inr made)) = inr (subst (λ t. IsRenewed id (pos own) (cells1 t) now) is made.1)
+    by now (inr (inr (inl made))) = inr (subst (λ t. IsRenewed id (pos own) (cells1 t) now) is made.1)
+    by now (inr (inr (inr cleared))) = absurd (first_beside (lists_once (db catalog_tree) beside_schema schema1 (subst (λ (t : Trees). Lists (t catalog_tree) beside_schema) is cleared.0) first.0))
+
+-- and one with empty tables of format 1 holds what it held, or the same without them
+pub still_cleared : (image left : Image) (id : List ℕ) (own : ℕ) → KeepsFound image id own left → (db : Trees) → HoldsDatabase image db → Lists (db catalog_tree) beside_schema
+    → ∥ ((now : Trees) × HoldsDatabase left now × ((now ≡ db) ⊎ IsCleared db now)) ∥₁
+still_cleared image left id own (old, found, holds) db held beside = ∥∥₁_map holds (λ it. (it.0, it.1, by it.0 it.2))
+  where
+    is : old ≡ db
+    is = found.holds db held
+
+    by : (now : Trees) → IsLeftOf id own old now → (now ≡ db) ⊎ IsCleared db now
+    by now (inl same) = inl (same ∙ is)
+    by now (inr (inl new)) = absurd (no_beside (lists_once (db catalog_tree) no_schema beside_schema (subst (λ (t : Trees). Lists (t catalog_tree) no_schema) is new.0) beside))
+    by now (inr (inr (inl made))) = absurd (first_beside (lists_once (db catalog_tree) beside_schema schema1 beside (subst (λ (t : Trees). Lists (t catalog_tree) schema1) is made.0.0)))
+    by now (inr (inr (inr cleared))) = inr (subst (λ t. IsCleared t now) is cleared.2)
 
 pub still_resumed : (image left : Image) (id : List ℕ) (own : ℕ) → KeepsFound image id own left → (other : List ℕ) (number : ℕ) (R : Content) → Resumes left other number R → ∥ Resumes image other number R ∥₁
 still_resumed image left id own (old, found, holds) other number R resumed =
@@ -210,7 +267,14 @@ still_resumed image left id own (old, found, holds) other number R resumed =
     by now (inl same) tells = subst (λ t. Tells other number t R) same tells
     by now (inr (inl new)) (inl none) = inl (new.0, none.1)
     by now (inr (inl new)) (inr (inl all)) = inl (new.0, all.1 ∙ nothing_in now new.1.records)
-    by now (inr (inl new)) (inr (inr first)) = absurd (apart_first (lists_once (now catalog_tree) schema1 archive_schema first.0.0 new.1.lists))
-    by now (inr (inr made)) (inl none) = absurd (two_schemas (lists_once (now catalog_tree) no_schema archive_schema none.0 made.1.lists))
-    by now (inr (inr made)) (inr (inl (store, is))) = inr (inr ((made.0.0, first_of now made store.1.stands.meta), is ∙ renewed_content id own (pos own) old now made.0.1 made.1))
-    by now (inr (inr made)) (inr (inr first)) = absurd (apart_first (lists_once (now catalog_tree) schema1 archive_schema first.0.0 made.1.lists))
+    by now (inr (inl new)) (inr (inr (inl first))) = absurd (apart_first (lists_once (now catalog_tree) schema1 archive_schema first.0.0 new.1.lists))
+    by now (inr (inl new)) (inr (inr (inr beside))) = absurd (apart_beside (lists_once (now catalog_tree) beside_schema archive_schema beside.0.0 new.1.lists))
+    by now (inr (inr (inl made))) (inl none) = absurd (two_schemas (lists_once (now catalog_tree) no_schema archive_schema none.0 made.1.lists))
+    by now (inr (inr (inl made))) (inr (inl (store, is))) = inr (inr (inl ((made.0.0, first_of now made store.1.stands.meta), is ∙ renewed_content id own (pos own) old now made.0.1 made.1)))
+    by now (inr (inr (inl made))) (inr (inr (inl first))) = absurd (apart_first (lists_once (now catalog_tree) schema1 archive_schema first.0.0 made.1.lists))
+    by now (inr (inr (inl made))) (inr (inr (inr beside))) = absurd (apart_beside (lists_once (now catalog_tree) beside_schema archive_schema beside.0.0 made.1.lists))
+    by now (inr (inr (inr cleared))) (inl none) = absurd (two_schemas (lists_once (now catalog_tree) no_schema archive_schema none.0 cleared.2.lists))
+    by now (inr (inr (inr cleared))) (inr (inl (store, is))) =
+        inr (inr (inr ((cleared.0, cleared.1, stored_before other number old now cleared.2 store.1, kept_before old now cleared.2 store.2), is ∙ same_content old now cleared.2)))
+    by now (inr (inr (inr cleared))) (inr (inr (inl first))) = absurd (apart_first (lists_once (now catalog_tree) schema1 archive_schema first.0.0 cleared.2.lists))
+    by now (inr (inr (inr cleared))) (inr (inr (inr beside))) = absurd (apart_beside (lists_once (now catalog_tree) beside_schema archive_schema beside.0.0 cleared.2.lists))

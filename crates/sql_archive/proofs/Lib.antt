@@ -3,3 +3,4 @@ pub mod LastLemmas
 pub mod BeginLemmas
 pub mod FileLemmas
 pub mod StartLemmas
+pub mod ClearLemmas

@@ -11,7 +11,7 @@ use Rattle.sql_schema.specs.Tables.{no_schema, archive_schema}
 use Rattle.sql_tables.specs.Rows.{meta_cells, IsStored}
 use Rattle.sql_tables.specs.Derived.{AreKept}
 use Rattle.sql_tables.specs.State.{IsNewArchive, HasMeta}
-use Rattle.sql_opening.specs.Opening.{judged, Starts, IsBegunIn, IsRenewedIn, IsRefused}
+use Rattle.sql_opening.specs.Opening.{judged, Starts, IsBegunIn, IsRenewedIn, IsClearedIn, IsRefused}
 use Rattle.sql_archive.specs.Kept.{Kept}
 use Rattle.sql_opening.proofs.OpenLemmas.{new_is_own}
 use Rattle.sql_tables.proofs.AskLemmas.{survives_itself}
@@ -73,13 +73,13 @@ module _ {S : Type 0} (g : Ghosts S) (old : State) where
   -- and so is one that makes tables where there are none
   pub opened_new : (id : List ℕ) (own : ℕ) (r : Result (Kept S) (StoreFault × Held S)) → old.now.schema ≡ no_schema → IfOk r (λ a. Survives old (state g a.conn) (IsNewArchive id (pos own)))
       → IfOk r (λ a. Survives old (state g a.conn) (IsBegunIn id own old.now))
-  opened_new id own (Ok a) none one = survives_weaker old (state g a.conn) _ _ (λ clean db new. inl (none, new)) one
+  opened_new id own (Ok a) none one = survives_weaker old (state g a.conn) _ _ (λ clean db new. inl (inl (none, new))) one
   opened_new id own (Err e) none one = tt
 
   pub left_new : (id : List ℕ) (own : ℕ) (r : Result (Kept S) (StoreFault × Held S)) → old.now.schema ≡ no_schema → IfErr r (λ e. Survives old (state g e.1) (IsNewArchive id (pos own)))
       → IfErr r (λ e. Survives old (state g e.1) (IsBegunIn id own old.now))
   left_new id own (Ok a) none one = tt
-  left_new id own (Err e) none one = survives_weaker old (state g e.1) _ _ (λ clean db new. inl (none, new)) one
+  left_new id own (Err e) none one = survives_weaker old (state g e.1) _ _ (λ clean db new. inl (inl (none, new))) one
 
   -- how it begins: with new tables, or with those that stood there
   pub started_new : (id : List ℕ) (own : ℕ) (r : Result (Kept S) (StoreFault × Held S)) → old.now.schema ≡ no_schema → IfOk r (λ a. HasCleanDisk (state g a.conn) → IsNewArchive id (pos own) (state g a.conn).now.trees)
@@ -89,7 +89,7 @@ module _ {S : Type 0} (g : Ghosts S) (old : State) where
 
   pub started_old : (id : List ℕ) (own : ℕ) (r : Result (Kept S) (StoreFault × Held S)) → old.now.schema ≡ archive_schema → IfOk r (λ a. HasCleanDisk (state g a.conn) → IsStored id own old.now.trees)
       → IfOk r (λ a. HasCleanDisk (state g a.conn) → AreKept old.now.trees) → IfOk r (λ a. HasCleanDisk (state g a.conn) → (state g a.conn).now ≡ old.now) → IfOk r (λ a. HasCleanDisk (state g a.conn) → Starts id own old.now (state g a.conn).now)
-  started_old id own (Ok a) has stored kept same = λ clean. inr (has, stored clean, kept clean, same clean)
+  started_old id own (Ok a) has stored kept same = λ clean. inr (stored clean, kept clean, inl (has, same clean))
   started_old id own (Err e) has stored kept same = tt
 
   pub refused_by : (id : List ℕ) (own : ℕ) (r : Result (Kept S) (StoreFault × Held S)) → HasMeta old.now.schema
@@ -103,9 +103,23 @@ module _ {S : Type 0} (g : Ghosts S) (old : State) where
   started_renewed id own (Err e) made = tt
 
   pub opened_renewed : (id : List ℕ) (own : ℕ) (r : Result (Kept S) (StoreFault × Held S)) → IfOk r (λ a. Survives old (state g a.conn) (IsRenewedIn id own old.now)) → IfOk r (λ a. Survives old (state g a.conn) (IsBegunIn id own old.now))
-  opened_renewed id own (Ok a) one = survives_weaker old (state g a.conn) _ _ (λ clean db made. inr made) one
+  opened_renewed id own (Ok a) one = survives_weaker old (state g a.conn) _ _ (λ clean db made. inl (inr made)) one
   opened_renewed id own (Err e) one = tt
 
   pub left_renewed : (id : List ℕ) (own : ℕ) (r : Result (Kept S) (StoreFault × Held S)) → IfErr r (λ e. Survives old (state g e.1) (IsRenewedIn id own old.now)) → IfErr r (λ e. Survives old (state g e.1) (IsBegunIn id own old.now))
   left_renewed id own (Ok a) one = tt
-  left_renewed id own (Err e) one = survives_weaker old (state g e.1) _ _ (λ clean db made. inr made) one
+  left_renewed id own (Err e) one = survives_weaker old (state g e.1) _ _ (λ clean db made. inl (inr made)) one
+
+  -- and with those that are left once empty ones were taken out behind them
+  pub started_cleared : (id : List ℕ) (own : ℕ) (r : Result (Kept S) (StoreFault × Held S)) → IfOk r (λ a. HasCleanDisk (state g a.conn) → IsClearedIn id own old.now (state g a.conn).now.trees)
+      → IfOk r (λ a. HasCleanDisk (state g a.conn) → IsStored id own old.now.trees) → IfOk r (λ a. HasCleanDisk (state g a.conn) → AreKept old.now.trees) → IfOk r (λ a. HasCleanDisk (state g a.conn) → Starts id own old.now (state g a.conn).now)
+  started_cleared id own (Ok a) made stored kept = λ clean. inr (stored clean, kept clean, inr (made clean))
+  started_cleared id own (Err e) made stored kept = tt
+
+  pub opened_cleared : (id : List ℕ) (own : ℕ) (r : Result (Kept S) (StoreFault × Held S)) → IfOk r (λ a. Survives old (state g a.conn) (IsClearedIn id own old.now)) → IfOk r (λ a. Survives old (state g a.conn) (IsBegunIn id own old.now))
+  opened_cleared id own (Ok a) one = survives_weaker old (state g a.conn) _ _ (λ clean db made. inr made) one
+  opened_cleared id own (Err e) one = tt
+
+  pub left_cleared : (id : List ℕ) (own : ℕ) (r : Result (Kept S) (StoreFault × Held S)) → IfErr r (λ e. Survives old (state g e.1) (IsClearedIn id own old.now)) → IfErr r (λ e. Survives old (state g e.1) (IsBegunIn id own old.now))
+  left_cleared id own (Ok a) one = tt
+  left_cleared id own (Err e) one = survives_weaker old (state g e.1) _ _ (λ clean db made. inr made) one

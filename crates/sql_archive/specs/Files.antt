@@ -11,8 +11,9 @@ use Rattle.sqlite.specs.Closing.{files_left}
 use Rattle.sqlite.specs.declared.file.Leftover.{Leftover}
 use Rattle.records.specs.Contents.{Content}
 use Rattle.sqlite_schema.specs.declared.schema.Schema.{Schema}
-use Rattle.sql_schema.specs.Tables.{HasMeta, no_schema}
+use Rattle.sql_schema.specs.Tables.{HasMeta, no_schema, beside_schema}
 use Rattle.sql_tables.specs.State.{IsNewArchive}
+use Rattle.sql_opening.specs.Clearing.{AreBare, IsCleared, IsStoreBeside}
 use Rattle.sql_opening.specs.Renewing.{cells1, content1_in, IsStoreOf1, IsRenewed}
 use Rattle.archive.specs.declared.fault.StoreFault.{StoreFault}
 use Rattle.sql_opening.specs.Opening.{judged}
@@ -27,9 +28,12 @@ pub record IsFound (image : Image) (db : Trees) : Type 0 where
   pub holds : (held : Trees) → HoldsDatabase image held → db ≡ held
   pub reads : AreFoundIn image db
 
--- a store of this archive and replica, as it is, or of format 1, has this content in its tables
+-- a store of this archive and replica, as it is, of format 1, or with empty tables of format 1
+-- behind its own, has this content in its tables
 abbrev pub IsStoreWith : List ℕ → ℕ → Trees → Content → Type 0
-IsStoreWith id own db R = (IsStoreOf id own db × (R ≡ content_in db)) ⊎ (IsStoreOf1 id own db × (R ≡ content1_in db))
+IsStoreWith id own db R =
+    (IsStoreOf id own db × (R ≡ content_in db))
+    ⊎ ((IsStoreOf1 id own db × (R ≡ content1_in db)) ⊎ (IsStoreBeside id own db × (R ≡ content_in db)))
 
 -- the content of a store: nothing where it has no tables; else it is one of this archive and replica, and its content is what its tables hold
 abbrev pub Tells : List ℕ → ℕ → Trees → Content → Type 0
@@ -62,10 +66,20 @@ pub record IsAnothers (image : Image) (id : List ℕ) (own : ℕ) (fault : Store
 abbrev pub EngineLeaves : {D : Type 0} → (g : Ghosts D) → Files D → Files D → Type 0
 EngineLeaves {D} g files left = (rest : Leftover D g) × ((left.log, left.db) ≡ files_left rest) × LeavesFiles files rest
 
+-- an archive's tables behind which empty ones of format 1 stood, which an opening took out
+abbrev pub IsClearedOf : Trees → Trees → Type 0
+IsClearedOf found db =
+    Lists (found catalog_tree) beside_schema × AreBare found × IsCleared found db
+
 -- what an opening that was refused leaves of what it found
 abbrev pub IsLeftOf : List ℕ → ℕ → Trees → Trees → Type 0
-IsLeftOf id own found db = (db ≡ found) ⊎ ((Lists (found catalog_tree) no_schema × IsNewArchive id (pos own) db) ⊎ (IsStoreOf1 id own found × IsRenewed id (pos own) (cells1 found) db))
+IsLeftOf id own found db =
+    (db ≡ found)
+    ⊎ ((Lists (found catalog_tree) no_schema × IsNewArchive id (pos own) db)
+    ⊎ ((IsStoreOf1 id own found × IsRenewed id (pos own) (cells1 found) db) ⊎ IsClearedOf found db))
 
--- the files hold the database that was found there; or, where that had no table, a new archive; or, where it was a store of this archive and replica of format 1, the tables of an archive with the same records
+-- the files hold the database that was found there; or, where that had no table, a new archive; or,
+-- where it was a store of this archive and replica of format 1, the tables of an archive with the same
+-- records; or an archive's tables without the empty ones of format 1 behind them
 abbrev pub KeepsFound : Image → List ℕ → ℕ → Image → Type 0
 KeepsFound image id own left = (found : Trees) × IsFound image found × ∥ ((db : Trees) × HoldsDatabase left db × IsLeftOf id own found db) ∥₁

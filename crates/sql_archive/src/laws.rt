@@ -9,7 +9,8 @@ ghost use Rattle.sqlite_catalog.specs.Listing.{Lists};
 ghost use Rattle.sqlite.specs.Files.{HoldsDatabase};
 ghost use Rattle.records.specs.Contents.{Content};
 ghost use Rattle.records.specs.Moments.{pico_of};
-ghost use Rattle.sql_schema.specs.Tables.{no_schema};
+ghost use Rattle.sql_schema.specs.Tables.{no_schema, beside_schema};
+ghost use Rattle.sql_opening.specs.Clearing.{AreBare, IsCleared};
 ghost use Rattle.sql_archive.specs.Files.{Resumes, KeepsFound};
 ghost use Rattle.sql_opening.specs.Renewing.{cells1, IsStored1, IsStoreOf1, IsRenewed};
 ghost use Rattle.sql_archive.specs.Kept.{Kept};
@@ -28,11 +29,13 @@ pub fn memory_is_honest()
 {}
 
 /// Where an opening was refused, files that held a database with tables still hold it; save that a store of format 1 of this
-/// archive and replica may have got the tables of today, with the same records. Whatever can be opened
+/// archive and replica may have got the tables of today, with the same records, and that empty tables of format 1 behind those of an
+/// archive may be gone. Whatever can be opened
 /// of them then could be opened before, with the same content.
 pub fn refused_openings_lose_nothing()
-    ensures held { (image left : Image) (id : List ℕ) (own : ℕ) → KeepsFound image id own left → (db : Trees) → HoldsDatabase image db → ¬ Lists (db catalog_tree) no_schema → ¬ IsStoreOf1 id own db → ∥ HoldsDatabase left db ∥₁ }
+    ensures held { (image left : Image) (id : List ℕ) (own : ℕ) → KeepsFound image id own left → (db : Trees) → HoldsDatabase image db → ¬ Lists (db catalog_tree) no_schema → ¬ IsStoreOf1 id own db → ¬ (Lists (db catalog_tree) beside_schema × AreBare db) → ∥ HoldsDatabase left db ∥₁ }
     ensures renewed { (image left : Image) (id : List ℕ) (own : ℕ) → KeepsFound image id own left → (db : Trees) → HoldsDatabase image db → IsStoreOf1 id own db → ∥ ((now : Trees) × HoldsDatabase left now × ((now ≡ db) ⊎ IsRenewed id (pos own) (cells1 db) now)) ∥₁ }
+    ensures cleared { (image left : Image) (id : List ℕ) (own : ℕ) → KeepsFound image id own left → (db : Trees) → HoldsDatabase image db → Lists (db catalog_tree) beside_schema → ∥ ((now : Trees) × HoldsDatabase left now × ((now ≡ db) ⊎ IsCleared db now)) ∥₁ }
     ensures resumed { (image left : Image) (id : List ℕ) (own : ℕ) → KeepsFound image id own left → (other : List ℕ) (number : ℕ) (R : Content) → Resumes left other number R → ∥ Resumes image other number R ∥₁ }
 {}
 

@@ -1,6 +1,7 @@
 //! An archive over SQLite, in memory or in a file: one row for each record, in the tables of store format 2.
 #![tactic(auto)]
 
+mod clearing;
 mod files;
 mod laws;
 mod learning;

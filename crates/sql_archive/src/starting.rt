@@ -8,6 +8,7 @@ ghost use Rattle.sql_schema.specs.Tables.{no_schema};
 ghost use Rattle.sql_tables.specs.State.{IsNewArchive};
 ghost use Rattle.sql_opening.specs.Opening.{Starts, IsBegunIn, IsRefused};
 
+use crate::clearing::take_out_empty;
 use crate::renewing::take_over_first;
 use crate::store::SqlArchive;
 use archive::StoreFault;
@@ -57,8 +58,8 @@ pub(crate) fn make<S: Alter>(
 }
 
 /// Begins over a connection: in a store without tables they are made; else those that are there have to be
-/// the tables of a lawful content of this archive and replica, and nothing else. Where these are
-/// those of format 1, they are made anew. Where others stand behind a table `meta`, that one tells first whose store it is.
+/// the tables of a lawful content of this archive and replica, and nothing else, save for empty tables of format 1 behind them, which
+/// are taken out. Where these are those of format 1, they are made anew. Where others stand behind a table `meta`, that one tells first whose store it is.
 pub(crate) fn start<S: Alter>(
     alloc: Global,
     mut conn: Connection<S>,
@@ -76,6 +77,7 @@ pub(crate) fn start<S: Alter>(
     match standing_in(alloc, conn.schema()) {
         Ok(Standing::Empty) => make(alloc, conn, id, number),
         Ok(Standing::Archive) => SqlArchive::over(alloc, conn, id, number),
+        Ok(Standing::Beside) => take_out_empty(alloc, conn, id, number),
         Ok(Standing::First) => take_over_first(alloc, conn, id, number),
         Ok(Standing::Begun) => {
             let fault = refusal_by_meta(&mut conn, &id, number);

@@ -1,3 +1,5 @@
 pub mod OpenLemmas
 pub mod FirstLemmas
 pub mod RenewLemmas
+pub mod AgainLemmas
+pub mod ClearLemmas

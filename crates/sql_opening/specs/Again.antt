@@ -1,21 +1,28 @@
 -- What a store that is read anew tells.
-use Rattle.std.specs.Prelude.{◌≡◌, ℕ, ℤ, ◌≤ℤ◌, List, map, Ok, IsPermutation}
-use Rattle.std.specs.List.{AllByRecursion}
+use Rattle.std.specs.Prelude.{◌≡◌, ℕ, ℤ, pos, List, [], ◌∷◌, map, Ok, IsPermutation}
+use Rattle.std.specs.Int.{int_max}
 use Rattle.sqlite_value.specs.Order.{Row, column}
 use Rattle.sqlite_trees.specs.Tree.{Trees}
 use Rattle.sqlite_trees.specs.Objects.{number_in}
-use Rattle.stamp.specs.Numbers.{number_of}
+use Rattle.stamp.specs.Numbers.{entries}
 use Rattle.sql_tables.specs.Derived.{int_in, vector_columns}
 use Rattle.sql_tables.specs.Rows.{meta_cells}
 use Rattle.sql_opening.specs.Opening.{judged}
 
--- a row of vectors has its origin's number as it is remembered, and no later tick than the greatest
-abbrev pub IsRemembered : List ℕ → ℤ → Row → Type 0
-IsRemembered numbers tick c = (number_of numbers (number_in (column c 0)) ≡ number_in (column c 1)) × (int_in (column c 2) ≤ℤ tick)
+-- the origin and the last number that a row of vectors tells
+abbrev pub last_in : Row → ℕ × ℕ
+last_in c = (number_in (column c 0), number_in (column c 1))
 
--- meta says that it is this archive's and replica's store, and the rows of vectors are as they are remembered
+-- the greatest tick that rows of vectors tell, 0 where there are none
+abbrev pub top_in : List Row → ℤ
+top_in [] = pos 0
+top_in (c ∷ rows) = int_max (int_in (column c 2)) (top_in rows)
+
+-- meta says that it is this archive's and replica's store; the rows of vectors, by origin, are the
+-- origins that have a number and their numbers, as they are remembered, and so is the greatest tick
 pub record IsAsHeld (id : List ℕ) (own : ℕ) (numbers : List ℕ) (tick : ℤ) (db : Trees) : Type 0 where
   pub meta : judged id own (meta_cells db) ≡ Ok tt
   pub rows : List Row
   pub all : IsPermutation (map vector_columns (db 6)) rows
-  pub each : AllByRecursion (IsRemembered numbers tick) rows
+  pub lasts : map last_in rows ≡ entries numbers
+  pub newest : top_in rows ≡ tick

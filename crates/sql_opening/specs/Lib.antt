@@ -2,3 +2,4 @@ pub mod Latest
 pub mod Opening
 pub mod Renewing
 pub mod Again
+pub mod Clearing

@@ -1,5 +1,5 @@
 -- What a walk over the records of a store judges.
-use Rattle.std.specs.Prelude.{◌≡◌, ◌⊎◌, Result, Ok, Err, IfOk, IfErr, not, false, negsuc, ℕ, ◌-◌, ◌^◌, ◌≤◌, length, ◌++◌, IsSorted, ◌+◌, ◌==◌, nat_lt, pos, int_lt, Bool, true, ◌&&◌, if◌then◌else◌, List, [], ◌∷◌}
+use Rattle.std.specs.Prelude.{◌≡◌, ◌⊎◌, Result, Ok, Err, IfOk, IfErr, OnOk, not, false, negsuc, ℕ, ◌-◌, ◌^◌, ◌≤◌, length, ◌++◌, IsSorted, ◌+◌, ◌==◌, nat_lt, pos, int_lt, Bool, true, ◌&&◌, if◌then◌else◌, List, [], ◌∷◌}
 use Rattle.std.specs.Str.{bytes_eq}
 use Rattle.sqlite_value.specs.Order.{Row, column}
 use Rattle.sqlite_value.specs.declared.value.Value.{Value}
@@ -17,12 +17,13 @@ use Rattle.sql_opening.specs.declared.checking.Mark.{Mark}
 use Rattle.sql_opening.specs.declared.checking.Walk.{Walk}
 use Rattle.sql_opening.specs.declared.renewing.Rows1.{Rows1}
 use Rattle.sql_opening.specs.Renewing.{cells1, meta1_row, IsRead1, IsStored1, IsRenewed}
+use Rattle.sql_opening.specs.Clearing.{AreBare, IsCleared}
 use Rattle.sql_tables.specs.Words.{cells, name_order}
 use Rattle.sql_opening.specs.Latest.{Remembers}
 use Rattle.sql_tables.specs.Derived.{AreKept}
 use Rattle.sql_tables.specs.Rows.{IsStored, meta_cells, row_of}
 use Rattle.sqlite.specs.Effect.{Database}
-use Rattle.sql_schema.specs.Tables.{no_schema, schema1, archive_schema}
+use Rattle.sql_schema.specs.Tables.{no_schema, schema1, archive_schema, beside_schema}
 use Rattle.sql_tables.specs.State.{Holds, Stays, HasMeta, IsNewArchive, shown_of}
 
 abbrev pub mark_of : Record → Mark
@@ -123,6 +124,15 @@ pub record Opens1 (id : List ℕ) (own : ℕ) (old new : State) (result : Result
   pub wrong : HasCleanDisk new → IfErr result (λ fault. IsOfOpening fault → judged id own (meta_cells old.now.trees) ≡ Err fault)
   pub crash : Survives old new (λ _. ⊥)
 
+-- what an opening makes of tables of format 1 behind those of an archive, before they are taken out
+pub record OpensBeside (id : List ℕ) (own : ℕ) (old new : State)
+    (result : Result Unit StoreFault) : Type 0 where
+  pub opened : HasCleanDisk new → OnOk result
+      (Holds old new × (judged id own (meta_cells old.now.trees) ≡ Ok tt) × AreBare old.now.trees)
+  pub wrong : HasCleanDisk new → IfErr result
+      (λ fault. IsOfOpening fault → judged id own (meta_cells old.now.trees) ≡ Err fault)
+  pub crash : Survives old new (λ _. ⊥)
+
 -- new tables are made where there are none
 abbrev pub IsMadeIn : List ℕ → ℕ → Database → Trees → Type 0
 IsMadeIn id own old db = (old.schema ≡ no_schema) × IsNewArchive id (pos own) db
@@ -131,13 +141,28 @@ IsMadeIn id own old db = (old.schema ≡ no_schema) × IsNewArchive id (pos own)
 abbrev pub IsRenewedIn : List ℕ → ℕ → Database → Trees → Type 0
 IsRenewedIn id own old db = (old.schema ≡ schema1) × IsStored1 id own old.trees × IsRenewed id (pos own) (cells1 old.trees) db
 
+-- tables of format 1 that hold no row are taken out behind those of an archive of this archive and replica
+abbrev pub IsClearedIn : List ℕ → ℕ → Database → Trees → Type 0
+IsClearedIn id own old db =
+    (old.schema ≡ beside_schema) × AreBare old.trees
+    × (judged id own (meta_cells old.trees) ≡ Ok tt) × IsCleared old.trees db
+
 -- what an opening commits
 abbrev pub IsBegunIn : List ℕ → ℕ → Database → Trees → Type 0
-IsBegunIn id own old db = IsMadeIn id own old db ⊎ IsRenewedIn id own old db
+IsBegunIn id own old db =
+    (IsMadeIn id own old db ⊎ IsRenewedIn id own old db) ⊎ IsClearedIn id own old db
 
--- an archive begins with what the opening made, or with the tables that stood there, which are those of a lawful content of this archive and replica
+-- the tables that stood there are kept, all of them or all but empty ones of format 1
+abbrev pub IsKeptIn : List ℕ → ℕ → Database → Database → Type 0
+IsKeptIn id own old new =
+    ((old.schema ≡ archive_schema) × (new ≡ old)) ⊎ IsClearedIn id own old new.trees
+
+-- an archive begins with the tables that the opening made, or with those that stood there, which
+-- are those of a lawful content of this archive and replica
 abbrev pub Starts : List ℕ → ℕ → Database → Database → Type 0
-Starts id own old new = IsBegunIn id own old new.trees ⊎ ((old.schema ≡ archive_schema) × IsStored id own old.trees × AreKept old.trees × (new ≡ old))
+Starts id own old new =
+    (IsMadeIn id own old new.trees ⊎ IsRenewedIn id own old new.trees)
+    ⊎ (IsStored id own old.trees × AreKept old.trees × IsKeptIn id own old new)
 
 -- meta, the first of the tables, says that this is another archive's store, or another replica's
 pub record IsRefused (id : List ℕ) (own : ℕ) (old : Database) (fault : StoreFault) : Type 0 where

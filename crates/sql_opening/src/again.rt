@@ -1,12 +1,12 @@
 //! A store that is open, read anew.
 
-ghost use Rattle.std.specs.Prelude.{◌≡◌, map, IfSome, IsTrue, IsPermutation};
-ghost use Rattle.std.specs.List.{AllByRecursion};
+ghost use Rattle.std.specs.Prelude.{◌≡◌, map, IsTrue, IsPermutation};
 ghost use Rattle.sqlite.specs.State.{HasCleanDisk};
 ghost use Rattle.sqlite.specs.Held.{state};
 ghost use Rattle.sql_tables.specs.Derived.{vector_columns};
 ghost use Rattle.sql_tables.specs.State.{Asked, Idles};
-ghost use Rattle.sql_opening.specs.Again.{IsRemembered, IsAsHeld};
+ghost use Rattle.stamp.specs.Numbers.{entries};
+ghost use Rattle.sql_opening.specs.Again.{last_in, top_in, IsAsHeld};
 
 use crate::latest::Latest;
 use crate::opening::judge;
@@ -28,70 +28,49 @@ fn last_rows<S: Alter>(conn: &mut Connection<S>) -> Result<Vec<Row>, StoreFault>
     )
 }
 
-/// The replica of this number, where there is one.
-fn replica_of(number: u64) -> Option<ReplicaNo>
-    ensures { IfSome result (λ r. r ≡ number) }
+/// Whether a row of vectors has this origin and this last number.
+fn is_last(row: &Row, origin: u8, number: u64) -> bool
+    ensures { IsTrue result → last_in row.now ≡ (origin, number) }
 {
-    match u8::try_from(number) {
-        Ok(number) => ReplicaNo::new(number),
-        Err(_) => None,
-    }
-}
-
-/// Whether a row of vectors has an origin's number as it is remembered, and no later tick than the greatest.
-fn is_remembered(row: &Row, latest: &Latest) -> bool
-    ensures { IsTrue result → IsRemembered latest.now.numbers latest.now.tick row.now }
-{
-    match (number_at(row, 0), number_at(row, 1), tick_at(row, 2)) {
-        (Ok(origin), Ok(number), Ok(tick)) => match replica_of(origin) {
-            Some(origin) => latest.numbers.get(origin) == number && tick <= latest.tick,
-            None => false,
-        },
+    match (number_at(row, 0), number_at(row, 1)) {
+        (Ok(found), Ok(last)) => found == u64::from(origin) && last == number,
         _ => false,
     }
 }
 
-/// Whether all rows are as they are remembered.
-fn are_remembered(rows: &[Row], latest: &Latest) -> bool
-    ensures { IsTrue result → AllByRecursion (IsRemembered latest.now.numbers latest.now.tick) rows.now }
+/// Whether the rows are those of the origins that have a number, in their order, each with its number.
+fn are_lasts(rows: &[Row], numbers: &Vector) -> bool
+    ensures { IsTrue result → map last_in rows.now ≡ entries numbers.now }
 {
-    for row in rows {
-        if !is_remembered(row, latest) {
+    let _whole = numbers.at_least(numbers);
+    let mut gone = 0;
+    for place in 0..64u8 {
+        let Some(origin) = ReplicaNo::new(place + 1) else {
             return false;
-        }
-    }
-    true
-}
-
-/// How many origins have records.
-fn count_origins(numbers: &Vector) -> usize {
-    let mut count = 0;
-    for origin in 1..65 {
-        if let Some(origin) = ReplicaNo::new(origin) {
-            if numbers.get(origin) > 0 {
-                count += 1;
+        };
+        let number = numbers.get(origin);
+        if number > 0 {
+            match rows.get(gone) {
+                Some(row) if is_last(row, place + 1, number) => gone += 1,
+                _ => return false,
             }
         }
     }
-    count
+    gone == rows.len()
 }
 
-/// Whether one of the rows has this tick.
-fn has_tick(rows: &[Row], tick: i64) -> bool {
+/// Whether this is the greatest tick of the rows, or 0 where there are none.
+fn is_top(rows: &[Row], tick: i64) -> bool
+    ensures { IsTrue result → top_in rows.now ≡ tick }
+{
+    let mut newest = 0;
     for row in rows {
-        if tick_at(row, 2) == Ok(tick) {
-            return true;
+        match tick_at(row, 2) {
+            Ok(found) => newest = newest.max(found),
+            Err(_) => return false,
         }
     }
-    false
-}
-
-/// Whether the rows of vectors are what is remembered: each origin's last number, and the greatest tick.
-fn are_latest(rows: &[Row], latest: &Latest) -> bool
-    ensures { IsTrue result → AllByRecursion (IsRemembered latest.now.numbers latest.now.tick) rows.now }
-{
-    let newest = has_tick(rows, latest.tick) || (rows.is_empty() && latest.tick == 0);
-    newest && rows.len() == count_origins(&latest.numbers) && are_remembered(rows, latest)
+    newest == tick
 }
 
 /// Reads whose store it is, its last numbers and its greatest tick anew. `Refused` where they aren't those of before.
@@ -109,7 +88,7 @@ pub fn read_again<S: Alter>(
         return Err(StoreFault::Refused);
     }
     let rows = last_rows(conn)?;
-    if !are_latest(&rows, latest) {
+    if !(are_lasts(&rows, &latest.numbers) && is_top(&rows, latest.tick)) {
         return Err(StoreFault::Refused);
     }
     Ok(())

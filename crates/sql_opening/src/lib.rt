@@ -4,12 +4,14 @@
 
 mod again;
 mod checking;
+mod clearing;
 mod filling;
 mod latest;
 mod opening;
 mod renewing;
 
 pub use again::read_again;
+pub use clearing::{clear, open_beside};
 pub use latest::{Latest, latest_after};
 pub use opening::{open_all, refusal_by_meta};
 pub use renewing::{Rows1, open_rows, turn};

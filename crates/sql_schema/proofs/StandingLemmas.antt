@@ -1,5 +1,5 @@
 -- The tables of an archive, written out.
-use Rattle.std.proofs.Common.{◌≡◌, refl, List, [], ◌∷◌, length, slice_index_or, arith}
+use Rattle.std.proofs.Common.{◌≡◌, refl, List, [], ◌∷◌, ◌++◌, length, slice_index_or, arith}
 use Rattle.sqlite_schema.specs.declared.schema.Schema.{Schema}
 use Rattle.sqlite_tied.specs.Compute.{everything}
 use Rattle.std.proofs.Common.{ℕ, suc, zero, Some, slice_get, pos, sym, ap, subst, ◌∙◌, inl, inr, rules, unwrap_or}
@@ -13,7 +13,7 @@ use Rattle.sqlite_sql.specs.declared.expr.Node.{Node}
 use Rattle.sqlite_sql.specs.declared.expr.Node.TheVariants as node
 use Rattle.sqlite_sql.specs.Term.{Term, lit, col, op2}
 use Rattle.sqlite_sql.specs.Syntax.{node_term, term_at, term_of}
-use Rattle.sql_schema.specs.Tables.{HasMeta, first_table, second_table, third_table, fourth_table, second_table1, third_table1, key_indexes, indexes1, schema1, archive_schema}
+use Rattle.sql_schema.specs.Tables.{HasMeta, first_table, second_table, third_table, fourth_table, second_table1, third_table1, key_indexes, indexes1, indexes_beside, records_beside, currents_beside, schema1, archive_schema, beside_schema}
 
 pub written_out : archive_schema ≡ record { tables = first_table ∷ second_table ∷ third_table ∷ fourth_table ∷ []; indexes = key_indexes; views = [] }
 unfolding everything
@@ -28,6 +28,13 @@ first_written_out = refl
 
 pub is_first : (s : Schema) → s.tables ≡ first_table ∷ second_table1 ∷ third_table1 ∷ fourth_table ∷ [] → s.indexes ≡ indexes1 → s.views ≡ [] → s ≡ schema1
 is_first s tables indexes views = rw (first_written_out, tables, indexes, views) refl
+
+pub beside_written_out : beside_schema ≡ record { tables = first_table ∷ second_table ∷ third_table ∷ fourth_table ∷ records_beside ∷ currents_beside ∷ []; indexes = key_indexes ++ indexes_beside; views = [] }
+unfolding everything
+beside_written_out = refl
+
+pub is_beside : (s : Schema) → s.tables ≡ first_table ∷ second_table ∷ third_table ∷ fourth_table ∷ records_beside ∷ currents_beside ∷ [] → s.indexes ≡ key_indexes ++ indexes_beside → s.views ≡ [] → s ≡ beside_schema
+is_beside s tables indexes views = rw (beside_written_out, tables, indexes, views) refl
 
 -- nine items that were taken from a list of nine are the list
 pub nine : {A : Type 0} (xs : List A) (a b c d e f g h i : A) → length xs ≡ 9 → a ≡ slice_index_or xs 0 a → b ≡ slice_index_or xs 1 b → c ≡ slice_index_or xs 2 c → d ≡ slice_index_or xs 3 d → e ≡ slice_index_or xs 4 e → f ≡ slice_index_or xs 5 f → g ≡ slice_index_or xs 6 g → h ≡ slice_index_or xs 7 h → i ≡ slice_index_or xs 8 i → xs ≡ a ∷ b ∷ c ∷ d ∷ e ∷ f ∷ g ∷ h ∷ i ∷ []
@@ -138,3 +145,6 @@ archive_has_meta s is = (_, ap (λ (x : Schema). x.tables) (is ∙ written_out))
 
 pub first_has_meta : (s : Schema) → s ≡ schema1 → HasMeta s
 first_has_meta s is = (_, ap (λ (x : Schema). x.tables) (is ∙ first_written_out))
+
+pub beside_has_meta : (s : Schema) → s ≡ beside_schema → HasMeta s
+beside_has_meta s is = (_, ap (λ (x : Schema). x.tables) (is ∙ beside_written_out))

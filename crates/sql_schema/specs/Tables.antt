@@ -141,6 +141,32 @@ third_table1 = record currents1 { tree = 4 }
 abbrev pub indexes1 : List Index
 indexes1 = index_of (codes "sqlite_autoindex_records_1") 2 1 (1 ∷ 2 ∷ []) ∷ index_of (codes "sqlite_autoindex_records_2") 3 1 (4 ∷ 5 ∷ 3 ∷ 1 ∷ []) ∷ index_of (codes "sqlite_autoindex_currents_1") 5 4 (1 ∷ 2 ∷ []) ∷ []
 
+-- the tables of an archive, and behind them those of records and current values of format 1
+abbrev pub with_records_beside : Schema
+with_records_beside = created archive_schema records1
+
+abbrev pub beside_schema : Schema
+beside_schema = created with_records_beside currents1
+
+-- these with the trees that they get, and the indexes of their keys
+abbrev pub records_beside : Table
+records_beside = record records1 { tree = 7 }
+
+abbrev pub currents_beside : Table
+currents_beside = record currents1 { tree = 10 }
+
+abbrev pub names_beside : Index
+names_beside = index_of (codes "sqlite_autoindex_records_1") 8 7 (1 ∷ 2 ∷ [])
+
+abbrev pub times_beside : Index
+times_beside = index_of (codes "sqlite_autoindex_records_2") 9 7 (4 ∷ 5 ∷ 3 ∷ 1 ∷ [])
+
+abbrev pub values_beside : Index
+values_beside = index_of (codes "sqlite_autoindex_currents_1") 11 10 (1 ∷ 2 ∷ [])
+
+abbrev pub indexes_beside : List Index
+indexes_beside = names_beside ∷ times_beside ∷ values_beside ∷ []
+
 -- the first of the tables is meta, as an archive has it, whatever stands behind it
 abbrev pub HasMeta : Schema → Type 0
 HasMeta schema = (rest : List Table) × (schema.tables ≡ first_table ∷ rest)

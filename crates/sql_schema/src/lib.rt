@@ -2,6 +2,7 @@
 #![tactic(auto)]
 
 mod standing;
+mod standing_beside;
 mod standing_first;
 
 pub use standing::{Standing, standing_in};

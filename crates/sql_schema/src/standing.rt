@@ -2,8 +2,9 @@
 
 ghost use Rattle.std.specs.Prelude.{◌≡◌, false, true, [], ◌∷◌, codes, ◌↔◌, Some, pos, slice_get, IfOk, IsTrue};
 ghost use Rattle.sqlite_sql.specs.Syntax.{term_of};
-ghost use Rattle.sql_schema.specs.Tables.{HasMeta, strict, meta, records2, currents2, vectors, no_schema, schema1, archive_schema, first_table, second_table, third_table, fourth_table, index_of, first_index, second_index, key_indexes};
+ghost use Rattle.sql_schema.specs.Tables.{HasMeta, strict, meta, records2, currents2, vectors, no_schema, schema1, archive_schema, beside_schema, first_table, second_table, third_table, fourth_table, index_of, first_index, second_index, key_indexes};
 
+use crate::standing_beside::is_beside;
 use crate::standing_first::is_first;
 use sqlite_items::Items;
 use sqlite_schema::code::Terms;
@@ -21,6 +22,8 @@ pub enum Standing {
     Empty,
     /// Those of an archive, and nothing else.
     Archive,
+    /// Those of an archive, and behind them those of records and current values of format 1.
+    Beside,
     /// Those of a store of format 1, and nothing else.
     First,
     /// Others, the first of which is the table `meta` of an archive.
@@ -270,7 +273,7 @@ pub(crate) fn is_meta(alloc: Global, table: &Table) -> Result<bool, AllocError>
 }
 
 /// Whether it is the table `records2`.
-fn is_records(alloc: Global, table: &Table) -> Result<bool, AllocError>
+pub(crate) fn is_records(alloc: Global, table: &Table) -> Result<bool, AllocError>
     ensures { IfOk result (λ same. IsTrue same ↔ (table.now ≡ second_table)) }
 {
     let unchecked = are_none(alloc, &table.checks)?;
@@ -307,7 +310,7 @@ pub(crate) fn is_plain(orders: &[Order]) -> bool
 }
 
 /// Whether it is the table `currents2`.
-fn is_currents(alloc: Global, table: &Table) -> Result<bool, AllocError>
+pub(crate) fn is_currents(alloc: Global, table: &Table) -> Result<bool, AllocError>
     ensures { IfOk result (λ same. IsTrue same ↔ (table.now ≡ third_table)) }
 {
     let unchecked = are_none(alloc, &table.checks)?;
@@ -370,7 +373,7 @@ fn are_tables(alloc: Global, tables: &[Table]) -> Result<bool, AllocError>
 }
 
 /// Whether these are the indexes of the keys of `records2`.
-fn are_of_records(names: &Index, moments: &Index) -> bool
+pub(crate) fn are_of_records(names: &Index, moments: &Index) -> bool
     ensures { IsTrue result ↔ ((names.now ≡ first_index) × (moments.now ≡ second_index)) }
 {
     is_index(names, b"sqlite_autoindex_records2_1", 2, 1, &[1, 2])
@@ -423,11 +426,12 @@ fn is_empty(schema: &Schema) -> bool
     schema.tables.is_empty() && schema.indexes.is_empty() && schema.views.is_empty()
 }
 
-/// Which tables a database has: none, an archive's as they are or in an earlier form, or others, behind a table `meta` or not. Each column, key and index is
+/// Which tables a database has: none, an archive's as they are, with those of an earlier form beside them, or in an earlier form, or others, behind a table `meta` or not. Each column, key and index is
 /// compared with those that an archive's have. The only error is want of memory.
 pub fn standing_in(alloc: Global, schema: &Schema) -> Result<Standing, AllocError>
     ensures empty { IfOk result (λ s. (s ≡ Standing.Empty) ↔ (schema.now ≡ no_schema)) }
     ensures archive { IfOk result (λ s. (s ≡ Standing.Archive) ↔ (schema.now ≡ archive_schema)) }
+    ensures beside { IfOk result (λ s. (s ≡ Standing.Beside) ↔ (schema.now ≡ beside_schema)) }
     ensures first { IfOk result (λ s. (s ≡ Standing.First) ↔ (schema.now ≡ schema1)) }
     ensures begun { IfOk result (λ s. s ≡ Standing.Begun → HasMeta schema.now) }
     ensures foreign { IfOk result (λ s. s ≡ Standing.Foreign → HasMeta schema.now → ⊥) }
@@ -437,6 +441,9 @@ pub fn standing_in(alloc: Global, schema: &Schema) -> Result<Standing, AllocErro
     }
     if is_archive(alloc, schema)? {
         return Ok(Standing::Archive);
+    }
+    if is_beside(alloc, schema)? {
+        return Ok(Standing::Beside);
     }
     if is_first(alloc, schema)? {
         return Ok(Standing::First);

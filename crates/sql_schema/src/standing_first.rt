@@ -1,7 +1,7 @@
 //! Whether a store has the tables of format 1.
 
 ghost use Rattle.std.specs.Prelude.{◌≡◌, true, codes, ◌↔◌, IfOk, IsTrue};
-ghost use Rattle.sql_schema.specs.Tables.{strict, records1, currents1, second_table1, third_table1, indexes1, schema1};
+ghost use Rattle.sql_schema.specs.Tables.{strict, records1, currents1, indexes1, schema1};
 
 use crate::standing::{
     are_asked, are_keys, are_named, are_no_stamps, are_none, are_plain, are_shown, is_index,
@@ -57,16 +57,16 @@ fn are_columns_of_currents(columns: &[Column]) -> bool
     }
 }
 
-/// Whether it is the table `records`.
-fn is_records(alloc: Global, table: &Table) -> Result<bool, AllocError>
-    ensures { IfOk result (λ same. IsTrue same ↔ (table.now ≡ second_table1)) }
+/// Whether it is the table `records`, with this tree.
+pub(crate) fn is_records(alloc: Global, table: &Table, tree: u32) -> Result<bool, AllocError>
+    ensures { IfOk result (λ same. IsTrue same ↔ (table.now ≡ record records1 { tree = tree })) }
 {
     let unchecked = are_none(alloc, &table.checks)?;
     let unstamped = are_no_stamps(alloc, &table.stamps)?;
     Ok(
         unchecked
             && unstamped
-            && is_named(table, b"records", 1)
+            && is_named(table, b"records", tree)
             && are_columns_of_records(table.columns.as_slice())
             && table.key.is_none()
             && table.primary.as_slice() == [1, 2].as_slice()
@@ -75,16 +75,16 @@ fn is_records(alloc: Global, table: &Table) -> Result<bool, AllocError>
     )
 }
 
-/// Whether it is the table `currents`.
-fn is_currents(alloc: Global, table: &Table) -> Result<bool, AllocError>
-    ensures { IfOk result (λ same. IsTrue same ↔ (table.now ≡ third_table1)) }
+/// Whether it is the table `currents`, with this tree.
+pub(crate) fn is_currents(alloc: Global, table: &Table, tree: u32) -> Result<bool, AllocError>
+    ensures { IfOk result (λ same. IsTrue same ↔ (table.now ≡ record currents1 { tree = tree })) }
 {
     let unchecked = are_none(alloc, &table.checks)?;
     let unstamped = are_no_stamps(alloc, &table.stamps)?;
     Ok(
         unchecked
             && unstamped
-            && is_named(table, b"currents", 4)
+            && is_named(table, b"currents", tree)
             && are_columns_of_currents(table.columns.as_slice())
             && table.key.is_none()
             && table.primary.as_slice() == [1, 2].as_slice()
@@ -100,8 +100,8 @@ fn are_tables(alloc: Global, tables: &[Table]) -> Result<bool, AllocError>
     match tables {
         [meta, records, currents, vectors] => Ok(
             is_meta(alloc, meta)?
-                && is_records(alloc, records)?
-                && is_currents(alloc, currents)?
+                && is_records(alloc, records, 1)?
+                && is_currents(alloc, currents, 4)?
                 && is_vectors(alloc, vectors)?,
         ),
         _ => Ok(false),

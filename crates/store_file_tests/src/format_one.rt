@@ -1,6 +1,6 @@
 //! Stores of format 1, whose moments have no picoseconds: they are opened with tables made anew, or refused.
 
-use crate::store_files::{changed, empty, one, open, refused_after, shown, two};
+use crate::store_files::{changed, empty, held, of_three, one, open, refused_after, shown, two};
 use archive::{Archive, Direction, StoreFault};
 use records::Moment;
 use sqlite::Files;
@@ -119,5 +119,33 @@ fn another_replicas_store_of_format_1_stays(rt: HostRuntime) -> Result<(), Fail>
     assert!(rt; fault == StoreFault::WrongReplica);
     let rows = shown(alloc, left, "SELECT tick, asked FROM records ORDER BY tick");
     assert!(rt; rows.is_some_and(|numbers| numbers.as_slice() == [100, 1, 101, 4].as_slice()));
+    Ok(())
+}
+
+/// The files of an archive of three records with tables of format 1 behind its own.
+fn beside(alloc: Global) -> Option<Files<Memory>> {
+    changed(alloc, of_three(alloc)?, &[TABLES[1], TABLES[2]])
+}
+
+#[test]
+fn empty_tables_of_format_1_behind_an_archives_are_taken_out(rt: HostRuntime) -> Result<(), Fail> {
+    let alloc = rt.alloc();
+    let Some(files) = beside(alloc) else {
+        return Err(Fail::from("no store"));
+    };
+    let Ok(mut archive) = open(alloc, files, Uuid::nil(), one()?) else {
+        return Err(Fail::from("refused"));
+    };
+    assert!(rt; held(alloc, &mut archive) == Some(3));
+    let Ok(files) = archive.close_files() else {
+        return Err(Fail::from("not closed"));
+    };
+    assert!(rt; changed(alloc, files, &[TABLES[1], TABLES[2]]).is_some());
+    for row in &[TWO[0], TWO[1]] {
+        let Some(files) = beside(alloc) else {
+            return Err(Fail::from("no store"));
+        };
+        assert!(rt; refused_after(alloc, files, &[*row]) == Some(StoreFault::Refused));
+    }
     Ok(())
 }

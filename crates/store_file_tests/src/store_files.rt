@@ -64,7 +64,7 @@ pub(crate) fn learn_five<A: Archive>(alloc: Global, archive: &mut A) -> usize {
 }
 
 /// How many records are held, where they are the first of the updates.
-fn held<A: Archive>(alloc: Global, archive: &mut A) -> Option<usize> {
+pub(crate) fn held<A: Archive>(alloc: Global, archive: &mut A) -> Option<usize> {
     let all = archive.since(alloc, &Vector::new(), 100).ok()?;
     for (record, row) in all.iter().zip(&FIVE) {
         if record.number != row.1 || record.tick != row.2 {
@@ -85,7 +85,7 @@ fn unfilled(alloc: Global) -> Option<Files<Memory>> {
 }
 
 /// The files of an archive that learned the first three of the updates and was closed.
-fn of_three(alloc: Global) -> Option<Files<Memory>> {
+pub(crate) fn of_three(alloc: Global) -> Option<Files<Memory>> {
     let mut archive = open(alloc, empty(alloc), Uuid::nil(), one().ok()?).ok()?;
     for row in FIVE.iter().take(3) {
         learn(alloc, &mut archive, row).ok()?;

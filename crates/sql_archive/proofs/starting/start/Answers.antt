@@ -2,8 +2,8 @@ use Rattle.std.proofs.Common.{◌∙◌, sym, subst}
 use Rattle.sqlite.specs.Held.{state}
 use Rattle.sql_schema.specs.Tables.{HasMeta}
 use Rattle.sql_opening.specs.Opening.{IsBegunIn}
-use Rattle.sql_schema.proofs.StandingLemmas.{archive_has_meta, first_has_meta}
-use Rattle.sql_archive.proofs.StartLemmas.{widened, started_new, started_old, refused_by, opened_quiet, left_quiet, opened_new, left_new, started_renewed, opened_renewed, left_renewed}
+use Rattle.sql_schema.proofs.StandingLemmas.{archive_has_meta, beside_has_meta, first_has_meta}
+use Rattle.sql_archive.proofs.StartLemmas.{widened, started_new, started_old, refused_by, opened_quiet, left_quiet, opened_new, left_new, started_renewed, opened_renewed, left_renewed, started_cleared, opened_cleared, left_cleared}
 use Rattle.sql_archive.proofs.starting.start.Goals as goal
 
 pub returns-in-Ok-Empty-clause-started : goal.returns-in-Ok-Empty-clause-started
@@ -54,3 +54,20 @@ returns-in-Ok-Begun-clause-wrong g c clean of =
 
 pub returns-in-Ok-Begun-clause-left : goal.returns-in-Ok-Begun-clause-left
 returns-in-Ok-Begun-clause-left g c = widened (state g.S.Store c.args.conn) (state g.S.Store c.refusal_by_meta-fault.new.conn) (IsBegunIn c.args.id c.args.number (state g.S.Store c.args.conn).now) c.refusal_by_meta-fault.ensures.crash
+
+pub take_out_empty-requires-clause-rests : goal.take_out_empty-requires-clause-rests
+take_out_empty-requires-clause-rests g c clean = let o = c.requires.open clean in record { is_open = o.is_open; autocommit = o.autocommit; settled = sym o.clean }
+
+pub returns-in-Ok-Beside-clause-started : goal.returns-in-Ok-Beside-clause-started
+returns-in-Ok-Beside-clause-started g c =
+    started_cleared g.S.Store (state g.S.Store c.args.conn) c.args.id c.args.number c.take_out_empty.result c.take_out_empty.ensures.cleared c.take_out_empty.ensures.stored c.take_out_empty.ensures.kept
+
+pub returns-in-Ok-Beside-clause-wrong : goal.returns-in-Ok-Beside-clause-wrong
+returns-in-Ok-Beside-clause-wrong g c =
+    refused_by g.S.Store (state g.S.Store c.args.conn) c.args.id c.args.number c.take_out_empty.result (beside_has_meta _ (sym c.schema.ensures.value ∙ c.in-Ok-Beside.ensures.beside.0 c.in-Ok-Beside.field-0-is)) c.take_out_empty.ensures.wrong
+
+pub returns-in-Ok-Beside-clause-opened : goal.returns-in-Ok-Beside-clause-opened
+returns-in-Ok-Beside-clause-opened g c = opened_cleared g.S.Store (state g.S.Store c.args.conn) c.args.id c.args.number c.take_out_empty.result c.take_out_empty.ensures.opened
+
+pub returns-in-Ok-Beside-clause-left : goal.returns-in-Ok-Beside-clause-left
+returns-in-Ok-Beside-clause-left g c = left_cleared g.S.Store (state g.S.Store c.args.conn) c.args.id c.args.number c.take_out_empty.result c.take_out_empty.ensures.left
