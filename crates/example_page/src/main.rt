@@ -2,23 +2,53 @@
 //! isn't the last one ends in a continuation point, which brings the next.
 #![tactic(auto)]
 
+ghost use Rattle.std.specs.Prelude.{IfOk};
+ghost use Rattle.hist_update.specs.Outcome.{IsRequest};
+ghost use Rattle.ua_binary.specs.Binary.{IsShortNode};
+ghost use Rattle.ua_variant.specs.DataValue.{IsShortData};
+
+use anyhow::{Context, ensure};
 use archive::ListArchive;
 use hist_read::{Query, read_node};
 use hist_update::{Request, update_data};
 use stamp::ReplicaNo;
 use std::alloc::{AllocError, Global};
-use ua_binary::{Bytes, NodeId, Text, Ticks};
+use ua_binary::{Bytes, NodeId, Status, Text, Ticks};
 use ua_services::{HistoryData, ReadRawModifiedDetails, TimestampsToReturn};
 use ua_variant::{DataValue, Scalar, ValueType, Variant};
 use uuid::Uuid;
 
+/// The standard's number of an insert (Part 11, PerformUpdateType).
+const INSERT: i32 = 1;
+
+/// UInt16, by the standard's number (Part 6, 5.1.2).
+const UINT16: ValueType = ValueType {
+    number: 5,
+    array: false,
+};
+
 /// The variable.
-fn speed(alloc: Global) -> Result<NodeId, AllocError> {
+fn speed(alloc: Global) -> Result<NodeId, AllocError>
+    ensures { IfOk result IsShortNode }
+{
     Ok(NodeId::Named(1, Text::from_str(alloc, "pump.speed")?))
 }
 
+/// What ann asks for at the variable.
+fn request(alloc: Global) -> Result<Request, AllocError>
+    ensures { IfOk result IsRequest }
+{
+    Ok(Request {
+        node: NodeId::Named(1, Text::from_str(alloc, "pump.speed")?),
+        user: Text::from_str(alloc, "ann")?,
+        reading: 100,
+    })
+}
+
 /// The value that was measured at a time.
-fn measured(time: i64, written: u16) -> DataValue {
+fn measured(time: i64, written: u16) -> DataValue
+    ensures { IsShortData result }
+{
     DataValue {
         value: Some(Variant::Scalar(Scalar::UInt16(written))),
         status: None,
@@ -30,16 +60,8 @@ fn measured(time: i64, written: u16) -> DataValue {
 }
 
 /// Inserts five values, at the times 1 to 5.
-fn fill(alloc: Global, archive: &mut ListArchive) -> Result<(), AllocError> {
-    let request = Request {
-        node: speed(alloc)?,
-        user: Text::from_str(alloc, "ann")?,
-        reading: 100,
-    };
-    let uint16 = ValueType {
-        number: 5,
-        array: false,
-    };
+fn fill(alloc: Global, archive: &mut ListArchive) -> anyhow::Result<()> {
+    let request = request(alloc)?;
     let values = [
         measured(1, 900),
         measured(2, 920),
@@ -47,7 +69,8 @@ fn fill(alloc: Global, archive: &mut ListArchive) -> Result<(), AllocError> {
         measured(4, 870),
         measured(5, 910),
     ];
-    update_data(alloc, archive, &request, uint16, 1, &values);
+    let told = update_data(alloc, archive, &request, UINT16, INSERT, &values);
+    ensure!(told.status == Status::GOOD, "the update was refused");
     Ok(())
 }
 
@@ -87,12 +110,11 @@ fn page(
 }
 
 fn main(rt: HostRuntime) -> anyhow::Result<()> {
-    let Some(first) = ReplicaNo::new(1) else {
-        return Ok(());
-    };
+    let first = ReplicaNo::new(1).context("1 is a replica's number")?;
     let mut archive = ListArchive::new(rt.alloc(), Uuid::nil(), first);
     fill(rt.alloc(), &mut archive)?;
     let mut point = page(&rt, &mut archive, None)?;
+    // A loop has to end: three pages are all there are.
     for _ in 0..9 {
         let Some(at) = &point else {
             break;
