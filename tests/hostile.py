@@ -3,10 +3,11 @@
 
     tests/hostile.py [TEST ..]
 
-The rows are tests (`hostile/rows.txt` is their table), compiled for this run alone in a copy of the crates, and not proved. A test
-makes a row's call again where it was told want of memory, and looks at what was left before; so it has to pass whichever growth is
-refused. TEST is a part of the tests' names, all without it. Needs gcc. Prints for each test how many growths it asked for and how
-many of these refused it came through; the exit status is 1 where that isn't each of them.
+The rows are the tests of `crates/hostile_tests` (`src/rows.rt` is their table), which the gate proves and runs with ample memory;
+here they are compiled in a copy of the crates, unproved. A test makes a row's call again where it was told want of memory, and looks
+at what was left before; so it has to pass whichever growth is refused. TEST is a part of the tests' names, all without it. Needs
+gcc. Prints for each test how many growths it asked for and how many of these refused it came through; the exit status is 1 where
+that isn't each of them.
 """
 import os, shutil, subprocess, sys, tempfile
 from concurrent.futures import ThreadPoolExecutor
@@ -16,25 +17,17 @@ sys.path.append(os.path.join(os.path.dirname(running.here), "tools"))
 import unproved
 
 top = os.path.dirname(running.here)
-NAME = "hostile_examples"
-BELOW = """ua_server command_line ua_connection ua_peers counted_io exchange hist_read hist_update historian archive records stamp
-ua_settings ua_space ua_services ua_session ua_channel uacp ua_variant ua_binary toml uuid hex clap thiserror""".replace("\n", " ")
 words = sys.argv[1:]
 folder = tempfile.mkdtemp(dir="/dev/shm" if os.path.isdir("/dev/shm") else None)
 library = running.built("refuse.c", "refuse.so", folder)
 
 
 def copied():
-    """A copy of the repository's crates with the tests beside them; their crate's folder."""
+    """A copy of the repository's crates; the folder of the tests' crate."""
     shutil.copytree(os.path.join(top, "crates"), os.path.join(folder, "crates"), ignore=shutil.ignore_patterns("out"))
-    shutil.copy(os.path.join(top, "HANDLES"), folder)
-    listed = open(os.path.join(top, "crates.txt")).read()
-    open(os.path.join(folder, "crates.txt"), "w").write(f"{listed}{NAME}: {BELOW}\n")
-    crate = os.path.join(folder, "crates", NAME)
-    os.makedirs(os.path.join(crate, "src"))
-    for name in os.listdir(os.path.join(running.here, "hostile")):
-        shutil.copy(os.path.join(running.here, "hostile", name), os.path.join(crate, "src", name.replace(".txt", ".rt")))
-    return crate
+    for name in ["HANDLES", "crates.txt"]:
+        shutil.copy(os.path.join(top, name), folder)
+    return os.path.join(folder, "crates", "hostile_tests")
 
 
 unproved.module(copied(), folder, ["--test", "--seconds", "1"])

@@ -3,8 +3,10 @@
 use crate::machines::{held, replica_of};
 use archive::{Archive, ScriptedArchive};
 use exchange::Replica;
+use server_rows::plant::clock;
+use server_rows::streams::is_joined;
 use std::alloc::Global;
-use ua_server::{ConstantClock, HexFault, ServeFault, Served, answer_hex};
+use ua_server::{HexFault, ServeFault, Served, answer_hex};
 use ua_settings::Settings;
 
 /// What is written, and how the connection ends.
@@ -18,21 +20,8 @@ fn told(
     text: &str,
 ) -> Told {
     let mut out = Vec::new(alloc);
-    let mut clock = ConstantClock(116_444_736_000_000_000);
-    let ending = answer_hex(alloc, settings, replica, text, &mut out, &mut clock);
+    let ending = answer_hex(alloc, settings, replica, text, &mut out, &mut clock());
     (out, ending)
-}
-
-/// The digits are these parts, one after the other.
-fn is_joined(digits: &[u8], parts: &[&str]) -> bool {
-    let mut rest = digits;
-    for part in parts {
-        match rest.strip_prefix(part.as_bytes()) {
-            Some(after) => rest = after,
-            None => return false,
-        }
-    }
-    rest.is_empty()
 }
 
 /// The digits are the first of the parts, and then one of these ends.

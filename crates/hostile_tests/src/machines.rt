@@ -1,25 +1,19 @@
 //! Two machines, each with an archive in memory, what is asked of them and what that leaves. Where memory was wanting a step
 //! is made again: behind what changed nothing it comes to what it comes to with ample memory.
 
-ghost use Rattle.std.specs.Prelude.{IsTrue};
-ghost use Rattle.std.specs.List.{AllByRecursion};
-ghost use Rattle.ua_variant.specs.DataValue.{IsShortData};
-ghost use Rattle.hist_update.specs.Outcome.{IsRequest};
-ghost use Rattle.records.specs.Spelling.{IsLawfulRecord};
-
 use archive::{Archive, Failure, LearnFault, ScriptedArchive, StoreFault};
 use exchange::{Batch, ExchangeFault, Replica, converse};
 use hist_update::{Request, delete_at, update_data};
 use historian::{Message, answer_message};
+use history_rows::exchanges::merge;
+use history_rows::updates::{INT32, are_short, code_of, int, is_request, value};
 use records::{HistoryUpdateType, Moment, Record, put_record, read_record};
+use server_rows::plant::plant_of;
 use stamp::{ReplicaNo, Vector};
 use std::alloc::Global;
 use ua_binary::{Listing, NodeId, NodeIdRef, Status, Text, Ticks};
-use ua_services::HistoryUpdateResult;
-use ua_session::{SessionFault, Sessions, Users};
-use ua_settings::{Parts, Settings};
-use ua_space::{Plan, Space, VariablePlan};
-use ua_variant::{DataValue, Scalar, ValueType, Variant};
+use ua_session::{SessionFault, Sessions};
+use ua_settings::Settings;
 use uuid::Uuid;
 
 /// An insert of replica 2 at source time 20: origin, number, tick, and the value.
@@ -72,34 +66,9 @@ pub(crate) fn replica_of(alloc: Global, number: u8, call: u64) -> Option<Replica
     Some(Replica::new(ScriptedArchive::new(alloc, Uuid::nil(), number, call, refusal)))
 }
 
-/// A plant with the one variable `ns=1;s=T`, an Int32.
-fn plant(alloc: Global, number: u8) -> Option<Settings> {
-    let plan = Plan {
-        namespace: "urn:uahist:archive",
-        folders: &[],
-        variables: &[VariablePlan {
-            id: "T",
-            name: "T",
-            type_name: "Int32",
-            array: false,
-            folder: None,
-        }],
-    };
-    Some(Settings::of(Parts {
-        archive: Uuid::nil(),
-        replica: ReplicaNo::new(number)?,
-        store: None,
-        listen: Text::from_str(alloc, "127.0.0.1:4840").ok()?,
-        url: Text::from_str(alloc, "opc.tcp://localhost:4840").ok()?,
-        application: Text::from_str(alloc, "urn:uahist").ok()?,
-        users: Users::new(alloc, true),
-        space: Space::build(alloc, &plan).ok()?,
-    }))
-}
-
 fn make_machine(alloc: Global, number: u8, call: u64) -> Option<Machine> {
     Some(Machine {
-        settings: plant(alloc, number)?,
+        settings: plant_of(alloc, number)?,
         replica: replica_of(alloc, number, call)?,
         sessions: Sessions::new(alloc),
     })
@@ -164,12 +133,11 @@ fn wants(told: &Option<Vec<u8>>) -> bool {
     let Some(body) = told else {
         return true;
     };
-    let mut rest = body.as_slice();
-    while let Some((_, next)) = rest.split_first() {
-        if rest.starts_with(&[0, 0, 3, 0x80]) {
+    let bytes = body.as_slice();
+    for at in 0..bytes.len() {
+        if bytes[at..].starts_with(&[0, 0, 3, 0x80]) {
             return true;
         }
-        rest = next;
     }
     false
 }
@@ -235,55 +203,6 @@ fn request(alloc: Global, reading: i64) -> Option<Request> {
     })
 }
 
-/// Whether the node's id and the user's name are within their limits.
-fn is_request(request: &Request) -> bool
-    ensures { IsTrue result → IsRequest request.now }
-{
-    let short = match &request.node {
-        NodeId::Named(_, name) => name.len() <= 256,
-        _ => false,
-    };
-    short && request.user.len() <= 256
-}
-
-fn are_short(values: &[DataValue]) -> bool
-    ensures { IsTrue result → AllByRecursion IsShortData values.now }
-{
-    values.iter().all(is_short)
-}
-
-/// Whether a value may be written.
-fn is_short(value: &DataValue) -> bool
-    ensures { IsTrue result → IsShortData value.now }
-{
-    value.source_pico.is_none() && value.server_pico.is_none() && value.size() < 0x8000_0000
-}
-
-fn value(written: i32, time: Option<i64>) -> DataValue {
-    DataValue {
-        value: Some(Variant::Scalar(Scalar::Int32(written))),
-        status: None,
-        source_time: time.map(Ticks),
-        source_pico: None,
-        server_time: None,
-        server_pico: None,
-    }
-}
-
-/// The code of the one operation, or the status where there is none.
-fn code_of(told: &HistoryUpdateResult) -> Status {
-    if told.operation_results.len() == 1 {
-        told.operation_results[0]
-    } else {
-        told.status
-    }
-}
-
-const INT32: ValueType = ValueType {
-    number: 6,
-    array: false,
-};
-
 fn operate(
     alloc: Global,
     machine: &mut Machine,
@@ -292,7 +211,7 @@ fn operate(
     time: i64,
     written: i32,
 ) -> Option<Status> {
-    let values = [value(written, Some(time))];
+    let values = [value(int(written), Some(time))];
     if !is_request(request) || !are_short(&values) {
         return None;
     }
@@ -340,7 +259,7 @@ fn insert_of(alloc: Global, row: &Row) -> Option<Record> {
         time: Moment::at(20),
         asked: HistoryUpdateType::Insert,
         user,
-        value: value(written, None),
+        value: value(int(written), None),
     })
 }
 
@@ -352,32 +271,6 @@ fn batch_of(alloc: Global, rows: &[Row]) -> Option<Batch> {
     Some(Batch {
         records: Listing::of(records),
     })
-}
-
-fn is_lawful(held: &Record) -> bool
-    ensures { IsTrue result → IsLawfulRecord held.now }
-{
-    held.is_lawful()
-}
-
-/// Whether each of the records is lawful.
-fn are_lawful(records: &[Record]) -> bool
-    ensures { IsTrue result → AllByRecursion IsLawfulRecord records.now }
-{
-    for held in records {
-        if !is_lawful(held) {
-            return false;
-        }
-    }
-    true
-}
-
-fn merge(replica: &mut Replica<ScriptedArchive>, batch: &Batch) -> Result<u32, ExchangeFault> {
-    if are_lawful(batch.records.as_slice()) {
-        replica.merge(batch)
-    } else {
-        Err(ExchangeFault::Frame)
-    }
 }
 
 /// Whether a fault tells want of memory.

@@ -4,39 +4,11 @@ use crate::calls::Call;
 use crate::machines::{Left, Step};
 use archive::LearnFault;
 use exchange::ExchangeFault;
-use ua_binary::Status;
+use history_rows::codes::{EXISTS, GOOD, INSERTED, REPLACED, UNAVAILABLE};
+use server_rows::streams::{ACK, ANSWER, HELLO, OPEN, OPENED, REQUEST};
 use ua_server::Served;
 
-const GOOD: Status = Status(0);
-
-const INSERTED: Status = Status(0x00A2_0000);
-
-const REPLACED: Status = Status(0x00A3_0000);
-
-const UNAVAILABLE: Status = Status(0x8004_0000);
-
-const EXISTS: Status = Status(0x809F_0000);
-
-/// A Hello, and its Acknowledge.
-const HELLO: &str =
-    "48454C46380000000000000000000100000001000000000000000000180000006F70632E7463703A2F2F6C6F63616C686F73743A34383430";
-
-const ACK: &str = "41434B461C0000000000000000000100000001000000400040000000";
-
-/// The first opening, and its answer at the Unix epoch.
-const OPEN: &str =
-    "4F504E4684000000000000002F000000687474703A2F2F6F7063666F756E646174696F6E2E6F72672F55412F5365637572697479506F6C696379234E6F6E65FFFFFFFFFFFFFFFF01000000010000000100BE01000000000000000000000100000000000000FFFFFFFF00000000000000000000000000000001000000FFFFFFFF80EE3600";
-
-const OPENED: &str =
-    "4F504E4687000000010000002F000000687474703A2F2F6F7063666F756E646174696F6E2E6F72672F55412F5365637572697479506F6C696379234E6F6E65FFFFFFFFFFFFFFFF01000000010000000100C10100803ED5DEB19D01010000000000000000FFFFFFFF00000000000000010000000100000000803ED5DEB19D0180EE3600FFFFFFFF";
-
-/// A message of a type that isn't served, its answer, and the ServiceFault that tells want of memory in its place.
-const REQUEST: &str =
-    "4D53474637000000010000000100000002000000020000000001000000000000000000000200000000000000FFFFFFFF00000000000000";
-
-const ANSWER: &str =
-    "4D534746340000000100000001000000020000000200000001008D0100803ED5DEB19D010200000000000B8000FFFFFFFF000000";
-
+/// The ServiceFault that tells want of memory in the place of the answer to a message.
 const UNTOLD: &str =
     "4D534746340000000100000001000000020000000200000001008D0100803ED5DEB19D01020000000000038000FFFFFFFF000000";
 
@@ -429,7 +401,28 @@ const ROW_29: &[Step] = &[Step::Converse(7), Step::Holds([1, 1], 100)];
 const ROW_29_ELSEWHERE: &[Step] = &[Step::Holds([1, 1], 100)];
 
 /// The number of a row, what it is, and how it is shown.
-pub(crate) static ROWS: [(u8, &str, Shown); 40] = [
+pub(crate) type Row = (u8, &'static str, Shown);
+
+/// How many tables there are.
+pub(crate) const TABLES: usize = 10;
+
+/// The rows of a table: they stand in several, each of which is proved by itself.
+pub(crate) fn table(at: usize) -> &'static [Row] {
+    match at {
+        0 => table_0(),
+        1 => table_1(),
+        2 => table_2(),
+        3 => table_3(),
+        4 => table_4(),
+        5 => table_5(),
+        6 => table_6(),
+        7 => table_7(),
+        8 => table_8(),
+        _ => table_9(),
+    }
+}
+
+static TABLE_0: [Row; 4] = [
     (
         1,
         "a Hello",
@@ -460,6 +453,13 @@ pub(crate) static ROWS: [(u8, &str, Shown); 40] = [
             &[WANTING],
         ),
     ),
+];
+
+fn table_0() -> &'static [Row] {
+    &TABLE_0
+}
+
+static TABLE_1: [Row; 4] = [
     (
         4,
         "spellings of a node",
@@ -476,6 +476,13 @@ pub(crate) static ROWS: [(u8, &str, Shown); 40] = [
         "updates, and what they show",
         Shown::Script(&[(1, INSERT_7), (1, ROW_6_UPDATES), (1, BEGIN), (1, ROW_6)]),
     ),
+];
+
+fn table_1() -> &'static [Row] {
+    &TABLE_1
+}
+
+static TABLE_2: [Row; 4] = [
     (
         7,
         "reads of five values",
@@ -496,6 +503,13 @@ pub(crate) static ROWS: [(u8, &str, Shown); 40] = [
         "reads of five values",
         Shown::Script(&[(1, BEGIN), (1, FIVE), (1, ROW_10)]),
     ),
+];
+
+fn table_2() -> &'static [Row] {
+    &TABLE_2
+}
+
+static TABLE_3: [Row; 4] = [
     (
         11,
         "reads of five values",
@@ -525,6 +539,13 @@ pub(crate) static ROWS: [(u8, &str, Shown); 40] = [
             (2, ROW_13),
         ]),
     ),
+];
+
+fn table_3() -> &'static [Row] {
+    &TABLE_3
+}
+
+static TABLE_4: [Row; 4] = [
     (14, "batches", Shown::Script(&[(1, ROW_14)])),
     (15, "a batch that clashes", Shown::Script(&[(1, ROW_15)])),
     (16, "ticks", Shown::Script(&[(1, BEGIN), (1, ROW_16)])),
@@ -533,6 +554,13 @@ pub(crate) static ROWS: [(u8, &str, Shown); 40] = [
         "refused reads",
         Shown::Script(&[(1, BEGIN), (1, ROW_17)]),
     ),
+];
+
+fn table_4() -> &'static [Row] {
+    &TABLE_4
+}
+
+static TABLE_5: [Row; 4] = [
     (
         18,
         "points",
@@ -556,6 +584,13 @@ pub(crate) static ROWS: [(u8, &str, Shown); 40] = [
         "picoseconds",
         Shown::Call(Call::Data(&[0x10, 0x10, 0x27], Some(9999))),
     ),
+];
+
+fn table_5() -> &'static [Row] {
+    &TABLE_5
+}
+
+static TABLE_6: [Row; 4] = [
     (
         19,
         "a type that isn't served",
@@ -582,6 +617,13 @@ pub(crate) static ROWS: [(u8, &str, Shown); 40] = [
         ),
     ),
     (22, "a body in two chunks", Shown::Call(Call::Split)),
+];
+
+fn table_6() -> &'static [Row] {
+    &TABLE_6
+}
+
+static TABLE_7: [Row; 4] = [
     (23, "a session", Shown::Script(&[(1, ROW_23)])),
     (23, "a session too many", Shown::Call(Call::Seventeen)),
     (
@@ -599,6 +641,13 @@ pub(crate) static ROWS: [(u8, &str, Shown); 40] = [
             &[PEER_WANTING, STORE_WANTING],
         ),
     ),
+];
+
+fn table_7() -> &'static [Row] {
+    &TABLE_7
+}
+
+static TABLE_8: [Row; 4] = [
     (
         26,
         "a peer of this replica's number",
@@ -646,6 +695,13 @@ pub(crate) static ROWS: [(u8, &str, Shown); 40] = [
         "deletes of nothing",
         Shown::Script(&[(1, BEGIN), (1, ROW_28)]),
     ),
+];
+
+fn table_8() -> &'static [Row] {
+    &TABLE_8
+}
+
+static TABLE_9: [Row; 4] = [
     (
         28,
         "a delete of two",
@@ -672,3 +728,7 @@ pub(crate) static ROWS: [(u8, &str, Shown); 40] = [
         Shown::Call(Call::NoVector(&[2, 2, 3, 0, 0, 0, 0, 0, 0, 0, 1, 1, 0, 0, 0, 0, 0, 0, 0])),
     ),
 ];
+
+fn table_9() -> &'static [Row] {
+    &TABLE_9
+}
