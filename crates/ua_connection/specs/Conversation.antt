@@ -25,18 +25,19 @@ use Rattle.ua_connection.specs.Serving.{new_standing}
 
 -- ---- the bytes
 
--- the greatest size by which each chunk is judged: 65,536 bytes, and once it was granted that
+-- the greatest size of each chunk: 65,536 bytes of the first, and the granted size of later ones
 abbrev pub limits_by : ℕ → ℕ → ℕ
 limits_by granted zero = 65536
 limits_by granted (suc k) = granted
 
--- the receive size of the Acknowledge was granted, where the first chunk is a Hello that has one
+-- The granted size is the Acknowledge's receive size. Where the first chunk gets no Acknowledge it
+-- may be any, since the connection ends there.
 abbrev pub IsGranted : List Piece → ℕ → Type 0
 IsGranted [] granted = Unit {0}
 IsGranted (first ∷ pieces) granted = (hello : Hello) (ack : Ack)
     → hello_at first.body ≡ Ok hello → ack_of hello ≡ Ok ack → granted ≡ ack.receive_size
 
--- a stream of bytes is these whole chunks, and this rest that is none
+-- a stream of bytes is these whole chunks, the first alone a Hello, and this rest that is none
 pub record Chunked (bytes : List ℕ) : Type 0 where
   pub granted : ℕ
   pub pieces : List Piece
@@ -53,8 +54,10 @@ opening_behind past request handle lifetime =
     let token = openings_of past + 1 in
     record { request_id = request; handle = handle; lifetime = lifetime; token = token }
 
--- A well placed chunk is answered, behind these: an opening; a message whose last chunk it is, all
--- bodies joined, by its service; a chunk within a message by nothing; and CLO ends the connection.
+-- A well placed chunk is answered, `past` being those before it, the newest first. OPN is answered
+-- by its opening. The last chunk of a message is answered by the message's service, over all its
+-- bodies joined. A chunk within a message, or one that gives it up, is answered by nothing. CLO is
+-- the end.
 abbrev pub answered_well : Site → Standing → State → List Placed → Placed → Answering
 answered_well site standing state past (Opens sequence asked) = and_then clock
     (opened standing state (opening_behind past sequence.1 asked.handle asked.lifetime))
@@ -64,7 +67,8 @@ answered_well site standing state past (Says letter numbers body) =
     give (goes standing [] (Some state))
 answered_well site standing state past (Closes numbers) = give (ends standing [] (Ok Closed))
 
--- any chunk, by its place behind these, the newest first; one that isn't well placed is refused
+-- Any chunk is answered by its place behind `past`, which is what the channel has heard; one that
+-- isn't well placed is refused.
 abbrev pub answered_at : Site → List Placed → Standing → State → Piece → Answering
 answered_at site past standing state piece = elim (judged (heard_of past) piece) [
   | Ok placed ↦
@@ -118,8 +122,8 @@ abbrev pub answered_stream : Site → Content → (bytes : List ℕ) → Chunked
 answered_stream site R bytes stream =
     answered_chunks site (answered_rest stream.fault stream.rest) (new_standing R) stream.pieces
 
--- What came is such chunks and a rest, and by this, and no more, of the outside this is the answer to
--- them, which ended so, and this stands then.
+-- The bytes that came are such chunks and a rest. Their answer, which uses just what `used` has of
+-- the outside, is `out`; it ended so, and left `last`.
 pub record IsConversed (site : Site) (R : Content) (came : List ℕ) (used : Outside)
     (out : List ℕ) (ending : Ending) (last : Standing) : Type 0 where
   pub stream : Chunked came

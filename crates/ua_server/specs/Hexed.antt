@@ -15,7 +15,7 @@ use Rattle.ua_server.specs.Either.{ServesEither}
 abbrev pub digits_of : List ℕ → List ℕ
 digits_of text = filter (λ byte. not (byte == 32) && (not (byte == 10) && not (byte == 13))) text
 
--- the text spells bytes, a client that sends these was served, and this was written
+-- the text spells bytes, a client or a peer that sends these was served, and this was written
 abbrev pub AnswersText : Values → Store → Store → List ℕ → Outside → List ℕ → Ending → Type 0
 AnswersText settings old new text used out ending =
     (input : List ℕ) × (left : Option (List ℕ)) × (decode_of (digits_of text) ≡ Ok input) × ServesEither settings old new (Some input) left (Some []) (Some out) used ending
@@ -24,7 +24,8 @@ AnswersText settings old new text used out ending =
 abbrev pub IsUntouched : Store → Store → Outside → Type 0
 IsUntouched old new used = Moves old new [] (λ marks R S. S ≡ R) × (used.readings ≡ [])
 
--- The digits of what was written are appended; behind a fault nothing is. Where memory is wanting, nothing was done, or the client was served.
+-- The digits of what was written are appended; behind a fault nothing is. Where memory is wanting,
+-- nothing was done, or the client or peer was served.
 abbrev pub AnswersHex : Values → Store → Store → List ℕ → Outside → List ℕ → List ℕ → Result Served HexFault → Type 0
 AnswersHex settings old new text used before after (Ok served) = (out : List ℕ) × AnswersText settings old new text used out (Ok served) × (after ≡ before ++ encode_upper out)
 AnswersHex settings old new text used before after (Err BadHex) = IsErr (decode_of (digits_of text)) × (after ≡ before) × IsUntouched old new used
