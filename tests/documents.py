@@ -6,9 +6,10 @@
 PROGRAM is the built uahist. In README.md, docs/TOUR.md and docs/OPERATIONS.md (or the pages that are named) a block that begins
 with ```console has commands behind a `$`, each with what it prints below it. The blocks of a page run one after the other in a
 folder of its own, with plant.toml and stdin of crates/uahist, and `uahist` and the scripts of tests to be called by name. A
-command that serves without an end is stopped. Links between pages have to lead to a file. Exit status 1 where one differs.
+command that serves without an end is stopped. What README shows of tools/quick has to be what that prints with this program, but
+for the lines of the build. Links between pages have to lead to a file. Exit status 1 where one differs.
 """
-import glob, os, re, shutil, signal, subprocess, sys, tempfile
+import glob, importlib.machinery, importlib.util, os, re, shutil, signal, subprocess, sys, tempfile
 
 here = os.path.dirname(os.path.abspath(__file__))
 top = os.path.dirname(here)
@@ -53,6 +54,24 @@ def wrong_commands(program, page):
     return wrong, count
 
 
+def played(program):
+    """What tools/quick prints with the program, behind the build."""
+    loader = importlib.machinery.SourceFileLoader("quick", os.path.join(top, "tools", "quick"))
+    quick = importlib.util.module_from_spec(importlib.util.spec_from_loader("quick", loader))
+    loader.exec_module(quick)
+    with tempfile.TemporaryDirectory() as folder:
+        return list(quick.play(program, quick.stored_settings(folder)))
+
+
+def unshown_lines(program):
+    """The lines of README's block of tools/quick that it doesn't print, in this order."""
+    block = re.search(r"tools/quick\n.*?^```\n(.*?)^```", open(os.path.join(top, "README.md")).read(), re.M | re.S)[1]
+    printed = iter(played(program))
+    for line in block.splitlines():
+        if line != ".." and not line.startswith(("Building", "out/uahist is built")) and line not in printed:
+            yield line
+
+
 def dead_links():
     """The links of the pages that lead to no file."""
     for page in glob.glob(os.path.join(top, "*.md")) + glob.glob(os.path.join(top, "*", "README.md")) + glob.glob(os.path.join(top, "docs", "*.md")):
@@ -68,11 +87,14 @@ def main():
     for page in sys.argv[2:] or PAGES:
         differ, all_ = wrong_commands(program, page)
         wrong, count = wrong + differ, count + all_
+    unshown = list(unshown_lines(program))
+    for line in unshown:
+        print(f"README shows of tools/quick: {line}")
     dead = list(dead_links())
     for link in dead:
         print(f"leads nowhere: {link}")
-    print(f"{count} commands, {wrong} print something else; {len(dead)} links lead nowhere")
-    sys.exit(1 if wrong or dead else 0)
+    print(f"{count} commands, {wrong} print something else; {len(unshown)} lines of tools/quick differ; {len(dead)} links lead nowhere")
+    sys.exit(1 if wrong or unshown or dead else 0)
 
 
 main()
