@@ -6,7 +6,7 @@ here = os.path.dirname(os.path.abspath(__file__))
 NOW = EPOCH + 10 ** 12
 PORTS = itertools.cycle(random.sample(range(10_000, 30_000), 20_000))
 
-# The ways in which the program may end (README): the exit status, and what it says on standard error.
+# The ways in which the program may end (docs/OPERATIONS.md): the exit status, and what it says on standard error.
 STATED = [
     (0, r""),
     (0, r"connection ended \([1-4]\)\n"),  # of serve
@@ -14,11 +14,10 @@ STATED = [
     (2, r"memory ran out before the command began\n"),
     (2, r"settings file can't be read\n"),
     (2, r"settings refused \([1-6]\)\n(uahist: [^\n]{1,180}\n)?"),
-    (3, r"store refused \([1-5]\)\n"),
+    (3, r"store refused \([1-4]\)\n"),
     (2, r"bad hex\n"),
     (1, r"address refused\n"),
-    (1, r"exchange ended \([1-8]\)\n"),
-    (1, r"exchange ended by the peer\n"),
+    (1, r"exchange ended \(\d+\)\n"),
     (1, r"connection ended \([1-4]\)\n"),
 ]
 
