@@ -240,6 +240,7 @@ fn command<'a>(alloc: Global) -> Result<Command<'a>, AllocError>
 fn asked_in<'a>(alloc: Global, refusal: &Refusal) -> Result<Asked<'a>, LineFault>
     ensures text { IfOk result (IsTextOf (kind_of refusal.now)) }
     ensures words { IsErrOf result LineFault.Words → IsMistake (kind_of refusal.now) }
+    ensures mistake { IsMistake (kind_of refusal.now) → IsErrOf result LineFault.Words }
 {
     match refusal.kind() {
         ErrorKind::DisplayHelp | ErrorKind::DisplayVersion => text_of(alloc, refusal),
