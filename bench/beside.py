@@ -4,8 +4,8 @@
     bench/beside.py PROGRAM [RECORDS ..]
 
 The peer (peer/peer.c) does the same over the same tables with prepared statements and the same commits. For each number of
-records (1,000 and 10,000 where none is given), in a file and in memory, both do a piece of work a few times and more times;
-what is told is the difference, by valgrind's callgrind, so that starts don't count. An opening is told a record, as the
+records (1,000 and 10,000 where none is given) in a file, and for the first in memory, both do a piece of work a few times and
+more times; what is told is the difference, by valgrind's callgrind, so that starts don't count. An opening is told a record, as the
 difference between openings of two stores. Needs gcc, libsqlite3-dev and valgrind.
 """
 import os, re, shutil, subprocess, sys, tempfile
@@ -99,7 +99,7 @@ def main():
     subprocess.run(["gcc", "-O2", "-w", "-o", peer, os.path.join(top, "bench", "peer", "peer.c"), "-lsqlite3"], check=True)
     print("| What | where | of records | uahist | C library | ratio |\n|---|---|---|---|---|---|")
     for count in sizes:
-        for is_file in (True, False):
+        for is_file in (True, False) if count == sizes[0] else (True,):
             for name, few, more, pieces, make, word in works(count):
                 uahist = ours(is_file, count, make(more)) - ours(is_file, count, make(few))
                 c = peers(is_file, count, word.format(more)) - peers(is_file, count, word.format(few))

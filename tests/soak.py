@@ -244,8 +244,8 @@ def main():
     assert len(writes) == sum(r.asked != 4 for r in records), "a write stands twice"
     assert all_reads(one) == all_reads(two), "the reads differ"
     sizes = {os.path.basename(m.store + end): os.path.getsize(m.store + end) for m in (one, two) for end in ("", "-wal") if os.path.exists(m.store + end)}
-    print(f"{len(records)} records at both, {len(one.good | two.good)} writes answered Good, none missing; dumps and reads are equal, byte for byte")
     print(f"done: {dict(counts)}\ngreatest kB: {dict(memory)}\nbytes of the files: {sizes}, of the dump: {len(dump)}")
+    print(f"{len(records)} records at both, {len(one.good | two.good)} writes answered Good, none missing; dumps and reads are equal, byte for byte")
     shutil.rmtree(folder)
 
 
