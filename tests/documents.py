@@ -18,11 +18,20 @@ ENDLESS = re.compile(r"uahist serve (?!.*--connections)")
 
 
 def commands(page):
-    """The commands of a page, each with what it has to print."""
-    for block in re.findall(r"^```console\n(.*?)^```", open(page).read(), re.M | re.S):
+    """The commands of a page, each with what it has to print; of a block that sets up, none."""
+    for kind, block in re.findall(r"^```(console|sh)\n(.*?)^```", open(page).read(), re.M | re.S):
+        if kind == "sh":
+            yield block, None
+            continue
         for part in re.split(r"^\$ ", block, flags=re.M)[1:]:
             command, _, wanted = part.partition("\n")
             yield command, wanted
+
+
+def set_up(block, folder, path):
+    """Where a block that sets up ends, and the PATH then."""
+    told = subprocess.run(["bash", "-ec", block + "\npwd; echo $PATH"], cwd=folder, env={**os.environ, "PATH": path}, stdout=subprocess.PIPE, text=True, check=True)
+    return told.stdout.splitlines()[-2:]
 
 
 def run(command, folder, path):
@@ -40,14 +49,17 @@ def wrong_commands(program, page):
     """How many commands of a page print something else, and how many there are."""
     wrong = count = 0
     with tempfile.TemporaryDirectory() as folder:
-        programs = os.path.join(folder, "bin")
-        os.mkdir(programs)
-        os.symlink(program, os.path.join(programs, "uahist"))
-        for name in ("data/plant.toml", "stdin"):
-            shutil.copy(os.path.join(top, "crates", "uahist", name), folder)
+        os.mkdir(os.path.join(folder, "out"))
+        os.symlink(program, os.path.join(folder, "out", "uahist"))
+        for name in ("tests", "crates"):
+            os.symlink(os.path.join(top, name), os.path.join(folder, name))
+        path = os.environ["PATH"]
         for command, wanted in commands(os.path.join(top, page)):
             count += 1
-            printed = run(command, folder, f"{programs}:{here}:{os.environ['PATH']}")
+            if wanted is None:
+                folder, path = set_up(command, folder, path)
+                continue
+            printed = run(command, folder, path)
             if printed != wanted:
                 wrong += 1
                 print(f"{page}: $ {command}\n  wanted {wanted!r}\n  printed {printed!r}")
