@@ -5,21 +5,21 @@ use Rattle.std.proofs.Math.Bool.{or-false}
 use Rattle.std.specs.List.{list_any, AllByRecursion}
 use Rattle.archive.specs.declared.fault.StoreFault.{StoreFault}
 use Rattle.archive.specs.declared.fault.StoreFault.TheVariants.{OutOfMemory, Refused, WrongReplica, WrongArchive, Broken}
-use Rattle.archive.specs.Store.{Store, Leaves, Stays, Asks, fault_in, raised, IsOfOpening, is_break, failed_by, Passes}
+use Rattle.archive.specs.Store.{Store, AfterCall, KeepsContent, Asks, fault_in, faults_after, IsOfOpening, is_break, failed_by, CountsFaults}
 use Rattle.archive.specs.Listed.{is_broken}
 
 -- ---- any calls in a row
 
 -- no call
-pub passes-none : (a : Store) → Passes a a []
+pub passes-none : (a : Store) → CountsFaults a a []
 passes-none a = record { own = refl; id = refl; honest = λ h. h; failed = refl; broken = sym (or-false a.broken); met = tt; meets = λ f m. m }
 
-pub stays-none : (a : Store) → Stays a a
+pub stays-none : (a : Store) → KeepsContent a a
 stays-none a = record { content = λ h u. refl; crash = λ h left m. m }
 
 failed-append : (faults more : List StoreFault) (n : ℕ) → failed_by (faults ++ more) n ≡ failed_by more (failed_by faults n)
 failed-append [] more n = refl
-failed-append (f ∷ faults) more n = failed-append faults more (raised 1 n)
+failed-append (f ∷ faults) more n = failed-append faults more (faults_after 1 n)
 
 breaks-append : (x : Bool) (faults more : List StoreFault) → ((x || list_any is_break faults) || list_any is_break more) ≡ (x || list_any is_break (faults ++ more))
 breaks-append true faults more = refl
@@ -33,7 +33,7 @@ met-append a b meets [] (f ∷ more) m n = ((meets f n.0.0, n.0.1), met-append a
 met-append a b meets (f ∷ faults) more m n = (m.0, met-append a b meets faults more m.1 n)
 
 -- some calls, and others behind them
-pub passes-then : (a b c : Store) (faults more : List StoreFault) → Passes a b faults → Passes b c more → Passes a c (faults ++ more)
+pub passes-then : (a b c : Store) (faults more : List StoreFault) → CountsFaults a b faults → CountsFaults b c more → CountsFaults a c (faults ++ more)
 passes-then a b c faults more p q = record {
   own = q.own ∙ p.own;
   id = q.id ∙ p.id;
@@ -44,13 +44,13 @@ passes-then a b c faults more p q = record {
   meets = λ f m. p.meets f (q.meets f m);
 }
 
-pub passes-leaves : (a b : Store) (fault : Option StoreFault) → Leaves a b fault → Passes a b (option_to_list fault)
+pub passes-leaves : (a b : Store) (fault : Option StoreFault) → AfterCall a b fault → CountsFaults a b (option_to_list fault)
 passes-leaves a b fault p = p.passes
 
 -- ---- a call without a fault, and the next one
 
 -- what the next one leaves, both leave
-pub leaves-then : (a b c : Store) (fault : Option StoreFault) → Leaves a b None → Leaves b c fault → Leaves a c fault
+pub leaves-then : (a b c : Store) (fault : Option StoreFault) → AfterCall a b None → AfterCall b c fault → AfterCall a c fault
 leaves-then a b c fault p q = record {
   before = p.before;
   after = q.after;
@@ -68,7 +68,7 @@ break_of (Some WrongArchive) = refl
 break_of (Some Broken) = refl
 
 -- the store is broken behind a call where its fault says so
-pub broken-by : (a b : Store) (fault : Option StoreFault) → Leaves a b fault → b.broken ≡ is_broken fault
+pub broken-by : (a b : Store) (fault : Option StoreFault) → AfterCall a b fault → b.broken ≡ is_broken fault
 broken-by a b fault p = go a.broken refl
   where
     go : (x : Bool) → a.broken ≡ x → b.broken ≡ is_broken fault
@@ -76,14 +76,14 @@ broken-by a b fault p = go a.broken refl
     go false e = p.passes.broken ∙ (ap (λ y. y || list_any is_break (option_to_list fault)) e ∙ break_of fault)
 
 -- an answered call was one of a store in use, and leaves it so
-pub in_use : (a b : Store) → Leaves a b None → a.broken ≡ false
+pub in_use : (a b : Store) → AfterCall a b None → a.broken ≡ false
 in_use a b p = go a.broken refl
   where
     go : (x : Bool) → a.broken ≡ x → a.broken ≡ false
     go true e = absurd (none-some _ (p.ended e))
     go false e = e
 
-pub left_in_use : (a b : Store) → Leaves a b None → b.broken ≡ false
+pub left_in_use : (a b : Store) → AfterCall a b None → b.broken ≡ false
 left_in_use a b p = broken-by a b None p
 
 -- what both were answered, over the content before them

@@ -13,18 +13,18 @@ use Rattle.archive.specs.declared.fault.StoreFault.{StoreFault}
 use Rattle.archive.specs.declared.fault.StoreFault.TheVariants.{OutOfMemory}
 use Rattle.archive.specs.declared.fault.LearnFault.{LearnFault}
 use Rattle.archive.specs.declared.fault.LearnFault.TheVariants as refused
-use Rattle.archive.specs.Store.{Rests, IsLawfulContent, raised, IsOfOpening, is_break, failed_by, Leaves, fault_in, Asks, store_fault_in, answer_to, Learns}
+use Rattle.archive.specs.Store.{IsQuiescent, IsLawfulContent, faults_after, IsOfOpening, is_break, failed_by, AfterCall, fault_in, Asks, store_fault_in, answer_to, Learns}
 use Rattle.archive.specs.Listed.{Listed, store_of, failures}
 
 not_opening : IsOfOpening OutOfMemory → ⊥
 not_opening (inl e) = absurd (cc)
 not_opening (inr e) = absurd (cc)
 
-pub rests : (a : Listed) → IsLawfulContent a.records → Rests (store_of a)
+pub rests : (a : Listed) → IsLawfulContent a.records → IsQuiescent (store_of a)
 rests a lawful honest used = record { lawful = lawful; stays = refl; only = λ left e. e }
 
 leaves : (a b : Listed) (fault : Option StoreFault) → IsLawfulContent a.records → IsLawfulContent b.records → b.number ≡ a.number → b.id ≡ a.id
-    → IfSome fault (λ f. f ≡ OutOfMemory) → b.faults ≡ failures a.faults fault → Leaves (store_of a) (store_of b) fault
+    → IfSome fault (λ f. f ≡ OutOfMemory) → b.faults ≡ failures a.faults fault → AfterCall (store_of a) (store_of b) fault
 leaves a b fault was is own id memory count = record {
   before = rests a was;
   after = rests b is;
@@ -73,12 +73,12 @@ added a r lawful spelled adds = record {
 }
 
 -- memory was wanting
-pub starved : (a : Listed) (r : Record) → IsLawfulContent a.records → Learns (store_of a) (store_of (record a { faults = raised 1 a.faults })) r (Err (refused.Store OutOfMemory))
+pub starved : (a : Listed) (r : Record) → IsLawfulContent a.records → Learns (store_of a) (store_of (record a { faults = faults_after 1 a.faults })) r (Err (refused.Store OutOfMemory))
 starved a r lawful = record {
   answered = λ h e. absurd (none-some _ (sym e));
   kept = λ h b. refl;
   crash = λ h left e. inl e;
-  leaves = leaves a (record a { faults = raised 1 a.faults }) (Some OutOfMemory) lawful lawful refl refl refl refl;
+  leaves = leaves a (record a { faults = faults_after 1 a.faults }) (Some OutOfMemory) lawful lawful refl refl refl refl;
 }
 
 quiet : (f : Finding) → store_fault_in (answer_to f) ≡ None
@@ -102,7 +102,7 @@ answered_by a r lawful other = record {
   answered = λ h e. (refl, stays a.records r (finding a.records r) other);
   kept = λ h b. subst (λ o. IfSome o (λ _. a.records ≡ a.records)) (sym (quiet (finding a.records r))) tt;
   crash = λ h left e. inl e;
-  leaves = subst (Leaves (store_of a) (store_of a)) (sym (quiet (finding a.records r))) (leaves a a None lawful lawful refl refl tt refl);
+  leaves = subst (AfterCall (store_of a) (store_of a)) (sym (quiet (finding a.records r))) (leaves a a None lawful lawful refl refl tt refl);
 }
 
 -- the record is held already, or refused

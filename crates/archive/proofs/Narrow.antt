@@ -6,7 +6,7 @@ use Rattle.ua_binary.specs.declared.values.NodeId.{NodeId}
 use Rattle.records.specs.Lists.{IsApart, sort_by}
 use Rattle.records.specs.Contents.{Content}
 use Rattle.records.specs.Same.{same_node}
-use Rattle.records.specs.Records.{stamp_cmp, is_at, story, held, current, entries_after, entries}
+use Rattle.records.specs.Records.{record_stamp_cmp, is_at, versions, held, current, entries_after, modifications_at}
 use Rattle.records.proofs.Sorting.{pairwise-filter}
 use Rattle.archive.specs.Reading.{is_of, times, lives, log}
 use Rattle.archive.proofs.Resuming.{past_passes}
@@ -19,8 +19,8 @@ both_left : (b c : Bool) → (b && c) ≡ true → b ≡ true
 both_left true c e = refl
 both_left false c e = e
 
-own_story : (R : Content) (node : NodeId) (t : ℤ) → story (own R node) node t ≡ story R node t
-own_story R node t = ap (λ S. sort_by stamp_cmp S) (past_passes (is_at node t) (is_of node) (λ r e. both_left (same_node r.node node) (int_eq r.time t) e) R)
+own_story : (R : Content) (node : NodeId) (t : ℤ) → versions (own R node) node t ≡ versions R node t
+own_story R node t = ap (λ S. sort_by record_stamp_cmp S) (past_passes (is_at node t) (is_of node) (λ r e. both_left (same_node r.node node) (int_eq r.time t) e) R)
 
 own_times : (R : Content) (node : NodeId) → times (own R node) node ≡ times R node
 own_times R node = ap (λ S. dedup int_eq (sort_by int_cmp (map (λ r. r.time) S))) (past_passes (is_of node) (is_of node) (λ r e. e) R)
@@ -40,8 +40,8 @@ own_lives R node =
 
 pub own_log : (R : Content) (node : NodeId) → log (own R node) node ≡ log R node
 own_log R node =
-    flat_maps_alike (λ t. reverse (entries (own R node) node t)) (λ t. reverse (entries R node t)) (λ t. ap (λ S. reverse (entries_after None S)) (own_story R node t)) (times (own R node) node)
-    ∙ ap (λ ts. flat_map (λ t. reverse (entries R node t)) ts) (own_times R node)
+    flat_maps_alike (λ t. reverse (modifications_at (own R node) node t)) (λ t. reverse (modifications_at R node t)) (λ t. ap (λ S. reverse (entries_after None S)) (own_story R node t)) (times (own R node) node)
+    ∙ ap (λ ts. flat_map (λ t. reverse (modifications_at R node t)) ts) (own_times R node)
 
-pub own_apart : (R : Content) (node : NodeId) → IsApart stamp_cmp R → IsApart stamp_cmp (own R node)
+pub own_apart : (R : Content) (node : NodeId) → IsApart record_stamp_cmp R → IsApart record_stamp_cmp (own R node)
 own_apart R node apart = pairwise-filter _ (is_of node) R apart

@@ -10,7 +10,7 @@ use Rattle.records.proofs.ContentsParts.{after_finding}
 use Rattle.archive.specs.declared.fault.StoreFault.{StoreFault}
 use Rattle.archive.specs.declared.fault.StoreFault.TheVariants.{OutOfMemory, Broken}
 use Rattle.archive.specs.declared.fault.LearnFault.{LearnFault}
-use Rattle.archive.specs.Store.{Rests, IsLawfulContent, IsOfOpening, is_break, failed_by, Leaves, fault_in, Asks, store_fault_in, Learns}
+use Rattle.archive.specs.Store.{IsQuiescent, IsLawfulContent, IsOfOpening, is_break, failed_by, AfterCall, fault_in, Asks, store_fault_in, Learns}
 use Rattle.archive.specs.Listed.{Listed, store_of, failures, is_broken}
 use Rattle.archive.specs.Scripted.{Scripted, scripted_store, IsScripted, IsOldOrWith, Follows}
 use Rattle.archive.proofs.Results.{err-ok}
@@ -19,7 +19,7 @@ not_opening : (f : StoreFault) → IsScripted f → IsOfOpening f → ⊥
 not_opening f s (inl e) = elim s [ inl p ↦ cc | inr q ↦ elim q [ inl p ↦ cc | inr p ↦ cc ] ]
 not_opening f s (inr e) = elim s [ inl p ↦ cc | inr q ↦ elim q [ inl p ↦ cc | inr p ↦ cc ] ]
 
-pub rests : (a : Scripted) → IsLawfulContent a.inner.records → Rests (scripted_store a)
+pub rests : (a : Scripted) → IsLawfulContent a.inner.records → IsQuiescent (scripted_store a)
 rests a lawful honest used = record { lawful = lawful; stays = refl; only = λ left e. e }
 
 -- a broken store answers Broken
@@ -29,7 +29,7 @@ breaks f false ended = or-false (is_break f)
 
 -- the script's own fault
 leaves_fault : (a b : Scripted) (f : StoreFault) → IsLawfulContent a.inner.records → IsLawfulContent b.inner.records → b.inner.number ≡ a.inner.number → b.inner.id ≡ a.inner.id
-    → b.broken ≡ is_broken (Some f) → b.faults ≡ failures a.faults (Some f) → (a.broken ≡ true → f ≡ Broken) → IsScripted f → Leaves (scripted_store a) (scripted_store b) (Some f)
+    → b.broken ≡ is_broken (Some f) → b.faults ≡ failures a.faults (Some f) → (a.broken ≡ true → f ≡ Broken) → IsScripted f → AfterCall (scripted_store a) (scripted_store b) (Some f)
 leaves_fault a b f was is own id broken count ended scripted = record {
   before = rests a was;
   after = rests b is;
@@ -40,7 +40,7 @@ leaves_fault a b f was is own id broken count ended scripted = record {
 
 -- what the archive inside leaves
 leaves_inner : (a b : Scripted) (fault : Option StoreFault) → a.broken ≡ false → b.broken ≡ false → b.faults ≡ failures a.faults fault
-    → Leaves (store_of a.inner) (store_of b.inner) fault → Leaves (scripted_store a) (scripted_store b) fault
+    → AfterCall (store_of a.inner) (store_of b.inner) fault → AfterCall (scripted_store a) (scripted_store b) fault
 leaves_inner a b fault used still count l = record {
   before = rests a (l.before tt refl).lawful;
   after = rests b (l.after tt refl).lawful;
@@ -109,8 +109,8 @@ passed a b d i began answer result P inner broken count ended e asks told after 
     counted : d.faults ≡ failures a.faults (fault_in answer)
     counted = ap (λ (x : Scripted). x.faults) after ∙ ap (λ n. failures n (fault_in answer)) (count ∙ ap (λ o. failures a.faults (fault_in o)) e)
 
-    within : Leaves (store_of a.inner) (store_of d.inner) (fault_in answer)
-    within = subst (λ (x : Listed). Leaves (store_of x) (store_of d.inner) (fault_in answer)) inner (subst (λ (x : Listed). Leaves (store_of b.inner) (store_of x) (fault_in answer)) (sym (ap (λ (x : Scripted). x.inner) after)) asks.leaves)
+    within : AfterCall (store_of a.inner) (store_of d.inner) (fault_in answer)
+    within = subst (λ (x : Listed). AfterCall (store_of x) (store_of d.inner) (fault_in answer)) inner (subst (λ (x : Listed). AfterCall (store_of b.inner) (store_of x) (fault_in answer)) (sym (ap (λ (x : Scripted). x.inner) after)) asks.leaves)
 
 -- a record that the archive inside learned or refused
 pub learned_inside : (a b : Scripted) (r : Record) (result : Result Bool LearnFault) → a.broken ≡ false → b.broken ≡ false → b.faults ≡ failures a.faults (store_fault_in result)
@@ -140,7 +140,7 @@ old_or_with a b r result learns = go (store_fault_in result) refl (learns.kept t
 
 -- ---- the script
 
-only_memory : (a b : Listed) (fault : Option StoreFault) → Leaves (store_of a) (store_of b) fault → IfSome fault (λ f. f ≡ OutOfMemory)
+only_memory : (a b : Listed) (fault : Option StoreFault) → AfterCall (store_of a) (store_of b) fault → IfSome fault (λ f. f ≡ OutOfMemory)
 only_memory a b fault l = go fault l.passes.met
   where
     go : (o : Option StoreFault) → AllByRecursion (λ f. (f ≡ OutOfMemory) × (IsOfOpening f → ⊥)) (option_to_list o) → IfSome o (λ f. f ≡ OutOfMemory)

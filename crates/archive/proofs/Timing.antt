@@ -5,7 +5,7 @@ use Rattle.ua_binary.specs.declared.values.NodeId.{NodeId}
 use Rattle.records.specs.Lists.{Has, Rises}
 use Rattle.records.proofs.SameParts.{node_code}
 use Rattle.records.specs.Contents.{Content}
-use Rattle.records.specs.Records.{is_delete, write, story, current, entries_after, entries}
+use Rattle.records.specs.Records.{is_delete, write, versions, current, entries_after, modifications_at}
 use Rattle.records.proofs.ContentsParts.{held_of}
 use Rattle.records.specs.declared.record.Record.{Record}
 use Rattle.records.specs.declared.shown.Held.{Held}
@@ -20,7 +20,7 @@ use Rattle.archive.proofs.Turning.{has-map}
 pub times_rise : (R : Content) (node : NodeId) → Rises int_cmp (times R node)
 times_rise R node = rises-once (map (λ (r : Record). r.time) (filter (is_of node) R))
 
-has_time : (R : Content) (node : NodeId) (t : ℤ) (r : Record) → Has (story R node t) r → Has (times R node) t
+has_time : (R : Content) (node : NodeId) (t : ℤ) (r : Record) → Has (versions R node t) r → Has (times R node) t
 has_time R node t r h =
     let there = (story_has R node t r).0 h in
     let own = has-filter (is_of node) R r there.0 ((Decides-is_same node_code r.node node).1 there.1) in
@@ -40,8 +40,8 @@ held_from extra (Some r) h e = go (is_delete r.asked) e
     go true k = cc
     go false k = (r, refl, cc)
 
-pub current_from : (R : Content) (node : NodeId) (t : ℤ) (h : Held) → current R node t ≡ Some h → (r : Record) × Has (story R node t) r × (r.time ≡ h.time)
-current_from R node t h e = let r = held_from _ _ h e in (r.0, has_from_get (story R node t) _ r.0 r.1, r.2)
+pub current_from : (R : Content) (node : NodeId) (t : ℤ) (h : Held) → current R node t ≡ Some h → (r : Record) × Has (versions R node t) r × (r.time ≡ h.time)
+current_from R node t h e = let r = held_from _ _ h e in (r.0, has_from_get (versions R node t) _ r.0 r.1, r.2)
 
 pub current_time : (R : Content) (node : NodeId) (t : ℤ) (h : Held) → current R node t ≡ Some h → Has (times R node) t × (h.time ≡ t)
 current_time R node t h e = let r = current_from R node t h e in (has_time R node t r.0 r.1, sym r.2 ∙ ((story_has R node t r.0).0 r.1).2)
@@ -53,5 +53,5 @@ entry_from before (r ∷ rs) e h = elim h [
   | inr k ↦ let s = entry_from (Some r) rs e k in (s.0, inr s.1, s.2)
 ]
 
-pub entry_time : (R : Content) (node : NodeId) (t : ℤ) (e : Entry) → Has (entries R node t) e → Has (times R node) t × (e.time ≡ t)
-entry_time R node t e h = let r = entry_from None (story R node t) e h in (has_time R node t r.0 r.1, sym r.2 ∙ ((story_has R node t r.0).0 r.1).2)
+pub entry_time : (R : Content) (node : NodeId) (t : ℤ) (e : Entry) → Has (modifications_at R node t) e → Has (times R node) t × (e.time ≡ t)
+entry_time R node t e h = let r = entry_from None (versions R node t) e h in (has_time R node t r.0 r.1, sym r.2 ∙ ((story_has R node t r.0).0 r.1).2)

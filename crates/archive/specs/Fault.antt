@@ -8,12 +8,20 @@ use Rattle.archive.specs.declared.fault.StoreFault.{StoreFault}
 use Rattle.archive.specs.declared.fault.StoreFault.TheVariants as store
 use Rattle.archive.specs.declared.fault.LearnFault.{LearnFault}
 use Rattle.archive.specs.declared.fault.LearnFault.TheVariants as learn
-use Rattle.archive.specs.declared.setback.Setback.{Setback}
-use Rattle.archive.specs.declared.setback.Setback.TheVariants as setback
-use Rattle.archive.specs.Store.{Mark, Fine, Starved, Stands, Met}
+use Rattle.archive.specs.declared.setback.StepError.{StepError}
+use Rattle.archive.specs.declared.setback.StepError.TheVariants as setback
+use Rattle.archive.specs.Store.{StepResult, Done, NoMemory, Stands, StoreFailed}
 
+-- the number that the program prints for a store's fault
 abbrev pub store_number : StoreFault → ℕ
-store_number fault = elim fault [ store.OutOfMemory ↦ 1 | store.Refused ↦ 2 | store.WrongReplica ↦ 3 | store.WrongArchive ↦ 4 | store.Broken ↦ 5 ]
+store_number fault =
+    elim fault [
+      | store.OutOfMemory ↦ 1
+      | store.Refused ↦ 2
+      | store.WrongReplica ↦ 3
+      | store.WrongArchive ↦ 4
+      | store.Broken ↦ 5
+    ]
 
 abbrev pub learn_number : LearnFault → ℕ
 learn_number (learn.Gap held got) = 1
@@ -30,16 +38,24 @@ of_record fault = store.Refused
 -- ---- what is told of what came in the way of a step
 
 -- want of memory, the store's too, and other faults of the store (Part 4, 7.39)
-abbrev pub status_of : StoreFault → Status
-status_of fault = elim fault [ store.OutOfMemory ↦ BAD_OUT_OF_MEMORY | _ ↦ BAD_RESOURCE_UNAVAILABLE ]
+abbrev pub store_fault_status : StoreFault → Status
+store_fault_status fault =
+    elim fault [ store.OutOfMemory ↦ BAD_OUT_OF_MEMORY | _ ↦ BAD_RESOURCE_UNAVAILABLE ]
 
-abbrev pub status_told : Mark → Option Status
-status_told mark = elim mark [ Fine ↦ None | Starved ↦ Some BAD_OUT_OF_MEMORY | Stands ↦ Some (status_of store.Broken) | Met fault ↦ Some (status_of fault) ]
+-- the status that a step's result is told by; none where it was done
+abbrev pub status_told : StepResult → Option Status
+status_told mark =
+    elim mark [
+      | Done ↦ None
+      | NoMemory ↦ Some BAD_OUT_OF_MEMORY
+      | Stands ↦ Some (store_fault_status store.Broken)
+      | StoreFailed fault ↦ Some (store_fault_status fault)
+    ]
 
-abbrev pub mark_of : Setback → Mark
-mark_of setback.Starved = Starved
-mark_of (setback.Store fault) = Met fault
+abbrev pub mark_of : StepError → StepResult
+mark_of setback.OutOfMemory = NoMemory
+mark_of (setback.Store fault) = StoreFailed fault
 
-abbrev pub code_of : Setback → Status
-code_of setback.Starved = BAD_OUT_OF_MEMORY
-code_of (setback.Store fault) = status_of fault
+abbrev pub step_error_status : StepError → Status
+step_error_status setback.OutOfMemory = BAD_OUT_OF_MEMORY
+step_error_status (setback.Store fault) = store_fault_status fault

@@ -13,11 +13,13 @@ use Rattle.records.specs.declared.record.Record.{Record}
 abbrev pub id_length : NodeId → ℕ
 id_length node = elim node [ Named ns name ↦ length name | Opaque ns id ↦ length id | _ ↦ 0 ]
 
--- an insert needs that no value is live, a replacement and a delete that one is (Part 11, PerformUpdateType)
+-- an insert needs that no value is live, a replacement and a delete that one is (Part 11,
+-- PerformUpdateType)
 abbrev pub is_possible : HistoryUpdateType → (live : Bool) → Bool
 is_possible asked live = elim asked [ Insert ↦ not live | Update ↦ true | _ ↦ live ]
 
--- the record of an update that the replica of this number makes where R is held: the next of its records, with a tick above all that are held, of what is possible there
+-- the record of an update that the replica of this number makes where R is held: the next of its
+-- records, with a tick above all that are held, of what is possible there
 pub record IsUpdateOf (own : ℕ) (R : Content) (r : Record) : Type 0 where
   pub origin : r.origin ≡ own
   pub next : finding R r ≡ Adds
@@ -27,7 +29,8 @@ pub record IsUpdateOf (own : ℕ) (R : Content) (r : Record) : Type 0 where
   -- a value is written at the moment that its picoseconds say
   pub moment : is_delete r.asked ≡ false → pico_of r.time ≡ unwrap_or r.value.source_pico 0
 
--- the one content is the other with these records, each of an update that was made where those before it were held
+-- the one content is the other with these records, each of an update that was made where those
+-- before it were held
 abbrev pub GrowsBy : List Record → ℕ → Content → Content → Type 0
 GrowsBy [] own R S = S ≡ R
 GrowsBy (r ∷ rs) own R S = IsUpdateOf own R r × GrowsBy rs own (put r R) S

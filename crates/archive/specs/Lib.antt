@@ -7,4 +7,4 @@ pub mod Listed
 pub mod Scripted
 pub mod Queries
 pub mod Beginning
-pub mod Sides
+pub mod Either

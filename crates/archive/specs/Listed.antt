@@ -4,7 +4,7 @@ use Rattle.records.specs.Contents.{Content}
 use Rattle.records.specs.declared.record.Record.{Record}
 use Rattle.archive.specs.declared.fault.StoreFault.{StoreFault}
 use Rattle.archive.specs.declared.fault.StoreFault.TheVariants.{OutOfMemory}
-use Rattle.archive.specs.Store.{Store, raised, is_break}
+use Rattle.archive.specs.Store.{Store, faults_after, is_break}
 
 pub record Listed : Type 0 where
   pub id : List ℕ
@@ -12,7 +12,8 @@ pub record Listed : Type 0 where
   pub records : Content
   pub faults : ℕ
 
--- its memory returns what was written, and it is never broken; a crash ends it, so what it may be found to hold is what it holds
+-- its memory returns what was written, and it is never broken; a crash ends it, so what it may be
+-- found to hold is what it holds
 abbrev pub store_of : Listed → Store
 store_of a = record {
   content = a.records;
@@ -28,7 +29,7 @@ store_of a = record {
 -- a fault, if any, is counted
 abbrev pub failures : ℕ → Option StoreFault → ℕ
 failures failed None = failed
-failures failed (Some fault) = raised 1 failed
+failures failed (Some fault) = faults_after 1 failed
 
 abbrev pub is_broken : Option StoreFault → Bool
 is_broken None = false

@@ -7,7 +7,7 @@ use Rattle.stamp.specs.Stamp.{stamp_cmp}
 use Rattle.ua_binary.specs.declared.values.NodeId.{NodeId}
 use Rattle.records.specs.Lists.{sort_by}
 use Rattle.records.specs.Contents.{Content}
-use Rattle.records.specs.Records.{current, entries}
+use Rattle.records.specs.Records.{current, modifications_at}
 use Rattle.records.specs.Same.{same_node}
 use Rattle.records.specs.declared.record.Record.{Record}
 use Rattle.records.specs.declared.shown.Held.{Held}
@@ -18,6 +18,7 @@ use Rattle.archive.specs.declared.reading.LogPlace.{LogPlace}
 
 -- ---- a node's history, forward
 
+-- the record is of this node
 abbrev pub is_of : NodeId → Record → Bool
 is_of node r = same_node r.node node
 
@@ -29,9 +30,10 @@ times R node = dedup int_eq (sort_by int_cmp (map (λ r. r.time) (filter (is_of 
 abbrev pub lives : Content → NodeId → List Held
 lives R node = filter_map (current R node) (times R node)
 
--- the node's modifications, one for each of its records, plain inserts too: times in order, within a time the newest first
+-- the node's modifications, one for each of its records, plain inserts too: times in order, within
+-- a time the newest first
 abbrev pub log : Content → NodeId → List Entry
-log R node = flat_map (λ t. reverse (entries R node t)) (times R node)
+log R node = flat_map (λ t. reverse (modifications_at R node t)) (times R node)
 
 -- ---- directions
 
@@ -51,6 +53,7 @@ is_between from to time = int_le from time && int_le time to
 abbrev pub log_cmp : LogPlace → LogPlace → Ordering
 log_cmp = then_cmp (on (λ p. p.time) int_cmp) (λ a b. stamp_cmp b.stamp a.stamp)
 
+-- where an entry stands in the log of a node: its time, and then its stamp
 abbrev pub place_of : Entry → LogPlace
 place_of e = record { time = e.time; stamp = record { tick = e.tick; origin = e.origin } }
 
@@ -68,8 +71,10 @@ range_of R node from to d = in_direction d (filter (λ h. is_between from to h.t
 
 -- the modifications between two times that stand behind a place
 abbrev pub log_of : Content → NodeId → ℤ → ℤ → Option LogPlace → Direction → List Entry
-log_of R node from to after d = filter (follows d after) (in_direction d (filter (λ e. is_between from to e.time) (log R node)))
+log_of R node from to after d =
+    filter (follows d after) (in_direction d (filter (λ e. is_between from to e.time) (log R node)))
 
 -- the nearest live value strictly beyond a time
 abbrev pub outside_of : Content → NodeId → ℤ → Direction → Option Held
-outside_of R node time d = slice_get (in_direction d (filter (λ h. is_past d time h.time) (lives R node))) 0
+outside_of R node time d =
+    slice_get (in_direction d (filter (λ h. is_past d time h.time) (lives R node))) 0

@@ -53,15 +53,19 @@ is_counted a is_learn = is_learn || (if a.learns_alone then false else true)
 abbrev pub is_due : Scripted → (is_learn : Bool) → Bool
 is_due a is_learn = is_counted a is_learn && a.countdown == 1
 
--- what a call with this limit, 0 where it has none, does to the script, and the fault that it answers
-pub record Follows (old new : Scripted) (is_learn : Bool) (limit : ℕ) (fault : Option StoreFault) : Type 0 where
+-- what a call with this limit, 0 where it has none, does to the script, and the fault that it
+-- answers
+pub record Follows (old new : Scripted) (is_learn : Bool) (limit : ℕ)
+    (fault : Option StoreFault) : Type 0 where
   pub noted : new.greatest_limit ≡ max old.greatest_limit limit
-  pub counted : old.broken ≡ false → new.countdown ≡ (if is_counted old is_learn then old.countdown - 1 else old.countdown)
+  pub counted : old.broken ≡ false
+      → new.countdown ≡ (if is_counted old is_learn then old.countdown - 1 else old.countdown)
   pub failure : new.failure ≡ old.failure
   pub alone : new.learns_alone ≡ old.learns_alone
   -- the call that is due fails as the script says; another one meets nothing but want of memory
   pub due : old.broken ≡ false → is_due old is_learn ≡ true → fault ≡ Some (fault_of old.failure)
-  pub other : old.broken ≡ false → is_due old is_learn ≡ false → IfSome fault (λ f. f ≡ store.OutOfMemory)
+  pub other : old.broken ≡ false → is_due old is_learn ≡ false
+      → IfSome fault (λ f. f ≡ store.OutOfMemory)
 
 -- a content as it was, or with a record that it takes in
 abbrev pub IsOldOrWith : Record → Content → Content → Type 0

@@ -10,6 +10,7 @@ use Rattle.archive.specs.declared.fault.StoreFault.TheVariants.{Broken, WrongRep
 use Rattle.archive.specs.declared.fault.LearnFault.{LearnFault}
 use Rattle.archive.specs.declared.fault.LearnFault.TheVariants as refused
 
+-- an archive's state: what it holds, whose it is, and what its store may do
 pub record Store : Type 1 where
   -- the records held; nothing is said of them while it is broken
   pub content : Content
@@ -40,34 +41,37 @@ pub record IsSettled (s : Store) : Type 0 where
   pub only : (left : Content) → s.may_hold left → left ≡ s.content
 
 -- as long as the store is used, it is settled
-abbrev pub Rests : Store → Type 0
-Rests s = s.honest → s.broken ≡ false → IsSettled s
+abbrev pub IsQuiescent : Store → Type 0
+IsQuiescent s = s.honest → s.broken ≡ false → IsSettled s
 
 -- ---- what comes in the way
 
--- nothing came in the way of a step, or memory was wanting, or the store met a fault; or it broke, and the step's record stands
-pub data Mark : Type 0 where
-  Fine Starved Stands : Mark
-  Met : StoreFault → Mark
+-- nothing came in the way of a step, or memory was wanting, or the store met a fault; or it broke,
+-- and the step's record stands
+pub data StepResult : Type 0 where
+  Done NoMemory Stands : StepResult
+  StoreFailed : StoreFault → StepResult
 
-abbrev pub faults_in : Mark → List StoreFault
-faults_in mark = elim mark [ Met fault ↦ fault ∷ [] | Stands ↦ Broken ∷ [] | _ ↦ [] ]
+-- the faults of the store that a step's result tells
+abbrev pub faults_in : StepResult → List StoreFault
+faults_in mark = elim mark [ StoreFailed fault ↦ fault ∷ [] | Stands ↦ Broken ∷ [] | _ ↦ [] ]
 
 -- the faults of the store among what came in the way of some steps, in order
-abbrev pub faults_of : List Mark → List StoreFault
+abbrev pub faults_of : List StepResult → List StoreFault
 faults_of = flat_map faults_in
 
 -- ---- what calls leave
 
 -- so many faults more; the count stops at 2^64 - 1
-abbrev pub raised : ℕ → ℕ → ℕ
-raised n failed = min (failed + n) (2 ^ 64 - 1)
+abbrev pub faults_after : ℕ → ℕ → ℕ
+faults_after n failed = min (failed + n) (2 ^ 64 - 1)
 
 -- each fault is counted
 abbrev pub failed_by : List StoreFault → ℕ → ℕ
 failed_by [] failed = failed
-failed_by (fault ∷ faults) failed = failed_by faults (raised 1 failed)
+failed_by (fault ∷ faults) failed = failed_by faults (faults_after 1 failed)
 
+-- the fault that breaks a store
 abbrev pub is_break : StoreFault → Bool
 is_break fault = elim fault [ Broken ↦ true | _ ↦ false ]
 
@@ -76,7 +80,7 @@ abbrev pub IsOfOpening : StoreFault → Type 0
 IsOfOpening fault = (fault ≡ WrongReplica) ⊎ (fault ≡ WrongArchive)
 
 -- some calls, or none, were made, whose faults of the store were these, in order
-pub record Passes (old new : Store) (faults : List StoreFault) : Type 0 where
+pub record CountsFaults (old new : Store) (faults : List StoreFault) : Type 0 where
   pub own : new.own ≡ old.own
   pub id : new.id ≡ old.id
   pub honest : new.honest → old.honest
@@ -86,50 +90,65 @@ pub record Passes (old new : Store) (faults : List StoreFault) : Type 0 where
   pub meets : (f : StoreFault) → new.meets f → old.meets f
 
 -- one call was made, and answered this fault of the store, if any
-pub record Leaves (old new : Store) (fault : Option StoreFault) : Type 0 where
-  pub before : Rests old
-  pub after : Rests new
-  pub passes : Passes old new (option_to_list fault)
+pub record AfterCall (old new : Store) (fault : Option StoreFault) : Type 0 where
+  pub before : IsQuiescent old
+  pub after : IsQuiescent new
+  pub passes : CountsFaults old new (option_to_list fault)
   pub ended : old.broken ≡ true → fault ≡ Some Broken
   -- behind Broken too an opening finds something
   pub some : new.honest → ((left : Content) → new.may_hold left → ⊥) → ⊥
 
 -- the content stays, and a crash leaves nothing that it couldn't leave before
-pub record Stays (old new : Store) : Type 0 where
+pub record KeepsContent (old new : Store) : Type 0 where
   pub content : new.honest → new.broken ≡ false → new.content ≡ old.content
   pub crash : new.honest → (left : Content) → new.may_hold left → old.may_hold left
 
 -- ---- queries
 
+-- the fault of the store, where there is one
 abbrev pub fault_in : {A : Type 0} → Result A StoreFault → Option StoreFault
 fault_in (Ok a) = None
 fault_in (Err fault) = Some fault
 
 -- a query's answer is such a one, or a fault of the store came; the content stays
-pub record Asks {A : Type 0} (old new : Store) (result : Result A StoreFault) (IsAnswer : A → Type 0) : Type 0 where
+pub record Asks {A : Type 0} (old new : Store) (result : Result A StoreFault)
+    (IsAnswer : A → Type 0) : Type 0 where
   pub answer : new.honest → IfOk result IsAnswer
-  pub stays : Stays old new
-  pub leaves : Leaves old new (fault_in result)
+  pub stays : KeepsContent old new
+  pub leaves : AfterCall old new (fault_in result)
 
 -- ---- learning
 
+-- the fault of the store in what learning a record answered, where that is one
 abbrev pub store_fault_in : Result Bool LearnFault → Option StoreFault
 store_fault_in (Err (refused.Store fault)) = Some fault
 store_fault_in result = None
 
 -- what a finding is answered: whether the record is added, or why it is refused
 abbrev pub answer_to : Finding → Result Bool LearnFault
-answer_to finding = elim finding [ Adds ↦ Ok true | Holds ↦ Ok false | Clash ↦ Err refused.Clash | Gap held got ↦ Err (refused.Gap held got) | TickTooFar ↦ Err refused.TickTooFar | TickNotRising ↦ Err refused.TickNotRising ]
+answer_to finding =
+    elim finding [
+      | Adds ↦ Ok true
+      | Holds ↦ Ok false
+      | Clash ↦ Err refused.Clash
+      | Gap held got ↦ Err (refused.Gap held got)
+      | TickTooFar ↦ Err refused.TickTooFar
+      | TickNotRising ↦ Err refused.TickNotRising
+    ]
 
--- a record is learned: what it meets is answered, and the content is the old one, with the record where that is added; a fault of the store
--- leaves the content as it was
+-- a record is learned: what it meets is answered, and the content is the old one, with the record
+-- where that is added; a fault of the store leaves the content as it was
 pub record Learns (old new : Store) (r : Record) (result : Result Bool LearnFault) : Type 0 where
-  pub answered : new.honest → store_fault_in result ≡ None → (result ≡ answer_to (finding old.content r)) × (new.content ≡ unwrap_or (learned old.content r) old.content)
-  pub kept : new.honest → new.broken ≡ false → IfSome (store_fault_in result) (λ _. new.content ≡ old.content)
+  pub answered : new.honest → store_fault_in result ≡ None
+      → (result ≡ answer_to (finding old.content r))
+      × (new.content ≡ unwrap_or (learned old.content r) old.content)
+  pub kept : new.honest → new.broken ≡ false
+      → IfSome (store_fault_in result) (λ _. new.content ≡ old.content)
   -- a crash leaves what it could leave before, or the content with this one record
   pub crash : new.honest → (left : Content) → new.may_hold left
-      → old.may_hold left ⊎ ((old.broken ≡ false) × (finding old.content r ≡ Adds) × (left ≡ put r old.content))
-  pub leaves : Leaves old new (store_fault_in result)
+      → old.may_hold left
+      ⊎ ((old.broken ≡ false) × (finding old.content r ≡ Adds) × (left ≡ put r old.content))
+  pub leaves : AfterCall old new (store_fault_in result)
 
 -- ---- what is held, through any calls
 
@@ -141,17 +160,22 @@ IsLeft s R = ((s.broken ≡ false) × (s.content ≡ R)) ⊎ s.may_hold R
 abbrev pub IsThere : Store → Type 0
 IsThere s = s.honest → ((R : Content) → IsLeft s R → ⊥) → ⊥
 
-abbrev pub breaks : Mark → Bool
+-- behind this result the store is broken
+abbrev pub breaks : StepResult → Bool
 breaks mark = list_any is_break (faults_in mark)
 
--- these came in the way, as an opening finds it: where a step broke a store that was used till then, its record may stand
-abbrev pub MayBeFound : (broken : Bool) → (used marks : List Mark) → Type 0
+-- these came in the way, as an opening finds it: where a step broke a store that was used till
+-- then, its record may stand
+abbrev pub MayBeFound : (broken : Bool) → (used marks : List StepResult) → Type 0
 MayBeFound broken [] marks = marks ≡ []
 MayBeFound broken (told ∷ used) [] = ⊥
-MayBeFound broken (told ∷ used) (mark ∷ marks) = ((mark ≡ told) ⊎ ((broken ≡ false) × (told ≡ Met Broken) × (mark ≡ Stands))) × MayBeFound (broken || breaks told) used marks
+MayBeFound broken (told ∷ used) (mark ∷ marks) =
+    ((mark ≡ told) ⊎ ((broken ≡ false) × (told ≡ StoreFailed Broken) × (mark ≡ Stands)))
+    × MayBeFound (broken || breaks told) used marks
 
 -- ---- how much is asked for
 
--- of the greatest limit that queries were given so far: no call in between was given a greater one than this
+-- of the greatest limit that queries were given so far: no call in between was given a greater one
+-- than this
 abbrev pub IsAskedWithin : (limit old new : ℕ) → Type 0
 IsAskedWithin limit old new = new ≤ max old limit

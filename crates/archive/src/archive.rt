@@ -20,11 +20,11 @@ use uuid::Uuid;
 pub trait Archive {
     ghost use Rattle.std.specs.Prelude.{◌≡◌, ⊤, ℕ, take};
     ghost use Rattle.stamp.specs.Numbers.{number_of};
-    ghost use Rattle.records.specs.Records.{story, missing};
+    ghost use Rattle.records.specs.Records.{versions, missing};
     ghost use Rattle.records.specs.Contents.{vec, top, cut};
     ghost use Rattle.records.specs.Spelling.{IsLawfulRecord};
     ghost use Rattle.archive.specs.Reading.{range_of, log_of, outside_of};
-    ghost use Rattle.archive.specs.Store.{Store, Rests, Asks, Learns, IsAskedWithin};
+    ghost use Rattle.archive.specs.Store.{Store, IsQuiescent, Asks, Learns, IsAskedWithin};
 
     ghost state: { Self → Store };
 
@@ -39,7 +39,7 @@ pub trait Archive {
     /// and a crash leaves it as it is.
     fn number(&self) -> ReplicaNo
         ensures own { result ≡ (state self.now).own }
-        ensures rests { Rests (state self.now) };
+        ensures rests { IsQuiescent (state self.now) };
 
     /// How many calls answered a fault of the store, at most 2^64 - 1. It reads no store.
     fn faults(&self) -> u64
@@ -47,17 +47,20 @@ pub trait Archive {
 
     /// The number of each replica's last record.
     fn vector(&mut self) -> Result<Vector, StoreFault>
-        ensures asks { Asks (state self.old) (state self.new) result (λ v. (replica : ℕ) → number_of v replica ≡ vec (state self.old).content replica) }
+        ensures asks { Asks (state self.old) (state self.new) result
+            (λ v. (replica : ℕ) → number_of v replica ≡ vec (state self.old).content replica) }
         ensures asked { IsAskedWithin 0 (asked self.old) (asked self.new) };
 
     /// The greatest tick of all records, 0 where there is none.
     fn top(&mut self) -> Result<i64, StoreFault>
-        ensures asks { Asks (state self.old) (state self.new) result (λ t. t ≡ top (state self.old).content) }
+        ensures asks { Asks (state self.old) (state self.new) result
+            (λ t. t ≡ top (state self.old).content) }
         ensures asked { IsAskedWithin 0 (asked self.old) (asked self.new) };
 
     /// The records of a node and a source time, in the order of their stamps.
     fn at(&mut self, alloc: Global, node: &NodeId, time: Moment) -> Result<Vec<Record>, StoreFault>
-        ensures asks { Asks (state self.old) (state self.new) result (λ v. v.items ≡ story (state self.old).content node.now time) }
+        ensures asks { Asks (state self.old) (state self.new) result
+            (λ v. v.items ≡ versions (state self.old).content node.now time) }
         ensures asked { IsAskedWithin 0 (asked self.old) (asked self.new) };
 
     /// The first `limit` of a node's live values from one source time to another, both included, in
@@ -72,7 +75,11 @@ pub trait Archive {
         limit: usize,
         within: &Vector,
     ) -> Result<Vec<Held>, StoreFault>
-        ensures asks { Asks (state self.old) (state self.new) result (λ v. v.items ≡ take limit (range_of (cut (state self.old).content (number_of within.now)) node.now from to direction)) }
+        ensures asks { Asks (state self.old) (state self.new) result
+            (λ v. v.items
+            ≡ take limit
+            (range_of
+            (cut (state self.old).content (number_of within.now)) node.now from to direction)) }
         ensures asked { IsAskedWithin limit (asked self.old) (asked self.new) };
 
     /// The first `limit` of a node's modifications from one source time to another, both included, in
@@ -89,7 +96,12 @@ pub trait Archive {
         limit: usize,
         within: &Vector,
     ) -> Result<Vec<Entry>, StoreFault>
-        ensures asks { Asks (state self.old) (state self.new) result (λ v. v.items ≡ take limit (log_of (cut (state self.old).content (number_of within.now)) node.now from to after direction)) }
+        ensures asks { Asks (state self.old) (state self.new) result
+            (λ v. v.items
+            ≡ take limit
+            (log_of
+            (cut (state self.old).content (number_of within.now)) node.now from to after
+            direction)) }
         ensures asked { IsAskedWithin limit (asked self.old) (asked self.new) };
 
     /// A node's live value that is nearest to a source time, strictly beyond it in the direction;
@@ -102,7 +114,10 @@ pub trait Archive {
         direction: Direction,
         within: &Vector,
     ) -> Result<Option<Held>, StoreFault>
-        ensures asks { Asks (state self.old) (state self.new) result (λ h. h ≡ outside_of (cut (state self.old).content (number_of within.now)) node.now time direction) }
+        ensures asks { Asks (state self.old) (state self.new) result
+            (λ h. h
+            ≡ outside_of
+            (cut (state self.old).content (number_of within.now)) node.now time direction) }
         ensures asked { IsAskedWithin 0 (asked self.old) (asked self.new) };
 
     /// The first `limit` of the records that a vector lacks, by origin and number.
@@ -112,7 +127,8 @@ pub trait Archive {
         vector: &Vector,
         limit: usize,
     ) -> Result<Vec<Record>, StoreFault>
-        ensures asks { Asks (state self.old) (state self.new) result (λ v. v.items ≡ missing (state self.old).content (number_of vector.now) limit) }
+        ensures asks { Asks (state self.old) (state self.new) result
+            (λ v. v.items ≡ missing (state self.old).content (number_of vector.now) limit) }
         ensures asked { IsAskedWithin limit (asked self.old) (asked self.new) };
 
     /// Takes in a record: `true` where it is added, `false` where it is held already. Refusals come in

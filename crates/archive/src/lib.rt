@@ -4,13 +4,13 @@
 #![tactic(auto)]
 
 mod archive;
+mod either_archive;
 mod fault;
 mod laws;
 mod list_archive;
 mod reading;
 mod scripted;
 mod setback;
-mod sides;
 
 pub use archive::Archive;
 pub use fault::{LearnFault, StoreFault};
@@ -21,4 +21,4 @@ pub use laws::{
 pub use list_archive::ListArchive;
 pub use reading::{Direction, LogPlace};
 pub use scripted::{Failure, ScriptedArchive};
-pub use setback::Setback;
+pub use setback::StepError;

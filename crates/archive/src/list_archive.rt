@@ -6,7 +6,7 @@ ghost use Rattle.stamp.specs.Numbers.{number_of};
 ghost use Rattle.records.specs.Lists.{Has, IsApart};
 ghost use Rattle.records.specs.declared.record.Record.{Record};
 ghost use Rattle.stamp.specs.Limits.{greatest};
-ghost use Rattle.records.specs.Records.{stamp_cmp, name_cmp, current, entries, story, missing, is_beyond};
+ghost use Rattle.records.specs.Records.{record_stamp_cmp, name_cmp, current, modifications_at, versions, missing, is_beyond};
 ghost use Rattle.records.specs.Contents.{Content, vec, top, last_tick, put, finding, cut};
 ghost use Rattle.records.specs.Same.{same_record, same_node};
 ghost use Rattle.archive.specs.Reading.{is_of, times, lives, log, in_direction, is_between, is_past, follows, range_of, log_of, outside_of};
@@ -40,7 +40,8 @@ impl Model for ListArchive {
 
     ghost Value = { Listed };
 
-    ghost view = { λ a. record { id = a.id; number = a.number; records = a.records.items; faults = a.faults } };
+    ghost view = { λ a.
+        record { id = a.id; number = a.number; records = a.records.items; faults = a.faults } };
 
     ghost invariant = { λ a. IsLawfulContent a.records.items };
 }
@@ -227,7 +228,7 @@ fn lives_at(
     node: &NodeId,
     times: &[Moment],
 ) -> Result<Vec<Held>, StoreFault>
-    requires { IsApart stamp_cmp records.now }
+    requires { IsApart record_stamp_cmp records.now }
     ensures value { IfOk result (λ v. v.items ≡ filter_map (current records.now node.now) times.now) }
     ensures memory { IfErr result (λ e. e ≡ store.OutOfMemory) }
 {
@@ -240,7 +241,7 @@ fn lives_at(
 
 /// A node's live values, forward.
 fn lives_of(alloc: Global, records: &[Record], node: &NodeId) -> Result<Vec<Held>, StoreFault>
-    requires { IsApart stamp_cmp records.now }
+    requires { IsApart record_stamp_cmp records.now }
     ensures value { IfOk result (λ v. v.items ≡ lives records.now node.now) }
     ensures memory { IfErr result (λ e. e ≡ store.OutOfMemory) }
 {
@@ -255,8 +256,10 @@ fn log_at(
     node: &NodeId,
     times: &[Moment],
 ) -> Result<Vec<Entry>, StoreFault>
-    requires { IsApart stamp_cmp records.now }
-    ensures value { IfOk result (λ v. v.items ≡ flat_map (λ t. reverse (entries records.now node.now t)) times.now) }
+    requires { IsApart record_stamp_cmp records.now }
+    ensures value { IfOk result
+        (λ v. v.items
+        ≡ flat_map (λ t. reverse (modifications_at records.now node.now t)) times.now) }
     ensures memory { IfErr result (λ e. e ≡ store.OutOfMemory) }
 {
     let mut log = Vec::new(alloc);
@@ -270,7 +273,7 @@ fn log_at(
 
 /// A node's modifications, forward.
 fn log_of_node(alloc: Global, records: &[Record], node: &NodeId) -> Result<Vec<Entry>, StoreFault>
-    requires { IsApart stamp_cmp records.now }
+    requires { IsApart record_stamp_cmp records.now }
     ensures value { IfOk result (λ v. v.items ≡ log records.now node.now) }
     ensures memory { IfErr result (λ e. e ≡ store.OutOfMemory) }
 {
@@ -348,7 +351,8 @@ fn covered(
     node: &NodeId,
     within: &Vector,
 ) -> Result<Vec<Record>, StoreFault>
-    ensures value { IfOk result (λ v. v.items ≡ filter (is_of node.now) (cut records.now (number_of within.now))) }
+    ensures value { IfOk result
+        (λ v. v.items ≡ filter (is_of node.now) (cut records.now (number_of within.now))) }
     ensures memory { IfErr result (λ e. e ≡ store.OutOfMemory) }
 {
     let mut found = Vec::new(alloc);
@@ -368,7 +372,7 @@ fn lives_within(
     node: &NodeId,
     within: &Vector,
 ) -> Result<Vec<Held>, StoreFault>
-    requires { IsApart stamp_cmp records.now }
+    requires { IsApart record_stamp_cmp records.now }
     ensures value { IfOk result (λ v. v.items ≡ lives (cut records.now (number_of within.now)) node.now) }
     ensures memory { IfErr result (λ e. e ≡ store.OutOfMemory) }
 {
@@ -384,7 +388,7 @@ fn log_within(
     node: &NodeId,
     within: &Vector,
 ) -> Result<Vec<Entry>, StoreFault>
-    requires { IsApart stamp_cmp records.now }
+    requires { IsApart record_stamp_cmp records.now }
     ensures value { IfOk result (λ v. v.items ≡ log (cut records.now (number_of within.now)) node.now) }
     ensures memory { IfErr result (λ e. e ≡ store.OutOfMemory) }
 {
@@ -402,8 +406,11 @@ fn range_in(
     limit: usize,
     within: &Vector,
 ) -> Result<Vec<Held>, StoreFault>
-    requires { IsApart stamp_cmp records.now }
-    ensures value { IfOk result (λ v. v.items ≡ take limit (range_of (cut records.now (number_of within.now)) node.now from to direction)) }
+    requires { IsApart record_stamp_cmp records.now }
+    ensures value { IfOk result
+        (λ v. v.items
+        ≡ take limit
+        (range_of (cut records.now (number_of within.now)) node.now from to direction)) }
     ensures memory { IfErr result (λ e. e ≡ store.OutOfMemory) }
 {
     let mut found = lives_within(alloc, records, node, within)?;
@@ -424,8 +431,11 @@ fn log_in(
     limit: usize,
     within: &Vector,
 ) -> Result<Vec<Entry>, StoreFault>
-    requires { IsApart stamp_cmp records.now }
-    ensures value { IfOk result (λ v. v.items ≡ take limit (log_of (cut records.now (number_of within.now)) node.now from to after direction)) }
+    requires { IsApart record_stamp_cmp records.now }
+    ensures value { IfOk result
+        (λ v. v.items
+        ≡ take limit
+        (log_of (cut records.now (number_of within.now)) node.now from to after direction)) }
     ensures memory { IfErr result (λ e. e ≡ store.OutOfMemory) }
 {
     let mut found = log_within(alloc, records, node, within)?;
@@ -444,8 +454,9 @@ fn outside_in(
     direction: Direction,
     within: &Vector,
 ) -> Result<Option<Held>, StoreFault>
-    requires { IsApart stamp_cmp records.now }
-    ensures value { IfOk result (λ h. h ≡ outside_of (cut records.now (number_of within.now)) node.now time direction) }
+    requires { IsApart record_stamp_cmp records.now }
+    ensures value { IfOk result
+        (λ h. h ≡ outside_of (cut records.now (number_of within.now)) node.now time direction) }
     ensures memory { IfErr result (λ e. e ≡ store.OutOfMemory) }
 {
     let mut found = lives_within(alloc, records, node, within)?;
@@ -461,8 +472,8 @@ fn at_in(
     node: &NodeId,
     time: Moment,
 ) -> Result<Vec<Record>, StoreFault>
-    requires { IsApart stamp_cmp records.now }
-    ensures value { IfOk result (λ v. v.items ≡ story records.now node.now time) }
+    requires { IsApart record_stamp_cmp records.now }
+    ensures value { IfOk result (λ v. v.items ≡ versions records.now node.now time) }
     ensures memory { IfErr result (λ e. e ≡ store.OutOfMemory) }
 {
     Ok(story_of(alloc, records, node, time)?.into_vec())
@@ -484,7 +495,7 @@ fn since_in(
 impl ListArchive {
     ghost use Rattle.std.specs.Prelude.{◌≡◌, IfOk, IfErr};
     ghost use Rattle.records.specs.Lists.{IsApart};
-    ghost use Rattle.records.specs.Records.{stamp_cmp, name_cmp};
+    ghost use Rattle.records.specs.Records.{record_stamp_cmp, name_cmp};
     ghost use Rattle.records.specs.Contents.{finding, Adds};
     ghost use Rattle.records.specs.Spelling.{IsLawfulRecord};
     ghost use Rattle.archive.specs.Store.{IsLawfulContent, Learns, fault_in};
@@ -502,7 +513,7 @@ impl ListArchive {
     fn held(&self) -> &[Record]
         ensures same { result.now ≡ self.now.records }
         ensures lawful { IsLawfulContent result.now }
-        ensures stamps { IsApart stamp_cmp result.now }
+        ensures stamps { IsApart record_stamp_cmp result.now }
         ensures names { IsApart name_cmp result.now }
     {
         &self.records

@@ -43,7 +43,16 @@ impl Model for ScriptedArchive {
 
     ghost Value = { Scripted };
 
-    ghost view = { λ a. record { inner = a.inner; learns_alone = a.learns_alone; countdown = a.countdown; failure = a.failure; broken = a.broken; faults = a.faults; greatest_limit = a.greatest_limit } };
+    ghost view = { λ a.
+        record {
+          inner = a.inner;
+          learns_alone = a.learns_alone;
+          countdown = a.countdown;
+          failure = a.failure;
+          broken = a.broken;
+          faults = a.faults;
+          greatest_limit = a.greatest_limit;
+        } };
 }
 
 impl ScriptedArchive {
@@ -65,7 +74,16 @@ impl ScriptedArchive {
         call: u64,
         failure: Failure,
     ) -> ScriptedArchive
-        ensures { result ≡ record { inner = record { id = id; number = number; records = []; faults = 0 }; learns_alone = false; countdown = call; failure = failure; broken = false; faults = 0; greatest_limit = 0 } }
+        ensures { result
+            ≡ record {
+              inner = record { id = id; number = number; records = []; faults = 0 };
+              learns_alone = false;
+              countdown = call;
+              failure = failure;
+              broken = false;
+              faults = 0;
+              greatest_limit = 0;
+            } }
     {
         ScriptedArchive {
             inner: ListArchive::new(alloc, id, number),
@@ -87,7 +105,16 @@ impl ScriptedArchive {
         learn: u64,
         failure: Failure,
     ) -> ScriptedArchive
-        ensures { result ≡ record { inner = record { id = id; number = number; records = []; faults = 0 }; learns_alone = true; countdown = learn; failure = failure; broken = false; faults = 0; greatest_limit = 0 } }
+        ensures { result
+            ≡ record {
+              inner = record { id = id; number = number; records = []; faults = 0 };
+              learns_alone = true;
+              countdown = learn;
+              failure = failure;
+              broken = false;
+              faults = 0;
+              greatest_limit = 0;
+            } }
     {
         ScriptedArchive {
             inner: ListArchive::new(alloc, id, number),
@@ -110,7 +137,11 @@ impl ScriptedArchive {
     /// Whether this call is the scripted one; it is counted.
     fn is_due(&mut self, is_learn: bool) -> bool
         ensures due { result ≡ is_due self.old is_learn }
-        ensures left { self.new ≡ record self.old { countdown = if is_counted self.old is_learn then self.old.countdown - 1 else self.old.countdown } }
+        ensures left { self.new
+            ≡ record self.old {
+              countdown = if is_counted self.old is_learn then self.old.countdown - 1
+                  else self.old.countdown;
+            } }
     {
         if !is_learn && self.learns_alone {
             return false;
@@ -123,7 +154,9 @@ impl ScriptedArchive {
     /// Counts a fault, and breaks behind `Broken`.
     fn fails(&mut self, fault: StoreFault) -> StoreFault
         ensures same { result ≡ fault }
-        ensures left { self.new ≡ record self.old { broken = is_broken (Some fault); faults = failures self.old.faults (Some fault) } }
+        ensures left { self.new
+            ≡ record self.old
+            { broken = is_broken (Some fault); faults = failures self.old.faults (Some fault) } }
     {
         self.broken = fault == StoreFault::Broken;
         self.faults = self.faults.saturating_add(1);
@@ -208,7 +241,7 @@ impl ScriptedArchive {
 impl Archive for ScriptedArchive {
     ghost use Rattle.std.specs.Prelude.{◌≡◌, ⊤, ℕ, take, true, false};
     ghost use Rattle.stamp.specs.Numbers.{number_of};
-    ghost use Rattle.records.specs.Records.{story, missing};
+    ghost use Rattle.records.specs.Records.{versions, missing};
     ghost use Rattle.records.specs.Contents.{vec, top, cut};
     ghost use Rattle.records.specs.Spelling.{IsLawfulRecord};
     ghost use Rattle.archive.specs.Reading.{range_of, log_of, outside_of};
@@ -233,7 +266,8 @@ impl Archive for ScriptedArchive {
 
     #[tactic(auto, using(crate::proofs::Scripting::queries))]
     fn vector(&mut self) -> Result<Vector, StoreFault>
-        ensures asks { Asks (scripted_store self.old) (scripted_store self.new) result (λ v. (replica : ℕ) → number_of v replica ≡ vec self.old.inner.records replica) }
+        ensures asks { Asks (scripted_store self.old) (scripted_store self.new) result
+            (λ v. (replica : ℕ) → number_of v replica ≡ vec self.old.inner.records replica) }
         ensures asked { IsAskedWithin 0 self.old.greatest_limit self.new.greatest_limit }
         ensures follows { Follows self.old self.new false 0 (fault_in result) }
     {
@@ -244,7 +278,8 @@ impl Archive for ScriptedArchive {
 
     #[tactic(auto, using(crate::proofs::Scripting::queries))]
     fn top(&mut self) -> Result<i64, StoreFault>
-        ensures asks { Asks (scripted_store self.old) (scripted_store self.new) result (λ t. t ≡ top self.old.inner.records) }
+        ensures asks { Asks (scripted_store self.old) (scripted_store self.new) result
+            (λ t. t ≡ top self.old.inner.records) }
         ensures asked { IsAskedWithin 0 self.old.greatest_limit self.new.greatest_limit }
         ensures follows { Follows self.old self.new false 0 (fault_in result) }
     {
@@ -255,7 +290,8 @@ impl Archive for ScriptedArchive {
 
     #[tactic(auto, using(crate::proofs::Scripting::queries))]
     fn at(&mut self, alloc: Global, node: &NodeId, time: Moment) -> Result<Vec<Record>, StoreFault>
-        ensures asks { Asks (scripted_store self.old) (scripted_store self.new) result (λ v. v.items ≡ story self.old.inner.records node.now time) }
+        ensures asks { Asks (scripted_store self.old) (scripted_store self.new) result
+            (λ v. v.items ≡ versions self.old.inner.records node.now time) }
         ensures asked { IsAskedWithin 0 self.old.greatest_limit self.new.greatest_limit }
         ensures follows { Follows self.old self.new false 0 (fault_in result) }
     {
@@ -275,7 +311,11 @@ impl Archive for ScriptedArchive {
         limit: usize,
         within: &Vector,
     ) -> Result<Vec<Held>, StoreFault>
-        ensures asks { Asks (scripted_store self.old) (scripted_store self.new) result (λ v. v.items ≡ take limit (range_of (cut self.old.inner.records (number_of within.now)) node.now from to direction)) }
+        ensures asks { Asks (scripted_store self.old) (scripted_store self.new) result
+            (λ v. v.items
+            ≡ take limit
+            (range_of
+            (cut self.old.inner.records (number_of within.now)) node.now from to direction)) }
         ensures asked { IsAskedWithin limit self.old.greatest_limit self.new.greatest_limit }
         ensures follows { Follows self.old self.new false limit (fault_in result) }
     {
@@ -298,7 +338,11 @@ impl Archive for ScriptedArchive {
         limit: usize,
         within: &Vector,
     ) -> Result<Vec<Entry>, StoreFault>
-        ensures asks { Asks (scripted_store self.old) (scripted_store self.new) result (λ v. v.items ≡ take limit (log_of (cut self.old.inner.records (number_of within.now)) node.now from to after direction)) }
+        ensures asks { Asks (scripted_store self.old) (scripted_store self.new) result
+            (λ v. v.items
+            ≡ take limit
+            (log_of
+            (cut self.old.inner.records (number_of within.now)) node.now from to after direction)) }
         ensures asked { IsAskedWithin limit self.old.greatest_limit self.new.greatest_limit }
         ensures follows { Follows self.old self.new false limit (fault_in result) }
     {
@@ -318,7 +362,10 @@ impl Archive for ScriptedArchive {
         direction: Direction,
         within: &Vector,
     ) -> Result<Option<Held>, StoreFault>
-        ensures asks { Asks (scripted_store self.old) (scripted_store self.new) result (λ h. h ≡ outside_of (cut self.old.inner.records (number_of within.now)) node.now time direction) }
+        ensures asks { Asks (scripted_store self.old) (scripted_store self.new) result
+            (λ h. h
+            ≡ outside_of
+            (cut self.old.inner.records (number_of within.now)) node.now time direction) }
         ensures asked { IsAskedWithin 0 self.old.greatest_limit self.new.greatest_limit }
         ensures follows { Follows self.old self.new false 0 (fault_in result) }
     {
@@ -336,7 +383,8 @@ impl Archive for ScriptedArchive {
         vector: &Vector,
         limit: usize,
     ) -> Result<Vec<Record>, StoreFault>
-        ensures asks { Asks (scripted_store self.old) (scripted_store self.new) result (λ v. v.items ≡ missing self.old.inner.records (number_of vector.now) limit) }
+        ensures asks { Asks (scripted_store self.old) (scripted_store self.new) result
+            (λ v. v.items ≡ missing self.old.inner.records (number_of vector.now) limit) }
         ensures asked { IsAskedWithin limit self.old.greatest_limit self.new.greatest_limit }
         ensures follows { Follows self.old self.new false limit (fault_in result) }
     {

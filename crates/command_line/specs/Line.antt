@@ -1,11 +1,12 @@
 -- The command line.
-use Rattle.std.specs.Prelude.{◌≡◌, ℤ, List, [], ◌∷◌, ℕ, Bool, true, false, ◌⊎◌, Option, None, Some, Ok, option_copied, codes, fold}
+use Rattle.std.specs.Prelude.{◌≡◌, ◌≢◌, ℤ, List, [], ◌∷◌, ℕ, Bool, true, false, ◌⊎◌, Option, None, Some, Ok, option_copied, codes, fold}
 use Rattle.std.specs.Int.{w64}
 use Rattle.std.specs.Str.Parse.{ParsesSigned, ParsesUnsigned}
 use Rattle.std.specs.declared.num.ParseIntError.{ParseIntError}
 use Rattle.clap.specs.Words.{App, IsAmong, Kinds, Row, Rule, Text, new_app, new_rule, first_of, one_of, with_rule, with_subcommand}
 use Rattle.clap.specs.Simple.{on_top}
-use Rattle.clap.specs.declared.error.ErrorKind.TheVariants.{DisplayHelp, DisplayVersion}
+use Rattle.clap.specs.declared.error.ErrorKind.{ErrorKind}
+use Rattle.clap.specs.declared.error.ErrorKind.TheVariants.{DisplayHelp, DisplayVersion, OutOfMemory}
 use Rattle.clap.specs.declared.builder.action.ArgAction.TheVariants.{Set, SetTrue}
 use Rattle.clap.specs.declared.builder.value_parser.ValueParser.TheVariants.{Unsigned}
 use Rattle.command_line.specs.declared.line.Line.{Line}
@@ -40,28 +41,37 @@ abbrev pub command : Text → List Rule → App
 command name options = fold with_rule (new_app name) options
 
 -- `answer [--settings FILE] [--hex] [--now N]`
-abbrev pub answer : App
-answer = command (codes "answer") (option (codes "settings") ∷ flag (codes "hex") ∷ now ∷ [])
+abbrev pub answer_command : App
+answer_command =
+    command (codes "answer") (option (codes "settings") ∷ flag (codes "hex") ∷ now ∷ [])
 
 -- `serve --settings FILE [--connections N]`
-abbrev pub serve : App
-serve = command (codes "serve") (needed (codes "settings") ∷ connections ∷ [])
+abbrev pub serve_command : App
+serve_command = command (codes "serve") (needed (codes "settings") ∷ connections ∷ [])
 
 -- `dump --settings FILE`
-abbrev pub dump : App
-dump = command (codes "dump") (needed (codes "settings") ∷ [])
+abbrev pub dump_command : App
+dump_command = command (codes "dump") (needed (codes "settings") ∷ [])
 
 -- `sync --settings FILE --peer ADDRESS`
-abbrev pub sync : App
-sync = command (codes "sync") (needed (codes "settings") ∷ needed (codes "peer") ∷ [])
+abbrev pub sync_command : App
+sync_command = command (codes "sync") (needed (codes "settings") ∷ needed (codes "peer") ∷ [])
 
 -- the program with no commands yet: it has a version, which its commands have too
 abbrev pub program : App
-program = on_top (λ top. record top { has_version = true; propagate_version = true }) (new_app (codes "uahist"))
+program =
+    on_top (λ top. record top { has_version = true; propagate_version = true })
+    (new_app (codes "uahist"))
+
+-- the commands that answer clients
+abbrev pub servers : App
+servers = with_subcommand (with_subcommand program answer_command.top) serve_command.top
 
 -- the program with its commands
 abbrev pub uahist : App
-uahist = fold (λ all one. with_subcommand all one.top) program (answer ∷ serve ∷ dump ∷ sync ∷ [])
+uahist =
+    fold (λ all one. with_subcommand all one.top) program
+    (answer_command ∷ serve_command ∷ dump_command ∷ sync_command ∷ [])
 
 -- where the first fault that clap finds may be that help, or the version, is asked for
 abbrev pub MayAskForText : Kinds → Type 0
@@ -73,20 +83,67 @@ AsksForText faults = (faults ≡ DisplayHelp ∷ []) ⊎ (faults ≡ DisplayVers
 
 -- a flag is set where its value is true, and unset where that is false or absent
 abbrev pub IsFlag : Option Text → Bool → Type 0
-IsFlag value flag = (value ≡ Some (codes "true") → flag ≡ true) × (value ≡ Some (codes "false") → flag ≡ false) × (value ≡ None → flag ≡ false)
+IsFlag value flag =
+    (value ≡ Some (codes "true") → flag ≡ true) × (value ≡ Some (codes "false") → flag ≡ false)
+    × (value ≡ None → flag ≡ false)
 
--- The command that the matches name, with the values that they give: the moment is the number of 64 bits that its text spells in decimal digits, and none
--- where it is absent; the count is the one of 32 bits that its text spells, and the greatest where it is absent.
+-- what the rows of `answer` give
+abbrev pub IsAnswer : List Row → Line → Type 0
+IsAnswer rows line = elim line [
+  | Answer path flag moment ↦ (option_copied path ≡ first_of (codes "settings") rows)
+      × IsFlag (one_of (codes "hex") rows) flag
+      × elim (one_of (codes "now") rows) [
+        | None ↦ moment ≡ None
+        | Some text ↦ (number : ℤ) × (moment ≡ Some number)
+            × ParsesSigned {E = ParseIntError} w64 10 text (Ok number)
+      ]
+  | _ ↦ ⊥
+]
+
+-- what the rows of `serve` give
+abbrev pub IsServe : List Row → Line → Type 0
+IsServe rows line = elim line [
+  | Serve path count ↦ (first_of (codes "settings") rows ≡ Some path.now)
+      × elim (one_of (codes "connections") rows) [
+        | None ↦ count ≡ 4294967295
+        | Some text ↦ ParsesUnsigned {E = ParseIntError} 32 10 text (Ok count)
+      ]
+  | _ ↦ ⊥
+]
+
+-- what the rows of `dump` give
+abbrev pub IsDump : List Row → Line → Type 0
+IsDump rows line =
+    elim line [ Dump path ↦ first_of (codes "settings") rows ≡ Some path.now | _ ↦ ⊥ ]
+
+-- what the rows of `sync` give
+abbrev pub IsSync : List Row → Line → Type 0
+IsSync rows line =
+    elim line [
+      | Sync path address ↦ (first_of (codes "settings") rows ≡ Some path.now)
+          × (first_of (codes "peer") rows ≡ Some address.now)
+      | _ ↦ ⊥
+    ]
+
+-- The matches name this command, and its rows give this.
+abbrev pub NamesCommand : Option (Text × List Row) → Text → (List Row → Type 0) → Type 0
+NamesCommand matches name Gives = (rows : List Row) × (matches ≡ Some (name, rows)) × Gives rows
+
+-- The command that the matches name, with the values that they give: the moment is the number of 64
+-- bits that its text spells in decimal digits, and none where it is absent; the count is the one of
+-- 32 bits that its text spells, and the greatest where it is absent.
 abbrev pub IsLine : Option (Text × List Row) → Line → Type 0
 IsLine matches (Answer path flag moment) =
-    (rows : List Row) × (matches ≡ Some (codes "answer", rows)) × (option_copied path ≡ first_of (codes "settings") rows) × IsFlag (one_of (codes "hex") rows) flag
-    × elim (one_of (codes "now") rows) [ None ↦ moment ≡ None | Some text ↦ (number : ℤ) × (moment ≡ Some number) × ParsesSigned {E = ParseIntError} w64 10 text (Ok number) ]
+    NamesCommand matches (codes "answer") (λ rows. IsAnswer rows (Answer path flag moment))
 IsLine matches (Serve path count) =
-    (rows : List Row) × (matches ≡ Some (codes "serve", rows)) × (first_of (codes "settings") rows ≡ Some path.now)
-    × elim (one_of (codes "connections") rows) [ None ↦ count ≡ 4294967295 | Some text ↦ ParsesUnsigned {E = ParseIntError} 32 10 text (Ok count) ]
-IsLine matches (Dump path) = (rows : List Row) × (matches ≡ Some (codes "dump", rows)) × (first_of (codes "settings") rows ≡ Some path.now)
-IsLine matches (Sync path address) =
-    (rows : List Row) × (matches ≡ Some (codes "sync", rows)) × (first_of (codes "settings") rows ≡ Some path.now) × (first_of (codes "peer") rows ≡ Some address.now)
+    NamesCommand matches (codes "serve") (λ rows. IsServe rows (Serve path count))
+IsLine matches (Dump path) = NamesCommand matches (codes "dump") (λ rows. IsDump rows (Dump path))
+IsLine matches (Sync path peer) =
+    NamesCommand matches (codes "sync") (λ rows. IsSync rows (Sync path peer))
+
+-- no line is so
+abbrev pub NoLine : (Line → Type 0) → Type 0
+NoLine P = (line : Line) → P line → ⊥
 
 -- What a line asks for, by the faults that clap finds in it and by its matches: where there is no
 -- fault what the matches name, and a text only where help or the version is asked for.
@@ -94,7 +151,25 @@ abbrev pub Asks : Kinds → Option (Text × List Row) → Asked → Type 0
 Asks faults matches (Work line) = (faults ≡ []) × IsLine matches line
 Asks faults matches (Shown text) = MayAskForText faults
 
+-- the usage of the program, in one line
+abbrev pub usage : List ℕ
+usage =
+    codes "usage: uahist answer [--settings FILE] [--hex] [--now N] | serve --settings FILE [--connections N] | dump --settings FILE | sync --settings FILE --peer ADDRESS"
+
 -- the text that tells a refused command line
 abbrev pub line_text_of : LineFault → List ℕ
-line_text_of Words = codes "usage: uahist answer [--settings FILE] [--hex] [--now N] | serve --settings FILE [--connections N] | dump --settings FILE | sync --settings FILE --peer ADDRESS"
+line_text_of Words = usage
 line_text_of NoMemory = codes "memory ran out before the command began"
+
+-- a text, and no line
+abbrev pub IsText : Asked → Type 0
+IsText (Work line) = ⊥
+IsText (Shown text) = Unit {0}
+
+-- a text, of this kind of refusal
+abbrev pub IsTextOf : ErrorKind → Asked → Type 0
+IsTextOf kind asked = ((kind ≡ DisplayHelp) ⊎ (kind ≡ DisplayVersion)) × IsText asked
+
+-- neither want of memory nor a text that is asked for
+abbrev pub IsMistake : ErrorKind → Type 0
+IsMistake kind = (kind ≢ DisplayHelp) × (kind ≢ DisplayVersion) × (kind ≢ OutOfMemory)

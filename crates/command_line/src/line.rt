@@ -6,9 +6,8 @@ ghost use Rattle.clap.specs.declared.builder.command.Command.TheViews.{out-Comma
 ghost use Rattle.clap.specs.declared.error.ErrorKind.TheVariants as clap;
 ghost use Rattle.clap.specs.Takes.{takes};
 ghost use Rattle.clap.specs.Faults.{fault_of as fault_kinds};
-ghost use Rattle.command_line.specs.Line.{Asks, AsksForText, IsLine, option, uahist};
-ghost use Rattle.command_line.specs.Line.{answer, connections, dump, flag, now, serve, sync};
-ghost use Rattle.command_line.specs.Parts.{IsAnswer, IsServe, IsDump, IsMistake, IsSync, IsText, IsTextOf, NoLine, servers};
+ghost use Rattle.command_line.specs.Line.{Asks, AsksForText, IsLine, option, uahist, IsAnswer, IsServe, IsDump, IsMistake, IsSync, IsText, IsTextOf, NoLine, servers};
+ghost use Rattle.command_line.specs.Line.{answer_command, connections, dump_command, flag, now, serve_command, sync_command};
 
 use clap::builder::ValueParser;
 use clap::error::{Error as Refusal, ErrorKind};
@@ -151,7 +150,7 @@ fn connections_option<'a>(alloc: Global) -> Arg<'a>
 
 /// The command `answer` and its options.
 fn answer_command<'a>(alloc: Global) -> Result<Command<'a>, AllocError>
-    ensures app { IfOk result (λ command. app_of command ≡ answer) }
+    ensures app { IfOk result (λ command. app_of command ≡ answer_command) }
     ensures local { IfOk result (λ command. (out-Command command).has_globals ≡ false) }
 {
     let settings = settings_option(alloc);
@@ -166,7 +165,7 @@ fn answer_command<'a>(alloc: Global) -> Result<Command<'a>, AllocError>
 
 /// The command `serve` and its options.
 fn serve_command<'a>(alloc: Global) -> Result<Command<'a>, AllocError>
-    ensures app { IfOk result (λ command. app_of command ≡ serve) }
+    ensures app { IfOk result (λ command. app_of command ≡ serve_command) }
     ensures local { IfOk result (λ command. (out-Command command).has_globals ≡ false) }
 {
     let settings = settings_option(alloc).required(true);
@@ -178,7 +177,7 @@ fn serve_command<'a>(alloc: Global) -> Result<Command<'a>, AllocError>
 
 /// The command `dump` and its option.
 fn dump_command<'a>(alloc: Global) -> Result<Command<'a>, AllocError>
-    ensures app { IfOk result (λ command. app_of command ≡ dump) }
+    ensures app { IfOk result (λ command. app_of command ≡ dump_command) }
     ensures local { IfOk result (λ command. (out-Command command).has_globals ≡ false) }
 {
     let settings = settings_option(alloc).required(true);
@@ -201,7 +200,7 @@ fn peer_option<'a>(alloc: Global) -> Arg<'a>
 
 /// The command `sync` and its options.
 fn sync_command<'a>(alloc: Global) -> Result<Command<'a>, AllocError>
-    ensures app { IfOk result (λ command. app_of command ≡ sync) }
+    ensures app { IfOk result (λ command. app_of command ≡ sync_command) }
     ensures local { IfOk result (λ command. (out-Command command).has_globals ≡ false) }
 {
     let settings = settings_option(alloc).required(true);
@@ -342,9 +341,13 @@ fn read_matches<'a>(matches: &ArgMatches<'a>) -> Result<Line<'a>, LineFault>
 /// version where that is asked for. Errors: `Words` where `clap` refuses the words, they name no command, or a value is no
 /// number; `OutOfMemory` where memory ran out.
 pub fn read_line<'a, S: AsStr>(alloc: Global, words: &'a [S]) -> Result<Asked<'a>, LineFault>
-    ensures ok { IfOk result (Asks (fault_kinds uahist (map S.text words.now)) (subcommand_of uahist (map S.text words.now))) }
-    ensures words { IsErrOf result LineFault.Words → takes uahist (map S.text words.now) ≡ true → NoLine (IsLine (subcommand_of uahist (map S.text words.now))) }
-    ensures help { IsErrOf result LineFault.Words → AsksForText (fault_kinds uahist (map S.text words.now)) → ⊥ }
+    ensures ok { IfOk result
+        (Asks (fault_kinds uahist (map S.text words.now))
+        (subcommand_of uahist (map S.text words.now))) }
+    ensures words { IsErrOf result LineFault.Words → takes uahist (map S.text words.now) ≡ true
+        → NoLine (IsLine (subcommand_of uahist (map S.text words.now))) }
+    ensures help { IsErrOf result LineFault.Words → AsksForText (fault_kinds uahist (map S.text words.now))
+        → ⊥ }
 {
     let Ok(command) = command(alloc) else {
         return Err(LineFault::OutOfMemory);

@@ -60,7 +60,8 @@ impl<T> Counted<T> {
 fn read_through<R: Read>(reader: &mut R, piece: &mut [u8]) -> io::Result<usize>
     requires { 0 < length piece.old }
     ensures within { IfOk result (λ n. n ≤ length piece.new) }
-    ensures bytes { IfOk result (λ n. Consumes (R.remaining reader.old) (R.remaining reader.new) (take n piece.new)) }
+    ensures bytes { IfOk result
+        (λ n. Consumes (R.remaining reader.old) (R.remaining reader.new) (take n piece.new)) }
     ensures end { IfOk result (λ n. n ≡ 0 → IsAtEnd (R.remaining reader.new)) }
     ensures kept { OnErr result (Keeps (R.remaining reader.old) (R.remaining reader.new)) }
     ensures retried { IfErr result (λ error. error_kind error ≢ ErrorKind.Interrupted) }
@@ -82,7 +83,8 @@ fn read_through<R: Read>(reader: &mut R, piece: &mut [u8]) -> io::Result<usize>
 #[tactic(auto, using(crate::proofs::Tried::trying))]
 fn write_through<W: Write>(writer: &mut W, bytes: &[u8]) -> io::Result<usize>
     ensures within { IfOk result (λ n. n ≤ length bytes.now) }
-    ensures bytes { IfOk result (λ n. Appends (W.contents writer.old) (W.contents writer.new) (take n bytes.now)) }
+    ensures bytes { IfOk result
+        (λ n. Appends (W.contents writer.old) (W.contents writer.new) (take n bytes.now)) }
     ensures kept { OnErr result (Keeps (W.contents writer.old) (W.contents writer.new)) }
     ensures retried { IfErr result (λ error. error_kind error ≢ ErrorKind.Interrupted) }
 {
@@ -104,11 +106,15 @@ impl<R: Read> Counted<R> {
     pub fn read_piece(&mut self, piece: &mut [u8]) -> Result<usize, ServeFault>
         requires { 0 < length piece.old }
         ensures within { IfOk result (λ n. n ≤ length piece.new) }
-        ensures bytes { IfOk result (λ n. Consumes (R.remaining self.old.inner) (R.remaining self.new.inner) (take n piece.new)) }
+        ensures bytes { IfOk result
+            (λ n.
+            Consumes (R.remaining self.old.inner) (R.remaining self.new.inner) (take n piece.new)) }
         ensures end { IfOk result (λ n. n ≡ 0 → IsAtEnd (R.remaining self.new.inner)) }
-        ensures kept { OnErr result (Keeps (R.remaining self.old.inner) (R.remaining self.new.inner)) }
+        ensures kept { OnErr result
+            (Keeps (R.remaining self.old.inner) (R.remaining self.new.inner)) }
         ensures faults { OnOk result (self.new.faults ≡ self.old.faults) }
-        ensures fault { OnErr result ((result ≡ Err ServeFault.Read) × (self.new.faults ≡ counted self.old.faults)) }
+        ensures fault { OnErr result
+            ((result ≡ Err ServeFault.Read) × (self.new.faults ≡ counted self.old.faults)) }
     {
         match read_through(&mut self.inner, piece) {
             Ok(n) => Ok(n),
@@ -125,10 +131,14 @@ impl<W: Write> Counted<W> {
     fn write_some(&mut self, bytes: &[u8]) -> Result<usize, ServeFault>
         requires { 0 < length bytes.now }
         ensures within { IfOk result (λ n. (0 < n) × (n ≤ length bytes.now)) }
-        ensures bytes { IfOk result (λ n. Appends (W.contents self.old.inner) (W.contents self.new.inner) (take n bytes.now)) }
-        ensures none { OnErr result (Appends (W.contents self.old.inner) (W.contents self.new.inner) []) }
+        ensures bytes { IfOk result
+            (λ n.
+            Appends (W.contents self.old.inner) (W.contents self.new.inner) (take n bytes.now)) }
+        ensures none { OnErr result
+            (Appends (W.contents self.old.inner) (W.contents self.new.inner) []) }
         ensures faults { OnOk result (self.new.faults ≡ self.old.faults) }
-        ensures fault { OnErr result ((result ≡ Err ServeFault.Write) × (self.new.faults ≡ counted self.old.faults)) }
+        ensures fault { OnErr result
+            ((result ≡ Err ServeFault.Write) × (self.new.faults ≡ counted self.old.faults)) }
     {
         match write_through(&mut self.inner, bytes) {
             Ok(0) | Err(_) => {
@@ -141,10 +151,13 @@ impl<W: Write> Counted<W> {
 
     /// Writes all bytes, a part at a time.
     pub fn send(&mut self, bytes: &[u8]) -> Result<(), ServeFault>
-        ensures ok { OnOk result (Appends (W.contents self.old.inner) (W.contents self.new.inner) bytes.now) }
-        ensures part { OnErr result (AppendsPart (W.contents self.old.inner) (W.contents self.new.inner) bytes.now) }
+        ensures ok { OnOk result
+            (Appends (W.contents self.old.inner) (W.contents self.new.inner) bytes.now) }
+        ensures part { OnErr result
+            (AppendsPart (W.contents self.old.inner) (W.contents self.new.inner) bytes.now) }
         ensures faults { OnOk result (self.new.faults ≡ self.old.faults) }
-        ensures fault { OnErr result ((result ≡ Err ServeFault.Write) × (self.new.faults ≡ counted self.old.faults)) }
+        ensures fault { OnErr result
+            ((result ≡ Err ServeFault.Write) × (self.new.faults ≡ counted self.old.faults)) }
     {
         let mut sent = 0;
         while sent < bytes.len() {
@@ -156,10 +169,15 @@ impl<W: Write> Counted<W> {
 
     /// Writes a line: the bytes and a line end.
     pub fn send_line(&mut self, line: &[u8]) -> Result<(), ServeFault>
-        ensures ok { OnOk result (Appends (W.contents self.old.inner) (W.contents self.new.inner) (line.now ++ 10 ∷ [])) }
-        ensures part { OnErr result (AppendsPart (W.contents self.old.inner) (W.contents self.new.inner) (line.now ++ 10 ∷ [])) }
+        ensures ok { OnOk result
+            (Appends (W.contents self.old.inner) (W.contents self.new.inner)
+            (line.now ++ 10 ∷ [])) }
+        ensures part { OnErr result
+            (AppendsPart (W.contents self.old.inner) (W.contents self.new.inner)
+            (line.now ++ 10 ∷ [])) }
         ensures faults { OnOk result (self.new.faults ≡ self.old.faults) }
-        ensures fault { OnErr result ((result ≡ Err ServeFault.Write) × (self.new.faults ≡ counted self.old.faults)) }
+        ensures fault { OnErr result
+            ((result ≡ Err ServeFault.Write) × (self.new.faults ≡ counted self.old.faults)) }
     {
         match self.send(line) {
             Ok(()) => self.send(b"\n"),

@@ -1,7 +1,7 @@
 //! Why a connection ended.
 
 ghost use Rattle.std.specs.Prelude.{◌≡◌};
-ghost use Rattle.counted_io.specs.Fault.{number_of};
+ghost use Rattle.counted_io.specs.Fault.{serve_fault_number};
 
 use thiserror::Error;
 
@@ -25,7 +25,7 @@ pub enum ServeFault {
 impl ServeFault {
     /// The number that the program prints: 1 to 4, in the order above.
     pub fn number(self) -> u8
-        ensures { result ≡ number_of self }
+        ensures { result ≡ serve_fault_number self }
     {
         match self {
             ServeFault::Read => 1,

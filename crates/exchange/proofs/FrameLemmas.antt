@@ -31,7 +31,7 @@ use Rattle.exchange.specs.declared.message.Title.{Title}
 use Rattle.exchange.specs.declared.message.Message.{Message}
 use Rattle.exchange.specs.declared.message.Message.TheVariants.{Asks, Carries, Ends}
 use Rattle.exchange.specs.Batches.{most, longest_frame, records_length, frame_length}
-use Rattle.exchange.specs.Frames.{ill, title, count, sized, framed, code, message_at, letters, kind_of, body_of, frame_of, cut, checked, IsTitle, IsSpelled}
+use Rattle.exchange.specs.Frames.{ill, title, count, length_prefixed, framed, code, message_at, frame_letters, kind_of, frame_body_of, frame_of, frame_header, checked_sender, IsTitle, HasFrame}
 use Rattle.exchange.proofs.FramesParts.{title_fields, title_of}
 use Rattle.exchange.specs.Meetings.{checked_title}
 use Rattle.exchange.proofs.BatchLemmas.{vector_short}
@@ -65,7 +65,7 @@ title_lawful = fitting_lawful IsTitle (λ t is. ((((omega arith, refl), refl), (
 pub count_lawful : IsLawful count
 count_lawful = passing_lawful _ _ (raised_lawful _ u32_lawful)
 
-sized_lawful : IsLawful sized
+sized_lawful : IsLawful length_prefixed
 sized_lawful = headed_lawful length _ (raised_lawful _ u32_lawful) (λ n. raised_lawful _ (block_lawful n))
 
 ill_whole : {E A : Type 0} (f : Format E A) (bytes : List ℕ) (e : ExchangeFault) → whole Frame (ill f) bytes ≡ Err e → e ≡ Frame
@@ -88,7 +88,7 @@ record_whole bytes = go (record_at bytes) refl (whole Frame (ill record_form) by
     go (Err f) is (Ok v) found = let none : Err f ≡ Ok v = sym is ∙ record_only bytes v (whole_found Frame (raised_lawful (λ _. Frame) record_lawful) bytes v found) in absurd cc
     go (Err f) is (Err e) found = ap Err (ill_whole record_form bytes e found)
 
-sized_fits : (r : Record) → IsRecord r → sized.Fits (record_form.canon r)
+sized_fits : (r : Record) → IsRecord r → length_prefixed.Fits (record_form.canon r)
 unfolding record_form unsigned
 sized_fits r is = (omega (arith, is.0.size), refl)
 
@@ -120,7 +120,7 @@ all_fit [] all = tt
 all_fit (r ∷ rs) all = (all.0, all_fit rs all.1)
 
 -- what an end writes is what a party that may meet it reads
-pub read_own : (p : Party) (m : Message) → IsSpelled m → checked_title p m → message_at p (kind_of m) (body_of m) ≡ Ok m
+pub read_own : (p : Party) (m : Message) → HasFrame m → checked_title p m → message_at p (kind_of m) (frame_body_of m) ≡ Ok m
 read_own p (Asks t) is check = rw (whole_only Frame title_lawful (title.canon t) t (title_fits t is), check) refl
 read_own p (Carries t rs) is check =
     let head : (title ▸ count).read ((title ▸ count).canon (t, length rs) ++ flat_map framed.canon rs) ≡ Ok ((t, length rs), flat_map framed.canon rs) =
@@ -130,7 +130,7 @@ read_own p (Carries t rs) is check =
 read_own p (Ends n) is check = rw (whole_only Frame (raised_lawful (λ _. Frame) u32_lawful) (code.canon n) n (code_spelled n is)) refl
 
 -- who may not be met
-not_met : (q : Party) (t : Title) → ((t.id ≡ q.id) × (t.sender ≡ q.own → ⊥) → ⊥) → (f : ExchangeFault) × (checked q t ≡ Err f)
+not_met : (q : Party) (t : Title) → ((t.id ≡ q.id) × (t.sender ≡ q.own → ⊥) → ⊥) → (f : ExchangeFault) × (checked_sender q t ≡ Err f)
 not_met q t none = elim (cases_Bool (bytes_eq t.id q.id)) [
   | inl same ↦ elim (cases_Bool (t.sender == q.own)) [
     | inl own ↦ (SelfPeer, rw (same, own) refl)
@@ -139,7 +139,7 @@ not_met q t none = elim (cases_Bool (bytes_eq t.id q.id)) [
   | inr other ↦ (WrongArchive, rw other refl)
 ]
 
-pub read_other : (q : Party) (t : Title) → IsTitle t → ((t.id ≡ q.id) × (t.sender ≡ q.own → ⊥) → ⊥) → (f : ExchangeFault) × (message_at q (kind_of (Asks t)) (body_of (Asks t)) ≡ Err f)
+pub read_other : (q : Party) (t : Title) → IsTitle t → ((t.id ≡ q.id) × (t.sender ≡ q.own → ⊥) → ⊥) → (f : ExchangeFault) × (message_at q (kind_of (Asks t)) (frame_body_of (Asks t)) ≡ Err f)
 read_other q t is none = let judged = not_met q t none in (judged.0, rw (whole_only Frame title_lawful (title.canon t) t (title_fits t is), judged.1) refl)
 
 -- ---- how many bytes it takes
@@ -167,7 +167,7 @@ code_length : (n : ℕ) → length (code.canon n) ≡ 4
 unfolding unsigned
 code_length n = refl
 
-pub body_short : (m : Message) → IsSpelled m → length (body_of m) + 8 ≤ longest_frame
+pub body_short : (m : Message) → HasFrame m → length (frame_body_of m) + 8 ≤ longest_frame
 body_short (Asks t) is = omega (arith, title_length t is, vector_short t.vector is.vector)
 body_short (Carries t rs) is = omega (arith, length-append ((title ▸ count).canon (t, length rs)) (flat_map framed.canon rs), count_length t (length rs), title_length t is.0, records_bytes rs, is.3)
 body_short (Ends n) is = omega (arith, code_length n)
@@ -179,13 +179,13 @@ frame_short t rs n room is e f fits = omega (arith, title_length t is, vector_sh
 -- ---- a frame is cut off as it was written
 
 framed_cut : (kind : FrameKind) (body : List ℕ) → 4 ≤ length body → length body + 8 ≤ longest_frame
-    → cut (letters kind ++ ((unsigned w32).canon (8 + length body) ++ body)) ≡ Ok (Some (record { kind = kind; size = 8 + length body }))
-unfolding cut unsigned
+    → frame_header (frame_letters kind ++ ((unsigned w32).canon (8 + length body) ++ body)) ≡ Ok (Some (record { kind = kind; size = 8 + length body }))
+unfolding frame_header unsigned
 framed_cut Vector body some short =
     let size = from_le_bytes-to_le_bytes_4 (8 + length body) (omega (arith, short)) in
     let a : nat_lt (8 + length body) 12 ≡ false = le-ltb _ _ (omega (arith, some)) in
     let b : nat_lt longest_frame (8 + length body) ≡ false = le-ltb _ _ (omega (arith, short)) in
-    let n : length (letters Vector ++ ((unsigned w32).canon (8 + length body) ++ body)) ≡ 8 + length body = omega arith in
+    let n : length (frame_letters Vector ++ ((unsigned w32).canon (8 + length body) ++ body)) ≡ 8 + length body = omega arith in
     let c : nat_lt (8 + length body) 8 ≡ false = le-ltb _ _ (omega arith) in
     let d : nat_lt (8 + length body) (8 + length body) ≡ false = le-ltb _ _ (omega arith) in
     rw (size, a, b, n, c, d) refl
@@ -193,7 +193,7 @@ framed_cut Records body some short =
     let size = from_le_bytes-to_le_bytes_4 (8 + length body) (omega (arith, short)) in
     let a : nat_lt (8 + length body) 12 ≡ false = le-ltb _ _ (omega (arith, some)) in
     let b : nat_lt longest_frame (8 + length body) ≡ false = le-ltb _ _ (omega (arith, short)) in
-    let n : length (letters Records ++ ((unsigned w32).canon (8 + length body) ++ body)) ≡ 8 + length body = omega arith in
+    let n : length (frame_letters Records ++ ((unsigned w32).canon (8 + length body) ++ body)) ≡ 8 + length body = omega arith in
     let c : nat_lt (8 + length body) 8 ≡ false = le-ltb _ _ (omega arith) in
     let d : nat_lt (8 + length body) (8 + length body) ≡ false = le-ltb _ _ (omega arith) in
     rw (size, a, b, n, c, d) refl
@@ -201,24 +201,24 @@ framed_cut End body some short =
     let size = from_le_bytes-to_le_bytes_4 (8 + length body) (omega (arith, short)) in
     let a : nat_lt (8 + length body) 12 ≡ false = le-ltb _ _ (omega (arith, some)) in
     let b : nat_lt longest_frame (8 + length body) ≡ false = le-ltb _ _ (omega (arith, short)) in
-    let n : length (letters End ++ ((unsigned w32).canon (8 + length body) ++ body)) ≡ 8 + length body = omega arith in
+    let n : length (frame_letters End ++ ((unsigned w32).canon (8 + length body) ++ body)) ≡ 8 + length body = omega arith in
     let c : nat_lt (8 + length body) 8 ≡ false = le-ltb _ _ (omega arith) in
     let d : nat_lt (8 + length body) (8 + length body) ≡ false = le-ltb _ _ (omega arith) in
     rw (size, a, b, n, c, d) refl
 
-body_some : (m : Message) → IsSpelled m → 4 ≤ length (body_of m)
+body_some : (m : Message) → HasFrame m → 4 ≤ length (frame_body_of m)
 body_some (Asks t) is = omega (arith, title_length t is)
 body_some (Carries t rs) is = omega (arith, length-append ((title ▸ count).canon (t, length rs)) (flat_map framed.canon rs), count_length t (length rs), title_length t is.0)
 body_some (Ends n) is = omega (arith, code_length n)
 
-pub cut_own : (m : Message) → IsSpelled m → cut (frame_of m) ≡ Ok (Some (record { kind = kind_of m; size = 8 + length (body_of m) }))
-cut_own m is = framed_cut (kind_of m) (body_of m) (body_some m is) (body_short m is)
+pub cut_own : (m : Message) → HasFrame m → frame_header (frame_of m) ≡ Ok (Some (record { kind = kind_of m; size = 8 + length (frame_body_of m) }))
+cut_own m is = framed_cut (kind_of m) (frame_body_of m) (body_some m is) (body_short m is)
 
-taken_body : (kind : FrameKind) (body : List ℕ) → drop 8 (take (8 + length body) (letters kind ++ ((unsigned w32).canon (8 + length body) ++ body))) ≡ body
+taken_body : (kind : FrameKind) (body : List ℕ) → drop 8 (take (8 + length body) (frame_letters kind ++ ((unsigned w32).canon (8 + length body) ++ body))) ≡ body
 unfolding unsigned
 taken_body Vector body = let e : 8 + length body ≡ suc (suc (suc (suc (suc (suc (suc (suc (length body)))))))) = omega arith in rw e (take_all (length body) body (omega arith))
 taken_body Records body = let e : 8 + length body ≡ suc (suc (suc (suc (suc (suc (suc (suc (length body)))))))) = omega arith in rw e (take_all (length body) body (omega arith))
 taken_body End body = let e : 8 + length body ≡ suc (suc (suc (suc (suc (suc (suc (suc (length body)))))))) = omega arith in rw e (take_all (length body) body (omega arith))
 
-pub body_own : (m : Message) → drop 8 (take (8 + length (body_of m)) (frame_of m)) ≡ body_of m
-body_own m = taken_body (kind_of m) (body_of m)
+pub body_own : (m : Message) → drop 8 (take (8 + length (frame_body_of m)) (frame_of m)) ≡ frame_body_of m
+body_own m = taken_body (kind_of m) (frame_body_of m)

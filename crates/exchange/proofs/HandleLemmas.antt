@@ -15,7 +15,7 @@ use Rattle.archive.specs.declared.fault.StoreFault.{StoreFault}
 use Rattle.archive.specs.declared.fault.StoreFault.TheVariants.{Broken}
 use Rattle.archive.specs.declared.fault.LearnFault.{LearnFault}
 use Rattle.archive.specs.declared.fault.LearnFault.TheVariants as refused
-use Rattle.archive.specs.Store.{Store, Asks, Passes, IsLawfulContent, is_break, answer_to}
+use Rattle.archive.specs.Store.{Store, Asks, CountsFaults, IsLawfulContent, is_break, answer_to}
 use Rattle.archive.proofs.Calls.{passes-none, passes-leaves, passes-then, in_use, left_in_use}
 use Rattle.exchange.specs.declared.fault.ExchangeFault.{ExchangeFault}
 use Rattle.exchange.specs.declared.fault.ExchangeFault.TheVariants as exchange
@@ -26,14 +26,14 @@ use Rattle.exchange.specs.declared.message.State.{State}
 use Rattle.exchange.specs.declared.message.State.TheVariants as state
 use Rattle.exchange.specs.declared.dialog.Reply.{Reply}
 use Rattle.exchange.specs.declared.replica.Batch.{Batch}
-use Rattle.exchange.specs.Batches.{batch_of, Answers}
+use Rattle.exchange.specs.Batches.{batch_of, AnswersBatch}
 use Rattle.exchange.specs.Frames.{IsTitle}
 use Rattle.exchange.specs.Fault.{store_fault_of}
 use Rattle.exchange.specs.Merging.{learned_all, IsRefusal, Meets, learned_of, MayBeLeft, Merges}
 use Rattle.exchange.proofs.MergeLemmas.{merged_stops}
 use Rattle.exchange.specs.declared.message.Party.{Party}
 use Rattle.records.specs.Contents.{numbers_of}
-use Rattle.exchange.specs.Dialogs.{ended_by, broken_off, is_bare, refusal, title_by, Turn, failing, carrying, pushing, learning, Way, Clear, Unread, Stopped, Starved, Met, IsWay, gone, learned_in, fault_on, party_of, IsHeld, Tells, IsSpelledReply, Handles, broken_at, carries_none, capped, behind}
+use Rattle.exchange.specs.Dialogs.{ended_by, broken_off, is_bare, refusal, title_by, Turn, failing, carrying, pushing, learning, Way, Clear, Unread, Stopped, Starved, Met, IsWay, gone, learned_in, fault_on, party_of, IsHeld, ReportsTurn, IsSpelledReply, Handles, broken_at, carries_none, capped, with_learned}
 use Rattle.exchange.proofs.DialogsParts.{asking, refusal_by, learnt, pulled}
 use Rattle.archive.proofs.Vectors.{told_is}
 
@@ -66,7 +66,7 @@ module _ (a b : Store) where
     way = Clear;
     outside = tt;
     clear = refl;
-    tells = λ h R held. subst (λ R. Tells R (asking (party_of a) state R) (Ok reply)) (held (in_use a b asks.leaves)) (
+    tells = λ h R held. subst (λ R. ReportsTurn R (asking (party_of a) state R) (Ok reply)) (held (in_use a b asks.leaves)) (
       ap (λ (r : Reply). Ok r.state) (sym e),
       ap (λ t. Some (message.Asks t)) (sym (title_is v asks is h)) ∙ ap (λ (r : Reply). r.message) (sym e),
       ap (λ (r : Reply). r.code) (sym e),
@@ -97,7 +97,7 @@ module _ (a b c : Store) (v : List ℕ) (w : ℕ → ℕ) (asks : Asks a b (Ok v
   kept : c.honest → (c.honest → b.honest) → b.content ≡ a.content
   kept h back = asks.stays.content (back h) (left_in_use a b asks.leaves)
 
-  pub carry_fails : (fault : ExchangeFault) (turn : Content → Turn) → Answers b c w (Err fault) → (turn a.content).content ≡ a.content → learned_of [] (turn a.content).result ≡ 0 → Handles a c [] turn (Err fault)
+  pub carry_fails : (fault : ExchangeFault) (turn : Content → Turn) → AnswersBatch b c w (Err fault) → (turn a.content).content ≡ a.content → learned_of [] (turn a.content).result ≡ 0 → Handles a c [] turn (Err fault)
   carry_fails exchange.OutOfMemory turn answers e none = record {
     way = Starved;
     outside = tt;
@@ -126,7 +126,7 @@ module _ (a b c : Store) (v : List ℕ) (w : ℕ → ℕ) (asks : Asks a b (Ok v
   carry_fails exchange.PeerFormat turn answers e none = absurd answers.only
 
   -- memory was wanting for what is sent, or a store that isn't honest gave what can't be
-  pub carry_starves : (batch : Batch) (fault : ExchangeFault) (turn : Content → Turn) → Answers b c w (Ok batch) → fault ≡ exchange.OutOfMemory → (turn a.content).content ≡ a.content → learned_of [] (turn a.content).result ≡ 0 → Handles a c [] turn (Err fault)
+  pub carry_starves : (batch : Batch) (fault : ExchangeFault) (turn : Content → Turn) → AnswersBatch b c w (Ok batch) → fault ≡ exchange.OutOfMemory → (turn a.content).content ≡ a.content → learned_of [] (turn a.content).result ≡ 0 → Handles a c [] turn (Err fault)
   carry_starves batch fault turn answers f e none = subst (λ x. Handles a c [] turn (Err x)) (sym f) (record {
     way = Starved;
     outside = tt;
@@ -138,13 +138,13 @@ module _ (a b c : Store) (v : List ℕ) (w : ℕ → ℕ) (asks : Asks a b (Ok v
     passes = passes-then a b c [] [] (passes-leaves a b None asks.leaves) answers.passes;
   })
 
-  pub carry_ok : (batch : Batch) (state : State) (reply : Reply) → Answers b c w (Ok batch) → IsVector v → IsSpelledReply reply
+  pub carry_ok : (batch : Batch) (state : State) (reply : Reply) → AnswersBatch b c w (Ok batch) → IsVector v → IsSpelledReply reply
       → reply ≡ reply_by state (message.Carries (title_in c v) batch.records) → Handles a c [] (λ R. carrying (party_of a) state R (batch_of R w)) (Ok reply)
   carry_ok batch state reply answers is spelled e = record {
     way = Clear;
     outside = tt;
     clear = refl;
-    tells = λ h R held. subst (λ R. Tells R (carrying (party_of a) state R (batch_of R w)) (Ok reply)) (held (in_use a b asks.leaves)) (
+    tells = λ h R held. subst (λ R. ReportsTurn R (carrying (party_of a) state R (batch_of R w)) (Ok reply)) (held (in_use a b asks.leaves)) (
       ap (λ (r : Reply). Ok r.state) (sym e),
       ap (λ t. Some (message.Carries t (batch_of a.content w))) (sym (title h)) ∙ (ap (λ rs. Some (message.Carries (title_in c v) rs)) (sym (records h)) ∙ ap (λ (r : Reply). r.message) (sym e)),
       ap (λ (r : Reply). r.code) (sym e),
@@ -169,7 +169,7 @@ module _ (a b c : Store) (v : List ℕ) (w : ℕ → ℕ) (asks : Asks a b (Ok v
 
 -- what was to be sent is, or memory was wanting
 pub carry_sends : (a b c : Store) (v : List ℕ) (w : ℕ → ℕ) (batch : Batch) (state : State) (t : Title) (result : Result Reply ExchangeFault) → Asks a b (Ok v) (λ v. (replica : ℕ) → number_of v replica ≡ vec a.content replica)
-    → Answers b c w (Ok batch) → IsVector v → t ≡ title_in c v → IfOk result (λ r. (r ≡ reply_by state (message.Carries t batch.records)) × IsSpelledReply r) → IfErr result (λ e. e ≡ exchange.OutOfMemory)
+    → AnswersBatch b c w (Ok batch) → IsVector v → t ≡ title_in c v → IfOk result (λ r. (r ≡ reply_by state (message.Carries t batch.records)) × IsSpelledReply r) → IfErr result (λ e. e ≡ exchange.OutOfMemory)
     → Handles a c [] (λ R. carrying (party_of a) state R (batch_of R w)) result
 carry_sends a b c v w batch state t (Ok reply) asks answers is e ok err =
     carry_ok a b c v w asks batch state reply answers is ok.1 (ok.0 ∙ ap (λ (x : Title). reply_by state (message.Carries x batch.records)) e)
@@ -177,8 +177,8 @@ carry_sends a b c v w batch state t (Err fault) asks answers is e ok err = carry
 
 -- ---- pushing
 
-told_clear : (a c : Store) (turn : Content → Turn) (reply : Reply) → (handles : Handles a c [] turn (Ok reply)) → c.honest → (R : Content) → IsHeld a R → Tells R (turn R) (Ok reply)
-told_clear a c turn reply handles h R held = subst (λ w. Tells R (gone w R [] (turn R)) (Ok reply)) handles.clear (handles.tells h R held)
+told_clear : (a c : Store) (turn : Content → Turn) (reply : Reply) → (handles : Handles a c [] turn (Ok reply)) → c.honest → (R : Content) → IsHeld a R → ReportsTurn R (turn R) (Ok reply)
+told_clear a c turn reply handles h R held = subst (λ w. ReportsTurn R (gone w R [] (turn R)) (Ok reply)) handles.clear (handles.tells h R held)
 
 left_clear : (a c : Store) (turn : Content → Turn) (reply : Reply) → (handles : Handles a c [] turn (Ok reply)) → c.honest → c.broken ≡ false → c.content ≡ (turn a.content).content
 left_clear a c turn reply handles h u = subst (λ w. c.content ≡ (gone w a.content [] (turn a.content)).content) handles.clear (handles.content h u)
@@ -221,10 +221,10 @@ push_ends a c rs reply ends handles none e = record {
   spelled = subst IsSpelledReply (sym e) (omega arith);
   content = λ h u. left_clear a c (λ R. carrying (party_of a) state.Pushing R (rs R)) reply handles h u ∙ sym (pushed_content (party_of a) a.content (rs a.content));
   crash = λ h left m. none_left a _ left (pushed_none (party_of a) a.content (rs a.content) Clear tt) (left_none a _ left (handles.crash h left m));
-  passes = subst (λ w. Passes a c (option_to_list (fault_on w))) handles.clear handles.passes;
+  passes = subst (λ w. CountsFaults a c (option_to_list (fault_on w))) handles.clear handles.passes;
 }
   where
-    tells : (R : Content) (xs : List Record) → Tells R (carrying (party_of a) state.Pushing R xs) (Ok reply) → Tells R (pushing (party_of a) R xs) (Ok ends)
+    tells : (R : Content) (xs : List Record) → ReportsTurn R (carrying (party_of a) state.Pushing R xs) (Ok reply) → ReportsTurn R (pushing (party_of a) R xs) (Ok ends)
     tells R [] told = (ap (λ (r : Reply). Ok r.state) (sym e), ap (λ (r : Reply). r.message) (sym e), ap (λ (r : Reply). r.code) (sym e), none_added R ∙ ap (λ (r : Reply). r.learned) (sym e))
     tells R (x ∷ xs) told = absurd (true≢false (sym none ∙ ap (λ o. option_map_or is_bare o false) (sym told.1)))
 
@@ -239,16 +239,16 @@ push_goes a c rs reply handles some = record {
   spelled = handles.spelled;
   content = λ h u. left_clear a c (λ R. carrying (party_of a) state.Pushing R (rs R)) reply handles h u ∙ sym (pushed_content (party_of a) a.content (rs a.content));
   crash = λ h left m. none_left a _ left (pushed_none (party_of a) a.content (rs a.content) Clear tt) (left_none a _ left (handles.crash h left m));
-  passes = subst (λ w. Passes a c (option_to_list (fault_on w))) handles.clear handles.passes;
+  passes = subst (λ w. CountsFaults a c (option_to_list (fault_on w))) handles.clear handles.passes;
 }
   where
-    tells : (R : Content) (xs : List Record) → Tells R (carrying (party_of a) state.Pushing R xs) (Ok reply) → Tells R (pushing (party_of a) R xs) (Ok reply)
+    tells : (R : Content) (xs : List Record) → ReportsTurn R (carrying (party_of a) state.Pushing R xs) (Ok reply) → ReportsTurn R (pushing (party_of a) R xs) (Ok reply)
     tells R [] told = absurd (true≢false (ap (λ o. option_map_or is_bare o false) told.1 ∙ some))
     tells R (x ∷ xs) told = told
 
 -- ---- learning
 
-fault_told : (R X : Content) (f : ExchangeFault) (result : Result Reply ExchangeFault) → Tells R (failing X f) result → result ≡ Err f
+fault_told : (R X : Content) (f : ExchangeFault) (result : Result Reply ExchangeFault) → ReportsTurn R (failing X f) result → result ≡ Err f
 fault_told R X f (Ok reply) told = absurd (true≢false (sym (ap is_ok told.0)))
 fault_told R X f (Err g) told = sym (ap (λ (t : Turn). err_of t.result) told)
   where
@@ -256,8 +256,8 @@ fault_told R X f (Err g) told = sym (ap (λ (t : Turn). err_of t.result) told)
     err_of (Ok s) = Err f
     err_of (Err g) = Err g
 
-tells_fault : (R Y : Content) (f : ExchangeFault) (result : Result Reply ExchangeFault) → result ≡ Err f → Tells R (failing Y f) result
-tells_fault R Y f result e = subst (Tells R (failing Y f)) (sym e) refl
+tells_fault : (R Y : Content) (f : ExchangeFault) (result : Result Reply ExchangeFault) → result ≡ Err f → ReportsTurn R (failing Y f) result
+tells_fault R Y f result e = subst (ReportsTurn R (failing Y f)) (sym e) refl
 
 -- what was to carry records failed
 pub push_fails : (a c : Store) (rs : Content → List Record) (fault : ExchangeFault) → Handles a c [] (λ R. carrying (party_of a) state.Pushing R (rs R)) (Err fault) → Handles a c [] (λ R. pushing (party_of a) R (rs R)) (Err fault)
@@ -272,7 +272,7 @@ push_fails a c rs fault handles = record {
   passes = handles.passes;
 }
   where
-    tells : (R : Content) (w : Way) → IsWay [] w → Tells R (gone w R [] (carrying (party_of a) state.Pushing R (rs R))) (Err fault) → Tells R (gone w R [] (pushing (party_of a) R (rs R))) (Err fault)
+    tells : (R : Content) (w : Way) → IsWay [] w → ReportsTurn R (gone w R [] (carrying (party_of a) state.Pushing R (rs R))) (Err fault) → ReportsTurn R (gone w R [] (pushing (party_of a) R (rs R))) (Err fault)
     tells R Clear is told = absurd (true≢false (ap is_ok (ap (λ (t : Turn). t.result) told)))
     tells R Unread is told = told
     tells R (Stopped k f) is told = absurd (omega (arith, is))
@@ -338,14 +338,14 @@ pub learnt_content : (p : Party) (state : State) (R : Content) (o : Option Excha
 learnt_content p state R None = refl
 learnt_content p state R (Some fault) = refl
 
-pub unbroken_before : (a b : Store) (faults : List StoreFault) → Passes a b faults → b.broken ≡ false → a.broken ≡ false
+pub unbroken_before : (a b : Store) (faults : List StoreFault) → CountsFaults a b faults → b.broken ≡ false → a.broken ≡ false
 unbroken_before a b faults passes u = go a.broken refl
   where
     go : (x : Bool) → a.broken ≡ x → a.broken ≡ false
     go true e = absurd (true≢false (sym (passes.broken ∙ ap (λ y. y || list_any is_break faults) e) ∙ u))
     go false e = e
 
-party_kept : (a b : Store) (faults : List StoreFault) → Passes a b faults → party_of b ≡ party_of a
+party_kept : (a b : Store) (faults : List StoreFault) → CountsFaults a b faults → party_of b ≡ party_of a
 party_kept a b faults passes =
     ap (λ i. let p : Party = record { id = i; own = b.own } in p) passes.id ∙ ap (λ n. let p : Party = record { id = a.id; own = n } in p) passes.own
 
@@ -378,8 +378,8 @@ module _ (a b c : Store) (rs : List Record) (n : ℕ) (state : State) (asked : R
   lifted_outside (Met fault) is = tt
 
   -- so many were added
-  behind_tells : c.honest → (r : Result Reply ExchangeFault) → asking (party_of b) state b.content ≡ learning (party_of a) state a.content rs → Tells b.content (asking (party_of b) state b.content) r
-      → Tells a.content (learning (party_of a) state a.content rs) (behind n r)
+  behind_tells : c.honest → (r : Result Reply ExchangeFault) → asking (party_of b) state b.content ≡ learning (party_of a) state a.content rs → ReportsTurn b.content (asking (party_of b) state b.content) r
+      → ReportsTurn a.content (learning (party_of a) state a.content rs) (with_learned n r)
   behind_tells h (Ok reply) same told = (
     ap (λ (t : Turn). t.result) (sym same) ∙ told.0,
     ap (λ (t : Turn). t.reply) (sym same) ∙ told.1,
@@ -388,17 +388,17 @@ module _ (a b c : Store) (rs : List Record) (n : ℕ) (state : State) (asked : R
   )
   behind_tells h (Err fault) same told = absurd (true≢false (ap is_ok (ap (λ (t : Turn). t.result) told)))
 
-  lifted_tells : (w : Way) → c.honest → IsWay [] w → Tells b.content (gone w b.content [] (asking (party_of b) state b.content)) asked → (R : Content) → IsHeld a R
-      → Tells R (gone (lifted w) R rs (learning (party_of a) state R rs)) (behind n asked)
+  lifted_tells : (w : Way) → c.honest → IsWay [] w → ReportsTurn b.content (gone w b.content [] (asking (party_of b) state b.content)) asked → (R : Content) → IsHeld a R
+      → ReportsTurn R (gone (lifted w) R rs (learning (party_of a) state R rs)) (with_learned n asked)
   lifted_tells Clear h is told R held = go b.broken refl
     where
-      go : (x : Bool) → b.broken ≡ x → Tells R (learning (party_of a) state R rs) (behind n asked)
-      go true e = absurd (true≢false (ap is_ok (ap (λ (t : Turn). t.result) (subst (Tells b.content (asking (party_of b) state b.content)) (ended e) told))))
-      go false e = subst (λ R. Tells R (learning (party_of a) state R rs) (behind n asked)) (held (unbroken_before a b [] merges.passes e)) (behind_tells h asked (asking_is h e) told)
-  lifted_tells Unread h is told R held = tells_fault R _ _ (behind n asked) (ap (behind n) (fault_told b.content _ _ asked told))
+      go : (x : Bool) → b.broken ≡ x → ReportsTurn R (learning (party_of a) state R rs) (with_learned n asked)
+      go true e = absurd (true≢false (ap is_ok (ap (λ (t : Turn). t.result) (subst (ReportsTurn b.content (asking (party_of b) state b.content)) (ended e) told))))
+      go false e = subst (λ R. ReportsTurn R (learning (party_of a) state R rs) (with_learned n asked)) (held (unbroken_before a b [] merges.passes e)) (behind_tells h asked (asking_is h e) told)
+  lifted_tells Unread h is told R held = tells_fault R _ _ (with_learned n asked) (ap (with_learned n) (fault_told b.content _ _ asked told))
   lifted_tells (Stopped k fault) h is told R held = absurd (omega (arith, is))
-  lifted_tells Starved h is told R held = tells_fault R _ _ (behind n asked) (ap (behind n) (fault_told b.content _ _ asked told))
-  lifted_tells (Met fault) h is told R held = tells_fault R _ _ (behind n asked) (ap (behind n) (fault_told b.content _ _ asked told))
+  lifted_tells Starved h is told R held = tells_fault R _ _ (with_learned n asked) (ap (with_learned n) (fault_told b.content _ _ asked told))
+  lifted_tells (Met fault) h is told R held = tells_fault R _ _ (with_learned n asked) (ap (with_learned n) (fault_told b.content _ _ asked told))
 
   left_by : (w : Way) → IsWay [] w → (gone w b.content [] (asking (party_of b) state b.content)).content ≡ b.content
   left_by Clear is = refl
@@ -428,15 +428,15 @@ module _ (a b c : Store) (rs : List Record) (n : ℕ) (state : State) (asked : R
   lifted_faults Starved = refl
   lifted_faults (Met fault) = refl
 
-  lifted_clear : (r : Result Reply ExchangeFault) → IfOk r (λ _. handles.way ≡ Clear) → IfOk (behind n r) (λ _. lifted handles.way ≡ Clear)
+  lifted_clear : (r : Result Reply ExchangeFault) → IfOk r (λ _. handles.way ≡ Clear) → IfOk (with_learned n r) (λ _. lifted handles.way ≡ Clear)
   lifted_clear (Ok reply) e = ap lifted e
   lifted_clear (Err fault) e = tt
 
-  behind_spelled : (r : Result Reply ExchangeFault) → IfOk r IsSpelledReply → IfOk (behind n r) IsSpelledReply
+  behind_spelled : (r : Result Reply ExchangeFault) → IfOk r IsSpelledReply → IfOk (with_learned n r) IsSpelledReply
   behind_spelled (Ok reply) is = is
   behind_spelled (Err fault) is = tt
 
-  pub learn_asks : Handles a c rs (λ R. learning (party_of a) state R rs) (behind n asked)
+  pub learn_asks : Handles a c rs (λ R. learning (party_of a) state R rs) (with_learned n asked)
   learn_asks = record {
     way = lifted handles.way;
     outside = lifted_outside handles.way handles.outside;
@@ -450,12 +450,12 @@ module _ (a b c : Store) (rs : List Record) (n : ℕ) (state : State) (asked : R
       | inl before ↦ merges.crash (handles.passes.honest h) left before
       | inr q ↦ inr (unbroken_before a b [] merges.passes q.0, length rs, omega arith, omega arith, q.1 ∙ (left_is h q.0 ∙ ap (λ xs. merged xs a.content) (sym (take_all (length rs) rs (omega arith)))))
     ]);
-    passes = subst (λ o. Passes a c (option_to_list o)) (sym (lifted_faults handles.way)) (passes-then a b c [] (option_to_list (fault_on handles.way)) merges.passes handles.passes);
+    passes = subst (λ o. CountsFaults a c (option_to_list o)) (sym (lifted_faults handles.way)) (passes-then a b c [] (option_to_list (fault_on handles.way)) merges.passes handles.passes);
   }
 
 -- a broken store refuses the first record; where there is none, it is asked for the vector
-pub learn_ended : (a b : Store) (rs : List Record) (n : ℕ) (asked : Result Reply ExchangeFault) → Merges a b rs (Ok n) → (b.broken ≡ true → asked ≡ Err (exchange.Store Broken)) → a.broken ≡ true → behind n asked ≡ Err (broken_at rs)
-learn_ended a b [] n asked merges ended broken = ap (behind n) (ended (merges.passes.broken ∙ ap (λ (x : Bool). x || false) broken))
+pub learn_ended : (a b : Store) (rs : List Record) (n : ℕ) (asked : Result Reply ExchangeFault) → Merges a b rs (Ok n) → (b.broken ≡ true → asked ≡ Err (exchange.Store Broken)) → a.broken ≡ true → with_learned n asked ≡ Err (broken_at rs)
+learn_ended a b [] n asked merges ended broken = ap (with_learned n) (ended (merges.passes.broken ∙ ap (λ (x : Bool). x || false) broken))
 learn_ended a b (r ∷ rs) n asked merges ended broken = absurd (ok_err (merges.ended broken (omega arith)))
   where
     ok_err : ◌≡◌ {A = Result ℕ ExchangeFault} (Ok n) (Err (exchange.Learn 0 (refused.Store Broken))) → ⊥
@@ -494,12 +494,12 @@ refuses a b rs state k cause merges is = record {
   way = Clear;
   outside = tt;
   clear = tt;
-  tells = λ h R held. subst (λ R. Tells R (learning (party_of a) state R rs) (Err (exchange.Learn k cause))) (held (used a.broken refl))
+  tells = λ h R held. subst (λ R. ReportsTurn R (learning (party_of a) state R rs) (Err (exchange.Learn k cause))) (held (used a.broken refl))
       (turn h ∙ ap (λ R. failing R (exchange.Learn k cause)) (sym (learnt_content (party_of a) state (merged rs a.content) (refusal 0 a.content rs))));
   spelled = tt;
   content = λ h u. merges.content h u ∙ (sym (merged_stops a.content rs k cause (merges.tells.1 h) is) ∙ sym (learnt_content (party_of a) state (merged rs a.content) (refusal 0 a.content rs)));
   crash = λ h left m. subst (λ n. MayBeLeft a rs n left) (sym (ap (λ (t : Turn). learned_of rs t.result) (turn h))) (merges.crash h left m);
-  passes = subst (Passes a b) (no_fault k cause is) merges.passes;
+  passes = subst (CountsFaults a b) (no_fault k cause is) merges.passes;
 }
   where
     turn : b.honest → learning (party_of a) state a.content rs ≡ failing (merged rs a.content) (exchange.Learn k cause)
@@ -556,7 +556,7 @@ pulled_some a c t [] result some handles = absurd (some refl)
 pulled_some a c t (r ∷ rs) result some handles = handles
 
 -- the store wasn't asked
-pub unmoved : (a : Store) (rs : List Record) (turn : Content → Turn) (result : Result Reply ExchangeFault) → ((R : Content) → Tells R (turn R) result) → (turn a.content).content ≡ a.content → learned_of rs (turn a.content).result ≡ 0
+pub unmoved : (a : Store) (rs : List Record) (turn : Content → Turn) (result : Result Reply ExchangeFault) → ((R : Content) → ReportsTurn R (turn R) result) → (turn a.content).content ≡ a.content → learned_of rs (turn a.content).result ≡ 0
     → IfOk result IsSpelledReply → Handles a a rs turn result
 unmoved a rs turn result told kept none spelled = record {
   way = Clear;
@@ -581,6 +581,6 @@ pub broken_none : (R : Content) (n : ℕ) → learned_of [] (broken_off R n).res
 broken_none R zero = refl
 broken_none R (suc n) = refl
 
-pub breaks_off : (n : ℕ) (reply : Reply) → (n ≡ 0 → ⊥) → ((R : Content) → Tells R (ended_by R n) (Ok reply)) → (R : Content) → Tells R (broken_off R n) (Ok reply)
+pub breaks_off : (n : ℕ) (reply : Reply) → (n ≡ 0 → ⊥) → ((R : Content) → ReportsTurn R (ended_by R n) (Ok reply)) → (R : Content) → ReportsTurn R (broken_off R n) (Ok reply)
 breaks_off zero reply some told R = absurd (some refl)
 breaks_off (suc n) reply some told R = told R

@@ -11,9 +11,9 @@ use Rattle.archive.specs.Store.{Store, Asks}
 use Rattle.archive.proofs.Calls.{passes-none}
 use Rattle.archive.proofs.Acting.{left-stays}
 use Rattle.hist_update.specs.declared.request.Request.{Request}
-use Rattle.hist_update.specs.Outcome.{Operation, outcome, after}
+use Rattle.hist_update.specs.Outcome.{Operation, outcome, content_after}
 use Rattle.exchange.specs.declared.world.Halted.{Halted}
-use Rattle.exchange.specs.Worlds.{Site, World, Event, Operates, Sends, Delivers, Restarts, step, run, operated, sent, delivered}
+use Rattle.exchange.specs.Worlds.{ReplicaState, World, Event, Operates, Sends, Delivers, Restarts, after_event, run, operated, sent, delivered}
 use Rattle.exchange.specs.Running.{IsSiteOf, world_of, Halts, AreSites, AreHonest, IsBroken, Comes, Happens, RunsWorld, Turned, Turns, IsSame, IsSameOr, HasFirst, Gives, came_in, HasSome, place_of, reads_store, turned, pooled, IsHalf, Became, TurnsBy}
 use Rattle.std.proofs.lemmas.List.{take_all, set-set}
 use Rattle.std.specs.List.{list_any}
@@ -68,7 +68,7 @@ came_some a b pool place count rs first result some is turns = record {
 
 -- of a replica whose change doesn't touch the batches
 module _ (a b : Store) (pool : List (List Record)) (e : Event) (change : Content → Content) (Leaves : Content → Content → Type 0)
-    (so : (s : Site) → IsSiteOf a s → change s.content ≡ turned s pool e) (half : (s : Site) (S : Content) → IsSiteOf a s → Leaves s.content S → IsHalf b.broken s pool e S) (quiet : (s : Site) → pool ≡ pooled s pool e)
+    (so : (s : ReplicaState) → IsSiteOf a s → change s.content ≡ turned s pool e) (half : (s : ReplicaState) (S : Content) → IsSiteOf a s → Leaves s.content S → IsHalf b.broken s pool e S) (quiet : (s : ReplicaState) → pool ≡ pooled s pool e)
   where
     pub turns_by : (result : Result (Unit {0}) Halted) → Turns a b change Leaves result → (a.broken ≡ true → reads_store e ≡ true → IsErr result) → TurnsBy a b pool pool e result
     turns_by result turns ended = record {
@@ -77,23 +77,23 @@ module _ (a b : Store) (pool : List (List Record)) (e : Event) (change : Content
       ended = ended;
       came = λ honest t is.
           let (R, was, came) = turns.came honest t.content is.content in
-          let s : Site = record t { content = R } in
+          let s : ReplicaState = record t { content = R } in
           let there : IsSiteOf a s = record { id = sym turns.passes.id ∙ is.id; number = sym turns.passes.own ∙ is.number; content = was } in
           (s, there, by_result s t.content there result came);
     }
       where
-        by_result : (s : Site) (S : Content) → IsSiteOf a s → (res : Result (Unit {0}) Halted) → Turned change Leaves res s.content S → Became b.broken s pool pool e res (record s { content = S })
-        by_result s S there (Ok u) came = (ap (λ (Q : Content). let t : Site = record s { content = Q } in t) (came ∙ so s there), quiet s)
+        by_result : (s : ReplicaState) (S : Content) → IsSiteOf a s → (res : Result (Unit {0}) Halted) → Turned change Leaves res s.content S → Became b.broken s pool pool e res (record s { content = S })
+        by_result s S there (Ok u) came = (ap (λ (Q : Content). let t : ReplicaState = record s { content = Q } in t) (came ∙ so s there), quiet s)
         by_result s S there (Err end) came = (S, half s S there came, refl)
 
 pub operates_by : (a b : Store) (pool : List (List Record)) (i : ℕ) (request : Request) (op : Operation) (result : Result (Unit {0}) Halted)
-    → Turns a b (λ R. after R (outcome R a.own request op)) (IsSameOr b.broken (λ R. after R (outcome R a.own request op))) result → TurnsBy a b pool pool (Operates i request op) result
+    → Turns a b (λ R. content_after R (outcome R a.own request op)) (IsSameOr b.broken (λ R. content_after R (outcome R a.own request op))) result → TurnsBy a b pool pool (Operates i request op) result
 operates_by a b pool i request op result turns =
-    turns_by a b pool (Operates i request op) (λ R. after R (outcome R a.own request op)) (IsSameOr b.broken (λ R. after R (outcome R a.own request op))) so
+    turns_by a b pool (Operates i request op) (λ R. content_after R (outcome R a.own request op)) (IsSameOr b.broken (λ R. content_after R (outcome R a.own request op))) so
     (λ s S is left. elim left [ inl same ↦ inl same | inr more ↦ inr (more.0, more.1 ∙ so s is) ]) (λ s. refl) result turns (λ broken reads. absurd (true≢false (sym reads)))
   where
-    so : (s : Site) → IsSiteOf a s → after s.content (outcome s.content a.own request op) ≡ operated request op s
-    so s is = ap (λ (n : ℕ). after s.content (outcome s.content n request op)) is.number
+    so : (s : ReplicaState) → IsSiteOf a s → content_after s.content (outcome s.content a.own request op) ≡ operated request op s
+    so s is = ap (λ (n : ℕ). content_after s.content (outcome s.content n request op)) is.number
 
 pub delivers_by : (a b : Store) (pool : List (List Record)) (i place count : ℕ) (result : Result (Unit {0}) Halted) → Turns a b (came_in pool place count) (HasSome pool place count) result → TurnsBy a b pool pool (Delivers i place count) result
 delivers_by a b pool i place count result turns = turns_by a b pool (Delivers i place count) (came_in pool place count) (HasSome pool place count) (λ s is. refl) (λ s S is e. e) (λ s. refl) result turns (λ broken reads. absurd (true≢false (sym reads)))
@@ -113,7 +113,7 @@ sends_by a b pool later i v limit result gives = record {
   );
 }
   where
-    by_result : (t : Site) (res : Result (Unit {0}) Halted) → IfOk res (λ _. later ≡ pool ++ missing t.content v limit ∷ []) → Became b.broken t pool later (Sends i v limit) res t
+    by_result : (t : ReplicaState) (res : Result (Unit {0}) Halted) → IfOk res (λ _. later ≡ pool ++ missing t.content v limit ∷ []) → Became b.broken t pool later (Sends i v limit) res t
     by_result t (Ok u) batch = (refl, batch)
     by_result t (Err end) batch = (t.content, refl, refl)
 
@@ -124,39 +124,39 @@ set_same [] i x e = refl
 set_same (y ∷ ys) zero x e = ap (λ z. z ∷ ys) (sym (same_Some _ _ e))
 set_same (y ∷ ys) (suc i) x e = ap (λ l. y ∷ l) (set_same ys i x e)
 
-abbrev now_there : List Site → ℕ → Site → Content → List Site
+abbrev now_there : List ReplicaState → ℕ → ReplicaState → Content → List ReplicaState
 now_there sites i s R = slice_set sites i (record s { content = R })
 
-module _ (sites : List Site) (pool : List (List Record)) where
+module _ (sites : List ReplicaState) (pool : List (List Record)) where
   -- where its replica isn't there
-  step_none : (e : Event) → slice_get sites (place_of e) ≡ None → step (world_of sites pool) e ≡ world_of sites pool
-  step_none (Operates i request op) none = ap (λ (o : Option Site). world_of (option_map_or (λ s. now_there sites i s (operated request op s)) o sites) pool) none
-  step_none (Sends i v limit) none = ap (λ (o : Option Site). world_of sites (option_map_or (sent v limit pool) o pool)) none
+  step_none : (e : Event) → slice_get sites (place_of e) ≡ None → after_event (world_of sites pool) e ≡ world_of sites pool
+  step_none (Operates i request op) none = ap (λ (o : Option ReplicaState). world_of (option_map_or (λ s. now_there sites i s (operated request op s)) o sites) pool) none
+  step_none (Sends i v limit) none = ap (λ (o : Option ReplicaState). world_of sites (option_map_or (sent v limit pool) o pool)) none
   step_none (Delivers i b count) none = by_batch (slice_get pool b)
     where
       by_batch : (o : Option (List Record)) → world_of (option_map_or (delivered i count sites) o sites) pool ≡ world_of sites pool
       by_batch None = refl
-      by_batch (Some batch) = ap (λ (o : Option Site). world_of (option_map_or (λ s. now_there sites i s (merged (take count batch) s.content)) o sites) pool) none
+      by_batch (Some batch) = ap (λ (o : Option ReplicaState). world_of (option_map_or (λ s. now_there sites i s (merged (take count batch) s.content)) o sites) pool) none
   step_none (Restarts i) none = refl
 
   -- and where it is
-  step_sites : (e : Event) (s : Site) → slice_get sites (place_of e) ≡ Some s → (step (world_of sites pool) e).sites ≡ now_there sites (place_of e) s (turned s pool e)
-  step_sites (Operates i request op) s some = ap (λ (o : Option Site). option_map_or (λ x. now_there sites i x (operated request op x)) o sites) some
+  step_sites : (e : Event) (s : ReplicaState) → slice_get sites (place_of e) ≡ Some s → (after_event (world_of sites pool) e).replicas ≡ now_there sites (place_of e) s (turned s pool e)
+  step_sites (Operates i request op) s some = ap (λ (o : Option ReplicaState). option_map_or (λ x. now_there sites i x (operated request op x)) o sites) some
   step_sites (Sends i v limit) s some = sym (set_same sites i s some)
   step_sites (Delivers i b count) s some = by_batch (slice_get pool b)
     where
       by_batch : (o : Option (List Record)) → option_map_or (delivered i count sites) o sites ≡ now_there sites i s (option_map_or (λ batch. merged (take count batch) s.content) o s.content)
       by_batch None = sym (set_same sites i s some)
-      by_batch (Some batch) = ap (λ (o : Option Site). option_map_or (λ x. now_there sites i x (merged (take count batch) x.content)) o sites) some
+      by_batch (Some batch) = ap (λ (o : Option ReplicaState). option_map_or (λ x. now_there sites i x (merged (take count batch) x.content)) o sites) some
   step_sites (Restarts i) s some = sym (set_same sites i s some)
 
-  step_pool : (e : Event) (s : Site) → slice_get sites (place_of e) ≡ Some s → (step (world_of sites pool) e).pool ≡ pooled s pool e
+  step_pool : (e : Event) (s : ReplicaState) → slice_get sites (place_of e) ≡ Some s → (after_event (world_of sites pool) e).pool ≡ pooled s pool e
   step_pool (Operates i request op) s some = refl
-  step_pool (Sends i v limit) s some = ap (λ (o : Option Site). option_map_or (sent v limit pool) o pool) some
+  step_pool (Sends i v limit) s some = ap (λ (o : Option ReplicaState). option_map_or (sent v limit pool) o pool) some
   step_pool (Delivers i b count) s some = refl
   step_pool (Restarts i) s some = refl
 
-  step_half : (Broke : ℕ → Type 0) (broken : Bool) (e : Event) (s : Site) (S : Content) → (broken ≡ true → Broke (place_of e)) → slice_get sites (place_of e) ≡ Some s → IsHalf broken s pool e S
+  step_half : (Broke : ℕ → Type 0) (broken : Bool) (e : Event) (s : ReplicaState) (S : Content) → (broken ≡ true → Broke (place_of e)) → slice_get sites (place_of e) ≡ Some s → IsHalf broken s pool e S
       → Halts Broke (world_of sites pool) e (now_there sites (place_of e) s S)
   step_half Broke broken (Operates i request op) s S broke some (inl is) = inl (ap (now_there sites i s) is ∙ set_same sites i s some)
   step_half Broke broken (Operates i request op) s S broke some (inr is) = inr (broke is.0, ap (now_there sites i s) is.1 ∙ sym (step_sites (Operates i request op) s some))
@@ -165,21 +165,21 @@ module _ (sites : List Site) (pool : List (List Record)) where
   step_half Broke broken (Restarts i) s S broke some is = ap (now_there sites i s) is ∙ set_same sites i s some
 
 module _ {A : Type 0} (state : A → Store) where
-  pub site_there : (archives : List A) (sites : List Site) (i : ℕ) (a : A) → AreSites state archives sites → slice_get archives i ≡ Some a → (s : Site) × (slice_get sites i ≡ Some s) × IsSiteOf (state a) s
+  pub site_there : (archives : List A) (sites : List ReplicaState) (i : ℕ) (a : A) → AreSites state archives sites → slice_get archives i ≡ Some a → (s : ReplicaState) × (slice_get sites i ≡ Some s) × IsSiteOf (state a) s
   site_there [] [] i a are e = absurd (none-some _ e)
   site_there [] (s ∷ sites) i a are e = absurd are
   site_there (x ∷ archives) [] i a are e = absurd are
   site_there (x ∷ archives) (s ∷ sites) zero a are e = (s, refl, subst (λ y. IsSiteOf (state y) s) (same_Some _ _ e) are.0)
   site_there (x ∷ archives) (s ∷ sites) (suc i) a are e = site_there archives sites i a are.1 e
 
-  pub sites_set : (archives : List A) (sites : List Site) (i : ℕ) (b : A) (s : Site) → AreSites state archives sites → IsSiteOf (state b) s → AreSites state (slice_set archives i b) (slice_set sites i s)
+  pub sites_set : (archives : List A) (sites : List ReplicaState) (i : ℕ) (b : A) (s : ReplicaState) → AreSites state archives sites → IsSiteOf (state b) s → AreSites state (slice_set archives i b) (slice_set sites i s)
   sites_set [] [] i b s are is = tt
   sites_set [] (x ∷ sites) i b s are is = absurd are
   sites_set (x ∷ archives) [] i b s are is = absurd are
   sites_set (x ∷ archives) (y ∷ sites) zero b s are is = (is, are.1)
   sites_set (x ∷ archives) (y ∷ sites) (suc i) b s are is = (are.0, sites_set archives sites i b s are.1 is)
 
-  site_none : (archives : List A) (sites : List Site) (i : ℕ) → AreSites state archives sites → slice_get archives i ≡ None → slice_get sites i ≡ None
+  site_none : (archives : List A) (sites : List ReplicaState) (i : ℕ) → AreSites state archives sites → slice_get archives i ≡ None → slice_get sites i ≡ None
   site_none [] [] i are e = refl
   site_none [] (s ∷ sites) i are e = absurd are
   site_none (x ∷ archives) [] i are e = absurd are
@@ -187,8 +187,8 @@ module _ {A : Type 0} (state : A → Store) where
   site_none (x ∷ archives) (s ∷ sites) (suc i) are e = site_none archives sites i are.1 e
 
   -- before one of them was put in its place, the others were what they are, and it was that of what stood there
-  sites_before : (archives : List A) (left : List Site) (i : ℕ) (a b : A) → slice_get archives i ≡ Some a → AreSites state (slice_set archives i b) left
-      → (t : Site) × (slice_get left i ≡ Some t) × IsSiteOf (state b) t × ((s : Site) → IsSiteOf (state a) s → AreSites state archives (slice_set left i s))
+  sites_before : (archives : List A) (left : List ReplicaState) (i : ℕ) (a b : A) → slice_get archives i ≡ Some a → AreSites state (slice_set archives i b) left
+      → (t : ReplicaState) × (slice_get left i ≡ Some t) × IsSiteOf (state b) t × ((s : ReplicaState) → IsSiteOf (state a) s → AreSites state archives (slice_set left i s))
   sites_before [] left i a b e are = absurd (none-some _ e)
   sites_before (x ∷ archives) [] zero a b e are = absurd are
   sites_before (x ∷ archives) [] (suc i) a b e are = absurd are
@@ -245,17 +245,17 @@ module _ {A : Type 0} (state : A → Store) where
           broken_then broken = turns.passes.broken ∙ ap (λ (x : Bool). x || list_any is_break turns.faults) broken
 
           -- where it stood, it stands again
-          again : (left : List Site) (s t : Site) → slice_get left (place_of e) ≡ Some t → slice_set (slice_set left (place_of e) s) (place_of e) t ≡ left
+          again : (left : List ReplicaState) (s t : ReplicaState) → slice_get left (place_of e) ≡ Some t → slice_set (slice_set left (place_of e) s) (place_of e) t ≡ left
           again left s t at = set-set left (place_of e) s t ∙ set_same left (place_of e) t at
 
-          by_result : (left : List Site) (s t : Site) → slice_get left (place_of e) ≡ Some t → (res : Result (Unit {0}) Halted) → Became (state b).broken s pool later e res t
+          by_result : (left : List ReplicaState) (s t : ReplicaState) → slice_get left (place_of e) ≡ Some t → (res : Result (Unit {0}) Halted) → Became (state b).broken s pool later e res t
               → Comes state archives_then e res (world_of (slice_set left (place_of e) s) pool) (world_of left later)
           by_result left s t at (Ok u) became =
               let sites = slice_set left (place_of e) s in
               let here = get-set_same left (place_of e) s t at in
-              let same : left ≡ (step (world_of sites pool) e).sites = sym (again left s t at) ∙ (ap (slice_set sites (place_of e)) became.0 ∙ sym (step_sites sites pool e s here)) in
-              let batches : later ≡ (step (world_of sites pool) e).pool = became.1 ∙ sym (step_pool sites pool e s here) in
-              ap (λ (l : List Site). world_of l later) same ∙ ap (world_of (step (world_of sites pool) e).sites) batches
+              let same : left ≡ (after_event (world_of sites pool) e).replicas = sym (again left s t at) ∙ (ap (slice_set sites (place_of e)) became.0 ∙ sym (step_sites sites pool e s here)) in
+              let batches : later ≡ (after_event (world_of sites pool) e).pool = became.1 ∙ sym (step_pool sites pool e s here) in
+              ap (λ (l : List ReplicaState). world_of l later) same ∙ ap (world_of (after_event (world_of sites pool) e).replicas) batches
           by_result left s t at (Err end) became =
               let sites = slice_set left (place_of e) s in
               let here = get-set_same left (place_of e) s t at in
@@ -277,7 +277,7 @@ module _ {A : Type 0} (state : A → Store) where
     pub honest : AreHonest state now → AreHonest state old
     pub stays : (i : ℕ) → IsBroken state old i → IsBroken state now i
     pub ended : (m : ℕ) (event : Event) → m < n → slice_get events m ≡ Some event → reads_store event ≡ true → IsBroken state old (place_of event) → ⊥
-    pub ran : AreHonest state now → (left : List Site) → AreSites state now left → (sites : List Site) × AreSites state old sites × (world_of left pool ≡ run (take n events) (world_of sites []))
+    pub ran : AreHonest state now → (left : List ReplicaState) → AreSites state now left → (sites : List ReplicaState) × AreSites state old sites × (world_of left pool ≡ run (take n events) (world_of sites []))
 
   pub ran_none : (old : List A) (events : List Event) → RanSo old old [] events 0
   ran_none old events = record {
@@ -292,7 +292,7 @@ module _ {A : Type 0} (state : A → Store) where
   ran_all old now pool events n so all = record {
     ran = λ honest left are.
         let (sites, was, world) = so.ran honest left are in
-        (sites, was, ap (λ (w : World). w.sites) world ∙ ap (λ es. (run es (world_of sites [])).sites) (take_all n events all));
+        (sites, was, ap (λ (w : World). w.replicas) world ∙ ap (λ es. (run es (world_of sites [])).replicas) (take_all n events all));
     ended = λ m event there. so.ended m event (below (length events) n m (slice_get_within events m event there) all) there;
   }
     where
@@ -315,7 +315,7 @@ module _ {A : Type 0} (state : A → Store) where
           let (between, were, came) = happens.came honest left are in
           let (sites, was, world) = so.ran (happens.honest honest) between were in
           let one : suc n ≡ n + 1 = omega arith in
-          (sites, was, came ∙ (ap (λ w. step w e) world ∙ (sym (next_world events n (world_of sites []) e next) ∙ ap (λ k. run (take k events) (world_of sites [])) one)));
+          (sites, was, came ∙ (ap (λ w. after_event w e) world ∙ (sym (next_world events n (world_of sites []) e next) ∙ ap (λ k. run (take k events) (world_of sites [])) one)));
     }
 
     pub ran_stops : (end : Halted) → Happens state now new pool later e (Err end) → RunsWorld state old new events (Err n)

@@ -23,20 +23,20 @@ use Rattle.archive.specs.declared.fault.StoreFault.{StoreFault}
 use Rattle.archive.specs.declared.fault.StoreFault.TheVariants as store
 use Rattle.archive.specs.declared.fault.LearnFault.{LearnFault}
 use Rattle.archive.specs.declared.fault.LearnFault.TheVariants as refused
-use Rattle.archive.specs.Store.{Store, Mark, Fine, Starved, Stands, Met, faults_in, faults_of, failed_by, fault_in, is_break, raised, Passes, Asks, Learns, IsLeft, answer_to, store_fault_in}
-use Rattle.archive.specs.Steps.{Does, Acts}
+use Rattle.archive.specs.Store.{Store, StepResult, Done, NoMemory, Stands, StoreFailed, faults_in, faults_of, failed_by, fault_in, is_break, faults_after, CountsFaults, Asks, Learns, IsLeft, answer_to, store_fault_in}
+use Rattle.archive.specs.Steps.{Yields, Refines}
 use Rattle.archive.proofs.Calls.{passes-none, passes-then}
 use Rattle.archive.proofs.Acting.{acts-as, found-faults, learned-left, left-stays, unlearned-left}
 use Rattle.hist_update.specs.declared.request.Request.{Request}
 use Rattle.hist_update.specs.Codes.{asked_by, list_refusal}
-use Rattle.hist_update.specs.Outcome.{Operation, Write, DeleteAt, outcome, after}
+use Rattle.hist_update.specs.Outcome.{Operation, Write, DeleteAt, outcome, content_after}
 use Rattle.hist_update.specs.Laws.{IsBad}
 use Rattle.hist_update.specs.Updates.{code_by, left_by, unless, begin, data_refusal, writes, deletes_at, update_data, delete_at}
 use Rattle.hist_update.proofs.UpdatesParts.{all_good}
 use Rattle.hist_update.proofs.Answered.{bad_kept}
 use Rattle.exchange.specs.declared.world.Halted.{Halted}
 use Rattle.exchange.specs.Merging.{AreLearned, Meets, IsRefusal}
-use Rattle.exchange.specs.Running.{Turns, IsSame, IsSameOr, HasFirst, EndsBy, IsClear, code_of}
+use Rattle.exchange.specs.Running.{Turns, IsSame, IsSameOr, HasFirst, EndsBy, IsClear, update_status}
 use Rattle.exchange.proofs.MergeLemmas.{are_learned_push, learned_told, refused_left, merged_stops}
 
 -- ---- an update
@@ -48,32 +48,32 @@ asked_again Update e = refl
 asked_again Delete e = cc
 
 -- an update of one value
-pub one_written : (a b : Store) (used : List Mark) (request : Request) (type : ValueType) (how : HistoryUpdateType) (v : DataValue) (n : ℤ) (values : List DataValue) (told : HistoryUpdateResult)
-    → n ≡ pos (update_number how) → Acts a b used (update_data a.own request type n values) told → is_delete how ≡ false → values ≡ v ∷ [] → Acts a b used (begin a.own request all_good (Write how type v ∷ [])) told
+pub one_written : (a b : Store) (used : List StepResult) (request : Request) (type : ValueType) (how : HistoryUpdateType) (v : DataValue) (n : ℤ) (values : List DataValue) (told : HistoryUpdateResult)
+    → n ≡ pos (update_number how) → Refines a b used (update_data a.own request type n values) told → is_delete how ≡ false → values ≡ v ∷ [] → Refines a b used (begin a.own request all_good (Write how type v ∷ [])) told
 one_written a b used request type how v n values told same acts is one =
     acts-as a b used (update_data a.own request type n values) (begin a.own request all_good (Write how type v ∷ [])) told (λ R marks.
     ap (λ (o : Option HistoryUpdateType). unless (data_refusal o (length values)) R (begin a.own request all_good (writes o type values) R) marks) (ap asked_by same ∙ asked_again how is)
     ∙ ap (λ (vs : List DataValue). unless (data_refusal (Some how) (length vs)) R (begin a.own request all_good (writes (Some how) type vs) R) marks) one) acts
 
 -- a delete at one time
-pub one_deleted : (a b : Store) (used : List Mark) (request : Request) (time : Ticks) (times : List Ticks) (told : HistoryUpdateResult)
-    → times ≡ time ∷ [] → Acts a b used (delete_at a.own request times) told → Acts a b used (begin a.own request all_good (DeleteAt (moment time.0 0) ∷ [])) told
+pub one_deleted : (a b : Store) (used : List StepResult) (request : Request) (time : Ticks) (times : List Ticks) (told : HistoryUpdateResult)
+    → times ≡ time ∷ [] → Refines a b used (delete_at a.own request times) told → Refines a b used (begin a.own request all_good (DeleteAt (moment time.0 0) ∷ [])) told
 one_deleted a b used request time times told one acts =
     acts-as a b used (delete_at a.own request times) (begin a.own request all_good (DeleteAt (moment time.0 0) ∷ [])) told (λ R marks.
     ap (λ (ts : List Ticks). unless (list_refusal 1000 (length ts)) R (begin a.own request all_good (deletes_at ts) R) marks) one) acts
 
 not_below : (faults : List StoreFault) (n : ℕ) → n ≤ 2 ^ 64 - 1 → n ≤ failed_by faults n
 not_below [] n le = omega arith
-not_below (f ∷ faults) n le = let more = not_below faults (raised 1 n) (omega arith) in omega (arith, more)
+not_below (f ∷ faults) n le = let more = not_below faults (faults_after 1 n) (omega arith) in omega (arith, more)
 
 -- a fault shows in the count, as long as that isn't at its end
 rises : (faults : List StoreFault) (n : ℕ) → n < 2 ^ 64 - 1 → 0 < length faults → n < failed_by faults n
 rises [] n lt some = absurd (omega (arith, some))
-rises (f ∷ faults) n lt some = let more = not_below faults (raised 1 n) (omega arith) in omega (arith, more)
+rises (f ∷ faults) n lt some = let more = not_below faults (faults_after 1 n) (omega arith) in omega (arith, more)
 
 -- what an update of one operation came to
-record Came (R S : Content) (own : ℕ) (request : Request) (op : Operation) (marks : List Mark) (told : HistoryUpdateResult) (mark : Mark) : Type 0 where
-  code : code_of told ≡ code_by (outcome R own request op) mark
+record Came (R S : Content) (own : ℕ) (request : Request) (op : Operation) (marks : List StepResult) (told : HistoryUpdateResult) (mark : StepResult) : Type 0 where
+  code : update_status told ≡ code_by (outcome R own request op) mark
   left : S ≡ left_by R (outcome R own request op) mark
   counted : length (faults_in mark) ≤ length (faults_of marks)
   broke : list_any is_break (faults_in mark) ≡ true → list_any is_break (faults_of marks) ≡ true
@@ -86,22 +86,22 @@ any_first (f ∷ faults) more e = go (is_break f) e (any_first faults more)
     go true e rest = refl
     go false e rest = rest e
 
-fine_stands : {X : Type 0} → Fine ≡ Stands → X
+fine_stands : {X : Type 0} → Done ≡ Stands → X
 fine_stands e = absurd (cc)
 
 -- the mark is the first of these
-first_counted : (mark : Mark) (marks : List Mark) → length (faults_in mark) ≤ length (faults_of (mark ∷ marks))
+first_counted : (mark : StepResult) (marks : List StepResult) → length (faults_in mark) ≤ length (faults_of (mark ∷ marks))
 first_counted mark marks = let sum = length-append (faults_in mark) (faults_of marks) in omega (arith, sum)
 
 module _ (R S : Content) (own : ℕ) (request : Request) (op : Operation) (told : HistoryUpdateResult) where
-  abbrev told_in : (HistoryUpdateResult × Content) × List Mark → Status
-  told_in x = code_of x.0.0
+  abbrev told_in : (HistoryUpdateResult × Content) × List StepResult → Status
+  told_in x = update_status x.0.0
 
-  abbrev left_in : (HistoryUpdateResult × Content) × List Mark → Content
+  abbrev left_in : (HistoryUpdateResult × Content) × List StepResult → Content
   left_in x = x.0.1
 
   -- by the mark of its one operation
-  by_mark : (mark : Mark) (marks : List Mark) → code_of told ≡ code_by (outcome R own request op) mark → S ≡ left_by R (outcome R own request op) mark
+  by_mark : (mark : StepResult) (marks : List StepResult) → update_status told ≡ code_by (outcome R own request op) mark → S ≡ left_by R (outcome R own request op) mark
       → Came R S own request op (mark ∷ marks) told mark
   by_mark mark marks code left = record {
     code = code;
@@ -111,21 +111,21 @@ module _ (R S : Content) (own : ℕ) (request : Request) (op : Operation) (told 
   }
 
   -- memory for the codes was wanting, or it came to this
-  came : (marks : List Mark) → Does (begin own request all_good (op ∷ []) R) marks (told, S)
-      → ((code_of told ≡ BAD_OUT_OF_MEMORY) × (S ≡ R)) ⊎ ((mark : Mark) × Came R S own request op marks told mark)
-  came [] d = inr (Fine, record { code = ap told_in (sym (d.does [])); left = ap left_in (sym (d.does [])); counted = omega arith; broke = λ e. e })
-  came (Starved ∷ marks) d = inl (ap told_in (sym (d.does [])), ap left_in (sym (d.does [])))
-  came (Fine ∷ []) d = inr (Fine, record { code = ap told_in (sym (d.does [])); left = ap left_in (sym (d.does [])); counted = omega arith; broke = λ e. e })
-  came (Fine ∷ mark ∷ marks) d = let c = by_mark mark marks (ap told_in (sym (d.does []))) (ap left_in (sym (d.does []))) in inr (mark, record { code = c.code; left = c.left; counted = c.counted; broke = c.broke })
+  came : (marks : List StepResult) → Yields (begin own request all_good (op ∷ []) R) marks (told, S)
+      → ((update_status told ≡ BAD_OUT_OF_MEMORY) × (S ≡ R)) ⊎ ((mark : StepResult) × Came R S own request op marks told mark)
+  came [] d = inr (Done, record { code = ap told_in (sym (d.does [])); left = ap left_in (sym (d.does [])); counted = omega arith; broke = λ e. e })
+  came (NoMemory ∷ marks) d = inl (ap told_in (sym (d.does [])), ap left_in (sym (d.does [])))
+  came (Done ∷ []) d = inr (Done, record { code = ap told_in (sym (d.does [])); left = ap left_in (sym (d.does [])); counted = omega arith; broke = λ e. e })
+  came (Done ∷ mark ∷ marks) d = let c = by_mark mark marks (ap told_in (sym (d.does []))) (ap left_in (sym (d.does []))) in inr (mark, record { code = c.code; left = c.left; counted = c.counted; broke = c.broke })
   came (Stands ∷ marks) d = inr (Stands, by_mark Stands marks (ap told_in (sym (d.does []))) (ap left_in (sym (d.does []))))
-  came (Met fault ∷ marks) d = inr (Met fault, by_mark (Met fault) marks (ap told_in (sym (d.does []))) (ap left_in (sym (d.does []))))
+  came (StoreFailed fault ∷ marks) d = inr (StoreFailed fault, by_mark (StoreFailed fault) marks (ap told_in (sym (d.does []))) (ap left_in (sym (d.does []))))
 
-module _ (a b : Store) (request : Request) (op : Operation) (used : List Mark) (told : HistoryUpdateResult) (acts : Acts a b used (begin a.own request all_good (op ∷ [])) told) where
+module _ (a b : Store) (request : Request) (op : Operation) (used : List StepResult) (told : HistoryUpdateResult) (acts : Refines a b used (begin a.own request all_good (op ∷ [])) told) where
   abbrev change : Content → Content
-  change R = after R (outcome R a.own request op)
+  change R = content_after R (outcome R a.own request op)
 
   -- neither memory nor a store came in its way
-  pub operated : IsClear (code_of told) a.failed b.failed → Turns a b change (IsSameOr b.broken change) (Ok tt)
+  pub operated : IsClear (update_status told) a.failed b.failed → Turns a b change (IsSameOr b.broken change) (Ok tt)
   operated is = record {
     faults = faults_of used;
     passes = acts.passes;
@@ -140,7 +140,7 @@ module _ (a b : Store) (request : Request) (op : Operation) (used : List Mark) (
         );
   }
     where
-      unmet : (R S : Content) (marks : List Mark) (mark : Mark) → faults_of marks ≡ faults_of used → Came R S a.own request op marks told mark → 0 < length (faults_in mark) → code_by (outcome R a.own request op) mark ≡ BAD_RESOURCE_UNAVAILABLE → ⊥
+      unmet : (R S : Content) (marks : List StepResult) (mark : StepResult) → faults_of marks ≡ faults_of used → Came R S a.own request op marks told mark → 0 < length (faults_in mark) → code_by (outcome R a.own request op) mark ≡ BAD_RESOURCE_UNAVAILABLE → ⊥
       unmet R S marks mark same c some e =
           let quiet = is.store (c.code ∙ e) in
           let count : length (faults_of marks) ≡ length (faults_of used) = ap length same in
@@ -149,18 +149,18 @@ module _ (a b : Store) (request : Request) (op : Operation) (used : List Mark) (
           let failed = acts.passes.failed in
           omega (arith, more, failed, quiet.1)
 
-      clear : (R S : Content) (marks : List Mark) → faults_of marks ≡ faults_of used → (mark : Mark) → Came R S a.own request op marks told mark → S ≡ change R
-      clear R S marks same Fine c = c.left
-      clear R S marks same Starved c = absurd (is.memory c.code)
+      clear : (R S : Content) (marks : List StepResult) → faults_of marks ≡ faults_of used → (mark : StepResult) → Came R S a.own request op marks told mark → S ≡ change R
+      clear R S marks same Done c = c.left
+      clear R S marks same NoMemory c = absurd (is.memory c.code)
       clear R S marks same Stands c = absurd (unmet R S marks Stands same c (omega arith) refl)
-      clear R S marks same (Met store.OutOfMemory) c = absurd (is.memory c.code)
-      clear R S marks same (Met store.Refused) c = absurd (unmet R S marks (Met store.Refused) same c (omega arith) refl)
-      clear R S marks same (Met store.WrongReplica) c = absurd (unmet R S marks (Met store.WrongReplica) same c (omega arith) refl)
-      clear R S marks same (Met store.WrongArchive) c = absurd (unmet R S marks (Met store.WrongArchive) same c (omega arith) refl)
-      clear R S marks same (Met store.Broken) c = absurd (unmet R S marks (Met store.Broken) same c (omega arith) refl)
+      clear R S marks same (StoreFailed store.OutOfMemory) c = absurd (is.memory c.code)
+      clear R S marks same (StoreFailed store.Refused) c = absurd (unmet R S marks (StoreFailed store.Refused) same c (omega arith) refl)
+      clear R S marks same (StoreFailed store.WrongReplica) c = absurd (unmet R S marks (StoreFailed store.WrongReplica) same c (omega arith) refl)
+      clear R S marks same (StoreFailed store.WrongArchive) c = absurd (unmet R S marks (StoreFailed store.WrongArchive) same c (omega arith) refl)
+      clear R S marks same (StoreFailed store.Broken) c = absurd (unmet R S marks (StoreFailed store.Broken) same c (omega arith) refl)
 
   -- something may have
-  pub hindered : IsBad (code_of told) → (end : Halted) → Turns a b change (IsSameOr b.broken change) (Err end)
+  pub hindered : IsBad (update_status told) → (end : Halted) → Turns a b change (IsSameOr b.broken change) (Err end)
   hindered bad end = record {
     faults = faults_of used;
     passes = acts.passes;
@@ -176,17 +176,17 @@ module _ (a b : Store) (request : Request) (op : Operation) (used : List Mark) (
   }
     where
       -- the store is broken where the record may stand
-      broken_then : (marks : List Mark) → faults_of marks ≡ faults_of used → list_any is_break (faults_of marks) ≡ true → b.broken ≡ true
+      broken_then : (marks : List StepResult) → faults_of marks ≡ faults_of used → list_any is_break (faults_of marks) ≡ true → b.broken ≡ true
       broken_then marks same broke = acts.passes.broken ∙ (ap (λ (faults : List StoreFault). a.broken || list_any is_break faults) (sym same) ∙ or_right a.broken (list_any is_break (faults_of marks)) broke)
 
-      stopped : (R S : Content) (marks : List Mark) → faults_of marks ≡ faults_of used → (mark : Mark) → Came R S a.own request op marks told mark → IsSameOr b.broken change R S
-      stopped R S marks same Fine c = elim (bad_kept R a.own request op Fine (subst IsBad c.code bad)) [
+      stopped : (R S : Content) (marks : List StepResult) → faults_of marks ≡ faults_of used → (mark : StepResult) → Came R S a.own request op marks told mark → IsSameOr b.broken change R S
+      stopped R S marks same Done c = elim (bad_kept R a.own request op Done (subst IsBad c.code bad)) [
         | inl kept ↦ inl (c.left ∙ kept)
         | inr standing ↦ fine_stands standing.0
       ]
-      stopped R S marks same Starved c = inl c.left
+      stopped R S marks same NoMemory c = inl c.left
       stopped R S marks same Stands c = inr (broken_then marks same (c.broke refl), c.left)
-      stopped R S marks same (Met fault) c = inl c.left
+      stopped R S marks same (StoreFailed fault) c = inl c.left
 
 -- ---- a restart
 
@@ -202,7 +202,7 @@ restarted a b result P asks = record {
 -- these were learned, all of them
 pub record Learned (a b : Store) (rs : List Record) : Type 0 where
   pub faults : List StoreFault
-  pub passes : Passes a b faults
+  pub passes : CountsFaults a b faults
   pub all : b.honest → (S : Content) → IsLeft b S → (R : Content) × IsLeft a R × AreLearned R rs × (S ≡ merged rs R)
 
 learned_none : (a : Store) → Learned a a []

@@ -6,7 +6,7 @@ use Rattle.stamp.specs.Numbers.{number_of, IsVector}
 use Rattle.ua_binary.specs.Format.{Puts}
 use Rattle.records.specs.Contents.{Content, vec, merged}
 use Rattle.records.specs.Spelling.{GivesUnless}
-use Rattle.archive.specs.Store.{Store, Asks, Passes}
+use Rattle.archive.specs.Store.{Store, Asks, CountsFaults}
 use Rattle.std.proofs.lemmas.Option.{none-some}
 use Rattle.exchange.specs.declared.fault.ExchangeFault.{ExchangeFault}
 use Rattle.exchange.specs.declared.fault.ExchangeFault.TheVariants as exchange
@@ -19,7 +19,7 @@ use Rattle.exchange.specs.declared.message.State.TheVariants as state
 use Rattle.exchange.specs.declared.dialog.Reply.{Reply}
 use Rattle.exchange.specs.declared.dialog.Progress.{Progress}
 use Rattle.exchange.specs.Frames.{frame_of, message_at}
-use Rattle.exchange.specs.Dialogs.{Turn, failing, turned, Unread, Starved, IsWay, gone, learned_in, learned_at, fault_on, records_in, records_read, Standing, unfit, received, answered, answered_to, standing_after, party_of, IsHeld, Handles, Writes, Takes, Greets, Sends, SendsHandled, AnswersTo, Concludes, capped, counted_by, added_to, carried, asks_store, broken_at}
+use Rattle.exchange.specs.Dialogs.{Turn, failing, turned, Unread, Starved, IsWay, gone, learned_in, learned_at, fault_on, records_in, records_read, DialogState, unfit, received, frame_answered, answered_to, standing_after, party_of, IsHeld, Handles, Writes, Takes, Greets, Sends, SendsHandled, AnswersTo, Concludes, capped, counted_by, added_to, carried, asks_store, broken_at}
 use Rattle.exchange.proofs.DialogsParts.{bytes_of, taken_after}
 use Rattle.exchange.specs.Merging.{MayBeLeft}
 use Rattle.exchange.proofs.HandleLemmas.{title_in, title_is}
@@ -62,7 +62,7 @@ answers_sent a c state m (Ok reply) (Err fault) out written handles ended sends 
   sends = λ h R held. (ap (failing _) (sym sends.0), sends.1);
   content = λ h u. subst (λ w. c.content ≡ (gone w a.content (records_in m) (turned (party_of a) state a.content m)).content) handles.clear (handles.content h u);
   crash = λ h left m'. subst (λ w. MayBeLeft a (records_in m) (learned_in w (records_in m) (turned (party_of a) state a.content m)) left) handles.clear (handles.crash h left m');
-  passes = subst (λ w. Passes a c (option_to_list (fault_on w))) handles.clear handles.passes;
+  passes = subst (λ w. CountsFaults a c (option_to_list (fault_on w))) handles.clear handles.passes;
 }
 answers_sent a c state m (Err fault) (Ok done) out written handles ended sends = absurd sends
 answers_sent a c state m (Err fault) (Err told) out written handles ended sends = record {
@@ -79,7 +79,7 @@ answers_sent a c state m (Err fault) (Err told) out written handles ended sends 
 
 -- ---- the end stands as it says
 
-module _ (a c : Store) (before counted after : Standing) (kind : FrameKind) (out mid written : List ℕ) (result : Result State ExchangeFault)
+module _ (a c : Store) (before counted after : DialogState) (kind : FrameKind) (out mid written : List ℕ) (result : Result State ExchangeFault)
     (counts : counted ≡ record before { taken = taken_after (unfit before kind) before.taken }) where
   writes : (R : Content) (turn : Turn) (answered : Result Progress ExchangeFault) → Sends R turn answered out mid → Concludes counted after answered result mid written → Writes turn result out written
   writes R turn (Ok done) sends concludes = inl (concludes.1 ∙ sym sends.0, concludes.2 ∙ sends.2)
@@ -92,7 +92,7 @@ module _ (a c : Store) (before counted after : Standing) (kind : FrameKind) (out
   ]
 
   -- an end whose turn went well, by what was told of it
-  abbrev goes_by : Result State ExchangeFault → Option ℕ → (learned sent : ℕ) → Standing
+  abbrev goes_by : Result State ExchangeFault → Option ℕ → (learned sent : ℕ) → DialogState
   goes_by r code learned sent = record {
     state = result_unwrap_or r state.Failed;
     taken = taken_after (unfit before kind) before.taken;
@@ -108,22 +108,22 @@ module _ (a c : Store) (before counted after : Standing) (kind : FrameKind) (out
   stands : (R : Content) (turn : Turn) (answered : Result Progress ExchangeFault) → Sends R turn answered out mid → Concludes counted after answered result mid written → after ≡ standing_after before R kind turn
   stands R turn (Ok done) sends concludes =
       concludes.0
-      ∙ (ap (λ (s : Standing). let t : Standing = record s { state = done.state; code = option_or done.code s.code; learned = capped (s.learned + done.learned); sent = capped (s.sent + done.sent) } in t) counts
-      ∙ (ap (λ n. let t : Standing = record (goes_by (Ok done.state) done.code done.learned done.sent) { learned = n } in t) (ap (λ n. capped (before.learned + n)) (sym sends.3) ∙ capped_twice before.learned (added_to R turn))
+      ∙ (ap (λ (s : DialogState). let t : DialogState = record s { state = done.state; code = option_or done.code s.code; learned = capped (s.learned + done.learned); sent = capped (s.sent + done.sent) } in t) counts
+      ∙ (ap (λ n. let t : DialogState = record (goes_by (Ok done.state) done.code done.learned done.sent) { learned = n } in t) (ap (λ n. capped (before.learned + n)) (sym sends.3) ∙ capped_twice before.learned (added_to R turn))
       ∙ (ap (λ r. goes_by r done.code (added_to R turn) done.sent) (sym sends.0)
       ∙ (ap (λ code. goes_by turn.result code (added_to R turn) done.sent) (sym sends.1) ∙ ap (goes_by turn.result turn.code (added_to R turn)) (sym sends.4)))))
   stands R turn (Err fault) sends concludes =
       concludes.0
-      ∙ (ap (λ (s : Standing). let t : Standing = record s { state = state.Failed } in t) counts
+      ∙ (ap (λ (s : DialogState). let t : DialogState = record s { state = state.Failed } in t) counts
       ∙ ap (λ (x : Turn). goes_by x.result x.code (added_to R x) (carried x.reply)) (sym sends.0))
 
   taken_is : (answered : Result Progress ExchangeFault) → Concludes counted after answered result mid written → after.taken ≡ taken_after (unfit before kind) before.taken
-  taken_is (Ok done) concludes = ap (λ (s : Standing). s.taken) concludes.0 ∙ ap (λ (s : Standing). s.taken) counts
-  taken_is (Err fault) concludes = ap (λ (s : Standing). s.taken) concludes.0 ∙ ap (λ (s : Standing). s.taken) counts
+  taken_is (Ok done) concludes = ap (λ (s : DialogState). s.taken) concludes.0 ∙ ap (λ (s : DialogState). s.taken) counts
+  taken_is (Err fault) concludes = ap (λ (s : DialogState). s.taken) concludes.0 ∙ ap (λ (s : DialogState). s.taken) counts
 
   started_is : (answered : Result Progress ExchangeFault) → Concludes counted after answered result mid written → after.started ≡ before.started
-  started_is (Ok done) concludes = ap (λ (s : Standing). s.started) concludes.0 ∙ ap (λ (s : Standing). s.started) counts
-  started_is (Err fault) concludes = ap (λ (s : Standing). s.started) concludes.0 ∙ ap (λ (s : Standing). s.started) counts
+  started_is (Ok done) concludes = ap (λ (s : DialogState). s.started) concludes.0 ∙ ap (λ (s : DialogState). s.started) counts
+  started_is (Err fault) concludes = ap (λ (s : DialogState). s.started) concludes.0 ∙ ap (λ (s : DialogState). s.started) counts
 
   could : (o : Option ExchangeFault) (message : Result Message ExchangeFault) (m : Message) → option_map_or (λ f. Err f) o message ≡ Ok m → o ≡ None
   could None message m e = refl
@@ -191,14 +191,14 @@ module _ (a c : Store) (before counted after : Standing) (kind : FrameKind) (out
   unread body answered answers concludes = record {
     way = Unread;
     outside = outside (received (party_of a) before kind body);
-    writes = λ h R held. writes R (Rattle.exchange.specs.Dialogs.answered (party_of a) before R Unread kind body) answered (same R (received (party_of a) before kind body) (sends h R held)) concludes;
-    stands = λ h R held. stands R (Rattle.exchange.specs.Dialogs.answered (party_of a) before R Unread kind body) answered (same R (received (party_of a) before kind body) (sends h R held)) concludes;
+    writes = λ h R held. writes R (Rattle.exchange.specs.Dialogs.frame_answered (party_of a) before R Unread kind body) answered (same R (received (party_of a) before kind body) (sends h R held)) concludes;
+    stands = λ h R held. stands R (Rattle.exchange.specs.Dialogs.frame_answered (party_of a) before R Unread kind body) answered (same R (received (party_of a) before kind body) (sends h R held)) concludes;
     content = λ h u. subst (λ w. c.content ≡ (gone w a.content [] (failing a.content exchange.OutOfMemory)).content) answers.unmoved (answers.content h u) ∙ left (received (party_of a) before kind body);
     crash = λ h left m. subst (λ n. MayBeLeft a (records_read (received (party_of a) before kind body)) n left) (sym (none_in (received (party_of a) before kind body))) (elim (answers.crash h left m) [
       | inl old ↦ inl (old.0, refl)
       | inr q ↦ inr (q.0, 0, omega arith, omega arith, q.4 ∙ none q.1)
     ]);
-    passes = subst (λ w. Passes a c (option_to_list (fault_on w))) answers.unmoved answers.passes;
+    passes = subst (λ w. CountsFaults a c (option_to_list (fault_on w))) answers.unmoved answers.passes;
     ended = λ broken. starved_by (received (party_of a) before kind body) answered answers.untaken concludes;
     counted = taken_is answered concludes;
     fit = failed exchange.OutOfMemory answered answers.untaken concludes;
@@ -255,5 +255,5 @@ greets a b v out written t (Err fault) asks is e puts = record {
   kept = (subst Rattle.exchange.specs.Batches.IsOfAnswer (sym puts.0) tt, puts.1);
   ended = λ x. absurd (none-some _ (asks.leaves.ended x));
   stays = asks.stays;
-  passes = subst (λ f. Passes a b (option_to_list (Rattle.exchange.specs.Fault.store_fault_of f))) (sym puts.0) asks.leaves.passes;
+  passes = subst (λ f. CountsFaults a b (option_to_list (Rattle.exchange.specs.Fault.store_fault_of f))) (sym puts.0) asks.leaves.passes;
 }

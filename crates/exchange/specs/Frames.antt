@@ -28,9 +28,11 @@ use Rattle.exchange.specs.Batches.{most, longest_frame, frame_length}
 abbrev pub ill : {E A : Type 0} → Format E A → Format ExchangeFault A
 ill f = raised (λ _. Frame) f
 
+-- the number of a replica, 1 to 64
 abbrev pub sender : Format ExchangeFault ℕ
 sender = passing (λ n. nat_le 1 n && nat_le n 64) Frame (ill byte)
 
+-- the title has a spelling
 pub record IsTitle (t : Title) : Type 0 where
   pub id : length t.id ≡ 16
   pub sender : IsReplica t.sender
@@ -38,73 +40,97 @@ pub record IsTitle (t : Title) : Type 0 where
 
 -- the format's number, the archive's id, the sender and its vector
 unfoldable pub title : Format ExchangeFault Title
-title = fitting IsTitle (standing_for (λ p. record { id = p.1.0; sender = p.1.1.0; vector = p.1.1.1 }) (λ t. (2, (t.id, (t.sender, t.vector))))
-    (passing (λ n. n == 2) Frame (passing (λ n. not (n == 1)) PeerFormat (ill byte)) ▸ ill (block 16) ▸ sender ▸ ill vector))
+title =
+    fitting IsTitle
+    (standing_for
+    (λ (format, (id, (sender, vector))). record { id = id; sender = sender; vector = vector })
+    (λ t. (2, (t.id, (t.sender, t.vector))))
+    (passing (λ n. n == 2) Frame (passing (λ n. not (n == 1)) PeerFormat (ill byte))
+    ▸ ill (block 16) ▸ sender ▸ ill vector))
 
 -- how many records follow
 abbrev pub count : Format ExchangeFault ℕ
 count = passing (λ n. nat_le n most) Frame (ill (unsigned w32))
 
 -- some bytes behind their number
-abbrev pub sized : Format ExchangeFault (List ℕ)
-sized = headed length (ill (unsigned w32)) (λ n. ill (block n))
+abbrev pub length_prefixed : Format ExchangeFault (List ℕ)
+length_prefixed = headed length (ill (unsigned w32)) (λ n. ill (block n))
 
 -- a record behind its length
 unfoldable pub framed : Format ExchangeFault Record
-framed = fitting IsRecord (inside Frame sized (ill record_form))
+framed = fitting IsRecord (inside Frame length_prefixed (ill record_form))
 
+-- the number that ends a dialog
 abbrev pub code : Format ExchangeFault ℕ
 code = ill (unsigned w32)
 
 -- ---- what a body says
 
 -- a peer is of the same archive, and another replica
-abbrev pub checked : Party → Title → Result (Unit {0}) ExchangeFault
-checked p t = if not (bytes_eq t.id p.id) then Err WrongArchive else if t.sender == p.own then Err SelfPeer else Ok tt
+abbrev pub checked_sender : Party → Title → Result (Unit {0}) ExchangeFault
+checked_sender p t =
+    if not (bytes_eq t.id p.id) then Err WrongArchive else if t.sender == p.own then Err SelfPeer
+    else Ok tt
 
--- all of the bytes; the fields are judged first, then the archive and the sender, and then the records
+-- all of the bytes; the fields are judged first, then the archive and the sender, and then the
+-- records
 abbrev pub message_at : Party → FrameKind → List ℕ → Result Message ExchangeFault
-message_at p Vector body = whole Frame title body >>= λ t. checked p t >>= λ _. Ok (Asks t)
-message_at p Records body = (title ▸ count).read body >>= λ h. checked p h.0.0 >>= λ _. whole Frame (items h.0.1 framed) h.1 >>= λ rs. Ok (Carries h.0.0 rs)
+message_at p Vector body = whole Frame title body >>= λ t. checked_sender p t >>= λ _. Ok (Asks t)
+message_at p Records body =
+    (title ▸ count).read body >>= λ ((t, n), rest). checked_sender p t
+    >>= λ _. whole Frame (items n framed) rest >>= λ rs. Ok (Carries t rs)
 message_at p End body = whole Frame code body >>= λ n. Ok (Ends n)
 
 -- ---- frames
 
-abbrev pub letters : FrameKind → List ℕ
-letters v = elim v [ Vector ↦ codes "RXVF" | Records ↦ codes "RXDF" | End ↦ codes "RXEF" ]
+-- the four letters that a frame of this kind begins with
+abbrev pub frame_letters : FrameKind → List ℕ
+frame_letters v = elim v [ Vector ↦ codes "RXVF" | Records ↦ codes "RXDF" | End ↦ codes "RXEF" ]
 
+-- the kind of the frame that carries a message
 abbrev pub kind_of : Message → FrameKind
 kind_of v = elim v [ Asks t ↦ Vector | Carries t rs ↦ Records | Ends n ↦ End ]
 
-abbrev pub body_of : Message → List ℕ
-body_of v = elim v [ Asks t ↦ title.canon t | Carries t rs ↦ (title ▸ count).canon (t, length rs) ++ flat_map framed.canon rs | Ends n ↦ code.canon n ]
+-- the body of the frame of a message
+abbrev pub frame_body_of : Message → List ℕ
+frame_body_of v =
+    elim v [
+      | Asks t ↦ title.canon t
+      | Carries t rs ↦ (title ▸ count).canon (t, length rs) ++ flat_map framed.canon rs
+      | Ends n ↦ code.canon n
+    ]
 
 -- the frame that says it
 abbrev pub frame_of : Message → List ℕ
-frame_of m = letters (kind_of m) ++ ((unsigned w32).canon (8 + length (body_of m)) ++ body_of m)
+frame_of m =
+    frame_letters (kind_of m)
+    ++ ((unsigned w32).canon (8 + length (frame_body_of m)) ++ frame_body_of m)
 
+-- the bytes begin with this word
 abbrev pub begins : List ℕ → List ℕ → Bool
 begins bytes word = starts_with nat_eq bytes word
 
 -- what the four letters say
 abbrev pub kind_at : List ℕ → Option FrameKind
-kind_at bytes = find (λ kind. begins bytes (letters kind)) (Vector ∷ Records ∷ End ∷ [])
+kind_at bytes = find (λ kind. begins bytes (frame_letters kind)) (Vector ∷ Records ∷ End ∷ [])
 
 -- the size that the header says, itself included
-abbrev pub size_at : List ℕ → ℕ
-size_at bytes = from_le_bytes w32 (take 4 (drop 4 bytes))
+abbrev pub frame_size_at : List ℕ → ℕ
+frame_size_at bytes = from_le_bytes w32 (take 4 (drop 4 bytes))
 
 -- with n bytes there; a frame has 12 bytes at least
 abbrev pub titled : ℕ → List ℕ → Option FrameKind → Result (Option Header) ExchangeFault
 titled n head None = Err Frame
 titled n head (Some kind) =
-    if nat_lt (size_at head) 12 || nat_lt longest_frame (size_at head) then Err Frame
-    else if nat_lt n (size_at head) then Ok None
-    else Ok (Some (record { kind = kind; size = size_at head }))
+    if nat_lt (frame_size_at head) 12 || nat_lt longest_frame (frame_size_at head) then Err Frame
+    else if nat_lt n (frame_size_at head) then Ok None
+    else Ok (Some (record { kind = kind; size = frame_size_at head }))
 
 -- the header of the first frame, none where that isn't whole, or the fault that stands there
-unfoldable pub cut : List ℕ → Result (Option Header) ExchangeFault
-cut bytes = if nat_lt (length bytes) 8 then Ok None else titled (length bytes) (take 8 bytes) (kind_at (take 8 bytes))
+unfoldable pub frame_header : List ℕ → Result (Option Header) ExchangeFault
+frame_header bytes =
+    if nat_lt (length bytes) 8 then Ok None
+    else titled (length bytes) (take 8 bytes) (kind_at (take 8 bytes))
 
 -- ---- what is held of a stream of frames
 
@@ -113,11 +139,11 @@ pub record Held : Type 0 where
   pub waiting : List ℕ
   pub failed : Bool
 
-abbrev pub fresh : Held
-fresh = record { waiting = []; failed = false }
+abbrev pub no_frames : Held
+no_frames = record { waiting = []; failed = false }
 
 abbrev pub next_of : Held → Result (Option Header) ExchangeFault
-next_of held = if held.failed then Err Frame else cut held.waiting
+next_of held = if held.failed then Err Frame else frame_header held.waiting
 
 -- what is held once the next frame is given out
 abbrev pub after_next : Held → Result (Option Header) ExchangeFault → Held
@@ -126,15 +152,17 @@ after_next held (Ok (Some header)) = record held { waiting = drop header.size he
 after_next held (Err fault) = record held { failed = true }
 
 -- a frame that was cut is whole
-abbrev pub IsWithin : List ℕ → Header → Type 0
-IsWithin bytes header = (12 ≤ header.size) × (header.size ≤ length bytes) × (header.size ≤ longest_frame)
+abbrev pub IsWholeFrame : List ℕ → Header → Type 0
+IsWholeFrame bytes header =
+    (12 ≤ header.size) × (header.size ≤ length bytes) × (header.size ≤ longest_frame)
 
 -- what is given out: the frame that stands first, none where it isn't whole, or the fault
 abbrev pub Gives : Held → Result (Option Lent) ExchangeFault → Type 0
 Gives held (Ok None) = next_of held ≡ Ok None
 Gives held (Ok (Some frame)) =
     let header : Header = record { kind = frame.kind; size = 8 + length frame.body.now } in
-    (next_of held ≡ Ok (Some header)) × IsWithin held.waiting header × (frame.body.now ≡ drop 8 (take header.size held.waiting))
+    (next_of held ≡ Ok (Some header)) × IsWholeFrame held.waiting header
+    × (frame.body.now ≡ drop 8 (take header.size held.waiting))
 Gives held (Err fault) = next_of held ≡ Err fault
 
 -- ---- what may be written
@@ -143,10 +171,12 @@ abbrev pub IsCode : ℕ → Type 0
 IsCode n = n < 2 ^ 32
 
 -- a message that has a frame
-abbrev pub IsSpelled : Message → Type 0
-IsSpelled (Asks t) = IsTitle t
-IsSpelled (Carries t rs) = IsTitle t × AllByRecursion IsRecord rs × (length rs ≤ most) × (frame_length t.vector rs ≤ longest_frame)
-IsSpelled (Ends n) = n < 2 ^ 32
+abbrev pub HasFrame : Message → Type 0
+HasFrame (Asks t) = IsTitle t
+HasFrame (Carries t rs) =
+    IsTitle t × AllByRecursion IsRecord rs × (length rs ≤ most)
+    × (frame_length t.vector rs ≤ longest_frame)
+HasFrame (Ends n) = n < 2 ^ 32
 
 -- a message whose records may be learned
 abbrev pub IsLearnable : Message → Type 0

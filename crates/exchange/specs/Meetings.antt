@@ -6,25 +6,26 @@ use Rattle.records.specs.Contents.{Content, AreCompatible, IsWithin, join, merge
 use Rattle.records.specs.declared.record.Record.{Record}
 use Rattle.archive.specs.declared.fault.StoreFault.{StoreFault}
 use Rattle.archive.specs.declared.fault.LearnFault.TheVariants as refused
-use Rattle.archive.specs.Store.{Store, Rests, IsLawfulContent, Passes, Stays, IsLeft}
+use Rattle.archive.specs.Store.{Store, IsQuiescent, IsLawfulContent, CountsFaults, KeepsContent, IsLeft}
 use Rattle.exchange.specs.declared.message.Title.{Title}
 use Rattle.exchange.specs.declared.message.Message.{Message}
 use Rattle.exchange.specs.declared.message.Message.TheVariants.{Asks, Carries, Ends}
 use Rattle.exchange.specs.declared.message.Party.{Party}
 use Rattle.exchange.specs.declared.message.State.{State}
 use Rattle.exchange.specs.declared.message.State.TheVariants.{Pulling, Pushing, Serving, Done}
-use Rattle.exchange.specs.Frames.{kind_of, body_of, frame_of, checked, IsSpelled}
-use Rattle.exchange.specs.Dialogs.{title_by, Turn, turned, Clear, fault_on, Standing, answered, records_in, standing_after, party_of, Takes}
+use Rattle.exchange.specs.Frames.{kind_of, frame_body_of, frame_of, checked_sender, HasFrame}
+use Rattle.exchange.specs.Dialogs.{title_by, Turn, turned, Clear, fault_on, DialogState, frame_answered, records_in, standing_after, party_of, Takes}
 use Rattle.exchange.specs.Fault.{store_fault_of}
 use Rattle.exchange.specs.declared.fault.ExchangeFault.{ExchangeFault}
 use Rattle.exchange.specs.declared.fault.ExchangeFault.TheVariants as exchange
 
--- replicas of one archive, with numbers of their own, whose stores are in use and hold no two records of one name
+-- replicas of one archive, with numbers of their own, whose stores are in use and hold no two
+-- records of one name
 pub record CanMeet (a b : Store) : Type 0 where
   pub id : a.id ≡ b.id
   pub apart : a.own ≡ b.own → ⊥
-  pub one : Rests a × (a.broken ≡ false)
-  pub other : Rests b × (b.broken ≡ false)
+  pub one : IsQuiescent a × (a.broken ≡ false)
+  pub other : IsQuiescent b × (b.broken ≡ false)
   pub compatible : AreCompatible a.content b.content
 
 -- its own records, and some of the other's
@@ -33,7 +34,8 @@ pub record IsBetween (own other left : Content) : Type 0 where
   pub above : IsWithin own left
   pub only : (r : Record) → Has left r → Has own r ⊎ Has other r
 
--- both hold the join of what they held, after three frames at least, and at most two for each record that was added and three more
+-- both hold the join of what they held, after three frames at least, and at most two for each
+-- record that was added and three more
 pub record AreJoined (R S R' S' : Content) (frames : ℕ) : Type 0 where
   pub one : R' ≡ join R S
   pub other : S' ≡ join R S
@@ -53,26 +55,27 @@ abbrev pub IsOfMeeting : ExchangeFault → Type 0
 IsOfMeeting exchange.TooLong = ⊤
 IsOfMeeting other = IsOfOutside other
 
--- each holds its own records and some of the other's; behind a break an opening finds such a content
+-- each holds its own records and some of the other's; behind a break an opening finds such a
+-- content
 pub record AreBetween (a b a' b' : Store) : Type 0 where
   pub one : (left : Content) → a'.may_hold left → IsBetween a.content b.content left
   pub other : (left : Content) → b'.may_hold left → IsBetween b.content a.content left
 
 -- a fault of the store that is told is one of these
-abbrev pub IsTold : ExchangeFault → List StoreFault → Type 0
-IsTold fault faults = IfSome (store_fault_of fault) (Has faults)
+abbrev pub IsStoreFaultAmong : ExchangeFault → List StoreFault → Type 0
+IsStoreFaultAmong fault faults = IfSome (store_fault_of fault) (Has faults)
 
 -- ---- the frames of a whole dialog
 
 -- an end between two frames: who it is, how it stands and what it holds
 pub record End : Type 0 where
   pub party : Party
-  pub standing : Standing
+  pub standing : DialogState
   pub content : Content
 
 -- what it makes of the frame that says m, where nothing comes in the way
 abbrev pub made : End → Message → Turn
-made end m = answered end.party end.standing end.content Clear (kind_of m) (body_of m)
+made end m = frame_answered end.party end.standing end.content Clear (kind_of m) (frame_body_of m)
 
 -- how it stands behind that frame, and what it holds then
 abbrev pub past : End → Message → End
@@ -159,38 +162,48 @@ AreCut a b a' b' =
     ⊎ ((last.taker.party ≡ party_of b) × AreLeft b' a' last.taker last.giver (records_in next)))
 
 pub record Converses (a b a' b' : Store) (result : Result ℕ ExchangeFault) : Type 0 where
-  pub joined : a'.honest → b'.honest → CanMeet a b → IfOk result (AreJoined a.content b.content a'.content b'.content)
+  pub joined : a'.honest → b'.honest → CanMeet a b
+      → IfOk result (AreJoined a.content b.content a'.content b'.content)
   -- it answers how many frames were handed over, by turns, each of them the answer to the last one
   pub dialog : a'.honest → b'.honest → CanMeet a b → IfOk result (AreWhole a b a' b')
-  pub between : a'.honest → b'.honest → CanMeet a b → IfErr result (λ fault. IsOfMeeting fault × AreBetween a b a' b')
+  pub between : a'.honest → b'.honest → CanMeet a b
+      → IfErr result (λ fault. IsOfMeeting fault × AreBetween a b a' b')
   pub cut : a'.honest → b'.honest → CanMeet a b → IfErr result (λ fault. AreCut a b a' b')
   -- replicas of two archives, or of one number, come to no end, and stay as they were
-  pub refused : a'.honest → b'.honest → ((a.id ≡ b.id) × (a.own ≡ b.own → ⊥) → ⊥) → IsErr result × Stays a a' × Stays b b'
+  pub refused : a'.honest → b'.honest → ((a.id ≡ b.id) × (a.own ≡ b.own → ⊥) → ⊥)
+      → IsErr result × KeepsContent a a' × KeepsContent b b'
   -- so many frames go by only where as many records were added
-  pub long : a'.honest → b'.honest → CanMeet a b → result ≡ Err exchange.TooLong → a'.broken ≡ false → b'.broken ≡ false → 999999 + (length a.content + length b.content) ≤ length a'.content + length b'.content
+  pub long : a'.honest → b'.honest → CanMeet a b → result ≡ Err exchange.TooLong → a'.broken ≡ false
+      → b'.broken ≡ false
+      → 999999 + (length a.content + length b.content) ≤ length a'.content + length b'.content
   pub full : a'.honest → b'.honest → CanMeet a b → result ≡ Err exchange.TooLong → AreTooMany a b
   pub faults : List StoreFault
-  pub passes : Passes a a' faults
+  pub passes : CountsFaults a a' faults
   pub others : List StoreFault
-  pub passes_other : Passes b b' others
+  pub passes_other : CountsFaults b b' others
   -- a fault of the store that is told is one that a call of either archive gave
-  pub told : a'.honest → b'.honest → CanMeet a b → IfErr result (λ fault. IsTold fault (faults ++ others))
+  pub told : a'.honest → b'.honest → CanMeet a b
+      → IfErr result (λ fault. IsStoreFaultAmong fault (faults ++ others))
 
 -- ---- one frame
 
--- one end was handed the other's frame, and took it; or memory for that was wanting, and nothing was done
-pub record Hands (old new : Store) (before after : Standing) (bytes out written : List ℕ) (result : Result State ExchangeFault) : Type 0 where
+-- one end was handed the other's frame, and took it; or memory for that was wanting, and nothing
+-- was done
+pub record Hands (old new : Store) (before after : DialogState) (bytes out written : List ℕ)
+    (result : Result State ExchangeFault) : Type 0 where
   pub faults : List StoreFault
-  pub passes : Passes old new faults
-  pub takes : (m : Message) → IsSpelled m → bytes ≡ frame_of m
-      → (Stays old new × Passes old new [] × (result ≡ Err exchange.OutOfMemory))
-      ⊎ ((taken : Takes old new before after (kind_of m) (body_of m) out written result) × (faults ≡ option_to_list (fault_on taken.way)))
+  pub passes : CountsFaults old new faults
+  pub takes : (m : Message) → HasFrame m → bytes ≡ frame_of m
+      → (KeepsContent old new × CountsFaults old new [] × (result ≡ Err exchange.OutOfMemory))
+      ⊎
+      ((taken : Takes old new before after (kind_of m) (frame_body_of m) out written result)
+      × (faults ≡ option_to_list (fault_on taken.way)))
   pub started : after.started ≡ before.started
 
 -- the peer may be met
 abbrev pub checked_title : Party → Message → Type 0
-checked_title p (Asks t) = checked p t ≡ Ok tt
-checked_title p (Carries t rs) = checked p t ≡ Ok tt
+checked_title p (Asks t) = checked_sender p t ≡ Ok tt
+checked_title p (Carries t rs) = checked_sender p t ≡ Ok tt
 checked_title p (Ends n) = ⊤
 
 -- the sender's vector is at least that of the content
@@ -207,7 +220,9 @@ pub record Heard : Type 0 where
 -- one turn after the other, from one state to another, where nothing comes in the way
 abbrev pub Follows : Party → State → List Heard → State → Type 0
 Follows p state [] final = final ≡ state
-Follows p state (heard ∷ later) final = (between : State) × ((turned p state heard.content heard.message).result ≡ Ok between) × Follows p between later final
+Follows p state (heard ∷ later) final =
+    (between : State) × ((turned p state heard.content heard.message).result ≡ Ok between)
+    × Follows p between later final
 
 -- an initiator's turns up to the one by which it was done
 pub record EndsDone (p : Party) (turns : List Heard) : Type 0 where
@@ -215,13 +230,16 @@ pub record EndsDone (p : Party) (turns : List Heard) : Type 0 where
   pub final : Heard
   pub parts : turns ≡ before ++ (final ∷ [])
   pub state : State
-  -- the vector that the peer sent last is at least its own: with records that are none, or in answer to records
+  -- the vector that the peer sent last is at least its own: with records that are none, or in
+  -- answer to records
   pub title : Title
-  pub sent : ((state ≡ Pulling) × (final.message ≡ Carries title [])) ⊎ ((state ≡ Pushing) × (final.message ≡ Asks title))
+  pub sent : ((state ≡ Pulling) × (final.message ≡ Carries title []))
+      ⊎ ((state ≡ Pushing) × (final.message ≡ Asks title))
   pub covers : Covers title final.content
   -- it told the peer the end
   pub told : (turned p state final.content final.message).reply ≡ Some (Ends 0)
 
 -- records that are none answered its vector
 abbrev pub HasPulled : List Heard → Type 0
-HasPulled turns = (heard : Heard) × Has turns heard × (title : Title) × (heard.message ≡ Carries title [])
+HasPulled turns =
+    (heard : Heard) × Has turns heard × (title : Title) × (heard.message ≡ Carries title [])

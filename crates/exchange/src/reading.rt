@@ -9,7 +9,7 @@ ghost use Rattle.stamp.specs.Vector.{vector};
 ghost use Rattle.records.specs.Spelling.{GivesUnless, IsRecord, record_form};
 ghost use Rattle.exchange.specs.declared.fault.ExchangeFault.TheVariants as fault;
 ghost use Rattle.exchange.specs.declared.message.Party.{Party as Reader};
-ghost use Rattle.exchange.specs.Frames.{ill, title, count, sized, framed, code, checked, message_at, IsLearnable};
+ghost use Rattle.exchange.specs.Frames.{ill, title, count, length_prefixed, framed, code, checked_sender, message_at, IsLearnable};
 
 use crate::fault::ExchangeFault;
 use crate::message::{FrameKind, Message, Party, Title};
@@ -107,7 +107,7 @@ fn read_count(cursor: &mut Cursor<'_>) -> Result<u32, ExchangeFault>
 
 /// Bytes behind their number.
 fn read_sized<'a>(cursor: &mut Cursor<'a>) -> Result<&'a [u8], ExchangeFault>
-    ensures { Reads (λ x. x.now) result cursor.old cursor.new sized.read }
+    ensures { Reads (λ x. x.now) result cursor.old cursor.new length_prefixed.read }
 {
     let mut next = cursor.fork();
     let len = read_number(&mut next)?;
@@ -119,7 +119,8 @@ fn read_sized<'a>(cursor: &mut Cursor<'a>) -> Result<&'a [u8], ExchangeFault>
 /// The record that all of some bytes spell.
 #[tactic(auto, using(crate::proofs::FrameLemmas::record_whole))]
 fn record_in(alloc: Global, bytes: &[u8]) -> Result<Record, ExchangeFault>
-    ensures gives { GivesUnless fault.OutOfMemory result (whole fault.Frame (ill record_form) bytes.now) }
+    ensures gives { GivesUnless fault.OutOfMemory result
+        (whole fault.Frame (ill record_form) bytes.now) }
     ensures lawful { IfOk result IsRecord }
 {
     match read_record(alloc, bytes) {
@@ -132,7 +133,8 @@ fn record_in(alloc: Global, bytes: &[u8]) -> Result<Record, ExchangeFault>
 /// A record behind its length.
 #[tactic(auto, unfolding(crate::specs::Frames::framed))]
 fn read_framed(alloc: Global, cursor: &mut Cursor<'_>) -> Result<Record, ExchangeFault>
-    ensures reads { ReadsUnless fault.OutOfMemory (λ r. r) result cursor.old cursor.new framed.read }
+    ensures reads { ReadsUnless fault.OutOfMemory
+        (λ r. r) result cursor.old cursor.new framed.read }
     ensures lawful { IfOk result IsRecord }
 {
     let mut next = cursor.fork();
@@ -143,7 +145,8 @@ fn read_framed(alloc: Global, cursor: &mut Cursor<'_>) -> Result<Record, Exchang
 }
 
 fn push(records: &mut Vec<Record>, found: Record) -> Result<(), ExchangeFault>
-    ensures { MatchResult result (λ _. records.new.items ≡ records.old.items ++ found ∷ []) (λ e. e ≡ fault.OutOfMemory) }
+    ensures { MatchResult result (λ _. records.new.items ≡ records.old.items ++ found ∷ [])
+        (λ e. e ≡ fault.OutOfMemory) }
 {
     match records.push(found) {
         Ok(()) => Ok(()),
@@ -157,7 +160,8 @@ fn read_items(
     cursor: &mut Cursor<'_>,
     count: u32,
 ) -> Result<Vec<Record>, ExchangeFault>
-    ensures reads { ReadsPart fault.OutOfMemory (λ v. v.items) result cursor.old cursor.new (items_at framed.read count) }
+    ensures reads { ReadsPart fault.OutOfMemory (λ v. v.items) result cursor.old cursor.new
+        (items_at framed.read count) }
     ensures lawful { IfOk result (λ v. AllByRecursion IsRecord v.items) }
 {
     let mut records = Vec::new(alloc);
@@ -170,7 +174,10 @@ fn read_items(
 
 /// So many records, and nothing behind them.
 fn read_records(alloc: Global, bytes: &[u8], count: u32) -> Result<Vec<Record>, ExchangeFault>
-    ensures gives { MatchResult result (λ v. whole fault.Frame (items count framed) bytes.now ≡ Ok v.items) (λ e. (e ≡ fault.OutOfMemory → ⊥) → whole fault.Frame (items count framed) bytes.now ≡ Err e) }
+    ensures gives { MatchResult result
+        (λ v. whole fault.Frame (items count framed) bytes.now ≡ Ok v.items)
+        (λ e. (e ≡ fault.OutOfMemory → ⊥)
+        → whole fault.Frame (items count framed) bytes.now ≡ Err e) }
     ensures lawful { IfOk result (λ v. AllByRecursion IsRecord v.items) }
 {
     let mut cursor = Cursor::new(bytes);
@@ -183,7 +190,7 @@ fn read_records(alloc: Global, bytes: &[u8], count: u32) -> Result<Vec<Record>, 
 
 /// The peer has to be of the same archive, and another replica.
 fn check(party: &Party, title: &Title) -> Result<(), ExchangeFault>
-    ensures { result ≡ checked party.now title.now }
+    ensures { result ≡ checked_sender party.now title.now }
 {
     if title.id != party.id {
         return Err(ExchangeFault::WrongArchive);
@@ -207,7 +214,8 @@ fn read_asking(party: &Party, body: &[u8]) -> Result<Message, ExchangeFault>
 }
 
 fn read_ending(body: &[u8]) -> Result<Message, ExchangeFault>
-    ensures gives { (party : Reader) → GivesUnless fault.OutOfMemory result (message_at party FrameKind.End body.now) }
+    ensures gives { (party : Reader)
+        → GivesUnless fault.OutOfMemory result (message_at party FrameKind.End body.now) }
     ensures lawful { IfOk result IsLearnable }
 {
     let mut cursor = Cursor::new(body);
@@ -219,7 +227,8 @@ fn read_ending(body: &[u8]) -> Result<Message, ExchangeFault>
 }
 
 fn read_carrying(alloc: Global, party: &Party, body: &[u8]) -> Result<Message, ExchangeFault>
-    ensures gives { GivesUnless fault.OutOfMemory result (message_at party.now FrameKind.Records body.now) }
+    ensures gives { GivesUnless fault.OutOfMemory result
+        (message_at party.now FrameKind.Records body.now) }
     ensures lawful { IfOk result IsLearnable }
 {
     let mut cursor = Cursor::new(body);

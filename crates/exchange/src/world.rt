@@ -5,11 +5,11 @@ ghost use Rattle.std.specs.Prelude.{◌≡◌, ◌∷◌, [], List, IsErr, IsTru
 ghost use Rattle.std.specs.List.{AllByRecursion};
 ghost use Rattle.stamp.specs.Numbers.{number_of};
 ghost use Rattle.records.specs.Contents.{Content, merged};
-ghost use Rattle.archive.specs.Store.{Mark};
-ghost use Rattle.archive.specs.Steps.{Acts};
-ghost use Rattle.hist_update.specs.Outcome.{IsRequest, after, outcome};
+ghost use Rattle.archive.specs.Store.{StepResult};
+ghost use Rattle.archive.specs.Steps.{Refines};
+ghost use Rattle.hist_update.specs.Outcome.{IsRequest, content_after, outcome};
 ghost use Rattle.hist_update.specs.Updates.{begin};
-ghost use Rattle.exchange.specs.Running.{operation_of, event_of, IsAsked, IsEvent, Turns, TurnsBy, IsSame, IsSameOr, HasFirst, HasSome, EndsBy, came_in, Puts, Gives, Happens, RunsWorld, IsClear, code_of};
+ghost use Rattle.exchange.specs.Running.{operation_of, event_of, IsAsked, IsEvent, Turns, TurnsBy, IsSame, IsSameOr, HasFirst, HasSome, EndsBy, came_in, Puts, Gives, Happens, RunsWorld, IsClear, update_status};
 ghost use Rattle.hist_update.specs.Laws.{IsBad};
 
 use crate::replica::Batch;
@@ -101,7 +101,10 @@ fn perform<A: Archive>(
 ) -> HistoryUpdateResult
     requires request { IsRequest request.now }
     requires operation { IsAsked operation.now }
-    ensures { (used : List Mark) × Acts (A.state archive.old) (A.state archive.new) used (begin (A.state archive.old).own request.now (λ codes. GOOD) (operation_of operation.now ∷ [])) result }
+    ensures { (used : List StepResult)
+        × Refines (A.state archive.old) (A.state archive.new) used
+        (begin (A.state archive.old).own request.now (λ codes. GOOD)
+        (operation_of operation.now ∷ [])) result }
 {
     match operation {
         Operation::Write {
@@ -122,7 +125,7 @@ fn perform<A: Archive>(
 
 /// The code of an update of one operation; its status, where it was refused as a whole.
 fn code_of(told: &HistoryUpdateResult) -> Status
-    ensures { result ≡ code_of told.now }
+    ensures { result ≡ update_status told.now }
 {
     match told.operation_results.as_slice().first() {
         Some(code) => *code,
@@ -154,8 +157,13 @@ fn operate<A: Archive>(
 ) -> Result<(), Halted>
     requires request { IsRequest request.now }
     requires operation { IsAsked operation.now }
-    ensures { let change : Content → Content = λ R. after R (outcome R (A.state archive.old).own request.now (operation_of operation.now)) in
-        Turns (A.state archive.old) (A.state archive.new) change (IsSameOr (A.state archive.new).broken change) result }
+    ensures { let change : Content
+        → Content =
+        λ R.
+        content_after R
+        (outcome R (A.state archive.old).own request.now (operation_of operation.now)) in
+        Turns (A.state archive.old) (A.state archive.new) change
+        (IsSameOr (A.state archive.new).broken change) result }
 {
     let before = archive.faults();
     let told = perform(alloc, archive, request, operation);
@@ -185,7 +193,9 @@ fn send<A: Archive>(
     vector: &Vector,
     limit: usize,
 ) -> Result<(), Halted>
-    ensures { Gives (A.state archive.old) (A.state archive.new) (map (λ b. b.records) pool.old.items) (map (λ b. b.records) pool.new.items) (number_of vector.now) limit result }
+    ensures { Gives (A.state archive.old) (A.state archive.new)
+        (map (λ b. b.records) pool.old.items)
+        (map (λ b. b.records) pool.new.items) (number_of vector.now) limit result }
 {
     match archive.since(alloc, vector, limit) {
         Ok(records) => put(
@@ -210,7 +220,8 @@ fn ended_by(cause: LearnFault) -> Result<(), Halted>
 
 /// Learns records, in order, up to the first that is refused.
 fn deliver<A: Archive>(archive: &mut A, records: &[Record]) -> Result<(), Halted>
-    ensures { Turns (A.state archive.old) (A.state archive.new) (merged records.now) (HasFirst records.now) result }
+    ensures { Turns (A.state archive.old) (A.state archive.new) (merged records.now)
+        (HasFirst records.now) result }
 {
     for held in records {
         if !held.is_lawful() {
@@ -247,7 +258,9 @@ fn deliver_from<A: Archive>(
     batch: usize,
     count: usize,
 ) -> Result<(), Halted>
-    ensures { Turns (A.state archive.old) (A.state archive.new) (came_in (map (λ b. b.records) pool.now) batch count) (HasSome (map (λ b. b.records) pool.now) batch count) result }
+    ensures { Turns (A.state archive.old) (A.state archive.new)
+        (came_in (map (λ b. b.records) pool.now) batch count)
+        (HasSome (map (λ b. b.records) pool.now) batch count) result }
 {
     if batch < pool.len() {
         let records = pool[batch].records.as_slice();
@@ -282,7 +295,9 @@ fn turn<A: Archive>(
     event: &Event,
 ) -> Result<(), Halted>
     requires { IsEvent event.now }
-    ensures { TurnsBy (A.state archive.old) (A.state archive.new) (map (λ b. b.records) pool.old.items) (map (λ b. b.records) pool.new.items) (event_of event.now) result }
+    ensures { TurnsBy (A.state archive.old) (A.state archive.new)
+        (map (λ b. b.records) pool.old.items)
+        (map (λ b. b.records) pool.new.items) (event_of event.now) result }
 {
     match event {
         Event::Operation {
@@ -304,7 +319,8 @@ fn happen<A: Archive>(
     event: &Event,
 ) -> Result<(), Halted>
     requires { IsEvent event.now }
-    ensures { Happens A.state replicas.old replicas.new (map (λ b. b.records) pool.old.items) (map (λ b. b.records) pool.new.items) (event_of event.now) result }
+    ensures { Happens A.state replicas.old replicas.new (map (λ b. b.records) pool.old.items)
+        (map (λ b. b.records) pool.new.items) (event_of event.now) result }
 {
     let place = event.replica();
     if place < replicas.len() {

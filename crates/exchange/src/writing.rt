@@ -7,7 +7,7 @@ ghost use Rattle.records.specs.Spelling.{record_form};
 ghost use Rattle.ua_binary.specs.Format.{Puts, PutsPart};
 ghost use Rattle.records.specs.Spelling.{IsRecord};
 ghost use Rattle.exchange.specs.declared.fault.ExchangeFault.TheVariants as fault;
-ghost use Rattle.exchange.specs.Frames.{title, framed, letters, kind_of, body_of, frame_of, IsTitle, IsSpelled};
+ghost use Rattle.exchange.specs.Frames.{title, framed, frame_letters, kind_of, frame_body_of, frame_of, IsTitle, HasFrame};
 ghost use Rattle.exchange.specs.Batches.{records_length, frame_length, longest_frame};
 
 use crate::fault::ExchangeFault;
@@ -24,7 +24,8 @@ const MOST: usize = 1000;
 const LONGEST_FRAME: usize = 2_097_152;
 
 fn put_vector(out: &mut Vec<u8>, title: &Title) -> Result<(), BinaryFault>
-    ensures { Puts BinaryFault.OutOfMemory result out.old.items out.new.items (vector.canon title.now.vector) }
+    ensures { Puts BinaryFault.OutOfMemory result out.old.items out.new.items
+        (vector.canon title.now.vector) }
 {
     match title.vector.put(out) {
         Ok(()) => Ok(()),
@@ -34,7 +35,8 @@ fn put_vector(out: &mut Vec<u8>, title: &Title) -> Result<(), BinaryFault>
 
 #[tactic(auto, using(ua_binary::proofs::Kept::kept), unfolding(crate::specs::Frames::title))]
 fn put_title(out: &mut Vec<u8>, v: &Title) -> Result<(), BinaryFault>
-    ensures { PutsPart BinaryFault.OutOfMemory result out.old.items out.new.items (title.canon v.now) }
+    ensures { PutsPart BinaryFault.OutOfMemory result out.old.items out.new.items
+        (title.canon v.now) }
 {
     put_u8(out, 2)?;
     put_block(out, v.id.as_bytes())?;
@@ -56,7 +58,8 @@ fn size_of(v: &Record) -> u32
 #[tactic(auto, using(ua_binary::proofs::Kept::kept), unfolding(crate::specs::Frames::framed))]
 fn put_framed_parts(out: &mut Vec<u8>, v: &Record) -> Result<(), BinaryFault>
     requires { IsRecord v.now }
-    ensures { PutsPart BinaryFault.OutOfMemory result out.old.items out.new.items (framed.canon v.now) }
+    ensures { PutsPart BinaryFault.OutOfMemory result out.old.items out.new.items
+        (framed.canon v.now) }
 {
     put_u32(out, size_of(v))?;
     match put_record(out, v) {
@@ -77,7 +80,8 @@ fn put_framed(out: &mut Vec<u8>, v: &Record) -> Result<(), BinaryFault>
 #[tactic(auto, using(ua_binary::proofs::Kept::kept))]
 fn put_records(out: &mut Vec<u8>, records: &[Record]) -> Result<(), BinaryFault>
     requires { All IsRecord records.now }
-    ensures { PutsPart BinaryFault.OutOfMemory result out.old.items out.new.items (flat_map framed.canon records.now) }
+    ensures { PutsPart BinaryFault.OutOfMemory result out.old.items out.new.items
+        (flat_map framed.canon records.now) }
 {
     for held in records {
         put_framed(out, held)?;
@@ -87,8 +91,9 @@ fn put_records(out: &mut Vec<u8>, records: &[Record]) -> Result<(), BinaryFault>
 
 #[tactic(auto, using(ua_binary::proofs::Kept::kept))]
 fn put_body(out: &mut Vec<u8>, message: &Message) -> Result<(), BinaryFault>
-    requires { IsSpelled message.now }
-    ensures { PutsPart BinaryFault.OutOfMemory result out.old.items out.new.items (body_of message.now) }
+    requires { HasFrame message.now }
+    ensures { PutsPart BinaryFault.OutOfMemory result out.old.items out.new.items
+        (frame_body_of message.now) }
 {
     match message {
         Message::Asks(title) => put_title(out, title),
@@ -102,7 +107,7 @@ fn put_body(out: &mut Vec<u8>, message: &Message) -> Result<(), BinaryFault>
 }
 
 fn letters_of(message: &Message) -> &'static [u8]
-    ensures { result.now ≡ letters (kind_of message.now) }
+    ensures { result.now ≡ frame_letters (kind_of message.now) }
 {
     match message {
         Message::Asks(_) => b"RXVF",
@@ -113,9 +118,10 @@ fn letters_of(message: &Message) -> &'static [u8]
 
 #[tactic(auto, using(ua_binary::proofs::Kept::kept))]
 fn put_parts(out: &mut Vec<u8>, message: &Message, body: &[u8]) -> Result<(), BinaryFault>
-    requires body { body.now ≡ body_of message.now }
+    requires body { body.now ≡ frame_body_of message.now }
     requires short { length body.now + 8 ≤ longest_frame }
-    ensures { PutsPart BinaryFault.OutOfMemory result out.old.items out.new.items (frame_of message.now) }
+    ensures { PutsPart BinaryFault.OutOfMemory result out.old.items out.new.items
+        (frame_of message.now) }
 {
     put_block(out, letters_of(message))?;
     put_u32(out, body.len() as u32 + 8)?;
@@ -130,7 +136,7 @@ pub(crate) fn put_message(
     out: &mut Vec<u8>,
     message: &Message,
 ) -> Result<(), ExchangeFault>
-    requires { IsSpelled message.now }
+    requires { HasFrame message.now }
     ensures { Puts fault.OutOfMemory result out.old.items out.new.items (frame_of message.now) }
 {
     let mut body = Vec::new(alloc);
@@ -154,7 +160,8 @@ fn is_record(v: &Record) -> bool
 /// Whether records have spellings, and come with their lengths to at most so many bytes.
 fn are_spelled(room: usize, records: &[Record]) -> bool
     requires { room ≤ longest_frame }
-    ensures { IsTrue result → (AllByRecursion IsRecord records.now × (records_length records.now ≤ room)) }
+    ensures { IsTrue result
+        → (AllByRecursion IsRecord records.now × (records_length records.now ≤ room)) }
 {
     let mut left = room;
     for held in records {
@@ -176,7 +183,10 @@ pub(crate) fn is_spelled(
 ) -> Result<bool, ExchangeFault>
     requires { IsTitle title.now }
     ensures err { IfErr result (λ e. e ≡ fault.OutOfMemory) }
-    ensures ok { IfOk result (λ b. IsTrue b → (AllByRecursion IsRecord records.now × (length records.now ≤ 1000) × (frame_length title.now.vector records.now ≤ longest_frame))) }
+    ensures ok { IfOk result
+        (λ b. IsTrue b
+        → (AllByRecursion IsRecord records.now × (length records.now ≤ 1000)
+        × (frame_length title.now.vector records.now ≤ longest_frame))) }
 {
     let mut own = Vec::new(alloc);
     if put_title(&mut own, title).is_err() {

@@ -19,16 +19,16 @@ use Rattle.exchange.specs.Dialogs.{party_of}
 use Rattle.exchange.specs.Meetings.{CanMeet}
 use Rattle.exchange.specs.Running.{AreSites, IsSiteOf}
 use Rattle.exchange.specs.Worlds as worlds
-use Rattle.exchange.specs.Worlds.{Site, World, Event, IsSite, IsSound, AreUpdates, run}
+use Rattle.exchange.specs.Worlds.{ReplicaState, World, Event, IsReplicaAt, IsConsistent, AreUpdates, run}
 use Rattle.exchange.proofs.WorldLemmas.{get-set_same, get-set_other}
 use Rattle.exchange.proofs.HappenLemmas.{site_there, sites_set, set_same}
 use Rattle.exchange.proofs.ConverseLemmas.{IsParty}
 use Rattle.ua_peers.specs.Events.{IsExchange, AreExchanges}
 use Rattle.ua_server.proofs.Updated.{updates_made}
 use Rattle.ua_peers.proofs.Exchanged.{run_append, exchanged, ends_kept}
-use Rattle.headline.specs.Pasts.{IsLawfulEvent, Past, IsPast, world_at, IsAt, Was, HaveLearnedSame, IsBeginning}
-use Rattle.headline.specs.Answers.{IsInUse, IsReplicaOf, IsAnswered, IsFree}
-use Rattle.headline.specs.Machines.{GoesOnAs, IsMachine, AreInUse, AreNew, AreOf, GoOn, Serves, Meet, Restarts}
+use Rattle.headline.specs.Executions.{IsLawfulEvent, Execution, IsExecution, world_at, IsStateAt, IsReachable, HasSameRecords, IsBeginning}
+use Rattle.headline.specs.Answers.{IsInUse, IsReplicaOf, IsReadAnswered, ReportsNoFailure}
+use Rattle.headline.specs.Machines.{RestartsAs, IsMachine, AreInUse, AreNew, Simulates, ExtendsTo, Serves, MachinesSync, Restarts}
 use Rattle.headline.proofs.Times.{sound_at, replica_at, learned_even}
 use Rattle.headline.proofs.Alike.{answered_alike}
 
@@ -90,17 +90,17 @@ held_by : (a : Store) (R : Content) → IsInUse a → a.content ≡ R → IsLeft
 held_by a R used held = inl (used.whole, held)
 
 -- and it holds what its replica does
-in_site : (a : Store) (s : Site) → IsInUse a → IsSiteOf a s → a.content ≡ s.content
+in_site : (a : Store) (s : ReplicaState) → IsInUse a → IsSiteOf a s → a.content ≡ s.content
 in_site a s used is = sym (left-alone a s.content used.rests used.honest used.whole is.content)
 
 -- the end of a past is a time of it
-pub ends_at : (p : Past) → world_at p (length p.events) ≡ run p.events p.start
+pub ends_at : (p : Execution) → world_at p (length p.events) ≡ run p.events p.start
 ends_at p = ap (λ (l : List Event). run l p.start) (take_all (length p.events) p.events (omega arith))
 
 module _ {A : Type 0} (state : A → Store) where
   -- ---- the beginning
 
-  abbrev pub first_site : A → Site
+  abbrev pub first_site : A → ReplicaState
   first_site a = record { id = (state a).id; number = (state a).own; content = [] }
 
   first_sites : (machines : List A) → AreInUse state machines → AllByRecursion (λ a. (state a).content ≡ []) machines → AreSites state machines (map first_site machines)
@@ -108,24 +108,24 @@ module _ {A : Type 0} (state : A → Store) where
   first_sites (a ∷ machines) used empty = (record { id = refl; number = refl; content = held_by (state a) [] used.0 empty.0 }, first_sites machines used.1 empty.1)
 
   abbrev pub first_world : List A → World
-  first_world machines = record { sites = map first_site machines; pool = [] }
+  first_world machines = record { replicas = map first_site machines; pool = [] }
 
   pub beginning : (machines : List A) → AreNew state machines → IsBeginning (first_world machines)
   beginning machines new = record {
     replicas = λ i s at.
         let a = get_map first_site machines i s at in
         let is = all_there (λ a. IsReplica (state a).own × (length (state a).id ≡ 16)) machines i a.0 new.replicas a.1 in
-        subst (λ (x : Site). IsReplica x.number × (length x.id ≡ 16) × (x.content ≡ [])) (sym a.2) (is.0, is.1, refl);
+        subst (λ (x : ReplicaState). IsReplica x.number × (length x.id ≡ 16) × (x.content ≡ [])) (sym a.2) (is.0, is.1, refl);
     together = λ i j s t at to.
         let a = get_map first_site machines i s at in
         let b = get_map first_site machines j t to in (
-          ap (λ (x : Site). x.id) a.2 ∙ (new.one i j a.0 b.0 a.1 b.1 ∙ ap (λ (x : Site). x.id) (sym b.2)),
-          λ e. new.apart i j a.0 b.0 a.1 b.1 (ap (λ (x : Site). x.number) (sym a.2) ∙ (e ∙ ap (λ (x : Site). x.number) b.2)),
+          ap (λ (x : ReplicaState). x.id) a.2 ∙ (new.one i j a.0 b.0 a.1 b.1 ∙ ap (λ (x : ReplicaState). x.id) (sym b.2)),
+          λ e. new.apart i j a.0 b.0 a.1 b.1 (ap (λ (x : ReplicaState). x.number) (sym a.2) ∙ (e ∙ ap (λ (x : ReplicaState). x.number) b.2)),
         );
     pool = refl;
   }
 
-  pub begun : (machines : List A) → AreNew state machines → (p : Past) × (p.events ≡ []) × AreOf state p machines
+  pub begun : (machines : List A) → AreNew state machines → (p : Execution) × (p.events ≡ []) × Simulates state p machines
   begun machines new = (
     record { start = first_world machines; events = [] },
     refl,
@@ -142,54 +142,54 @@ module _ {A : Type 0} (state : A → Store) where
   -- ---- what happens since
 
   -- lawful events, behind which the machines hold what the replicas do
-  goes_on : (p : Past) (machines : List A) (more : List Event) → IsPast p → AreInUse state machines → AllByRecursion IsLawfulEvent more → AreSites state machines (run more (run p.events p.start)).sites → GoOn state p machines
+  goes_on : (p : Execution) (machines : List A) (more : List Event) → IsExecution p → AreInUse state machines → AllByRecursion IsLawfulEvent more → AreSites state machines (run more (run p.events p.start)).replicas → ExtendsTo state p machines
   goes_on p machines more past used lawful hold = (
     record p { events = p.events ++ more },
     (more, refl),
     record {
       past = record { begins = past.begins; lawful = all_append IsLawfulEvent p.events more past.lawful lawful };
       used = used;
-      hold = subst (λ (w : World). AreSites state machines w.sites) (sym (run_append p.events more p.start)) hold;
+      hold = subst (λ (w : World). AreSites state machines w.replicas) (sym (run_append p.events more p.start)) hold;
     },
   )
 
   -- a machine that goes on holds what its replica does
-  goes_as : (left later : Store) (s : Site) → GoesOnAs left later → left.id ≡ s.id → left.own ≡ s.number → IsSiteOf later (record s { content = later.content })
+  goes_as : (left later : Store) (s : ReplicaState) → RestartsAs left later → left.id ≡ s.id → left.own ≡ s.number → IsSiteOf later (record s { content = later.content })
   goes_as left later s goes id own = record { id = goes.id ∙ id; number = goes.own ∙ own; content = held_by later later.content goes.used refl }
 
   lawful_later : (a : Store) → IsInUse a → (r : Record) → Has a.content r → IsLawfulRecord r
   lawful_later a used r h = (settled a used).lawful.records r h
 
-  pub served : (p : Past) (old new : List A) → AreOf state p old → Serves state old new → GoOn state p new
+  pub served : (p : Execution) (old new : List A) → Simulates state p old → Serves state old new → ExtendsTo state p new
   served p old new are serves =
       let w = run p.events p.start in
-      let site = site_there state old w.sites serves.place serves.before are.hold serves.there in
+      let site = site_there state old w.replicas serves.place serves.before are.hold serves.there in
       let s = site.0 in
       let used = all_there (λ a. IsInUse (state a)) old serves.place serves.before are.used serves.there in
       let made = updates_made serves.settings (state serves.before) (state serves.behind) serves.first serves.unread serves.left serves.written serves.after serves.given serves.ending serves.serves used.rests used.whole serves.honest
       w serves.place s (state serves.later).content serves.goes.content (lawful_later (state serves.later) serves.goes.used) site.1 (sym site.2.number) (sym (in_site (state serves.before) s used site.2)) in
       let v = run made.0 w in
-      let t : Site = record s { content = (state serves.later).content } in
-      let sites : v.sites ≡ slice_set w.sites serves.place t = set_by w.sites v.sites serves.place s t site.1 made.2.here made.2.others in
+      let t : ReplicaState = record s { content = (state serves.later).content } in
+      let sites : v.replicas ≡ slice_set w.replicas serves.place t = set_by w.replicas v.replicas serves.place s t site.1 made.2.here made.2.others in
       let passes = serves.serves.served.passes in
-      let hold : AreSites state (slice_set old serves.place serves.later) (slice_set w.sites serves.place t) =
-      sites_set state old w.sites serves.place serves.later t are.hold (goes_as (state serves.behind) (state serves.later) s serves.goes (passes.id ∙ site.2.id) (passes.own ∙ site.2.number)) in
-      subst (GoOn state p) (sym serves.now)
+      let hold : AreSites state (slice_set old serves.place serves.later) (slice_set w.replicas serves.place t) =
+      sites_set state old w.replicas serves.place serves.later t are.hold (goes_as (state serves.behind) (state serves.later) s serves.goes (passes.id ∙ site.2.id) (passes.own ∙ site.2.number)) in
+      subst (ExtendsTo state p) (sym serves.now)
       (goes_on p (slice_set old serves.place serves.later) made.0 are.past (all_set (λ a. IsInUse (state a)) old serves.place serves.later are.used serves.goes.used) (updates_lawful serves.place made.0 made.1)
       (subst (AreSites state (slice_set old serves.place serves.later)) (sym sites) hold))
 
   -- two machines of a past may meet
-  may_meet : (p : Past) (machines : List A) (i j : ℕ) (a b : A) → AreOf state p machines → (i ≡ j → ⊥) → IsMachine state machines i a → IsMachine state machines j b
+  may_meet : (p : Execution) (machines : List A) (i j : ℕ) (a b : A) → Simulates state p machines → (i ≡ j → ⊥) → IsMachine state machines i a → IsMachine state machines j b
       → CanMeet (state a) (state b) × IsParty (party_of (state a)) × IsParty (party_of (state b))
   may_meet p machines i j a b are other at to =
       let w = run p.events p.start in
-      let x = site_there state machines w.sites i a are.hold at in
-      let y = site_there state machines w.sites j b are.hold to in
+      let x = site_there state machines w.replicas i a are.hold at in
+      let y = site_there state machines w.replicas j b are.hold to in
       let used = all_there (λ a. IsInUse (state a)) machines i a are.used at in
       let used' = all_there (λ a. IsInUse (state a)) machines j b are.used to in
-      let sound : IsSound w = subst IsSound (ends_at p) (sound_at p are.past (length p.events)) in
-      let is = replica_at p (length p.events) i x.0 are.past (subst (λ (v : World). IsSite v i x.0) (sym (ends_at p)) x.1) in
-      let is' = replica_at p (length p.events) j y.0 are.past (subst (λ (v : World). IsSite v j y.0) (sym (ends_at p)) y.1) in
+      let sound : IsConsistent w = subst IsConsistent (ends_at p) (sound_at p are.past (length p.events)) in
+      let is = replica_at p (length p.events) i x.0 are.past (subst (λ (v : World). IsReplicaAt v i x.0) (sym (ends_at p)) x.1) in
+      let is' = replica_at p (length p.events) j y.0 are.past (subst (λ (v : World). IsReplicaAt v j y.0) (sym (ends_at p)) y.1) in
       let content : (state a).content ≡ x.0.content = in_site (state a) x.0 used x.2 in
       let content' : (state b).content ≡ y.0.content = in_site (state b) y.0 used' y.2 in (
         record {
@@ -203,11 +203,11 @@ module _ {A : Type 0} (state : A → Store) where
         record { id = ap length y.2.id ∙ is'.1; own = subst IsReplica (sym y.2.number) is'.0 },
       )
 
-  pub met : (p : Past) (old new : List A) → AreOf state p old → Meet state old new → GoOn state p new
+  pub met : (p : Execution) (old new : List A) → Simulates state p old → MachinesSync state old new → ExtendsTo state p new
   met p old new are meet =
       let w = run p.events p.start in
-      let x = site_there state old w.sites meet.caller meet.before are.hold meet.there in
-      let y = site_there state old w.sites meet.peer meet.peer_before are.hold meet.peer_there in
+      let x = site_there state old w.replicas meet.caller meet.before are.hold meet.there in
+      let y = site_there state old w.replicas meet.peer meet.peer_before are.hold meet.peer_there in
       let used = all_there (λ a. IsInUse (state a)) old meet.caller meet.before are.used meet.there in
       let used' = all_there (λ a. IsInUse (state a)) old meet.peer meet.peer_before are.used meet.peer_there in
       let can = may_meet p old meet.caller meet.peer meet.before meet.peer_before are meet.apart meet.there meet.peer_there in
@@ -218,53 +218,53 @@ module _ {A : Type 0} (state : A → Store) where
       let events = traded.0 in
       let to = traded.2 in
       let v = run events w in
-      let s : Site = record x.0 { content = A' } in
-      let t : Site = record y.0 { content = B' } in
-      let one = slice_set w.sites meet.caller s in
+      let s : ReplicaState = record x.0 { content = A' } in
+      let t : ReplicaState = record y.0 { content = B' } in
+      let one = slice_set w.replicas meet.caller s in
       let kept = ends_kept (state meet.before) (state meet.behind) (state meet.peer_before) (state meet.peer_behind) meet.ends in
-      let sites : v.sites ≡ slice_set one meet.peer t =
-      set_by one v.sites meet.peer y.0 t (get-set_other w.sites meet.caller meet.peer s (λ e. meet.apart (sym e)) ∙ y.1) to.there
+      let sites : v.replicas ≡ slice_set one meet.peer t =
+      set_by one v.replicas meet.peer y.0 t (get-set_other w.replicas meet.caller meet.peer s (λ e. meet.apart (sym e)) ∙ y.1) to.there
       (λ j other. elim (cases_eq j meet.caller) [
-        | inl e ↦ ap (slice_get v.sites) e ∙ (to.here ∙ (sym (get-set_same w.sites meet.caller s x.0 x.1) ∙ ap (slice_get one) (sym e)))
-        | inr there ↦ to.others j there other ∙ sym (get-set_other w.sites meet.caller j s there)
+        | inl e ↦ ap (slice_get v.replicas) e ∙ (to.here ∙ (sym (get-set_same w.replicas meet.caller s x.0 x.1) ∙ ap (slice_get one) (sym e)))
+        | inr there ↦ to.others j there other ∙ sym (get-set_other w.replicas meet.caller j s there)
       ]) in
-      let half = sites_set state old w.sites meet.caller meet.later s are.hold (goes_as (state meet.behind) (state meet.later) x.0 meet.goes (kept.0 ∙ x.2.id) (kept.1 ∙ x.2.number)) in
+      let half = sites_set state old w.replicas meet.caller meet.later s are.hold (goes_as (state meet.behind) (state meet.later) x.0 meet.goes (kept.0 ∙ x.2.id) (kept.1 ∙ x.2.number)) in
       let hold = sites_set state (slice_set old meet.caller meet.later) one meet.peer meet.peer_later t half (goes_as (state meet.peer_behind) (state meet.peer_later) y.0 meet.peer_goes (kept.2 ∙ y.2.id) (kept.3 ∙ y.2.number)) in
       let machines = slice_set (slice_set old meet.caller meet.later) meet.peer meet.peer_later in
-      subst (GoOn state p) (sym meet.now)
+      subst (ExtendsTo state p) (sym meet.now)
       (goes_on p machines events are.past
       (all_set (λ a. IsInUse (state a)) (slice_set old meet.caller meet.later) meet.peer meet.peer_later (all_set (λ a. IsInUse (state a)) old meet.caller meet.later are.used meet.goes.used) meet.peer_goes.used)
       (exchanges_lawful meet.caller meet.peer events traded.1) (subst (AreSites state machines) (sym sites) hold))
 
-  pub restarted : (p : Past) (old new : List A) → AreOf state p old → Restarts state old new → GoOn state p new
+  pub restarted : (p : Execution) (old new : List A) → Simulates state p old → Restarts state old new → ExtendsTo state p new
   restarted p old new are restarts =
       let w = run p.events p.start in
-      let x = site_there state old w.sites restarts.place restarts.before are.hold restarts.there in
+      let x = site_there state old w.replicas restarts.place restarts.before are.hold restarts.there in
       let used = all_there (λ a. IsInUse (state a)) old restarts.place restarts.before are.used restarts.there in
       let left : (state restarts.later).content ≡ (state restarts.before).content = elim restarts.goes.content [ inl is ↦ sym is.1 | inr found ↦ (settled (state restarts.before) used).only (state restarts.later).content found ] in
       let content : (state restarts.later).content ≡ x.0.content = left ∙ in_site (state restarts.before) x.0 used x.2 in
-      let hold = sites_set state old w.sites restarts.place restarts.later x.0 are.hold
+      let hold = sites_set state old w.replicas restarts.place restarts.later x.0 are.hold
       (record { id = restarts.goes.id ∙ x.2.id; number = restarts.goes.own ∙ x.2.number; content = held_by (state restarts.later) x.0.content restarts.goes.used content }) in
-      subst (GoOn state p) (sym restarts.now)
+      subst (ExtendsTo state p) (sym restarts.now)
       (goes_on p (slice_set old restarts.place restarts.later) (worlds.Restarts restarts.place ∷ []) are.past (all_set (λ a. IsInUse (state a)) old restarts.place restarts.later are.used restarts.goes.used) (tt, tt)
-      (subst (AreSites state (slice_set old restarts.place restarts.later)) (set_same w.sites restarts.place x.0 x.1) hold))
+      (subst (AreSites state (slice_set old restarts.place restarts.later)) (set_same w.replicas restarts.place x.0 x.1) hold))
 
   -- ---- what that says of them
 
-  pub replica_now : (p : Past) (machines : List A) (place : ℕ) (a : A) → AreOf state p machines → IsMachine state machines place a
-      → (s : Site) × IsAt p (length p.events) place s × IsReplicaOf (state a) s × ((state a).own ≡ s.number) × ((state a).content ≡ s.content)
+  pub replica_now : (p : Execution) (machines : List A) (place : ℕ) (a : A) → Simulates state p machines → IsMachine state machines place a
+      → (s : ReplicaState) × IsStateAt p (length p.events) place s × IsReplicaOf (state a) s × ((state a).own ≡ s.number) × ((state a).content ≡ s.content)
   replica_now p machines place a are at =
-      let x = site_there state machines (run p.events p.start).sites place a are.hold at in
+      let x = site_there state machines (run p.events p.start).replicas place a are.hold at in
       let used = all_there (λ a. IsInUse (state a)) machines place a are.used at in
-      (x.0, subst (λ (v : World). IsSite v place x.0) (sym (ends_at p)) x.1, record { used = used; id = x.2.id; content = in_site (state a) x.0 used x.2 }, x.2.number, in_site (state a) x.0 used x.2)
+      (x.0, subst (λ (v : World). IsReplicaAt v place x.0) (sym (ends_at p)) x.1, record { used = used; id = x.2.id; content = in_site (state a) x.0 used x.2 }, x.2.number, in_site (state a) x.0 used x.2)
 
-  pub alike : (p : Past) (machines : List A) (i j : ℕ) (a b c d : A) (node : NodeId) (query : Query) (point : Option (List ℕ)) (one other : HistoryReadResult) → AreOf state p machines → IsMachine state machines i a → IsMachine state machines j b
+  pub alike : (p : Execution) (machines : List A) (i j : ℕ) (a b c d : A) (node : NodeId) (query : Query) (point : Option (List ℕ)) (one other : HistoryReadResult) → Simulates state p machines → IsMachine state machines i a → IsMachine state machines j b
       → ((origin : ℕ) → vec (state a).content origin ≡ vec (state b).content origin) → (state c).honest → (state d).honest
-      → IsAnswered (state a) (state c) node query point one → IsAnswered (state b) (state d) node query point other → IsFree one → IsFree other → one ≡ other
+      → IsReadAnswered (state a) (state c) node query point one → IsReadAnswered (state b) (state d) node query point other → ReportsNoFailure one → ReportsNoFailure other → one ≡ other
   alike p machines i j a b c d node query point one other are at to even honest honest' asked asked' free free' =
       let x = replica_now p machines i a are at in
       let y = replica_now p machines j b are to in
-      let was : Was p x.0 = (length p.events, i, x.1) in
-      let was' : Was p y.0 = (length p.events, j, y.1) in
-      let same : HaveLearnedSame x.0 y.0 = (learned_even p x.0 y.0 are.past was was').1 (λ origin. ap (λ (S : Content). vec S origin) (sym x.4) ∙ (even origin ∙ ap (λ (S : Content). vec S origin) y.4)) in
+      let was : IsReachable p x.0 = (length p.events, i, x.1) in
+      let was' : IsReachable p y.0 = (length p.events, j, y.1) in
+      let same : HasSameRecords x.0 y.0 = (learned_even p x.0 y.0 are.past was was').1 (λ origin. ap (λ (S : Content). vec S origin) (sym x.4) ∙ (even origin ∙ ap (λ (S : Content). vec S origin) y.4)) in
       answered_alike p x.0 y.0 (state a) (state c) (state b) (state d) node query point one other are.past was was' same x.2 y.2 honest honest' asked asked' free free'

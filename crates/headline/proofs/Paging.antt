@@ -13,7 +13,7 @@ use Rattle.ua_services.specs.declared.history.ReadRawModifiedDetails.{ReadRawMod
 use Rattle.ua_services.specs.declared.history.HistoryReadResult.{HistoryReadResult}
 use Rattle.records.specs.Contents.{Content, vec, numbers_of, cut}
 use Rattle.records.proofs.Sorting.{all_weaker}
-use Rattle.archive.specs.Store.{Mark, Fine, IsLawfulContent}
+use Rattle.archive.specs.Store.{StepResult, Done, IsLawfulContent}
 use Rattle.archive.proofs.Vectors.{numbers_are}
 use Rattle.hist_read.specs.declared.query.Query.{Query}
 use Rattle.hist_read.specs.declared.point.Position.{Position}
@@ -22,13 +22,13 @@ use Rattle.hist_read.specs.Point.{Point, IsDetails, point_in}
 use Rattle.hist_read.specs.Reads.{raw, raw_position, modified, modified_position, next_place}
 use Rattle.hist_read.proofs.Agreeing.{place_told}
 use Rattle.hist_read.proofs.Results.{raw_result, modified_result}
-use Rattle.hist_read.specs.Node.{Behind, is_enough, judged, point_at, page_result, page_from, place_in, refused}
+use Rattle.hist_read.specs.Node.{Behind, is_enough, checked_read, point_at, page_result, page_from, resume_place, refused_read}
 use Rattle.hist_read.proofs.NodeParts.{read_from, covers, agrees}
-use Rattle.hist_read.specs.Chains.{Page, IsRead, Chain, whole, values_in, infos_in, joined_values, joined_infos, IsLater, IsAsked, contents_from}
+use Rattle.hist_read.specs.Chains.{Page, IsRead, Chain, whole_read, values_in, infos_in, joined_values, joined_infos, IsLater, IsAsked, contents_from}
 use Rattle.hist_read.proofs.Cutting.{vectors_below}
-use Rattle.exchange.specs.Worlds.{Site}
-use Rattle.headline.specs.Pasts.{Past, IsPast, Was, Covers}
-use Rattle.headline.specs.Answers.{answer_of}
+use Rattle.exchange.specs.Worlds.{ReplicaState}
+use Rattle.headline.specs.Executions.{Execution, IsExecution, IsReachable, Covers}
+use Rattle.headline.specs.Answers.{replica_answer}
 use Rattle.headline.specs.Readings.{IsPageBehind, IsReading, ShowWhole, HavePages}
 use Rattle.headline.proofs.Times.{lawful_was, sixteen_was, together}
 
@@ -39,16 +39,16 @@ abbrev guarded : (a b : Bool) → Result (Option Behind) Status
 guarded a b = cond a (Err BAD_INVALID_ARGUMENT) (cond b (Err BAD_HISTORY_OPERATION_INVALID) (Ok None))
 
 -- what was read without a point isn't refused
-asked_is : (id : List ℕ) (node : NodeId) (query : Query) (first : Page) → IsRead id node query None first → judged id node query.details None ≡ Ok None
+asked_is : (id : List ℕ) (node : NodeId) (query : Query) (first : Page) → IsRead id node query None first → checked_read id node query.details None ≡ Ok None
 asked_is id node query first read = go (q.is_read_modified && q.return_bounds) (not (is_enough q)) (read.does [])
   where
     q : Details
     q = query.details
 
-    go : (a b : Bool) → read_from id node query first.content (guarded a b) (Fine ∷ []) ≡ ((first.result, first.content), [])
+    go : (a b : Bool) → read_from id node query first.content (guarded a b) (Done ∷ []) ≡ ((first.result, first.content), [])
         → guarded a b ≡ Ok None
-    go true b e = let left = ap (λ (x : (HistoryReadResult × Content) × List Mark). length x.1) e in absurd (omega (arith, left))
-    go false true e = let left = ap (λ (x : (HistoryReadResult × Content) × List Mark). length x.1) e in absurd (omega (arith, left))
+    go true b e = let left = ap (λ (x : (HistoryReadResult × Content) × List StepResult). length x.1) e in absurd (omega (arith, left))
+    go false true e = let left = ap (λ (x : (HistoryReadResult × Content) × List StepResult). length x.1) e in absurd (omega (arith, left))
     go false false e = refl
 
 guards : (a b : Bool) (x : Result (Option Behind) Status) → guarded a b ≡ Ok None → cond a (Err BAD_INVALID_ARGUMENT) (cond b (Err BAD_HISTORY_OPERATION_INVALID) x) ≡ x
@@ -57,15 +57,15 @@ guards false true x e = absurd (cc)
 guards false false x e = refl
 
 -- what isn't refused without a point goes on where a point says
-judged_is : (id : List ℕ) (node : NodeId) (q : Details) → judged id node q None ≡ Ok None → (point : Option (List ℕ)) → judged id node q point ≡ place_in id node q point
-judged_is id node q e point = guards (q.is_read_modified && q.return_bounds) (not (is_enough q)) (place_in id node q point) e
+judged_is : (id : List ℕ) (node : NodeId) (q : Details) → checked_read id node q None ≡ Ok None → (point : Option (List ℕ)) → checked_read id node q point ≡ resume_place id node q point
+judged_is id node q e point = guards (q.is_read_modified && q.return_bounds) (not (is_enough q)) (resume_place id node q point) e
 
-read_is : (id : List ℕ) (node : NodeId) (query : Query) (point : Option (List ℕ)) (behind : Option Behind) (first : Page) → judged id node query.details point ≡ Ok behind → IsRead id node query point first → first.result ≡ page_from first.content id node query behind
+read_is : (id : List ℕ) (node : NodeId) (query : Query) (point : Option (List ℕ)) (behind : Option Behind) (first : Page) → checked_read id node query.details point ≡ Ok behind → IsRead id node query point first → first.result ≡ page_from first.content id node query behind
 read_is id node query point behind first told read =
-    ap (λ (x : (HistoryReadResult × Content) × List Mark). x.0.0) (sym (read.does []) ∙ ap (λ j. read_from id node query first.content j (Fine ∷ [])) told)
+    ap (λ (x : (HistoryReadResult × Content) × List StepResult). x.0.0) (sym (read.does []) ∙ ap (λ j. read_from id node query first.content j (Done ∷ [])) told)
 
 -- a read that isn't refused is given a time
-pub given_is : (id : List ℕ) (node : NodeId) (q : Details) → judged id node q None ≡ Ok None → (is_given q.start_time.0 || is_given q.end_time.0) ≡ true
+pub given_is : (id : List ℕ) (node : NodeId) (q : Details) → checked_read id node q None ≡ Ok None → (is_given q.start_time.0 || is_given q.end_time.0) ≡ true
 given_is id node q e = go (q.is_read_modified && q.return_bounds) (is_given q.start_time.0) (is_given q.end_time.0) (not (q.num_values_per_node == 0)) e
   where
     go : (a s t n : Bool) → guarded a (not (cond s (t || n) (t && n))) ≡ Ok None → (s || t) ≡ true
@@ -85,7 +85,7 @@ never_read q none id node stamps first pages asked lawful later chain =
 
 -- ---- pages at replicas
 
-module _ (p : Past) (past : IsPast p) (t : Site) (was : Was p t) where
+module _ (p : Execution) (past : IsExecution p) (t : ReplicaState) (was : IsReachable p t) where
   later_page : (R : Content) → R ≡ t.content → (page : Page) → IsPageBehind p t page → IsLater R page.content
   later_page R same page behind = subst (λ C. IsLater R C) (sym behind.2) (subst (λ C. IsLater C behind.0.content) (sym same) (record {
     lawful = lawful_was p behind.0 past behind.1;
@@ -101,13 +101,13 @@ module _ (p : Past) (past : IsPast p) (t : Site) (was : Was p t) where
       abbrev query : Query
       query = record { details = q; stamps = stamps }
 
-      pub reading_shows : ShowWhole q → (pages : List Page) → IsReading p t node query pages → (joined_values pages ≡ values_in (whole t.content node query)) × (joined_infos pages ≡ infos_in (whole t.content node query))
+      pub reading_shows : ShowWhole q → (pages : List Page) → IsReading p t node query pages → (joined_values pages ≡ values_in (whole_read t.content node query)) × (joined_infos pages ≡ infos_in (whole_read t.content node query))
       reading_shows shows pages reading =
           let lawful : IsLawfulContent reading.0.content = subst IsLawfulContent (sym reading.3) (lawful_was p t past was) in
           let later = all_weaker (IsPageBehind p t) (λ page. IsLater reading.0.content page.content) (later_page reading.0.content reading.3) reading.1 reading.4 in
           let both = shows t.id node stamps reading.0 reading.1 is_asked lawful later (subst (Chain t.id node query None) reading.2 reading.5) in (
-            ap joined_values reading.2 ∙ (both.0 ∙ ap (λ R. values_in (whole R node query)) reading.3),
-            ap joined_infos reading.2 ∙ (both.1 ∙ ap (λ R. infos_in (whole R node query)) reading.3),
+            ap joined_values reading.2 ∙ (both.0 ∙ ap (λ R. values_in (whole_read R node query)) reading.3),
+            ap joined_infos reading.2 ∙ (both.1 ∙ ap (λ R. infos_in (whole_read R node query)) reading.3),
           )
 
       -- ---- the points
@@ -130,8 +130,8 @@ module _ (p : Past) (past : IsPast p) (t : Site) (was : Was p t) where
           ]
 
 -- a replica that has less of an origin than the point's vector refuses it
-pub point_refused : (p : Past) (u : Site) (node : NodeId) (q : Details) (stamps : TimestampsToReturn) (bytes : List ℕ) (told : Point) (origin : ℕ) → IsPast p → Was p u → judged u.id node q None ≡ Ok None
-    → point_in bytes ≡ Some told → vec u.content origin < number_of told.vector origin → answer_of (record { details = q; stamps = stamps }) u node (Some bytes) ≡ refused BAD_CONTINUATION_POINT_INVALID
+pub point_refused : (p : Execution) (u : ReplicaState) (node : NodeId) (q : Details) (stamps : TimestampsToReturn) (bytes : List ℕ) (told : Point) (origin : ℕ) → IsExecution p → IsReachable p u → checked_read u.id node q None ≡ Ok None
+    → point_in bytes ≡ Some told → vec u.content origin < number_of told.vector origin → replica_answer (record { details = q; stamps = stamps }) u node (Some bytes) ≡ refused_read BAD_CONTINUATION_POINT_INVALID
 point_refused p u node q stamps bytes told origin past was ok is less =
     let query : Query = record { details = q; stamps = stamps } in
     let test : covers u.content told.vector ≡ false = untrue (covers u.content told.vector) (λ yes.
@@ -145,13 +145,13 @@ point_refused p u node q stamps bytes told origin past was ok is less =
     untrue true f = absurd (f refl)
     untrue false f = refl
 
-    by_agreeing : (query : Query) → covers u.content told.vector ≡ false → (b : Bool) → (read_from u.id node query u.content (cond b (Ok (Some (told.position, told.vector))) (Err BAD_CONTINUATION_POINT_INVALID)) []).0.0 ≡ refused BAD_CONTINUATION_POINT_INVALID
-    by_agreeing query test true = ap (λ b. cond b (page_result (cut u.content (number_of told.vector)) told.vector u.id node query (Some told.position)) (refused BAD_CONTINUATION_POINT_INVALID)) test
+    by_agreeing : (query : Query) → covers u.content told.vector ≡ false → (b : Bool) → (read_from u.id node query u.content (cond b (Ok (Some (told.position, told.vector))) (Err BAD_CONTINUATION_POINT_INVALID)) []).0.0 ≡ refused_read BAD_CONTINUATION_POINT_INVALID
+    by_agreeing query test true = ap (λ b. cond b (page_result (cut u.content (number_of told.vector)) told.vector u.id node query (Some told.position)) (refused_read BAD_CONTINUATION_POINT_INVALID)) test
     by_agreeing query test false = refl
 
 -- ---- pages come to an end
 
-module _ (p : Past) (past : IsPast p) (visits : ℕ → Site) (go : (n : ℕ) → Was p (visits n) × Covers (visits n) (visits 0)) where
+module _ (p : Execution) (past : IsExecution p) (visits : ℕ → ReplicaState) (go : (n : ℕ) → IsReachable p (visits n) × Covers (visits n) (visits 0)) where
   abbrev content_at : ℕ → Content
   content_at n = (visits n).content
 
@@ -170,7 +170,7 @@ module _ (p : Past) (past : IsPast p) (visits : ℕ → Site) (go : (n : ℕ) �
     covers = (go n).1;
   }
 
-  pub reading_ends : (node : NodeId) → IsNodeId node → (q : Details) → IsDetails q → (stamps : TimestampsToReturn) → HavePages q → judged (visits 0).id node q None ≡ Ok None
+  pub reading_ends : (node : NodeId) → IsNodeId node → (q : Details) → IsDetails q → (stamps : TimestampsToReturn) → HavePages q → checked_read (visits 0).id node q None ≡ Ok None
       → (pages : List Page) × IsReading p (visits 0) node (record { details = q; stamps = stamps }) pages × (count : ℕ) × (map (λ page. page.content) pages ≡ contents_from content_at 0 count)
   reading_ends node spelled q fits stamps have ok =
       let found = have (visits 0).id node stamps content_at (is_asked p past (visits 0) (go 0).0 node spelled q fits) ok (lawful_was p (visits 0) past (go 0).0) visited in

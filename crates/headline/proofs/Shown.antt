@@ -7,7 +7,7 @@ use Rattle.ua_services.specs.declared.attributes.TimestampsToReturn.{TimestampsT
 use Rattle.ua_services.specs.declared.history.ReadRawModifiedDetails.{ReadRawModifiedDetails as Details}
 use Rattle.ua_services.specs.declared.history.HistoryData.TheVariants.{Raw, Modified}
 use Rattle.records.specs.Lists.{Has, IsPairwise, Rises, last}
-use Rattle.records.specs.Records.{is_delete, stamp_cmp, story, current, entries, entries_after, entry, write}
+use Rattle.records.specs.Records.{is_delete, record_stamp_cmp, versions, current, modifications_at, entries_after, entry, write}
 use Rattle.records.specs.Contents.{Content, IsClosed, IsLatest}
 use Rattle.records.specs.declared.record.Record.{Record}
 use Rattle.records.specs.declared.shown.Held.{Held}
@@ -32,13 +32,13 @@ use Rattle.archive.proofs.Turning.{has-filter_map, has_from_filter_map, has-flat
 use Rattle.archive.proofs.Timing.{has_from_get, current_time, entry_time}
 use Rattle.hist_read.specs.declared.query.Query.{Query}
 use Rattle.hist_read.specs.Asking.{is_given, has_both, direction}
-use Rattle.hist_read.specs.Reads.{in_body, in_body_of, is_from, last_within, body, values, near, raw, modified}
+use Rattle.hist_read.specs.Reads.{in_body, in_body_of, is_from, last_within, values_inside, value_items, near, raw, modified}
 use Rattle.hist_read.proofs.ReadsParts.{lives_in}
 use Rattle.hist_read.specs.Wholes.{behind_origin, with_far}
 use Rattle.hist_read.proofs.Wholes.{whole_is}
 use Rattle.hist_read.proofs.Filters.{filter_all}
 use Rattle.hist_read.specs.Showing.{shown, shown_entry, info}
-use Rattle.hist_read.specs.Chains.{Page, counted, whole, values_in, infos_in, joined_values, joined_infos}
+use Rattle.hist_read.specs.Chains.{Page, limited, whole_read, values_in, infos_in, joined_values, joined_infos}
 use Rattle.headline.specs.Readings.{Reaches, at_one_time, IsOfRaw, ShowsModification, ShowsAt}
 use Rattle.headline.proofs.Updates.{HasLater}
 
@@ -49,7 +49,7 @@ get_from_has (y ∷ ys) x h = elim h [ inl e ↦ (0, ap Some e) | inr k ↦ let 
 -- ---- members of what is read
 
 module _ (R : Content) (node : NodeId) (q : Details) where
-  body_has : (h : Held) → Has (body R node q) h ↔ ((current R node h.time ≡ Some h) × (in_body q h.time ≡ true))
+  body_has : (h : Held) → Has (values_inside R node q) h ↔ ((current R node h.time ≡ Some h) × (in_body q h.time ≡ true))
   body_has h = (
     λ k.
         let m = has_from_filter (λ (x : Held). in_body q x.time) (lives_in R node q) h k in
@@ -58,14 +58,14 @@ module _ (R : Content) (node : NodeId) (q : Details) where
     λ k. has-filter (λ (x : Held). in_body q x.time) (lives_in R node q) h ((has-in_direction (direction q) (lives R node) h).1 (has-filter_map (current R node) (times R node) h.time h (current_time R node h.time h k.0).0 k.0)) k.1,
   )
 
-  modified_has : (e : Entry) → Has (entries R node e.time) e → in_body q e.time ≡ true → Has (modified R node q None) e
+  modified_has : (e : Entry) → Has (modifications_at R node e.time) e → in_body q e.time ≡ true → Has (modified R node q None) e
   modified_has e h within =
       subst (λ l. Has l e) (sym (filter_all (filter (λ (x : Entry). in_body q x.time) (in_direction (direction q) (log R node)))))
       (has-filter (λ (x : Entry). in_body q x.time) (in_direction (direction q) (log R node)) e
-      ((has-in_direction (direction q) (log R node) e).1 (has-flat_map (λ t. reverse (entries R node t)) (times R node) e.time e (entry_time R node e.time e h).0 (has-reverse (entries R node e.time) e h))) within)
+      ((has-in_direction (direction q) (log R node) e).1 (has-flat_map (λ t. reverse (modifications_at R node t)) (times R node) e.time e (entry_time R node e.time e h).0 (has-reverse (modifications_at R node e.time) e h))) within)
 
   -- in the direction each value is beyond those before it
-  body_goes : IsPairwise (IsAhead (direction q)) (body R node q)
+  body_goes : IsPairwise (IsAhead (direction q)) (values_inside R node q)
   body_goes = pairwise-filter (IsAhead (direction q)) (λ (h : Held). in_body q h.time) (lives_in R node q) (subst (λ l. IsPairwise (IsAhead (direction q)) (in_direction (direction q) l)) (filter_all (lives R node)) (chosen_go R node (λ h. true) (direction q)))
 
 -- ---- the values of one time
@@ -108,26 +108,26 @@ module _ (R : Content) (node : NodeId) (q : Details) (stamps : TimestampsToRetur
   query = record { details = q; stamps = stamps }
 
   abbrev entries_read : List Entry
-  entries_read = counted q (modified R node q None)
+  entries_read = limited q (modified R node q None)
 
-  all_counted : {X : Type 0} (xs : List X) → has_both q ≡ true → counted q xs ≡ xs
+  all_counted : {X : Type 0} (xs : List X) → has_both q ≡ true → limited q xs ≡ xs
   all_counted xs both = ap (λ b. cond b xs (take q.num_values_per_node xs)) both
 
-  raw_shown : IsOfRaw q → has_both q ≡ true → values_in (whole R node query) ≡ map (shown stamps) (values (body R node q))
+  raw_shown : IsOfRaw q → has_both q ≡ true → values_in (whole_read R node query) ≡ map (shown stamps) (value_items (values_inside R node q))
   raw_shown is both =
-      ap (λ b. values_in (cond b (Modified (map (shown_entry stamps) entries_read) (map info entries_read)) (Raw (map (shown stamps) (counted q (raw R node q None)))))) is.0
+      ap (λ b. values_in (cond b (Modified (map (shown_entry stamps) entries_read) (map info entries_read)) (Raw (map (shown stamps) (limited q (raw R node q None)))))) is.0
       ∙ (ap (map (shown stamps)) (all_counted (raw R node q None) both)
-      ∙ ap (map (shown stamps)) (whole_is R node q ∙ ap (λ b. cond (not b) (values (body R node q)) (cond (q.num_values_per_node == 1) (near R node q ∷ []) (with_far R node q (near R node q ∷ values (behind_origin R node q))))) is.1))
+      ∙ ap (map (shown stamps)) (whole_is R node q ∙ ap (λ b. cond (not b) (value_items (values_inside R node q)) (cond (q.num_values_per_node == 1) (near R node q ∷ []) (with_far R node q (near R node q ∷ value_items (behind_origin R node q))))) is.1))
 
-  modified_shown : q.is_read_modified ≡ true → has_both q ≡ true → (values_in (whole R node query) ≡ map (shown_entry stamps) (modified R node q None)) × (infos_in (whole R node query) ≡ map info (modified R node q None))
+  modified_shown : q.is_read_modified ≡ true → has_both q ≡ true → (values_in (whole_read R node query) ≡ map (shown_entry stamps) (modified R node q None)) × (infos_in (whole_read R node query) ≡ map info (modified R node q None))
   modified_shown is both =
       let mods = Modified (map (shown_entry stamps) entries_read) (map info entries_read) in
-      let raws = Raw (map (shown stamps) (counted q (raw R node q None))) in (
+      let raws = Raw (map (shown stamps) (limited q (raw R node q None))) in (
         ap (λ b. values_in (cond b mods raws)) is ∙ ap (map (shown_entry stamps)) (all_counted (modified R node q None) both),
         ap (λ b. infos_in (cond b mods raws)) is ∙ ap (map info) (all_counted (modified R node q None) both),
       )
 
-  module _ (pages : List Page) (shows : joined_values pages ≡ values_in (whole R node query)) (told : joined_infos pages ≡ infos_in (whole R node query)) where
+  module _ (pages : List Page) (shows : joined_values pages ≡ values_in (whole_read R node query)) (told : joined_infos pages ≡ infos_in (whole_read R node query)) where
     modification : (e : Entry) → q.is_read_modified ≡ true → has_both q ≡ true → Has (modified R node q None) e → ShowsModification stamps pages e
     modification e is both h =
         let found = get_from_has (modified R node q None) e h in
@@ -147,39 +147,39 @@ own_in before (a ∷ rs) r h = elim h [
 ]
 
 -- of a list that rises, nothing is above the last
-last_greatest : (xs : List Record) (r z : Record) → Rises stamp_cmp xs → last xs ≡ Some r → Has xs z → stamp_cmp r z ≡ Less → ⊥
+last_greatest : (xs : List Record) (r z : Record) → Rises record_stamp_cmp xs → last xs ≡ Some r → Has xs z → record_stamp_cmp r z ≡ Less → ⊥
 last_greatest [] r z up e h less = absurd h
-last_greatest (x ∷ []) r z up e h less = elim h [ inl k ↦ irreflexive stamp_cmp stamp_total z (subst (λ a. stamp_cmp a z ≡ Less) (sym (same_Some _ _ e) ∙ k) less) | inr k ↦ absurd k ]
+last_greatest (x ∷ []) r z up e h less = elim h [ inl k ↦ irreflexive record_stamp_cmp stamp_total z (subst (λ a. record_stamp_cmp a z ≡ Less) (sym (same_Some _ _ e) ∙ k) less) | inr k ↦ absurd k ]
 last_greatest (x ∷ y ∷ ys) r z up e h less =
     let rest : last (y ∷ ys) ≡ Some r = sym (last_more x y ys) ∙ e in
     elim h [
       | inl k ↦
           let there : Has (y ∷ ys) r = has_from_get (y ∷ ys) _ r rest in
-          asymmetric stamp_cmp stamp_total x r (all-has (λ b. stamp_cmp x b ≡ Less) (y ∷ ys) r up.0 there) (subst (λ a. stamp_cmp r a ≡ Less) (sym k) less)
+          asymmetric record_stamp_cmp stamp_total x r (all-has (λ b. record_stamp_cmp x b ≡ Less) (y ∷ ys) r up.0 there) (subst (λ a. record_stamp_cmp r a ≡ Less) (sym k) less)
       | inr m ↦ last_greatest (y ∷ ys) r z up.1 rest m less
     ]
 
 -- ---- what is shown of a record
 
 module _ (R : Content) (closed : IsClosed R) (r : Record) (q : Details) (stamps : TimestampsToReturn) (reaches : Reaches q r.time) (pages : List Page)
-    (shows : joined_values pages ≡ values_in (whole R r.node (record { details = q; stamps = stamps }))) (told : joined_infos pages ≡ infos_in (whole R r.node (record { details = q; stamps = stamps })))
+    (shows : joined_values pages ≡ values_in (whole_read R r.node (record { details = q; stamps = stamps }))) (told : joined_infos pages ≡ infos_in (whole_read R r.node (record { details = q; stamps = stamps })))
   where
-    shown_so : (e : Entry) → q.is_read_modified ≡ true → Has (entries R r.node r.time) e → (e.time ≡ r.time) × ShowsModification stamps pages e
+    shown_so : (e : Entry) → q.is_read_modified ≡ true → Has (modifications_at R r.node r.time) e → (e.time ≡ r.time) × ShowsModification stamps pages e
     shown_so e is h =
         let time : e.time ≡ r.time = (entry_time R r.node r.time e h).1 in
-        (time, modification R r.node q stamps pages shows told e is reaches.0 (modified_has R r.node q e (subst (λ t. Has (entries R r.node t) e) (sym time) h) (ap (in_body q) time ∙ reaches.1)))
+        (time, modification R r.node q stamps pages shows told e is reaches.0 (modified_has R r.node q e (subst (λ t. Has (modifications_at R r.node t) e) (sym time) h) (ap (in_body q) time ∙ reaches.1)))
 
     pub own_shown : q.is_read_modified ≡ true → Has R r → (before : Option Record) × ShowsModification stamps pages (entry before r)
     own_shown is h =
-        let own = own_in None (story R r.node r.time) r ((story_has R r.node r.time r).1 (h, refl, refl)) in
+        let own = own_in None (versions R r.node r.time) r ((story_has R r.node r.time r).1 (h, refl, refl)) in
         (own.0, (shown_so (entry own.0 r) is own.1).1)
 
     pub replaced_shown : q.is_read_modified ≡ true → Has R r → HasLater R r → is_delete r.asked ≡ false → (e : Entry) × (e.time ≡ r.time) × (e.value ≡ Some r.value) × ShowsModification stamps pages e
     replaced_shown is h later written = elim ((found R r h).1 written) [
-      | inl live ↦ absurd (last_greatest (story R r.node r.time) r later.later (story_rises R r.node r.time (closed_stamps R closed)) live.0 ((story_has R r.node r.time later.later).1 (later.there, later.node, later.time)) later.greater)
+      | inl live ↦ absurd (last_greatest (versions R r.node r.time) r later.later (story_rises R r.node r.time (closed_stamps R closed)) live.0 ((story_has R r.node r.time later.later).1 (later.there, later.node, later.time)) later.greater)
       | inr next ↦
           let e = next.1.next in
-          let s = shown_so e is (has_from_get (entries R r.node r.time) _ e next.1.after) in
+          let s = shown_so e is (has_from_get (modifications_at R r.node r.time) _ e next.1.after) in
           (e, s.0, next.1.shows, s.1)
     ]
 
@@ -191,19 +191,19 @@ module _ (R : Content) (closed : IsClosed R) (r : Record) (q : Details) (stamps 
           h.3,
           h.2,
           (
-            body R r.node q,
+            values_inside R r.node q,
             λ g m. ((body_has R r.node q g).0 m).0,
             shows ∙ raw_shown R r.node q stamps is reaches.0,
-            only_at (direction q) (body R r.node q) h.0 r.time (body_goes R r.node q) ((body_has R r.node q h.0).1 (now, ap (in_body q) h.3 ∙ reaches.1)) h.3,
+            only_at (direction q) (values_inside R r.node q) h.0 r.time (body_goes R r.node q) ((body_has R r.node q h.0).1 (now, ap (in_body q) h.3 ∙ reaches.1)) h.3,
           ),
         )
 
     pub none_shown : IsOfRaw q → IsLatest R r → is_delete r.asked ≡ true → ShowsAt stamps pages R r.node r.time []
     none_shown is latest deleted = (
-      body R r.node q,
+      values_inside R r.node q,
       λ g m. ((body_has R r.node q g).0 m).0,
       shows ∙ raw_shown R r.node q stamps is reaches.0,
-      none_at r.time (body R r.node q) (λ g m at. none-some _ (sym (latest_deleted R r (closed_stamps R closed) latest deleted) ∙ (sym (ap (current R r.node) at) ∙ ((body_has R r.node q g).0 m).0))),
+      none_at r.time (values_inside R r.node q) (λ g m at. none-some _ (sym (latest_deleted R r (closed_stamps R closed) latest deleted) ∙ (sym (ap (current R r.node) at) ∙ ((body_has R r.node q g).0 m).0))),
     )
 
 -- ---- reads that reach a record
@@ -225,8 +225,8 @@ reached R r modified lawful h =
     inside : is_between (moment (ticks_of r.time) 0) (last_within (moment (ticks_of r.time) 0)) r.time ≡ true
     inside =
         let few = pico_within r.time in
-        let whole = whole_again r.time in
-        between_from (moment (ticks_of r.time) 0) (last_within (moment (ticks_of r.time) 0)) r.time (omega (arith, ints, few, whole)) (omega (arith, ints, few, whole))
+        let whole_read = whole_again r.time in
+        between_from (moment (ticks_of r.time) 0) (last_within (moment (ticks_of r.time) 0)) r.time (omega (arith, ints, few, whole_read)) (omega (arith, ints, few, whole_read))
 
     by_given : (g : Bool) → g ≡ true → (d : Direction) → in_body_of d (moment (cond g (ticks_of r.time) (ticks_of r.time)) 0) (cond (g && g) (Some (moment (ticks_of r.time) 0)) None) r.time ≡ true
     by_given false e d = absurd (cc)

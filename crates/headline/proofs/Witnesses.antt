@@ -5,10 +5,10 @@ use Rattle.std.specs.List.{AllByRecursion}
 use Rattle.archive.specs.Store.{Store}
 use Rattle.archive.proofs.Acting.{left-alone}
 use Rattle.exchange.specs.Running.{AreSites, AreHonest, IsSiteOf, RunsWorld, event_of, world_of}
-use Rattle.exchange.specs.Worlds.{Site, World, Event, IsSound, run}
+use Rattle.exchange.specs.Worlds.{ReplicaState, World, Event, IsConsistent, run}
 use Rattle.headline.specs.Answers.{IsInUse}
-use Rattle.headline.specs.Machines.{AreInUse, AreNew, AreOf}
-use Rattle.headline.specs.Pasts.{IsLawfulEvent, Past, IsPast}
+use Rattle.headline.specs.Machines.{AreInUse, AreNew, Simulates}
+use Rattle.headline.specs.Executions.{IsLawfulEvent, Execution, IsExecution}
 use Rattle.headline.proofs.Machines.{beginning, ends_at, first_site}
 use Rattle.headline.proofs.Times.{sound_at}
 
@@ -18,7 +18,7 @@ all_mapped [] all = tt
 all_mapped (event ∷ events) all = (all.0, all_mapped events all.1)
 
 module _ {A : Type 0} (state : A → Store) where
-  abbrev here_site : A → Site
+  abbrev here_site : A → ReplicaState
   here_site a = record { id = (state a).id; number = (state a).own; content = (state a).content }
 
   -- archives in use are left with what they hold
@@ -30,36 +30,36 @@ module _ {A : Type 0} (state : A → Store) where
   all_honest [] used = tt
   all_honest (a ∷ machines) used = (used.0.honest, all_honest machines used.1)
 
-  same_site : (a : A) (s : Site) → IsInUse (state a) → (state a).content ≡ [] → IsSiteOf (state a) s → s ≡ first_site state a
+  same_site : (a : A) (s : ReplicaState) → IsInUse (state a) → (state a).content ≡ [] → IsSiteOf (state a) s → s ≡ first_site state a
   same_site a s used empty is =
       let content = left-alone (state a) s.content used.rests used.honest used.whole is.content ∙ empty in
       ap (λ (i : List ℕ). record s { id = i }) (sym is.id)
-      ∙ (ap (λ (n : ℕ). let t : Site = record { id = (state a).id; number = n; content = s.content } in t) (sym is.number)
-      ∙ ap (λ R. let t : Site = record { id = (state a).id; number = (state a).own; content = R } in t) content)
+      ∙ (ap (λ (n : ℕ). let t : ReplicaState = record { id = (state a).id; number = n; content = s.content } in t) (sym is.number)
+      ∙ ap (λ R. let t : ReplicaState = record { id = (state a).id; number = (state a).own; content = R } in t) content)
 
   -- those that hold nothing are left with nothing
-  first_alone : (machines : List A) (sites : List Site) → AreInUse state machines → AllByRecursion (λ a. (state a).content ≡ []) machines → AreSites state machines sites
+  first_alone : (machines : List A) (sites : List ReplicaState) → AreInUse state machines → AllByRecursion (λ a. (state a).content ≡ []) machines → AreSites state machines sites
       → sites ≡ map (first_site state) machines
   first_alone [] [] used empty are = refl
   first_alone [] (s ∷ sites) used empty are = absurd are
   first_alone (a ∷ machines) [] used empty are = absurd are
   first_alone (a ∷ machines) (s ∷ sites) used empty are =
-      ap (λ (t : Site). t ∷ sites) (same_site a s used.0 empty.0 are.0)
-      ∙ ap (λ (l : List Site). first_site state a ∷ l) (first_alone machines sites used.1 empty.1 are.1)
+      ap (λ (t : ReplicaState). t ∷ sites) (same_site a s used.0 empty.0 are.0)
+      ∙ ap (λ (l : List ReplicaState). first_site state a ∷ l) (first_alone machines sites used.1 empty.1 are.1)
 
-  abbrev past_of : List A → List Event → Past
+  abbrev past_of : List A → List Event → Execution
   past_of machines events = record { start = world_of (map (first_site state) machines) []; events = events }
 
   pub ran : (old new : List A) (events : List Event) → AreNew state old → RunsWorld state old new events (Ok tt) → AreInUse state new → AllByRecursion IsLawfulEvent events
-      → (p : Past) × (p.events ≡ events) × AreOf state p new × IsSound (run p.events p.start)
+      → (p : Execution) × (p.events ≡ events) × Simulates state p new × IsConsistent (run p.events p.start)
   ran old new events fresh runs used lawful =
       let p = past_of old events in
-      let past : IsPast p = record { begins = beginning state old fresh; lawful = lawful } in
+      let past : IsExecution p = record { begins = beginning state old fresh; lawful = lawful } in
       let (sites, were, came) = runs.ran (all_honest new used) (map here_site new) (here_sites new used) in
-      let start : world_of sites [] ≡ p.start = ap (λ (l : List Site). world_of l []) (first_alone old sites fresh.used fresh.empty were) in
-      let held : map here_site new ≡ (run events p.start).sites = came ∙ ap (λ (w : World). (run events w).sites) start in (
+      let start : world_of sites [] ≡ p.start = ap (λ (l : List ReplicaState). world_of l []) (first_alone old sites fresh.used fresh.empty were) in
+      let held : map here_site new ≡ (run events p.start).replicas = came ∙ ap (λ (w : World). (run events w).replicas) start in (
         p,
         refl,
         record { past = past; used = used; hold = subst (AreSites state new) held (here_sites new used) },
-        subst IsSound (ends_at p) (sound_at p past (length events)),
+        subst IsConsistent (ends_at p) (sound_at p past (length events)),
       )

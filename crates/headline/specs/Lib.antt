@@ -1,4 +1,4 @@
-pub mod Pasts
+pub mod Executions
 pub mod Answers
 pub mod Messages
 pub mod Readings

@@ -4,9 +4,9 @@ ghost use Rattle.std.specs.Prelude.{IsTrue};
 ghost use Rattle.std.specs.List.{AllByRecursion};
 ghost use Rattle.ua_variant.specs.DataValue.{IsDataValue, IsShortData};
 ghost use Rattle.hist_update.specs.Outcome.{IsRequest};
-ghost use Rattle.hist_update.specs.Laws.{IsSpelled, IsOperation};
+ghost use Rattle.hist_update.specs.Laws.{IsSpelledRequest, IsOperation};
 ghost use Rattle.exchange.specs.Running.{IsAsked, IsEvent, event_of, operation_of};
-ghost use Rattle.headline.specs.Pasts.{IsLawfulEvent};
+ghost use Rattle.headline.specs.Executions.{IsLawfulEvent};
 
 use exchange::{Event, Operation};
 use hist_update::Request;
@@ -17,7 +17,7 @@ use ua_variant::DataValue;
 /// Whether the node's id and the user's name are within their limits.
 fn is_request(request: &Request) -> bool
     ensures asked { IsTrue result → IsRequest request.now }
-    ensures spelled { IsTrue result → IsSpelled request.now }
+    ensures spelled { IsTrue result → IsSpelledRequest request.now }
 {
     let short = match request.node.as_ref() {
         NodeIdRef::Named(_, name) => name.len() <= 256,
@@ -74,7 +74,8 @@ fn is_lawful(event: &Event) -> bool
 /// Whether all events' conditions hold.
 pub(crate) fn are_lawful(events: &[Event]) -> bool
     ensures asked { IsTrue result → AllByRecursion IsEvent events.now }
-    ensures lawful { IsTrue result → AllByRecursion (λ event. IsLawfulEvent (event_of event)) events.now }
+    ensures lawful { IsTrue result
+        → AllByRecursion (λ event. IsLawfulEvent (event_of event)) events.now }
 {
     events.iter().all(|event| is_lawful(event))
 }

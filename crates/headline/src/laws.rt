@@ -12,36 +12,36 @@ ghost use Rattle.ua_services.specs.declared.attributes.TimestampsToReturn.{Times
 ghost use Rattle.ua_services.specs.declared.history.HistoryReadResult.{HistoryReadResult};
 ghost use Rattle.records.specs.Lists.{Has};
 ghost use Rattle.records.specs.Moments.{ticks_of};
-ghost use Rattle.records.specs.Records.{missing, is_beyond, is_delete, entry, stamp_cmp};
+ghost use Rattle.records.specs.Records.{missing, is_beyond, is_delete, entry, record_stamp_cmp};
 ghost use Rattle.records.specs.Contents.{Content, IsWithin, IsLatest, numbers_of, vec, top, join, merged};
 ghost use Rattle.records.specs.declared.record.Record.{Record};
 ghost use Rattle.records.specs.declared.shown.Entry.{Entry};
 ghost use Rattle.records.specs.declared.shown.Held.{Held};
-ghost use Rattle.archive.specs.Store.{Mark};
+ghost use Rattle.archive.specs.Store.{StepResult};
 ghost use Rattle.ua_binary.specs.declared.values.Ticks.{Ticks as Time};
 ghost use Rattle.ua_services.specs.Updates.{Details};
 ghost use Rattle.ua_services.specs.declared.updates.HistoryUpdateResult.{HistoryUpdateResult};
-ghost use Rattle.ua_session.specs.Sessions.{State as Sessions, user_at};
+ghost use Rattle.ua_session.specs.Sessions.{SessionsState as Sessions, user_at};
 ghost use Rattle.ua_services.specs.History.{HistoryAsked};
 ghost use Rattle.historian.specs.Answers.{Updated, Histories};
 ghost use Rattle.historian.specs.Requests.{HistoryUpdate, request_in};
-ghost use Rattle.historian.specs.Services.{Site as Server, answered};
+ghost use Rattle.historian.specs.Services.{ServerConfig as Server, answered};
 ghost use Rattle.hist_update.specs.declared.request.Request.{Request};
 ghost use Rattle.hist_update.specs.Outcome.{Operation};
-ghost use Rattle.hist_update.specs.Laws.{IsGood, IsRecordOf, MayStand};
+ghost use Rattle.hist_update.specs.Laws.{IsGood, IsRecordOf, MayStandBehindBreak};
 ghost use Rattle.hist_read.specs.declared.query.Query.{Query};
-ghost use Rattle.hist_read.specs.Node.{judged, refused, point_at};
+ghost use Rattle.hist_read.specs.Node.{checked_read, refused_read, point_at};
 ghost use Rattle.hist_read.specs.declared.point.Position.{Position};
-ghost use Rattle.hist_read.specs.Chains.{Page, Chain, IsRead, whole, values_in, infos_in, joined_values, joined_infos, contents_from};
+ghost use Rattle.hist_read.specs.Chains.{Page, Chain, IsRead, whole_read, values_in, infos_in, joined_values, joined_infos, contents_from};
 ghost use Rattle.hist_read.specs.Asking.{is_given};
 ghost use Rattle.hist_read.specs.Point.{Point, IsDetails, point_in};
-ghost use Rattle.exchange.specs.Worlds.{Site, World, IsSite, Sends, Delivers, run};
-ghost use Rattle.headline.specs.Pasts.{Past, IsPast, IsAt, Was, world_at, HaveLearnedSame, AreEven, Covers, WasAnswered, WasRecorded};
-ghost use Rattle.headline.specs.Answers.{Asked, answer_of, results_of, bytes_of, AreFromEither, IsReplicaOf, IsAnswered, IsFree};
+ghost use Rattle.exchange.specs.Worlds.{ReplicaState, World, IsReplicaAt, Sends, Delivers, run};
+ghost use Rattle.headline.specs.Executions.{Execution, IsExecution, IsStateAt, IsReachable, world_at, HasSameRecords, HasSameVector, Covers, WasAnswered, WasRecorded};
+ghost use Rattle.headline.specs.Answers.{HistoryQuery, replica_answer, results_of, bytes_of, AreFromEither, IsReplicaOf, IsReadAnswered, ReportsNoFailure};
 ghost use Rattle.headline.specs.Messages.{IsServerOf, HaveSameNodes, AsksHistory, response_of, AreAlike, AreFree};
 ghost use Rattle.headline.specs.Joins.{IsLeastAbove};
 ghost use Rattle.headline.specs.Told.{IsHeldFor, AddsAll};
-ghost use Rattle.headline.specs.Machines.{IsMachine, AreNew, AreOf, GoOn, Serves, Meet, Restarts};
+ghost use Rattle.headline.specs.Machines.{IsMachine, AreNew, Simulates, ExtendsTo, Serves, MachinesSync, Restarts};
 ghost use Rattle.headline.specs.Readings.{IsReading, Reaches, at_one_time, IsOfRaw, ShowsModification, ShowsAt, ShowWhole, HavePages};
 
 use archive::Archive;
@@ -78,48 +78,96 @@ fn whole_reads(details: ReadRawModifiedDetails)
 /// long as both servers have the same nodes. Excepted are results that report want of memory or a fault of the store, and a whole
 /// response that reports want of memory; one that is larger than its client takes is replaced behind this, by what that client
 /// said it takes. Where no result reports any of these, the bytes of the responses behind their headers are equal.
-pub fn replicas_answer_alike()
-    ensures vectors { (p : Past) (s t : Site) → IsPast p → Was p s → Was p t → HaveLearnedSame s t ↔ AreEven s t }
-    ensures contents { (p : Past) (s t : Site) → IsPast p → Was p s → Was p t → HaveLearnedSame s t → (s.id ≡ t.id) × (s.content ≡ t.content) }
-    ensures results { (p : Past) (s t : Site) (asked : Asked) → IsPast p → Was p s → Was p t → HaveLearnedSame s t → results_of asked s ≡ results_of asked t }
-    ensures bytes { (p : Past) (s t : Site) (asked : Asked) → IsPast p → Was p s → Was p t → HaveLearnedSame s t → bytes_of (results_of asked s) ≡ bytes_of (results_of asked t) }
-    ensures turns { (p : Past) (s t : Site) (node : NodeId) (query : Query) (point : Option (List ℕ)) (pages others : List Page) → IsPast p → Was p s → Was p t → HaveLearnedSame s t
-        → AreFromEither s t pages → AreFromEither s t others → Chain s.id node query point pages → Chain t.id node query point others → map (λ page. page.result) pages ≡ map (λ page. page.result) others }
-    ensures messages { (p : Past) (s t : Site) (here there : Server) (now then : Time) (message other : List ℕ) (asked : HistoryAsked) (sessions others : Sessions) (marks more : List Mark)
-        → IsPast p → Was p s → Was p t → HaveLearnedSame s t → IsServerOf here s → IsServerOf there t → HaveSameNodes here there
+pub fn replicas_converge()
+    ensures vectors { (p : Execution) (s t : ReplicaState) → IsExecution p → IsReachable p s
+        → IsReachable p t
+        → HasSameRecords s t ↔ HasSameVector s t }
+    ensures contents { (p : Execution) (s t : ReplicaState) → IsExecution p → IsReachable p s
+        → IsReachable p t
+        → HasSameRecords s t → (s.id ≡ t.id) × (s.content ≡ t.content) }
+    ensures results { (p : Execution) (s t : ReplicaState) (asked : HistoryQuery) → IsExecution p
+        → IsReachable p s → IsReachable p t → HasSameRecords s t
+        → results_of asked s ≡ results_of asked t }
+    ensures bytes { (p : Execution) (s t : ReplicaState) (asked : HistoryQuery) → IsExecution p
+        → IsReachable p s → IsReachable p t → HasSameRecords s t
+        → bytes_of (results_of asked s) ≡ bytes_of (results_of asked t) }
+    ensures turns { (p : Execution) (s t : ReplicaState) (node : NodeId) (query : Query)
+        (point : Option (List ℕ)) (pages others : List Page) → IsExecution p → IsReachable p s
+        → IsReachable p t → HasSameRecords s t
+        → AreFromEither s t pages → AreFromEither s t others → Chain s.id node query point pages
+        → Chain t.id node query point others
+        → map (λ page. page.result) pages ≡ map (λ page. page.result) others }
+    ensures messages { (p : Execution) (s t : ReplicaState) (here there : Server) (now then : Time)
+        (message other : List ℕ) (asked : HistoryAsked) (sessions others : Sessions)
+        (marks more : List StepResult)
+        → IsExecution p → IsReachable p s → IsReachable p t → HasSameRecords s t → IsServerOf here s
+        → IsServerOf there t → HaveSameNodes here there
         → AsksHistory message asked sessions → AsksHistory other asked others
-        → AreAlike (response_of here now message sessions s.content marks) (response_of there then other others t.content more) }
-    ensures responses { (results others : List HistoryReadResult) → AreAlike (Ok (Histories results)) (Ok (Histories others)) → AreFree results → AreFree others → bytes_of results ≡ bytes_of others }
-    ensures clear { (p : Past) (s t : Site) (here there : Server) (now then : Time) (message other : List ℕ) (asked : HistoryAsked) (sessions others : Sessions)
-        → IsPast p → Was p s → Was p t → HaveLearnedSame s t → IsServerOf here s → IsServerOf there t → HaveSameNodes here there
+        → AreAlike (response_of here now message sessions s.content marks)
+        (response_of there then other others t.content more) }
+    ensures responses { (results others : List HistoryReadResult)
+        → AreAlike (Ok (Histories results)) (Ok (Histories others)) → AreFree results
+        → AreFree others → bytes_of results ≡ bytes_of others }
+    ensures clear { (p : Execution) (s t : ReplicaState) (here there : Server) (now then : Time)
+        (message other : List ℕ) (asked : HistoryAsked) (sessions others : Sessions)
+        → IsExecution p → IsReachable p s → IsReachable p t → HasSameRecords s t → IsServerOf here s
+        → IsServerOf there t → HaveSameNodes here there
         → AsksHistory message asked sessions → AsksHistory other asked others
-        → response_of here now message sessions s.content [] ≡ response_of there then other others t.content [] }
+        → response_of here now message sessions s.content [] ≡ response_of there
+        then other others t.content [] }
 {}
 
 /// Two archives, in whatever stores, that hold what replicas do that have learned the same updates: where neither answer
 /// reports want of memory or a fault of the store, they answer a read of a node's history alike, and a response with it has
 /// the same bytes.
 pub fn archives_answer_alike<A: Archive, B: Archive>()
-    ensures result { (p : Past) (s t : Site) (a c : A) (b d : B) (node : NodeId) (query : Query) (point : Option (List ℕ)) (one other : HistoryReadResult) → IsPast p → Was p s → Was p t → HaveLearnedSame s t
-        → IsReplicaOf (A.state a) s → IsReplicaOf (B.state b) t → (A.state c).honest → (B.state d).honest
-        → IsAnswered (A.state a) (A.state c) node query point one → IsAnswered (B.state b) (B.state d) node query point other → IsFree one → IsFree other → one ≡ other }
-    ensures answer { (s : Site) (a c : A) (node : NodeId) (query : Query) (point : Option (List ℕ)) (one : HistoryReadResult) → IsReplicaOf (A.state a) s → (A.state c).honest
-        → IsAnswered (A.state a) (A.state c) node query point one → IsFree one → one ≡ answer_of query s node point }
+    ensures result { (p : Execution) (s t : ReplicaState) (a c : A) (b d : B) (node : NodeId)
+        (query : Query)
+        (point : Option (List ℕ)) (one other : HistoryReadResult) → IsExecution p → IsReachable p s
+        → IsReachable p t → HasSameRecords s t
+        → IsReplicaOf (A.state a) s → IsReplicaOf (B.state b) t → (A.state c).honest
+        → (B.state d).honest
+        → IsReadAnswered (A.state a) (A.state c) node query point one
+        → IsReadAnswered (B.state b) (B.state d) node query point other → ReportsNoFailure one
+        → ReportsNoFailure other → one ≡ other }
+    ensures answer { (s : ReplicaState) (a c : A) (node : NodeId) (query : Query)
+        (point : Option (List ℕ))
+        (one : HistoryReadResult) → IsReplicaOf (A.state a) s → (A.state c).honest
+        → IsReadAnswered (A.state a) (A.state c) node query point one → ReportsNoFailure one
+        → one ≡ replica_answer query s node point }
 {}
 
 /// Merging is a join of what replicas hold, each at any time of one past: it commutes, associates, repeats without change, and is
 /// the least content above both; its vector is the greater of both for each origin. Learning all that a peer has beyond
 /// one's vector gives the join; and a peer's sending it and its delivery do so in the world.
 pub fn merging_is_a_join()
-    ensures commutes { (p : Past) (s t : Site) → IsPast p → Was p s → Was p t → join s.content t.content ≡ join t.content s.content }
-    ensures associates { (p : Past) (s t u : Site) → IsPast p → Was p s → Was p t → Was p u → join (join s.content t.content) u.content ≡ join s.content (join t.content u.content) }
-    ensures repeats { (p : Past) (s : Site) → IsPast p → Was p s → join s.content s.content ≡ s.content }
-    ensures least { (p : Past) (s t : Site) → IsPast p → Was p s → Was p t → IsLeastAbove s.content t.content (join s.content t.content) }
-    ensures vectors { (p : Past) (s t : Site) (origin : ℕ) → IsPast p → Was p s → Was p t → vec (join s.content t.content) origin ≡ max (vec s.content origin) (vec t.content origin) }
-    ensures learned { (p : Past) (s t : Site) (count : ℕ) → IsPast p → Was p s → Was p t → length (filter (is_beyond (vec s.content)) t.content) ≤ count
+    ensures commutes { (p : Execution) (s t : ReplicaState) → IsExecution p → IsReachable p s
+        → IsReachable p t
+        → join s.content t.content ≡ join t.content s.content }
+    ensures associates { (p : Execution) (s t u : ReplicaState) → IsExecution p → IsReachable p s
+        → IsReachable p t
+        → IsReachable p u
+        → join (join s.content t.content) u.content ≡ join s.content (join t.content u.content) }
+    ensures repeats { (p : Execution) (s : ReplicaState) → IsExecution p → IsReachable p s
+        → join s.content s.content ≡ s.content }
+    ensures least { (p : Execution) (s t : ReplicaState) → IsExecution p → IsReachable p s
+        → IsReachable p t
+        → IsLeastAbove s.content t.content (join s.content t.content) }
+    ensures vectors { (p : Execution) (s t : ReplicaState) (origin : ℕ) → IsExecution p
+        → IsReachable p s
+        → IsReachable p t
+        → vec (join s.content t.content) origin
+        ≡ max (vec s.content origin) (vec t.content origin) }
+    ensures learned { (p : Execution) (s t : ReplicaState) (count : ℕ) → IsExecution p
+        → IsReachable p s
+        → IsReachable p t → length (filter (is_beyond (vec s.content)) t.content) ≤ count
         → merged (missing t.content (vec s.content) count) s.content ≡ join s.content t.content }
-    ensures delivered { (p : Past) (time i j count : ℕ) (s t : Site) → IsPast p → IsAt p time i s → IsAt p time j t → length (filter (is_beyond (vec s.content)) t.content) ≤ count
-        → IsSite (run (Sends j (vec s.content) count ∷ Delivers i (length (world_at p time).pool) count ∷ []) (world_at p time)) i (record s { content = join s.content t.content }) }
+    ensures delivered { (p : Execution) (time i j count : ℕ) (s t : ReplicaState) → IsExecution p
+        → IsStateAt p time i s → IsStateAt p time j t
+        → length (filter (is_beyond (vec s.content)) t.content) ≤ count
+        → IsReplicaAt
+        (run (Sends j (vec s.content) count ∷ Delivers i (length (world_at p time).pool) count ∷ [])
+        (world_at p time)) i (record s { content = join s.content t.content }) }
 {}
 
 /// An update that was answered Good has a record, of what was asked for, with its user, and with the tick that its clock reading
@@ -130,21 +178,49 @@ pub fn merging_is_a_join()
 /// each node and time where something was learned one stamp is the greatest, its own or one above its own; and a read of
 /// its one time reaches it.
 pub fn every_update_stands(details: ReadRawModifiedDetails)
-    ensures recorded { (p : Past) (s : Site) (request : Request) (op : Operation) (code : Code) → IsPast p → WasAnswered p s request op code → IsGood code
-        → (r : Record) × WasRecorded p s request op r × IsRecordOf request s.number op r × (r.number ≡ vec s.content s.number + 1) × (lift request.reading (top s.content) ≡ Some r.tick) }
-    ensures learned { (p : Past) (s t : Site) (request : Request) (op : Operation) (r : Record) → IsPast p → WasRecorded p s request op r → Was p t → Has t.content r ↔ (r.number ≤ vec t.content r.origin) }
-    ensures told { (p : Past) (t : Site) (r : Record) (stamps : TimestampsToReturn) (pages : List Page) → IsPast p → Was p t → Has t.content r → IsReading p t r.node (record { details = details; stamps = stamps }) pages
-        → Reaches details r.time → details.is_read_modified ≡ true → (before : Option Record) × ShowsModification stamps pages (entry before r) }
-    ensures live { (p : Past) (t : Site) (r : Record) (stamps : TimestampsToReturn) (pages : List Page) → IsPast p → Was p t → IsLatest t.content r → IsReading p t r.node (record { details = details; stamps = stamps }) pages
-        → Reaches details r.time → IsOfRaw details → is_delete r.asked ≡ false → (h : Held) × (h.time ≡ r.time) × (h.value ≡ r.value) × ShowsAt stamps pages t.content r.node r.time (h ∷ []) }
-    ensures gone { (p : Past) (t : Site) (r : Record) (stamps : TimestampsToReturn) (pages : List Page) → IsPast p → Was p t → IsLatest t.content r → IsReading p t r.node (record { details = details; stamps = stamps }) pages
-        → Reaches details r.time → IsOfRaw details → is_delete r.asked ≡ true → ShowsAt stamps pages t.content r.node r.time [] }
-    ensures replaced { (p : Past) (t : Site) (r : Record) (stamps : TimestampsToReturn) (pages : List Page) → IsPast p → Was p t → Has t.content r → (IsLatest t.content r → ⊥)
-        → IsReading p t r.node (record { details = details; stamps = stamps }) pages → Reaches details r.time → details.is_read_modified ≡ true → is_delete r.asked ≡ false
-        → (e : Entry) × (e.time ≡ r.time) × (e.value ≡ Some r.value) × ShowsModification stamps pages e }
-    ensures latest { (p : Past) (t : Site) (r : Record) → IsPast p → Was p t → Has t.content r
-        → (last : Record) × IsLatest t.content last × (last.node ≡ r.node) × (last.time ≡ r.time) × ((r ≡ last) ⊎ (stamp_cmp r last ≡ Less)) }
-    ensures reached { (p : Past) (t : Site) (r : Record) (modified : Bool) → IsPast p → Was p t → Has t.content r → Reaches (at_one_time (ticks_of r.time) modified) r.time }
+    ensures recorded { (p : Execution) (s : ReplicaState) (request : Request) (op : Operation)
+        (code : Code)
+        → IsExecution p → WasAnswered p s request op code → IsGood code
+        → (r : Record) × WasRecorded p s request op r × IsRecordOf request s.number op r
+        × (r.number ≡ vec s.content s.number + 1)
+        × (lift request.reading (top s.content) ≡ Some r.tick) }
+    ensures learned { (p : Execution) (s t : ReplicaState) (request : Request) (op : Operation)
+        (r : Record)
+        → IsExecution p → WasRecorded p s request op r → IsReachable p t
+        → Has t.content r ↔ (r.number ≤ vec t.content r.origin) }
+    ensures told { (p : Execution) (t : ReplicaState) (r : Record) (stamps : TimestampsToReturn)
+        (pages : List Page) → IsExecution p → IsReachable p t → Has t.content r
+        → IsReading p t r.node (record { details = details; stamps = stamps }) pages
+        → Reaches details r.time → details.is_read_modified ≡ true
+        → (before : Option Record) × ShowsModification stamps pages (entry before r) }
+    ensures live { (p : Execution) (t : ReplicaState) (r : Record) (stamps : TimestampsToReturn)
+        (pages : List Page)
+        → IsExecution p → IsReachable p t → IsLatest t.content r → IsReading p t r.node
+        (record { details = details; stamps = stamps }) pages
+        → Reaches details r.time → IsOfRaw details → is_delete r.asked ≡ false
+        → (h : Held) × (h.time ≡ r.time) × (h.value ≡ r.value)
+        × ShowsAt stamps pages t.content r.node r.time (h ∷ []) }
+    ensures gone { (p : Execution) (t : ReplicaState) (r : Record) (stamps : TimestampsToReturn)
+        (pages : List Page) → IsExecution p → IsReachable p t → IsLatest t.content r
+        → IsReading p t r.node (record { details = details; stamps = stamps }) pages
+        → Reaches details r.time → IsOfRaw details → is_delete r.asked ≡ true
+        → ShowsAt stamps pages t.content r.node r.time [] }
+    ensures replaced { (p : Execution) (t : ReplicaState) (r : Record) (stamps : TimestampsToReturn)
+        (pages : List Page) → IsExecution p → IsReachable p t → Has t.content r
+        → (IsLatest t.content r → ⊥)
+        → IsReading p t r.node (record { details = details; stamps = stamps }) pages
+        → Reaches details r.time → details.is_read_modified ≡ true → is_delete r.asked ≡ false
+        → (e : Entry) × (e.time ≡ r.time) × (e.value ≡ Some r.value)
+        × ShowsModification stamps pages e }
+    ensures latest { (p : Execution) (t : ReplicaState) (r : Record) → IsExecution p
+        → IsReachable p t
+        → Has t.content r
+        → (last : Record) × IsLatest t.content last × (last.node ≡ r.node) × (last.time ≡ r.time)
+        × ((r ≡ last) ⊎ (record_stamp_cmp r last ≡ Less)) }
+    ensures reached { (p : Execution) (t : ReplicaState) (r : Record) (modified : Bool)
+        → IsExecution p
+        → IsReachable p t → Has t.content r
+        → Reaches (at_one_time (ticks_of r.time) modified) r.time }
 {
     whole_reads(details);
 }
@@ -154,16 +230,40 @@ pub fn every_update_stands(details: ReadRawModifiedDetails)
 /// all later times. The point of the first page carries the replica's vector, and a replica that has less of an origin than the
 /// vector of a point refuses it. And such pages come to an end.
 pub fn pages_stay(details: ReadRawModifiedDetails)
-    ensures shows { (p : Past) (t : Site) (node : NodeId) (stamps : TimestampsToReturn) (pages : List Page) → IsPast p → Was p t → IsNodeId node → IsReading p t node (record { details = details; stamps = stamps }) pages
-        → (joined_values pages ≡ values_in (whole t.content node (record { details = details; stamps = stamps }))) × (joined_infos pages ≡ infos_in (whole t.content node (record { details = details; stamps = stamps }))) }
-    ensures later { (p : Past) (now then place : ℕ) (t u : Site) → IsPast p → now ≤ then → IsAt p now place t → IsAt p then place u → (t.id ≡ u.id) × (t.number ≡ u.number) × Covers u t }
-    ensures carried { (p : Past) (t : Site) (node : NodeId) (stamps : TimestampsToReturn) (first : Page) (bytes : List ℕ) → IsPast p → Was p t → IsNodeId node → first.content ≡ t.content
-        → IsRead t.id node (record { details = details; stamps = stamps }) None first → first.result.continuation_point ≡ Some bytes → (next : Position) × (bytes ≡ point_at t.id node details (numbers_of t.content) next) }
-    ensures refused { (p : Past) (u : Site) (node : NodeId) (stamps : TimestampsToReturn) (bytes : List ℕ) (point : Point) (origin : ℕ) → IsPast p → Was p u → judged u.id node details None ≡ Ok None
-        → point_in bytes ≡ Some point → vec u.content origin < number_of point.vector origin → answer_of (record { details = details; stamps = stamps }) u node (Some bytes) ≡ refused BAD_CONTINUATION_POINT_INVALID }
-    ensures ends { (p : Past) (visits : ℕ → Site) (node : NodeId) (stamps : TimestampsToReturn) → IsPast p → ((n : ℕ) → Was p (visits n) × Covers (visits n) (visits 0)) → IsNodeId node
-        → judged (visits 0).id node details None ≡ Ok None
-        → (pages : List Page) × IsReading p (visits 0) node (record { details = details; stamps = stamps }) pages × (count : ℕ) × (map (λ page. page.content) pages ≡ contents_from (λ n. (visits n).content) 0 count) }
+    ensures shows { (p : Execution) (t : ReplicaState) (node : NodeId) (stamps : TimestampsToReturn)
+        (pages : List Page) → IsExecution p → IsReachable p t → IsNodeId node
+        → IsReading p t node (record { details = details; stamps = stamps }) pages
+        → (joined_values pages
+        ≡ values_in (whole_read t.content node (record { details = details; stamps = stamps })))
+        × (joined_infos pages
+        ≡ infos_in (whole_read t.content node (record { details = details; stamps = stamps }))) }
+    ensures later { (p : Execution) (now then place : ℕ) (t u : ReplicaState) → IsExecution p
+        → now ≤ then
+        → IsStateAt p now place t → IsStateAt p then place u
+        → (t.id ≡ u.id) × (t.number ≡ u.number) × Covers u t }
+    ensures carried { (p : Execution) (t : ReplicaState) (node : NodeId)
+        (stamps : TimestampsToReturn)
+        (first : Page) (bytes : List ℕ) → IsExecution p → IsReachable p t → IsNodeId node
+        → first.content ≡ t.content
+        → IsRead t.id node (record { details = details; stamps = stamps }) None first
+        → first.result.continuation_point ≡ Some bytes
+        → (next : Position) × (bytes ≡ point_at t.id node details (numbers_of t.content) next) }
+    ensures refused { (p : Execution) (u : ReplicaState) (node : NodeId)
+        (stamps : TimestampsToReturn)
+        (bytes : List ℕ) (point : Point) (origin : ℕ) → IsExecution p → IsReachable p u
+        → checked_read u.id node details None ≡ Ok None
+        → point_in bytes ≡ Some point → vec u.content origin < number_of point.vector origin
+        → replica_answer (record { details = details; stamps = stamps }) u node (Some bytes)
+        ≡ refused_read BAD_CONTINUATION_POINT_INVALID }
+    ensures ends { (p : Execution) (visits : ℕ → ReplicaState) (node : NodeId)
+        (stamps : TimestampsToReturn)
+        → IsExecution p → ((n : ℕ) → IsReachable p (visits n) × Covers (visits n) (visits 0))
+        → IsNodeId node
+        → checked_read (visits 0).id node details None ≡ Ok None
+        → (pages : List Page)
+        × IsReading p (visits 0) node (record { details = details; stamps = stamps }) pages
+        × (count : ℕ)
+        × (map (λ page. page.content) pages ≡ contents_from (λ n. (visits n).content) 0 count) }
 {
     whole_reads(details);
 }
@@ -173,17 +273,31 @@ pub fn pages_stay(details: ReadRawModifiedDetails)
 /// and their call is cut off anywhere or comes to its end; a store breaks in the midst of either, and is opened anew; one stops between its connections, and its
 /// store is opened anew. So the laws of replicas are laws of machines: two whose vectors are equal, where neither answer reports want of memory or a fault of
 /// the store, answer a read of a node's history alike.
-pub fn machines_are_replicas_of_a_past<A: Archive>()
-    ensures begin { (machines : List A) → AreNew A.state machines → (p : Past) × (p.events ≡ []) × AreOf A.state p machines }
-    ensures serve { (p : Past) (old new : List A) → AreOf A.state p old → Serves A.state old new → GoOn A.state p new }
-    ensures meet { (p : Past) (old new : List A) → AreOf A.state p old → Meet A.state old new → GoOn A.state p new }
-    ensures restart { (p : Past) (old new : List A) → AreOf A.state p old → Restarts A.state old new → GoOn A.state p new }
-    ensures replicas { (p : Past) (machines : List A) (place : ℕ) (a : A) → AreOf A.state p machines → IsMachine A.state machines place a
-        → (s : Site) × IsAt p (length p.events) place s × IsReplicaOf (A.state a) s × ((A.state a).own ≡ s.number) × ((A.state a).content ≡ s.content) }
-    ensures alike { (p : Past) (machines : List A) (i j : ℕ) (a b c d : A) (node : NodeId) (query : Query) (point : Option (List ℕ)) (one other : HistoryReadResult)
-        → AreOf A.state p machines → IsMachine A.state machines i a → IsMachine A.state machines j b → ((origin : ℕ) → vec (A.state a).content origin ≡ vec (A.state b).content origin)
-        → (A.state c).honest → (A.state d).honest → IsAnswered (A.state a) (A.state c) node query point one → IsAnswered (A.state b) (A.state d) node query point other
-        → IsFree one → IsFree other → one ≡ other }
+pub fn machines_simulate_an_execution<A: Archive>()
+    ensures begin { (machines : List A) → AreNew A.state machines
+        → (p : Execution) × (p.events ≡ []) × Simulates A.state p machines }
+    ensures serve { (p : Execution) (old new : List A) → Simulates A.state p old
+        → Serves A.state old new
+        → ExtendsTo A.state p new }
+    ensures meet { (p : Execution) (old new : List A) → Simulates A.state p old
+        → MachinesSync A.state old new → ExtendsTo A.state p new }
+    ensures restart { (p : Execution) (old new : List A) → Simulates A.state p old
+        → Restarts A.state old new
+        → ExtendsTo A.state p new }
+    ensures replicas { (p : Execution) (machines : List A) (place : ℕ) (a : A)
+        → Simulates A.state p machines
+        → IsMachine A.state machines place a
+        → (s : ReplicaState) × IsStateAt p (length p.events) place s × IsReplicaOf (A.state a) s
+        × ((A.state a).own ≡ s.number) × ((A.state a).content ≡ s.content) }
+    ensures alike { (p : Execution) (machines : List A) (i j : ℕ) (a b c d : A) (node : NodeId)
+        (query : Query) (point : Option (List ℕ)) (one other : HistoryReadResult)
+        → Simulates A.state p machines → IsMachine A.state machines i a
+        → IsMachine A.state machines j b
+        → ((origin : ℕ) → vec (A.state a).content origin ≡ vec (A.state b).content origin)
+        → (A.state c).honest → (A.state d).honest
+        → IsReadAnswered (A.state a) (A.state c) node query point one
+        → IsReadAnswered (A.state b) (A.state d) node query point other
+        → ReportsNoFailure one → ReportsNoFailure other → one ≡ other }
 {}
 
 /// What a client is told is Good is held: where the message of an activated session is a HistoryUpdate and is answered by results, each operation whose code is
@@ -192,10 +306,19 @@ pub fn machines_are_replicas_of_a_past<A: Archive>()
 /// message, for the details before them were done. And nothing else is added: what is held behind the message is what was held before it and these records,
 /// one for each such operation, in order; but where an operation broke the store its record may stand too, if `may` says that one may.
 #[tactic(auto, using(crate::proofs::Told::good_held))]
-pub fn what_is_told_as_good_is_held()
-    ensures { (may : Bool) (site : Server) (now : Time) (message : List ℕ) (token : NodeId) (details : List Details) (sessions : Sessions) (R : Content) (marks : List Mark) (results : List HistoryUpdateResult)
-        → request_in message ≡ Ok (token, Some (HistoryUpdate details)) → (answered site now message sessions R marks).0.0.0 ≡ Ok (Updated results) → MayStand may marks
-        → (user : List ℕ) × (user_at sessions token ≡ Ok user) × ((i : ℕ) (d : Details) (result : HistoryUpdateResult) → slice_get details i ≡ Some d → slice_get results i ≡ Some result
-        → (S : Content) × IsWithin R S × IsHeldFor site.own site.settings.space user now S d result (answered site now message sessions R marks).0.1)
-        × AddsAll may site.own site.settings.space user now details results R (answered site now message sessions R marks).0.1 }
+pub fn good_answers_are_stored()
+    ensures { (may : Bool) (site : Server) (now : Time) (message : List ℕ) (token : NodeId)
+        (details : List Details) (sessions : Sessions) (R : Content) (marks : List StepResult)
+        (results : List HistoryUpdateResult)
+        → request_in message ≡ Ok (token, Some (HistoryUpdate details))
+        → (answered site now message sessions R marks).0.0.0 ≡ Ok (Updated results)
+        → MayStandBehindBreak may marks
+        → (user : List ℕ) × (user_at sessions token ≡ Ok user)
+        × ((i : ℕ) (d : Details) (result : HistoryUpdateResult) → slice_get details i ≡ Some d
+        → slice_get results i ≡ Some result
+        → (S : Content) × IsWithin R S
+        × IsHeldFor site.own site.settings.space user now S d result
+        (answered site now message sessions R marks).0.1)
+        × AddsAll may site.own site.settings.space user now details results R
+        (answered site now message sessions R marks).0.1 }
 {}

@@ -3,10 +3,10 @@
 ghost use Rattle.std.specs.Prelude.{◌≡◌, ◌∷◌, [], map, IfOk};
 ghost use Rattle.std.specs.List.{AllByRecursion};
 ghost use Rattle.exchange.specs.Running.{event_of};
-ghost use Rattle.exchange.specs.Worlds.{IsSound, run};
+ghost use Rattle.exchange.specs.Worlds.{IsConsistent, run};
 ghost use Rattle.headline.specs.Answers.{IsInUse};
-ghost use Rattle.headline.specs.Machines.{AreNew, AreOf};
-ghost use Rattle.headline.specs.Pasts.{Past};
+ghost use Rattle.headline.specs.Machines.{AreNew, Simulates};
+ghost use Rattle.headline.specs.Executions.{Execution};
 
 use crate::lawful::are_lawful;
 use archive::{Archive, ListArchive, memory_is_honest};
@@ -25,7 +25,8 @@ fn is_in_use(machine: &ListArchive)
 
 /// Archives in memory are in use.
 fn are_in_use(machines: &[ListArchive])
-    ensures { AllByRecursion (λ machine. IsInUse (⟦<ListArchive as Archive>⟧.state machine)) machines.now }
+    ensures { AllByRecursion
+        (λ machine. IsInUse (⟦<ListArchive as Archive>⟧.state machine)) machines.now }
 {
     for machine in machines {
         is_in_use(machine);
@@ -68,7 +69,10 @@ pub fn two_machines(
     events: &[Event],
 ) -> Result<Vec<ListArchive>, usize>
     requires { one ≡ other → ⊥ }
-    ensures { IfOk result (λ machines. (p : Past) × (p.events ≡ map event_of events.now) × AreOf ⟦<ListArchive as Archive>⟧.state p machines.items × IsSound (run p.events p.start)) }
+    ensures { IfOk result
+        (λ machines. (p : Execution) × (p.events ≡ map event_of events.now)
+        × Simulates ⟦<ListArchive as Archive>⟧.state p machines.items
+        × IsConsistent (run p.events p.start)) }
 {
     if !are_lawful(events) {
         return Err(0);

@@ -1,14 +1,14 @@
 -- An answer of the archive, told in other words.
 use Rattle.std.proofs.Common.{◌≡◌, None, Result, Ok, Err}
 use Rattle.archive.specs.declared.fault.StoreFault.{StoreFault}
-use Rattle.archive.specs.Store.{Store, Leaves, Asks, IsLawfulContent}
-use Rattle.archive.specs.declared.setback.Setback.TheVariants.{Starved}
-use Rattle.archive.specs.declared.setback.Setback.TheVariants as setback
+use Rattle.archive.specs.Store.{Store, AfterCall, Asks, IsLawfulContent}
+use Rattle.archive.specs.declared.setback.StepError.TheVariants.{OutOfMemory}
+use Rattle.archive.specs.declared.setback.StepError.TheVariants as setback
 use Rattle.hist_read.specs.Finding.{Finds}
 use Rattle.archive.proofs.Calls.{in_use, asks-then, asks-failed}
 
 -- an answered call was one over a lawful content
-pub lawful_at : (a b : Store) → Leaves a b None → b.honest → IsLawfulContent a.content
+pub lawful_at : (a b : Store) → AfterCall a b None → b.honest → IsLawfulContent a.content
 lawful_at a b p h = (p.before (p.passes.honest h) (in_use a b p)).lawful
 
 pub asked_as : {A B : Type 0} (a b : Store) (x : A) (y : B) (P : A → Type 0) (Q : B → Type 0) → Asks a b (Ok x) P → (IsLawfulContent a.content → P x → Q y) → Asks a b (Ok y) Q
@@ -35,7 +35,7 @@ pub found_as : {A B : Type 0} (a b : Store) (x : A) (y : B) (P : A → Type 0) (
 found_as a b x y P Q p go = record { answer = λ h. go (lawful_at a b p.leaves h) (p.answer h); stays = p.stays; leaves = p.leaves }
 
 -- memory was wanting for what was to be made of the answer
-pub found_starved : {A B : Type 0} (a b : Store) (x : A) (P : A → Type 0) (Q : B → Type 0) → Asks a b (Ok x) P → Finds a b (Err Starved) Q
+pub found_starved : {A B : Type 0} (a b : Store) (x : A) (P : A → Type 0) (Q : B → Type 0) → Asks a b (Ok x) P → Finds a b (Err OutOfMemory) Q
 found_starved a b x P Q p = record { answer = λ h. tt; stays = p.stays; leaves = p.leaves }
 
 -- a fault of the store

@@ -14,7 +14,7 @@ use Rattle.ua_services.specs.declared.history.HistoryReadResult.{HistoryReadResu
 use Rattle.records.specs.Contents.{Content, numbers_of}
 use Rattle.records.specs.Moments.{moment}
 use Rattle.archive.specs.Reading.{is_between}
-use Rattle.archive.specs.Store.{Mark, Fine, IsLawfulContent}
+use Rattle.archive.specs.Store.{StepResult, Done, IsLawfulContent}
 use Rattle.archive.proofs.Vectors.{numbers_vector}
 use Rattle.hist_read.specs.declared.query.Query.{Query}
 use Rattle.hist_read.specs.declared.point.Position.{Position}
@@ -22,10 +22,10 @@ use Rattle.hist_read.specs.Asking.{is_given, has_both, first_time, origin_time}
 use Rattle.hist_read.specs.Point.{IsDetails, IsNext}
 use Rattle.hist_read.specs.Reads.{greatest_time, in_body, raw, raw_position, modified, modified_position, next_place}
 use Rattle.hist_read.specs.Showing.{shown, shown_entry, info}
-use Rattle.hist_read.specs.Node.{Behind, is_enough, judged, point_at, page_result}
+use Rattle.hist_read.specs.Node.{Behind, is_enough, checked_read, point_at, page_result}
 use Rattle.hist_read.proofs.NodeParts.{read_from}
 use Rattle.hist_read.proofs.Results.{raw_result, modified_result}
-use Rattle.hist_read.specs.Chains.{counted, whole, values_in, infos_in, Page, IsRead, Chain, joined_values, joined_infos, IsLater, IsAsked, contents_from}
+use Rattle.hist_read.specs.Chains.{limited, whole_read, values_in, infos_in, Page, IsRead, Chain, joined_values, joined_infos, IsLater, IsAsked, contents_from}
 use Rattle.hist_read.proofs.Joining.{modified_join}
 use Rattle.hist_read.proofs.RawJoining.{raw_joins}
 use Rattle.hist_read.proofs.Nexts.{raw_next, raw_within, modified_next_lawful, modified_within}
@@ -44,21 +44,21 @@ abbrev guarded : (a b : Bool) → Result (Option Behind) Status
 guarded a b = cond a (Err BAD_INVALID_ARGUMENT) (cond b (Err BAD_HISTORY_OPERATION_INVALID) (Ok None))
 
 -- what was read without a point isn't refused
-asked_is : (id : List ℕ) (node : NodeId) (query : Query) (first : Page) → IsRead id node query None first → judged id node query.details None ≡ Ok None
+asked_is : (id : List ℕ) (node : NodeId) (query : Query) (first : Page) → IsRead id node query None first → checked_read id node query.details None ≡ Ok None
 asked_is id node query first read = go (q.is_read_modified && q.return_bounds) (not (is_enough q)) (read.does [])
   where
     q : Details
     q = query.details
 
-    go : (a b : Bool) → read_from id node query first.content (guarded a b) (Fine ∷ []) ≡ ((first.result, first.content), [])
+    go : (a b : Bool) → read_from id node query first.content (guarded a b) (Done ∷ []) ≡ ((first.result, first.content), [])
         → guarded a b ≡ Ok None
-    go true b e = let left = ap (λ (x : (HistoryReadResult × Content) × List Mark). length x.1) e in absurd (omega (arith, left))
-    go false true e = let left = ap (λ (x : (HistoryReadResult × Content) × List Mark). length x.1) e in absurd (omega (arith, left))
+    go true b e = let left = ap (λ (x : (HistoryReadResult × Content) × List StepResult). length x.1) e in absurd (omega (arith, left))
+    go false true e = let left = ap (λ (x : (HistoryReadResult × Content) × List StepResult). length x.1) e in absurd (omega (arith, left))
     go false false e = refl
 
 module _ (R : Content) (lawful : IsLawfulContent R) (id : List ℕ) (node : NodeId) (q : Details) (stamps : TimestampsToReturn) (from to : ℤ)
     (span : (t : ℤ) → first_time ≤ℤ t → t ≤ℤ greatest_time → is_between from to t ≡ in_body q t)
-    (asked : IsAsked id node q) (given : IsTrue (is_given q.start_time.0 || is_given q.end_time.0)) (ok : judged id node q None ≡ Ok None)
+    (asked : IsAsked id node q) (given : IsTrue (is_given q.start_time.0 || is_given q.end_time.0)) (ok : checked_read id node q None ≡ Ok None)
   where
     abbrev query : Query
     query = record { details = q; stamps = stamps }
@@ -86,7 +86,7 @@ module _ (R : Content) (lawful : IsLawfulContent R) (id : List ℕ) (node : Node
     abbrev rest : {X : Type 0} → List X → List X
     rest xs = cond (has_both q) xs (take (q.num_values_per_node - 0) xs)
 
-    rest_is : {X : Type 0} (xs : List X) → rest xs ≡ counted q xs
+    rest_is : {X : Type 0} (xs : List X) → rest xs ≡ limited q xs
     rest_is xs = let all : q.num_values_per_node - 0 ≡ q.num_values_per_node = omega arith in ap (λ n. cond (has_both q) xs (take n xs)) all
 
     -- ---- raw values
@@ -100,7 +100,7 @@ module _ (R : Content) (lawful : IsLawfulContent R) (id : List ℕ) (node : Node
           (subst (λ o. IfSome o (λ n. n.time ≤ℤ greatest_time)) e (raw_within R node q p lawful (λ t. t ≤ℤ greatest_time) (λ t h. h.1) (origin_high q asked.details)))
 
       raw_values : (first : Page) (pages : List Page) → first.content ≡ R → AllByRecursion (λ read. IsLater R read.content) pages → Chain id node query None (first ∷ pages)
-          → joined_values (first ∷ pages) ≡ map (shown stamps) (counted q (raw R node q None))
+          → joined_values (first ∷ pages) ≡ map (shown stamps) (limited q (raw R node q None))
       raw_values first pages same later chain =
           shows id node query (raw R node q) (raw_position q) (λ p x. refl) (raw_joins R node q from to lawful span) (enough_is id node q ok) R answer told raw_pointed (IsPlace q) raw_good
           values_in (map (shown stamps)) (map-append (shown stamps)) (λ p. ap (λ b. values_in (cond b (modified_result R v id node query p) (raw_result R v id node query p)).history_data) plain) reads
@@ -123,7 +123,7 @@ module _ (R : Content) (lawful : IsLawfulContent R) (id : List ℕ) (node : Node
       modified_good p next e = place_is q next asked.details (subst (λ o. IfSome o (IsNext q)) e (modified_next_lawful R node q p lawful mods)) (subst (λ o. IfSome o (λ n. n.time ≤ℤ greatest_time)) e (modified_within R node q p lawful))
 
       modified_values : (first : Page) (pages : List Page) → first.content ≡ R → AllByRecursion (λ read. IsLater R read.content) pages → Chain id node query None (first ∷ pages)
-          → joined_values (first ∷ pages) ≡ map (shown_entry stamps) (counted q (modified R node q None))
+          → joined_values (first ∷ pages) ≡ map (shown_entry stamps) (limited q (modified R node q None))
       modified_values first pages same later chain =
           shows id node query (modified R node q) (modified_position q) (λ p x. refl) (modified_join R node q from to lawful span) (enough_is id node q ok) R answer told modified_pointed (IsPlace q) modified_good
           values_in (map (shown_entry stamps)) (map-append (shown_entry stamps)) (λ p. ap (λ b. values_in (cond b (modified_result R v id node query p) (raw_result R v id node query p)).history_data) mods) reads
@@ -131,7 +131,7 @@ module _ (R : Content) (lawful : IsLawfulContent R) (id : List ℕ) (node : Node
           ∙ ap (map (shown_entry stamps)) (rest_is (modified R node q None))
 
       modified_infos : (first : Page) (pages : List Page) → first.content ≡ R → AllByRecursion (λ read. IsLater R read.content) pages → Chain id node query None (first ∷ pages)
-          → joined_infos (first ∷ pages) ≡ map info (counted q (modified R node q None))
+          → joined_infos (first ∷ pages) ≡ map info (limited q (modified R node q None))
       modified_infos first pages same later chain =
           shows id node query (modified R node q) (modified_position q) (λ p x. refl) (modified_join R node q from to lawful span) (enough_is id node q ok) R answer told modified_pointed (IsPlace q) modified_good
           infos_in (map info) (map-append info) (λ p. ap (λ b. infos_in (cond b (modified_result R v id node query p) (raw_result R v id node query p)).history_data) mods) reads
@@ -141,11 +141,11 @@ module _ (R : Content) (lawful : IsLawfulContent R) (id : List ℕ) (node : Node
     -- ---- either
 
     pub chain_shows : (first : Page) (pages : List Page) → first.content ≡ R → AllByRecursion (λ read. IsLater R read.content) pages → Chain id node query None (first ∷ pages)
-        → (joined_values (first ∷ pages) ≡ values_in (whole R node query)) × (joined_infos (first ∷ pages) ≡ infos_in (whole R node query))
+        → (joined_values (first ∷ pages) ≡ values_in (whole_read R node query)) × (joined_infos (first ∷ pages) ≡ infos_in (whole_read R node query))
     chain_shows first pages same later chain =
-        let entries = counted q (modified R node q None) in
+        let entries = limited q (modified R node q None) in
         let mods = Modified (map (shown_entry stamps) entries) (map info entries) in
-        let raws = Raw (map (shown stamps) (counted q (raw R node q None))) in
+        let raws = Raw (map (shown stamps) (limited q (raw R node q None))) in
         elim (cases_Bool q.is_read_modified) [
           | inl e ↦ (modified_values e first pages same later chain ∙ sym (ap (λ b. values_in (cond b mods raws)) e), modified_infos e first pages same later chain ∙ sym (ap (λ b. infos_in (cond b mods raws)) e))
           | inr e ↦ (raw_values e first pages same later chain ∙ sym (ap (λ b. values_in (cond b mods raws)) e), raw_infos e first pages same later chain ∙ sym (ap (λ b. infos_in (cond b mods raws)) e))
@@ -166,5 +166,5 @@ module _ (R : Content) (lawful : IsLawfulContent R) (id : List ℕ) (node : Node
               (found.pages, found.count, found.over, found.chain)
         ]
 
-pub asked_from : (id : List ℕ) (node : NodeId) (query : Query) (first : Page) (pages : List Page) → Chain id node query None (first ∷ pages) → judged id node query.details None ≡ Ok None
+pub asked_from : (id : List ℕ) (node : NodeId) (query : Query) (first : Page) (pages : List Page) → Chain id node query None (first ∷ pages) → checked_read id node query.details None ≡ Ok None
 asked_from id node query first pages chain = asked_is id node query first (chain_read id node query None first pages chain)

@@ -28,7 +28,7 @@ use Rattle.stamp.specs.Numbers.{number_of}
 use Rattle.ua_services.specs.declared.history.ReadRawModifiedDetails.{ReadRawModifiedDetails as Details}
 use Rattle.records.specs.Lists.{Has}
 use Rattle.records.specs.Contents.{Content, numbers_of, cut}
-use Rattle.records.specs.Records.{write, value_shown, current, story, entries, entries_after, is_delete}
+use Rattle.records.specs.Records.{write, value_shown, current, versions, modifications_at, entries_after, is_delete}
 use Rattle.records.proofs.ContentsParts.{held_of}
 use Rattle.records.specs.Spelling.{empty, longest}
 use Rattle.records.specs.declared.record.Record.{Record}
@@ -46,7 +46,7 @@ use Rattle.archive.proofs.Timing.{has_from_get}
 use Rattle.archive.proofs.Turning.{has_from_filter_map, has_from_flat_map, has_from_reverse, has-in_direction}
 use Rattle.hist_read.specs.declared.query.Query.{Query}
 use Rattle.hist_read.specs.Short.{IsWritable, AreWritable, IsWritableHistory}
-use Rattle.hist_read.specs.Node.{Behind, refused, page_result, page_from}
+use Rattle.hist_read.specs.Node.{Behind, refused_read, page_result, page_from}
 use Rattle.hist_read.proofs.NodeParts.{covers}
 use Rattle.hist_read.proofs.Results.{raw_result, modified_result}
 use Rattle.hist_read.proofs.Cutting.{lawful_cut}
@@ -55,7 +55,7 @@ use Rattle.hist_read.specs.declared.point.Position.{Position}
 use Rattle.hist_read.specs.declared.item.Item.{Item}
 use Rattle.hist_read.specs.declared.item.Item.TheVariants.{Value, Missing}
 use Rattle.hist_read.specs.Asking.{far_limit, origin_time, direction}
-use Rattle.hist_read.specs.Reads.{nearest_from, value_or_missing, near, open_bound, far_value, far, last_within, is_near_alone, limit_at, is_past_any, in_body, body, body_part, values, last_time, time_before, before_far, raw, modified, place_at, page_size, page}
+use Rattle.hist_read.specs.Reads.{nearest_from, value_or_missing, near, open_bound, far_value, far, last_within, is_near_alone, limit_at, is_past_any, in_body, values_inside, body_part, value_items, last_time, time_before, before_far, raw, modified, place_at, page_size, page}
 use Rattle.hist_read.proofs.ReadsParts.{near_part, lives_in, far_part}
 use Rattle.hist_read.specs.Showing.{item_value, at_time, with_stamps, shown, shown_entry, info}
 use Rattle.hist_read.proofs.Nexts.{has_take, has_from_append, has_from_map}
@@ -78,11 +78,11 @@ held_value extra (Some r) h e = go (is_delete r.asked) e
     go false k = (r, refl, cc)
 
 module _ (R : Content) (node : NodeId) (lawful : IsLawfulContent R) where
-  story_stored : (t : ℤ) (r : Record) → Has (story R node t) r → IsStored r.value
+  story_stored : (t : ℤ) (r : Record) → Has (versions R node t) r → IsStored r.value
   story_stored t r h = record_stored R r lawful ((story_has R node t r).0 h).0
 
   current_stored : (t : ℤ) (h : Held) → current R node t ≡ Some h → IsStored h.value
-  current_stored t h e = let r = held_value _ _ h e in subst IsStored r.2 (story_stored t r.0 (has_from_get (story R node t) _ r.0 r.1))
+  current_stored t h e = let r = held_value _ _ h e in subst IsStored r.2 (story_stored t r.0 (has_from_get (versions R node t) _ r.0 r.1))
 
   lives_stored : (h : Held) → Has (lives R node) h → IsStored h.value
   lives_stored h k = let t = has_from_filter_map (current R node) (times R node) h k in current_stored t.0 h t.2
@@ -140,18 +140,18 @@ module _ (R : Content) (node : NodeId) (lawful : IsLawfulContent R) where
     body_in p h k = go (is_near_alone q) k
       where
         rest : List Held
-        rest = filter (λ x. is_past_any (direction q) (limit_at q p) x.time) (body R node q)
+        rest = filter (λ x. is_past_any (direction q) (limit_at q p) x.time) (values_inside R node q)
 
         go : (b : Bool) → Has (cond b [] rest) h → IsStored h.value
         go true i = absurd i
         go false i =
-            let one = (has_from_filter (λ (x : Held). is_past_any (direction q) (limit_at q p) x.time) (body R node q) h i).0 in
+            let one = (has_from_filter (λ (x : Held). is_past_any (direction q) (limit_at q p) x.time) (values_inside R node q) h i).0 in
             let two = (has_from_filter (λ (x : Held). in_body q x.time) (lives_in R node q) h one).0 in
             lives_stored h ((has-in_direction (direction q) (lives R node) h).0 two)
 
     pub item_good : (p : Option Position) (x : Item) → Has (raw R node q p) x → IsGood x
     item_good p x h = elim (has_from_append (before_far R node q p) (far_part R node q (last_time (time_before q p) (before_far R node q p))) x h) [
-      | inl i ↦ elim (has_from_append (near_part R node q p) (values (body_part R node q p)) x i) [
+      | inl i ↦ elim (has_from_append (near_part R node q p) (value_items (body_part R node q p)) x i) [
         | inl j ↦ near_in p x j
         | inr j ↦ let s = has_from_map (λ h. Value h) (body_part R node q p) x j in subst IsGood s.2 (body_in p s.0 s.1)
       ]
@@ -190,8 +190,8 @@ module _ (R : Content) (node : NodeId) (lawful : IsLawfulContent R) where
   modified_good q p e h =
       let one = (has_from_filter (follows (direction q) (place_at p)) _ e h).0 in
       let two = (has_from_filter (λ (x : Entry). in_body q x.time) (in_direction (direction q) (log R node)) e one).0 in
-      let t = has_from_flat_map (λ t. reverse (entries R node t)) (times R node) e ((has-in_direction (direction q) (log R node) e).0 two) in
-      entry_good None (story R node t.0) e tt (λ r i. ((story_has R node t.0 r).0 i).0) (has_from_reverse (entries R node t.0) e t.2)
+      let t = has_from_flat_map (λ t. reverse (modifications_at R node t)) (times R node) e ((has-in_direction (direction q) (log R node) e).0 two) in
+      entry_good None (versions R node t.0) e tt (λ r i. ((story_has R node t.0 r).0 i).0) (has_from_reverse (modifications_at R node t.0) e t.2)
 
 -- ---- how many bytes
 
@@ -379,6 +379,6 @@ pub read_writable : (R : Content) (id : List ℕ) (node : NodeId) (query : Query
 read_writable R id node query None lawful = page_writable R (numbers_of R) id node query None lawful
 read_writable R id node query (Some b) lawful = go (covers R b.1)
   where
-    go : (c : Bool) → IsWritableHistory (cond c (page_result (cut R (number_of b.1)) b.1 id node query (Some b.0)) (refused BAD_CONTINUATION_POINT_INVALID)).history_data
+    go : (c : Bool) → IsWritableHistory (cond c (page_result (cut R (number_of b.1)) b.1 id node query (Some b.0)) (refused_read BAD_CONTINUATION_POINT_INVALID)).history_data
     go true = page_writable (cut R (number_of b.1)) b.1 id node query (Some b.0) (lawful_cut R (number_of b.1) lawful)
     go false = tt

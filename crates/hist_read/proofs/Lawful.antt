@@ -21,7 +21,7 @@ use Rattle.hist_read.specs.declared.point.Position.{Position}
 use Rattle.stamp.specs.Vector.{vector}
 use Rattle.stamp.proofs.Lawful.{vector_lawful}
 use Rattle.ua_services.specs.History.{raw_of, raw_fields}
-use Rattle.hist_read.specs.Point.{IsDetails, details, phase, time, stamp, IsStamp, IsPosition, position, IsPoint, point}
+use Rattle.hist_read.specs.Point.{IsDetails, details, phase, point_time, stamp, IsStamp, IsPosition, position, IsPoint, point}
 use Rattle.hist_read.specs.PointReading.{short_form, short_node, number_of_phase, are_stamp, stamp_of, of_fields, fields_of, short_point}
 use Rattle.hist_read.proofs.PointParts.{stamp_fields}
 
@@ -62,8 +62,8 @@ phase_lawful = fitting_lawful _ (λ p _. phase_fits p) (standing_lawful _ _ (pas
 at_least_one : (t : ℤ) → pos 1 ≤ℤ t → int_le (pos 1) t ≡ true
 at_least_one t h = grind (arith, ints, nat_tests)
 
-pub time_lawful : IsLawful time
-unfolding time signed unsigned
+pub time_lawful : IsLawful point_time
+unfolding point_time signed unsigned
 time_lawful = fitting_lawful _ time_fits (standing_lawful _ _ (then_lawful (passing_lawful _ BadEncodingByte i64_lawful) (passing_lawful _ BadEncodingByte u16_lawful)))
   where
     time_fits : (t : ℤ) → (first_time ≤ℤ t) × FitsSigned w64 (ticks_of t)
@@ -96,7 +96,7 @@ abbrev position_fields : Position → Phase × (ℤ × (Option Stamp × ℕ))
 position_fields p = (p.phase, (p.time, (p.stamp, p.given)))
 
 pub position_lawful : IsLawful position
-unfolding position phase time stamp unsigned
+unfolding position phase point_time stamp unsigned
 position_lawful = fitting_lawful IsPosition (λ v h. ((tt, ((h.0, h.1), (h.2, h.3))), refl))
     (standing_lawful position_of position_fields (then_lawful phase_lawful (then_lawful time_lawful (then_lawful stamp_lawful u32_lawful))))
 

@@ -4,7 +4,7 @@ use Rattle.std.proofs.lemmas.Int.{ints}
 use Rattle.ua_binary.specs.declared.values.NodeId.{NodeId}
 use Rattle.records.specs.Lists.{Has}
 use Rattle.records.specs.Contents.{Content}
-use Rattle.records.specs.Records.{current, entries, story}
+use Rattle.records.specs.Records.{current, modifications_at, versions}
 use Rattle.records.specs.declared.record.Record.{Record}
 use Rattle.records.specs.declared.shown.Held.{Held}
 use Rattle.records.specs.declared.shown.Entry.{Entry}
@@ -22,7 +22,7 @@ use Rattle.records.specs.Moments.{whole_again, pico_within}
 use Rattle.ua_services.specs.declared.history.ReadRawModifiedDetails.{ReadRawModifiedDetails as Details}
 use Rattle.hist_read.specs.declared.point.Position.{Position}
 use Rattle.hist_read.specs.Pages.{body_limit}
-use Rattle.hist_read.specs.Reads.{is_near_alone, limit_at, body_part, page_size, greatest_time, in_body, body, is_past_any}
+use Rattle.hist_read.specs.Reads.{is_near_alone, limit_at, body_part, page_size, greatest_time, in_body, values_inside, is_past_any}
 use Rattle.hist_read.proofs.Filters.{filter_both, filter_same, filter_turned}
 
 abbrev pub IsTime : ℤ → Type 0
@@ -41,8 +41,8 @@ lives_lawful R node h lawful k =
 
 pub log_lawful : (R : Content) (node : NodeId) (e : Entry) → IsLawfulContent R → Has (log R node) e → IsTime e.time
 log_lawful R node e lawful h =
-    let t = has_from_flat_map (λ t. reverse (entries R node t)) (times R node) e h in
-    let r = entry_from None (story R node t.0) e (has_from_reverse (entries R node t.0) e t.2) in
+    let t = has_from_flat_map (λ t. reverse (modifications_at R node t)) (times R node) e h in
+    let r = entry_from None (versions R node t.0) e (has_from_reverse (modifications_at R node t.0) e t.2) in
     subst IsTime r.2 (record_time R r.0 lawful ((story_has R node t.0 r.0).0 r.1).0)
 
 -- ---- the body, by a range
@@ -52,7 +52,7 @@ abbrev pub IsSpanOf : Details → Option ℤ → ℤ → ℤ → Type 0
 IsSpanOf q limit from to = (t : ℤ) → first_time ≤ℤ t → t ≤ℤ greatest_time → is_between from to t ≡ (in_body q t && is_past_any (direction q) limit t)
 
 pub span_reads : (R : Content) (node : NodeId) (q : Details) (limit : Option ℤ) (from to : ℤ) → IsLawfulContent R → IsSpanOf q limit from to
-    → range_of R node from to (direction q) ≡ filter (λ h. is_past_any (direction q) limit h.time) (body R node q)
+    → range_of R node from to (direction q) ≡ filter (λ h. is_past_any (direction q) limit h.time) (values_inside R node q)
 span_reads R node q limit from to lawful span =
     let d = direction q in
     ap (in_direction d) (filter_same _ (λ h. in_body q h.time && is_past_any d limit h.time) (lives R node) (λ h k. let l = lives_lawful R node h lawful k in span h.time l.0 l.1))
@@ -67,7 +67,7 @@ pub body_found : (R : Content) (node : NodeId) (q : Details) (p : Option Positio
 body_found R node q p from to lawful span = go (is_near_alone q)
   where
     rest : List Held
-    rest = filter (λ h. is_past_any (direction q) (limit_at q p) h.time) (body R node q)
+    rest = filter (λ h. is_past_any (direction q) (limit_at q p) h.time) (values_inside R node q)
 
     go : (b : Bool) → take (cond b 0 (page_size q p + 1)) (range_of R node from to (direction q)) ≡ take (page_size q p + 1) (cond b [] rest)
     go true = sym (take_nil (page_size q p + 1))

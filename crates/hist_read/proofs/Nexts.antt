@@ -9,7 +9,7 @@ use Rattle.stamp.specs.Limits.{greatest, IsReplica}
 use Rattle.ua_binary.specs.declared.values.NodeId.{NodeId}
 use Rattle.records.specs.Lists.{Has, last}
 use Rattle.records.specs.Contents.{Content}
-use Rattle.records.specs.Records.{current, story, entries, entries_after}
+use Rattle.records.specs.Records.{current, versions, modifications_at, entries_after}
 use Rattle.records.specs.declared.record.Record.{Record}
 use Rattle.records.specs.declared.shown.Held.{Held}
 use Rattle.records.specs.declared.shown.Entry.{Entry}
@@ -25,7 +25,7 @@ use Rattle.hist_read.specs.Asking.{is_given, has_both, first_time, origin_time, 
 use Rattle.records.specs.Moments.{moment}
 use Rattle.hist_read.specs.Point.{IsNext}
 use Rattle.hist_read.specs.PointReading.{is_given_for}
-use Rattle.hist_read.specs.Reads.{greatest_time, nearest_from, value_or_missing, near, item_time, is_near_alone, limit_at, is_past_any, in_body, body, body_part, values, far, last_time, time_before, before_far, raw, modified, place_at, given_before, page_size, is_spent, page, given_after, raw_position, modified_position, next_place}
+use Rattle.hist_read.specs.Reads.{greatest_time, nearest_from, value_or_missing, near, item_time, is_near_alone, limit_at, is_past_any, in_body, values_inside, body_part, value_items, far, last_time, time_before, before_far, raw, modified, place_at, given_before, page_size, is_spent, page, given_after, raw_position, modified_position, next_place}
 use Rattle.hist_read.proofs.ReadsParts.{near_part, goes_on, lives_in, far_part}
 use Rattle.ua_services.specs.declared.history.ReadRawModifiedDetails.{ReadRawModifiedDetails as Details}
 use Rattle.hist_read.specs.declared.point.Position.{Position}
@@ -113,17 +113,17 @@ module _ (R : Content) (node : NodeId) (q : Details) (p : Option Position) (lawf
     body_late h k = go (is_near_alone q) k
       where
         rest : List Held
-        rest = filter (λ x. is_past_any (direction q) (limit_at q p) x.time) (body R node q)
+        rest = filter (λ x. is_past_any (direction q) (limit_at q p) x.time) (values_inside R node q)
 
         go : (b : Bool) → Has (cond b [] rest) h → P h.time
         go true i = absurd i
         go false i =
-            let one = (has_from_filter (λ (x : Held). is_past_any (direction q) (limit_at q p) x.time) (body R node q) h i).0 in
+            let one = (has_from_filter (λ (x : Held). is_past_any (direction q) (limit_at q p) x.time) (values_inside R node q) h i).0 in
             let two = (has_from_filter (λ (x : Held). in_body q x.time) (lives_in R node q) h one).0 in
             all h.time (lives_lawful R node h lawful ((has-in_direction (direction q) (lives R node) h).0 two))
 
     item_late : (x : Item) → Has (before_far R node q p) x → P (item_time x)
-    item_late x h = elim (has_from_append (near_part R node q p) (values (body_part R node q p)) x h) [
+    item_late x h = elim (has_from_append (near_part R node q p) (value_items (body_part R node q p)) x h) [
       | inl i ↦ near_in p x i
       | inr j ↦ let s = has_from_map (λ h. Value h) (body_part R node q p) x j in subst (λ y. P (item_time y)) s.2 (body_late s.0 s.1)
     ]
@@ -198,8 +198,8 @@ module _ (R : Content) (node : NodeId) (q : Details) (p : Option Position) (lawf
 
   log_late : (e : Entry) → Has (log R node) e → IsLate e
   log_late e h =
-      let t = has_from_flat_map (λ t. reverse (entries R node t)) (times R node) e h in
-      entry_late None (story R node t.0) e (λ r i. ((story_has R node t.0 r).0 i).0) (has_from_reverse (entries R node t.0) e t.2)
+      let t = has_from_flat_map (λ t. reverse (modifications_at R node t)) (times R node) e h in
+      entry_late None (versions R node t.0) e (λ r i. ((story_has R node t.0 r).0 i).0) (has_from_reverse (modifications_at R node t.0) e t.2)
 
   modified_late : (e : Entry) → Has (modified R node q p) e → IsLate e
   modified_late e h =

@@ -10,7 +10,7 @@ use Rattle.records.specs.Lists.{last}
 use Rattle.records.specs.declared.shown.Held.{Held}
 use Rattle.records.specs.declared.shown.Entry.{Entry}
 use Rattle.hist_read.specs.Asking.{has_both, direction, end_time}
-use Rattle.hist_read.specs.Reads.{body_part, far, far_value, value_or_missing, open_bound, values, last_time, time_before, before_far, raw, page_size, page, is_spent, next_place, raw_position, modified, modified_position}
+use Rattle.hist_read.specs.Reads.{body_part, far, far_value, value_or_missing, open_bound, value_items, last_time, time_before, before_far, raw, page_size, page, is_spent, next_place, raw_position, modified, modified_position}
 use Rattle.hist_read.proofs.ReadsParts.{near_part, goes_on, far_part}
 use Rattle.hist_read.specs.Pages.{IsFound, has_far, far_item, far_of, row_of}
 use Rattle.ua_services.specs.declared.history.ReadRawModifiedDetails.{ReadRawModifiedDetails as Details}
@@ -55,14 +55,14 @@ module _ (R : Content) (node : NodeId) (q : Details) (p : Option Position) (foun
   abbrev row : List Item
   row = row_of q p (option_to_list found.near) found.body.items found.far
 
-  front_is : option_to_list found.near ++ values found.body.items ≡ N ++ values (take (n + 1) B)
-  front_is = ap (λ l. l ++ values found.body.items) is.near ∙ ap (λ b. N ++ values b) is.body
+  front_is : option_to_list found.near ++ value_items found.body.items ≡ N ++ value_items (take (n + 1) B)
+  front_is = ap (λ l. l ++ value_items found.body.items) is.near ∙ ap (λ b. N ++ value_items b) is.body
 
   -- the values end within the page
   all_found : length B ≤ n → row ≡ raw R node q p
   all_found fits =
       let whole : take (n + 1) B ≡ B = take_all (n + 1) B (omega arith) in
-      let front : option_to_list found.near ++ values found.body.items ≡ before_far R node q p = front_is ∙ ap (λ b. N ++ values b) whole in
+      let front : option_to_list found.near ++ value_items found.body.items ≡ before_far R node q p = front_is ∙ ap (λ b. N ++ value_items b) whole in
       let within : nat_le (length B) n ≡ true = grind (arith, nat_tests) in
       let ends : nat_le (length found.body.items) n ≡ true = ap (λ b. nat_le (length b) n) (is.body ∙ whole) ∙ within in
       ap (λ f. f ++ far_of q p (has_far q && nat_le (length found.body.items) n) f found.far) front
@@ -72,29 +72,29 @@ module _ (R : Content) (node : NodeId) (q : Details) (p : Option Position) (foun
   none_due true f = refl
   none_due false f = refl
 
-  part_found : n < length B → row ≡ N ++ take (n + 1) (values B)
+  part_found : n < length B → row ≡ N ++ take (n + 1) (value_items B)
   part_found more =
       let some : length (take (n + 1) B) ≡ n + 1 = length-take (n + 1) B ∙ omega arith in
       let beyond : nat_le (n + 1) n ≡ false = grind (arith, nat_tests) in
       let on : nat_le (length found.body.items) n ≡ false = ap (λ b. nat_le (length b) n) is.body ∙ (ap (λ k. nat_le k n) some ∙ beyond) in
-      ap (λ b. (option_to_list found.near ++ values found.body.items) ++ far_of q p (has_far q && b) (option_to_list found.near ++ values found.body.items) found.far) on
-      ∙ (ap (λ l. (option_to_list found.near ++ values found.body.items) ++ l) (none_due (has_far q) (option_to_list found.near ++ values found.body.items))
+      ap (λ b. (option_to_list found.near ++ value_items found.body.items) ++ far_of q p (has_far q && b) (option_to_list found.near ++ value_items found.body.items) found.far) on
+      ∙ (ap (λ l. (option_to_list found.near ++ value_items found.body.items) ++ l) (none_due (has_far q) (option_to_list found.near ++ value_items found.body.items))
       ∙ (append-nil _ ∙ (front_is ∙ ap (λ l. N ++ l) (sym (take-map (λ h. Value h) (n + 1) B)))))
 
-  row_longer : n < length B → n < length (N ++ take (n + 1) (values B))
+  row_longer : n < length B → n < length (N ++ take (n + 1) (value_items B))
   row_longer more =
-      let some : length (take (n + 1) (values B)) ≡ n + 1 = length-take (n + 1) (values B) ∙ (rw length-map (omega arith)) in
+      let some : length (take (n + 1) (value_items B)) ≡ n + 1 = length-take (n + 1) (value_items B) ∙ (rw length-map (omega arith)) in
       rw (length-append, some) (omega arith)
 
-  raw_is : raw R node q p ≡ N ++ (values B ++ far_part R node q (last_time (time_before q p) (before_far R node q p)))
-  raw_is = append_assoc N (values B) _
+  raw_is : raw R node q p ≡ N ++ (value_items B ++ far_part R node q (last_time (time_before q p) (before_far R node q p)))
+  raw_is = append_assoc N (value_items B) _
 
   pub row_page : page q p row ≡ page q p (raw R node q p)
   row_page = elim (cases_Bool (nat_le (length B) n)) [
     | inl e ↦ ap (take n) (all_found (grind (arith, nat_tests, e)))
     | inr e ↦
         let more : n < length B = grind (arith, nat_tests, e) in
-        ap (take n) (part_found more) ∙ (gathered n N (values B) _ (row_longer more) ∙ ap (take n) (sym raw_is))
+        ap (take n) (part_found more) ∙ (gathered n N (value_items B) _ (row_longer more) ∙ ap (take n) (sym raw_is))
   ]
 
   pub row_goes : nat_lt n (length row) ≡ nat_lt n (length (raw R node q p))

@@ -18,7 +18,7 @@ use Rattle.archive.specs.declared.reading.Direction.TheVariants.{Forward, Backwa
 use Rattle.archive.proofs.Ranges.{range_goes}
 use Rattle.archive.proofs.Timing.{has_from_get}
 use Rattle.hist_read.specs.Asking.{has_both, first_time, direction}
-use Rattle.hist_read.specs.Reads.{greatest_time, in_body, body, is_near_alone, near, limit_at, is_past_any, body_part, values, far, item_time, last_time, time_before, before_far, raw, raw_position, page_size, page, is_spent, next_place}
+use Rattle.hist_read.specs.Reads.{greatest_time, in_body, values_inside, is_near_alone, near, limit_at, is_past_any, body_part, value_items, far, item_time, last_time, time_before, before_far, raw, raw_position, page_size, page, is_spent, next_place}
 use Rattle.hist_read.proofs.ReadsParts.{near_part, goes_on, far_part}
 use Rattle.ua_services.specs.declared.history.ReadRawModifiedDetails.{ReadRawModifiedDetails as Details}
 use Rattle.hist_read.specs.declared.point.Position.{Position}
@@ -51,12 +51,12 @@ last_behind (y ∷ z ∷ zs) zero x t e =
 last_behind (y ∷ []) (suc k) x t e = absurd (none-some _ e)
 last_behind (y ∷ z ∷ zs) (suc k) x t e = ap (λ o. option_map_or item_time o t) (last_more y z zs) ∙ last_behind (z ∷ zs) k x t e
 
-get_mapped : (hs : List Held) (k : ℕ) (x : Item) → slice_get (values hs) k ≡ Some x → (h : Held) × (slice_get hs k ≡ Some h) × (x ≡ Value h)
+get_mapped : (hs : List Held) (k : ℕ) (x : Item) → slice_get (value_items hs) k ≡ Some x → (h : Held) × (slice_get hs k ≡ Some h) × (x ≡ Value h)
 get_mapped [] k x e = absurd (none-some _ e)
 get_mapped (h ∷ hs) zero x e = (h, refl, sym (cc))
 get_mapped (h ∷ hs) (suc k) x e = get_mapped hs k x e
 
-drop_mapped : (k : ℕ) (hs : List Held) → drop k (values hs) ≡ values (drop k hs)
+drop_mapped : (k : ℕ) (hs : List Held) → drop k (value_items hs) ≡ value_items (drop k hs)
 drop_mapped zero hs = refl
 drop_mapped (suc k) [] = refl
 drop_mapped (suc k) (h ∷ hs) = drop_mapped k hs
@@ -77,24 +77,24 @@ and_true true = refl
 and_true false = refl
 
 module _ (R : Content) (node : NodeId) (q : Details) (from to : ℤ) (lawful : IsLawfulContent R) (span : (t : ℤ) → first_time ≤ℤ t → t ≤ℤ greatest_time → is_between from to t ≡ in_body q t) where
-  body_goes : IsPairwise (λ a b. is_past (direction q) a.time b.time ≡ true) (body R node q)
+  body_goes : IsPairwise (λ a b. is_past (direction q) a.time b.time ≡ true) (values_inside R node q)
   body_goes = subst (IsPairwise (λ a b. is_past (direction q) a.time b.time ≡ true))
-      (span_reads R node q None from to lawful (λ t low high. span t low high ∙ sym (and_true (in_body q t))) ∙ filter_all (body R node q))
+      (span_reads R node q None from to lawful (λ t low high. span t low high ∙ sym (and_true (in_body q t))) ∙ filter_all (values_inside R node q))
       (range_goes R node from to (direction q))
 
   module _ (p : Option Position) (apart : is_near_alone q ≡ false) where
     abbrev part : Option Position → List Held
-    part o = filter (λ h. is_past_any (direction q) (limit_at q o) h.time) (body R node q)
+    part o = filter (λ h. is_past_any (direction q) (limit_at q o) h.time) (values_inside R node q)
 
     part_is : (o : Option Position) → body_part R node q o ≡ part o
     part_is o = ap (λ b. cond b [] (part o)) apart
 
-    after_value : (k : ℕ) (h : Held) → slice_get (part p) k ≡ Some h → filter (λ g. is_past (direction q) h.time g.time) (body R node q) ≡ drop (suc k) (part p)
+    after_value : (k : ℕ) (h : Held) → slice_get (part p) k ≡ Some h → filter (λ g. is_past (direction q) h.time g.time) (values_inside R node q) ≡ drop (suc k) (part p)
     after_value k h e =
         let d = direction q in
-        let on : is_past_any d (limit_at q p) h.time ≡ true = (has_from_filter (λ g. is_past_any d (limit_at q p) g.time) (body R node q) h (has_from_get (part p) k h e)).1 in
-        sym (past_passes (λ g. is_past d h.time g.time) (λ g. is_past_any d (limit_at q p) g.time) (λ g m. past_on d (limit_at q p) h g on m) (body R node q))
-        ∙ past_is_drop (λ a b. is_past d a.time b.time) (past_back d) (part p) k h (pairwise-filter (λ a b. is_past d a.time b.time ≡ true) (λ g. is_past_any d (limit_at q p) g.time) (body R node q) body_goes) e
+        let on : is_past_any d (limit_at q p) h.time ≡ true = (has_from_filter (λ g. is_past_any d (limit_at q p) g.time) (values_inside R node q) h (has_from_get (part p) k h e)).1 in
+        sym (past_passes (λ g. is_past d h.time g.time) (λ g. is_past_any d (limit_at q p) g.time) (λ g m. past_on d (limit_at q p) h g on m) (values_inside R node q))
+        ∙ past_is_drop (λ a b. is_past d a.time b.time) (past_back d) (part p) k h (pairwise-filter (λ a b. is_past d a.time b.time ≡ true) (λ g. is_past_any d (limit_at q p) g.time) (values_inside R node q) body_goes) e
 
     -- the value behind which a page ends, and what is left of the body there
     left_is : (k : ℕ) (h : Held) → slice_get (body_part R node q p) k ≡ Some h → body_part R node q (Some (raw_position q p (Value h))) ≡ drop (suc k) (body_part R node q p)
@@ -122,11 +122,11 @@ module _ (R : Content) (node : NodeId) (q : Details) (from to : ℤ) (lawful : I
     follows_is : (j : ℕ) (x : Item) → slice_get L (length N + j) ≡ Some x
         → raw R node q (Some (raw_position q p x)) ≡ drop (suc (length N + j)) L ++ far_part R node q (last_time (time_before q p) L)
     follows_is j x e =
-        let m = get_mapped B j x (sym (get_behind N (values B) j) ∙ e) in
+        let m = get_mapped B j x (sym (get_behind N (value_items B) j) ∙ e) in
         let one : suc (length N + j) ≡ length N + suc j = omega arith in
-        let rest : values (body_part R node q (Some (raw_position q p x))) ≡ drop (suc (length N + j)) L =
-        ap (λ y. values (body_part R node q (Some (raw_position q p y)))) m.2
-        ∙ (ap values (left_is j m.0 m.1) ∙ (sym (drop_mapped (suc j) B) ∙ (sym (drop_behind N (values B) (suc j)) ∙ ap (λ n. drop n L) (sym one)))) in
+        let rest : value_items (body_part R node q (Some (raw_position q p x))) ≡ drop (suc (length N + j)) L =
+        ap (λ y. value_items (body_part R node q (Some (raw_position q p y)))) m.2
+        ∙ (ap value_items (left_is j m.0 m.1) ∙ (sym (drop_mapped (suc j) B) ∙ (sym (drop_behind N (value_items B) (suc j)) ∙ ap (λ n. drop n L) (sym one)))) in
         ap (λ l. l ++ far_part R node q (last_time (item_time x) l)) rest
         ∙ ap (λ t. drop (suc (length N + j)) L ++ far_part R node q t) (sym (last_behind L (length N + j) x (time_before q p) e))
 
@@ -228,10 +228,10 @@ module _ (R : Content) (node : NodeId) (q : Details) (from to : ℤ) (lawful : I
           ends false = refl
 
       no_body : (o : Option Position) → body_part R node q o ≡ []
-      no_body o = ap (λ a. cond a [] (filter (λ h. is_past_any (direction q) (limit_at q o) h.time) (body R node q))) e
+      no_body o = ap (λ a. cond a [] (filter (λ h. is_past_any (direction q) (limit_at q o) h.time) (values_inside R node q))) e
 
       all_is : (o : Option Position) → raw R node q o ≡ (near_part R node q o ++ []) ++ []
-      all_is o = ap (λ f. before_far R node q o ++ f) (no_far _) ∙ ap (λ b. (near_part R node q o ++ values b) ++ []) (no_body o)
+      all_is o = ap (λ f. before_far R node q o ++ f) (no_far _) ∙ ap (λ b. (near_part R node q o ++ value_items b) ++ []) (no_body o)
 
       size : (b : Bool) → 1 ≤ cond b 1000 (min 1000 (cond (has_both q) q.num_values_per_node (q.num_values_per_node - 0)))
       size true = omega arith

@@ -9,8 +9,8 @@ use Rattle.std.proofs.lemmas.Int.{of_z-to_z}
 use Rattle.std.proofs.lemmas.Nat.{le_bytes_2, le_bytes_4}
 use Rattle.ua_binary.specs.declared.fault.BinaryFault.{BinaryFault}
 use Rattle.ua_binary.specs.declared.fault.BinaryFault.TheVariants.{BadLength, BadEncodingByte}
-use Rattle.ua_binary.specs.Format.{◌>>=◌, Reading, Format, IsLawful, canonical, whole, nothing, refused, byte, block, ◌▸◌, headed, standing_for, passing, flagged}
-use Rattle.ua_binary.specs.Binary.{unsigned, signed, byte_string, boolean, text, guid, guid_of, numbers_of, node_form, node_form_of, node_id}
+use Rattle.ua_binary.specs.Format.{◌>>=◌, Reading, Format, IsLawful, canonical, whole, nothing, no_format, byte, block, ◌▸◌, headed, standing_for, passing, flagged}
+use Rattle.ua_binary.specs.Binary.{unsigned, signed, byte_string, boolean, text, guid, guid_of, numeric_parts, node_form, node_form_of, node_id}
 use Rattle.ua_binary.specs.declared.values.NodeId.{NodeId}
 use Rattle.ua_binary.specs.declared.values.NodeId.TheVariants.{Numeric, Named, Global, Opaque}
 use Rattle.ua_binary.proofs.BinaryParts.{counted, count_of, two_byte_node, four_byte_node, numeric_node, global_node, named_parts, opaque_parts}
@@ -53,7 +53,7 @@ record IsTight {E A : Type 0} (f : Format E A) : Type 0 where
 nothing_tight : {E A : Type 0} (a : A) → IsTight (nothing {E = E} a)
 nothing_tight a = record { same = λ bytes v h s. s.0 }
 
-refused_tight : {E A : Type 0} (e : E) → IsTight (refused {A = A} e)
+refused_tight : {E A : Type 0} (e : E) → IsTight (no_format {A = A} e)
 refused_tight e = record { same = λ bytes v h s. absurd s }
 
 byte_tight : IsTight byte
@@ -153,13 +153,13 @@ opaque_tight = standing_tight (λ p. Opaque p.0 (unwrap_or p.1 [])) opaque_parts
     (λ bytes u s h. ap (λ v. (unsigned w16).canon u.0 ++ byte_string.canon v) (some_again u.1 s.4.1))
 
 two_byte_tight : IsTight two_byte_node
-two_byte_tight = standing_tight (λ id. Numeric 0 id) (λ v. (numbers_of v).1) byte_tight (λ bytes u s h. refl)
+two_byte_tight = standing_tight (λ id. Numeric 0 id) (λ v. (numeric_parts v).1) byte_tight (λ bytes u s h. refl)
 
 four_byte_tight : IsTight four_byte_node
-four_byte_tight = standing_tight (λ p. Numeric p.0 p.1) numbers_of (then_tight byte_tight u16_tight) (λ bytes u s h. refl)
+four_byte_tight = standing_tight (λ p. Numeric p.0 p.1) numeric_parts (then_tight byte_tight u16_tight) (λ bytes u s h. refl)
 
 numeric_tight : IsTight numeric_node
-numeric_tight = standing_tight (λ p. Numeric p.0 p.1) numbers_of (then_tight u16_tight u32_tight) (λ bytes u s h. refl)
+numeric_tight = standing_tight (λ p. Numeric p.0 p.1) numeric_parts (then_tight u16_tight u32_tight) (λ bytes u s h. refl)
 
 global_tight : IsTight global_node
 global_tight = standing_tight (λ p. Global p.0 p.1) _ (then_tight u16_tight guid_tight) (λ bytes u s h. refl)

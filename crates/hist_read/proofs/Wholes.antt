@@ -21,7 +21,7 @@ use Rattle.records.specs.declared.shown.Held.{Held}
 use Rattle.records.proofs.CutLemmas.{cut_same}
 use Rattle.records.proofs.Sorting.{has_from_filter}
 use Rattle.archive.specs.Reading.{is_past, is_between}
-use Rattle.archive.specs.Store.{Fine, IsLawfulContent}
+use Rattle.archive.specs.Store.{Done, IsLawfulContent}
 use Rattle.archive.specs.declared.reading.Direction.{Direction}
 use Rattle.archive.specs.declared.reading.Direction.TheVariants.{Forward, Backward}
 use Rattle.archive.proofs.Vectors.{numbers_are, numbers_vector}
@@ -31,9 +31,9 @@ use Rattle.hist_read.specs.declared.point.Position.{Position}
 use Rattle.hist_read.specs.Asking.{is_given, has_both, origin_time, direction}
 use Rattle.hist_read.specs.Point.{Point, point, IsDetails, IsPosition, IsPoint, IsNext, suits}
 use Rattle.hist_read.specs.PointReading.{is_given_for, is_phase_for, is_stamp_for}
-use Rattle.hist_read.specs.Reads.{greatest_time, in_body, in_body_of, is_from, last_within, body, near, far, values, last_time, is_past_any, raw, modified}
+use Rattle.hist_read.specs.Reads.{greatest_time, in_body, in_body_of, is_from, last_within, values_inside, near, far, value_items, last_time, is_past_any, raw, modified}
 use Rattle.hist_read.proofs.ReadsParts.{lives_in}
-use Rattle.hist_read.specs.Node.{Behind, is_enough, judged, place_in, point_at, page_result, page_from, refused}
+use Rattle.hist_read.specs.Node.{Behind, is_enough, checked_read, resume_place, point_at, page_result, page_from, refused_read}
 use Rattle.hist_read.proofs.NodeParts.{read_from, covers}
 use Rattle.hist_read.specs.Wholes.{behind_origin, with_far, whole_raw, whole_modified}
 use Rattle.hist_read.specs.Chains.{Page, IsRead, IsLater, IsAsked}
@@ -74,26 +74,26 @@ body_from q t e = go (has_both q) refl e
 
 module _ (R : Content) (node : NodeId) (q : Details) where
   abbrev past_origin : List Held
-  past_origin = filter (λ h. is_past (direction q) (origin_time q) h.time) (body R node q)
+  past_origin = filter (λ h. is_past (direction q) (origin_time q) h.time) (values_inside R node q)
 
   past_is : past_origin ≡ behind_origin R node q
-  past_is = filter_same (λ h. is_past (direction q) (origin_time q) h.time) (λ h. not (int_eq h.time (origin_time q))) (body R node q)
+  past_is = filter_same (λ h. is_past (direction q) (origin_time q) h.time) (λ h. not (int_eq h.time (origin_time q))) (values_inside R node q)
       (λ h k. from_is_past (direction q) (origin_time q) h.time (body_from q h.time (has_from_filter (λ (x : Held). in_body q x.time) (lives_in R node q) h k).1))
 
   -- both, by whether bounds are asked for, and whether the count is 1
   abbrev front : (b c : Bool) → List Item
-  front b c = cond b (near R node q ∷ []) [] ++ values (cond (b && c) [] (filter (λ h. is_past_any (direction q) (cond b (Some (origin_time q)) None) h.time) (body R node q)))
+  front b c = cond b (near R node q ∷ []) [] ++ value_items (cond (b && c) [] (filter (λ h. is_past_any (direction q) (cond b (Some (origin_time q)) None) h.time) (values_inside R node q)))
 
   abbrev raw_by : (b c : Bool) → List Item
   raw_by b c = front b c ++ cond (b && not (b && c)) (far R node q (last_time (origin_time q) (front b c)) ∷ []) []
 
   abbrev whole_by : (b c : Bool) → List Item
-  whole_by b c = cond (not b) (values (body R node q)) (cond c (near R node q ∷ []) (with_far R node q (near R node q ∷ values (behind_origin R node q))))
+  whole_by b c = cond (not b) (value_items (values_inside R node q)) (cond c (near R node q ∷ []) (with_far R node q (near R node q ∷ value_items (behind_origin R node q))))
 
   same_by : (b c : Bool) → raw_by b c ≡ whole_by b c
-  same_by false c = append-nil _ ∙ ap values (filter_all (body R node q))
+  same_by false c = append-nil _ ∙ ap value_items (filter_all (values_inside R node q))
   same_by true true = refl
-  same_by true false = ap (λ l. with_far R node q (near R node q ∷ values l)) past_is
+  same_by true false = ap (λ l. with_far R node q (near R node q ∷ value_items l)) past_is
 
   pub whole_is : raw R node q None ≡ whole_raw R node q
   whole_is = same_by q.return_bounds (q.num_values_per_node == 1)
@@ -109,17 +109,17 @@ guards false true e f x y z h = absurd cc
 guards false false e f x y z h = (refl, refl)
 
 module _ (id : List ℕ) (node : NodeId) (q : Details) where
-  guards_of : judged id node q None ≡ Ok None → ((q.is_read_modified && q.return_bounds) ≡ false) × (not (is_enough q) ≡ false)
+  guards_of : checked_read id node q None ≡ Ok None → ((q.is_read_modified && q.return_bounds) ≡ false) × (not (is_enough q) ≡ false)
   guards_of e = guards (q.is_read_modified && q.return_bounds) (not (is_enough q)) BAD_INVALID_ARGUMENT BAD_HISTORY_OPERATION_INVALID (Ok None) (Ok None) None e
 
   -- what isn't refused without a point goes on where a point says
-  pub judged_is : judged id node q None ≡ Ok None → (continuation : Option (List ℕ)) → judged id node q continuation ≡ place_in id node q continuation
+  pub judged_is : checked_read id node q None ≡ Ok None → (continuation : Option (List ℕ)) → checked_read id node q continuation ≡ resume_place id node q continuation
   judged_is e continuation =
       let g = guards_of e in
-      ap (λ a. cond a (Err BAD_INVALID_ARGUMENT) (cond (not (is_enough q)) (Err BAD_HISTORY_OPERATION_INVALID) (place_in id node q continuation))) g.0
-      ∙ ap (λ b. cond b (Err BAD_HISTORY_OPERATION_INVALID) (place_in id node q continuation)) g.1
+      ap (λ a. cond a (Err BAD_INVALID_ARGUMENT) (cond (not (is_enough q)) (Err BAD_HISTORY_OPERATION_INVALID) (resume_place id node q continuation))) g.0
+      ∙ ap (λ b. cond b (Err BAD_HISTORY_OPERATION_INVALID) (resume_place id node q continuation)) g.1
 
-  pub enough_is : judged id node q None ≡ Ok None → has_both q ≡ false → 0 < q.num_values_per_node
+  pub enough_is : checked_read id node q None ≡ Ok None → has_both q ≡ false → 0 < q.num_values_per_node
   enough_is e open_end =
       let g = guards_of e in
       let some : not (q.num_values_per_node == 0) ≡ true = go (is_given q.start_time.0) (is_given q.end_time.0) (not (q.num_values_per_node == 0)) g.1 open_end in
@@ -160,7 +160,7 @@ module _ (id : List ℕ) (node : NodeId) (q : Details) (v : List ℕ) (asked : I
   at p = record { archive = id; node = node; details = q; position = p; vector = v }
 
   -- a point that was written tells its place again
-  pub point_told : (p : Position) → IsPlace q p → place_in id node q (Some (point_at id node q v p)) ≡ Ok (Some (p, v))
+  pub point_told : (p : Position) → IsPlace q p → resume_place id node q (Some (point_at id node q v p)) ≡ Ok (Some (p, v))
   unfolding point
   point_told p good =
       let is : IsPoint (at p) = record { archive = asked.sixteen; node = asked.spelled; details = asked.details; position = good.0; suits = good.1; vector = vector } in
@@ -169,14 +169,14 @@ module _ (id : List ℕ) (node : NodeId) (q : Details) (v : List ℕ) (asked : I
 -- ---- reads
 
 module _ (id : List ℕ) (node : NodeId) (query : Query) where
-  pub read_is : (continuation : Option (List ℕ)) (behind : Option Behind) (first : Page) → judged id node query.details continuation ≡ Ok behind → IsRead id node query continuation first → first.result ≡ page_from first.content id node query behind
+  pub read_is : (continuation : Option (List ℕ)) (behind : Option Behind) (first : Page) → checked_read id node query.details continuation ≡ Ok behind → IsRead id node query continuation first → first.result ≡ page_from first.content id node query behind
   read_is continuation behind first told read =
-      ap (λ (x : (HistoryReadResult × Content) × List _). x.0.0) (sym (read.does []) ∙ ap (λ j. read_from id node query first.content j (Fine ∷ [])) told)
+      ap (λ (x : (HistoryReadResult × Content) × List _). x.0.0) (sym (read.does []) ∙ ap (λ j. read_from id node query first.content j (Done ∷ [])) told)
 
-  pub is_read : (continuation : Option (List ℕ)) (behind : Option Behind) (C : Content) (result : HistoryReadResult) → judged id node query.details continuation ≡ Ok behind → page_from C id node query behind ≡ result
+  pub is_read : (continuation : Option (List ℕ)) (behind : Option Behind) (C : Content) (result : HistoryReadResult) → checked_read id node query.details continuation ≡ Ok behind → page_from C id node query behind ≡ result
       → IsRead id node query continuation (record { content = C; result = result })
   is_read continuation behind C result told is = record {
-    does = λ later. ap (λ j. read_from id node query C j (Fine ∷ later)) told ∙ ap (λ x. ((x, C), later)) is;
+    does = λ later. ap (λ j. read_from id node query C j (Done ∷ later)) told ∙ ap (λ x. ((x, C), later)) is;
   }
 
   -- the vector of a first page covers of a later content what was held then
@@ -187,4 +187,4 @@ module _ (id : List ℕ) (node : NodeId) (query : Query) where
       let same : cut C (number_of v) ≡ R =
       sym (cut_same R C (number_of v) lawful.closed later.lawful.closed later.compatible (λ o. let a = numbers_are R lawful o in omega (arith, a)) (λ o. let a = numbers_are R lawful o in let le = later.covers o in omega (arith, a, le)))
       ∙ cut_own R lawful in
-      ap (λ t. cond t (page_result (cut C (number_of v)) v id node query (Some p)) (refused BAD_CONTINUATION_POINT_INVALID)) test ∙ ap (λ S. page_result S v id node query (Some p)) same
+      ap (λ t. cond t (page_result (cut C (number_of v)) v id node query (Some p)) (refused_read BAD_CONTINUATION_POINT_INVALID)) test ∙ ap (λ S. page_result S v id node query (Some p)) same

@@ -9,6 +9,7 @@ use Rattle.ua_services.specs.declared.history.ReadRawModifiedDetails.{ReadRawMod
 abbrev pub is_given : ℤ → Bool
 is_given time = int_le (pos 1) time
 
+-- a start and an end are given
 abbrev pub has_both : Details → Bool
 has_both d = is_given d.start_time.0 && is_given d.end_time.0
 
@@ -20,6 +21,7 @@ first_time = moment (pos 1) 0
 abbrev pub origin_time : Details → ℤ
 origin_time d = moment (if is_given d.start_time.0 then d.start_time.0 else d.end_time.0) 0
 
+-- the end of the stretch that is asked for
 abbrev pub end_time : Details → ℤ
 end_time d = moment d.end_time.0 0
 
@@ -29,4 +31,6 @@ far_limit d = if has_both d then Some (end_time d) else None
 
 -- backward where the end is before the start, or no start is given
 abbrev pub direction : Details → Direction
-direction d = if is_given d.start_time.0 && not (is_given d.end_time.0 && int_lt d.end_time.0 d.start_time.0) then Forward else Backward
+direction d =
+    if is_given d.start_time.0 && not (is_given d.end_time.0 && int_lt d.end_time.0 d.start_time.0)
+    then Forward else Backward

@@ -10,8 +10,8 @@ use Rattle.ua_services.specs.declared.history.HistoryData.{HistoryData}
 use Rattle.ua_services.specs.declared.history.HistoryData.TheVariants.{Raw, Modified, Nothing}
 use Rattle.ua_services.specs.declared.history.HistoryReadResult.{HistoryReadResult}
 use Rattle.records.specs.Contents.{Content, AreCompatible, vec}
-use Rattle.archive.specs.Store.{Fine, IsLawfulContent}
-use Rattle.archive.specs.Steps.{Does}
+use Rattle.archive.specs.Store.{Done, IsLawfulContent}
+use Rattle.archive.specs.Steps.{Yields}
 use Rattle.hist_read.specs.declared.query.Query.{Query}
 use Rattle.hist_read.specs.Asking.{has_both}
 use Rattle.hist_read.specs.Point.{IsDetails}
@@ -22,21 +22,24 @@ use Rattle.hist_read.specs.Showing.{shown, shown_entry, info}
 -- ---- the whole
 
 -- where a time is open, no more than the count
-abbrev pub counted : {X : Type 0} → Details → List X → List X
-counted q xs = if has_both q then xs else take q.num_values_per_node xs
+abbrev pub limited : {X : Type 0} → Details → List X → List X
+limited q xs = if has_both q then xs else take q.num_values_per_node xs
 
 -- the whole read of a content, as it is shown
-abbrev pub whole : Content → NodeId → Query → HistoryData
-whole R node query =
+abbrev pub whole_read : Content → NodeId → Query → HistoryData
+whole_read R node query =
     let q = query.details in
-    let entries = counted q (modified R node q None) in
-    if q.is_read_modified then Modified (map (shown_entry query.stamps) entries) (map info entries) else Raw (map (shown query.stamps) (counted q (raw R node q None)))
+    let entries = limited q (modified R node q None) in
+    if q.is_read_modified then Modified (map (shown_entry query.stamps) entries) (map info entries)
+    else Raw (map (shown query.stamps) (limited q (raw R node q None)))
 
 -- ---- pages
 
+-- the values of an answer
 abbrev pub values_in : HistoryData → List DataValue
 values_in v = elim v [ Nothing ↦ [] | Raw shown ↦ shown | Modified shown infos ↦ shown ]
 
+-- the modification infos of an answer
 abbrev pub infos_in : HistoryData → List ModificationInfo
 infos_in v = elim v [ Nothing ↦ [] | Raw shown ↦ [] | Modified shown infos ↦ infos ]
 
@@ -46,14 +49,19 @@ Page = record { content : Content; result : HistoryReadResult }
 
 -- the page was read from this point, with nothing in the way
 abbrev pub IsRead : List ℕ → NodeId → Query → Option (List ℕ) → Page → Type 0
-IsRead id node query point page = Does (read_node id node query point page.content) (Fine ∷ []) (page.result, page.content)
+IsRead id node query point page =
+    Yields (read_node id node query point page.content) (Done ∷ []) (page.result, page.content)
 
--- pages read one after the other, each over a content of its own: the first from this point, each further one from the point that the one before it answered, until one answers none
+-- pages read one after the other, each over a content of its own: the first from this point, each
+-- further one from the point that the one before it answered, until one answers none
 abbrev pub Chain : List ℕ → NodeId → Query → Option (List ℕ) → List Page → Type 0
 Chain id node query point [] = ⊥
-Chain id node query point (page ∷ []) = IsRead id node query point page × (page.result.continuation_point ≡ None)
+Chain id node query point (page ∷ []) =
+    IsRead id node query point page × (page.result.continuation_point ≡ None)
 Chain id node query point (page ∷ next ∷ pages) =
-    IsRead id node query point page × (bytes : List ℕ) × (page.result.continuation_point ≡ Some bytes) × Chain id node query (Some bytes) (next ∷ pages)
+    IsRead id node query point page × (bytes : List ℕ)
+    × (page.result.continuation_point ≡ Some bytes)
+    × Chain id node query (Some bytes) (next ∷ pages)
 
 -- the values of all pages, joined
 abbrev pub joined_values : List Page → List DataValue
@@ -63,7 +71,8 @@ joined_values pages = flat_map (λ page. values_in page.result.history_data) pag
 abbrev pub joined_infos : List Page → List ModificationInfo
 joined_infos pages = flat_map (λ page. infos_in page.result.history_data) pages
 
--- a content that covers another one's vector: that one after whatever was learned or updated, or what another replica of a sound world holds
+-- a content that covers another one's vector: that one after whatever was learned or updated, or
+-- what another replica of a sound world holds
 pub record IsLater (R S : Content) : Type 0 where
   pub lawful : IsLawfulContent S
   pub compatible : AreCompatible R S

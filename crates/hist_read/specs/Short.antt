@@ -9,7 +9,9 @@ use Rattle.ua_services.specs.History.{info_fields, history_bytes, Raw, Modified}
 
 -- its picoseconds are within their limit, and its bytes can be counted
 abbrev pub IsWritable : DataValue → Type 0
-IsWritable v = IfSome v.source_pico IsPicoseconds × IfSome v.server_pico IsPicoseconds × (length (data_value.canon v) < 2 ^ 31)
+IsWritable v =
+    IfSome v.source_pico IsPicoseconds × IfSome v.server_pico IsPicoseconds
+    × (length (data_value.canon v) < 2 ^ 31)
 
 abbrev pub AreWritable : List DataValue → Type 0
 AreWritable values = All IsWritable values × (length values < 2 ^ 31)
@@ -17,5 +19,8 @@ AreWritable values = All IsWritable values × (length values < 2 ^ 31)
 -- the same of all that was read, and of its body
 abbrev pub IsWritableHistory : HistoryData → Type 0
 IsWritableHistory owned.Nothing = Unit {0}
-IsWritableHistory (owned.Raw values) = AreWritable values × (length (history_bytes (Raw values)) < 2 ^ 31)
-IsWritableHistory (owned.Modified values infos) = AreWritable values × (length (history_bytes (Modified (values, map info_fields infos))) < 2 ^ 31)
+IsWritableHistory (owned.Raw values) =
+    AreWritable values × (length (history_bytes (Raw values)) < 2 ^ 31)
+IsWritableHistory (owned.Modified values infos) =
+    AreWritable values
+    × (length (history_bytes (Modified (values, map info_fields infos))) < 2 ^ 31)

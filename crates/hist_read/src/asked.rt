@@ -101,7 +101,8 @@ pub(crate) fn direction(details: &ReadRawModifiedDetails) -> Direction
 #[tactic(auto, using(records::specs::Moments::whole_again, records::specs::Moments::pico_within))]
 pub(crate) fn body(details: &ReadRawModifiedDetails) -> Span
     requires { IsTrue (is_given details.now.start_time.0 || is_given details.now.end_time.0) }
-    ensures { (t : ℤ) → first_time ≤ℤ t → t ≤ℤ greatest_time → is_between result.from result.to t ≡ in_body details.now t }
+    ensures { (t : ℤ) → first_time ≤ℤ t → t ≤ℤ greatest_time
+        → is_between result.from result.to t ≡ in_body details.now t }
 {
     let (start, end) = (details.start_time.0, details.end_time.0);
     if end < 1 {
@@ -139,7 +140,9 @@ impl Span {
     /// Its moments that are beyond a limit.
     fn beyond(&self, direction: Direction, limit: Moment) -> Span
         requires { first_time ≤ℤ limit }
-        ensures { (t : ℤ) → t ≤ℤ greatest_time → is_between result.from result.to t ≡ (is_between self.now.from self.now.to t && is_past direction limit t) }
+        ensures { (t : ℤ) → t ≤ℤ greatest_time
+            → is_between result.from result.to t
+            ≡ (is_between self.now.from self.now.to t && is_past direction limit t) }
     {
         match direction {
             Direction::Forward => {
@@ -177,7 +180,8 @@ pub(crate) fn limit_at(
     position: &Option<Position>,
 ) -> Option<Moment>
     ensures limit { result ≡ limit_at details.now position.now }
-    ensures some { IsTrue (is_given details.now.start_time.0 || is_given details.now.end_time.0) → IfSome position.now (λ p. first_time ≤ℤ p.time) → IfSome result (λ t. first_time ≤ℤ t) }
+    ensures some { IsTrue (is_given details.now.start_time.0 || is_given details.now.end_time.0)
+        → IfSome position.now (λ p. first_time ≤ℤ p.time) → IfSome result (λ t. first_time ≤ℤ t) }
 {
     match position {
         None => {
@@ -239,7 +243,9 @@ pub(crate) fn goes_on(
     position: &Option<Position>,
     count: usize,
 ) -> bool
-    ensures { result ≡ (nat_lt (page_size details.now position.now) count && not (is_spent details.now position.now)) }
+    ensures { result
+        ≡ (nat_lt (page_size details.now position.now) count
+        && not (is_spent details.now position.now)) }
 {
     page_size(details, position) < count && !is_spent(details, position)
 }
@@ -264,7 +270,10 @@ pub(crate) fn given_after(details: &ReadRawModifiedDetails, position: &Option<Po
 pub(crate) fn span_after(details: &ReadRawModifiedDetails, position: &Option<Position>) -> Span
     requires given { IsTrue (is_given details.now.start_time.0 || is_given details.now.end_time.0) }
     requires place { IfSome position.now (λ p. first_time ≤ℤ p.time) }
-    ensures { (t : ℤ) → first_time ≤ℤ t → t ≤ℤ greatest_time → is_between result.from result.to t ≡ (in_body details.now t && is_past_any (direction details.now) (limit_at details.now position.now) t) }
+    ensures { (t : ℤ) → first_time ≤ℤ t → t ≤ℤ greatest_time
+        → is_between result.from result.to t
+        ≡ (in_body details.now t
+        && is_past_any (direction details.now) (limit_at details.now position.now) t) }
 {
     let span = body(details);
     match limit_at(details, position) {

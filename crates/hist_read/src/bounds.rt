@@ -33,7 +33,9 @@ fn value_at<A: Archive>(
     time: Moment,
     within: &Vector,
 ) -> Result<Option<Held>, StoreFault>
-    ensures asks { Asks (A.state archive.old) (A.state archive.new) result (λ h. h ≡ current (cut (A.state archive.old).content (number_of within.now)) node.now time) }
+    ensures asks { Asks (A.state archive.old) (A.state archive.new) result
+        (λ h. h
+        ≡ current (cut (A.state archive.old).content (number_of within.now)) node.now time) }
     ensures asked { IsAskedWithin 1 (A.asked archive.old) (A.asked archive.new) }
 {
     let found = archive.range(alloc, node, time, time, Direction::Forward, 1, within)?;
@@ -49,7 +51,10 @@ fn nearest_from<A: Archive>(
     time: Moment,
     within: &Vector,
 ) -> Result<Option<Held>, StoreFault>
-    ensures asks { Asks (A.state archive.old) (A.state archive.new) result (λ h. h ≡ nearest_from (cut (A.state archive.old).content (number_of within.now)) node.now direction time) }
+    ensures asks { Asks (A.state archive.old) (A.state archive.new) result
+        (λ h. h
+        ≡ nearest_from
+        (cut (A.state archive.old).content (number_of within.now)) node.now direction time) }
     ensures asked { IsAskedWithin 1 (A.asked archive.old) (A.asked archive.new) }
 {
     if let Some(held) = value_at(alloc, archive, node, time, within)? {
@@ -66,7 +71,9 @@ pub(crate) fn near<A: Archive>(
     details: &ReadRawModifiedDetails,
     within: &Vector,
 ) -> Result<Item, StoreFault>
-    ensures asks { Asks (A.state archive.old) (A.state archive.new) result (λ i. i ≡ near (cut (A.state archive.old).content (number_of within.now)) node.now details.now) }
+    ensures asks { Asks (A.state archive.old) (A.state archive.new) result
+        (λ i. i
+        ≡ near (cut (A.state archive.old).content (number_of within.now)) node.now details.now) }
     ensures asked { IsAskedWithin 1 (A.asked archive.old) (A.asked archive.new) }
 {
     let back = direction(details).opposite();
@@ -86,7 +93,10 @@ pub(crate) fn far_value<A: Archive>(
     details: &ReadRawModifiedDetails,
     within: &Vector,
 ) -> Result<Option<Held>, StoreFault>
-    ensures asks { Asks (A.state archive.old) (A.state archive.new) result (λ h. h ≡ far_value (cut (A.state archive.old).content (number_of within.now)) node.now details.now (end_time details.now)) }
+    ensures asks { Asks (A.state archive.old) (A.state archive.new) result
+        (λ h. h
+        ≡ far_value (cut (A.state archive.old).content (number_of within.now)) node.now details.now
+        (end_time details.now)) }
     ensures asked { IsAskedWithin 1 (A.asked archive.old) (A.asked archive.new) }
 {
     let onward = direction(details);

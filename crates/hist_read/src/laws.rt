@@ -14,8 +14,8 @@ ghost use Rattle.hist_read.specs.Reads.{raw, raw_position, modified, modified_po
 ghost use Rattle.std.specs.Prelude.{ℕ, List, ◌∷◌, None, Ok, map};
 ghost use Rattle.std.specs.List.{AllByRecursion};
 ghost use Rattle.ua_services.specs.declared.attributes.TimestampsToReturn.{TimestampsToReturn};
-ghost use Rattle.hist_read.specs.Node.{judged};
-ghost use Rattle.hist_read.specs.Chains.{whole, values_in, infos_in, Page, Chain, joined_values, joined_infos, IsLater, IsAsked, contents_from};
+ghost use Rattle.hist_read.specs.Node.{checked_read};
+ghost use Rattle.hist_read.specs.Chains.{whole_read, values_in, infos_in, Page, Chain, joined_values, joined_infos, IsLater, IsAsked, contents_from};
 ghost use Rattle.hist_read.specs.Wholes.{whole_raw, whole_modified};
 
 use crate::asked::body;
@@ -33,8 +33,11 @@ pub fn continuation_points_are_told_by_their_bytes()
 /// an unchanged content each modification comes once, and none is missed.
 pub fn pages_of_modifications_join(details: ReadRawModifiedDetails)
     requires { IsTrue (is_given details.start_time.0 || is_given details.end_time.0) }
-    ensures { (R : Content) → IsLawfulContent R → (node : Node) → (p : Option Position) → (next : Position) → next_place (modified_position details p) details p (modified R node details p) ≡ Some next
-        → modified R node details p ≡ page details p (modified R node details p) ++ modified R node details (Some next) }
+    ensures { (R : Content) → IsLawfulContent R → (node : Node) → (p : Option Position)
+        → (next : Position)
+        → next_place (modified_position details p) details p (modified R node details p) ≡ Some next
+        → modified R node details p ≡ page details p (modified R node details p)
+        ++ modified R node details (Some next) }
 {
     let _span = body(&details);
 }
@@ -43,8 +46,11 @@ pub fn pages_of_modifications_join(details: ReadRawModifiedDetails)
 /// unchanged content each item comes once, and none is missed.
 pub fn pages_of_raw_values_join(details: ReadRawModifiedDetails)
     requires { IsTrue (is_given details.start_time.0 || is_given details.end_time.0) }
-    ensures { (R : Content) → IsLawfulContent R → (node : Node) → (p : Option Position) → (next : Position) → next_place (raw_position details p) details p (raw R node details p) ≡ Some next
-        → raw R node details p ≡ page details p (raw R node details p) ++ raw R node details (Some next) }
+    ensures { (R : Content) → IsLawfulContent R → (node : Node) → (p : Option Position)
+        → (next : Position)
+        → next_place (raw_position details p) details p (raw R node details p) ≡ Some next
+        → raw R node details p ≡ page details p (raw R node details p)
+        ++ raw R node details (Some next) }
 {
     let _span = body(&details);
 }
@@ -54,7 +60,8 @@ pub fn pages_of_raw_values_join(details: ReadRawModifiedDetails)
 /// and of modifications those of the times of the stretch.
 pub fn a_whole_read_is_its_stretch_and_bounds(details: ReadRawModifiedDetails)
     ensures raw { (R : Content) (node : Node) → raw R node details None ≡ whole_raw R node details }
-    ensures modified { (R : Content) (node : Node) → modified R node details None ≡ whole_modified R node details }
+    ensures modified { (R : Content) (node : Node)
+        → modified R node details None ≡ whole_modified R node details }
 {}
 
 /// Pages that are read one after the other, from the continuation points that they answer until there is none,
@@ -63,13 +70,22 @@ pub fn a_whole_read_is_its_stretch_and_bounds(details: ReadRawModifiedDetails)
 /// is read. And wherever a read isn't refused, such pages come to an end.
 pub fn pages_show_the_whole_read(details: ReadRawModifiedDetails)
     requires { IsTrue (is_given details.start_time.0 || is_given details.end_time.0) }
-    ensures shows { (id : List ℕ) (node : Node) (stamps : TimestampsToReturn) (first : Page) (pages : List Page) → IsAsked id node details → IsLawfulContent first.content
-        → AllByRecursion (λ page. IsLater first.content page.content) pages → Chain id node (record { details = details; stamps = stamps }) None (first ∷ pages)
-        → (joined_values (first ∷ pages) ≡ values_in (whole first.content node (record { details = details; stamps = stamps })))
-        × (joined_infos (first ∷ pages) ≡ infos_in (whole first.content node (record { details = details; stamps = stamps }))) }
-    ensures ends { (id : List ℕ) (node : Node) (stamps : TimestampsToReturn) (contents : ℕ → Content) → IsAsked id node details → judged id node details None ≡ Ok None
+    ensures shows { (id : List ℕ) (node : Node) (stamps : TimestampsToReturn) (first : Page)
+        (pages : List Page) → IsAsked id node details → IsLawfulContent first.content
+        → AllByRecursion (λ page. IsLater first.content page.content) pages
+        → Chain id node (record { details = details; stamps = stamps }) None (first ∷ pages)
+        → (joined_values (first ∷ pages)
+        ≡ values_in (whole_read first.content node (record { details = details; stamps = stamps })))
+        × (joined_infos (first ∷ pages)
+        ≡ infos_in
+        (whole_read first.content node (record { details = details; stamps = stamps }))) }
+    ensures ends { (id : List ℕ) (node : Node) (stamps : TimestampsToReturn)
+        (contents : ℕ → Content)
+        → IsAsked id node details → checked_read id node details None ≡ Ok None
         → IsLawfulContent (contents 0) → ((n : ℕ) → IsLater (contents 0) (contents n))
-        → (pages : List Page) × (count : ℕ) × (map (λ page. page.content) pages ≡ contents_from contents 0 count) × Chain id node (record { details = details; stamps = stamps }) None pages }
+        → (pages : List Page) × (count : ℕ)
+        × (map (λ page. page.content) pages ≡ contents_from contents 0 count)
+        × Chain id node (record { details = details; stamps = stamps }) None pages }
 {
     let _span = body(&details);
 }
@@ -77,6 +93,9 @@ pub fn pages_show_the_whole_read(details: ReadRawModifiedDetails)
 /// A content covers the vector of another one where it holds all of its records, and still does when one more is
 /// learned: so pages may go on at an archive whatever it learns or updates in between.
 pub fn what_grows_goes_on()
-    ensures held { (R S : Content) → IsLawfulContent R → IsLawfulContent S → IsWithin R S → IsLater R S }
-    ensures learned { (R S T : Content) (r : Record) → IsLawfulContent R → IsLater R S → IsLawfulRecord r → learned S r ≡ Some T → IsLater R T }
+    ensures held { (R S : Content) → IsLawfulContent R → IsLawfulContent S → IsWithin R S
+        → IsLater R S }
+    ensures learned { (R S T : Content) (r : Record) → IsLawfulContent R → IsLater R S
+        → IsLawfulRecord r
+        → learned S r ≡ Some T → IsLater R T }
 {}

@@ -19,7 +19,7 @@ pub use laws::{
     what_grows_goes_on,
 };
 pub use node::{is_short_value, read_node};
-pub use point::{Phase, Place, Position, put_continuation, read_continuation};
+pub use point::{PagePoint, Phase, Position, put_continuation, read_continuation};
 pub use query::Query;
 pub use showing::with_stamps;
 pub use ua_services::{HistoryReadResult as NodeResult, put_history_read_result as put_result};

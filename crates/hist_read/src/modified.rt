@@ -69,7 +69,9 @@ fn page(
     position: &Option<Position>,
 ) -> ModifiedPage
     ensures items { result.entries.items ≡ page details.now position.now entries.items }
-    ensures next { result.next ≡ next_place (modified_position details.now position.now) details.now position.now entries.items }
+    ensures next { result.next
+        ≡ next_place
+        (modified_position details.now position.now) details.now position.now entries.items }
 {
     let goes_on = goes_on(details, position, entries.len());
     entries.truncate(page_size(details, position));
@@ -96,8 +98,12 @@ pub(crate) fn read_modified<A: Archive>(
     within: &Vector,
 ) -> Result<ModifiedPage, StoreFault>
     requires { IsTrue (is_given details.now.start_time.0 || is_given details.now.end_time.0) }
-    ensures asks { Asks (A.state archive.old) (A.state archive.new) result (IsModifiedPage (cut (A.state archive.old).content (number_of within.now)) node.now details.now position.now) }
-    ensures asked { IsAskedWithin (page_size details.now position.now + 1) (A.asked archive.old) (A.asked archive.new) }
+    ensures asks { Asks (A.state archive.old) (A.state archive.new) result
+        (IsModifiedPage
+        (cut (A.state archive.old).content (number_of within.now)) node.now details.now
+        position.now) }
+    ensures asked { IsAskedWithin (page_size details.now position.now + 1) (A.asked archive.old)
+        (A.asked archive.new) }
 {
     let onward = direction(details);
     let span = body(details);

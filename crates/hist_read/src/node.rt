@@ -12,20 +12,20 @@ ghost use Rattle.ua_services.specs.Unkept.{many};
 ghost use Rattle.hist_read.specs.Short.{IsWritable, AreWritable, IsWritableHistory};
 ghost use Rattle.ua_services.specs.History.{info_fields, modification_info, IsShortInfo, IsShortHistory, IsShortHistoryRead};
 ghost use Rattle.records.specs.Contents.{numbers_of, cut};
-ghost use Rattle.archive.specs.Store.{Mark, Asks, IsAskedWithin};
-ghost use Rattle.archive.specs.Steps.{Acts};
+ghost use Rattle.archive.specs.Store.{StepResult, Asks, IsAskedWithin};
+ghost use Rattle.archive.specs.Steps.{Refines};
 ghost use Rattle.hist_read.specs.Asking.{is_given, first_time};
 ghost use Rattle.hist_read.specs.Point.{point_in, point_of, point, IsPoint, IsNext};
 ghost use Rattle.hist_read.specs.Reads.{page_size, most_items};
-ghost use Rattle.hist_read.specs.Node.{is_enough, IsOfRead, place_in, judged, refused, status_for, point_at, page_result, page_from, read_node};
+ghost use Rattle.hist_read.specs.Node.{is_enough, IsOfRead, resume_place, checked_read, refused_read, status_for, point_at, page_result, page_from, read_node};
 ghost use Rattle.hist_read.specs.Finding.{Finds};
 
 use crate::modified::read_modified;
-use crate::point::{Place, Position, first_number, put_continuation, read_continuation};
+use crate::point::{PagePoint, Position, first_number, put_continuation, read_continuation};
 use crate::query::Query;
 use crate::raw::read_raw;
 use crate::showing::{show_entries, show_items};
-use archive::{Archive, Setback, StoreFault};
+use archive::{Archive, StepError, StoreFault};
 use stamp::Vector;
 use std::alloc::{AllocError, Global};
 use ua_binary::{Bytes, Listing, NodeId, NodeIdRef, Status, array_size};
@@ -35,7 +35,7 @@ use uuid::Uuid;
 
 /// A read that is refused.
 fn refused(status: Status) -> HistoryReadResult
-    ensures value { result ≡ refused status }
+    ensures value { result ≡ refused_read status }
     ensures short { IsShortHistoryRead result }
 {
     HistoryReadResult {
@@ -93,7 +93,7 @@ fn is_asked(found: &ReadRawModifiedDetails, details: &ReadRawModifiedDetails) ->
 }
 
 /// Whether a point is one of this archive, of this node, and of what is asked.
-fn agrees(place: &Place<'_>, id: Uuid, node: &NodeId, details: &ReadRawModifiedDetails) -> bool
+fn agrees(place: &PagePoint<'_>, id: Uuid, node: &NodeId, details: &ReadRawModifiedDetails) -> bool
     ensures { IsTrue result ↔ IsOfRead id node.now details.now (point_of place.now) }
 {
     is_archive(place.archive, id) && is_node(place.node, node) && is_asked(&place.details, details)
@@ -109,7 +109,8 @@ fn place_in(
     details: &ReadRawModifiedDetails,
     continuation: Option<&[u8]>,
 ) -> Result<Option<Behind>, Status>
-    ensures told { result ≡ place_in id node.now details.now (option_copied continuation.entry) }
+    ensures told { result
+        ≡ resume_place id node.now details.now (option_copied continuation.entry) }
     ensures late { IfOk result (λ o. IfSome o (λ p. first_time ≤ℤ p.0.time)) }
 {
     let Some(bytes) = continuation else {
@@ -131,8 +132,10 @@ fn judge(
     details: &ReadRawModifiedDetails,
     continuation: Option<&[u8]>,
 ) -> Result<Option<Behind>, Status>
-    ensures told { result ≡ judged id node.now details.now (option_copied continuation.entry) }
-    ensures given { IfOk result (λ _. IsTrue (is_given details.now.start_time.0 || is_given details.now.end_time.0)) }
+    ensures told { result
+        ≡ checked_read id node.now details.now (option_copied continuation.entry) }
+    ensures given { IfOk result
+        (λ _. IsTrue (is_given details.now.start_time.0 || is_given details.now.end_time.0)) }
     ensures late { IfOk result (λ o. IfSome o (λ p. first_time ≤ℤ p.0.time)) }
 {
     if details.is_read_modified && details.return_bounds {
@@ -157,7 +160,7 @@ fn status_for<T>(items: &[T]) -> Status
 
 /// The bytes of a continuation point. A point of 2^31 bytes or more, which only a node's id of that length
 /// makes, is one that there is no memory for.
-fn point_of(alloc: Global, place: &Place<'_>) -> Result<Bytes, AllocError>
+fn point_of(alloc: Global, place: &PagePoint<'_>) -> Result<Bytes, AllocError>
     requires { IsPoint (point_of place.now) }
     ensures bytes { IfOk result (λ b. b ≡ point.canon (point_of place.now)) }
     ensures counted { IfOk result (λ b. length b < 2 ^ 31) }
@@ -183,13 +186,15 @@ fn next_point(
     within: &Vector,
 ) -> Result<Option<Bytes>, AllocError>
     requires node { IsShortNode node.now }
-    ensures point { IfOk result (λ b. IfSome next (IsNext details.now) → b ≡ option_map (point_at id node.now details.now within.now) next) }
+    ensures point { IfOk result
+        (λ b. IfSome next (IsNext details.now)
+        → b ≡ option_map (point_at id node.now details.now within.now) next) }
     ensures counted { IfOk result (λ b. IsCounted b) }
 {
     let Some(position) = next else {
         return Ok(None);
     };
-    let place = Place {
+    let place = PagePoint {
         archive: id,
         node: node.as_ref(),
         details: *details,
@@ -210,15 +215,20 @@ fn raw_result<A: Archive>(
     query: &Query,
     position: &Option<Position>,
     within: &Vector,
-) -> Result<HistoryReadResult, Setback>
+) -> Result<HistoryReadResult, StepError>
     requires node { IsShortNode node.now }
-    requires given { IsTrue (is_given query.now.details.start_time.0 || is_given query.now.details.end_time.0) }
+    requires given { IsTrue
+        (is_given query.now.details.start_time.0 || is_given query.now.details.end_time.0) }
     requires place { IfSome position.now (λ p. first_time ≤ℤ p.time) }
     requires raw { query.now.details.is_read_modified ≡ false }
     ensures counted { IfOk result (λ r. IsCounted r.continuation_point) }
     ensures finds { Finds (A.state archive.old) (A.state archive.new) result
-        (λ r. r ≡ page_result (cut (A.state archive.old).content (number_of within.now)) within.now (A.state archive.old).id node.now query.now position.now) }
-    ensures asked { IsAskedWithin (page_size query.now.details position.now + 1) (A.asked archive.old) (A.asked archive.new) }
+        (λ r. r
+        ≡ page_result (cut (A.state archive.old).content (number_of within.now)) within.now
+        (A.state archive.old).id node.now query.now position.now) }
+    ensures asked { IsAskedWithin (page_size query.now.details position.now + 1)
+        (A.asked archive.old)
+        (A.asked archive.new) }
 {
     let id = archive.id();
     let page = read_raw(alloc, archive, node, &query.details, position, within)?;
@@ -239,14 +249,19 @@ fn modified_result<A: Archive>(
     query: &Query,
     position: &Option<Position>,
     within: &Vector,
-) -> Result<HistoryReadResult, Setback>
+) -> Result<HistoryReadResult, StepError>
     requires node { IsShortNode node.now }
-    requires given { IsTrue (is_given query.now.details.start_time.0 || is_given query.now.details.end_time.0) }
+    requires given { IsTrue
+        (is_given query.now.details.start_time.0 || is_given query.now.details.end_time.0) }
     requires modified { query.now.details.is_read_modified ≡ true }
     ensures counted { IfOk result (λ r. IsCounted r.continuation_point) }
     ensures finds { Finds (A.state archive.old) (A.state archive.new) result
-        (λ r. r ≡ page_result (cut (A.state archive.old).content (number_of within.now)) within.now (A.state archive.old).id node.now query.now position.now) }
-    ensures asked { IsAskedWithin (page_size query.now.details position.now + 1) (A.asked archive.old) (A.asked archive.new) }
+        (λ r. r
+        ≡ page_result (cut (A.state archive.old).content (number_of within.now)) within.now
+        (A.state archive.old).id node.now query.now position.now) }
+    ensures asked { IsAskedWithin (page_size query.now.details position.now + 1)
+        (A.asked archive.old)
+        (A.asked archive.new) }
 {
     let id = archive.id();
     let page = read_modified(alloc, archive, node, &query.details, position, within)?;
@@ -267,14 +282,19 @@ fn page_result<A: Archive>(
     query: &Query,
     position: &Option<Position>,
     within: &Vector,
-) -> Result<HistoryReadResult, Setback>
+) -> Result<HistoryReadResult, StepError>
     requires node { IsShortNode node.now }
-    requires given { IsTrue (is_given query.now.details.start_time.0 || is_given query.now.details.end_time.0) }
+    requires given { IsTrue
+        (is_given query.now.details.start_time.0 || is_given query.now.details.end_time.0) }
     requires place { IfSome position.now (λ p. first_time ≤ℤ p.time) }
     ensures counted { IfOk result (λ r. IsCounted r.continuation_point) }
     ensures finds { Finds (A.state archive.old) (A.state archive.new) result
-        (λ r. r ≡ page_result (cut (A.state archive.old).content (number_of within.now)) within.now (A.state archive.old).id node.now query.now position.now) }
-    ensures asked { IsAskedWithin (page_size query.now.details position.now + 1) (A.asked archive.old) (A.asked archive.new) }
+        (λ r. r
+        ≡ page_result (cut (A.state archive.old).content (number_of within.now)) within.now
+        (A.state archive.old).id node.now query.now position.now) }
+    ensures asked { IsAskedWithin (page_size query.now.details position.now + 1)
+        (A.asked archive.old)
+        (A.asked archive.new) }
 {
     if query.details.is_read_modified {
         modified_result(alloc, archive, node, query, position, within)
@@ -285,7 +305,8 @@ fn page_result<A: Archive>(
 
 /// The archive's own vector.
 fn own_vector<A: Archive>(archive: &mut A) -> Result<Vector, StoreFault>
-    ensures asks { Asks (A.state archive.old) (A.state archive.new) result (λ v. v ≡ numbers_of (A.state archive.old).content) }
+    ensures asks { Asks (A.state archive.old) (A.state archive.new) result
+        (λ v. v ≡ numbers_of (A.state archive.old).content) }
     ensures vector { IfOk result IsVector }
     ensures asked { IsAskedWithin 0 (A.asked archive.old) (A.asked archive.new) }
 {
@@ -309,13 +330,19 @@ fn page_from<A: Archive>(
     node: &NodeId,
     query: &Query,
     behind: &Option<Behind>,
-) -> Result<HistoryReadResult, Setback>
+) -> Result<HistoryReadResult, StepError>
     requires node { IsShortNode node.now }
-    requires given { IsTrue (is_given query.now.details.start_time.0 || is_given query.now.details.end_time.0) }
+    requires given { IsTrue
+        (is_given query.now.details.start_time.0 || is_given query.now.details.end_time.0) }
     requires place { IfSome behind.now (λ p. first_time ≤ℤ p.0.time) }
     ensures counted { IfOk result (λ r. IsCounted r.continuation_point) }
-    ensures finds { Finds (A.state archive.old) (A.state archive.new) result (λ r. r ≡ page_from (A.state archive.old).content (A.state archive.old).id node.now query.now behind.now) }
-    ensures asked { IsAskedWithin (page_size query.now.details (option_map (λ b. b.0) behind.now) + 1) (A.asked archive.old) (A.asked archive.new) }
+    ensures finds { Finds (A.state archive.old) (A.state archive.new) result
+        (λ r. r
+        ≡ page_from (A.state archive.old).content
+        (A.state archive.old).id node.now query.now behind.now) }
+    ensures asked { IsAskedWithin
+        (page_size query.now.details (option_map (λ b. b.0) behind.now) + 1)
+        (A.asked archive.old) (A.asked archive.new) }
 {
     let own = own_vector(archive)?;
     match behind {
@@ -356,7 +383,8 @@ fn are_short_values(values: &[DataValue]) -> bool
 /// The same of what is told of modifications.
 fn are_short_infos(infos: &[ModificationInfo]) -> bool
     ensures short { IsTrue result → (length infos.now < 2 ^ 31) × All IsShortInfo infos.now }
-    ensures fits { length ((many modification_info).canon (map info_fields infos.now)) < 2 ^ 31 → IsTrue result }
+    ensures fits { length ((many modification_info).canon (map info_fields infos.now)) < 2 ^ 31
+        → IsTrue result }
 {
     array_size(infos) < 0x8000_0000
 }
@@ -387,12 +415,18 @@ fn short_page<A: Archive>(
     node: &NodeId,
     query: &Query,
     behind: &Option<Behind>,
-) -> Result<HistoryReadResult, Setback>
+) -> Result<HistoryReadResult, StepError>
     requires node { IsShortNode node.now }
-    requires given { IsTrue (is_given query.now.details.start_time.0 || is_given query.now.details.end_time.0) }
+    requires given { IsTrue
+        (is_given query.now.details.start_time.0 || is_given query.now.details.end_time.0) }
     requires place { IfSome behind.now (λ p. first_time ≤ℤ p.0.time) }
-    ensures finds { Finds (A.state archive.old) (A.state archive.new) result (λ r. r ≡ page_from (A.state archive.old).content (A.state archive.old).id node.now query.now behind.now) }
-    ensures asked { IsAskedWithin (page_size query.now.details (option_map (λ b. b.0) behind.now) + 1) (A.asked archive.old) (A.asked archive.new) }
+    ensures finds { Finds (A.state archive.old) (A.state archive.new) result
+        (λ r. r
+        ≡ page_from (A.state archive.old).content
+        (A.state archive.old).id node.now query.now behind.now) }
+    ensures asked { IsAskedWithin
+        (page_size query.now.details (option_map (λ b. b.0) behind.now) + 1)
+        (A.asked archive.old) (A.asked archive.new) }
     ensures short { IfOk result IsShortHistoryRead }
 {
     let read = page_from(alloc, archive, node, query, behind)?;
@@ -426,12 +460,27 @@ pub fn read_node<A: Archive>(
     continuation: Option<&[u8]>,
 ) -> HistoryReadResult
     requires { IsShortNode node.now }
-    ensures refused { IfErr (judged (A.state archive.old).id node.now query.now.details (option_copied continuation.entry)) (λ code. (result ≡ refused code) × (archive.new ≡ archive.old)) }
-    ensures acts { (used : List Mark) × Acts (A.state archive.old) (A.state archive.new) used (read_node (A.state archive.old).id node.now query.now (option_copied continuation.entry)) result }
-    ensures ended { (A.state archive.old).broken ≡ true → IfOk (judged (A.state archive.old).id node.now query.now.details (option_copied continuation.entry)) (λ _. result ≡ refused BAD_RESOURCE_UNAVAILABLE) }
+    ensures refused { IfErr
+        (checked_read (A.state archive.old).id node.now query.now.details
+        (option_copied continuation.entry))
+        (λ code. (result ≡ refused_read code) × (archive.new ≡ archive.old)) }
+    ensures acts { (used : List StepResult)
+        × Refines (A.state archive.old) (A.state archive.new) used
+        (read_node (A.state archive.old).id node.now query.now
+        (option_copied continuation.entry)) result }
+    ensures ended { (A.state archive.old).broken ≡ true
+        → IfOk
+        (checked_read (A.state archive.old).id node.now query.now.details
+        (option_copied continuation.entry)) (λ _. result ≡ refused_read BAD_RESOURCE_UNAVAILABLE) }
     ensures short { IsShortHistoryRead result }
-    ensures asked { IsAskedWithin (most_items query.now.details + 1) (A.asked archive.old) (A.asked archive.new) }
-    ensures page { IfOk (judged (A.state archive.old).id node.now query.now.details (option_copied continuation.entry)) (λ behind. IsAskedWithin (page_size query.now.details (option_map (λ b. b.0) behind) + 1) (A.asked archive.old) (A.asked archive.new)) }
+    ensures asked { IsAskedWithin (most_items query.now.details + 1) (A.asked archive.old)
+        (A.asked archive.new) }
+    ensures page { IfOk
+        (checked_read (A.state archive.old).id node.now query.now.details
+        (option_copied continuation.entry))
+        (λ behind.
+        IsAskedWithin (page_size query.now.details (option_map (λ b. b.0) behind) + 1)
+        (A.asked archive.old) (A.asked archive.new)) }
 {
     let id = archive.id();
     let behind = match judge(id, node, &query.details, continuation) {

@@ -6,7 +6,7 @@ ghost use Rattle.hist_read.specs.Asking.{first_time};
 ghost use Rattle.ua_binary.specs.Format.{block, canonical, raised, Reads, Puts, PutsPart};
 ghost use Rattle.ua_binary.specs.Binary.{boolean, node_of, IsNodeId};
 ghost use Rattle.ua_binary.specs.declared.fault.BinaryFault.TheVariants as fault;
-ghost use Rattle.hist_read.specs.Point.{suits, phase, time, stamp, details, position, IsStamp, IsPosition, IsPoint, point_of, point_in, point};
+ghost use Rattle.hist_read.specs.Point.{suits, phase, point_time, stamp, details, position, IsStamp, IsPosition, IsPoint, point_of, point_in, point};
 ghost use Rattle.hist_read.specs.PointReading.{short_form, short_node, short_point, is_phase_for, is_stamp_for, is_given_for, are_stamp, stamp_of, number_of_phase};
 ghost use Rattle.stamp.specs.Numbers.{IsVector};
 ghost use Rattle.stamp.specs.Vector.{vector};
@@ -43,7 +43,7 @@ pub struct Position {
 
 /// A continuation point, in the bytes that it was read from.
 #[derive(Clone, Copy, Debug, Drop)]
-pub struct Place<'a> {
+pub struct PagePoint<'a> {
     /// The archive's id.
     pub archive: Uuid,
     pub node: NodeIdRef<'a>,
@@ -57,7 +57,8 @@ pub struct Place<'a> {
 /// A Boolean whose byte is 0 or 1.
 #[tactic(auto, using(crate::proofs::Tight::boolean_read))]
 fn read_flag(cursor: &mut Cursor<'_>) -> Result<bool, BinaryFault>
-    ensures { Reads (λ v. v) result cursor.old cursor.new (canonical fault.BadEncodingByte boolean).read }
+    ensures { Reads (λ v. v) result cursor.old cursor.new
+        (canonical fault.BadEncodingByte boolean).read }
 {
     let mut next = cursor.fork();
     let byte = next.u8()?;
@@ -176,9 +177,9 @@ fn read_phase(cursor: &mut Cursor<'_>) -> Result<Phase, BinaryFault>
     Ok(phase)
 }
 
-#[tactic(auto, unfolding(crate::specs::Point::time))]
+#[tactic(auto, unfolding(crate::specs::Point::point_time))]
 fn read_time(cursor: &mut Cursor<'_>) -> Result<Moment, BinaryFault>
-    ensures reads { Reads (λ v. v) result cursor.old cursor.new time.read }
+    ensures reads { Reads (λ v. v) result cursor.old cursor.new point_time.read }
     ensures late { IfOk result (λ v. first_time ≤ℤ v) }
 {
     let mut next = cursor.fork();
@@ -196,7 +197,9 @@ fn read_time(cursor: &mut Cursor<'_>) -> Result<Moment, BinaryFault>
 
 /// The stamp of these parts: none of zeros, and else what a record may have.
 fn stamp_of(tick: i64, origin: u8) -> Result<Option<Stamp>, BinaryFault>
-    ensures { result ≡ (if are_stamp (tick, origin) then Ok (stamp_of (tick, origin)) else Err fault.BadEncodingByte) }
+    ensures { result
+        ≡ (if are_stamp (tick, origin) then Ok (stamp_of (tick, origin))
+        else Err fault.BadEncodingByte) }
 {
     if origin == 0 && tick == 0 {
         return Ok(None);
@@ -331,7 +334,7 @@ pub(crate) fn first_number(vector: &Vector) -> u64
     }
 }
 
-impl Place<'_> {
+impl PagePoint<'_> {
     ghost use Rattle.std.specs.Prelude.{IsTrue, ◌↔◌};
     ghost use Rattle.ua_binary.specs.Binary.{node_of, IsNodeId};
     ghost use Rattle.hist_read.specs.Point.{IsPoint, IsNext, point_of};
@@ -342,9 +345,10 @@ impl Place<'_> {
     /// below the count.
     pub fn is_well_formed(&self) -> bool
         ensures judged { IsTrue result ↔ IsPoint (point_of self.now) }
-        ensures next { IsNodeId (node_of self.now.node) → IsNext self.now.details self.now.position → IsTrue result }
+        ensures next { IsNodeId (node_of self.now.node) → IsNext self.now.details self.now.position
+            → IsTrue result }
     {
-        let Place { details, .. } = self;
+        let PagePoint { details, .. } = self;
         let ReadRawModifiedDetails {
             start_time: Ticks(start),
             end_time: Ticks(end),
@@ -368,7 +372,7 @@ impl Place<'_> {
 
 /// Reads a continuation point's fields, in front of whatever follows.
 #[tactic(auto, unfolding(crate::specs::PointReading::short_point))]
-fn read_place<'a>(cursor: &mut Cursor<'a>) -> Result<Place<'a>, BinaryFault>
+fn read_place<'a>(cursor: &mut Cursor<'a>) -> Result<PagePoint<'a>, BinaryFault>
     ensures reads { Reads point_of result cursor.old cursor.new short_point.read }
     ensures late { IfOk result (λ v. first_time ≤ℤ v.position.time) }
 {
@@ -385,7 +389,7 @@ fn read_place<'a>(cursor: &mut Cursor<'a>) -> Result<Place<'a>, BinaryFault>
         return Err(BinaryFault::BadEncodingByte);
     }
     *cursor = next;
-    Ok(Place {
+    Ok(PagePoint {
         archive,
         node,
         details,
@@ -396,7 +400,8 @@ fn read_place<'a>(cursor: &mut Cursor<'a>) -> Result<Place<'a>, BinaryFault>
 
 /// The vector of the first page.
 fn read_vector(cursor: &mut Cursor<'_>) -> Result<Vector, BinaryFault>
-    ensures { Reads (λ v. v) result cursor.old cursor.new (raised (λ _. fault.BadEncodingByte) vector).read }
+    ensures { Reads (λ v. v) result cursor.old cursor.new
+        (raised (λ _. fault.BadEncodingByte) vector).read }
 {
     match Vector::read(cursor) {
         Ok(vector) => Ok(vector),
@@ -418,7 +423,7 @@ fn read_archive(cursor: &mut Cursor<'_>) -> Result<Uuid, BinaryFault>
 
 /// The continuation point that all of the bytes spell, format 3; `None` where they spell none. It takes
 /// no memory: the node stays in the bytes, and the vector is held inline.
-pub fn read_continuation(bytes: &[u8]) -> Option<Place<'_>>
+pub fn read_continuation(bytes: &[u8]) -> Option<PagePoint<'_>>
     ensures told { option_map point_of result ≡ point_in bytes.now }
     ensures late { IfSome result (λ p. first_time ≤ℤ p.position.time) }
 {
@@ -483,16 +488,16 @@ fn put_stamp(out: &mut Vec<u8>, v: Option<Stamp>) -> Result<(), BinaryFault>
     or_undone(put, out, len)
 }
 
-#[tactic(auto, using(ua_binary::proofs::Kept::kept), unfolding(crate::specs::Point::time))]
+#[tactic(auto, using(ua_binary::proofs::Kept::kept), unfolding(crate::specs::Point::point_time))]
 fn put_time_parts(out: &mut Vec<u8>, v: Moment) -> Result<(), BinaryFault>
-    ensures { PutsPart fault.OutOfMemory result out.old.items out.new.items (time.canon v) }
+    ensures { PutsPart fault.OutOfMemory result out.old.items out.new.items (point_time.canon v) }
 {
     put_i64(out, v.ticks())?;
     put_u16(out, v.pico())
 }
 
 fn put_time(out: &mut Vec<u8>, v: Moment) -> Result<(), BinaryFault>
-    ensures { Puts fault.OutOfMemory result out.old.items out.new.items (time.canon v) }
+    ensures { Puts fault.OutOfMemory result out.old.items out.new.items (point_time.canon v) }
 {
     let len = out.len();
     let put = put_time_parts(out, v);
@@ -529,9 +534,10 @@ fn put_vector(out: &mut Vec<u8>, v: &Vector) -> Result<(), BinaryFault>
 }
 
 #[tactic(auto, using(ua_binary::proofs::Kept::kept, crate::proofs::Lawful::written), unfolding(crate::specs::Point::point))]
-fn put_place_parts(out: &mut Vec<u8>, v: &Place<'_>) -> Result<(), BinaryFault>
+fn put_place_parts(out: &mut Vec<u8>, v: &PagePoint<'_>) -> Result<(), BinaryFault>
     requires { IsPoint (point_of v.now) }
-    ensures { PutsPart fault.OutOfMemory result out.old.items out.new.items (point.canon (point_of v.now)) }
+    ensures { PutsPart fault.OutOfMemory result out.old.items out.new.items
+        (point.canon (point_of v.now)) }
 {
     put_u8(out, 3)?;
     put_block(out, v.archive.as_bytes())?;
@@ -547,9 +553,10 @@ fn put_place_parts(out: &mut Vec<u8>, v: &Place<'_>) -> Result<(), BinaryFault>
 /// only where raw values were asked for with bounds, and its count of items 0 where both times are
 /// given, else at least 1 and below the count. Its one error is `OutOfMemory`, and then the vector is as
 /// it was.
-pub fn put_continuation(out: &mut Vec<u8>, v: &Place<'_>) -> Result<(), BinaryFault>
+pub fn put_continuation(out: &mut Vec<u8>, v: &PagePoint<'_>) -> Result<(), BinaryFault>
     requires { IsPoint (point_of v.now) }
-    ensures { Puts fault.OutOfMemory result out.old.items out.new.items (point.canon (point_of v.now)) }
+    ensures { Puts fault.OutOfMemory result out.old.items out.new.items
+        (point.canon (point_of v.now)) }
 {
     let len = out.len();
     let put = put_place_parts(out, v);

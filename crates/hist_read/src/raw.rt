@@ -6,7 +6,7 @@ ghost use Rattle.stamp.specs.Numbers.{number_of};
 ghost use Rattle.records.specs.Contents.{cut};
 ghost use Rattle.archive.specs.Store.{Asks, IsAskedWithin};
 ghost use Rattle.hist_read.specs.Asking.{is_given, has_both, first_time, origin_time};
-ghost use Rattle.hist_read.specs.Reads.{is_near_alone, body_part, far_value, values, item_time, last_time, time_before, open_bound, page_size, page, is_spent, next_place, raw_position};
+ghost use Rattle.hist_read.specs.Reads.{is_near_alone, body_part, far_value, value_items, item_time, last_time, time_before, open_bound, page_size, page, is_spent, next_place, raw_position};
 ghost use Rattle.hist_read.specs.Pages.{IsFound, IsFoundBehind, body_limit, has_far, far_item, far_of, row_of, IsRawPage};
 ghost use Rattle.hist_read.specs.Finding.{Finds};
 
@@ -14,7 +14,7 @@ use crate::asked::{direction, given_after, goes_on, has_both, origin, page_size,
 use crate::bounds::{far_value, near};
 use crate::item::Item;
 use crate::point::{Phase, Position};
-use archive::{Archive, Direction, Setback, StoreFault};
+use archive::{Archive, Direction, StepError, StoreFault};
 use records::{Held, Moment};
 use stamp::Vector;
 use std::alloc::{AllocError, Global};
@@ -69,8 +69,13 @@ fn find_body<A: Archive>(
     requires given { IsTrue (is_given details.now.start_time.0 || is_given details.now.end_time.0) }
     requires place { IfSome position.now (λ p. first_time ≤ℤ p.time) }
     ensures asks { Asks (A.state archive.old) (A.state archive.new) result
-        (λ v. v.items ≡ take (page_size details.now position.now + 1) (body_part (cut (A.state archive.old).content (number_of within.now)) node.now details.now position.now)) }
-    ensures asked { IsAskedWithin (page_size details.now position.now + 1) (A.asked archive.old) (A.asked archive.new) }
+        (λ v. v.items
+        ≡ take (page_size details.now position.now + 1)
+        (body_part
+        (cut (A.state archive.old).content (number_of within.now)) node.now details.now
+        position.now)) }
+    ensures asked { IsAskedWithin (page_size details.now position.now + 1) (A.asked archive.old)
+        (A.asked archive.new) }
 {
     let onward = direction(details);
     let span = span_after(details, position);
@@ -89,8 +94,12 @@ fn find_values<A: Archive>(
 ) -> Result<(Vec<Held>, Option<Held>), StoreFault>
     requires given { IsTrue (is_given details.now.start_time.0 || is_given details.now.end_time.0) }
     requires place { IfSome position.now (λ p. first_time ≤ℤ p.time) }
-    ensures asks { Asks (A.state archive.old) (A.state archive.new) result (IsFoundBehind (cut (A.state archive.old).content (number_of within.now)) node.now details.now position.now) }
-    ensures asked { IsAskedWithin (page_size details.now position.now + 1) (A.asked archive.old) (A.asked archive.new) }
+    ensures asks { Asks (A.state archive.old) (A.state archive.new) result
+        (IsFoundBehind
+        (cut (A.state archive.old).content (number_of within.now)) node.now details.now
+        position.now) }
+    ensures asked { IsAskedWithin (page_size details.now position.now + 1) (A.asked archive.old)
+        (A.asked archive.new) }
 {
     let body = find_body(alloc, archive, node, details, position, within)?;
     if !has_far(details) || !has_both(details) {
@@ -111,8 +120,12 @@ pub(crate) fn find<A: Archive>(
 ) -> Result<Found, StoreFault>
     requires given { IsTrue (is_given details.now.start_time.0 || is_given details.now.end_time.0) }
     requires place { IfSome position.now (λ p. first_time ≤ℤ p.time) }
-    ensures asks { Asks (A.state archive.old) (A.state archive.new) result (IsFound (cut (A.state archive.old).content (number_of within.now)) node.now details.now position.now) }
-    ensures asked { IsAskedWithin (page_size details.now position.now + 1) (A.asked archive.old) (A.asked archive.new) }
+    ensures asks { Asks (A.state archive.old) (A.state archive.new) result
+        (IsFound
+        (cut (A.state archive.old).content (number_of within.now)) node.now details.now
+        position.now) }
+    ensures asked { IsAskedWithin (page_size details.now position.now + 1) (A.asked archive.old)
+        (A.asked archive.new) }
 {
     if position.is_some() || !details.return_bounds {
         let (body, far) = find_values(alloc, archive, node, details, position, within)?;
@@ -160,7 +173,7 @@ fn far_item(details: &ReadRawModifiedDetails, far: Option<Held>, before: Moment)
 
 /// Adds values as items.
 fn push_values(items: &mut Vec<Item>, body: Vec<Held>) -> Result<(), AllocError>
-    ensures { IfOk result (λ _. items.new.items ≡ items.old.items ++ values body.items) }
+    ensures { IfOk result (λ _. items.new.items ≡ items.old.items ++ value_items body.items) }
 {
     for held in body.into_iter() {
         items.push(Item::Value(held))?;
@@ -190,7 +203,7 @@ fn last_time(items: &[Item], before: Moment) -> Moment
 
 /// The near bound, where it is due, and the values behind it.
 fn front(alloc: Global, near: Option<Item>, body: Vec<Held>) -> Result<Vec<Item>, AllocError>
-    ensures { IfOk result (λ v. v.items ≡ option_to_list near ++ values body.items) }
+    ensures { IfOk result (λ v. v.items ≡ option_to_list near ++ value_items body.items) }
 {
     let mut items = Vec::with_capacity(alloc, body.len())?;
     if let Some(near) = near {
@@ -208,7 +221,9 @@ fn push_far(
     details: &ReadRawModifiedDetails,
     position: &Option<Position>,
 ) -> Result<(), AllocError>
-    ensures { IfOk result (λ _. items.new.items ≡ items.old.items ++ far_of details.now position.now is_due items.old.items far) }
+    ensures { IfOk result
+        (λ _. items.new.items ≡ items.old.items
+        ++ far_of details.now position.now is_due items.old.items far) }
 {
     if !is_due {
         return Ok(());
@@ -225,7 +240,9 @@ pub(crate) fn row(
     details: &ReadRawModifiedDetails,
     position: &Option<Position>,
 ) -> Result<Vec<Item>, AllocError>
-    ensures { IfOk result (λ v. v.items ≡ row_of details.now position.now (option_to_list found.near) found.body.items found.far) }
+    ensures { IfOk result
+        (λ v. v.items
+        ≡ row_of details.now position.now (option_to_list found.near) found.body.items found.far) }
 {
     let Found { near, body, far } = found;
     let is_due = has_far(details) && body.len() <= page_size(details, position);
@@ -266,7 +283,8 @@ fn page(
     position: &Option<Position>,
 ) -> RawPage
     ensures items { result.items.items ≡ page details.now position.now items.items }
-    ensures next { result.next ≡ next_place (raw_position details.now position.now) details.now position.now items.items }
+    ensures next { result.next
+        ≡ next_place (raw_position details.now position.now) details.now position.now items.items }
 {
     let goes_on = goes_on(details, position, items.len());
     items.truncate(page_size(details, position));
@@ -288,11 +306,15 @@ pub(crate) fn read_raw<A: Archive>(
     details: &ReadRawModifiedDetails,
     position: &Option<Position>,
     within: &Vector,
-) -> Result<RawPage, Setback>
+) -> Result<RawPage, StepError>
     requires given { IsTrue (is_given details.now.start_time.0 || is_given details.now.end_time.0) }
     requires place { IfSome position.now (λ p. first_time ≤ℤ p.time) }
-    ensures finds { Finds (A.state archive.old) (A.state archive.new) result (IsRawPage (cut (A.state archive.old).content (number_of within.now)) node.now details.now position.now) }
-    ensures asked { IsAskedWithin (page_size details.now position.now + 1) (A.asked archive.old) (A.asked archive.new) }
+    ensures finds { Finds (A.state archive.old) (A.state archive.new) result
+        (IsRawPage
+        (cut (A.state archive.old).content (number_of within.now)) node.now details.now
+        position.now) }
+    ensures asked { IsAskedWithin (page_size details.now position.now + 1) (A.asked archive.old)
+        (A.asked archive.new) }
 {
     let found = find(alloc, archive, node, details, position, within)?;
     let items = row(alloc, found, details, position)?;

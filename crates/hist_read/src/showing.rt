@@ -160,7 +160,9 @@ pub(crate) fn show_entries(
     stamps: TimestampsToReturn,
     entries: Vec<Entry>,
 ) -> Result<(Vec<DataValue>, Vec<ModificationInfo>), AllocError>
-    ensures { IfOk result (λ p. (p.0.items ≡ map (shown_entry stamps) entries.items) × (p.1.items ≡ map info entries.items)) }
+    ensures { IfOk result
+        (λ p. (p.0.items ≡ map (shown_entry stamps) entries.items)
+        × (p.1.items ≡ map info entries.items)) }
 {
     let mut values = Vec::with_capacity(alloc, entries.len())?;
     let mut infos = Vec::with_capacity(alloc, entries.len())?;

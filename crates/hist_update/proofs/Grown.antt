@@ -28,9 +28,9 @@ use Rattle.records.proofs.Sizes.{fields_length}
 use Rattle.records.proofs.LearnLemmas.{next_found, not_lt_test}
 use Rattle.archive.specs.Growth.{is_possible, IsUpdateOf}
 use Rattle.hist_update.specs.declared.request.Request.{Request}
-use Rattle.hist_update.specs.Outcome.{Operation, Write, DeleteAt, Change, Added, IsRequest, source_pico, source_time, fits, writing, change_by, sized, conflict, done, is_live, outcome, record_by, judged}
+use Rattle.hist_update.specs.Outcome.{Operation, Write, DeleteAt, Change, Added, IsRequest, source_pico, source_time, fits_type, writing, change_by, checked_size, conflict, done, is_live, outcome, record_by, checked_change}
 use Rattle.hist_update.proofs.OutcomeParts.{deletion, stamped, is_too_long, outcome_of}
-use Rattle.hist_update.specs.Laws.{IsSpelled, IsOperation}
+use Rattle.hist_update.specs.Laws.{IsSpelledRequest, IsOperation}
 
 -- the operation that adds a record where R is held, as its conditions ask
 pub record IsAddedBy (own : ℕ) (R : Content) (r : Record) : Type 0 where
@@ -39,7 +39,7 @@ pub record IsAddedBy (own : ℕ) (R : Content) (r : Record) : Type 0 where
   pub code : Status
   pub adds : outcome R own request operation ≡ Added code r
   pub lawful : IsRequest request
-  pub spelled : IsSpelled request
+  pub spelled : IsSpelledRequest request
   pub suits : IsOperation operation
 
 -- ---- the change
@@ -53,7 +53,7 @@ type_of other = record { number = 1; array = false }
 eq_self : (n : ℕ) → (n == n) ≡ true
 eq_self n = grind (arith, nat_tests)
 
-type_fits : (o : Option Variant) → fits (type_of o) o ≡ true
+type_fits : (o : Option Variant) → fits_type (type_of o) o ≡ true
 type_fits None = refl
 type_fits (Some Null) = refl
 type_fits (Some (Scalar s)) = eq_self (scalar_number s)
@@ -119,14 +119,14 @@ module _ (own : ℕ) (R : Content) (r : Record) (u : IsUpdateOf own R r) (l : Is
   by_change : (op : Operation) → change_by asker own op ≡ Ok change → outcome R own asker op ≡ Added (done r.asked (is_live R r.node r.time)) r
   by_change op e =
       ap (outcome_of R own asker) e
-      ∙ (ap (judged R own asker change (is_live R r.node r.time)) is_free
+      ∙ (ap (checked_change R own asker change (is_live R r.node r.time)) is_free
       ∙ (ap (stamped R own asker change (done r.asked (is_live R r.node r.time))) tick_lifts
       ∙ ap (Added (done r.asked (is_live R r.node r.time))) same_record))
 
   is_request : IsRequest asker
   is_request = record { node = u.node; user = l.user.0 }
 
-  is_spelled : IsSpelled asker
+  is_spelled : IsSpelledRequest asker
   is_spelled = record { node = l.node; user = l.user.1 }
 
   -- the value as it was written, with its source time
@@ -140,9 +140,9 @@ module _ (own : ℕ) (R : Content) (r : Record) (u : IsUpdateOf own R r) (l : Is
       let at : source_time whole ≡ Some r.time =
       ap (λ x. if x then None else Some (moment (ticks_of r.time) (source_pico r.value))) late ∙ ap Some (ap (moment (ticks_of r.time)) (sym (u.moment w)) ∙ whole_again r.time) in
       let back : writing r.asked whole r.time ≡ change = ap (λ t. let c : Change = record { time = r.time; asked = r.asked; value = record r.value { source_time = t } } in c) (sym timeless) in
-      ap (λ o. ok_or o BAD_INVALID_TIMESTAMP >>= (λ time. if fits (type_of r.value.value) r.value.value then Ok time else Err BAD_TYPE_MISMATCH) >>= (λ time. sized asker own (writing r.asked whole time))) at
-      ∙ (ap (λ x. (if x then Ok r.time else Err BAD_TYPE_MISMATCH) >>= (λ time. sized asker own (writing r.asked whole time))) (type_fits r.value.value)
-      ∙ (ap (sized asker own) back
+      ap (λ o. ok_or o BAD_INVALID_TIMESTAMP >>= (λ time. if fits_type (type_of r.value.value) r.value.value then Ok time else Err BAD_TYPE_MISMATCH) >>= (λ time. checked_size asker own (writing r.asked whole time))) at
+      ∙ (ap (λ x. (if x then Ok r.time else Err BAD_TYPE_MISMATCH) >>= (λ time. checked_size asker own (writing r.asked whole time))) (type_fits r.value.value)
+      ∙ (ap (checked_size asker own) back
       ∙ ap (λ x. if x then Err BAD_ENCODING_LIMITS_EXCEEDED else Ok change) short))
 
   deleted : is_delete r.asked ≡ true → change_by asker own (DeleteAt r.time) ≡ Ok change

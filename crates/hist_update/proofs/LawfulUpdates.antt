@@ -23,12 +23,12 @@ use Rattle.ua_binary.specs.Format.{◌>>=◌}
 use Rattle.ua_binary.specs.declared.codes.Status.{Status}
 use Rattle.ua_binary.specs.declared.codes.TheConstants.Status.{BAD_ENCODING_LIMITS_EXCEEDED, BAD_INVALID_TIMESTAMP, BAD_TYPE_MISMATCH}
 use Rattle.hist_update.specs.declared.request.Request.{Request}
-use Rattle.hist_update.specs.Outcome.{Operation, Write, DeleteAt, Change, Outcome, Refused, Added, IsRequest, change_by, sized, fits, source_time, source_pico, writing, outcome, after, record_by}
+use Rattle.hist_update.specs.Outcome.{Operation, Write, DeleteAt, Change, Outcome, Refused, Added, IsRequest, change_by, checked_size, fits_type, source_time, source_pico, writing, outcome, content_after, record_by}
 use Rattle.hist_update.proofs.OutcomeParts.{deletion, is_too_long}
-use Rattle.archive.specs.Steps.{Does}
-use Rattle.archive.specs.Store.{Mark, Fine, Starved, Stands, Met}
+use Rattle.archive.specs.Steps.{Yields}
+use Rattle.archive.specs.Store.{StepResult, Done, NoMemory, Stands, StoreFailed}
 use Rattle.hist_update.specs.Updates.{left_by, update_all}
-use Rattle.hist_update.specs.Laws.{IsSpelled, IsOperation}
+use Rattle.hist_update.specs.Laws.{IsSpelledRequest, IsOperation}
 use Rattle.hist_update.proofs.Deletions.{deletion_short}
 use Rattle.hist_update.proofs.Operating.{is_new, few_by}
 use Rattle.hist_update.proofs.NewRecords.{made, new_next}
@@ -60,7 +60,7 @@ sourced (Some s) p t few fits e = go (int_lt s.0 (pos 1)) refl e
         let same = ticks_again s.0 p few in
         subst IsTime (same_Some _ _ h) (subst (λ u. pos 1 ≤ℤ u) (sym same) (le_from_not _ _ q), subst (λ u. FitsSigned w64 u) (sym same) fits)
 
-is_change : (request : Request) (own : ℕ) (op : Operation) (change : Change) → IsRequest request → IsSpelled request → IsOperation op → change_by request own op ≡ Ok change → IsChange request own change
+is_change : (request : Request) (own : ℕ) (op : Operation) (change : Change) → IsRequest request → IsSpelledRequest request → IsOperation op → change_by request own op ≡ Ok change → IsChange request own change
 is_change request own (DeleteAt time) change lawful spelled fits e = go (int_lt (ticks_of time) (pos 1)) refl e
   where
     go : (x : Bool) → int_lt (ticks_of time) (pos 1) ≡ x → (if x then Err BAD_INVALID_TIMESTAMP else Ok (deletion time)) ≡ Ok change → IsChange request own change
@@ -85,17 +85,17 @@ is_change request own (Write asked type v) change lawful spelled is e = by_time 
       short = p;
     })
 
-    by_type : (t : ℤ) → IsTime t → (x : Bool) → ((if x then Ok t else Err BAD_TYPE_MISMATCH) >>= λ time. sized request own (writing asked v time)) ≡ Ok change → IsChange request own change
+    by_type : (t : ℤ) → IsTime t → (x : Bool) → ((if x then Ok t else Err BAD_TYPE_MISMATCH) >>= λ time. checked_size request own (writing asked v time)) ≡ Ok change → IsChange request own change
     by_type t at true h = by_size t at (is_too_long request own (writing asked v t)) refl h
     by_type t at false h = no_change _ _ h
 
-    by_time : (o : Option ℤ) → source_time v ≡ o → ((ok_or o BAD_INVALID_TIMESTAMP >>= λ time. if fits type v.value then Ok time else Err BAD_TYPE_MISMATCH) >>= λ time. sized request own (writing asked v time)) ≡ Ok change → IsChange request own change
+    by_time : (o : Option ℤ) → source_time v ≡ o → ((ok_or o BAD_INVALID_TIMESTAMP >>= λ time. if fits_type type v.value then Ok time else Err BAD_TYPE_MISMATCH) >>= λ time. checked_size request own (writing asked v time)) ≡ Ok change → IsChange request own change
     by_time None p h = no_change _ _ h
-    by_time (Some t) p h = by_type t (sourced v.source_time (source_pico v) t (few_by v.source_pico is.1.3) is.1.2 p) (fits type v.value) h
+    by_time (Some t) p h = by_type t (sourced v.source_time (source_pico v) t (few_by v.source_pico is.1.3) is.1.2 p) (fits_type type v.value) h
 
 -- ---- new records are lawful
 
-lawful_new : (R : Content) (own : ℕ) (request : Request) (op : Operation) (code : Status) (r : Record) → IsReplica own → IsRequest request → IsSpelled request → IsOperation op → IsLawfulContent R
+lawful_new : (R : Content) (own : ℕ) (request : Request) (op : Operation) (code : Status) (r : Record) → IsReplica own → IsRequest request → IsSpelledRequest request → IsOperation op → IsLawfulContent R
     → outcome R own request op ≡ Added code r → IsLawfulRecord r
 lawful_new R own request op code r replica lawful spelled is content e =
     let m = made R own request op code r e in
@@ -115,28 +115,28 @@ lawful_new R own request op code r replica lawful spelled is content e =
       size = omega (arith, few, same, long);
     })
 
-after_lawful : (R : Content) (own : ℕ) (request : Request) (op : Operation) → IsReplica own → IsRequest request → IsSpelled request → IsOperation op → IsLawfulContent R
-    → (o : Outcome) → outcome R own request op ≡ o → IsLawfulContent (after R o)
+after_lawful : (R : Content) (own : ℕ) (request : Request) (op : Operation) → IsReplica own → IsRequest request → IsSpelledRequest request → IsOperation op → IsLawfulContent R
+    → (o : Outcome) → outcome R own request op ≡ o → IsLawfulContent (content_after R o)
 after_lawful R own request op replica lawful spelled is content (Refused c) e = content
 after_lawful R own request op replica lawful spelled is content (Added c r) e =
     lawful_put R r content (lawful_new R own request op c r replica lawful spelled is content e) (finding_next R r (new_next R own request op c r content.closed e))
 
-left_lawful : (R : Content) (own : ℕ) (request : Request) (op : Operation) (m : Mark) → IsReplica own → IsRequest request → IsSpelled request → IsOperation op → IsLawfulContent R
+left_lawful : (R : Content) (own : ℕ) (request : Request) (op : Operation) (m : StepResult) → IsReplica own → IsRequest request → IsSpelledRequest request → IsOperation op → IsLawfulContent R
     → IsLawfulContent (left_by R (outcome R own request op) m)
-left_lawful R own request op Starved replica lawful spelled is content = content
-left_lawful R own request op (Met f) replica lawful spelled is content = content
-left_lawful R own request op Fine replica lawful spelled is content = after_lawful R own request op replica lawful spelled is content (outcome R own request op) refl
+left_lawful R own request op NoMemory replica lawful spelled is content = content
+left_lawful R own request op (StoreFailed f) replica lawful spelled is content = content
+left_lawful R own request op Done replica lawful spelled is content = after_lawful R own request op replica lawful spelled is content (outcome R own request op) refl
 left_lawful R own request op Stands replica lawful spelled is content = after_lawful R own request op replica lawful spelled is content (outcome R own request op) refl
 
-all_lawful : (own : ℕ) (request : Request) (ops : List Operation) (R : Content) (marks : List Mark) → IsReplica own → IsRequest request → IsSpelled request → AllByRecursion IsOperation ops
+all_lawful : (own : ℕ) (request : Request) (ops : List Operation) (R : Content) (marks : List StepResult) → IsReplica own → IsRequest request → IsSpelledRequest request → AllByRecursion IsOperation ops
     → IsLawfulContent R → IsLawfulContent (came_to own request ops R marks).1
 all_lawful own request [] R marks replica lawful spelled is content = content
 all_lawful own request (op ∷ ops) R [] replica lawful spelled is content =
-    all_lawful own request ops (left_by R (outcome R own request op) Fine) [] replica lawful spelled is.1 (left_lawful R own request op Fine replica lawful spelled is.0 content)
+    all_lawful own request ops (left_by R (outcome R own request op) Done) [] replica lawful spelled is.1 (left_lawful R own request op Done replica lawful spelled is.0 content)
 all_lawful own request (op ∷ ops) R (m ∷ marks) replica lawful spelled is content =
     all_lawful own request ops (left_by R (outcome R own request op) m) marks replica lawful spelled is.1 (left_lawful R own request op m replica lawful spelled is.0 content)
 
-pub updated_lawful : (R S : Content) (own : ℕ) (request : Request) (ops : List Operation) (used : List Mark) (codes : List Status) → Does (update_all own request ops R) used (codes, S)
-    → IsReplica own → IsRequest request → IsSpelled request → AllByRecursion IsOperation ops → IsLawfulContent R → IsLawfulContent S
+pub updated_lawful : (R S : Content) (own : ℕ) (request : Request) (ops : List Operation) (used : List StepResult) (codes : List Status) → Yields (update_all own request ops R) used (codes, S)
+    → IsReplica own → IsRequest request → IsSpelledRequest request → AllByRecursion IsOperation ops → IsLawfulContent R → IsLawfulContent S
 updated_lawful R S own request ops used codes d replica lawful spelled is content =
     subst (λ (z : List Status × Content). IsLawfulContent z.1) (did (update_all own request ops R) used (codes, S) d) (all_lawful own request ops R (used ++ []) replica lawful spelled is content)

@@ -11,7 +11,7 @@ use Rattle.stamp.specs.Limits.{greatest, lift}
 use Rattle.records.specs.declared.record.Record.{Record}
 use Rattle.records.specs.declared.shown.Held.{Held}
 use Rattle.records.specs.Lists.{Has, last}
-use Rattle.records.specs.Records.{is_delete, stamp_cmp, story, current}
+use Rattle.records.specs.Records.{is_delete, record_stamp_cmp, versions, current}
 use Rattle.records.specs.Contents.{Content, vec, top, put, IsClosed, IsNext, IsLatest}
 use Rattle.records.proofs.PutLemmas.{has-put, has_from_put, top_bounds}
 use Rattle.records.proofs.CloseLemmas.{closed_stamps}
@@ -19,7 +19,7 @@ use Rattle.records.proofs.LearnLemmas.{closed-next}
 use Rattle.records.proofs.LatestLemmas.{latest_last, latest_written, latest_deleted}
 use Rattle.ua_binary.specs.declared.codes.Status.{Status}
 use Rattle.hist_update.specs.declared.request.Request.{Request}
-use Rattle.hist_update.specs.Outcome.{Operation, Change, Outcome, Refused, Added, change_by, outcome, conflict, done, is_live, record_by, judged}
+use Rattle.hist_update.specs.Outcome.{Operation, Change, Outcome, Refused, Added, change_by, outcome, conflict, done, is_live, record_by, checked_change}
 use Rattle.hist_update.proofs.OutcomeParts.{stamped, outcome_of}
 use Rattle.hist_update.proofs.Operating.{lifted, lifted_timed, is_new}
 
@@ -62,7 +62,7 @@ made R own request op code r e = by_change (change_by request own op) refl e
     }
 
     by_conflict : (change : Change) (o : Option Status) → change_by request own op ≡ Ok change → conflict change.asked (is_live R request.node change.time) ≡ o
-        → judged R own request change (is_live R request.node change.time) o ≡ Added code r → Made R own request op code r
+        → checked_change R own request change (is_live R request.node change.time) o ≡ Added code r → Made R own request op code r
     by_conflict change (Some c) p f h = not_added _ _ _ h
     by_conflict change None p f h = by_tick change (lift request.reading (top R)) p refl f h
 
@@ -90,7 +90,7 @@ new_timed R own request op code r e =
     let m = made R own request op code r e in
     subst (λ (z : Record). int_min request.reading (pos greatest) ≤ℤ z.tick) (sym m.is) (lifted_timed request.reading (top R) m.tick m.lifts)
 
-below_less : (s r : Record) → s.tick <ℤ r.tick → stamp_cmp s r ≡ Less
+below_less : (s r : Record) → s.tick <ℤ r.tick → record_stamp_cmp s r ≡ Less
 below_less s r lt = ap (λ (o : Ordering). ordering_then o (nat_cmp s.origin r.origin)) (sym (int_cmp_is s.tick r.tick Less lt))
 
 latest_new : (R : Content) (own : ℕ) (request : Request) (op : Operation) (code : Status) (r : Record) → outcome R own request op ≡ Added code r → IsLatest (put r R) r
@@ -102,7 +102,7 @@ latest_new R own request op code r e = record {
 apart_new : (R : Content) (own : ℕ) (request : Request) (op : Operation) (code : Status) (r : Record) → IsClosed R → outcome R own request op ≡ Added code r → IsClosed (put r R)
 apart_new R own request op code r closed e = closed-next R r closed (new_next R own request op code r closed e)
 
-pub new_last : (R : Content) (own : ℕ) (request : Request) (op : Operation) (code : Status) (r : Record) → IsClosed R → outcome R own request op ≡ Added code r → last (story (put r R) r.node r.time) ≡ Some r
+pub new_last : (R : Content) (own : ℕ) (request : Request) (op : Operation) (code : Status) (r : Record) → IsClosed R → outcome R own request op ≡ Added code r → last (versions (put r R) r.node r.time) ≡ Some r
 new_last R own request op code r closed e = latest_last (put r R) r (closed_stamps (put r R) (apart_new R own request op code r closed e)) (latest_new R own request op code r e)
 
 pub new_written : (R : Content) (own : ℕ) (request : Request) (op : Operation) (code : Status) (r : Record) → IsClosed R → outcome R own request op ≡ Added code r → is_delete r.asked ≡ false

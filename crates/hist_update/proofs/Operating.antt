@@ -30,23 +30,23 @@ use Rattle.records.specs.Moments.{moment, ticks_of, pico_of, whole_again, pico_w
 use Rattle.archive.specs.declared.fault.StoreFault.{StoreFault}
 use Rattle.archive.specs.declared.fault.LearnFault.{LearnFault}
 use Rattle.archive.specs.declared.fault.LearnFault.TheVariants as refused
-use Rattle.archive.specs.declared.setback.Setback.TheVariants as setback
-use Rattle.archive.specs.Fault.{status_of}
-use Rattle.archive.specs.Steps.{Does}
-use Rattle.archive.specs.Store.{Store, Mark, Fine, Starved, Stands, Met, Passes, Asks, Learns, store_fault_in, answer_to, MayBeFound, IsLeft}
+use Rattle.archive.specs.declared.setback.StepError.TheVariants as setback
+use Rattle.archive.specs.Fault.{store_fault_status}
+use Rattle.archive.specs.Steps.{Yields}
+use Rattle.archive.specs.Store.{Store, StepResult, Done, NoMemory, Stands, StoreFailed, CountsFaults, Asks, Learns, store_fault_in, answer_to, MayBeFound, IsLeft}
 use Rattle.archive.proofs.Results.{err-ok}
 use Rattle.archive.proofs.Calls.{in_use, left_in_use, passes-none}
 use Rattle.archive.specs.Growth.{is_possible, IsUpdateOf, Grows}
 use Rattle.archive.proofs.Growing.{grows-none, grows-one}
 use Rattle.archive.proofs.Acting.{does-step, there-behind, moves-none-by, moves-stays, left-alone, found-same, learned-left, unlearned-left, IsWithOrWithout}
 use Rattle.hist_update.specs.declared.request.Request.{Request}
-use Rattle.hist_update.specs.declared.operate.Place.{Place}
-use Rattle.hist_update.specs.declared.operate.Undone.{Undone}
-use Rattle.hist_update.specs.declared.operate.Undone.TheVariants as undone
-use Rattle.hist_update.specs.Outcome.{Operation, Write, DeleteAt, IsRequest, writing, source_time, source_pico, fits, time_judged, Change, Outcome, Refused, Added, change_by, sized, outcome, is_live, conflict, done, record_by, code_in, after, judged}
+use Rattle.hist_update.specs.declared.operate.ChangePlace.{ChangePlace}
+use Rattle.hist_update.specs.declared.operate.OperationError.{OperationError}
+use Rattle.hist_update.specs.declared.operate.OperationError.TheVariants as undone
+use Rattle.hist_update.specs.Outcome.{Operation, Write, DeleteAt, IsRequest, writing, source_time, source_pico, fits_type, time_judged, Change, Outcome, Refused, Added, change_by, checked_size, outcome, is_live, conflict, done, record_by, code_in, content_after, checked_change}
 use Rattle.hist_update.proofs.OutcomeParts.{deletion, stamped, is_too_long, outcome_of}
 use Rattle.hist_update.specs.Updates.{code_by, left_by, update_one}
-use Rattle.hist_update.specs.Operating.{Operates, IsPlace, candidate_of, is_long, refusal_by, refusal, told_of, Submits, IsDraft, IsNumber}
+use Rattle.hist_update.specs.Operating.{Operates, IsChangePlace, candidate_of, is_long, refusal_by, refusal, told_of, Submits, IsDraft, IsNumber}
 use Rattle.hist_update.proofs.Asking.{moves-behind}
 use Rattle.hist_update.proofs.Deletions.{deletion_short}
 
@@ -67,7 +67,7 @@ tested : (R : Content) (own : ℕ) (request : Request) (change : Change) (long :
 tested R own request change true = refl
 tested R own request change false = go (conflict change.asked (is_live R request.node change.time))
   where
-    go : (conf : Option Status) → judged R own request change (is_live R request.node change.time) conf ≡ by_tests R own request change (is_live R request.node change.time) false conf (lift request.reading (top R))
+    go : (conf : Option Status) → checked_change R own request change (is_live R request.node change.time) conf ≡ by_tests R own request change (is_live R request.node change.time) false conf (lift request.reading (top R))
     go None = refl
     go (Some code) = refl
 
@@ -86,7 +86,7 @@ added_by_tests R own request change live false None None e = some-none _ e
 added_by_tests R own request change live false None (Some t) e = (t, refl, refl)
 
 -- the tests of a record and its place are those of the rules
-same_refusal : (R : Content) (own : ℕ) (request : Request) (change : Change) (place : Place)
+same_refusal : (R : Content) (own : ℕ) (request : Request) (change : Change) (place : ChangePlace)
     → place.live ≡ is_live R request.node change.time → place.tick ≡ lift request.reading (top R) → place.origin ≡ own
     → refusal (candidate_of request place change) place
     ≡ refusal_by (is_too_long request own change) (conflict change.asked (is_live R request.node change.time)) (lift request.reading (top R))
@@ -137,31 +137,31 @@ is_new R own now t closed e =
 -- ---- the four ways in which an operation ends
 
 -- an operation's step, by what it comes to
-does-one : (own : ℕ) (request : Request) (op : Operation) (R : Content) (mark : Mark) (code : Status) (S : Content)
-    → code_by (outcome R own request op) mark ≡ code → left_by R (outcome R own request op) mark ≡ S → Does (update_one own request op R) (mark ∷ []) (code, S)
+does-one : (own : ℕ) (request : Request) (op : Operation) (R : Content) (mark : StepResult) (code : Status) (S : Content)
+    → code_by (outcome R own request op) mark ≡ code → left_by R (outcome R own request op) mark ≡ S → Yields (update_one own request op R) (mark ∷ []) (code, S)
 does-one own request op R mark code S told left =
-    subst (λ (z : Status × Content). Does (update_one own request op R) (mark ∷ []) z) (ap (λ (c : Status). (c, left_by R (outcome R own request op) mark)) told ∙ ap (λ (T : Content). (code, T)) left)
+    subst (λ (z : Status × Content). Yields (update_one own request op R) (mark ∷ []) z) (ap (λ (c : Status). (c, left_by R (outcome R own request op) mark)) told ∙ ap (λ (T : Content). (code, T)) left)
     (does-step (λ m. (code_by (outcome R own request op) m, left_by R (outcome R own request op) m)) mark)
 
 -- the rules refuse it before the archive is asked
 pub refused-early : (a : Store) (request : Request) (op : Operation) (code : Status) → change_by request a.own op ≡ Err code → Operates a a request op (Err (undone.Refused code))
 refused-early a request op code e = record {
-  acts = moves-none-by a (Fine ∷ []) refl (λ marks R S. Does (update_one a.own request op R) marks (code, S))
-      (λ R. does-one a.own request op R Fine code R (ap (λ x. code_in (outcome_of R a.own request x)) e) (ap (λ x. after R (outcome_of R a.own request x)) e));
+  acts = moves-none-by a (Done ∷ []) refl (λ marks R S. Yields (update_one a.own request op R) marks (code, S))
+      (λ R. does-one a.own request op R Done code R (ap (λ x. code_in (outcome_of R a.own request x)) e) (ap (λ x. content_after R (outcome_of R a.own request x)) e));
   ended = λ b f. subst IsErr (sym e) refl;
 }
 
-fine-met : {X : Type 0} (fault : StoreFault) → Met fault ≡ Fine → X
-fine-met fault e = absurd (true≢false (sym (ap (λ m. elim m [ Fine ↦ true | _ ↦ false ]) e)))
+fine-met : {X : Type 0} (fault : StoreFault) → StoreFailed fault ≡ Done → X
+fine-met fault e = absurd (true≢false (sym (ap (λ m. elim m [ Done ↦ true | _ ↦ false ]) e)))
 
-starved-fine : {X : Type 0} → Starved ≡ Fine → X
-starved-fine e = absurd (true≢false (sym (ap (λ m. elim m [ Fine ↦ true | _ ↦ false ]) e)))
+starved-fine : {X : Type 0} → NoMemory ≡ Done → X
+starved-fine e = absurd (true≢false (sym (ap (λ m. elim m [ Done ↦ true | _ ↦ false ]) e)))
 
 -- the survey met a fault
-pub survey-failed : (a b : Store) (request : Request) (op : Operation) (fault : StoreFault) (P : Place → Type 0) → Asks {A = Place} a b (Err fault) P → Operates a b request op (Err (undone.Hindered (setback.Store fault)))
+pub survey-failed : (a b : Store) (request : Request) (op : Operation) (fault : StoreFault) (P : ChangePlace → Type 0) → Asks {A = ChangePlace} a b (Err fault) P → Operates a b request op (Err (undone.Failed (setback.Store fault)))
 survey-failed a b request op fault P p = record {
-  acts = moves-stays a b (Met fault ∷ []) (λ marks R S. Does (update_one a.own request op R) marks (status_of fault, S)) p.leaves.passes p.stays (there-behind a b (Some fault) p.leaves)
-      (λ honest R h. does-one a.own request op R (Met fault) (status_of fault) R refl refl);
+  acts = moves-stays a b (StoreFailed fault ∷ []) (λ marks R S. Yields (update_one a.own request op R) marks (store_fault_status fault, S)) p.leaves.passes p.stays (there-behind a b (Some fault) p.leaves)
+      (λ honest R h. does-one a.own request op R (StoreFailed fault) (store_fault_status fault) R refl refl);
   ended = λ e f. fine-met fault f;
 }
 
@@ -170,8 +170,8 @@ left_by_query : {B : Type 0} (a b : Store) (x : B) (P : B → Type 0) (S : Conte
 left_by_query a b x P S p honest same h = left-alone b S p.leaves.after honest (left_in_use a b p.leaves) h ∙ same
 
 -- one mark, and the content stays
-one_stays : (a : Store) (request : Request) (op : Operation) (mark : Mark) (code : Status) (S : Content) → S ≡ a.content → code_by (outcome a.content a.own request op) mark ≡ code → left_by a.content (outcome a.content a.own request op) mark ≡ a.content
-    → (marks : List Mark) × MayBeFound false (mark ∷ []) marks × Does (update_one a.own request op a.content) marks (code, S) × Grows a.own a.content S
+one_stays : (a : Store) (request : Request) (op : Operation) (mark : StepResult) (code : Status) (S : Content) → S ≡ a.content → code_by (outcome a.content a.own request op) mark ≡ code → left_by a.content (outcome a.content a.own request op) mark ≡ a.content
+    → (marks : List StepResult) × MayBeFound false (mark ∷ []) marks × Yields (update_one a.own request op a.content) marks (code, S) × Grows a.own a.content S
 one_stays a request op mark code S is told left = (
   mark ∷ [],
   found-same false (mark ∷ []),
@@ -180,24 +180,24 @@ one_stays a request op mark code S is told left = (
 )
 
 -- there was no memory for the record
-pub draft-starved : (a b : Store) (request : Request) (op : Operation) (place : Place) (P : Place → Type 0) → Asks a b (Ok place) P → Operates a b request op (Err (undone.Hindered setback.Starved))
+pub draft-starved : (a b : Store) (request : Request) (op : Operation) (place : ChangePlace) (P : ChangePlace → Type 0) → Asks a b (Ok place) P → Operates a b request op (Err (undone.Failed setback.OutOfMemory))
 draft-starved a b request op place P p = record {
-  acts = moves-behind a b b place P (Starved ∷ []) (λ marks R S. Does (update_one a.own request op R) marks (BAD_OUT_OF_MEMORY, S)) p (passes-none b) (λ was. was)
-      (λ honest is same S h. one_stays a request op Starved BAD_OUT_OF_MEMORY S (left_by_query a b place P S p honest same h) refl refl);
+  acts = moves-behind a b b place P (NoMemory ∷ []) (λ marks R S. Yields (update_one a.own request op R) marks (BAD_OUT_OF_MEMORY, S)) p (passes-none b) (λ was. was)
+      (λ honest is same S h. one_stays a request op NoMemory BAD_OUT_OF_MEMORY S (left_by_query a b place P S p honest same h) refl refl);
   ended = λ e f. starved-fine f;
 }
 
 -- the rules refuse it at its place
-pub settled-refused : (a b : Store) (request : Request) (op : Operation) (change : Change) (place : Place) (code : Status)
-    → change_by request a.own op ≡ sized request a.own change → Asks a b (Ok place) (IsPlace a request change.time)
+pub settled-refused : (a b : Store) (request : Request) (op : Operation) (change : Change) (place : ChangePlace) (code : Status)
+    → change_by request a.own op ≡ checked_size request a.own change → Asks a b (Ok place) (IsChangePlace a request change.time)
     → refusal (candidate_of request place change) place ≡ Some code → Operates a b request op (Err (undone.Refused code))
 settled-refused a b request op change place code asked p e = record {
-  acts = moves-behind a b b place (IsPlace a request change.time) (Fine ∷ []) (λ marks R S. Does (update_one a.own request op R) marks (code, S)) p (passes-none b) (λ was. was)
-      (λ honest at same S h. one_stays a request op Fine code S (left_by_query a b place (IsPlace a request change.time) S p honest same h) (ap code_in (refused at)) (ap (after a.content) (refused at)));
+  acts = moves-behind a b b place (IsChangePlace a request change.time) (Done ∷ []) (λ marks R S. Yields (update_one a.own request op R) marks (code, S)) p (passes-none b) (λ was. was)
+      (λ honest at same S h. one_stays a request op Done code S (left_by_query a b place (IsChangePlace a request change.time) S p honest same h) (ap code_in (refused at)) (ap (content_after a.content) (refused at)));
   ended = λ b f. absurd (none-some _ (p.leaves.ended b));
 }
   where
-    refused : IsPlace a request change.time place → outcome a.content a.own request op ≡ Refused code
+    refused : IsChangePlace a request change.time place → outcome a.content a.own request op ≡ Refused code
     refused at =
         ap (outcome_of a.content a.own request) asked
         ∙ (tested a.content a.own request change (is_too_long request a.own change)
@@ -225,8 +225,8 @@ record Facts (R : Content) (own : ℕ) (request : Request) (op : Operation) (cod
   pub is : outcome R own request op ≡ Added code r
   pub update : IsUpdateOf own R r
 
-facts : (R : Content) (own : ℕ) (request : Request) (op : Operation) (change : Change) (place : Place)
-    → IsRequest request → IsTimed change → change_by request own op ≡ sized request own change → IsClosed R
+facts : (R : Content) (own : ℕ) (request : Request) (op : Operation) (change : Change) (place : ChangePlace)
+    → IsRequest request → IsTimed change → change_by request own op ≡ checked_size request own change → IsClosed R
     → place.live ≡ is_live R request.node change.time → place.origin ≡ own → place.number ≡ min (vec R own + 1) greatest → place.tick ≡ lift request.reading (top R)
     → refusal (candidate_of request place change) place ≡ None → Facts R own request op (done change.asked place.live) (candidate_of request place change)
 facts R own request op change place lawful timed asked closed live origin number tick e =
@@ -252,20 +252,20 @@ facts R own request op change place lawful timed asked closed live origin number
     }
 
 -- the archive was given its record
-pub settled-submitted : (a b c : Store) (request : Request) (op : Operation) (change : Change) (place : Place) (result : Result Status Undone)
-    → IsRequest request → IsTimed change → change_by request a.own op ≡ sized request a.own change → Asks a b (Ok place) (IsPlace a request change.time)
+pub settled-submitted : (a b c : Store) (request : Request) (op : Operation) (change : Change) (place : ChangePlace) (result : Result Status OperationError)
+    → IsRequest request → IsTimed change → change_by request a.own op ≡ checked_size request a.own change → Asks a b (Ok place) (IsChangePlace a request change.time)
     → refusal (candidate_of request place change) place ≡ None
     → Submits b c (candidate_of request place change) (done change.asked place.live) result → Operates a c request op result
 settled-submitted a b c request op change place result lawful timed asked p e (answer, learns, told_so) =
     subst (λ r. Operates a c request op r) (sym told_so) (go answer learns)
   where
-    known : b.honest → IsPlace a request change.time place → Facts a.content a.own request op (done change.asked place.live) (candidate_of request place change)
+    known : b.honest → IsChangePlace a request change.time place → Facts a.content a.own request op (done change.asked place.live) (candidate_of request place change)
     known h at =
         let settled = p.leaves.before (p.leaves.passes.honest h) (in_use a b p.leaves) in
         facts a.content a.own request op change place lawful timed asked settled.lawful.closed at.live at.origin at.number at.tick e
 
     -- the archive's honest answer is that the record was added
-    added : (x : Result Bool LearnFault) (S : Content) → Learns b c (candidate_of request place change) x → store_fault_in x ≡ None → c.honest → b.content ≡ a.content → IsPlace a request change.time place → IsLeft c S
+    added : (x : Result Bool LearnFault) (S : Content) → Learns b c (candidate_of request place change) x → store_fault_in x ≡ None → c.honest → b.content ≡ a.content → IsChangePlace a request change.time place → IsLeft c S
         → (x ≡ Ok true) × (S ≡ put (candidate_of request place change) a.content)
     added x S l none honest same at h =
         let r = candidate_of request place change in
@@ -275,13 +275,13 @@ settled-submitted a b c request op change place result lawful timed asked p e (a
           is ∙ ap (λ T. unwrap_or (learned T r) T) same ∙ ap (λ f. unwrap_or (after_finding a.content r f) a.content) k.update.next,
         )
 
-    quiet : (x : Result Bool LearnFault) → store_fault_in x ≡ None → Learns b c (candidate_of request place change) x → Passes b c []
-    quiet x none l = subst (λ f. Passes b c (option_to_list f)) none l.leaves.passes
+    quiet : (x : Result Bool LearnFault) → store_fault_in x ≡ None → Learns b c (candidate_of request place change) x → CountsFaults b c []
+    quiet x none l = subst (λ f. CountsFaults b c (option_to_list f)) none l.leaves.passes
 
     -- with its record
-    one_adds : (mark told : Mark) (code : Status) (S : Content) → IsPlace a request change.time place → c.honest → b.honest → S ≡ put (candidate_of request place change) a.content → MayBeFound false (told ∷ []) (mark ∷ [])
+    one_adds : (mark told : StepResult) (code : Status) (S : Content) → IsChangePlace a request change.time place → c.honest → b.honest → S ≡ put (candidate_of request place change) a.content → MayBeFound false (told ∷ []) (mark ∷ [])
         → code_by (Added (done change.asked place.live) (candidate_of request place change)) mark ≡ code → left_by a.content (Added (done change.asked place.live) (candidate_of request place change)) mark ≡ put (candidate_of request place change) a.content
-        → (marks : List Mark) × MayBeFound false (told ∷ []) marks × Does (update_one a.own request op a.content) marks (code, S) × Grows a.own a.content S
+        → (marks : List StepResult) × MayBeFound false (told ∷ []) marks × Yields (update_one a.own request op a.content) marks (code, S) × Grows a.own a.content S
     one_adds mark told code S at honest before is found coded left =
         let k = known before at in (
           mark ∷ [],
@@ -292,29 +292,29 @@ settled-submitted a b c request op change place result lawful timed asked p e (a
 
     odd : (f : LearnFault) → Learns b c (candidate_of request place change) (Err f) → store_fault_in (Err f) ≡ None → Operates a c request op (Err (undone.Refused BAD_RESOURCE_UNAVAILABLE))
     odd f l none = record {
-      acts = moves-behind a b c place (IsPlace a request change.time) (Fine ∷ []) (λ marks R S. Does (update_one a.own request op R) marks (BAD_RESOURCE_UNAVAILABLE, S)) p (quiet (Err f) none l) (there-behind b c (store_fault_in (Err f)) l.leaves)
+      acts = moves-behind a b c place (IsChangePlace a request change.time) (Done ∷ []) (λ marks R S. Yields (update_one a.own request op R) marks (BAD_RESOURCE_UNAVAILABLE, S)) p (quiet (Err f) none l) (there-behind b c (store_fault_in (Err f)) l.leaves)
           (λ honest at same S h. absurd (err-ok (Err f) f true refl (added (Err f) S l none honest same at h).0));
       ended = λ y. absurd (none-some _ (p.leaves.ended y));
     }
 
     -- the store met a fault
-    met : (fault : StoreFault) (S R : Content) → IsPlace a request change.time place → c.honest → b.honest → R ≡ a.content → IsWithOrWithout b (candidate_of request place change) fault R S
-        → (marks : List Mark) × MayBeFound false (Met fault ∷ []) marks × Does (update_one a.own request op a.content) marks (status_of fault, S) × Grows a.own a.content S
-    met fault S R at honest before was (inl without) = one_stays a request op (Met fault) (status_of fault) S (without ∙ was) refl refl
+    met : (fault : StoreFault) (S R : Content) → IsChangePlace a request change.time place → c.honest → b.honest → R ≡ a.content → IsWithOrWithout b (candidate_of request place change) fault R S
+        → (marks : List StepResult) × MayBeFound false (StoreFailed fault ∷ []) marks × Yields (update_one a.own request op a.content) marks (store_fault_status fault, S) × Grows a.own a.content S
+    met fault S R at honest before was (inl without) = one_stays a request op (StoreFailed fault) (store_fault_status fault) S (without ∙ was) refl refl
     met fault S R at honest before was (inr with) =
-        one_adds Stands (Met fault) (status_of fault) S at honest before (with.3 ∙ ap (put (candidate_of request place change)) was) (inr (refl, ap Met with.1, refl), refl) (sym (ap status_of with.1)) refl
+        one_adds Stands (StoreFailed fault) (store_fault_status fault) S at honest before (with.3 ∙ ap (put (candidate_of request place change)) was) (inr (refl, ap StoreFailed with.1, refl), refl) (sym (ap store_fault_status with.1)) refl
 
     go : (x : Result Bool LearnFault) → Learns b c (candidate_of request place change) x → Operates a c request op (told_of x (done change.asked place.live))
     go (Ok x) l = record {
-      acts = moves-behind a b c place (IsPlace a request change.time) (Fine ∷ []) (λ marks R S. Does (update_one a.own request op R) marks (done change.asked place.live, S)) p l.leaves.passes (there-behind b c None l.leaves) (λ honest at same S h.
-          one_adds Fine Fine (done change.asked place.live) S at honest (l.leaves.passes.honest honest) (added (Ok x) S l refl honest same at h).1 (found-same false (Fine ∷ [])) refl refl);
+      acts = moves-behind a b c place (IsChangePlace a request change.time) (Done ∷ []) (λ marks R S. Yields (update_one a.own request op R) marks (done change.asked place.live, S)) p l.leaves.passes (there-behind b c None l.leaves) (λ honest at same S h.
+          one_adds Done Done (done change.asked place.live) S at honest (l.leaves.passes.honest honest) (added (Ok x) S l refl honest same at h).1 (found-same false (Done ∷ [])) refl refl);
       ended = λ y. absurd (none-some _ (p.leaves.ended y));
     }
     go (Err (refused.Store fault)) l = record {
-      acts = moves-behind a b c place (IsPlace a request change.time) (Met fault ∷ []) (λ marks R S. Does (update_one a.own request op R) marks (status_of fault, S)) p l.leaves.passes (there-behind b c (Some fault) l.leaves) (λ honest at same S h.
+      acts = moves-behind a b c place (IsChangePlace a request change.time) (StoreFailed fault ∷ []) (λ marks R S. Yields (update_one a.own request op R) marks (store_fault_status fault, S)) p l.leaves.passes (there-behind b c (Some fault) l.leaves) (λ honest at same S h.
           let before = l.leaves.passes.honest honest in
           let (R, was, so) = unlearned-left b c (candidate_of request place change) (Err (refused.Store fault)) fault S l refl honest h in
-          met fault S R at honest before (left_by_query a b place (IsPlace a request change.time) R p before same was) so);
+          met fault S R at honest before (left_by_query a b place (IsChangePlace a request change.time) R p before same was) so);
       ended = λ y. absurd (none-some _ (p.leaves.ended y));
     }
     go (Err refused.Clash) l = odd _ l refl
@@ -345,11 +345,11 @@ judged_time type v time e = go (source_time v) refl e
     typed_so true t h = ok_same t time (Ok t) refl h
     typed_so false t h = absurd (err-ok _ _ _ refl h)
 
-    go : (o : Option ℤ) → source_time v ≡ o → (ok_or o BAD_INVALID_TIMESTAMP >>= λ time. if fits type v.value then Ok time else Err BAD_TYPE_MISMATCH) ≡ Ok time → pos 1 ≤ℤ ticks_of time
+    go : (o : Option ℤ) → source_time v ≡ o → (ok_or o BAD_INVALID_TIMESTAMP >>= λ time. if fits_type type v.value then Ok time else Err BAD_TYPE_MISMATCH) ≡ Ok time → pos 1 ≤ℤ ticks_of time
     go None p h = absurd (err-ok _ _ _ refl h)
-    go (Some t) p h = subst (λ u. pos 1 ≤ℤ ticks_of u) (typed_so (fits type v.value) t h) (sourced v.source_time (source_pico v) t p)
+    go (Some t) p h = subst (λ u. pos 1 ≤ℤ ticks_of u) (typed_so (fits_type type v.value) t h) (sourced v.source_time (source_pico v) t p)
 
-pub write_draft : (request : Request) (place : Place) (asked : HistoryUpdateType) (type : ValueType) (v : DataValue) (time : ℤ)
+pub write_draft : (request : Request) (place : ChangePlace) (asked : HistoryUpdateType) (type : ValueType) (v : DataValue) (time : ℤ)
     → IsRequest request → IsNumber place → is_delete asked ≡ false → IsShortData v → time_judged type v ≡ Ok time → IsDraft (candidate_of request place (writing asked v time))
 write_draft request place asked type v time lawful number write value judged = record {
   number = number;
@@ -380,24 +380,24 @@ written_timed asked type v time short judged _ = go (source_time v) refl judged
     typed_so true t h = ok_same t time (Ok t) refl h
     typed_so false t h = absurd (err-ok _ _ _ refl h)
 
-    go : (o : Option ℤ) → source_time v ≡ o → (ok_or o BAD_INVALID_TIMESTAMP >>= λ time. if fits type v.value then Ok time else Err BAD_TYPE_MISMATCH) ≡ Ok time → pico_of time ≡ source_pico v
+    go : (o : Option ℤ) → source_time v ≡ o → (ok_or o BAD_INVALID_TIMESTAMP >>= λ time. if fits_type type v.value then Ok time else Err BAD_TYPE_MISMATCH) ≡ Ok time → pico_of time ≡ source_pico v
     go None p h = absurd (err-ok _ _ _ refl h)
-    go (Some t) p h = subst (λ u. pico_of u ≡ source_pico v) (typed_so (fits type v.value) t h) (by_pico v.source_time (source_pico v) t (few_by v.source_pico short.1) p)
+    go (Some t) p h = subst (λ u. pico_of u ≡ source_pico v) (typed_so (fits_type type v.value) t h) (by_pico v.source_time (source_pico v) t (few_by v.source_pico short.1) p)
 
 pub deletion_timed : (time : ℤ) → IsTimed (deletion time)
 deletion_timed time written = absurd (true≢false written)
 
 pub written_by : (request : Request) (own : ℕ) (asked : HistoryUpdateType) (type : ValueType) (v : DataValue) (time : ℤ) → time_judged type v ≡ Ok time
-    → change_by request own (Write asked type v) ≡ sized request own (writing asked v time)
-written_by request own asked type v time e = ap (λ judged. judged >>= λ time. sized request own (writing asked v time)) e
+    → change_by request own (Write asked type v) ≡ checked_size request own (writing asked v time)
+written_by request own asked type v time e = ap (λ judged. judged >>= λ time. checked_size request own (writing asked v time)) e
 
 pub unwritten : (request : Request) (own : ℕ) (asked : HistoryUpdateType) (type : ValueType) (v : DataValue) (code : Status) → time_judged type v ≡ Err code
     → change_by request own (Write asked type v) ≡ Err code
-unwritten request own asked type v code e = ap (λ judged. judged >>= λ time. sized request own (writing asked v time)) e
+unwritten request own asked type v code e = ap (λ judged. judged >>= λ time. checked_size request own (writing asked v time)) e
 
 -- either way in which a record was settled
-pub settled : {A : Type 0} (state : A → Store) (x y z : A) (request : Request) (op : Operation) (change : Change) (place : Place) (r : Record) (result : Result Status Undone)
-    → IsRequest request → IsTimed change → change_by request (state x).own op ≡ sized request (state x).own change → Asks (state x) (state y) (Ok place) (IsPlace (state x) request change.time) → r ≡ candidate_of request place change
+pub settled : {A : Type 0} (state : A → Store) (x y z : A) (request : Request) (op : Operation) (change : Change) (place : ChangePlace) (r : Record) (result : Result Status OperationError)
+    → IsRequest request → IsTimed change → change_by request (state x).own op ≡ checked_size request (state x).own change → Asks (state x) (state y) (Ok place) (IsChangePlace (state x) request change.time) → r ≡ candidate_of request place change
     → IfSome (refusal r place) (λ code. (result ≡ Err (undone.Refused code)) × (z ≡ y))
     → IfNone (refusal r place) (Submits (state y) (state z) r (done r.asked place.live) result)
     → Operates (state x) (state z) request op result
@@ -411,6 +411,6 @@ settled state x y z request op change place r result lawful timed asked p is ref
     go None e f s =
         settled-submitted (state x) (state y) (state z) request op change place result lawful timed asked p (ap (λ w. refusal w place) (sym is) ∙ e) (subst (λ w. Submits (state y) (state z) w (done w.asked place.live) result) is s)
 
-pub deleted_by : (request : Request) (own : ℕ) (time : ℤ) → IsNodeId request.node → IsRequest request → int_lt (ticks_of time) (pos 1) ≡ false → change_by request own (DeleteAt time) ≡ sized request own (deletion time)
+pub deleted_by : (request : Request) (own : ℕ) (time : ℤ) → IsNodeId request.node → IsRequest request → int_lt (ticks_of time) (pos 1) ≡ false → change_by request own (DeleteAt time) ≡ checked_size request own (deletion time)
 deleted_by request own time spelled lawful late =
     ap (λ x. if x then Err BAD_INVALID_TIMESTAMP else Ok (deletion time)) late ∙ sym (ap (λ x. if x then Err BAD_ENCODING_LIMITS_EXCEEDED else Ok (deletion time)) (deletion_short request own time spelled lawful))

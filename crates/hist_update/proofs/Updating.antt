@@ -6,11 +6,11 @@ use Rattle.std.proofs.Math.Bool.{or-false}
 use Rattle.std.proofs.lemmas.Bool.{true≢false}
 use Rattle.ua_binary.specs.declared.codes.Status.{Status}
 use Rattle.archive.specs.declared.fault.StoreFault.{StoreFault}
-use Rattle.archive.specs.Steps.{Acts, Does}
-use Rattle.archive.specs.Store.{Store, Mark, Fine, is_break, breaks, faults_in, faults_of}
+use Rattle.archive.specs.Steps.{Refines, Yields}
+use Rattle.archive.specs.Store.{Store, StepResult, Done, is_break, breaks, faults_in, faults_of}
 use Rattle.archive.proofs.Acting.{moves-none, acts-each}
 use Rattle.hist_update.specs.declared.request.Request.{Request}
-use Rattle.hist_update.specs.declared.operate.Undone.{Undone}
+use Rattle.hist_update.specs.declared.operate.OperationError.{OperationError}
 use Rattle.hist_update.specs.Outcome.{Operation, Change, change_by}
 use Rattle.hist_update.specs.Updates.{update_one, update_all, AreEnded, needs_store}
 use Rattle.hist_update.specs.Operating.{code_told, mark_in, Operates, Operations}
@@ -23,8 +23,8 @@ any-or false [] more = refl
 any-or false (f ∷ faults) more = any-or (is_break f) faults more
 
 -- one step more
-ended-then : (broken : Bool) (steps : List Bool) (used : List Mark) (needs : Bool) (mark : Mark) → length used ≡ length steps
-    → AreEnded broken steps used → ((broken || list_any is_break (faults_of used)) ≡ true → mark ≡ Fine → needs ≡ false) → AreEnded broken (steps ++ (needs ∷ [])) (used ++ (mark ∷ []))
+ended-then : (broken : Bool) (steps : List Bool) (used : List StepResult) (needs : Bool) (mark : StepResult) → length used ≡ length steps
+    → AreEnded broken steps used → ((broken || list_any is_break (faults_of used)) ≡ true → mark ≡ Done → needs ≡ false) → AreEnded broken (steps ++ (needs ∷ [])) (used ++ (mark ∷ []))
 ended-then broken [] [] needs mark same h last = (λ e f. last (or-false broken ∙ e) f, tt)
 ended-then broken [] (m ∷ used) needs mark same h last = absurd (omega (arith, same))
 ended-then broken (s ∷ steps) [] needs mark same h last = absurd (omega (arith, same))
@@ -46,18 +46,18 @@ not_needed own request op h = go (change_by request own op) h
 pub operations-none : (a : Store) (request : Request) → Operations a a request [] []
 operations-none a request = record {
   used = [];
-  acts = moves-none a (λ marks R S. Does (update_all a.own request [] R) marks ([], S)) (λ R. record { does = λ later. refl });
+  acts = moves-none a (λ marks R S. Yields (update_all a.own request [] R) marks ([], S)) (λ R. record { does = λ later. refl });
   ended = tt;
   marks = refl;
   count = refl;
 }
 
-pub operations-more : (a b c : Store) (request : Request) (ops : List Operation) (told : List Status) (op : Operation) (result : Result Status Undone)
+pub operations-more : (a b c : Store) (request : Request) (ops : List Operation) (told : List Status) (op : Operation) (result : Result Status OperationError)
     → Operations a b request ops told → Operates b c request op result → Operations a c request (ops ++ (op ∷ [])) (told ++ (code_told result ∷ []))
 operations-more a b c request ops told op result u o =
     let mark = mark_in result in
     let own : b.own ≡ a.own = u.acts.passes.own in
-    let one : Acts b c (mark_in result ∷ []) (update_one a.own request op) (code_told result) = subst (λ n. Acts b c (mark_in result ∷ []) (update_one n request op) (code_told result)) own o.acts in
+    let one : Refines b c (mark_in result ∷ []) (update_one a.own request op) (code_told result) = subst (λ n. Refines b c (mark_in result ∷ []) (update_one n request op) (code_told result)) own o.acts in
     record {
       used = u.used ++ (mark ∷ []);
       acts = acts-each a b c u.used (mark ∷ []) (update_one a.own request) ops op told (code_told result) u.acts one;
@@ -73,7 +73,7 @@ operations-more a b c request ops told op result u o =
     mapped (x ∷ xs) = ap (λ n. suc n) (mapped xs)
 
 -- the next of a list
-pub operations-next : {X : Type 0} (a b c : Store) (request : Request) (f : X → Operation) (xs : List X) (i : ℕ) (other x : X) (result : Result Status Undone) (told more : List Status) (code : Status)
+pub operations-next : {X : Type 0} (a b c : Store) (request : Request) (f : X → Operation) (xs : List X) (i : ℕ) (other x : X) (result : Result Status OperationError) (told more : List Status) (code : Status)
     → Operations a b request (map f (take i xs)) told → Operates b c request (f x) result → i < length xs → x ≡ get_or xs i other → code ≡ code_told result → more ≡ told ++ (code ∷ [])
     → Operations a c request (map f (take (i + 1) xs)) more
 operations-next a b c request f xs i other x result told more code u o within is same grown =

@@ -11,55 +11,60 @@ use Rattle.records.specs.Spelling.{fields, longest, is_value_for}
 use Rattle.records.specs.declared.record.Record.{Record}
 use Rattle.archive.specs.declared.fault.LearnFault.{LearnFault}
 use Rattle.archive.specs.declared.fault.LearnFault.TheVariants as learn
-use Rattle.archive.specs.declared.setback.Setback.TheVariants as setback
-use Rattle.archive.specs.Fault.{code_of, mark_of}
-use Rattle.archive.specs.Steps.{Acts}
-use Rattle.archive.specs.Store.{Store, Mark, Fine, Learns}
+use Rattle.archive.specs.declared.setback.StepError.TheVariants as setback
+use Rattle.archive.specs.Fault.{step_error_status, mark_of}
+use Rattle.archive.specs.Steps.{Refines}
+use Rattle.archive.specs.Store.{Store, StepResult, Done, Learns}
 use Rattle.hist_update.specs.declared.request.Request.{Request}
-use Rattle.hist_update.specs.declared.operate.Undone.{Undone}
-use Rattle.hist_update.specs.declared.operate.Undone.TheVariants as undone
-use Rattle.hist_update.specs.declared.operate.Place.{Place}
+use Rattle.hist_update.specs.declared.operate.OperationError.{OperationError}
+use Rattle.hist_update.specs.declared.operate.OperationError.TheVariants as undone
+use Rattle.hist_update.specs.declared.operate.ChangePlace.{ChangePlace}
 use Rattle.hist_update.specs.Outcome.{Operation, DeleteAt, Change, change_by, is_live, conflict, record_by}
 use Rattle.archive.specs.Growth.{id_length}
 use Rattle.hist_update.specs.Updates.{update_one, update_all, begin, listing_refusal, delete_listed, AreEnded, needs_store, needs_of}
 
 -- ---- one operation
 
-abbrev pub of_learn : LearnFault → Undone
-of_learn (learn.Store fault) = undone.Hindered (setback.Store fault)
+abbrev pub of_learn : LearnFault → OperationError
+of_learn (learn.Store fault) = undone.Failed (setback.Store fault)
 of_learn fault = undone.Refused BAD_RESOURCE_UNAVAILABLE
 
-abbrev pub code_told : Result Status Undone → Status
+abbrev pub code_told : Result Status OperationError → Status
 code_told (Ok code) = code
 code_told (Err (undone.Refused code)) = code
-code_told (Err (undone.Hindered cause)) = code_of cause
+code_told (Err (undone.Failed cause)) = step_error_status cause
 
 -- what came in its way
-abbrev pub mark_in : Result Status Undone → Mark
-mark_in (Ok code) = Fine
-mark_in (Err (undone.Refused code)) = Fine
-mark_in (Err (undone.Hindered cause)) = mark_of cause
+abbrev pub mark_in : Result Status OperationError → StepResult
+mark_in (Ok code) = Done
+mark_in (Err (undone.Refused code)) = Done
+mark_in (Err (undone.Failed cause)) = mark_of cause
 
 -- it was done, or refused, or something came in its way
-pub record Operates (old new : Store) (request : Request) (operation : Operation) (result : Result Status Undone) : Type 0 where
-  pub acts : Acts old new (mark_in result ∷ []) (update_one old.own request operation) (code_told result)
-  pub ended : old.broken ≡ true → mark_in result ≡ Fine → IsErr (change_by request old.own operation)
+pub record Operates (old new : Store) (request : Request) (operation : Operation)
+    (result : Result Status OperationError) : Type 0 where
+  pub acts : Refines old new (mark_in result ∷ []) (update_one old.own request operation)
+      (code_told result)
+  pub ended : old.broken ≡ true → mark_in result ≡ Done
+      → IsErr (change_by request old.own operation)
 
 -- ---- how it is done
 
 -- what the archive told of the place of a change
-pub record IsPlace (old : Store) (request : Request) (time : ℤ) (place : Place) : Type 0 where
+pub record IsChangePlace (old : Store) (request : Request) (time : ℤ)
+    (place : ChangePlace) : Type 0 where
   pub live : place.live ≡ is_live old.content request.node time
   pub origin : place.origin ≡ old.own
   pub number : place.number ≡ min (vec old.content old.own + 1) greatest
   pub tick : place.tick ≡ lift request.reading (top old.content)
 
-abbrev pub IsNumber : Place → Type 0
+abbrev pub IsNumber : ChangePlace → Type 0
 IsNumber place = (1 ≤ place.number) × (place.number ≤ greatest)
 
 -- the record that is made of a change and its place, also where no tick is left
-abbrev pub candidate_of : Request → Place → Change → Record
-candidate_of request place change = record_by request place.origin place.number (unwrap_or place.tick (pos greatest)) change
+abbrev pub candidate_of : Request → ChangePlace → Change → Record
+candidate_of request place change =
+    record_by request place.origin place.number (unwrap_or place.tick (pos greatest)) change
 
 -- lawful but for its size, and for what each value of its type is
 pub record IsDraft (r : Record) : Type 0 where
@@ -82,36 +87,40 @@ refusal_by true refusal tick = Some BAD_ENCODING_LIMITS_EXCEEDED
 refusal_by false (Some code) tick = Some code
 refusal_by false None tick = no_tick tick
 
-abbrev pub refusal : Record → Place → Option Status
+abbrev pub refusal : Record → ChangePlace → Option Status
 refusal r place = refusal_by (is_long r) (conflict r.asked place.live) place.tick
 
 -- what an operation is told whose record the archive answered so
-abbrev pub told_of : Result Bool LearnFault → Status → Result Status Undone
+abbrev pub told_of : Result Bool LearnFault → Status → Result Status OperationError
 told_of (Ok added) code = Ok code
 told_of (Err fault) code = Err (of_learn fault)
 
-abbrev pub Submits : Store → Store → Record → Status → Result Status Undone → Type 0
-Submits old new r code result = (answer : Result Bool LearnFault) × Learns old new r answer × (result ≡ told_of answer code)
+abbrev pub Submits : Store → Store → Record → Status → Result Status OperationError → Type 0
+Submits old new r code result =
+    (answer : Result Bool LearnFault) × Learns old new r answer × (result ≡ told_of answer code)
 
 -- ---- several
 
 -- operations, one after the other, with a mark for each
-pub record Operations (old new : Store) (request : Request) (operations : List Operation) (codes : List Status) : Type 0 where
-  pub used : List Mark
-  pub acts : Acts old new used (update_all old.own request operations) codes
+pub record Operations (old new : Store) (request : Request) (operations : List Operation)
+    (codes : List Status) : Type 0 where
+  pub used : List StepResult
+  pub acts : Refines old new used (update_all old.own request operations) codes
   pub ended : AreEnded old.broken (map (needs_store old.own request) operations) used
   pub marks : length used ≡ length operations
   pub count : length codes ≡ length operations
 
 -- memory for the codes, and then operations
-pub record Begins (old new : Store) (request : Request) (status : List Status → Status) (operations : List Operation) (result : HistoryUpdateResult) : Type 0 where
-  pub used : List Mark
-  pub acts : Acts old new used (begin old.own request status operations) result
+pub record Begins (old new : Store) (request : Request) (status : List Status → Status)
+    (operations : List Operation) (result : HistoryUpdateResult) : Type 0 where
+  pub used : List StepResult
+  pub acts : Refines old new used (begin old.own request status operations) result
   pub ended : AreEnded old.broken (needs_of old.own request operations) used
 
 -- the same, where a listing isn't refused
-pub record BeginsListed (old new : Store) (request : Request) (times : List ℤ) (result : HistoryUpdateResult) : Type 0 where
-  pub used : List Mark
-  pub acts : Acts old new used (delete_listed old.own request times) result
+pub record BeginsListed (old new : Store) (request : Request) (times : List ℤ)
+    (result : HistoryUpdateResult) : Type 0 where
+  pub used : List StepResult
+  pub acts : Refines old new used (delete_listed old.own request times) result
   pub ended : AreEnded old.broken (needs_of old.own request (map DeleteAt times)) used
   pub none : IfSome (listing_refusal times) (λ code. used ≡ [])

@@ -6,14 +6,14 @@ ghost use Rattle.records.specs.Records.{held, current, is_delete};
 ghost use Rattle.records.specs.Spelling.{empty, IsLawfulRecord};
 ghost use Rattle.records.specs.Contents.{vec, top};
 ghost use Rattle.archive.specs.Store.{Store, Asks};
-ghost use Rattle.archive.specs.declared.setback.Setback.TheVariants as setback;
+ghost use Rattle.archive.specs.declared.setback.StepError.TheVariants as setback;
 ghost use Rattle.ua_variant.specs.DataValue.{IsShortData, IsPicoseconds};
-ghost use Rattle.hist_update.specs.Outcome.{IsRequest, Write, DeleteAt, fits, source_time, source_pico, time_judged, conflict, done, is_live, writing, record_by};
-ghost use Rattle.hist_update.specs.Operating.{Operates, IsPlace, IsNumber, candidate_of, IsDraft, is_long, refusal, Submits, code_told};
-ghost use Rattle.hist_update.specs.declared.operate.Undone.TheVariants as undone;
+ghost use Rattle.hist_update.specs.Outcome.{IsRequest, Write, DeleteAt, fits_type, source_time, source_pico, time_judged, conflict, done, is_live, writing, record_by};
+ghost use Rattle.hist_update.specs.Operating.{Operates, IsChangePlace, IsNumber, candidate_of, IsDraft, is_long, refusal, Submits, code_told};
+ghost use Rattle.hist_update.specs.declared.operate.OperationError.TheVariants as undone;
 
 use crate::request::Request;
-use archive::{Archive, LearnFault, Setback, StoreFault};
+use archive::{Archive, LearnFault, StepError, StoreFault};
 use records::{HistoryUpdateType, Moment, Record};
 use stamp::{GREATEST_NUMBER, GREATEST_TICK, ReplicaNo, lift};
 use std::alloc::{AllocError, Global};
@@ -23,59 +23,59 @@ use ua_variant::{DataValue, ValueType, Variant, same_type};
 
 /// Why an operation was not done.
 #[derive(Clone, Copy, Debug, PartialEq, Eq, Error)]
-pub(crate) enum Undone {
+pub(crate) enum OperationError {
     /// The rules refuse it.
     #[error("the operation is refused")]
     Refused(Status),
     /// Something came in its way.
     #[error("{0}")]
-    Hindered(Setback),
+    Failed(StepError),
 }
 
-impl From<AllocError> for Undone {
-    ghost from_gives = { λ cause told. told ≡ undone.Hindered setback.Starved };
+impl From<AllocError> for OperationError {
+    ghost from_gives = { λ cause told. told ≡ undone.Failed setback.OutOfMemory };
 
-    fn from(_: AllocError) -> Undone {
-        Undone::Hindered(Setback::Starved)
+    fn from(_: AllocError) -> OperationError {
+        OperationError::Failed(StepError::OutOfMemory)
     }
 }
 
-impl From<StoreFault> for Undone {
-    ghost from_gives = { λ cause told. told ≡ undone.Hindered (setback.Store cause) };
+impl From<StoreFault> for OperationError {
+    ghost from_gives = { λ cause told. told ≡ undone.Failed (setback.Store cause) };
 
-    fn from(cause: StoreFault) -> Undone {
-        Undone::Hindered(Setback::Store(cause))
+    fn from(cause: StoreFault) -> OperationError {
+        OperationError::Failed(StepError::Store(cause))
     }
 }
 
 /// A record that is made for the archive is never refused by it, so the other causes don't come.
-impl From<LearnFault> for Undone {
+impl From<LearnFault> for OperationError {
     ghost use Rattle.hist_update.specs.Operating.{of_learn};
 
     ghost from_gives = { λ cause told. told ≡ of_learn cause };
 
-    fn from(cause: LearnFault) -> Undone {
+    fn from(cause: LearnFault) -> OperationError {
         match cause {
-            LearnFault::Store(fault) => Undone::Hindered(Setback::Store(fault)),
-            _ => Undone::Refused(Status::BAD_RESOURCE_UNAVAILABLE),
+            LearnFault::Store(fault) => OperationError::Failed(StepError::Store(fault)),
+            _ => OperationError::Refused(Status::BAD_RESOURCE_UNAVAILABLE),
         }
     }
 }
 
 /// The code that an operation is answered.
-pub(crate) fn code_of(done: Result<Status, Undone>) -> Status
+pub(crate) fn code_of(done: Result<Status, OperationError>) -> Status
     ensures { result ≡ code_told done }
 {
     match done {
-        Ok(code) | Err(Undone::Refused(code)) => code,
-        Err(Undone::Hindered(cause)) => cause.status(),
+        Ok(code) | Err(OperationError::Refused(code)) => code,
+        Err(OperationError::Failed(cause)) => cause.status(),
     }
 }
 
 /// Where a change is to go: whether a value is live there, and the name and the tick of its record;
 /// no tick where none is left, and then the number is the greatest.
 #[derive(Clone, Copy)]
-struct Place {
+struct ChangePlace {
     live: bool,
     origin: ReplicaNo,
     number: u64,
@@ -93,21 +93,22 @@ fn is_write_last(story: &[Record]) -> bool
 }
 
 /// Asks the archive where a change at this moment is to go.
-fn survey<A: Archive>(
+fn read_state<A: Archive>(
     alloc: Global,
     archive: &mut A,
     request: &Request,
     time: Moment,
-) -> Result<Place, StoreFault>
+) -> Result<ChangePlace, StoreFault>
     ensures number { IfOk result IsNumber }
-    ensures asks { Asks (A.state archive.old) (A.state archive.new) result (IsPlace (A.state archive.old) request.now time) }
+    ensures asks { Asks (A.state archive.old) (A.state archive.new) result
+        (IsChangePlace (A.state archive.old) request.now time) }
 {
     let story = archive.at(alloc, &request.node, time)?;
     let live = is_write_last(&story);
     let origin = archive.number();
     let tick = lift(request.reading, archive.top()?);
     let number = archive.vector()?.get(origin) + 1;
-    Ok(Place {
+    Ok(ChangePlace {
         live,
         origin,
         number: number.min(GREATEST_NUMBER),
@@ -143,7 +144,7 @@ fn done(asked: HistoryUpdateType, live: bool) -> Status
 
 /// Whether a value fits a type. One that isn't there fits each.
 fn fits(value_type: ValueType, value: &Option<Variant>) -> bool
-    ensures { result ≡ fits value_type value.now }
+    ensures { result ≡ fits_type value_type value.now }
 {
     match value {
         Some(value) => same_type(value, value_type),
@@ -179,7 +180,7 @@ fn source_time(value: &DataValue) -> Option<Moment>
 }
 
 /// The moment of a value that may be written to a node of this type.
-fn judge(value_type: ValueType, value: &DataValue) -> Result<Moment, Status>
+fn check(value_type: ValueType, value: &DataValue) -> Result<Moment, Status>
     requires { IfSome value.now.source_pico IsPicoseconds }
     ensures { result ≡ time_judged value_type value.now }
 {
@@ -225,12 +226,15 @@ impl Request {
     /// The record of a change.
     fn record(
         &self,
-        place: &Place,
+        place: &ChangePlace,
         time: Moment,
         asked: HistoryUpdateType,
         value: DataValue,
     ) -> Result<Record, AllocError>
-        ensures { IfOk result (λ r. r ≡ candidate_of self.now place.now (record { time = time; asked = asked; value = value })) }
+        ensures { IfOk result
+            (λ r. r
+            ≡ candidate_of self.now place.now
+            (record { time = time; asked = asked; value = value })) }
     {
         let node = self.node.try_clone()?;
         let user = self.user.try_clone()?;
@@ -249,12 +253,13 @@ impl Request {
     /// The record of a write.
     fn write(
         &self,
-        place: &Place,
+        place: &ChangePlace,
         time: Moment,
         asked: HistoryUpdateType,
         value: &DataValue,
     ) -> Result<Record, AllocError>
-        ensures { IfOk result (λ r. r ≡ candidate_of self.now place.now (writing asked value.now time)) }
+        ensures { IfOk result
+            (λ r. r ≡ candidate_of self.now place.now (writing asked value.now time)) }
     {
         let value = without_time(value)?;
         self.record(place, time, asked, value)
@@ -275,7 +280,7 @@ fn is_long(candidate: &Record) -> bool
 }
 
 /// Why a change is refused at its place.
-fn refusal(candidate: &Record, place: &Place) -> Option<Status>
+fn refusal(candidate: &Record, place: &ChangePlace) -> Option<Status>
     requires { IsDraft candidate.now }
     ensures tested { result ≡ refusal candidate.now place.now }
     ensures lawful { result ≡ None → IsLawfulRecord candidate.now }
@@ -293,7 +298,11 @@ fn refusal(candidate: &Record, place: &Place) -> Option<Status>
 }
 
 /// Gives a record to the archive.
-fn submit<A: Archive>(archive: &mut A, candidate: &Record, code: Status) -> Result<Status, Undone>
+fn append<A: Archive>(
+    archive: &mut A,
+    candidate: &Record,
+    code: Status,
+) -> Result<Status, OperationError>
     requires { IsLawfulRecord candidate.now }
     ensures { Submits (A.state archive.old) (A.state archive.new) candidate.now code result }
 {
@@ -304,15 +313,22 @@ fn submit<A: Archive>(archive: &mut A, candidate: &Record, code: Status) -> Resu
 }
 
 /// Gives a record to the archive, where nothing speaks against it.
-fn settle<A: Archive>(archive: &mut A, candidate: &Record, place: &Place) -> Result<Status, Undone>
+fn apply<A: Archive>(
+    archive: &mut A,
+    candidate: &Record,
+    place: &ChangePlace,
+) -> Result<Status, OperationError>
     requires { IsDraft candidate.now }
-    ensures refused { IfSome (refusal candidate.now place.now) (λ code. (result ≡ Err (undone.Refused code)) × (archive.new ≡ archive.old)) }
-    ensures submitted { IfNone (refusal candidate.now place.now) (Submits (A.state archive.old) (A.state archive.new) candidate.now (done candidate.now.asked place.now.live) result) }
+    ensures refused { IfSome (refusal candidate.now place.now)
+        (λ code. (result ≡ Err (undone.Refused code)) × (archive.new ≡ archive.old)) }
+    ensures submitted { IfNone (refusal candidate.now place.now)
+        (Submits (A.state archive.old) (A.state archive.new) candidate.now
+        (done candidate.now.asked place.now.live) result) }
 {
     if let Some(code) = refusal(candidate, place) {
-        return Err(Undone::Refused(code));
+        return Err(OperationError::Refused(code));
     }
-    submit(archive, candidate, done(candidate.asked, place.live))
+    append(archive, candidate, done(candidate.asked, place.live))
 }
 
 /// Writes one value.
@@ -323,19 +339,20 @@ pub(crate) fn write<A: Archive>(
     value_type: ValueType,
     asked: HistoryUpdateType,
     value: &DataValue,
-) -> Result<Status, Undone>
+) -> Result<Status, OperationError>
     requires request { IsRequest request.now }
     requires asked { is_delete asked ≡ false }
     requires value { IsShortData value.now }
-    ensures { Operates (A.state archive.old) (A.state archive.new) request.now (Write asked value_type value.now) result }
+    ensures { Operates (A.state archive.old) (A.state archive.new) request.now
+        (Write asked value_type value.now) result }
 {
-    let time = match judge(value_type, value) {
+    let time = match check(value_type, value) {
         Ok(time) => time,
-        Err(code) => return Err(Undone::Refused(code)),
+        Err(code) => return Err(OperationError::Refused(code)),
     };
-    let place = survey(alloc, archive, request, time)?;
+    let place = read_state(alloc, archive, request, time)?;
     let candidate = request.write(&place, time, asked, value)?;
-    settle(archive, &candidate, &place)
+    apply(archive, &candidate, &place)
 }
 
 /// Deletes what is live at one moment.
@@ -344,15 +361,16 @@ pub(crate) fn delete<A: Archive>(
     archive: &mut A,
     request: &Request,
     time: Moment,
-) -> Result<Status, Undone>
+) -> Result<Status, OperationError>
     requires { IsRequest request.now }
-    ensures { Operates (A.state archive.old) (A.state archive.new) request.now (DeleteAt time) result }
+    ensures { Operates (A.state archive.old) (A.state archive.new) request.now
+        (DeleteAt time) result }
 {
     if time.ticks() < 1 {
-        return Err(Undone::Refused(Status::BAD_INVALID_TIMESTAMP));
+        return Err(OperationError::Refused(Status::BAD_INVALID_TIMESTAMP));
     }
     let _node = request.node.as_ref();
-    let place = survey(alloc, archive, request, time)?;
+    let place = read_state(alloc, archive, request, time)?;
     let candidate = request.record(&place, time, HistoryUpdateType::Delete, empty_value())?;
-    settle(archive, &candidate, &place)
+    apply(archive, &candidate, &place)
 }

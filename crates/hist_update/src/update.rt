@@ -10,16 +10,16 @@ ghost use Rattle.records.specs.Moments.{moment};
 ghost use Rattle.records.specs.Records.{is_delete};
 ghost use Rattle.archive.specs.Reading.{range_of};
 ghost use Rattle.archive.specs.declared.reading.Direction.TheVariants as direction;
-ghost use Rattle.archive.specs.Steps.{Acts};
-ghost use Rattle.archive.specs.Store.{Mark, Asks, IsLeft};
+ghost use Rattle.archive.specs.Steps.{Refines};
+ghost use Rattle.archive.specs.Store.{StepResult, Asks, IsLeft};
 ghost use Rattle.hist_update.specs.Codes.{asked_by, list_refusal, first_other};
 ghost use Rattle.hist_update.specs.Outcome.{IsRequest, Write, DeleteAt};
 ghost use Rattle.hist_update.specs.Operating.{Operations, Begins, BeginsListed};
-ghost use Rattle.hist_update.specs.Updates.{update_data, delete_at, delete_raw, refused, data_refusal, writes, deletes_at, last_of, stretch_refusal, listing_refusal, AreEnded, needs_of, needs_of_stretch};
+ghost use Rattle.hist_update.specs.Updates.{update_data, delete_at, delete_raw, refused_update, data_refusal, writes, deletes_at, last_of, stretch_refusal, listing_refusal, AreEnded, needs_of, needs_of_stretch};
 
 use crate::operate::{code_of, delete, write};
 use crate::request::Request;
-use archive::{Archive, Direction, Setback, StoreFault};
+use archive::{Archive, Direction, StepError, StoreFault};
 use records::{Held, HistoryUpdateType, Moment};
 use std::alloc::Global;
 use ua_binary::{Listing, NodeId, Status, Ticks};
@@ -31,7 +31,7 @@ const MOST: usize = 1000;
 
 /// An update that is refused as a whole; it takes no memory.
 fn refused(alloc: Global, status: Status) -> HistoryUpdateResult
-    ensures { result ≡ refused status }
+    ensures { result ≡ refused_update status }
 {
     HistoryUpdateResult {
         status,
@@ -79,7 +79,8 @@ fn write_each<A: Archive>(
     requires values { AllByRecursion IsShortData values.now }
     requires codes { codes.old.items ≡ [] }
     requires room { length values.now ≤ vec_capacity codes.old }
-    ensures { Operations (A.state archive.old) (A.state archive.new) request.now (map (Write asked value_type) values.now) codes.new.items }
+    ensures { Operations (A.state archive.old) (A.state archive.new) request.now
+        (map (Write asked value_type) values.now) codes.new.items }
 {
     for value in values {
         let done = write(alloc, archive, request, value_type, asked, value);
@@ -100,7 +101,8 @@ fn write_all<A: Archive>(
     requires asked { is_delete asked ≡ false }
     requires values { AllByRecursion IsShortData values.now }
     requires few { length values.now ≤ 1000 }
-    ensures begins { Begins (A.state archive.old) (A.state archive.new) request.now (λ codes. GOOD) (map (Write asked value_type) values.now) result }
+    ensures begins { Begins (A.state archive.old) (A.state archive.new) request.now (λ codes. GOOD)
+        (map (Write asked value_type) values.now) result }
     ensures short { IsShortUpdate result }
 {
     let Ok(mut codes) = Vec::with_capacity(alloc, values.len()) else {
@@ -139,9 +141,14 @@ pub fn update_data<A: Archive>(
 ) -> HistoryUpdateResult
     requires request { IsRequest request.now }
     requires values { AllByRecursion IsShortData values.now }
-    ensures acts { (used : List Mark) × Acts (A.state archive.old) (A.state archive.new) used (update_data (A.state archive.old).own request.now value_type perform values.now) result
-        × AreEnded (A.state archive.old).broken (needs_of (A.state archive.old).own request.now (writes (asked_by perform) value_type values.now)) used }
-    ensures refused { IfSome (data_refusal (asked_by perform) (length values.now)) (λ code. (result ≡ refused code) × (archive.new ≡ archive.old)) }
+    ensures acts { (used : List StepResult)
+        × Refines (A.state archive.old) (A.state archive.new) used
+        (update_data (A.state archive.old).own request.now value_type perform values.now) result
+        × AreEnded (A.state archive.old).broken
+        (needs_of (A.state archive.old).own request.now
+        (writes (asked_by perform) value_type values.now)) used }
+    ensures refused { IfSome (data_refusal (asked_by perform) (length values.now))
+        (λ code. (result ≡ refused_update code) × (archive.new ≡ archive.old)) }
     ensures short { IsShortUpdate result }
 {
     let Some(asked) = asked_by(perform) else {
@@ -170,7 +177,8 @@ fn delete_each<A: Archive>(
     requires request { IsRequest request.now }
     requires codes { codes.old.items ≡ [] }
     requires room { length times.now ≤ vec_capacity codes.old }
-    ensures { Operations (A.state archive.old) (A.state archive.new) request.now (deletes_at times.now) codes.new.items }
+    ensures { Operations (A.state archive.old) (A.state archive.new) request.now
+        (deletes_at times.now) codes.new.items }
 {
     for time in times {
         let done = delete(alloc, archive, request, moment_of(*time));
@@ -187,7 +195,8 @@ fn delete_all<A: Archive>(
 ) -> HistoryUpdateResult
     requires request { IsRequest request.now }
     requires few { length times.now ≤ 1000 }
-    ensures begins { Begins (A.state archive.old) (A.state archive.new) request.now (λ codes. GOOD) (deletes_at times.now) result }
+    ensures begins { Begins (A.state archive.old) (A.state archive.new) request.now (λ codes. GOOD)
+        (deletes_at times.now) result }
     ensures short { IsShortUpdate result }
 {
     let Ok(mut codes) = Vec::with_capacity(alloc, times.len()) else {
@@ -215,9 +224,13 @@ pub fn delete_at<A: Archive>(
     times: &[Ticks],
 ) -> HistoryUpdateResult
     requires { IsRequest request.now }
-    ensures acts { (used : List Mark) × Acts (A.state archive.old) (A.state archive.new) used (delete_at (A.state archive.old).own request.now times.now) result
-        × AreEnded (A.state archive.old).broken (needs_of (A.state archive.old).own request.now (deletes_at times.now)) used }
-    ensures refused { IfSome (list_refusal 1000 (length times.now)) (λ code. (result ≡ refused code) × (archive.new ≡ archive.old)) }
+    ensures acts { (used : List StepResult)
+        × Refines (A.state archive.old) (A.state archive.new) used
+        (delete_at (A.state archive.old).own request.now times.now) result
+        × AreEnded (A.state archive.old).broken
+        (needs_of (A.state archive.old).own request.now (deletes_at times.now)) used }
+    ensures refused { IfSome (list_refusal 1000 (length times.now))
+        (λ code. (result ≡ refused_update code) × (archive.new ≡ archive.old)) }
     ensures short { IsShortUpdate result }
 {
     if let Some(status) = count_refusal(times.len()) {
@@ -248,7 +261,8 @@ fn delete_each_live<A: Archive>(
     requires request { IsRequest request.now }
     requires codes { codes.old.items ≡ [] }
     requires room { length lives.now ≤ vec_capacity codes.old }
-    ensures { Operations (A.state archive.old) (A.state archive.new) request.now (map (λ h. DeleteAt h.time) lives.now) codes.new.items }
+    ensures { Operations (A.state archive.old) (A.state archive.new) request.now
+        (map (λ h. DeleteAt h.time) lives.now) codes.new.items }
 {
     for held in lives {
         let done = delete(alloc, archive, request, held.time);
@@ -265,7 +279,8 @@ fn delete_lives<A: Archive>(
 ) -> HistoryUpdateResult
     requires request { IsRequest request.now }
     requires few { length lives.now ≤ 1000 }
-    ensures begins { Begins (A.state archive.old) (A.state archive.new) request.now first_other (map (λ h. DeleteAt h.time) lives.now) result }
+    ensures begins { Begins (A.state archive.old) (A.state archive.new) request.now first_other
+        (map (λ h. DeleteAt h.time) lives.now) result }
     ensures short { IsShortUpdate result }
 {
     let Ok(mut codes) = Vec::with_capacity(alloc, lives.len()) else {
@@ -300,7 +315,8 @@ fn delete_listed<A: Archive>(
     lives: &[Held],
 ) -> HistoryUpdateResult
     requires { IsRequest request.now }
-    ensures begins { BeginsListed (A.state archive.old) (A.state archive.new) request.now (map (λ h. h.time) lives.now) result }
+    ensures begins { BeginsListed (A.state archive.old) (A.state archive.new) request.now
+        (map (λ h. h.time) lives.now) result }
     ensures short { IsShortUpdate result }
 {
     if let Some(status) = listing_refusal(lives) {
@@ -342,7 +358,9 @@ fn list_lives<A: Archive>(
     from: Moment,
     to: Moment,
 ) -> Result<Vec<Held>, StoreFault>
-    ensures { Asks (A.state archive.old) (A.state archive.new) result (λ v. v.items ≡ take 1001 (range_of (A.state archive.old).content node.now from to direction.Forward)) }
+    ensures { Asks (A.state archive.old) (A.state archive.new) result
+        (λ v. v.items
+        ≡ take 1001 (range_of (A.state archive.old).content node.now from to direction.Forward)) }
 {
     let all = archive.vector()?;
     archive.range(alloc, node, from, to, Direction::Forward, MOST + 1, &all)
@@ -368,9 +386,14 @@ pub fn delete_raw<A: Archive>(
     end: Ticks,
 ) -> HistoryUpdateResult
     requires { IsRequest request.now }
-    ensures acts { (used : List Mark) × Acts (A.state archive.old) (A.state archive.new) used (delete_raw (A.state archive.old).own request.now modified start end) result
-        × ((A.state archive.new).honest → (R : Content) → IsLeft (A.state archive.old) R → AreEnded (A.state archive.old).broken (needs_of_stretch (A.state archive.old).own request.now start end R) used) }
-    ensures refused { IfSome (stretch_refusal modified start.0 end.0) (λ code. (result ≡ refused code) × (archive.new ≡ archive.old)) }
+    ensures acts { (used : List StepResult)
+        × Refines (A.state archive.old) (A.state archive.new) used
+        (delete_raw (A.state archive.old).own request.now modified start end) result
+        × ((A.state archive.new).honest → (R : Content) → IsLeft (A.state archive.old) R
+        → AreEnded (A.state archive.old).broken
+        (needs_of_stretch (A.state archive.old).own request.now start end R) used) }
+    ensures refused { IfSome (stretch_refusal modified start.0 end.0)
+        (λ code. (result ≡ refused_update code) × (archive.new ≡ archive.old)) }
     ensures short { IsShortUpdate result }
 {
     if let Some(status) = stretch_refusal(modified, start, end) {
@@ -379,6 +402,6 @@ pub fn delete_raw<A: Archive>(
     let last = last_of(start, end);
     match list_lives(alloc, archive, &request.node, moment_of(start), last) {
         Ok(lives) => delete_listed(alloc, archive, request, &lives),
-        Err(fault) => refused(alloc, Setback::Store(fault).status()),
+        Err(fault) => refused(alloc, StepError::Store(fault).status()),
     }
 }

@@ -33,37 +33,53 @@ Response = Result Answer Status
 
 -- the type id of the structure that carries it
 abbrev pub type_of : Answer → ℕ
-type_of answer = elim answer [ Endpoints _ ↦ 431 | Created _ ↦ 464 | Activated ↦ 470 | Closed ↦ 476 | Browsed _ ↦ 530 | Values _ ↦ 634 | Updated _ ↦ 703 | Histories _ ↦ 667 ]
+type_of answer =
+    elim answer [
+      | Endpoints _ ↦ 431
+      | Created _ ↦ 464
+      | Activated ↦ 470
+      | Closed ↦ 476
+      | Browsed _ ↦ 530
+      | Values _ ↦ 634
+      | Updated _ ↦ 703
+      | Histories _ ↦ 667
+    ]
 
 -- what that has behind its header
-abbrev pub body_of : Answer → List ℕ
-body_of (Endpoints endpoints) = get_endpoints_response.canon endpoints
-body_of (Created made) = create_session_response.canon made
-body_of Activated = activate_session_response.canon tt
-body_of Closed = []
-body_of (Browsed results) = browse_response.canon (map browsed_fields results)
-body_of (Values values) = read_response.canon values
-body_of (Updated results) = history_update_response.canon (map update_fields results)
-body_of (Histories results) = history_read_response.canon (map history_fields results)
+abbrev pub response_body_of : Answer → List ℕ
+response_body_of (Endpoints endpoints) = get_endpoints_response.canon endpoints
+response_body_of (Created made) = create_session_response.canon made
+response_body_of Activated = activate_session_response.canon tt
+response_body_of Closed = []
+response_body_of (Browsed results) = browse_response.canon (map browsed_fields results)
+response_body_of (Values values) = read_response.canon values
+response_body_of (Updated results) = history_update_response.canon (map update_fields results)
+response_body_of (Histories results) = history_read_response.canon (map history_fields results)
 
 -- that has a spelling, so it is read again
-abbrev pub IsSpelled : Answer → Type 0
-IsSpelled (Endpoints endpoints) = get_endpoints_response.Fits endpoints
-IsSpelled (Created made) = create_session_response.Fits made
-IsSpelled Activated = activate_session_response.Fits tt
-IsSpelled Closed = Unit {0}
-IsSpelled (Browsed results) = browse_response.Fits (map browsed_fields results)
-IsSpelled (Values values) = read_response.Fits values
-IsSpelled (Updated results) = history_update_response.Fits (map update_fields results)
-IsSpelled (Histories results) = history_read_response.Fits (map history_fields results)
+abbrev pub HasEncoding : Answer → Type 0
+HasEncoding (Endpoints endpoints) = get_endpoints_response.Fits endpoints
+HasEncoding (Created made) = create_session_response.Fits made
+HasEncoding Activated = activate_session_response.Fits tt
+HasEncoding Closed = Unit {0}
+HasEncoding (Browsed results) = browse_response.Fits (map browsed_fields results)
+HasEncoding (Values values) = read_response.Fits values
+HasEncoding (Updated results) = history_update_response.Fits (map update_fields results)
+HasEncoding (Histories results) = history_read_response.Fits (map history_fields results)
 
 -- what each response begins with: a type id, the moment, the request's handle, a status
 abbrev pub head : ℕ → Ticks → ℕ → Status → List ℕ
-head type now handle status = node_id.canon (Numeric 0 type) ++ response_header.canon (now, (handle, status))
+head type now handle status =
+    node_id.canon (Numeric 0 type) ++ response_header.canon (now, (handle, status))
 
 -- a refusal is told by a ServiceFault, which is the head alone
 abbrev pub service_fault : Ticks → ℕ → Status → List ℕ
 service_fault now handle status = head 397 now handle status
 
+-- the response to a request of this handle: what a service answers, or a ServiceFault
 abbrev pub response : Ticks → ℕ → Response → List ℕ
-response now handle v = elim v [ Ok answer ↦ head (type_of answer) now handle GOOD ++ body_of answer | Err status ↦ service_fault now handle status ]
+response now handle v =
+    elim v [
+      | Ok answer ↦ head (type_of answer) now handle GOOD ++ response_body_of answer
+      | Err status ↦ service_fault now handle status
+    ]

@@ -11,8 +11,14 @@ use Rattle.historian.specs.Answers.{Response, Browsed}
 
 -- a node is browsed by its own description
 abbrev pub browse_node : Layout → BrowseFields → BrowseResult
-browse_node space d = elim (browse_at space d) [ Ok references ↦ record { status = GOOD; references = references } | Err status ↦ record { status = status; references = [] } ]
+browse_node space d =
+    elim (browse_at space d) [
+      | Ok references ↦ record { status = GOOD; references = references }
+      | Err status ↦ record { status = status; references = [] }
+    ]
 
 -- 1,000 nodes at most
 abbrev pub browse : Layout → List BrowseFields → Response
-browse space nodes = option_map_or (λ status. Err status) (list_refusal 1000 (length nodes)) (Ok (Browsed (map (browse_node space) nodes)))
+browse space nodes =
+    option_map_or (λ status. Err status) (list_refusal 1000 (length nodes))
+    (Ok (Browsed (map (browse_node space) nodes)))

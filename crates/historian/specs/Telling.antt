@@ -7,22 +7,22 @@ use Rattle.ua_services.specs.Sessions.{session_made, IsShortSession}
 use Rattle.ua_services.specs.Browsing.{AreShortBrowsed}
 use Rattle.ua_services.specs.Updates.{AreShortUpdates}
 use Rattle.ua_services.specs.History.{AreShortHistoryReads}
-use Rattle.ua_session.specs.Sessions.{State}
+use Rattle.ua_session.specs.Sessions.{SessionsState}
 use Rattle.ua_binary.specs.declared.values.NodeId.{NodeId}
 use Rattle.records.specs.Contents.{Content}
-use Rattle.archive.specs.Store.{Store, Mark, faults_of}
-use Rattle.archive.specs.Steps.{Marked, Does, Acts}
+use Rattle.archive.specs.Store.{Store, StepResult, faults_of}
+use Rattle.archive.specs.Steps.{Fallible, Yields, Refines}
 use Rattle.ua_binary.specs.declared.values.NodeIdRef.{NodeIdRef}
 use Rattle.ua_binary.specs.declared.values.Ticks.{Ticks}
 use Rattle.ua_binary.specs.Binary.{node_of}
 use Rattle.historian.specs.declared.service.Service.{Service}
-use Rattle.historian.specs.declared.service.Request.{Request as Opened}
+use Rattle.historian.specs.declared.service.ServiceRequest.{ServiceRequest as Opened}
 use Rattle.historian.specs.declared.answer.Answer.{Answer as Made}
 use Rattle.historian.specs.declared.answer.Answer.TheVariants as made
-use Rattle.historian.specs.Answers.{Answer, Endpoints, Created, Activated, Closed, Browsed, Updated, Histories, Response, IsSpelled, response}
+use Rattle.historian.specs.Answers.{Answer, Endpoints, Created, Activated, Closed, Browsed, Updated, Histories, Response, HasEncoding, response}
 use Rattle.historian.specs.Requests.{Call, call_in, Request}
 use Rattle.historian.specs.Reading.{Served}
-use Rattle.historian.specs.Services.{Outcome}
+use Rattle.historian.specs.Services.{MessageOutcome}
 
 -- what a message asks whose type id and header were read
 abbrev pub asked_of : Result Opened Status → Result Request Status
@@ -31,7 +31,8 @@ asked_of (Err status) = Err status
 
 -- with a header that was read
 abbrev pub request_with : Option Service → NodeIdRef → List ℕ → Result Opened Status
-request_with (Some service) token body = Ok (record { service = service; token = token; body = body })
+request_with (Some service) token body =
+    Ok (record { service = service; token = token; body = body })
 request_with None token body = Err BAD_SERVICE_UNSUPPORTED
 
 -- and without
@@ -42,54 +43,70 @@ refusal_of None = BAD_SERVICE_UNSUPPORTED
 -- a request was read, or none fills the bytes, or memory was wanting
 abbrev pub Asks : {T : Type 0} → Service → (T → Call) → List ℕ → Result T Status → Type 0
 Asks service call bytes (Ok request) = call_in service bytes ≡ Some (call request)
-Asks service call bytes (Err status) = ((status ≡ BAD_DECODING_ERROR) × (call_in service bytes ≡ None)) ⊎ (status ≡ BAD_OUT_OF_MEMORY)
+Asks service call bytes (Err status) =
+    ((status ≡ BAD_DECODING_ERROR) × (call_in service bytes ≡ None)) ⊎ (status ≡ BAD_OUT_OF_MEMORY)
 
 -- an answer of the code as one of the services
-abbrev pub answer_of : Made → Answer
-answer_of (made.Endpoints endpoints) = Endpoints (map endpoint_fields endpoints.items)
-answer_of (made.Created session) = Created (session_made session)
-answer_of made.Activated = Activated
-answer_of made.Closed = Closed
-answer_of (made.Browsed results) = Browsed results.items
-answer_of (made.Updated results) = Updated results.items
-answer_of (made.Histories results) = Histories results.items
+abbrev pub service_answer : Made → Answer
+service_answer (made.Endpoints endpoints) = Endpoints (map endpoint_fields endpoints.items)
+service_answer (made.Created session) = Created (session_made session)
+service_answer made.Activated = Activated
+service_answer made.Closed = Closed
+service_answer (made.Browsed results) = Browsed results.items
+service_answer (made.Updated results) = Updated results.items
+service_answer (made.Histories results) = Histories results.items
 
 -- it can be written
-abbrev pub IsShort : Made → Type 0
-IsShort (made.Endpoints endpoints) = AreShortEndpoints endpoints.items
-IsShort (made.Created session) = IsShortSession session
-IsShort made.Activated = Unit {0}
-IsShort made.Closed = Unit {0}
-IsShort (made.Browsed results) = AreShortBrowsed results.items
-IsShort (made.Updated results) = AreShortUpdates results.items
-IsShort (made.Histories results) = AreShortHistoryReads results.items
+abbrev pub IsEncodable : Made → Type 0
+IsEncodable (made.Endpoints endpoints) = AreShortEndpoints endpoints.items
+IsEncodable (made.Created session) = IsShortSession session
+IsEncodable made.Activated = Unit {0}
+IsEncodable made.Closed = Unit {0}
+IsEncodable (made.Browsed results) = AreShortBrowsed results.items
+IsEncodable (made.Updated results) = AreShortUpdates results.items
+IsEncodable (made.Histories results) = AreShortHistoryReads results.items
 
 -- the answer was made; or it is told why there is none, or that memory was wanting
-abbrev pub Tells : Response → Result Made Status → Type 0
-Tells told (Ok answer) = told ≡ Ok (answer_of answer)
-Tells told (Err status) = (told ≡ Err status) ⊎ (status ≡ BAD_OUT_OF_MEMORY)
+abbrev pub ReportsAnswer : Response → Result Made Status → Type 0
+ReportsAnswer told (Ok answer) = told ≡ Ok (service_answer answer)
+ReportsAnswer told (Err status) = (told ≡ Err status) ⊎ (status ≡ BAD_OUT_OF_MEMORY)
 
 -- what a service of an archive comes to over what is held is told
 abbrev pub Comes : Store → Store → (Content → Served) → Result Made Status → Type 0
-Comes old new service result = (used : List Mark) × (told : Response) × Acts old new used service told × Tells told result
+Comes old new service result =
+    (used : List StepResult) × (told : Response) × Refines old new used service told
+    × ReportsAnswer told result
 
 -- a service was performed over an archive, and what it came to is told
-abbrev pub Performs : Store → Store → (Content → Marked Outcome) → State → Result Made Status → Type 0
-Performs old new service sessions result = (used : List Mark) × (told : Response) × Acts old new used service (told, sessions) × Tells told result
+abbrev pub Performs : Store → Store → (Content → Fallible MessageOutcome) → SessionsState
+    → Result Made Status → Type 0
+Performs old new service sessions result =
+    (used : List StepResult) × (told : Response) × Refines old new used service (told, sessions)
+    × ReportsAnswer told result
 
 -- the same of a service that asks no archive
-abbrev pub PerformsHere : (Content → Marked Outcome) → State → Result Made Status → Type 0
-PerformsHere service sessions result = (used : List Mark) × (told : Response) × (faults_of used ≡ []) × ((R : Content) → Does (service R) used ((told, sessions), R)) × Tells told result
+abbrev pub PerformsHere : (Content → Fallible MessageOutcome) → SessionsState → Result Made Status
+    → Type 0
+PerformsHere service sessions result =
+    (used : List StepResult) × (told : Response) × (faults_of used ≡ [])
+    × ((R : Content) → Yields (service R) used ((told, sessions), R)) × ReportsAnswer told result
 
--- the response is written, and has a spelling; or it is told why there is none, or that memory was wanting
+-- the response is written, and has a spelling; or it is told why there is none, or that memory was
+-- wanting
 abbrev pub Written : Ticks → ℕ → Response → Result (Unit {0}) Status → List ℕ → Type 0
-Written now handle told (Ok _) bytes = (bytes ≡ response now handle told) × IfOk told IsSpelled
+Written now handle told (Ok _) bytes = (bytes ≡ response now handle told) × IfOk told HasEncoding
 Written now handle told (Err status) bytes = (told ≡ Err status) ⊎ (status ≡ BAD_OUT_OF_MEMORY)
 
 -- the same of what a service of an archive comes to over what is held
-abbrev pub ComesWritten : Store → Store → (Content → Served) → Ticks → ℕ → Result (Unit {0}) Status → List ℕ → Type 0
-ComesWritten old new service now handle result bytes = (used : List Mark) × (told : Response) × Acts old new used service told × Written now handle told result bytes
+abbrev pub ComesWritten : Store → Store → (Content → Served) → Ticks → ℕ → Result (Unit {0}) Status
+    → List ℕ → Type 0
+ComesWritten old new service now handle result bytes =
+    (used : List StepResult) × (told : Response) × Refines old new used service told
+    × Written now handle told result bytes
 
 -- and of a service that was performed over an archive
-abbrev pub Responds : Store → Store → (Content → Marked Outcome) → State → Ticks → ℕ → Result (Unit {0}) Status → List ℕ → Type 0
-Responds old new service sessions now handle result bytes = (used : List Mark) × (told : Response) × Acts old new used service (told, sessions) × Written now handle told result bytes
+abbrev pub Responds : Store → Store → (Content → Fallible MessageOutcome) → SessionsState → Ticks
+    → ℕ → Result (Unit {0}) Status → List ℕ → Type 0
+Responds old new service sessions now handle result bytes =
+    (used : List StepResult) × (told : Response) × Refines old new used service (told, sessions)
+    × Written now handle told result bytes

@@ -11,39 +11,57 @@ use Rattle.ua_services.specs.Updates.{Details, UpdateData, DeleteRawModified, De
 use Rattle.ua_space.specs.declared.layout.Layout.{Layout}
 use Rattle.ua_space.specs.Space.{node_at, OfVariable}
 use Rattle.records.specs.Contents.{Content}
-use Rattle.archive.specs.Steps.{Marked, give, memory}
+use Rattle.archive.specs.Steps.{Fallible, give, memory}
 use Rattle.hist_update.specs.declared.request.Request.{Request}
-use Rattle.hist_update.specs.Updates.{Updated, refused, past, update_data, delete_raw, delete_at}
+use Rattle.hist_update.specs.Updates.{Updated, refused_update, past, update_data, delete_raw, delete_at}
 use Rattle.historian.specs.Answers.{Updated as AllUpdated}
 use Rattle.hist_update.specs.Codes.{list_refusal}
-use Rattle.historian.specs.Reading.{Served, unless, items}
+use Rattle.historian.specs.Reading.{Served, unless_refused, answer_items}
 
 -- the node of which details ask an update; none for details of another type
 abbrev pub node_asked : Details → Option NodeId
-node_asked details = elim details [ UpdateData d ↦ Some d.0 | DeleteRawModified d ↦ Some d.0 | DeleteAtTime d ↦ Some d.0 | Other ↦ None ]
+node_asked details =
+    elim details [
+      | UpdateData d ↦ Some d.0
+      | DeleteRawModified d ↦ Some d.0
+      | DeleteAtTime d ↦ Some d.0
+      | Other ↦ None
+    ]
 
 -- the type of the archived variable of which they ask it, or why it is refused
 abbrev pub type_asked : Layout → Option NodeId → Result ValueType Status
 type_asked space asked =
     ok_or asked BAD_HISTORY_OPERATION_UNSUPPORTED >>= λ id.
     ok_or (node_at space id) BAD_NODE_ID_UNKNOWN >>= λ node.
-    ok_or (elim node [ OfVariable variable ↦ Some variable.value_type | _ ↦ None ]) BAD_HISTORY_OPERATION_UNSUPPORTED
+    ok_or
+    (elim node [
+      | OfVariable variable ↦ Some variable.value_type
+      | _ ↦ None
+    ]) BAD_HISTORY_OPERATION_UNSUPPORTED
 
 -- the update of a variable of this type
-abbrev pub update_of : ℕ → (NodeId → Request) → ValueType → Details → Content → Marked Updated
-update_of own request type (UpdateData d) R = update_data own (request d.0) type d.1.0 d.1.1 R
-update_of own request type (DeleteRawModified d) R = delete_raw own (request d.0) d.1.0 d.1.1.0 d.1.1.1 R
-update_of own request type (DeleteAtTime d) R = delete_at own (request d.0) d.1 R
-update_of own request type Other R = give (refused BAD_HISTORY_OPERATION_UNSUPPORTED, R)
+abbrev pub update_of : ℕ → (NodeId → Request) → ValueType → Details → Content → Fallible Updated
+update_of own request type (UpdateData (node, (perform, values))) R =
+    update_data own (request node) type perform values R
+update_of own request type (DeleteRawModified (node, (modified, (start, finish)))) R =
+    delete_raw own (request node) modified start finish R
+update_of own request type (DeleteAtTime (node, times)) R = delete_at own (request node) times R
+update_of own request type Other R = give (refused_update BAD_HISTORY_OPERATION_UNSUPPORTED, R)
 
 -- this user asks at this moment for an update of a node
 abbrev pub asked_for : List ℕ → Ticks → NodeId → Request
 asked_for user now node = record { node = node; user = user; reading = now.0 }
 
-abbrev pub update_item : ℕ → Layout → List ℕ → Ticks → Details → Content → Marked Updated
+-- one of the updates of a HistoryUpdate: refused for its node, or an update of that node's history
+abbrev pub update_item : ℕ → Layout → List ℕ → Ticks → Details → Content → Fallible Updated
 update_item own space user now details R =
-    elim (type_asked space (node_asked details)) [ Err status ↦ give (refused status, R) | Ok type ↦ past memory R (update_of own (asked_for user now) type details R) ]
+    elim (type_asked space (node_asked details)) [
+      | Err status ↦ give (refused_update status, R)
+      | Ok type ↦ past memory R (update_of own (asked_for user now) type details R)
+    ]
 
 -- 100 details at most
 abbrev pub update_history : ℕ → Layout → List ℕ → Ticks → List Details → Content → Served
-update_history own space user now details R = unless (list_refusal 100 (length details)) R (items AllUpdated (update_item own space user now) details R)
+update_history own space user now details R =
+    unless_refused (list_refusal 100 (length details)) R
+    (answer_items AllUpdated (update_item own space user now) details R)

@@ -1,8 +1,8 @@
 //! What the services answer, and the responses that tell it (Part 4, 7.34).
 
 ghost use Rattle.std.specs.Prelude.{◌≡◌, ◌++◌, Ok, OnOk, IfOk, IfErr};
-ghost use Rattle.historian.specs.Answers.{type_of, body_of, IsSpelled, response};
-ghost use Rattle.historian.specs.Telling.{answer_of, IsShort};
+ghost use Rattle.historian.specs.Answers.{type_of, response_body_of, HasEncoding, response};
+ghost use Rattle.historian.specs.Telling.{service_answer, IsEncodable};
 
 use crate::responses::put_head;
 use ua_binary::{BinaryFault, Status, Ticks};
@@ -28,7 +28,7 @@ pub(crate) enum Answer {
 impl Answer {
     /// The type id of the structure that carries it.
     fn type_id(&self) -> u32
-        ensures { result ≡ type_of (answer_of self.now) }
+        ensures { result ≡ type_of (service_answer self.now) }
     {
         match self {
             Answer::Endpoints(_) => 431,
@@ -44,9 +44,10 @@ impl Answer {
     /// Appends what the response has behind its header, which has a spelling. The one error is `OutOfMemory`.
     #[tactic(auto, unfolding(ua_services::specs::Endpoints::get_endpoints_response, ua_services::specs::Sessions::create_session_response, ua_services::specs::Sessions::activate_session_response, ua_services::specs::Browsing::browse_response, ua_services::specs::Updates::history_update_response, ua_services::specs::History::history_read_response))]
     fn put_body(&self, out: &mut Vec<u8>) -> Result<(), BinaryFault>
-        requires { IsShort self.now }
-        ensures ok { OnOk result (out.new.items ≡ out.old.items ++ body_of (answer_of self.now)) }
-        ensures spelled { IfOk result (λ _. IsSpelled (answer_of self.now)) }
+        requires { IsEncodable self.now }
+        ensures ok { OnOk result
+            (out.new.items ≡ out.old.items ++ response_body_of (service_answer self.now)) }
+        ensures spelled { IfOk result (λ _. HasEncoding (service_answer self.now)) }
         ensures err { IfErr result (λ fault. fault ≡ BinaryFault.OutOfMemory) }
     {
         match self {
@@ -63,9 +64,10 @@ impl Answer {
     /// Appends the response to a request with this handle, whose body has a spelling. The one error is `OutOfMemory`, which may
     /// leave a part.
     pub(crate) fn put(&self, out: &mut Vec<u8>, now: Ticks, handle: u32) -> Result<(), BinaryFault>
-        requires { IsShort self.now }
-        ensures ok { OnOk result (out.new.items ≡ out.old.items ++ response now handle (Ok (answer_of self.now))) }
-        ensures spelled { IfOk result (λ _. IsSpelled (answer_of self.now)) }
+        requires { IsEncodable self.now }
+        ensures ok { OnOk result
+            (out.new.items ≡ out.old.items ++ response now handle (Ok (service_answer self.now))) }
+        ensures spelled { IfOk result (λ _. HasEncoding (service_answer self.now)) }
         ensures err { IfErr result (λ fault. fault ≡ BinaryFault.OutOfMemory) }
     {
         put_head(out, self.type_id(), now, handle, Status::GOOD)?;

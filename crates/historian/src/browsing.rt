@@ -8,8 +8,8 @@ ghost use Rattle.ua_services.specs.Browsing.{browse_fields, IsShortBrowsed};
 ghost use Rattle.historian.specs.declared.service.Service.TheVariants as service;
 ghost use Rattle.historian.specs.Browsing.{browse_node, browse};
 ghost use Rattle.historian.specs.Requests.{call_in};
-ghost use Rattle.historian.specs.Services.{Site, answered_call};
-ghost use Rattle.historian.specs.Telling.{IsShort, Tells, PerformsHere};
+ghost use Rattle.historian.specs.Services.{ServerConfig, answered_call};
+ghost use Rattle.historian.specs.Telling.{IsEncodable, ReportsAnswer, PerformsHere};
 
 use crate::answer::Answer;
 use crate::requests::browse_request;
@@ -42,7 +42,8 @@ fn browse_node(
     space: &Space,
     description: &BrowseDescription<'_>,
 ) -> Result<BrowseResult, Status>
-    ensures told { IsOrStarved Status.BAD_OUT_OF_MEMORY (Ok (browse_node space.now (browse_fields description.now))) result }
+    ensures told { IsOrStarved Status.BAD_OUT_OF_MEMORY
+        (Ok (browse_node space.now (browse_fields description.now))) result }
     ensures short { IfOk result IsShortBrowsed }
 {
     match space.browse(description) {
@@ -64,7 +65,8 @@ fn browse_nodes(
     space: &Space,
     nodes: &[BrowseDescription<'_>],
 ) -> Result<Vec<BrowseResult>, Status>
-    ensures told { IfOk result (λ v. v.items ≡ map (browse_node space.now) (map browse_fields nodes.now)) }
+    ensures told { IfOk result
+        (λ v. v.items ≡ map (browse_node space.now) (map browse_fields nodes.now)) }
     ensures short { IfOk result (λ v. All IsShortBrowsed v.items) }
     ensures starved { IfErr result (λ status. status ≡ Status.BAD_OUT_OF_MEMORY) }
 {
@@ -81,8 +83,8 @@ fn browse_all(
     space: &Space,
     nodes: &[BrowseDescription<'_>],
 ) -> Result<Answer, Status>
-    ensures told { Tells (browse space.now (map browse_fields nodes.now)) result }
-    ensures short { IfOk result IsShort }
+    ensures told { ReportsAnswer (browse space.now (map browse_fields nodes.now)) result }
+    ensures short { IfOk result IsEncodable }
 {
     if let Some(status) = list_refusal(MOST_BROWSED, nodes.len()) {
         return Err(status);
@@ -100,9 +102,11 @@ pub(crate) fn browse(
     token: NodeIdRef<'_>,
     request: Cursor<'_>,
 ) -> Result<Answer, Status>
-    ensures performs { (site : Site) (now : _) → site.settings ≡ settings.now
-        → PerformsHere (answered_call site now (node_of token.entry) (call_in service.Browse request.entry) sessions.now) sessions.now result }
-    ensures short { IfOk result IsShort }
+    ensures performs { (site : ServerConfig) (now : _) → site.settings ≡ settings.now
+        → PerformsHere
+        (answered_call site now (node_of token.entry)
+        (call_in service.Browse request.entry) sessions.now) sessions.now result }
+    ensures short { IfOk result IsEncodable }
 {
     let asked = browse_request(alloc, request)?;
     sessions.user_of(token)?;

@@ -64,7 +64,11 @@ fn add_token(
     token_type: UserTokenType,
 ) -> Result<(), AllocError>
     requires { length policy_id.now < 2 ^ 31 }
-    ensures { OnOk result ((map token_fields tokens.new.items ≡ map token_fields tokens.old.items ++ (Some policy_id.now, token_number token_type) ∷ []) × (All IsShortToken tokens.old.items → All IsShortToken tokens.new.items) × (length tokens.new.items ≡ length tokens.old.items + 1)) }
+    ensures { OnOk result
+        ((map token_fields tokens.new.items ≡ map token_fields tokens.old.items
+        ++ (Some policy_id.now, token_number token_type) ∷ [])
+        × (All IsShortToken tokens.old.items → All IsShortToken tokens.new.items)
+        × (length tokens.new.items ≡ length tokens.old.items + 1)) }
 {
     let policy_id = Text::from_str(alloc, policy_id)?;
     tokens.push(UserTokenPolicy {
@@ -116,7 +120,8 @@ pub(crate) fn all_endpoints(
     alloc: Global,
     settings: &Settings,
 ) -> Result<Vec<EndpointDescription>, AllocError>
-    ensures fields { IfOk result (λ v. map endpoint_fields v.items ≡ endpoint_of settings.now ∷ []) }
+    ensures fields { IfOk result
+        (λ v. map endpoint_fields v.items ≡ endpoint_of settings.now ∷ []) }
     ensures short { IfOk result (λ v. AreShortEndpoints v.items) }
 {
     let mut endpoints = Vec::new(alloc);
@@ -127,7 +132,8 @@ pub(crate) fn all_endpoints(
 
 /// Whether it is the transport profile that is served.
 fn is_served_profile(profile: Option<&str>) -> bool
-    ensures { result ≡ pointwise nat_eq (unwrap_or (option_copied profile.entry) []) transport_profile }
+    ensures { result
+        ≡ pointwise nat_eq (unwrap_or (option_copied profile.entry) []) transport_profile }
 {
     profile.unwrap_or("") == transport_profile()
 }

@@ -5,14 +5,14 @@ ghost use Rattle.std.specs.Option.{option_copied};
 ghost use Rattle.ua_binary.specs.Binary.{node_of, qualified_of, IsShortNode};
 ghost use Rattle.ua_binary.specs.Rules.{checked};
 ghost use Rattle.ua_services.specs.History.{HistoryAsked, history_read_fields, history_asked, IsShortHistoryRead};
-ghost use Rattle.archive.specs.Store.{Mark};
-ghost use Rattle.archive.specs.Steps.{Acts, each};
-ghost use Rattle.hist_read.specs.Node.{refused};
+ghost use Rattle.archive.specs.Store.{StepResult};
+ghost use Rattle.archive.specs.Steps.{Refines, each};
+ghost use Rattle.hist_read.specs.Node.{refused_read};
 ghost use Rattle.historian.specs.declared.service.Service.TheVariants as service;
 ghost use Rattle.historian.specs.Reading.{history_rules, released, read_history_of, query_of, read_history};
 ghost use Rattle.historian.specs.Requests.{call_in};
 ghost use Rattle.historian.specs.Services.{site_of, answered_call};
-ghost use Rattle.historian.specs.Telling.{IsShort, Comes, Performs};
+ghost use Rattle.historian.specs.Telling.{IsEncodable, Comes, Performs};
 
 use crate::answer::Answer;
 use crate::browsing::list_refusal;
@@ -34,7 +34,7 @@ const MOST_HISTORIES: usize = 100;
 
 /// A read of a node that is refused, or shows nothing.
 fn nothing(status: Status) -> HistoryReadResult
-    ensures told { result ≡ refused status }
+    ensures told { result ≡ refused_read status }
     ensures short { IsShortHistoryRead result }
 {
     HistoryReadResult {
@@ -80,7 +80,10 @@ fn read_history_of<A: Archive>(
     release: bool,
     item: HistoryReadValueId<'_>,
 ) -> HistoryReadResult
-    ensures acts { (used : List Mark) × Acts (A.state archive.old) (A.state archive.new) used (read_history_of (A.state archive.old).id space.now query.now release (history_read_fields item.entry)) result }
+    ensures acts { (used : List StepResult)
+        × Refines (A.state archive.old) (A.state archive.new) used
+        (read_history_of (A.state archive.old).id space.now query.now release
+        (history_read_fields item.entry)) result }
     ensures short { IsShortHistoryRead result }
 {
     if let Err(status) = judge_history(space, item) {
@@ -105,7 +108,10 @@ fn read_histories<A: Archive>(
 )
     requires empty { results.old.items ≡ [] }
     requires room { length items.now ≤ vec_capacity results.old }
-    ensures acts { (used : List Mark) × Acts (A.state archive.old) (A.state archive.new) used (each (read_history_of (A.state archive.old).id space.now query.now release) (map history_read_fields items.now)) results.new.items }
+    ensures acts { (used : List StepResult)
+        × Refines (A.state archive.old) (A.state archive.new) used
+        (each (read_history_of (A.state archive.old).id space.now query.now release)
+        (map history_read_fields items.now)) results.new.items }
     ensures count { length results.new.items ≡ length items.now }
     ensures short { All IsShortHistoryRead results.new.items }
 {
@@ -145,8 +151,10 @@ fn read_all<A: Archive>(
     release: bool,
     nodes: &[HistoryReadValueId<'_>],
 ) -> Result<Answer, Status>
-    ensures comes { Comes (A.state archive.old) (A.state archive.new) (read_history (A.state archive.old).id settings.now.space (details, (timestamps, (release, map history_read_fields nodes.now)))) result }
-    ensures short { IfOk result IsShort }
+    ensures comes { Comes (A.state archive.old) (A.state archive.new)
+        (read_history (A.state archive.old).id settings.now.space
+        (details, (timestamps, (release, map history_read_fields nodes.now)))) result }
+    ensures short { IfOk result IsEncodable }
 {
     if let Some(status) = list_refusal(MOST_HISTORIES, nodes.len()) {
         return Err(status);
@@ -186,8 +194,9 @@ pub(crate) fn read_history<A: Archive>(
     request: Cursor<'_>,
 ) -> Result<Answer, Status>
     ensures performs { Performs (A.state archive.old) (A.state archive.new)
-        (answered_call (site_of settings.now (A.state archive.old)) now (node_of token.entry) (call_in service.HistoryRead request.entry) sessions.now) sessions.now result }
-    ensures short { IfOk result IsShort }
+        (answered_call (site_of settings.now (A.state archive.old)) now (node_of token.entry)
+        (call_in service.HistoryRead request.entry) sessions.now) sessions.now result }
+    ensures short { IfOk result IsEncodable }
 {
     let asked = history_read_request(alloc, request)?;
     sessions.user_of(token)?;

@@ -16,4 +16,4 @@ mod updating;
 
 pub use message::answer_message;
 pub use responses::put_service_fault;
-pub use service::Message;
+pub use service::ClientMessage;

@@ -2,19 +2,19 @@
 
 ghost use Rattle.std.specs.Prelude.{◌≡◌, [], List, IfOk, OnOk};
 ghost use Rattle.ua_binary.specs.Binary.{node_of};
-ghost use Rattle.archive.specs.Store.{Mark};
-ghost use Rattle.archive.specs.Steps.{Acts};
-ghost use Rattle.historian.specs.Answers.{Response, IsSpelled, response, service_fault};
+ghost use Rattle.archive.specs.Store.{StepResult};
+ghost use Rattle.archive.specs.Steps.{Refines};
+ghost use Rattle.historian.specs.Answers.{Response, HasEncoding, response, service_fault};
 ghost use Rattle.historian.specs.Requests.{call_in};
 ghost use Rattle.historian.specs.Services.{site_of, answered_call, answered_request};
-ghost use Rattle.historian.specs.Telling.{IsShort, Tells, Written, Responds, asked_of};
+ghost use Rattle.historian.specs.Telling.{IsEncodable, ReportsAnswer, Written, Responds, asked_of};
 
 use crate::answer::Answer;
 use crate::browsing::browse;
 use crate::histories::read_history;
 use crate::reading::read;
 use crate::responses::put_service_fault;
-use crate::service::{Message, Service};
+use crate::service::{ClientMessage, Service};
 use crate::sessions::{activate_session, close_session, create_session, get_endpoints};
 use crate::updating::update_history;
 use archive::Archive;
@@ -24,15 +24,16 @@ use ua_session::Sessions;
 use ua_settings::Settings;
 
 /// Writes the response that tells an answer; or tells why there is none, or that memory was wanting.
-fn finish(
+fn write_response(
     answer: Result<Answer, Status>,
     now: Ticks,
     handle: u32,
     body: &mut Vec<u8>,
 ) -> Result<(), Status>
-    requires short { IfOk answer IsShort }
+    requires short { IfOk answer IsEncodable }
     requires empty { body.old.items ≡ [] }
-    ensures { (told : Response) → Tells told answer → Written now handle told result body.new.items }
+    ensures { (told : Response) → ReportsAnswer told answer
+        → Written now handle told result body.new.items }
 {
     answer?.put(body, now, handle)?;
     Ok(())
@@ -53,7 +54,9 @@ fn serve<A: Archive>(
 ) -> Result<(), Status>
     requires { body.old.items ≡ [] }
     ensures { Responds (A.state archive.old) (A.state archive.new)
-        (answered_call (site_of settings.now (A.state archive.old)) now (node_of token.entry) (call_in service request.entry) sessions.old) sessions.new now handle result body.new.items }
+        (answered_call (site_of settings.now (A.state archive.old)) now (node_of token.entry)
+        (call_in service request.entry) sessions.old) sessions.new now handle result
+        body.new.items }
 {
     let answer = match service {
         Service::GetEndpoints => get_endpoints(alloc, settings, request),
@@ -73,7 +76,7 @@ fn serve<A: Archive>(
             alloc, settings, archive, sessions, now, token, request,
         ),
     };
-    finish(answer, now, handle, body)
+    write_response(answer, now, handle, body)
 }
 
 /// Performs what a message asks, and writes its response.
@@ -83,11 +86,14 @@ fn perform<A: Archive>(
     archive: &mut A,
     sessions: &mut Sessions,
     now: Ticks,
-    message: Message<'_>,
+    message: ClientMessage<'_>,
     body: &mut Vec<u8>,
 ) -> Result<(), Status>
     requires { body.old.items ≡ [] }
-    ensures { Responds (A.state archive.old) (A.state archive.new) (answered_request (site_of settings.now (A.state archive.old)) now (asked_of message.entry.request) sessions.old) sessions.new now message.entry.handle result body.new.items }
+    ensures { Responds (A.state archive.old) (A.state archive.new)
+        (answered_request (site_of settings.now (A.state archive.old)) now
+        (asked_of message.entry.request) sessions.old) sessions.new now message.entry.handle result
+        body.new.items }
 {
     let handle = message.handle();
     match message.request {
@@ -130,13 +136,16 @@ pub fn answer_message<A: Archive>(
     archive: &mut A,
     sessions: &mut Sessions,
     now: Ticks,
-    message: Message<'_>,
+    message: ClientMessage<'_>,
     body: &mut Vec<u8>,
 ) -> Result<(), AllocError>
     requires { body.old.items ≡ [] }
-    ensures { (used : List Mark) × (told : Response)
-        × Acts (A.state archive.old) (A.state archive.new) used (answered_request (site_of settings.now (A.state archive.old)) now (asked_of message.entry.request) sessions.old) (told, sessions.new)
-        × OnOk result ((body.new.items ≡ response now message.entry.handle told) × IfOk told IsSpelled) }
+    ensures { (used : List StepResult) × (told : Response)
+        × Refines (A.state archive.old) (A.state archive.new) used
+        (answered_request (site_of settings.now (A.state archive.old)) now
+        (asked_of message.entry.request) sessions.old) (told, sessions.new)
+        × OnOk result
+        ((body.new.items ≡ response now message.entry.handle told) × IfOk told HasEncoding) }
 {
     let handle = message.handle();
     match perform(alloc, settings, archive, sessions, now, message, body) {

@@ -15,8 +15,8 @@ ghost use Rattle.ua_variant.specs.declared.data.DataValue.{DataValue as Data};
 ghost use Rattle.ua_services.specs.Attributes.{read_fields};
 ghost use Rattle.archive.specs.Fault.{status_told};
 ghost use Rattle.archive.specs.Reading.{range_of};
-ghost use Rattle.archive.specs.Store.{Store, Asks, Mark};
-ghost use Rattle.archive.specs.Steps.{Acts, step, each};
+ghost use Rattle.archive.specs.Store.{Store, Asks, StepResult};
+ghost use Rattle.archive.specs.Steps.{Refines, step, each};
 ghost use Rattle.archive.specs.declared.reading.Direction.TheVariants as direction;
 ghost use Rattle.hist_read.specs.Asking.{first_time};
 ghost use Rattle.hist_read.specs.Finding.{Finds};
@@ -24,13 +24,13 @@ ghost use Rattle.hist_read.specs.Reads.{greatest_time};
 ghost use Rattle.historian.specs.declared.service.Service.TheVariants as service;
 ghost use Rattle.historian.specs.Reading.{is_whole, is_default, value_rules, valued, latest, item_told, value_step, read_item, read};
 ghost use Rattle.historian.specs.Requests.{call_in};
-ghost use Rattle.historian.specs.Services.{Site, site_of, answered_call};
+ghost use Rattle.historian.specs.Services.{ServerConfig, site_of, answered_call};
 ghost use Rattle.historian.specs.Telling.{ComesWritten, Responds};
 
 use crate::browsing::list_refusal;
 use crate::requests::read_request;
 use crate::responses::put_head;
-use archive::{Archive, Direction, Setback, StoreFault};
+use archive::{Archive, Direction, StepError, StoreFault};
 use hist_read::{is_short_value, with_stamps};
 use records::{Held, Moment};
 use std::alloc::Global;
@@ -83,7 +83,8 @@ fn is_default(encoding: QualifiedRef<'_>) -> bool
 
 /// Why a value isn't given in this way: a range of it, or another encoding.
 pub(crate) fn judge_value(range: Option<&str>, encoding: QualifiedRef<'_>) -> Result<(), Status>
-    ensures { result ≡ checked (value_rules (option_copied range.entry) (qualified_of encoding.entry)) }
+    ensures { result
+        ≡ checked (value_rules (option_copied range.entry) (qualified_of encoding.entry)) }
 {
     if !is_whole(range) {
         return Err(Status::BAD_INDEX_RANGE_INVALID);
@@ -96,7 +97,9 @@ pub(crate) fn judge_value(range: Option<&str>, encoding: QualifiedRef<'_>) -> Re
 
 /// A live value, with its source time.
 fn at_time(held: Held) -> DataValue
-    ensures { Ok result ≡ (elim (held ∷ []) [ [] ↦ Err BAD_WAITING_FOR_INITIAL_DATA | h ∷ held ↦ Ok (at_time h.time h.value) ]) }
+    ensures { Ok result
+        ≡ (elim (held ∷ [])
+        [ [] ↦ Err BAD_WAITING_FOR_INITIAL_DATA | h ∷ held ↦ Ok (at_time h.time h.value) ]) }
 {
     let Held { time, value, .. } = held;
     DataValue {
@@ -142,7 +145,11 @@ fn newest<A: Archive>(
     archive: &mut A,
     node: &NodeId,
 ) -> Result<Vec<Held>, StoreFault>
-    ensures { Asks (A.state archive.old) (A.state archive.new) result (λ v. v.items ≡ take 1 (range_of (A.state archive.old).content node.now first_time greatest_time direction.Backward)) }
+    ensures { Asks (A.state archive.old) (A.state archive.new) result
+        (λ v. v.items
+        ≡ take 1
+        (range_of
+        (A.state archive.old).content node.now first_time greatest_time direction.Backward)) }
 {
     let all = archive.vector()?;
     archive.range(
@@ -158,7 +165,10 @@ fn newest<A: Archive>(
 
 /// The first of these values, if it can be written.
 fn latest(mut lives: Vec<Held>) -> Result<DataValue, Status>
-    ensures told { (result ≡ (elim lives.items [ [] ↦ Err BAD_WAITING_FOR_INITIAL_DATA | h ∷ held ↦ Ok (at_time h.time h.value) ])) ⊎ (result ≡ Err Status.BAD_OUT_OF_MEMORY) }
+    ensures told { (result
+        ≡ (elim lives.items
+        [ [] ↦ Err BAD_WAITING_FOR_INITIAL_DATA | h ∷ held ↦ Ok (at_time h.time h.value) ]))
+        ⊎ (result ≡ Err Status.BAD_OUT_OF_MEMORY) }
     ensures short { IfOk result IsShortData }
 {
     if lives.is_empty() {
@@ -178,7 +188,9 @@ fn archived_value<A: Archive>(
     archive: &mut A,
     node: NodeIdRef<'_>,
 ) -> Result<DataValue, Status>
-    ensures acts { (mark : Mark) × Acts (A.state archive.old) (A.state archive.new) (mark ∷ []) (value_step (step status_told) (latest (node_of node.entry))) result }
+    ensures acts { (mark : StepResult)
+        × Refines (A.state archive.old) (A.state archive.new) (mark ∷ [])
+        (value_step (step status_told) (latest (node_of node.entry))) result }
     ensures short { IfOk result IsShortData }
 {
     let Ok(node) = node.to_owned(alloc) else {
@@ -186,7 +198,7 @@ fn archived_value<A: Archive>(
     };
     match newest(alloc, archive, &node) {
         Ok(lives) => latest(lives),
-        Err(fault) => Err(Setback::Store(fault).status()),
+        Err(fault) => Err(StepError::Store(fault).status()),
     }
 }
 
@@ -200,8 +212,10 @@ fn put_valued(
     out: &mut Vec<u8>,
 ) -> Result<(), BinaryFault>
     requires { IsShortVariant value.now }
-    ensures puts { Puts BinaryFault.OutOfMemory result out.old.items out.new.items (data_value.canon (item_told stamps now (Ok (valued now attribute value.now)))) }
-    ensures spelled { IfOk result (λ _. IsDataValue (item_told stamps now (Ok (valued now attribute value.now)))) }
+    ensures puts { Puts BinaryFault.OutOfMemory result out.old.items out.new.items
+        (data_value.canon (item_told stamps now (Ok (valued now attribute value.now)))) }
+    ensures spelled { IfOk result
+        (λ _. IsDataValue (item_told stamps now (Ok (valued now attribute value.now)))) }
 {
     let source = if attribute == VALUE { Some(now) } else { None };
     match stamps {
@@ -215,8 +229,11 @@ fn put_valued(
 /// Appends what is told of an item that is refused.
 #[inline(never)]
 fn put_refused(status: Status, out: &mut Vec<u8>) -> Result<(), BinaryFault>
-    ensures puts { (stamps : _) (now : _) → Puts BinaryFault.OutOfMemory result out.old.items out.new.items (data_value.canon (item_told stamps now (Err status))) }
-    ensures spelled { (stamps : _) (now : _) → IfOk result (λ _. IsDataValue (item_told stamps now (Err status))) }
+    ensures puts { (stamps : _) (now : _)
+        → Puts BinaryFault.OutOfMemory result out.old.items out.new.items
+        (data_value.canon (item_told stamps now (Err status))) }
+    ensures spelled { (stamps : _) (now : _)
+        → IfOk result (λ _. IsDataValue (item_told stamps now (Err status))) }
 {
     put_data_value(out, &status_alone(status))
 }
@@ -231,8 +248,11 @@ fn put_archived<A: Archive>(
     node: NodeIdRef<'_>,
     out: &mut Vec<u8>,
 ) -> Result<(), BinaryFault>
-    ensures { (mark : Mark) × (value : Result Data Status) × Acts (A.state archive.old) (A.state archive.new) (mark ∷ []) (value_step (step status_told) (latest (node_of node.entry))) value
-        × Puts BinaryFault.OutOfMemory result out.old.items out.new.items (data_value.canon (item_told stamps now value))
+    ensures { (mark : StepResult) × (value : Result Data Status)
+        × Refines (A.state archive.old) (A.state archive.new) (mark ∷ [])
+        (value_step (step status_told) (latest (node_of node.entry))) value
+        × Puts BinaryFault.OutOfMemory result out.old.items out.new.items
+        (data_value.canon (item_told stamps now value))
         × IfOk result (λ _. IsDataValue (item_told stamps now value)) }
 {
     match archived_value(alloc, archive, node) {
@@ -253,7 +273,9 @@ fn put_item<A: Archive>(
     item: &ReadValueId<'_>,
     out: &mut Vec<u8>,
 ) -> Result<(), BinaryFault>
-    ensures { (mark : Mark) × (value : Data) × Acts (A.state archive.old) (A.state archive.new) (mark ∷ []) (read_item space.now now stamps (read_fields item.now)) value
+    ensures { (mark : StepResult) × (value : Data)
+        × Refines (A.state archive.old) (A.state archive.new) (mark ∷ [])
+        (read_item space.now now stamps (read_fields item.now)) value
         × Puts BinaryFault.OutOfMemory result out.old.items out.new.items (data_value.canon value)
         × IfOk result (λ _. IsDataValue value) }
 {
@@ -282,8 +304,13 @@ fn put_items<A: Archive>(
     items: &[ReadValueId<'_>],
     out: &mut Vec<u8>,
 ) -> Result<(), BinaryFault>
-    ensures told { (used : List Mark) × (values : List Data) × (length values ≡ length items.now) × Acts (A.state archive.old) (A.state archive.new) used (each (read_item space.now now stamps) (map read_fields items.now)) values
-        × OnOk result ((out.new.items ≡ out.old.items ++ flat_map data_value.canon values) × AllByRecursion IsDataValue values) }
+    ensures told { (used : List StepResult) × (values : List Data)
+        × (length values ≡ length items.now)
+        × Refines (A.state archive.old) (A.state archive.new) used
+        (each (read_item space.now now stamps) (map read_fields items.now)) values
+        × OnOk result
+        ((out.new.items ≡ out.old.items ++ flat_map data_value.canon values)
+        × AllByRecursion IsDataValue values) }
     ensures err { IfErr result (λ fault. fault ≡ BinaryFault.OutOfMemory) }
 {
     let mut put = Ok(());
@@ -306,7 +333,9 @@ fn put_read<A: Archive>(
     body: &mut Vec<u8>,
 ) -> Result<(), Status>
     requires { body.old.items ≡ [] }
-    ensures { ComesWritten (A.state archive.old) (A.state archive.new) (read space.now now (timestamps, map read_fields nodes.now)) now handle result body.new.items }
+    ensures { ComesWritten (A.state archive.old) (A.state archive.new)
+        (read space.now now (timestamps, map read_fields nodes.now)) now handle result
+        body.new.items }
 {
     if let Some(status) = list_refusal(MOST_READ, nodes.len()) {
         return Err(status);
@@ -339,7 +368,9 @@ pub(crate) fn read<A: Archive>(
 ) -> Result<(), Status>
     requires { body.old.items ≡ [] }
     ensures { Responds (A.state archive.old) (A.state archive.new)
-        (answered_call (site_of settings.now (A.state archive.old)) now (node_of token.entry) (call_in service.Read request.entry) sessions.now) sessions.now now handle result body.new.items }
+        (answered_call (site_of settings.now (A.state archive.old)) now (node_of token.entry)
+        (call_in service.Read request.entry) sessions.now) sessions.now now handle result
+        body.new.items }
 {
     let asked = read_request(alloc, request)?;
     sessions.user_of(token)?;

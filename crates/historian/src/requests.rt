@@ -37,7 +37,8 @@ pub(crate) fn endpoints_request<'a>(
     alloc: Global,
     mut request: Cursor<'a>,
 ) -> Result<GetEndpointsRequest<'a>, Status>
-    ensures { Asks service.GetEndpoints (λ asked. GetEndpoints (endpoints_asked asked).1) request.entry result }
+    ensures { Asks service.GetEndpoints
+        (λ asked. GetEndpoints (endpoints_asked asked).1) request.entry result }
 {
     let asked = read_get_endpoints_request(alloc, &mut request)?;
     refuse_more(&request)?;
@@ -47,7 +48,8 @@ pub(crate) fn endpoints_request<'a>(
 pub(crate) fn creation_request<'a>(
     mut request: Cursor<'a>,
 ) -> Result<CreateSessionRequest<'a>, Status>
-    ensures { Asks service.CreateSession (λ asked. CreateSession asked.timeout) request.entry result }
+    ensures { Asks service.CreateSession
+        (λ asked. CreateSession asked.timeout) request.entry result }
 {
     let asked = read_create_session_request(&mut request)?;
     refuse_more(&request)?;
@@ -57,7 +59,8 @@ pub(crate) fn creation_request<'a>(
 pub(crate) fn activation_request<'a>(
     mut request: Cursor<'a>,
 ) -> Result<ActivateSessionRequest<'a>, Status>
-    ensures { Asks service.ActivateSession (λ asked. ActivateSession (claim_of asked.user_identity)) request.entry result }
+    ensures { Asks service.ActivateSession
+        (λ asked. ActivateSession (claim_of asked.user_identity)) request.entry result }
 {
     let asked = read_activate_session_request(&mut request)?;
     refuse_more(&request)?;
@@ -75,7 +78,8 @@ pub(crate) fn browse_request<'a>(
     alloc: Global,
     mut request: Cursor<'a>,
 ) -> Result<BrowseRequest<'a>, Status>
-    ensures { Asks service.Browse (λ asked. Browse (map browse_fields asked.nodes.items)) request.entry result }
+    ensures { Asks service.Browse
+        (λ asked. Browse (map browse_fields asked.nodes.items)) request.entry result }
 {
     let asked = read_browse_request(alloc, &mut request)?;
     refuse_more(&request)?;
@@ -97,7 +101,8 @@ pub(crate) fn history_read_request<'a>(
     alloc: Global,
     mut request: Cursor<'a>,
 ) -> Result<HistoryReadRequest<'a>, Status>
-    ensures { Asks service.HistoryRead (λ asked. HistoryRead (history_asked asked)) request.entry result }
+    ensures { Asks service.HistoryRead
+        (λ asked. HistoryRead (history_asked asked)) request.entry result }
 {
     let asked = read_history_read_request(alloc, &mut request)?;
     refuse_more(&request)?;
@@ -108,8 +113,10 @@ pub(crate) fn history_update_request<'a>(
     alloc: Global,
     mut request: Cursor<'a>,
 ) -> Result<HistoryUpdateRequest<'a>, Status>
-    ensures asks { Asks service.HistoryUpdate (λ asked. HistoryUpdate (map details_of asked.details.items)) request.entry result }
-    ensures short { IfOk result (λ asked. AllByRecursion HasShortValues (map details_of asked.details.items)) }
+    ensures asks { Asks service.HistoryUpdate
+        (λ asked. HistoryUpdate (map details_of asked.details.items)) request.entry result }
+    ensures short { IfOk result
+        (λ asked. AllByRecursion HasShortValues (map details_of asked.details.items)) }
 {
     let asked = read_history_update_request(alloc, &mut request)?;
     refuse_more(&request)?;

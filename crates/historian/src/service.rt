@@ -44,7 +44,7 @@ pub(crate) fn service_of(type_id: NodeIdRef<'_>) -> Option<Service>
 
 /// A request whose type id and header are read, and the bytes behind them.
 #[derive(Drop)]
-pub(crate) struct Request<'a> {
+pub(crate) struct ServiceRequest<'a> {
     pub service: Service,
     pub token: NodeIdRef<'a>,
     pub body: Cursor<'a>,
@@ -52,13 +52,13 @@ pub(crate) struct Request<'a> {
 
 /// A message of a client, whose type id and header (Part 4, 7.33) are read as far as they can be.
 #[derive(Drop)]
-pub struct Message<'a> {
+pub struct ClientMessage<'a> {
     handle: u32,
     // the code that refuses it where it is no request
-    pub(crate) request: Result<Request<'a>, Status>,
+    pub(crate) request: Result<ServiceRequest<'a>, Status>,
 }
 
-impl<'a> Message<'a> {
+impl<'a> ClientMessage<'a> {
     ghost use Rattle.std.specs.Prelude.{◌≡◌};
     ghost use Rattle.historian.specs.Requests.{handle_of, request_in};
     ghost use Rattle.historian.specs.Telling.{asked_of};
@@ -68,24 +68,24 @@ impl<'a> Message<'a> {
     /// It is no request where the type id can't be read (`BAD_DECODING_ERROR`), where that is no service's
     /// (`BAD_SERVICE_UNSUPPORTED`), and where the header can't be read (`BAD_DECODING_ERROR`), in this order.
     #[inline(always)]
-    pub fn read(bytes: &'a [u8]) -> Message<'a>
+    pub fn read(bytes: &'a [u8]) -> ClientMessage<'a>
         ensures handle { result.handle ≡ handle_of bytes.now }
         ensures request { asked_of result.request ≡ request_in bytes.now }
     {
         let mut cursor = Cursor::new(bytes);
         let Ok(type_id) = cursor.node_id() else {
-            return Message {
+            return ClientMessage {
                 handle: 0,
                 request: Err(Status::BAD_DECODING_ERROR),
             };
         };
         let service = service_of(type_id);
         match read_request_header(&mut cursor) {
-            Ok(header) => Message {
+            Ok(header) => ClientMessage {
                 handle: header.handle,
                 request: request_for(service, header.token, cursor),
             },
-            Err(_) => Message {
+            Err(_) => ClientMessage {
                 handle: 0,
                 request: Err(refusal_of(service)),
             },
@@ -106,11 +106,11 @@ fn request_for<'a>(
     service: Option<Service>,
     token: NodeIdRef<'a>,
     body: Cursor<'a>,
-) -> Result<Request<'a>, Status>
+) -> Result<ServiceRequest<'a>, Status>
     ensures { result ≡ request_with service token.entry body.entry }
 {
     match service {
-        Some(service) => Ok(Request {
+        Some(service) => Ok(ServiceRequest {
             service,
             token,
             body,

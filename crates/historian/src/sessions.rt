@@ -4,8 +4,8 @@ ghost use Rattle.std.specs.Prelude.{◌≡◌, IfOk};
 ghost use Rattle.ua_binary.specs.Binary.{node_of};
 ghost use Rattle.historian.specs.declared.service.Service.TheVariants as service;
 ghost use Rattle.historian.specs.Requests.{call_in};
-ghost use Rattle.historian.specs.Services.{Site, answered_call};
-ghost use Rattle.historian.specs.Telling.{IsShort, PerformsHere};
+ghost use Rattle.historian.specs.Services.{ServerConfig, answered_call};
+ghost use Rattle.historian.specs.Telling.{IsEncodable, PerformsHere};
 
 use crate::answer::Answer;
 use crate::endpoints::{all_endpoints, takes_transport};
@@ -25,9 +25,12 @@ pub(crate) fn get_endpoints(
     settings: &Settings,
     request: Cursor<'_>,
 ) -> Result<Answer, Status>
-    ensures performs { (site : Site) (now : _) (token : _) (sessions : _) → site.settings ≡ settings.now
-        → PerformsHere (answered_call site now token (call_in service.GetEndpoints request.entry) sessions) sessions result }
-    ensures short { IfOk result IsShort }
+    ensures performs { (site : ServerConfig) (now : _) (token : _) (sessions : _)
+        → site.settings ≡ settings.now
+        → PerformsHere
+        (answered_call site now token
+        (call_in service.GetEndpoints request.entry) sessions) sessions result }
+    ensures short { IfOk result IsEncodable }
 {
     let asked = endpoints_request(alloc, request)?;
     if !takes_transport(&asked.profile_uris) {
@@ -45,9 +48,11 @@ pub(crate) fn create_session(
     sessions: &mut Sessions,
     request: Cursor<'_>,
 ) -> Result<Answer, Status>
-    ensures performs { (site : Site) (now : _) (token : _) → site.settings ≡ settings.now
-        → PerformsHere (answered_call site now token (call_in service.CreateSession request.entry) sessions.old) sessions.new result }
-    ensures short { IfOk result IsShort }
+    ensures performs { (site : ServerConfig) (now : _) (token : _) → site.settings ≡ settings.now
+        → PerformsHere
+        (answered_call site now token
+        (call_in service.CreateSession request.entry) sessions.old) sessions.new result }
+    ensures short { IfOk result IsEncodable }
 {
     let asked = creation_request(request)?;
     let endpoints = all_endpoints(alloc, settings)?;
@@ -70,9 +75,11 @@ pub(crate) fn activate_session(
     token: NodeIdRef<'_>,
     request: Cursor<'_>,
 ) -> Result<Answer, Status>
-    ensures performs { (site : Site) (now : _) → site.settings ≡ settings.now
-        → PerformsHere (answered_call site now (node_of token.entry) (call_in service.ActivateSession request.entry) sessions.old) sessions.new result }
-    ensures short { IfOk result IsShort }
+    ensures performs { (site : ServerConfig) (now : _) → site.settings ≡ settings.now
+        → PerformsHere
+        (answered_call site now (node_of token.entry)
+        (call_in service.ActivateSession request.entry) sessions.old) sessions.new result }
+    ensures short { IfOk result IsEncodable }
 {
     let asked = activation_request(request)?;
     match sessions.activate(token, asked.user_identity, settings.users()) {
@@ -88,8 +95,11 @@ pub(crate) fn close_session(
     token: NodeIdRef<'_>,
     request: Cursor<'_>,
 ) -> Result<Answer, Status>
-    ensures performs { (site : Site) (now : _) → PerformsHere (answered_call site now (node_of token.entry) (call_in service.CloseSession request.entry) sessions.old) sessions.new result }
-    ensures short { IfOk result IsShort }
+    ensures performs { (site : ServerConfig) (now : _)
+        → PerformsHere
+        (answered_call site now (node_of token.entry)
+        (call_in service.CloseSession request.entry) sessions.old) sessions.new result }
+    ensures short { IfOk result IsEncodable }
 {
     closing_request(request)?;
     match sessions.close(token) {

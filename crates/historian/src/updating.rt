@@ -5,16 +5,16 @@ ghost use Rattle.std.specs.List.{AllByRecursion};
 ghost use Rattle.ua_binary.specs.Binary.{node_of};
 ghost use Rattle.ua_session.specs.Users.{IsUserName};
 ghost use Rattle.ua_services.specs.Updates.{details_of, HasShortValues, IsShortUpdate};
-ghost use Rattle.archive.specs.Store.{Mark};
-ghost use Rattle.archive.specs.Steps.{Acts, each};
+ghost use Rattle.archive.specs.Store.{StepResult};
+ghost use Rattle.archive.specs.Steps.{Refines, each};
 ghost use Rattle.hist_update.specs.Outcome.{IsRequest};
 ghost use Rattle.archive.specs.Growth.{id_length};
-ghost use Rattle.hist_update.specs.Updates.{refused};
+ghost use Rattle.hist_update.specs.Updates.{refused_update};
 ghost use Rattle.historian.specs.declared.service.Service.TheVariants as service;
 ghost use Rattle.historian.specs.Updating.{node_asked, type_asked, update_of, asked_for, update_item, update_history};
 ghost use Rattle.historian.specs.Requests.{call_in};
 ghost use Rattle.historian.specs.Services.{site_of, answered_call};
-ghost use Rattle.historian.specs.Telling.{IsShort, Comes, Performs};
+ghost use Rattle.historian.specs.Telling.{IsEncodable, Comes, Performs};
 
 use crate::answer::Answer;
 use crate::browsing::list_refusal;
@@ -34,7 +34,7 @@ const MOST_UPDATES: usize = 100;
 
 /// An update that is refused as a whole; it takes no memory.
 fn refused(alloc: Global, status: Status) -> HistoryUpdateResult
-    ensures told { result ≡ refused status }
+    ensures told { result ≡ refused_update status }
     ensures short { IsShortUpdate result }
 {
     HistoryUpdateResult {
@@ -102,7 +102,10 @@ fn update_of<A: Archive>(
 ) -> HistoryUpdateResult
     requires request { IsRequest request.now }
     requires values { HasShortValues (details_of details.now) }
-    ensures acts { (used : List Mark) × Acts (A.state archive.old) (A.state archive.new) used (update_of (A.state archive.old).own (λ _. request.now) value_type (details_of details.now)) result }
+    ensures acts { (used : List StepResult)
+        × Refines (A.state archive.old) (A.state archive.new) used
+        (update_of (A.state archive.old).own (λ _. request.now) value_type
+        (details_of details.now)) result }
     ensures short { IsShortUpdate result }
 {
     match details {
@@ -137,7 +140,10 @@ fn update_item<A: Archive>(
 ) -> HistoryUpdateResult
     requires user { IsUserName user.now }
     requires values { HasShortValues (details_of details.now) }
-    ensures acts { (used : List Mark) × Acts (A.state archive.old) (A.state archive.new) used (update_item (A.state archive.old).own space.now user.now now (details_of details.now)) result }
+    ensures acts { (used : List StepResult)
+        × Refines (A.state archive.old) (A.state archive.new) used
+        (update_item (A.state archive.old).own space.now user.now now
+        (details_of details.now)) result }
     ensures short { IsShortUpdate result }
 {
     let Some(node) = node_asked(details) else {
@@ -167,7 +173,10 @@ fn update_items<A: Archive>(
     requires values { AllByRecursion HasShortValues (map details_of items.now) }
     requires empty { results.old.items ≡ [] }
     requires room { length items.now ≤ vec_capacity results.old }
-    ensures acts { (used : List Mark) × Acts (A.state archive.old) (A.state archive.new) used (each (update_item (A.state archive.old).own space.now user.now now) (map details_of items.now)) results.new.items }
+    ensures acts { (used : List StepResult)
+        × Refines (A.state archive.old) (A.state archive.new) used
+        (each (update_item (A.state archive.old).own space.now user.now now)
+        (map details_of items.now)) results.new.items }
     ensures count { length results.new.items ≡ length items.now }
     ensures short { All IsShortUpdate results.new.items }
 {
@@ -188,8 +197,10 @@ fn update_all<A: Archive>(
 ) -> Result<Answer, Status>
     requires user { IsUserName user.now }
     requires values { AllByRecursion HasShortValues (map details_of details.now) }
-    ensures comes { Comes (A.state archive.old) (A.state archive.new) (update_history (A.state archive.old).own space.now user.now now (map details_of details.now)) result }
-    ensures short { IfOk result IsShort }
+    ensures comes { Comes (A.state archive.old) (A.state archive.new)
+        (update_history (A.state archive.old).own space.now user.now now
+        (map details_of details.now)) result }
+    ensures short { IfOk result IsEncodable }
 {
     if let Some(status) = list_refusal(MOST_UPDATES, details.len()) {
         return Err(status);
@@ -216,8 +227,9 @@ pub(crate) fn update_history<A: Archive>(
     request: Cursor<'_>,
 ) -> Result<Answer, Status>
     ensures performs { Performs (A.state archive.old) (A.state archive.new)
-        (answered_call (site_of settings.now (A.state archive.old)) now (node_of token.entry) (call_in service.HistoryUpdate request.entry) sessions.now) sessions.now result }
-    ensures short { IfOk result IsShort }
+        (answered_call (site_of settings.now (A.state archive.old)) now (node_of token.entry)
+        (call_in service.HistoryUpdate request.entry) sessions.now) sessions.now result }
+    ensures short { IfOk result IsEncodable }
 {
     let asked = history_update_request(alloc, request)?;
     let user = sessions.user_of(token)?;

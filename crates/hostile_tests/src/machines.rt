@@ -4,7 +4,7 @@
 use archive::{Archive, Failure, LearnFault, ScriptedArchive, StoreFault};
 use exchange::{Batch, ExchangeFault, Replica, converse};
 use hist_update::{Request, delete_at, update_data};
-use historian::{Message, answer_message};
+use historian::{ClientMessage, answer_message};
 use history_rows::exchanges::merge;
 use history_rows::updates::{INT32, are_short, code_of, int, is_request, value};
 use records::{HistoryUpdateType, Moment, Record, put_record, read_record};
@@ -115,7 +115,7 @@ fn told(alloc: Global, machine: &mut Machine, now: i64, message: &[u8]) -> Optio
         &mut machine.replica.archive,
         &mut machine.sessions,
         Ticks(now),
-        Message::read(message),
+        ClientMessage::read(message),
         &mut body,
     );
     answered.is_ok().then_some(body)

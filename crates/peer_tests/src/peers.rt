@@ -11,7 +11,7 @@ use stamp::{ReplicaNo, Vector};
 use std::alloc::Global;
 use std::test::Fail;
 use ua_binary::{NodeId, Text};
-use ua_server::{Counted, Parted, ServeFault, SyncFault, Synced, serve_peer, sync};
+use ua_server::{Counted, PeerEnded, ServeFault, SyncFault, Synced, serve_peer, sync};
 use ua_variant::{DataValue, Scalar, Variant};
 use uuid::Uuid;
 
@@ -51,43 +51,47 @@ const SELF_PEER: &[u8] = b"RXEF\x0c\0\0\0\x05\0\0\0";
 const PEER_FORMAT: &[u8] = b"RXEF\x0c\0\0\0\x08\0\0\0";
 
 /// What a peer sends to replica 1 in pieces, what it is answered, and how that ends.
-static DIALOGS: [(&[&[u8]], &[&[u8]], Parted); 12] = [
-    (&[], &[], Parted::EndOfInput),
-    (&[ASKED], &[NOTHING], Parted::EndOfInput),
-    (&[ASKED, ASKED], &[NOTHING, NOTHING], Parted::EndOfInput),
-    (&[ASKED, END, ASKED], &[NOTHING], Parted::Done),
-    (&[ASKED, BROKEN_OFF, ASKED], &[NOTHING], Parted::Refused(7)),
+static DIALOGS: [(&[&[u8]], &[&[u8]], PeerEnded); 12] = [
+    (&[], &[], PeerEnded::EndOfInput),
+    (&[ASKED], &[NOTHING], PeerEnded::EndOfInput),
+    (&[ASKED, ASKED], &[NOTHING, NOTHING], PeerEnded::EndOfInput),
+    (&[ASKED, END, ASKED], &[NOTHING], PeerEnded::Done),
+    (
+        &[ASKED, BROKEN_OFF, ASKED],
+        &[NOTHING],
+        PeerEnded::Refused(7),
+    ),
     (
         &[ASKED_ITSELF, ASKED],
         &[SELF_PEER],
-        Parted::Failed(ExchangeFault::SelfPeer),
+        PeerEnded::Failed(ExchangeFault::SelfPeer),
     ),
     (
         &[ASKED_BY_AN_OLDER, ASKED],
         &[PEER_FORMAT],
-        Parted::Failed(ExchangeFault::PeerFormat),
+        PeerEnded::Failed(ExchangeFault::PeerFormat),
     ),
     (
         &[ASKED, NO_FRAME, ASKED],
         &[NOTHING, ILL],
-        Parted::Failed(ExchangeFault::Frame),
+        PeerEnded::Failed(ExchangeFault::Frame),
     ),
     (
         &[SHORT, ASKED],
         &[ILL],
-        Parted::Failed(ExchangeFault::Frame),
+        PeerEnded::Failed(ExchangeFault::Frame),
     ),
     (
         &[TOO_MANY, ASKED],
         &[ILL],
-        Parted::Failed(ExchangeFault::Frame),
+        PeerEnded::Failed(ExchangeFault::Frame),
     ),
     (
         &[TOO_LONG, ASKED],
         &[ILL],
-        Parted::Failed(ExchangeFault::Frame),
+        PeerEnded::Failed(ExchangeFault::Frame),
     ),
-    (&[ASKED, HEAD], &[NOTHING], Parted::EndOfInput),
+    (&[ASKED, HEAD], &[NOTHING], PeerEnded::EndOfInput),
 ];
 
 pub(crate) fn replica(alloc: Global, number: u8) -> Result<Replica<ListArchive>, StoreFault> {
@@ -111,7 +115,7 @@ fn is_answered(
     bytes: &[u8],
     size: usize,
     want: &[u8],
-    parted: Parted,
+    parted: PeerEnded,
 ) -> Result<bool, Fail> {
     let mut one = replica(alloc, 1)?;
     let mut reader = Counted::new(Slow {
@@ -159,10 +163,10 @@ const TOO_MANY_FRAMES: &[u8] = b"RXEF\x0c\0\0\0\x07\0\0\0";
 #[test]
 fn bounds_a_dialog(rt: HostRuntime) -> Result<(), Fail> {
     for (count, parted, end) in [
-        (1_000_000, Parted::EndOfInput, NOTHING),
+        (1_000_000, PeerEnded::EndOfInput, NOTHING),
         (
             1_000_001,
-            Parted::Failed(ExchangeFault::TooLong),
+            PeerEnded::Failed(ExchangeFault::TooLong),
             TOO_MANY_FRAMES,
         ),
     ] {
@@ -328,7 +332,7 @@ fn is_written(alloc: Global, bytes: &[u8], room: usize, want: &[u8]) -> Result<b
     let (ending, faults) = if room < want.len() {
         (Err(ServeFault::Write), 1)
     } else {
-        (Ok(Parted::Done), 0)
+        (Ok(PeerEnded::Done), 0)
     };
     Ok(
         result == ending

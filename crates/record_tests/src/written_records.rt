@@ -3,7 +3,7 @@
 ghost use Rattle.std.specs.Prelude.{◌≡◌, ◌<◌, false, IsTrue};
 ghost use Rattle.std.specs.Ordering.{is_eq};
 ghost use Rattle.records.specs.Lists.{IsApart};
-ghost use Rattle.records.specs.Records.{stamp_cmp};
+ghost use Rattle.records.specs.Records.{record_stamp_cmp};
 ghost use Rattle.records.specs.Spelling.{IsRecord};
 
 use history_rows::archives::{is_int, node, shows, value};
@@ -61,7 +61,7 @@ fn is_live(held: &Option<Held>, live: Option<i32>) -> bool {
 
 /// Whether the records show this live value.
 fn shows_live(alloc: Global, records: &[Record], live: Option<i32>) -> Result<bool, Fail>
-    requires { IsApart stamp_cmp records.now }
+    requires { IsApart record_stamp_cmp records.now }
 {
     let node = node(alloc)?;
     let held = current_of(alloc, records, &node, Moment::at(10))?;
@@ -74,7 +74,7 @@ fn shows_entries(
     records: &[Record],
     shown: &[(HistoryUpdateType, Option<i32>)],
 ) -> Result<bool, Fail>
-    requires { IsApart stamp_cmp records.now }
+    requires { IsApart record_stamp_cmp records.now }
 {
     let node = node(alloc)?;
     let entries = entries_of(alloc, records, &node, Moment::at(10))?;
@@ -84,7 +84,7 @@ fn shows_entries(
 /// Whether two records have two ticks.
 #[tactic(auto, using(records::proofs::Orders::apart_by_test))]
 fn have_two_ticks(a: &Record, b: &Record) -> bool
-    ensures { IsTrue result → is_eq (stamp_cmp a.now b.now) ≡ false }
+    ensures { IsTrue result → is_eq (record_stamp_cmp a.now b.now) ≡ false }
 {
     a.tick != b.tick
 }
@@ -92,7 +92,7 @@ fn have_two_ticks(a: &Record, b: &Record) -> bool
 /// Whether two records have two origins.
 #[tactic(auto, using(records::proofs::Orders::apart_by_origin))]
 fn have_two_origins(a: &Record, b: &Record) -> bool
-    ensures { IsTrue result → is_eq (stamp_cmp a.now b.now) ≡ false }
+    ensures { IsTrue result → is_eq (record_stamp_cmp a.now b.now) ≡ false }
 {
     a.origin != b.origin
 }
@@ -130,7 +130,7 @@ fn updates(alloc: Global, case: &Case, first: usize) -> Result<Vec<Record>, Fail
 
 /// Whether these are two records with two stamps.
 fn are_two(records: &[Record]) -> bool
-    ensures { IsTrue result → IsApart stamp_cmp records.now }
+    ensures { IsTrue result → IsApart record_stamp_cmp records.now }
 {
     match records {
         [one, other] => have_two_ticks(one, other) || have_two_origins(one, other),

@@ -6,7 +6,7 @@ use Rattle.std.proofs.lemmas.Int.{ints}
 use Rattle.stamp.specs.Limits.{greatest}
 use Rattle.records.specs.declared.record.Record.{Record}
 use Rattle.records.specs.Lists.{Has, Rises, IsApart}
-use Rattle.records.specs.Records.{name_cmp, stamp_cmp}
+use Rattle.records.specs.Records.{name_cmp, record_stamp_cmp}
 use Rattle.records.specs.Contents.{Content, vec, IsClosed}
 use Rattle.records.proofs.Sorting.{all-has, all_from_has}
 use Rattle.records.proofs.ContentLemmas.{apart_from_rises, vec_attained}
@@ -29,20 +29,20 @@ vec_small R origin closed = elim (vec_attained R origin) [
   | inr h ↦ let below = number_below_tick R closed h.0.number h.0 h.1 refl in let t = (closed.ticks h.0 h.1).1 in omega (arith, ints, h.2.1)
 ]
 
-tied_stamps : (x y : Record) → is_eq (stamp_cmp x y) ≡ true → (x.tick ≡ y.tick) × (x.origin ≡ y.origin)
+tied_stamps : (x y : Record) → is_eq (record_stamp_cmp x y) ≡ true → (x.tick ≡ y.tick) × (x.origin ≡ y.origin)
 tied_stamps x y e = grind (arith, nat_tests, ints)
 
 less_names : (x y : Record) → name_cmp x y ≡ Less → x.origin ≡ y.origin → x.number < y.number
 less_names x y e o = grind (arith, nat_tests)
 
-stamps_apart : (xs : Content) → Rises name_cmp xs → ((r s : Record) → Has xs r → Has xs s → r.origin ≡ s.origin → r.number < s.number → r.tick <ℤ s.tick) → IsApart stamp_cmp xs
+stamps_apart : (xs : Content) → Rises name_cmp xs → ((r s : Record) → Has xs r → Has xs s → r.origin ≡ s.origin → r.number < s.number → r.tick <ℤ s.tick) → IsApart record_stamp_cmp xs
 stamps_apart [] up rising = tt
 stamps_apart (x ∷ xs) up rising = (
-  all_from_has (λ y. is_eq (stamp_cmp x y) ≡ false) xs (λ y h. go y h (is_eq (stamp_cmp x y)) refl),
+  all_from_has (λ y. is_eq (record_stamp_cmp x y) ≡ false) xs (λ y h. go y h (is_eq (record_stamp_cmp x y)) refl),
   stamps_apart xs up.1 (λ r s h k e lt. rising r s (inr h) (inr k) e lt),
 )
   where
-    go : (y : Record) → Has xs y → (b : Bool) → is_eq (stamp_cmp x y) ≡ b → b ≡ false
+    go : (y : Record) → Has xs y → (b : Bool) → is_eq (record_stamp_cmp x y) ≡ b → b ≡ false
     go y h true e =
         let tie = tied_stamps x y e in
         let lt = less_names x y (all-has (λ z. name_cmp x z ≡ Less) xs y up.0 h) tie.1 in
@@ -50,7 +50,7 @@ stamps_apart (x ∷ xs) up rising = (
         absurd (omega (arith, ints, tie.0))
     go y h false e = refl
 
-pub closed_stamps : (R : Content) → IsClosed R → IsApart stamp_cmp R
+pub closed_stamps : (R : Content) → IsClosed R → IsApart record_stamp_cmp R
 closed_stamps R closed = stamps_apart R closed.ordered closed.rising
 
 pub closed_names : (R : Content) → IsClosed R → IsApart name_cmp R

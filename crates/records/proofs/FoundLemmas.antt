@@ -10,7 +10,7 @@ use Rattle.ua_variant.specs.declared.update_type.HistoryUpdateType.{HistoryUpdat
 use Rattle.ua_variant.specs.declared.update_type.HistoryUpdateType.TheVariants.{Insert, Replace, Update, Delete}
 use Rattle.records.specs.Lists.{Has, last}
 use Rattle.records.proofs.SameParts.{node_code}
-use Rattle.records.specs.Records.{stamp_cmp, is_at, story, is_delete, write, kind, entry, entries_after}
+use Rattle.records.specs.Records.{record_stamp_cmp, is_at, versions, is_delete, write, kind, entry, entries_after}
 use Rattle.records.proofs.ContentsParts.{held_of}
 use Rattle.records.specs.Contents.{Content, IsShownAt, IsFound}
 use Rattle.records.proofs.Sorting.{has-filter, has-sort_by}
@@ -59,12 +59,12 @@ held_write extra o r e d = (record { time = r.time; value = r.value; extra = ext
 at_its_place : (r : Record) → is_at r.node r.time r ≡ true
 at_its_place r = and_from _ _ ((Decides-is_same node_code r.node r.node).1 refl) (ap is_eq (tied_itself int_cmp_total r.time))
 
-pub in_story : (R : Content) (r : Record) → Has R r → Has (story R r.node r.time) r
-in_story R r h = has-sort_by stamp_cmp stamp_total _ r (has-filter (is_at r.node r.time) R r h (at_its_place r))
+pub in_story : (R : Content) (r : Record) → Has R r → Has (versions R r.node r.time) r
+in_story R r h = has-sort_by record_stamp_cmp stamp_total _ r (has-filter (is_at r.node r.time) R r h (at_its_place r))
 
 pub found : (R : Content) (r : Record) → Has R r → IsFound R r
 found R r h =
     let there = in_story R r h in (
-      λ d. delete_in None (story R r.node r.time) r there d,
-      λ d. elim (write_in None (story R r.node r.time) r there d) [ inl e ↦ (let h = held_write _ _ r e d in inl (e, h.0, h.1, h.2, h.3)) | inr m ↦ inr m ],
+      λ d. delete_in None (versions R r.node r.time) r there d,
+      λ d. elim (write_in None (versions R r.node r.time) r there d) [ inl e ↦ (let h = held_write _ _ r e d in inl (e, h.0, h.1, h.2, h.3)) | inr m ↦ inr m ],
     )

@@ -8,7 +8,7 @@ use Rattle.std.specs.Int.{int_max}
 use Rattle.stamp.specs.Limits.{greatest}
 use Rattle.records.specs.Lists.{insert_sorted, sort_by, last, Has, Rises}
 use Rattle.records.specs.Same.{same_record}
-use Rattle.records.specs.Records.{name_cmp, stamp_cmp, is_beyond, is_delete, story, current, entries}
+use Rattle.records.specs.Records.{name_cmp, record_stamp_cmp, is_beyond, is_delete, versions, current, modifications_at}
 use Rattle.records.specs.declared.record.Record.{Record}
 use Rattle.ua_variant.specs.declared.update_type.HistoryUpdateType.TheVariants.{Delete}
 use Rattle.records.specs.declared.shown.Held.{Held}
@@ -42,19 +42,22 @@ last_tick R origin = top (filter (λ r. r.origin == origin) R)
 abbrev pub HasName : Content → ℕ → ℕ → Type 0
 HasName R origin number = (r : Record) × Has R r × ((r.origin ≡ origin) × (r.number ≡ number))
 
--- a content is closed where each origin's numbers are 1 to its last, and its ticks, each in its limits, rise with them
+-- a content is closed where each origin's numbers are 1 to its last, and its ticks, each in its
+-- limits, rise with them
 pub record IsClosed (R : Content) : Type 0 where
   pub ordered : Rises name_cmp R
   pub numbers : (r : Record) → Has R r → 1 ≤ r.number
   pub whole : (origin number : ℕ) → 1 ≤ number → number ≤ vec R origin → HasName R origin number
   pub ticks : (r : Record) → Has R r → (pos 1 ≤ℤ r.tick) × (r.tick ≤ℤ pos greatest)
-  pub rising : (r s : Record) → Has R r → Has R s → r.origin ≡ s.origin → r.number < s.number → r.tick <ℤ s.tick
+  pub rising : (r s : Record) → Has R r → Has R s → r.origin ≡ s.origin → r.number < s.number
+      → r.tick <ℤ s.tick
 
 -- ---- merging
 
 -- no name has two records
 abbrev pub AreCompatible : Content → Content → Type 0
-AreCompatible R S = (r s : Record) → Has R r → Has S s → r.origin ≡ s.origin → r.number ≡ s.number → r ≡ s
+AreCompatible R S =
+    (r s : Record) → Has R r → Has S s → r.origin ≡ s.origin → r.number ≡ s.number → r ≡ s
 
 -- each record of the one is in the other
 abbrev pub IsWithin : Content → Content → Type 0
@@ -90,7 +93,8 @@ pub data Finding : Type 0 where
   Adds Holds Clash TickTooFar TickNotRising : Finding
   Gap : (held got : ℕ) → Finding
 
--- a number that is reached is held already, or clashes; else it has to be the next, and its tick in the limits and above the origin's last
+-- a number that is reached is held already, or clashes; else it has to be the next, and its tick in
+-- the limits and above the origin's last
 abbrev pub finding : Content → Record → Finding
 finding R r =
     if nat_le r.number (vec R r.origin) then (if list_any (same_record r) R then Holds else Clash)
@@ -113,7 +117,8 @@ merged (r ∷ rs) R = option_map_or (merged rs) (learned R r) R
 -- at its node and source time, no record has a greater stamp
 pub record IsLatest (R : Content) (r : Record) : Type 0 where
   pub there : Has R r
-  pub above : (s : Record) → Has R s → s.node ≡ r.node → s.time ≡ r.time → (s ≡ r) ⊎ (stamp_cmp s r ≡ Less)
+  pub above : (s : Record) → Has R s → s.node ≡ r.node → s.time ≡ r.time
+      → (s ≡ r) ⊎ (record_stamp_cmp s r ≡ Less)
 
 -- another record stands at its node and source time
 abbrev pub HasOther : Content → Record → Type 0
@@ -129,12 +134,16 @@ pub record IsShownAt (rs : List Record) (es : List Entry) (k : ℕ) (r : Record)
 -- a write is the last of its story and the live value, or the next record's entry shows it
 abbrev pub IsWriteFound : Content → Record → Type 0
 IsWriteFound R r =
-    ((last (story R r.node r.time) ≡ Some r) × (h : Held) × (current R r.node r.time ≡ Some h) × (h.value ≡ r.value) × (h.time ≡ r.time))
-    ⊎ ((k : ℕ) × IsShownAt (story R r.node r.time) (entries R r.node r.time) k r)
+    ((last (versions R r.node r.time) ≡ Some r) × (h : Held) × (current R r.node r.time ≡ Some h)
+    × (h.value ≡ r.value) × (h.time ≡ r.time))
+    ⊎ ((k : ℕ) × IsShownAt (versions R r.node r.time) (modifications_at R r.node r.time) k r)
 
 -- a delete is an entry of its kind, with its time, tick, origin and user
 abbrev pub IsDeleteFound : Content → Record → Type 0
-IsDeleteFound R r = (e : Entry) × Has (entries R r.node r.time) e × (e.kind ≡ Delete) × (e.time ≡ r.time) × (e.tick ≡ r.tick) × (e.origin ≡ r.origin) × (e.user ≡ r.user)
+IsDeleteFound R r =
+    (e : Entry) × Has (modifications_at R r.node r.time) e × (e.kind ≡ Delete) × (e.time ≡ r.time)
+    × (e.tick ≡ r.tick) × (e.origin ≡ r.origin) × (e.user ≡ r.user)
 
 abbrev pub IsFound : Content → Record → Type 0
-IsFound R r = (is_delete r.asked ≡ true → IsDeleteFound R r) × (is_delete r.asked ≡ false → IsWriteFound R r)
+IsFound R r =
+    (is_delete r.asked ≡ true → IsDeleteFound R r) × (is_delete r.asked ≡ false → IsWriteFound R r)

@@ -5,9 +5,11 @@ use Rattle.std.specs.declared.cmp.Ordering.{Ordering}
 use Rattle.std.specs.declared.cmp.Ordering.TheVariants.{Less}
 use Rattle.std.specs.Ordering.{is_gt, is_eq}
 
+-- a sorted list with one item more, in front of those that aren't less
 abbrev pub insert_sorted : {X : Type 0} → (X → X → Ordering) → X → List X → List X
 insert_sorted cmp new [] = new ∷ []
-insert_sorted cmp new (x ∷ xs) = if is_gt (cmp new x) then x ∷ insert_sorted cmp new xs else new ∷ x ∷ xs
+insert_sorted cmp new (x ∷ xs) =
+    if is_gt (cmp new x) then x ∷ insert_sorted cmp new xs else new ∷ x ∷ xs
 
 -- the list in order; of elements that tie, the first stays first
 abbrev pub sort_by : {X : Type 0} → (X → X → Ordering) → List X → List X

@@ -38,5 +38,7 @@ pub pico_within : (z : ℤ) → pico_of z ≤ 9999
 pico_within (pos n) = omega (arith, ints)
 pico_within (negsuc n) = omega (arith, ints)
 
-pub at_once : (m : Inside) → m.pico ≤ 9999 → record { ticks = ticks_of (moment m.ticks m.pico); pico = pico_of (moment m.ticks m.pico) } ≡ m
+pub at_once : (m : Inside) → m.pico ≤ 9999
+    → record { ticks = ticks_of (moment m.ticks m.pico); pico = pico_of (moment m.ticks m.pico) }
+    ≡ m
 at_once m h = rw (ticks_again m.ticks m.pico h, pico_again m.ticks m.pico h) refl

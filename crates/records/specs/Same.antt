@@ -17,8 +17,10 @@ same_tree _ _ = false
 abbrev pub is_same : {A : Type 0} → Coded A → A → A → Bool
 is_same c x y = same_tree (c.code x) (c.code y)
 
+-- two nodes are the same
 abbrev pub same_node : NodeId → NodeId → Bool
 same_node = is_same node.the_row.coded
 
+-- two records are the same in every field
 abbrev pub same_record : Record → Record → Bool
 same_record = is_same whole.the_row.coded

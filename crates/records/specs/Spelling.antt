@@ -1,4 +1,5 @@
--- A record as bytes, format 2: the byte 2, and its fields one after the other. Only the spelling that is written is one.
+-- A record as bytes, format 2: the byte 2, and its fields one after the other. Only the spelling
+-- that is written is one.
 use Rattle.std.specs.Prelude.{◌≡◌, ℕ, ◌^◌, ◌<◌, ◌≤◌, nat_lt, nat_le, ◌==◌, ℤ, pos, ◌≤ℤ◌, int_le, Bool, true, false, not, ◌&&◌, ◌||◌, List, [], length, Some, None, IfSome, is_some, unwrap_or, Result, Ok, Err, if◌then◌else◌}
 use Rattle.std.specs.Int.{w16, w64}
 use Rattle.std.specs.Int.RustNames.{FitsSigned}
@@ -28,37 +29,82 @@ field test f = passing test BadField (raised binary_fault f)
 
 -- a moment: its ticks, and then its picoseconds
 unfoldable pub time : Format RecordFault ℤ
-time = standing_for (λ p. moment p.0 p.1) (λ t. (ticks_of t, pico_of t)) (field (λ t. int_le (pos 1) t) (signed w64) ▸ field (λ n. nat_le n 9999) (unsigned w16))
+time =
+    standing_for (λ p. moment p.0 p.1) (λ t. (ticks_of t, pico_of t))
+    (field (λ t. int_le (pos 1) t) (signed w64) ▸ field (λ n. nat_le n 9999) (unsigned w16))
 
--- what stands before the value
-abbrev pub front : Format RecordFault (ℕ × (ℕ × (ℕ × (ℤ × (NodeId × (ℤ × (HistoryUpdateType × List ℕ)))))))
+-- what was asked, by its number (Part 11, 6.8)
+abbrev pub asked_field : Format RecordFault HistoryUpdateType
+asked_field =
+    standing_for
+    (λ n. if n == 1 then Insert else if n == 2 then Replace else if n == 3 then Update else Delete)
+    update_number (field (λ n. nat_le 1 n && nat_le n 4) byte)
+
+-- who asked: a text that isn't null, of at most 256 bytes
+abbrev pub user_field : Format RecordFault (List ℕ)
+user_field =
+    standing_for (λ name. unwrap_or name []) Some
+    (field (λ given. elim given [ None ↦ false | Some name ↦ nat_le (length name) 256 ]) text)
+
+-- what stands before the value: the format's number, the name, the node and the source time, what
+-- was asked and by whom
+abbrev pub front : Format RecordFault
+    (ℕ × (ℕ × (ℕ × (ℤ × (NodeId × (ℤ × (HistoryUpdateType × List ℕ)))))))
 front =
-    -- the format's number
     field (λ n. n == 2) byte
-    -- origin, number and tick
     ▸ field (λ n. nat_le 1 n && nat_le n 64) byte
     ▸ field (λ n. nat_le 1 n && nat_le n greatest) (unsigned w64)
     ▸ field (λ t. int_le (pos 1) t && int_le t (pos greatest)) (signed w64)
-    -- the node and the source time
-    ▸ raised binary_fault node_id ▸ time
-    -- what was asked
-    ▸ standing_for (λ n. if n == 1 then Insert else if n == 2 then Replace else if n == 3 then Update else Delete) update_number (field (λ n. nat_le 1 n && nat_le n 4) byte)
-    -- who asked: a text that isn't null, of at most 256 bytes
-    ▸ standing_for (λ name. unwrap_or name []) Some (field (λ given. elim given [ None ↦ false | Some name ↦ nat_le (length name) 256 ]) text)
+    ▸ raised binary_fault node_id ▸ time ▸ asked_field ▸ user_field
 
 -- a delete has the empty value; a write has one without source time, which is the record's
 abbrev pub is_value_for : HistoryUpdateType → DataValue → Bool
-is_value_for asked v = if is_delete asked then not (is_some v.value || is_some v.status || is_some v.source_time || is_some v.source_pico || is_some v.server_time || is_some v.server_pico) else not (is_some v.source_time)
+is_value_for asked v =
+    if is_delete asked
+    then not
+    (is_some v.value || is_some v.status || is_some v.source_time || is_some v.source_pico
+    || is_some v.server_time || is_some v.server_pico) else not (is_some v.source_time)
 
 -- a value with nothing in it, that of a delete
 abbrev pub empty : DataValue
-empty = record { value = None; status = None; source_time = None; source_pico = None; server_time = None; server_pico = None }
+empty =
+    record {
+      value = None;
+      status = None;
+      source_time = None;
+      source_pico = None;
+      server_time = None;
+      server_pico = None;
+    }
+
+-- what stands before the value, and the value
+abbrev pub RecordFields : Type 0
+RecordFields =
+    (ℕ × (ℕ × (ℕ × (ℤ × (NodeId × (ℤ × (HistoryUpdateType × List ℕ))))))) × DataValue
+
+-- a record by its fields, behind the format's number
+abbrev pub record_of : RecordFields → Record
+record_of ((format, (origin, (number, (tick, (node, (time, (asked, user))))))), value) =
+    record {
+      origin = origin;
+      number = number;
+      tick = tick;
+      node = node;
+      time = time;
+      asked = asked;
+      user = user;
+      value = value;
+    }
+
+-- the fields that are written, in format 2
+abbrev pub fields_of : Record → RecordFields
+fields_of r =
+    ((2, (r.origin, (r.number, (r.tick, (r.node, (r.time, (r.asked, r.user))))))), r.value)
 
 -- the fields one after the other, in any of their spellings
 unfoldable pub fields : Format RecordFault Record
-fields = passing (λ r. is_value_for r.asked r.value) BadField (standing_for
-    (λ p. record { origin = p.0.1.0; number = p.0.1.1.0; tick = p.0.1.1.1.0; node = p.0.1.1.1.1.0; time = p.0.1.1.1.1.1.0; asked = p.0.1.1.1.1.1.1.0; user = p.0.1.1.1.1.1.1.1; value = p.1 })
-    (λ r. ((2, (r.origin, (r.number, (r.tick, (r.node, (r.time, (r.asked, r.user))))))), r.value)) (front ▸ raised value_fault data_value))
+fields = passing (λ r. is_value_for r.asked r.value) BadField
+    (standing_for record_of fields_of (front ▸ raised value_fault data_value))
 
 -- ---- the record
 
@@ -90,7 +136,8 @@ pub record HasLimits (r : Record) : Type 0 where
   pub number : (1 ≤ r.number) × (r.number ≤ greatest)
   pub time : pos 1 ≤ℤ ticks_of r.time
   pub user : length r.user ≤ 256
-  pub picoseconds : IfSome r.value.source_pico IsPicoseconds × IfSome r.value.server_pico IsPicoseconds
+  pub picoseconds : IfSome r.value.source_pico IsPicoseconds
+      × IfSome r.value.server_pico IsPicoseconds
   pub suits : is_value_for r.asked r.value ≡ true
 
 -- what has a spelling
@@ -99,9 +146,13 @@ IsRecord r = IsLawfulRecord r × ((pos 1 ≤ℤ r.tick) × (r.tick ≤ℤ pos gr
 
 -- the fields as they are written, and at most so many bytes of them
 unfoldable pub record_form : Format RecordFault Record
-record_form = fitting IsRecord (canonical NotCanonical (passing (λ r. nat_le (length (fields.canon r)) longest) BadField fields))
+record_form =
+    fitting IsRecord
+    (canonical NotCanonical
+    (passing (λ r. nat_le (length (fields.canon r)) longest) BadField fields))
 
--- the record that all of the bytes spell: the fields are judged first, then that nothing follows, then the size, and that they are spelled as they are written comes last
+-- the record that all of the bytes spell: the fields are judged first, then that nothing follows,
+-- then the size, and that they are spelled as they are written comes last
 abbrev pub record_at : List ℕ → Result Record RecordFault
 record_at bytes =
     whole Binary fields bytes >>= λ r.

@@ -39,11 +39,16 @@ abbrev pub pico : Format RecordFault ℕ
 pico = field (λ n. nat_le n 9999) (unsigned w16)
 
 abbrev pub asked : Format RecordFault HistoryUpdateType
-asked = standing_for (λ n. if n == 1 then Insert else if n == 2 then Replace else if n == 3 then Update else Delete) update_number (field (λ n. nat_le 1 n && nat_le n 4) byte)
+asked =
+    standing_for
+    (λ n. if n == 1 then Insert else if n == 2 then Replace else if n == 3 then Update
+    else Delete) update_number (field (λ n. nat_le 1 n && nat_le n 4) byte)
 
 -- a text that isn't null, of at most 256 bytes
 abbrev pub user : Format RecordFault (List ℕ)
-user = standing_for (λ name. unwrap_or name []) Some (field (λ given. elim given [ None ↦ false | Some name ↦ nat_le (length name) 256 ]) text)
+user =
+    standing_for (λ name. unwrap_or name []) Some
+    (field (λ given. elim given [ None ↦ false | Some name ↦ nat_le (length name) 256 ]) text)
 
 -- what was updated, and who asked
 abbrev pub update : Format RecordFault (NodeId × (ℤ × (HistoryUpdateType × List ℕ)))

@@ -142,7 +142,9 @@ impl<'a> Update<'a> {
 
     /// An error leaves the cursor anywhere.
     fn read(cursor: &mut Cursor<'a>) -> Result<Update<'a>, RecordFault>
-        ensures { ReadsPart fault.OutOfMemory (λ u. (node_of u.node, (u.time, (u.asked, u.user.now)))) result cursor.old cursor.new update.read }
+        ensures { ReadsPart fault.OutOfMemory
+            (λ u. (node_of u.node, (u.time, (u.asked, u.user.now)))) result cursor.old cursor.new
+            update.read }
     {
         let node = cursor.node_id()?;
         let time = read_time(cursor)?;
@@ -174,7 +176,9 @@ impl Front {
 
     /// An error leaves the cursor anywhere.
     pub(crate) fn read(alloc: Global, cursor: &mut Cursor<'_>) -> Result<Front, RecordFault>
-        ensures { ReadsPart fault.OutOfMemory (λ f. (2, (f.origin, (f.number, (f.tick, (f.node, (f.time, (f.asked, f.user)))))))) result cursor.old cursor.new front.read }
+        ensures { ReadsPart fault.OutOfMemory
+            (λ f. (2, (f.origin, (f.number, (f.tick, (f.node, (f.time, (f.asked, f.user))))))))
+            result cursor.old cursor.new front.read }
     {
         read_version(cursor)?;
         let origin = read_origin(cursor)?;
@@ -199,7 +203,17 @@ impl Front {
 
     /// The record of these fields and a value.
     pub(crate) fn with_value(self, value: DataValue) -> Record
-        ensures { result ≡ record { origin = self.origin; number = self.number; tick = self.tick; node = self.node; time = self.time; asked = self.asked; user = self.user; value = value } }
+        ensures { result
+            ≡ record {
+              origin = self.origin;
+              number = self.number;
+              tick = self.tick;
+              node = self.node;
+              time = self.time;
+              asked = self.asked;
+              user = self.user;
+              value = value;
+            } }
     {
         Record {
             origin: self.origin,

@@ -6,7 +6,7 @@ ghost use Rattle.std.specs.declared.cmp.Ordering.TheVariants.{Less};
 ghost use Rattle.stamp.specs.Limits.{greatest};
 ghost use Rattle.records.specs.Lists.{Has, Rises};
 ghost use Rattle.records.specs.Contents.{Content, IsClosed, AreCompatible, IsWithin, IsNext, AreNextInTurn, IsFound, IsLatest, HasName, HasOther, Finding, Adds, Holds, Clash, Gap, TickTooFar, TickNotRising, finding, learned, put, join, cut, vec, top, last_tick, merged};
-ghost use Rattle.records.specs.Records.{name_cmp, stamp_cmp, missing, is_beyond, is_delete, story, current, entries};
+ghost use Rattle.records.specs.Records.{name_cmp, record_stamp_cmp, missing, is_beyond, is_delete, versions, current, modifications_at};
 ghost use Rattle.stamp.specs.Stamp as stamps;
 ghost use Rattle.records.specs.Lists.{IsApart};
 ghost use Rattle.records.specs.Spelling.{record_form, record_at};
@@ -25,21 +25,25 @@ use crate::record::Record as OwnRecord;
 pub fn merging_is_a_join()
     ensures commutes { (R S : Content) → IsClosed R → IsClosed S → AreCompatible R S → join R S ≡ join S R }
     ensures associates { (R S T : Content) → IsClosed R → IsClosed S → IsClosed T
-        → AreCompatible R S → AreCompatible R T → AreCompatible S T → join (join R S) T ≡ join R (join S T) }
+        → AreCompatible R S → AreCompatible R T → AreCompatible S T
+        → join (join R S) T ≡ join R (join S T) }
     ensures repeats { (R : Content) → IsClosed R → join R R ≡ R }
     ensures closed { (R S : Content) → IsClosed R → IsClosed S → AreCompatible R S → IsClosed (join R S) }
-    ensures members { (R S : Content) (r : Record) → AreCompatible R S → Has (join R S) r ↔ (Has R r ⊎ Has S r) }
+    ensures members { (R S : Content) (r : Record) → AreCompatible R S
+        → Has (join R S) r ↔ (Has R r ⊎ Has S r) }
     ensures above_left { (R S : Content) → AreCompatible R S → IsWithin R (join R S) }
     ensures above_right { (R S : Content) → AreCompatible R S → IsWithin S (join R S) }
     ensures least { (R S T : Content) → IsWithin R T → IsWithin S T → IsWithin (join R S) T }
-    ensures vectors { (R S : Content) → AreCompatible R S → (origin : ℕ) → vec (join R S) origin ≡ max (vec R origin) (vec S origin) }
+    ensures vectors { (R S : Content) → AreCompatible R S → (origin : ℕ)
+        → vec (join R S) origin ≡ max (vec R origin) (vec S origin) }
 {}
 
 /// Where contents are compatible, equal vectors mean equal contents: a closed content holds of each
 /// origin exactly its first records, as many as its vector says.
 #[tactic(auto, using(crate::proofs::ContentLemmas::same_content))]
 pub fn equal_vectors_mean_equal_contents()
-    ensures { (R S : Content) → IsClosed R → IsClosed S → AreCompatible R S → ((origin : ℕ) → vec R origin ≡ vec S origin) → R ≡ S }
+    ensures { (R S : Content) → IsClosed R → IsClosed S → AreCompatible R S
+        → ((origin : ℕ) → vec R origin ≡ vec S origin) → R ≡ S }
 {}
 
 /// No record is lost from view: a write is the live value, or the next record's entry shows it; a
@@ -61,23 +65,32 @@ pub fn learning_what_is_missing_joins()
 /// the same; it goes through merging, so that what was held before is found again.
 #[tactic(auto, using(crate::proofs::CutLemmas::cuts))]
 pub fn vectors_cut_contents()
-    ensures vector { (R : Content) (v : ℕ → ℕ) → IsClosed R → (origin : ℕ) → vec (cut R v) origin ≡ min (vec R origin) (v origin) }
+    ensures vector { (R : Content) (v : ℕ → ℕ) → IsClosed R → (origin : ℕ)
+        → vec (cut R v) origin ≡ min (vec R origin) (v origin) }
     ensures closed { (R : Content) (v : ℕ → ℕ) → IsClosed R → IsClosed (cut R v) }
     ensures whole { (R : Content) → IsClosed R → cut R (vec R) ≡ R }
     ensures same { (R S : Content) (v : ℕ → ℕ) → IsClosed R → IsClosed S → AreCompatible R S
-        → ((origin : ℕ) → v origin ≤ vec R origin) → ((origin : ℕ) → v origin ≤ vec S origin) → cut R v ≡ cut S v }
-    ensures joined { (R S : Content) (v : ℕ → ℕ) → IsClosed R → IsClosed S → AreCompatible R S → cut (join R S) v ≡ join (cut R v) (cut S v) }
-    ensures back { (R S : Content) → IsClosed R → IsClosed S → AreCompatible R S → cut (join R S) (vec R) ≡ R }
+        → ((origin : ℕ) → v origin ≤ vec R origin) → ((origin : ℕ) → v origin ≤ vec S origin)
+        → cut R v ≡ cut S v }
+    ensures joined { (R S : Content) (v : ℕ → ℕ) → IsClosed R → IsClosed S → AreCompatible R S
+        → cut (join R S) v ≡ join (cut R v) (cut S v) }
+    ensures back { (R S : Content) → IsClosed R → IsClosed S → AreCompatible R S
+        → cut (join R S) (vec R) ≡ R }
 {}
 
 /// The live value is that of the greatest stamp: none where that is a delete, or where no record
 /// stands; and it is told apart whether another record stands there.
 #[tactic(auto, using(crate::proofs::LatestLemmas::latest))]
 pub fn current_is_the_latest()
-    ensures deleted { (R : Content) (r : Record) → IsApart stamp_cmp R → IsLatest R r → is_delete r.asked ≡ true → current R r.node r.time ≡ None }
-    ensures written { (R : Content) (r : Record) → IsApart stamp_cmp R → IsLatest R r → is_delete r.asked ≡ false
-        → (h : Held) × (current R r.node r.time ≡ Some h) × (h.value ≡ r.value) × (h.time ≡ r.time) × ((h.extra ≡ true) ↔ HasOther R r) }
-    ensures none { (R : Content) (node : NodeId) (time : ℤ) → ((s : Record) → Has R s → s.node ≡ node → s.time ≡ time → ⊥) → current R node time ≡ None }
+    ensures deleted { (R : Content) (r : Record) → IsApart record_stamp_cmp R → IsLatest R r
+        → is_delete r.asked ≡ true → current R r.node r.time ≡ None }
+    ensures written { (R : Content) (r : Record) → IsApart record_stamp_cmp R → IsLatest R r
+        → is_delete r.asked ≡ false
+        → (h : Held) × (current R r.node r.time ≡ Some h) × (h.value ≡ r.value) × (h.time ≡ r.time)
+        × ((h.extra ≡ true) ↔ HasOther R r) }
+    ensures none { (R : Content) (node : NodeId) (time : ℤ)
+        → ((s : Record) → Has R s → s.node ≡ node → s.time ≡ time → ⊥)
+        → current R node time ≡ None }
 {}
 
 /// The order of a list is free: a story rises by stamp and has exactly the records of its node and
@@ -85,22 +98,30 @@ pub fn current_is_the_latest()
 /// and what a vector lacks of them is the same.
 #[tactic(auto, using(crate::proofs::LatestLemmas::free))]
 pub fn the_order_of_records_is_free()
-    ensures rises { (R : List Record) (node : NodeId) (time : ℤ) → IsApart stamp_cmp R → Rises stamp_cmp (story R node time) }
-    ensures story { (R : List Record) (node : NodeId) (time : ℤ) (r : Record) → Has (story R node time) r ↔ (Has R r × (r.node ≡ node) × (r.time ≡ time)) }
-    ensures current { (R S : List Record) (node : NodeId) (time : ℤ) → IsApart stamp_cmp R → IsApart stamp_cmp S
+    ensures rises { (R : List Record) (node : NodeId) (time : ℤ) → IsApart record_stamp_cmp R
+        → Rises record_stamp_cmp (versions R node time) }
+    ensures story { (R : List Record) (node : NodeId) (time : ℤ) (r : Record)
+        → Has (versions R node time) r ↔ (Has R r × (r.node ≡ node) × (r.time ≡ time)) }
+    ensures current { (R S : List Record) (node : NodeId) (time : ℤ) → IsApart record_stamp_cmp R
+        → IsApart record_stamp_cmp S
         → ((r : Record) → Has R r ↔ Has S r) → current R node time ≡ current S node time }
-    ensures entries { (R S : List Record) (node : NodeId) (time : ℤ) → IsApart stamp_cmp R → IsApart stamp_cmp S
-        → ((r : Record) → Has R r ↔ Has S r) → entries R node time ≡ entries S node time }
+    ensures entries { (R S : List Record) (node : NodeId) (time : ℤ) → IsApart record_stamp_cmp R
+        → IsApart record_stamp_cmp S
+        → ((r : Record) → Has R r ↔ Has S r)
+        → modifications_at R node time ≡ modifications_at S node time }
     ensures missing { (R S : List Record) (v : ℕ → ℕ) (limit : ℕ) → IsApart name_cmp R → IsApart name_cmp S
         → ((r : Record) → Has R r ↔ Has S r) → missing R v limit ≡ missing S v limit }
-    ensures stamps { (r s : Record) → stamp_cmp r s ≡ stamps.stamp_cmp (record { tick = r.tick; origin = r.origin }) (record { tick = s.tick; origin = s.origin }) }
+    ensures stamps { (r s : Record)
+        → record_stamp_cmp r s
+        ≡ stamps.stamp_cmp (record { tick = r.tick; origin = r.origin })
+        (record { tick = s.tick; origin = s.origin }) }
 {}
 
 /// Of a closed content no two records have one name or one stamp, and no number passes 2^62 - 1.
 #[tactic(auto, using(crate::proofs::CloseLemmas::closeness))]
 pub fn closed_contents_are_told_apart()
     ensures names { (R : Content) → IsClosed R → IsApart name_cmp R }
-    ensures stamps { (R : Content) → IsClosed R → IsApart stamp_cmp R }
+    ensures stamps { (R : Content) → IsClosed R → IsApart record_stamp_cmp R }
     ensures numbers { (R : Content) (origin : ℕ) → IsClosed R → vec R origin ≤ greatest }
 {}
 
@@ -111,9 +132,11 @@ pub fn learning_keeps_contents_closed()
     ensures adds { (R : Content) (r : Record) → (finding R r ≡ Adds) ↔ IsNext R r }
     ensures holds { (R : Content) (r : Record) → finding R r ≡ Holds → Has R r }
     ensures held { (R : Content) (r : Record) → Has R r → finding R r ≡ Holds }
-    ensures closed { (R : Content) (r : Record) (S : Content) → IsClosed R → learned R r ≡ Some S → IsClosed S }
+    ensures closed { (R : Content) (r : Record) (S : Content) → IsClosed R → learned R r ≡ Some S
+        → IsClosed S }
     ensures within { (R : Content) (r : Record) (S : Content) → learned R r ≡ Some S → IsWithin R S × Has S r }
-    ensures only { (R : Content) (r : Record) (S : Content) (z : Record) → learned R r ≡ Some S → Has S z → Has R z ⊎ (r ≡ z) }
+    ensures only { (R : Content) (r : Record) (S : Content) (z : Record) → learned R r ≡ Some S → Has S z
+        → Has R z ⊎ (r ≡ z) }
 {}
 
 /// What one more record changes: the content has it and what it had; where it is its origin's next,
@@ -123,9 +146,11 @@ pub fn learning_keeps_contents_closed()
 pub fn one_more_record_changes_its_origin_alone()
     ensures members { (R : Content) (r z : Record) → Has (put r R) z ↔ ((r ≡ z) ⊎ Has R z) }
     ensures number { (R : Content) (r : Record) → IsNext R r → vec (put r R) r.origin ≡ r.number }
-    ensures other_numbers { (R : Content) (r : Record) (origin : ℕ) → (r.origin ≡ origin → ⊥) → vec (put r R) origin ≡ vec R origin }
+    ensures other_numbers { (R : Content) (r : Record) (origin : ℕ) → (r.origin ≡ origin → ⊥)
+        → vec (put r R) origin ≡ vec R origin }
     ensures tick { (R : Content) (r : Record) → IsNext R r → last_tick (put r R) r.origin ≡ r.tick }
-    ensures other_ticks { (R : Content) (r : Record) (origin : ℕ) → (r.origin ≡ origin → ⊥) → last_tick (put r R) origin ≡ last_tick R origin }
+    ensures other_ticks { (R : Content) (r : Record) (origin : ℕ) → (r.origin ≡ origin → ⊥)
+        → last_tick (put r R) origin ≡ last_tick R origin }
     ensures top { (R : Content) (r : Record) → top (put r R) ≡ int_max r.tick (top R) }
     ensures closed { (R : Content) (r : Record) → IsClosed R → IsNext R r → IsClosed (put r R) }
 {}
@@ -139,9 +164,13 @@ pub fn last_numbers_and_ticks_are_the_greatest()
     ensures number_held { (R : Content) (origin : ℕ) → (vec R origin ≡ 0) ⊎ HasName R origin (vec R origin) }
     ensures ticks { (R : Content) (r : Record) → Has R r → r.tick ≤ℤ top R }
     ensures tick_held { (R : Content) → (top R ≡ pos 0) ⊎ ((r : Record) × Has R r × (r.tick ≡ top R)) }
-    ensures last_ticks { (R : Content) (r : Record) (origin : ℕ) → Has R r → r.origin ≡ origin → r.tick ≤ℤ last_tick R origin }
-    ensures last_tick_held { (R : Content) (origin : ℕ) → (last_tick R origin ≡ pos 0) ⊎ ((r : Record) × Has R r × (r.origin ≡ origin) × (r.tick ≡ last_tick R origin)) }
-    ensures last_of_last { (R : Content) (r : Record) → IsClosed R → Has R r → r.number ≡ vec R r.origin → r.tick ≡ last_tick R r.origin }
+    ensures last_ticks { (R : Content) (r : Record) (origin : ℕ) → Has R r → r.origin ≡ origin
+        → r.tick ≤ℤ last_tick R origin }
+    ensures last_tick_held { (R : Content) (origin : ℕ)
+        → (last_tick R origin ≡ pos 0)
+        ⊎ ((r : Record) × Has R r × (r.origin ≡ origin) × (r.tick ≡ last_tick R origin)) }
+    ensures last_of_last { (R : Content) (r : Record) → IsClosed R → Has R r → r.number ≡ vec R r.origin
+        → r.tick ≡ last_tick R r.origin }
     ensures last_within { (R : Content) (origin : ℕ) → last_tick R origin ≤ℤ top R }
     ensures numbers_below_ticks { (R : Content) (origin : ℕ) → IsClosed R → pos (vec R origin) ≤ℤ last_tick R origin }
 {}
@@ -151,14 +180,19 @@ pub fn last_numbers_and_ticks_are_the_greatest()
 /// limit is 0.
 #[tactic(auto, using(crate::proofs::LackLemmas::lacking))]
 pub fn missing_is_what_a_vector_lacks()
-    ensures within { (R : Content) (v : ℕ → ℕ) (k : ℕ) (r : Record) → Has (missing R v k) r → Has R r × (v r.origin < r.number) }
-    ensures all { (R : Content) (v : ℕ → ℕ) (k : ℕ) (r : Record) → length (filter (is_beyond v) R) ≤ k → Has R r → v r.origin < r.number → Has (missing R v k) r }
+    ensures within { (R : Content) (v : ℕ → ℕ) (k : ℕ) (r : Record) → Has (missing R v k) r
+        → Has R r × (v r.origin < r.number) }
+    ensures all { (R : Content) (v : ℕ → ℕ) (k : ℕ) (r : Record) → length (filter (is_beyond v) R) ≤ k
+        → Has R r → v r.origin < r.number → Has (missing R v k) r }
     ensures rises { (R : Content) (v : ℕ → ℕ) (k : ℕ) → IsApart name_cmp R → Rises name_cmp (missing R v k) }
     ensures before { (R : Content) (v : ℕ → ℕ) (k : ℕ) (r s : Record) → IsApart name_cmp R
-        → Has (missing R v k) r → Has R s → v s.origin < s.number → Has (missing R v k) s ⊎ (name_cmp r s ≡ Less) }
+        → Has (missing R v k) r → Has R s → v s.origin < s.number
+        → Has (missing R v k) s ⊎ (name_cmp r s ≡ Less) }
     ensures first { (R : Content) (v : ℕ → ℕ) (k n : ℕ) → k ≤ n → missing R v k ≡ take k (missing R v n) }
-    ensures count { (R : Content) (v : ℕ → ℕ) (k : ℕ) → length (missing R v k) ≡ min k (length (filter (is_beyond v) R)) }
-    ensures some { (R : Content) (v : ℕ → ℕ) (k : ℕ) (r : Record) → 0 < k → Has R r → v r.origin < r.number → 0 < length (missing R v k) }
+    ensures count { (R : Content) (v : ℕ → ℕ) (k : ℕ)
+        → length (missing R v k) ≡ min k (length (filter (is_beyond v) R)) }
+    ensures some { (R : Content) (v : ℕ → ℕ) (k : ℕ) (r : Record) → 0 < k → Has R r → v r.origin < r.number
+        → 0 < length (missing R v k) }
 {}
 
 /// Learning a batch in order, up to the first record that is refused: what is held then is closed, and
@@ -167,8 +201,10 @@ pub fn missing_is_what_a_vector_lacks()
 pub fn batches_keep_contents_closed()
     ensures closed { (R : Content) (batch : List Record) → IsClosed R → IsClosed (merged batch R) }
     ensures above { (R : Content) (batch : List Record) → IsWithin R (merged batch R) }
-    ensures only { (R : Content) (batch : List Record) (r : Record) → Has (merged batch R) r → Has R r ⊎ Has batch r }
-    ensures compatible { (R S T : Content) (batch : List Record) → AreCompatible R T → AreCompatible S T → IsWithin batch S → AreCompatible (merged batch R) T }
+    ensures only { (R : Content) (batch : List Record) (r : Record) → Has (merged batch R) r
+        → Has R r ⊎ Has batch r }
+    ensures compatible { (R S T : Content) (batch : List Record) → AreCompatible R T → AreCompatible S T
+        → IsWithin batch S → AreCompatible (merged batch R) T }
 {}
 
 /// Learning, in order, a first part of what a peer has beyond one's vector: each record of the part is
@@ -176,14 +212,20 @@ pub fn batches_keep_contents_closed()
 /// within the join of both, and compatible with either.
 #[tactic(auto, using(crate::proofs::PartLemmas::parts))]
 pub fn a_first_part_of_what_is_missing_is_learned()
-    ensures turn { (R S : Content) (k m : ℕ) → IsClosed R → IsClosed S → AreCompatible R S → AreNextInTurn R (take m (missing S (vec R) k)) }
+    ensures turn { (R S : Content) (k m : ℕ) → IsClosed R → IsClosed S → AreCompatible R S
+        → AreNextInTurn R (take m (missing S (vec R) k)) }
     ensures members { (R S : Content) (k m : ℕ) (r : Record) → IsClosed R → IsClosed S → AreCompatible R S
-        → Has (merged (take m (missing S (vec R) k)) R) r ↔ (Has R r ⊎ Has (take m (missing S (vec R) k)) r) }
+        → Has (merged (take m (missing S (vec R) k)) R) r
+        ↔ (Has R r ⊎ Has (take m (missing S (vec R) k)) r) }
     ensures count { (R S : Content) (k m : ℕ) → IsClosed R → IsClosed S → AreCompatible R S
-        → length (merged (take m (missing S (vec R) k)) R) ≡ length R + length (take m (missing S (vec R) k)) }
-    ensures within { (R S : Content) (k m : ℕ) → AreCompatible R S → IsWithin (merged (take m (missing S (vec R) k)) R) (join R S) }
-    ensures compatible_left { (R S : Content) (k m : ℕ) → IsClosed R → AreCompatible R S → AreCompatible (merged (take m (missing S (vec R) k)) R) R }
-    ensures compatible_right { (R S : Content) (k m : ℕ) → IsClosed S → AreCompatible R S → AreCompatible (merged (take m (missing S (vec R) k)) R) S }
+        → length (merged (take m (missing S (vec R) k)) R)
+        ≡ length R + length (take m (missing S (vec R) k)) }
+    ensures within { (R S : Content) (k m : ℕ) → AreCompatible R S
+        → IsWithin (merged (take m (missing S (vec R) k)) R) (join R S) }
+    ensures compatible_left { (R S : Content) (k m : ℕ) → IsClosed R → AreCompatible R S
+        → AreCompatible (merged (take m (missing S (vec R) k)) R) R }
+    ensures compatible_right { (R S : Content) (k m : ℕ) → IsClosed S → AreCompatible R S
+        → AreCompatible (merged (take m (missing S (vec R) k)) R) S }
 {}
 
 /// Inclusion is an order on contents that rise by name; on closed contents that are compatible it is the
@@ -192,8 +234,10 @@ pub fn a_first_part_of_what_is_missing_is_learned()
 pub fn inclusion_is_an_order()
     ensures reflexive { (R : Content) → IsWithin R R }
     ensures transitive { (R S T : Content) → IsWithin R S → IsWithin S T → IsWithin R T }
-    ensures antisymmetric { (R S : Content) → Rises name_cmp R → Rises name_cmp S → IsWithin R S → IsWithin S R → R ≡ S }
-    ensures vectors { (R S : Content) → IsClosed R → IsClosed S → AreCompatible R S → IsWithin R S ↔ ((origin : ℕ) → vec R origin ≤ vec S origin) }
+    ensures antisymmetric { (R S : Content) → Rises name_cmp R → Rises name_cmp S → IsWithin R S → IsWithin S R
+        → R ≡ S }
+    ensures vectors { (R S : Content) → IsClosed R → IsClosed S → AreCompatible R S
+        → IsWithin R S ↔ ((origin : ℕ) → vec R origin ≤ vec S origin) }
 {}
 
 /// What a refusal means. A clash: of a closed content, the record's name is held and the record isn't.
@@ -201,11 +245,18 @@ pub fn inclusion_is_an_order()
 /// tick is beyond the greatest one, or it isn't, and is not above the origin's last.
 #[tactic(auto, using(crate::proofs::RefusalLemmas::refusals))]
 pub fn each_refusal_has_its_meaning()
-    ensures clash { (R : Content) (r : Record) → IsClosed R → 1 ≤ r.number → (finding R r ≡ Clash) ↔ (HasName R r.origin r.number × (Has R r → ⊥)) }
-    ensures gap { (R : Content) (r : Record) (held got : ℕ) → (finding R r ≡ Gap held got) ↔ ((held ≡ vec R r.origin) × (got ≡ r.number) × (held + 1 < got)) }
-    ensures tick_too_far { (R : Content) (r : Record) → (finding R r ≡ TickTooFar) ↔ ((r.number ≡ vec R r.origin + 1) × (pos greatest <ℤ r.tick)) }
+    ensures clash { (R : Content) (r : Record) → IsClosed R → 1 ≤ r.number
+        → (finding R r ≡ Clash) ↔ (HasName R r.origin r.number × (Has R r → ⊥)) }
+    ensures gap { (R : Content) (r : Record) (held got : ℕ)
+        → (finding R r ≡ Gap held got)
+        ↔ ((held ≡ vec R r.origin) × (got ≡ r.number) × (held + 1 < got)) }
+    ensures tick_too_far { (R : Content) (r : Record)
+        → (finding R r ≡ TickTooFar)
+        ↔ ((r.number ≡ vec R r.origin + 1) × (pos greatest <ℤ r.tick)) }
     ensures tick_not_rising { (R : Content) (r : Record) → (finding R r ≡ TickNotRising)
-        ↔ ((r.number ≡ vec R r.origin + 1) × (r.tick ≤ℤ pos greatest) × (r.tick ≤ℤ last_tick R r.origin)) }
+        ↔
+        ((r.number ≡ vec R r.origin + 1) × (r.tick ≤ℤ pos greatest)
+        × (r.tick ≤ℤ last_tick R r.origin)) }
 {}
 
 /// A moment is one integer, which tells its ticks and its picoseconds, and they tell it: moments are
@@ -216,7 +267,8 @@ pub fn moments_are_ticks_and_picoseconds()
     ensures pico { (t : ℤ) (p : ℕ) → p ≤ 9999 → pico_of (moment t p) ≡ p }
     ensures whole { (m : ℤ) → moment (ticks_of m) (pico_of m) ≡ m }
     ensures within { (m : ℤ) → pico_of m ≤ 9999 }
-    ensures order { (a b : ℤ) (p q : ℕ) → p ≤ 9999 → q ≤ 9999 → (moment a p <ℤ moment b q) ↔ ((a <ℤ b) ⊎ ((a ≡ b) × (p < q))) }
+    ensures order { (a b : ℤ) (p q : ℕ) → p ≤ 9999 → q ≤ 9999
+        → (moment a p <ℤ moment b q) ↔ ((a <ℤ b) ⊎ ((a ≡ b) × (p < q))) }
 {}
 
 /// The bytes of a record: what is spelled is read and nothing else is, what is written is a spelling,

@@ -103,7 +103,8 @@ impl Ord for Moment {
 impl PartialOrd for Moment {
     ghost partial_cmp = { as_partial_cmp int_cmp };
 
-    ghost laws = { partial_order_from_own_ties (Prim.search (comparing, rules)) (Prim.search (comparing, rules)) };
+    ghost laws = { partial_order_from_own_ties (Prim.search (comparing, rules))
+        (Prim.search (comparing, rules)) };
 
     fn partial_cmp(&self, other: &Moment) -> Option<Ordering> {
         Some(self.cmp(other))

@@ -52,7 +52,8 @@ fn read_value(
     cursor: &mut Cursor<'_>,
     asked: HistoryUpdateType,
 ) -> Result<DataValue, RecordFault>
-    ensures { ReadsPart fault.OutOfMemory (λ v. v) result cursor.old cursor.new (passing (is_value_for asked) fault.BadField value).read }
+    ensures { ReadsPart fault.OutOfMemory (λ v. v) result cursor.old cursor.new
+        (passing (is_value_for asked) fault.BadField value).read }
 {
     let value = read_data_value(alloc, cursor)?;
     if !is_value_for(asked, &value) {
@@ -105,8 +106,11 @@ fn put_time(out: &mut Vec<u8>, moment: Moment) -> Result<(), BinaryFault>
 fn put_front(out: &mut Vec<u8>, r: &Record) -> Result<(), BinaryFault>
     requires node { IsShortNode r.now.node }
     requires user { length r.now.user < 2 ^ 31 }
-    ensures puts { PutsPart BinaryFault.OutOfMemory result out.old.items out.new.items (front.canon (parts_of r.now).0) }
-    ensures spelled { IfOk result (λ _. IsReplica r.now.origin × IsNodeId r.now.node × FitsSigned w64 (ticks_of r.now.time) × (is_utf8 r.now.user ≡ true)) }
+    ensures puts { PutsPart BinaryFault.OutOfMemory result out.old.items out.new.items
+        (front.canon (parts_of r.now).0) }
+    ensures spelled { IfOk result
+        (λ _. IsReplica r.now.origin × IsNodeId r.now.node × FitsSigned w64 (ticks_of r.now.time)
+        × (is_utf8 r.now.user ≡ true)) }
 {
     put_u8(out, 2)?;
     put_u8(out, r.origin.get())?;
@@ -133,7 +137,8 @@ fn put_fields(out: &mut Vec<u8>, r: &Record) -> Result<(), BinaryFault>
 /// Whether a record is written as these bytes.
 fn is_written_so(alloc: Global, r: &Record, bytes: &[u8]) -> Result<bool, RecordFault>
     requires { IsShortRecord r.now }
-    ensures same { MatchResult result (λ same. same ≡ bytes_eq bytes.now (fields.canon r.now)) (λ e. e ≡ fault.OutOfMemory) }
+    ensures same { MatchResult result (λ same. same ≡ bytes_eq bytes.now (fields.canon r.now))
+        (λ e. e ≡ fault.OutOfMemory) }
     ensures spelled { IfOk result (λ _. HasSpelledParts r.now) }
 {
     let mut out = Vec::with_capacity(alloc, bytes.len())?;
@@ -160,7 +165,8 @@ impl Record {
         ensures counted { result ≡ saturated (length (fields.canon self.now)) }
         ensures node_short { length (node_id.canon self.now.node) < 2 ^ 31 → IsShortNode self.now.node }
         ensures node_spelled { IsShortNode self.now.node → IsNodeId self.now.node }
-        ensures value_short { length (data_value.canon self.now.value) < 2 ^ 31 → IfSome self.now.value.value IsShortVariant }
+        ensures value_short { length (data_value.canon self.now.value) < 2 ^ 31
+            → IfSome self.now.value.value IsShortVariant }
         ensures value_spelled { IsShortData self.now.value → IsDataValue self.now.value }
     {
         let texts = self.node.size().saturating_add(self.user.len());
@@ -217,7 +223,8 @@ impl Record {
 fn judge_spelling(alloc: Global, r: &Record, bytes: &[u8], rest: &[u8]) -> Result<(), RecordFault>
     requires read { fields.read bytes.now ≡ Ok (r.now, rest.now) }
     requires short { IsShortRecord r.now }
-    ensures judged { MatchResult result (λ _. record_at bytes.now ≡ Ok r.now) (λ e. (e ≡ fault.OutOfMemory → ⊥) → record_at bytes.now ≡ Err e) }
+    ensures judged { MatchResult result (λ _. record_at bytes.now ≡ Ok r.now)
+        (λ e. (e ≡ fault.OutOfMemory → ⊥) → record_at bytes.now ≡ Err e) }
     ensures spelled { IfOk result (λ _. HasSpelledParts r.now) }
 {
     if !rest.is_empty() {

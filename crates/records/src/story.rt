@@ -4,7 +4,7 @@
 ghost use Rattle.std.specs.Prelude.{◌≡◌, ℕ, List, [], ◌∷◌, ◌++◌, length, filter, MatchResult, IfSome, IfOk, IsTrue, ◌↔◌};
 ghost use Rattle.stamp.specs.Numbers.{number_of};
 ghost use Rattle.records.specs.Lists.{IsApart};
-ghost use Rattle.records.specs.Records.{stamp_cmp, name_cmp, is_at, story, current, held, entries, entries_after, missing, is_beyond, is_delete, write, kind, entry, value_shown};
+ghost use Rattle.records.specs.Records.{record_stamp_cmp, name_cmp, is_at, versions, current, held, modifications_at, entries_after, missing, is_beyond, is_delete, write, kind, entry, value_shown};
 ghost use Rattle.std.specs.Prelude.{None};
 ghost use Rattle.std.specs.Option.{option_copied};
 ghost use Rattle.records.specs.Same.{same_node};
@@ -69,8 +69,8 @@ fn sorted_at(
     node: &NodeId,
     time: Moment,
 ) -> Result<Vec<Record>, AllocError>
-    requires { IsApart stamp_cmp records.now }
-    ensures { IfOk result (λ v. v.items ≡ story records.now node.now time) }
+    requires { IsApart record_stamp_cmp records.now }
+    ensures { IfOk result (λ v. v.items ≡ versions records.now node.now time) }
 {
     let mut found = found_at(alloc, records, node, time)?;
     found.sort_by_key(|r| (r.tick, r.origin))?;
@@ -85,8 +85,9 @@ pub fn story_of(
     node: &NodeId,
     time: Moment,
 ) -> Result<Listing<Record>, RecordFault>
-    requires { IsApart stamp_cmp records.now }
-    ensures { MatchResult result (λ v. v ≡ story records.now node.now time) (λ e. e ≡ fault.OutOfMemory) }
+    requires { IsApart record_stamp_cmp records.now }
+    ensures { MatchResult result (λ v. v ≡ versions records.now node.now time)
+        (λ e. e ≡ fault.OutOfMemory) }
 {
     let story = sorted_at(alloc, records, node, time)?;
     Ok(Listing::of(story))
@@ -117,8 +118,9 @@ pub fn current_of(
     node: &NodeId,
     time: Moment,
 ) -> Result<Option<Held>, RecordFault>
-    requires { IsApart stamp_cmp records.now }
-    ensures { MatchResult result (λ v. v ≡ current records.now node.now time) (λ e. e ≡ fault.OutOfMemory) }
+    requires { IsApart record_stamp_cmp records.now }
+    ensures { MatchResult result (λ v. v ≡ current records.now node.now time)
+        (λ e. e ≡ fault.OutOfMemory) }
 {
     let story = sorted_at(alloc, records, node, time)?;
     Ok(held_of(story))
@@ -194,8 +196,9 @@ pub fn entries_of(
     node: &NodeId,
     time: Moment,
 ) -> Result<Listing<Entry>, RecordFault>
-    requires { IsApart stamp_cmp records.now }
-    ensures { MatchResult result (λ v. v ≡ entries records.now node.now time) (λ e. e ≡ fault.OutOfMemory) }
+    requires { IsApart record_stamp_cmp records.now }
+    ensures { MatchResult result (λ v. v ≡ modifications_at records.now node.now time)
+        (λ e. e ≡ fault.OutOfMemory) }
 {
     let story = sorted_at(alloc, records, node, time)?;
     let shown = entries_in(alloc, &story)?;
@@ -234,7 +237,8 @@ pub fn missing_of(
     limit: usize,
 ) -> Result<Listing<Record>, RecordFault>
     requires { IsApart name_cmp records.now }
-    ensures { MatchResult result (λ v. v ≡ missing records.now (number_of vector.now) limit) (λ e. e ≡ fault.OutOfMemory) }
+    ensures { MatchResult result (λ v. v ≡ missing records.now (number_of vector.now) limit)
+        (λ e. e ≡ fault.OutOfMemory) }
 {
     let mut found = beyond(alloc, records, vector)?;
     found.sort_by_key(|r| (r.origin, r.number))?;

@@ -1,7 +1,7 @@
 //! Requests to the services, one after the other, each with its response.
 
 use archive::ListArchive;
-use historian::{Message, answer_message};
+use historian::{ClientMessage, answer_message};
 use server_rows::plant::{archive_of, plant};
 use std::alloc::{AllocError, Global};
 use std::test::Fail;
@@ -51,7 +51,7 @@ impl Server {
             &mut self.archive,
             &mut self.sessions,
             Ticks(NOW),
-            Message::read(message.as_slice()),
+            ClientMessage::read(message.as_slice()),
             &mut out,
         )?;
         Ok(hex::encode_upper(alloc, out.as_slice())?)

@@ -7,7 +7,7 @@ use Rattle.sqlite.specs.Held.{Held, state}
 use Rattle.sqlite.specs.State.{State, HasCleanDisk, Survives}
 use Rattle.sqlite.proofs.StateLemmas.{survives_then}
 use Rattle.archive.specs.declared.fault.StoreFault.{StoreFault}
-use Rattle.sql_opening.specs.declared.renewing.Rows1.{Rows1}
+use Rattle.sql_opening.specs.declared.migrate.Rows1.{Rows1}
 use Rattle.sql_schema.specs.Tables.{schema1}
 use Rattle.sql_tables.specs.Rows.{meta_cells}
 use Rattle.sql_archive.specs.Kept.{Kept}

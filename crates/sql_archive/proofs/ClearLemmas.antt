@@ -12,15 +12,15 @@ use Rattle.sql_tables.specs.Derived.{AreKept}
 use Rattle.sql_tables.specs.Rows.{IsStored, meta_cells, meta_columns}
 use Rattle.sql_archive.specs.Kept.{Kept}
 use Rattle.sql_opening.specs.Clearing.{AreBare, IsCleared}
-use Rattle.sql_opening.specs.Opening.{judged, IsClearedIn}
+use Rattle.sql_opening.specs.Opening.{checked_meta, IsClearedIn}
 use Rattle.sql_archive.proofs.FileLemmas.{stored_before, kept_before}
 
 -- whose they are stays
-pub own_before : (id : List ℕ) (own : ℕ) (old new : Trees) → IsCleared old new → judged id own (meta_cells old) ≡ Ok tt → judged id own (meta_cells new) ≡ Ok tt
-own_before id own old new cleared is = ap (λ rows. judged id own (map meta_columns rows)) cleared.keeps.meta ∙ is
+pub own_before : (id : List ℕ) (own : ℕ) (old new : Trees) → IsCleared old new → checked_meta id own (meta_cells old) ≡ Ok tt → checked_meta id own (meta_cells new) ≡ Ok tt
+own_before id own old new cleared is = ap (λ rows. checked_meta id own (map meta_columns rows)) cleared.keeps.meta ∙ is
 
 module _ {S : Type 0} (g : Ghosts S) (old mid : State) (id : List ℕ) (own : ℕ)
-    (facts : HasCleanDisk mid → (old.now.schema ≡ beside_schema) × AreBare old.now.trees × (judged id own (meta_cells old.now.trees) ≡ Ok tt)) where
+    (facts : HasCleanDisk mid → (old.now.schema ≡ beside_schema) × AreBare old.now.trees × (checked_meta id own (meta_cells old.now.trees) ≡ Ok tt)) where
   as_cleared : (clean : HasCleanDisk mid) (db : Trees) → IsCleared old.now.trees db → IsClearedIn id own old.now db
   as_cleared clean db cleared = let f = facts clean in (f.0, f.1, f.2, cleared)
 

@@ -45,8 +45,8 @@ use Rattle.sql_tables.specs.Derived.{AreKept, AreNumbered, currents_of, current_
 use Rattle.sql_tables.specs.Words.{cells}
 use Rattle.sql_archive.specs.Kept.{Stands}
 use Rattle.archive.specs.declared.fault.StoreFault.{StoreFault}
-use Rattle.sql_opening.specs.Opening.{Starts, IsBegunIn, IsRefused, judged}
-use Rattle.sql_archive.specs.Files.{Tells, Resumes, ResumesOnly, ResumesAmong, IsAnothers, EngineLeaves, KeepsFound, IsLeftOf}
+use Rattle.sql_opening.specs.Opening.{Starts, IsBegunIn, IsRefused, checked_meta}
+use Rattle.sql_archive.specs.Files.{HoldsContent, Resumes, ResumesOnly, ResumesAmong, IsAnothers, EngineLeaves, KeepsFound, IsLeftOf}
 use Rattle.sql_opening.proofs.OpenLemmas.{nothing_in}
 
 -- new tables hold the content of those of format 1
@@ -90,7 +90,7 @@ resumes image id own old new opens live found starts = record { db = old.committ
     lists : Lists (old.committed.trees catalog_tree) old.now.schema
     lists = found_lists old opens live
 
-    go : Starts id own old.now new.now → Tells id own old.committed.trees (content_in new.now.trees)
+    go : Starts id own old.now new.now → HoldsContent id own old.committed.trees (content_in new.now.trees)
     go (inl (inl made)) = inl (subst (Lists (old.committed.trees catalog_tree)) made.0 lists, nothing_in new.now.trees made.1.records)
     go (inl (inr made)) = inr (inr (inl ((subst (Lists (old.committed.trees catalog_tree)) made.0 lists, subst (IsStored1 id own) same made.1), renewed_content id own (pos own) old.now.trees new.now.trees made.1 made.2 ∙ ap content1_in same)))
     go (inr (stored, kept, inl stood)) =
@@ -106,7 +106,7 @@ another image id own fault old opens live found refused = record {
   schema = old.now.schema;
   lists = found_lists old opens live;
   begins = refused.schema;
-  judged = subst (λ t. judged id own (meta_cells t) ≡ Err fault) same refused.judged;
+  judged = subst (λ t. checked_meta id own (meta_cells t) ≡ Err fault) same refused.judged;
 }
   where
     same : old.now.trees ≡ old.committed.trees
@@ -145,7 +145,7 @@ closed_is {D} {g} c files whose number numbers tick stands live copied id own S 
     lists : Lists (resumed.db catalog_tree) archive_schema
     lists = subst (λ (t : Trees). Lists (t catalog_tree) archive_schema) (sym same) (subst (Lists ((file_state c).now.trees catalog_tree)) s.idles.tables (live s.idles.is_open).0.lists)
 
-    go : Tells id own resumed.db S → S ≡ content_in (file_state c).now.trees
+    go : HoldsContent id own resumed.db S → S ≡ content_in (file_state c).now.trees
     go (inl none) = absurd (two_schemas (lists_once (resumed.db catalog_tree) no_schema archive_schema none.0 lists))
     go (inr (inl all)) = all.1 ∙ ap content_in same
     go (inr (inr (inl first))) = absurd (apart_first (lists_once (resumed.db catalog_tree) schema1 archive_schema first.0.0 lists))
@@ -153,7 +153,7 @@ closed_is {D} {g} c files whose number numbers tick stands live copied id own S 
 
 -- and they hold its tables
 pub closed_holds : {D : Type 0} {g : Ghosts D} (c : Held (FileStore D g)) (files : Files D) (id : List ℕ) (own : ℕ) (numbers : List ℕ) (tick : ℤ) → (HasCleanDisk (file_state c) → Stands id own numbers tick (file_state c)) → IsLive (file_state c) → IsCopied c files
-    → ∥ ((db : Trees) × HoldsDatabase (image_of g files) db × Tells id own db (content_in (file_state c).now.trees)) ∥₁
+    → ∥ ((db : Trees) × HoldsDatabase (image_of g files) db × HoldsContent id own db (content_in (file_state c).now.trees)) ∥₁
 closed_holds c files id own numbers tick stands live copied =
     let s = stands copied.was_clean in
     let same : (file_state c).now.trees ≡ (file_state c).committed.trees = sym (ap (λ (d : Database). d.trees) s.idles.settled) in
@@ -253,7 +253,7 @@ still_cleared image left id own (old, found, holds) db held beside = ∥∥₁_m
 
 pub still_resumed : (image left : Image) (id : List ℕ) (own : ℕ) → KeepsFound image id own left → (other : List ℕ) (number : ℕ) (R : Content) → Resumes left other number R → ∥ Resumes image other number R ∥₁
 still_resumed image left id own (old, found, holds) other number R resumed =
-    ∥∥₁_map holds (λ it. let r : Resumes image other number R = record { db = old; found = found; tells = by it.0 it.2 (subst (λ t. Tells other number t R) (resumed.found.holds it.0 it.1) resumed.tells) } in r)
+    ∥∥₁_map holds (λ it. let r : Resumes image other number R = record { db = old; found = found; tells = by it.0 it.2 (subst (λ t. HoldsContent other number t R) (resumed.found.holds it.0 it.1) resumed.tells) } in r)
   where
     -- the new tables are of the archive and replica that those of format 1 were of
     first_of : (now : Trees) → IsStoreOf1 id own old × IsRenewed id (pos own) (cells1 old) now → meta_cells now ≡ meta_row other number ∷ [] → IsStored1 other number old
@@ -263,8 +263,8 @@ still_resumed image left id own (old, found, holds) other number R resumed =
         let owns : own ≡ number = cc in
         subst (λ i. IsStored1 i number old) ids (subst (λ n. IsStored1 id n old) owns made.0.1)
 
-    by : (now : Trees) → IsLeftOf id own old now → Tells other number now R → Tells other number old R
-    by now (inl same) tells = subst (λ t. Tells other number t R) same tells
+    by : (now : Trees) → IsLeftOf id own old now → HoldsContent other number now R → HoldsContent other number old R
+    by now (inl same) tells = subst (λ t. HoldsContent other number t R) same tells
     by now (inr (inl new)) (inl none) = inl (new.0, none.1)
     by now (inr (inl new)) (inr (inl all)) = inl (new.0, all.1 ∙ nothing_in now new.1.records)
     by now (inr (inl new)) (inr (inr (inl first))) = absurd (apart_first (lists_once (now catalog_tree) schema1 archive_schema first.0.0 new.1.lists))

@@ -11,29 +11,29 @@ use Rattle.sql_schema.specs.Tables.{no_schema, archive_schema}
 use Rattle.sql_tables.specs.Rows.{meta_cells, IsStored}
 use Rattle.sql_tables.specs.Derived.{AreKept}
 use Rattle.sql_tables.specs.State.{IsNewArchive, HasMeta}
-use Rattle.sql_opening.specs.Opening.{judged, Starts, IsBegunIn, IsRenewedIn, IsClearedIn, IsRefused}
+use Rattle.sql_opening.specs.Opening.{checked_meta, Starts, IsBegunIn, IsRenewedIn, IsClearedIn, IsRefused}
 use Rattle.sql_archive.specs.Kept.{Kept}
 use Rattle.sql_opening.proofs.OpenLemmas.{new_is_own}
 use Rattle.sql_tables.proofs.AskLemmas.{survives_itself}
 
 module _ {S : Type 0} (g : Ghosts S) (old mid : State) (result : Result (Kept S) (StoreFault × Held S)) where
   -- with tables that are its own no opening is wrong
-  pub never_another : (id : List ℕ) (own : ℕ) → (HasCleanDisk mid → judged id own (meta_cells mid.now.trees) ≡ Ok tt)
-      → IfErr result (λ e. HasCleanDisk (state g e.1) → IsOfOpening e.0 → judged id own (meta_cells mid.now.trees) ≡ Err e.0) → IfErr result (λ e. Survives mid (state g e.1) (λ _. ⊥))
+  pub never_another : (id : List ℕ) (own : ℕ) → (HasCleanDisk mid → checked_meta id own (meta_cells mid.now.trees) ≡ Ok tt)
+      → IfErr result (λ e. HasCleanDisk (state g e.1) → IsOfOpening e.0 → checked_meta id own (meta_cells mid.now.trees) ≡ Err e.0) → IfErr result (λ e. Survives mid (state g e.1) (λ _. ⊥))
       → IfErr result (λ e. HasCleanDisk (state g e.1) → IsOfOpening e.0 → ⊥)
   never_another id own owns = go result
     where
       other : (f : StoreFault) → ◌≡◌ {A = Result Unit StoreFault} (Ok tt) (Err f) → ⊥
       other f e = let no = e in cc
 
-      go : (r : Result (Kept S) (StoreFault × Held S)) → IfErr r (λ e. HasCleanDisk (state g e.1) → IsOfOpening e.0 → judged id own (meta_cells mid.now.trees) ≡ Err e.0) → IfErr r (λ e. Survives mid (state g e.1) (λ _. ⊥))
+      go : (r : Result (Kept S) (StoreFault × Held S)) → IfErr r (λ e. HasCleanDisk (state g e.1) → IsOfOpening e.0 → checked_meta id own (meta_cells mid.now.trees) ≡ Err e.0) → IfErr r (λ e. Survives mid (state g e.1) (λ _. ⊥))
           → IfErr r (λ e. HasCleanDisk (state g e.1) → IsOfOpening e.0 → ⊥)
       go (Ok a) wrong left = tt
       go (Err e) wrong left = λ clean of. other e.0 (sym (owns (omega (arith, left.clean, clean))) ∙ wrong clean of)
 
   -- as with those that were just made
   pub never_wrong : (id : List ℕ) (own : ℕ) → (HasCleanDisk mid → IsNewArchive id (pos own) mid.now.trees)
-      → IfErr result (λ e. HasCleanDisk (state g e.1) → IsOfOpening e.0 → judged id own (meta_cells mid.now.trees) ≡ Err e.0) → IfErr result (λ e. Survives mid (state g e.1) (λ _. ⊥))
+      → IfErr result (λ e. HasCleanDisk (state g e.1) → IsOfOpening e.0 → checked_meta id own (meta_cells mid.now.trees) ≡ Err e.0) → IfErr result (λ e. Survives mid (state g e.1) (λ _. ⊥))
       → IfErr result (λ e. HasCleanDisk (state g e.1) → IsOfOpening e.0 → ⊥)
   never_wrong id own new = never_another id own (λ clean. new_is_own id own mid.now.trees (new clean))
 
@@ -93,7 +93,7 @@ module _ {S : Type 0} (g : Ghosts S) (old : State) where
   started_old id own (Err e) has stored kept same = tt
 
   pub refused_by : (id : List ℕ) (own : ℕ) (r : Result (Kept S) (StoreFault × Held S)) → HasMeta old.now.schema
-      → IfErr r (λ e. HasCleanDisk (state g e.1) → IsOfOpening e.0 → judged id own (meta_cells old.now.trees) ≡ Err e.0) → IfErr r (λ e. HasCleanDisk (state g e.1) → IsOfOpening e.0 → IsRefused id own old.now e.0)
+      → IfErr r (λ e. HasCleanDisk (state g e.1) → IsOfOpening e.0 → checked_meta id own (meta_cells old.now.trees) ≡ Err e.0) → IfErr r (λ e. HasCleanDisk (state g e.1) → IsOfOpening e.0 → IsRefused id own old.now e.0)
   refused_by id own (Ok a) has wrong = tt
   refused_by id own (Err e) has wrong = λ clean of. record { schema = has; judged = wrong clean of }
 

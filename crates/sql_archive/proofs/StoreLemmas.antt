@@ -18,7 +18,7 @@ use Rattle.archive.specs.declared.fault.LearnFault.TheVariants as refused
 use Rattle.sql_tables.specs.Learning.{Learned, Follows, IsCommitOf, flat, IsOwn, was_added}
 use Rattle.archive.specs.declared.fault.StoreFault.{StoreFault}
 use Rattle.archive.specs.declared.fault.StoreFault.TheVariants.{Broken}
-use Rattle.archive.specs.Store.{IsLawfulContent, Rests, IsOfOpening, failed_by, is_break, Leaves, fault_in, Asks, Learns}
+use Rattle.archive.specs.Store.{IsLawfulContent, IsQuiescent, IsOfOpening, failed_by, is_break, AfterCall, fault_in, Asks, Learns}
 use Rattle.archive.specs.Listed.{is_broken, failures}
 use Rattle.std.specs.List.{list_any, AllByRecursion}
 use Rattle.std.proofs.Math.Bool.{or-false}
@@ -35,7 +35,7 @@ use Rattle.records.proofs.ContentsParts.{number_from, after_finding}
 use Rattle.records.proofs.ChangeLemmas.{top_put}
 use Rattle.sql_tables.specs.Rows.{content_in, IsStored, IsStoreOf, meta_columns}
 use Rattle.sql_tables.specs.Derived.{AreKept}
-use Rattle.sql_tables.specs.State.{Stays, Asked}
+use Rattle.sql_tables.specs.State.{KeepsState, LeavesUnchanged}
 use Rattle.sql_archive.specs.Kept.{Kept, Stands, Serves, LeavesStores, store_of}
 use Rattle.sql_opening.specs.Latest.{Remembers, Raises}
 use Rattle.sql_tables.proofs.AskLemmas.{survives_itself, asked_nothing}
@@ -93,7 +93,7 @@ remembered_more xs i d numbers tick new_numbers new_tick h m raises = record {
 
 module _ {S : Type 0} (g : Ghosts S) (laws : Laws g) where
   -- as long as it may be used, a crash leaves its content and nothing else
-  pub rests : (a : Kept S) → Serves g a → Rests (store_of g a)
+  pub rests : (a : Kept S) → Serves g a → IsQuiescent (store_of g a)
   rests a serves honest used =
       let all = serves.0 used honest in
       let stored = all.stored in
@@ -106,7 +106,7 @@ module _ {S : Type 0} (g : Ghosts S) (laws : Laws g) where
       }
 
   -- an archive begins over tables of its own
-  pub serves-begun : (a : Kept S) (old : State) → (HasCleanDisk (state g a.conn) → Stays old (state g a.conn) × IsStored a.id a.number old.now.trees × AreKept old.now.trees × Remembers (content_in old.now.trees) a.numbers a.tick) → IsLive (state g a.conn) → Serves g a
+  pub serves-begun : (a : Kept S) (old : State) → (HasCleanDisk (state g a.conn) → KeepsState old (state g a.conn) × IsStored a.id a.number old.now.trees × AreKept old.now.trees × Remembers (content_in old.now.trees) a.numbers a.tick) → IsLive (state g a.conn) → Serves g a
   serves-begun a old opened live = (λ ok. stands, λ clean db m. left clean db (stands clean) m)
     where
       stands : HasCleanDisk (state g a.conn) → Stands a.id a.number a.numbers a.tick (state g a.conn)
@@ -138,7 +138,7 @@ module _ {S : Type 0} (g : Ghosts S) (laws : Laws g) where
   breaks false y (Some f) e ended = e ∙ sym (or-false (is_break f))
 
   pub leaves : (a b : Kept S) (fault : Option StoreFault) (Commits : Trees → Type 0) → Serves g a → Serves g b → b.number ≡ a.number → b.id ≡ a.id → Survives (state g a.conn) (state g b.conn) Commits
-      → b.faults ≡ failures a.faults fault → b.broken ≡ is_broken fault → (a.broken ≡ true → fault ≡ Some Broken) → IfSome fault (λ f. IsOfOpening f → ⊥) → Leaves (store_of g a) (store_of g b) fault
+      → b.faults ≡ failures a.faults fault → b.broken ≡ is_broken fault → (a.broken ≡ true → fault ≡ Some Broken) → IfSome fault (λ f. IsOfOpening f → ⊥) → AfterCall (store_of g a) (store_of g b) fault
   leaves a b fault Commits was is own id survives count broken ended met = record {
     before = rests a was;
     after = rests b is;
@@ -165,10 +165,10 @@ module _ {S : Type 0} (g : Ghosts S) (laws : Laws g) where
 
   -- a call that changes nothing leaves it as it was, save that it may break
   stands-kept-by : (a b : Kept S) → Serves g a → a.broken ≡ false → b.id ≡ a.id → b.number ≡ a.number → (Remembers (content_in (state g a.conn).now.trees) a.numbers a.tick → Remembers (content_in (state g a.conn).now.trees) b.numbers b.tick)
-      → (HasCleanDisk (state g b.conn) → HasCleanDisk (state g a.conn)) → (HasCleanDisk (state g b.conn) → b.broken ≡ false → Stays (state g a.conn) (state g b.conn))
+      → (HasCleanDisk (state g b.conn) → HasCleanDisk (state g a.conn)) → (HasCleanDisk (state g b.conn) → b.broken ≡ false → KeepsState (state g a.conn) (state g b.conn))
       → b.broken ≡ false → HasCleanDisk (state g b.conn) → Stands b.id b.number b.numbers b.tick (state g b.conn)
   stands-kept-by a b was used id own remembers honest stays ok clean =
-      let s : Stays (state g a.conn) (state g b.conn) = stays clean ok in
+      let s : KeepsState (state g a.conn) (state g b.conn) = stays clean ok in
       let before = was.0 used (honest clean) in
       let same : (state g b.conn).now.trees ≡ (state g a.conn).now.trees = ap (λ (d : Database). d.trees) s.same in
       record {
@@ -179,7 +179,7 @@ module _ {S : Type 0} (g : Ghosts S) (laws : Laws g) where
       }
 
   -- a query
-  pub asks : {A : Type 0} (a b : Kept S) (answer : Result A StoreFault) (P : A → Type 0) → Serves g a → Serves g b → a.broken ≡ false → Asked (state g a.conn) (state g b.conn) answer P
+  pub asks : {A : Type 0} (a b : Kept S) (answer : Result A StoreFault) (P : A → Type 0) → Serves g a → Serves g b → a.broken ≡ false → LeavesUnchanged (state g a.conn) (state g b.conn) answer P
       → b.number ≡ a.number → b.id ≡ a.id → b.faults ≡ failures a.faults (fault_in answer) → b.broken ≡ is_broken (fault_in answer) → Asks (store_of g a) (store_of g b) answer P
   asks {A} a b answer P was is used asked own id count broken = record {
     answer = asked.answer;
@@ -224,7 +224,7 @@ module _ {S : Type 0} (g : Ghosts S) (laws : Laws g) where
     answered = λ h _. ((learned.answered h).0, (learned.answered h).2.content);
     kept = λ h ok. subst (λ o. IfSome o (λ _. content_in (state g b.conn).now.trees ≡ content_in (state g a.conn).now.trees)) (sym own_told) tt;
     crash = λ h left m. crashed a r used left m.0 m.2 (learned.crash.crash h m.0 m.1);
-    leaves = subst (λ o. Leaves (store_of g a) (store_of g b) o) (sym own_told) (leaves a b None _ was is own id learned.crash count broken (λ p. absurd (true≢false (sym p ∙ used))) tt);
+    leaves = subst (λ o. AfterCall (store_of g a) (store_of g b) o) (sym own_told) (leaves a b None _ was is own id learned.crash count broken (λ p. absurd (true≢false (sym p ∙ used))) tt);
   })
   learns a b r (Err fault) was is used learned own id count broken result e own_told = subst (λ x. Learns (store_of g a) (store_of g b) r x) (sym e) (record {
     answered = λ h none. absurd (none-some _ (sym none));
@@ -264,7 +264,7 @@ module _ {S : Type 0} (g : Ghosts S) (laws : Laws g) where
           stands-kept-by a b was used id own (remembered_as (content_in (state g a.conn).now.trees) r a.numbers a.tick b.numbers b.tick raises) (λ c. omega (arith, learned.crash.clean, c)) (λ c o. learned.kept c (sym broken ∙ o)) ok clean
 
   pub serves-asked : {A : Type 0} (a b : Kept S) (answer : Result A StoreFault) (P : A → Type 0) → Serves g a → a.broken ≡ false → b.id ≡ a.id → b.number ≡ a.number → b.numbers ≡ a.numbers → b.tick ≡ a.tick
-      → Asked (state g a.conn) (state g b.conn) answer P → b.broken ≡ is_broken (fault_in answer) → Serves g b
+      → LeavesUnchanged (state g a.conn) (state g b.conn) answer P → b.broken ≡ is_broken (fault_in answer) → Serves g b
   serves-asked a b answer P was used id own numbers tick asked broken = (
     stands-kept-by a b was used id own (λ m. subst (λ n. Remembers (content_in (state g a.conn).now.trees) n b.tick) (sym numbers) (subst (Remembers (content_in (state g a.conn).now.trees) a.numbers) (sym tick) m)) (λ c. omega (arith, asked.crash.clean, c)) (λ c o. asked.kept c (sym broken ∙ o)),
     stores-left a b (λ _. ⊥) was id own asked.crash (λ clean db none. absurd none),

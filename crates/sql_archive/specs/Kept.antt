@@ -24,11 +24,24 @@ pub record Kept (S : Type 0) : Type 0 where
 abbrev pub kept_code : {S : Type 0} → Coded S → Coded (Kept S)
 kept_code {S} store =
     code_by (Held S × (List ℕ × (ℕ × (List ℕ × (ℤ × (ℕ × Bool))))))
-    (coded× (held_code store) (coded× (coded_list coded_ℕ) (coded× coded_ℕ (coded× (coded_list coded_ℕ) (coded× coded_ℤ (coded× coded_ℕ coded_bool))))))
+    (coded× (held_code store)
+    (coded× (coded_list coded_ℕ)
+    (coded× coded_ℕ
+    (coded× (coded_list coded_ℕ) (coded× coded_ℤ (coded× coded_ℕ coded_bool))))))
     (λ k. (k.conn, (k.id, (k.number, (k.numbers, (k.tick, (k.faults, k.broken)))))))
-    (λ p. record { conn = p.0; id = p.1.0; number = p.1.1.0; numbers = p.1.1.1.0; tick = p.1.1.1.1.0; faults = p.1.1.1.1.1.0; broken = p.1.1.1.1.1.1 }) (λ _. refl)
+    (λ p.
+    record {
+      conn = p.0;
+      id = p.1.0;
+      number = p.1.1.0;
+      numbers = p.1.1.1.0;
+      tick = p.1.1.1.1.0;
+      faults = p.1.1.1.1.1.0;
+      broken = p.1.1.1.1.1.1;
+    }) (λ _. refl)
 
--- a connection idles; its tables stand for a lawful content, of which these are the last numbers and the greatest tick
+-- a connection idles; its tables stand for a lawful content, of which these are the last numbers
+-- and the greatest tick
 pub record Stands (id : List ℕ) (own : ℕ) (numbers : List ℕ) (tick : ℤ) (s : State) : Type 0 where
   pub idles : Idles s
   pub stored : IsStored id own s.now.trees
@@ -36,13 +49,19 @@ pub record Stands (id : List ℕ) (own : ℕ) (numbers : List ℕ) (tick : ℤ) 
   pub remembered : Remembers (content_in s.now.trees) numbers tick
 
 module _ {S : Type 0} (g : Ghosts S) where
-  -- whatever a crash leaves at this moment is a store of its archive and replica, also where it is broken
+  -- whatever a crash leaves at this moment is a store of its archive and replica, also where it is
+  -- broken
   abbrev pub LeavesStores : Kept S → Type 0
-  LeavesStores a = HasCleanDisk (state g a.conn) → (db : Trees) → (state g a.conn).may_leave db → IsStoreOf a.id a.number db
+  LeavesStores a =
+      HasCleanDisk (state g a.conn) → (db : Trees) → (state g a.conn).may_leave db
+      → IsStoreOf a.id a.number db
 
-  -- while it may be used, its tables stand for a lawful content; and a crash leaves stores of its own
+  -- while it may be used, its tables stand for a lawful content; and a crash leaves stores of its
+  -- own
   abbrev pub Serves : Kept S → Type 0
-  Serves a = (a.broken ≡ false → HasCleanDisk (state g a.conn) → Stands a.id a.number a.numbers a.tick (state g a.conn)) × LeavesStores a
+  Serves a =
+      (a.broken ≡ false → HasCleanDisk (state g a.conn)
+      → Stands a.id a.number a.numbers a.tick (state g a.conn)) × LeavesStores a
 
   -- its content is what its tables hold, and a crash leaves what the tables then hold
   abbrev pub store_of : Kept S → Store

@@ -1,15 +1,17 @@
 //! How an archive begins with its tables where empty tables of format 1 stand behind them.
 
-ghost use Rattle.std.specs.Prelude.{◌≡◌, false, IfOk, IfErr, Ok, Err};
-ghost use Rattle.sqlite.specs.State.{HasCleanDisk, Survives};
+ghost use Rattle.std.specs.Prelude.{◌≡◌, IfOk, IfErr, Ok, Err};
+ghost use Rattle.sqlite.specs.State.{HasCleanDisk};
 ghost use Rattle.sqlite.specs.Held.{state};
 ghost use Rattle.archive.specs.Store.{IsOfOpening};
 ghost use Rattle.sql_schema.specs.Tables.{beside_schema};
 ghost use Rattle.sql_tables.specs.Derived.{AreKept};
 ghost use Rattle.sql_tables.specs.Rows.{IsStored, meta_cells};
-ghost use Rattle.sql_tables.specs.State.{Rests};
+ghost use Rattle.sql_tables.specs.State.{IsOpenAndIdle};
 ghost use Rattle.sql_opening.specs.Clearing.{AreBare};
-ghost use Rattle.sql_opening.specs.Opening.{judged, IsClearedIn};
+ghost use Rattle.sql_opening.specs.Opening.{checked_meta, IsClearedIn};
+ghost use Rattle.sql_tables.specs.Connections.{WhereClean, Sees, HasSchema, tables_of};
+ghost use Rattle.sql_archive.specs.Starting.{IsBegun, MayCommit};
 
 use crate::store::SqlArchive;
 use archive::StoreFault;
@@ -28,16 +30,20 @@ fn begin<S: Alter>(
     id: Uuid,
     number: ReplicaNo,
 ) -> Result<SqlArchive<S>, (StoreFault, Connection<S>)>
-    requires beside { HasCleanDisk (state S.Store conn) → (state S.Store conn).now.schema ≡ beside_schema }
-    requires bare { HasCleanDisk (state S.Store conn) → AreBare (state S.Store conn).now.trees }
-    requires meta { HasCleanDisk (state S.Store conn) → judged id number (meta_cells (state S.Store conn).now.trees) ≡ Ok tt }
-    ensures own { IfOk result (λ a. (a.id ≡ id) × (a.number ≡ number) × (a.faults ≡ 0) × (a.broken ≡ false)) }
-    ensures cleared { IfOk result (λ a. HasCleanDisk (state S.Store a.conn) → IsClearedIn id number (state S.Store conn).now (state S.Store a.conn).now.trees) }
-    ensures stored { IfOk result (λ a. HasCleanDisk (state S.Store a.conn) → IsStored id number (state S.Store conn).now.trees) }
-    ensures kept { IfOk result (λ a. HasCleanDisk (state S.Store a.conn) → AreKept (state S.Store conn).now.trees) }
+    requires beside { WhereClean S.Store conn (HasSchema beside_schema) }
+    requires bare { WhereClean S.Store conn (Sees AreBare) }
+    requires meta { HasCleanDisk (state S.Store conn)
+        → checked_meta id number (meta_cells (tables_of S.Store conn)) ≡ Ok tt }
+    ensures own { IfOk result (IsBegun id number) }
+    ensures cleared { IfOk result (λ a. HasCleanDisk (state S.Store a.conn)
+        → IsClearedIn id number (state S.Store conn).now (tables_of S.Store a.conn)) }
+    ensures stored { IfOk result (λ a. HasCleanDisk (state S.Store a.conn)
+        → IsStored id number (tables_of S.Store conn)) }
+    ensures kept { IfOk result (λ a. HasCleanDisk (state S.Store a.conn)
+        → AreKept (tables_of S.Store conn)) }
     ensures wrong { IfErr result (λ e. HasCleanDisk (state S.Store e.1) → IsOfOpening e.0 → ⊥) }
-    ensures opened { IfOk result (λ a. Survives (state S.Store conn) (state S.Store a.conn) (IsClearedIn id number (state S.Store conn).now)) }
-    ensures left { IfErr result (λ e. Survives (state S.Store conn) (state S.Store e.1) (IsClearedIn id number (state S.Store conn).now)) }
+    ensures opened { IfOk result (λ a. MayCommit S.Store conn a.conn (IsClearedIn id number)) }
+    ensures left { IfErr result (λ e. MayCommit S.Store conn e.1 (IsClearedIn id number)) }
 {
     if !conn.is_autocommit() {
         return Err((StoreFault::Refused, conn));
@@ -58,15 +64,19 @@ pub(crate) fn take_out_empty<S: Alter>(
     id: Uuid,
     number: ReplicaNo,
 ) -> Result<SqlArchive<S>, (StoreFault, Connection<S>)>
-    requires rests { HasCleanDisk (state S.Store conn) → Rests (state S.Store conn) }
-    requires beside { HasCleanDisk (state S.Store conn) → (state S.Store conn).now.schema ≡ beside_schema }
-    ensures own { IfOk result (λ a. (a.id ≡ id) × (a.number ≡ number) × (a.faults ≡ 0) × (a.broken ≡ false)) }
-    ensures cleared { IfOk result (λ a. HasCleanDisk (state S.Store a.conn) → IsClearedIn id number (state S.Store conn).now (state S.Store a.conn).now.trees) }
-    ensures stored { IfOk result (λ a. HasCleanDisk (state S.Store a.conn) → IsStored id number (state S.Store conn).now.trees) }
-    ensures kept { IfOk result (λ a. HasCleanDisk (state S.Store a.conn) → AreKept (state S.Store conn).now.trees) }
-    ensures wrong { IfErr result (λ e. HasCleanDisk (state S.Store e.1) → IsOfOpening e.0 → judged id number (meta_cells (state S.Store conn).now.trees) ≡ Err e.0) }
-    ensures opened { IfOk result (λ a. Survives (state S.Store conn) (state S.Store a.conn) (IsClearedIn id number (state S.Store conn).now)) }
-    ensures left { IfErr result (λ e. Survives (state S.Store conn) (state S.Store e.1) (IsClearedIn id number (state S.Store conn).now)) }
+    requires rests { WhereClean S.Store conn IsOpenAndIdle }
+    requires beside { WhereClean S.Store conn (HasSchema beside_schema) }
+    ensures own { IfOk result (IsBegun id number) }
+    ensures cleared { IfOk result (λ a. HasCleanDisk (state S.Store a.conn)
+        → IsClearedIn id number (state S.Store conn).now (tables_of S.Store a.conn)) }
+    ensures stored { IfOk result (λ a. HasCleanDisk (state S.Store a.conn)
+        → IsStored id number (tables_of S.Store conn)) }
+    ensures kept { IfOk result (λ a. HasCleanDisk (state S.Store a.conn)
+        → AreKept (tables_of S.Store conn)) }
+    ensures wrong { IfErr result (λ e. HasCleanDisk (state S.Store e.1) → IsOfOpening e.0
+        → checked_meta id number (meta_cells (tables_of S.Store conn)) ≡ Err e.0) }
+    ensures opened { IfOk result (λ a. MayCommit S.Store conn a.conn (IsClearedIn id number)) }
+    ensures left { IfErr result (λ e. MayCommit S.Store conn e.1 (IsClearedIn id number)) }
 {
     match open_beside(&mut conn, &id, number) {
         Ok(()) => begin(alloc, conn, id, number),

@@ -6,10 +6,10 @@ ghost use Rattle.sqlite_trees.specs.Tree.{Trees};
 ghost use Rattle.sqlite.specs.Files.{file_state, image_of, HoldsDatabase};
 ghost use Rattle.sqlite_wal.specs.Files.{image_at};
 ghost use Rattle.sqlite_std_file.specs.File.{IsFresh};
-ghost use Rattle.sqlite_wal.specs.Reads.{AreClean};
 ghost use Rattle.archive.specs.Store.{IsOfOpening};
-ghost use Rattle.sql_tables.specs.Rows.{content_in, IsStoreOf};
-ghost use Rattle.sql_archive.specs.Files.{Tells, Resumes, ResumesOnly, ResumesAmong, IsAnothers, EngineLeaves, KeepsFound, given_back};
+ghost use Rattle.sql_tables.specs.Rows.{content_in};
+ghost use Rattle.sql_archive.specs.Files.{HoldsContent, Resumes, ResumesOnly, ResumesAmong, IsAnothers, EngineLeaves, KeepsFound, given_back, HaveCleanDisks, HoldsLeft};
+ghost use Rattle.sql_archive.specs.Starting.{IsBegun};
 
 use crate::starting::{as_told, start};
 use crate::store::SqlArchive;
@@ -27,8 +27,9 @@ pub type FileArchive = SqlArchive<FileStore<File>>;
 
 /// The files of a connection, as they are.
 fn files_of<D: Disk + Drop>(conn: Connection<FileStore<D>>) -> Files<D>
-    ensures clean { AreClean D.Disk result.log result.db → HasCleanDisk (file_state conn) }
-    ensures holds { AreClean D.Disk result.log result.db → ∥ ((db : Trees) × (file_state conn).may_leave db × HoldsDatabase (image_of D.Disk result) db) ∥₁ }
+    ensures clean { HaveCleanDisks D.Disk result → HasCleanDisk (file_state conn) }
+    ensures holds { HaveCleanDisks D.Disk result → ∥ ((db : Trees) × (file_state conn).may_leave db
+        × HoldsDatabase (image_of D.Disk result) db) ∥₁ }
 {
     conn.into_store().close()
 }
@@ -51,11 +52,14 @@ impl<D: Disk + Drop> SqlArchive<FileStore<D>> {
     ) -> Result<SqlArchive<FileStore<D>>, (StoreFault, Files<D>)>
         requires log { IsTrue (D.Disk.is_usable files.log) }
         requires db { IsTrue (D.Disk.is_usable files.db) }
-        ensures own { IfOk result (λ a. (a.id ≡ id) × (a.number ≡ number) × (a.faults ≡ 0) × (a.broken ≡ false)) }
-        ensures resumed { IfOk result (λ a. HasCleanDisk (file_state a.conn) → Resumes (image_of D.Disk files) id number (content_in (file_state a.conn).now.trees)) }
+        ensures own { IfOk result (IsBegun id number) }
+        ensures resumed { IfOk result (λ a. HasCleanDisk (file_state a.conn) → Resumes
+            (image_of D.Disk files) id number (content_in (file_state a.conn).now.trees)) }
         ensures told { IfErr result (λ e. e.0 ≢ StoreFault.Broken) }
-        ensures wrong { IfErr result (λ e. AreClean D.Disk e.1.log e.1.db → IsOfOpening e.0 → IsAnothers (image_of D.Disk files) id number e.0) }
-        ensures left { IfErr result (λ e. AreClean D.Disk e.1.log e.1.db → EngineLeaves D.Disk files e.1 ⊎ KeepsFound (image_of D.Disk files) id number (image_of D.Disk e.1)) }
+        ensures wrong { IfErr result (λ e. HaveCleanDisks D.Disk e.1 → IsOfOpening e.0
+            → IsAnothers (image_of D.Disk files) id number e.0) }
+        ensures left { IfErr result (λ e. HaveCleanDisks D.Disk e.1 → EngineLeaves D.Disk files e.1
+            ⊎ KeepsFound (image_of D.Disk files) id number (image_of D.Disk e.1)) }
     {
         match Connection::open_files(alloc, files, options) {
             Ok(conn) => match start(alloc, conn, id, number) {
@@ -70,11 +74,18 @@ impl<D: Disk + Drop> SqlArchive<FileStore<D>> {
     /// archive held, and may be opened again. Where that fails they come back as an error, as they are; so do
     /// those of an archive that is broken, which hold what a crash could leave, and that is what an opening finds.
     pub fn close_files(self) -> Result<Files<D>, Files<D>>
-        ensures usable { IfOk result (λ files. IsTrue (D.Disk.is_usable files.log) × IsTrue (D.Disk.is_usable files.db)) }
-        ensures held { self.broken ≡ false → IfOk result (λ files. AreClean D.Disk files.log files.db → ∥ ((db : Trees) × HoldsDatabase (image_of D.Disk files) db × Tells self.id self.number db (content_in (file_state self.conn).now.trees)) ∥₁) }
-        ensures kept { self.broken ≡ false → IfOk result (λ files. AreClean D.Disk files.log files.db → ResumesOnly (image_of D.Disk files) (content_in (file_state self.conn).now.trees)) }
-        ensures behind { self.broken ≡ true → AreClean D.Disk (given_back result).log (given_back result).db → ∥ ((db : Trees) × (file_state self.conn).may_leave db × HoldsDatabase (image_of D.Disk (given_back result)) db × IsStoreOf self.id self.number db) ∥₁ }
-        ensures among { self.broken ≡ true → AreClean D.Disk (given_back result).log (given_back result).db → ResumesAmong (image_of D.Disk (given_back result)) (file_state self.conn).may_leave }
+        ensures usable { IfOk result (λ files. IsTrue (D.Disk.is_usable files.log)
+            × IsTrue (D.Disk.is_usable files.db)) }
+        ensures held { self.broken ≡ false → IfOk result (λ files. HaveCleanDisks D.Disk files
+            → ∥ ((db : Trees) × HoldsDatabase (image_of D.Disk files) db
+            × HoldsContent self.id self.number db
+            (content_in (file_state self.conn).now.trees)) ∥₁) }
+        ensures kept { self.broken ≡ false → IfOk result (λ files. HaveCleanDisks D.Disk files
+            → ResumesOnly (image_of D.Disk files) (content_in (file_state self.conn).now.trees)) }
+        ensures behind { self.broken ≡ true → HaveCleanDisks D.Disk (given_back result) → HoldsLeft
+            (image_of D.Disk (given_back result)) (file_state self.conn) self.id self.number }
+        ensures among { self.broken ≡ true → HaveCleanDisks D.Disk (given_back result)
+            → ResumesAmong (image_of D.Disk (given_back result)) (file_state self.conn).may_leave }
     {
         if self.is_broken() {
             return Err(self.into_files());
@@ -91,8 +102,10 @@ impl<D: Disk + Drop> SqlArchive<FileStore<D>> {
     /// Gives the files back as they are, also those of an archive that is broken: they hold what a crash
     /// could leave, which is a store of this archive and replica, and that is what an opening finds.
     pub fn into_files(self) -> Files<D>
-        ensures held { AreClean D.Disk result.log result.db → ∥ ((db : Trees) × (file_state self.conn).may_leave db × HoldsDatabase (image_of D.Disk result) db × IsStoreOf self.id self.number db) ∥₁ }
-        ensures among { AreClean D.Disk result.log result.db → ResumesAmong (image_of D.Disk result) (file_state self.conn).may_leave }
+        ensures held { HaveCleanDisks D.Disk result
+            → HoldsLeft (image_of D.Disk result) (file_state self.conn) self.id self.number }
+        ensures among { HaveCleanDisks D.Disk result
+            → ResumesAmong (image_of D.Disk result) (file_state self.conn).may_leave }
     {
         self.tables_stand();
         files_of(self.into_connection())
@@ -111,12 +124,18 @@ impl<T: Start> SqlArchive<FileStore<FileFrom<T>>> {
         id: Uuid,
         number: ReplicaNo,
     ) -> Result<SqlArchive<FileStore<FileFrom<T>>>, (StoreFault, Option<Files<FileFrom<T>>>)>
-        ensures own { IfOk result (λ a. (a.id ≡ id) × (a.number ≡ number) × (a.faults ≡ 0) × (a.broken ≡ false)) }
-        ensures resumed { IfOk result (λ a. HasCleanDisk (file_state a.conn) → Resumes (image_at T.Start) id number (content_in (file_state a.conn).now.trees)) }
+        ensures own { IfOk result (IsBegun id number) }
+        ensures resumed { IfOk result (λ a. HasCleanDisk (file_state a.conn)
+            → Resumes (image_at T.Start) id number (content_in (file_state a.conn).now.trees)) }
         ensures told { IfErr result (λ e. e.0 ≢ StoreFault.Broken) }
-        ensures wrong { IfErr result (λ e. IsOfOpening e.0 → IsSomeAnd e.1 (λ files. AreClean ⟦<FileFrom<T> as Disk>⟧ files.log files.db → IsAnothers (image_at T.Start) id number e.0)) }
-        ensures left { IfErr result (λ e. IfSome e.1 (λ left. AreClean ⟦<FileFrom<T> as Disk>⟧ left.log left.db
-            → ((files : _) × IsFresh true files.log × IsFresh false files.db × EngineLeaves ⟦<FileFrom<T> as Disk>⟧ files left) ⊎ KeepsFound (image_at T.Start) id number (image_of ⟦<FileFrom<T> as Disk>⟧ left))) }
+        ensures wrong { IfErr result (λ e. IsOfOpening e.0
+            → IsSomeAnd e.1 (λ files. HaveCleanDisks ⟦<FileFrom<T> as Disk>⟧ files
+            → IsAnothers (image_at T.Start) id number e.0)) }
+        ensures left { IfErr result (λ e. IfSome e.1 (λ left.
+            HaveCleanDisks ⟦<FileFrom<T> as Disk>⟧ left
+            → ((files : _) × IsFresh true files.log × IsFresh false files.db
+            × EngineLeaves ⟦<FileFrom<T> as Disk>⟧ files left)
+            ⊎ KeepsFound (image_at T.Start) id number (image_of ⟦<FileFrom<T> as Disk>⟧ left))) }
     {
         match Connection::open_from(rt, path, false, start_of) {
             Ok(conn) => match start(rt.alloc(), conn, id, number) {
@@ -139,7 +158,7 @@ impl SqlArchive<FileStore<File>> {
         id: Uuid,
         number: ReplicaNo,
     ) -> Result<FileArchive, StoreFault>
-        ensures own { IfOk result (λ a. (a.id ≡ id) × (a.number ≡ number) × (a.faults ≡ 0) × (a.broken ≡ false)) }
+        ensures own { IfOk result (IsBegun id number) }
         ensures told { IfErr result (λ e. e ≢ StoreFault.Broken) }
     {
         match SqlArchive::open_from(rt, path, Unknown, id, number) {

@@ -33,21 +33,33 @@ pub fn memory_is_honest()
 /// archive may be gone. Whatever can be opened
 /// of them then could be opened before, with the same content.
 pub fn refused_openings_lose_nothing()
-    ensures held { (image left : Image) (id : List ℕ) (own : ℕ) → KeepsFound image id own left → (db : Trees) → HoldsDatabase image db → ¬ Lists (db catalog_tree) no_schema → ¬ IsStoreOf1 id own db → ¬ (Lists (db catalog_tree) beside_schema × AreBare db) → ∥ HoldsDatabase left db ∥₁ }
-    ensures renewed { (image left : Image) (id : List ℕ) (own : ℕ) → KeepsFound image id own left → (db : Trees) → HoldsDatabase image db → IsStoreOf1 id own db → ∥ ((now : Trees) × HoldsDatabase left now × ((now ≡ db) ⊎ IsRenewed id (pos own) (cells1 db) now)) ∥₁ }
-    ensures cleared { (image left : Image) (id : List ℕ) (own : ℕ) → KeepsFound image id own left → (db : Trees) → HoldsDatabase image db → Lists (db catalog_tree) beside_schema → ∥ ((now : Trees) × HoldsDatabase left now × ((now ≡ db) ⊎ IsCleared db now)) ∥₁ }
-    ensures resumed { (image left : Image) (id : List ℕ) (own : ℕ) → KeepsFound image id own left → (other : List ℕ) (number : ℕ) (R : Content) → Resumes left other number R → ∥ Resumes image other number R ∥₁ }
+    ensures held { (image left : Image) (id : List ℕ) (own : ℕ) → KeepsFound image id own left
+        → (db : Trees) → HoldsDatabase image db → ¬ Lists (db catalog_tree) no_schema
+        → ¬ IsStoreOf1 id own db → ¬ (Lists (db catalog_tree) beside_schema × AreBare db)
+        → ∥ HoldsDatabase left db ∥₁ }
+    ensures renewed { (image left : Image) (id : List ℕ) (own : ℕ) → KeepsFound image id own left
+        → (db : Trees) → HoldsDatabase image db → IsStoreOf1 id own db → ∥ ((now : Trees)
+        × HoldsDatabase left now × ((now ≡ db) ⊎ IsRenewed id (pos own) (cells1 db) now)) ∥₁ }
+    ensures cleared { (image left : Image) (id : List ℕ) (own : ℕ) → KeepsFound image id own left
+        → (db : Trees) → HoldsDatabase image db → Lists (db catalog_tree) beside_schema
+        → ∥ ((now : Trees) × HoldsDatabase left now × ((now ≡ db) ⊎ IsCleared db now)) ∥₁ }
+    ensures resumed { (image left : Image) (id : List ℕ) (own : ℕ) → KeepsFound image id own left
+        → (other : List ℕ) (number : ℕ) (R : Content) → Resumes left other number R
+        → ∥ Resumes image other number R ∥₁ }
 {}
 
 /// The records that a store of format 1 stands for have moments without picoseconds, whatever picoseconds their values have.
 pub fn moments_of_format_1_have_no_picoseconds()
-    ensures { (id : List ℕ) (own : ℕ) (db : Trees) (stored : IsStored1 id own db) → All (λ r. pico_of r.time ≡ 0) stored.content }
+    ensures { (id : List ℕ) (own : ℕ) (db : Trees) (stored : IsStored1 id own db)
+        → All (λ r. pico_of r.time ≡ 0) stored.content }
 {}
 
 /// Where tables are those of an archive's records, their current values are those of the records: for each node and moment with
 /// records one row, that of the last of them by stamp, which tells whether that one holds a value and whether others stand there. And
 /// each origin with records has one row of its last number and that record's tick.
 pub fn tables_are_the_records()
-    ensures currents { (R : Content) (db : Trees) → IsLawfulContent R → AreRecords R db → AreKept db → AreCurrents R (map current_columns (db 4)) }
-    ensures vectors { (R : Content) (db : Trees) → IsLawfulContent R → AreRecords R db → AreKept db → AreLasts R (map vector_columns (db 6)) }
+    ensures currents { (R : Content) (db : Trees) → IsLawfulContent R → AreRecords R db → AreKept db
+        → AreCurrents R (map current_columns (db 4)) }
+    ensures vectors { (R : Content) (db : Trees) → IsLawfulContent R → AreRecords R db → AreKept db
+        → AreLasts R (map vector_columns (db 6)) }
 {}

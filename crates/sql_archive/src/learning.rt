@@ -8,10 +8,11 @@ ghost use Rattle.records.specs.Same.{same_record};
 ghost use Rattle.records.specs.Contents.{finding, Adds};
 ghost use Rattle.records.specs.Spelling.{IsLawfulRecord};
 ghost use Rattle.archive.specs.Store.{answer_to, store_fault_in};
-ghost use Rattle.sql_tables.specs.Rows.{content_in, IsFilled};
+ghost use Rattle.sql_tables.specs.Rows.{IsFilled};
 ghost use Rattle.sql_tables.specs.Derived.{AreKept};
-ghost use Rattle.sql_tables.specs.State.{Idles, Asked};
+ghost use Rattle.sql_tables.specs.State.{Idles, LeavesUnchanged};
 ghost use Rattle.sql_tables.specs.Learning.{IsLast, Learned, beyond, reached, is_added, flat, IsOwn, end_of};
+ghost use Rattle.sql_tables.specs.Connections.{WhereClean, Sees, content_of};
 
 use archive::{LearnFault, StoreFault};
 use records::{Record, RecordFault};
@@ -77,10 +78,11 @@ fn end_of(rows: &[Row]) -> Result<(u64, i64), RecordFault>
 
 /// The last number and tick of an origin, which its row of vectors has.
 fn last_of<S: Alter>(conn: &mut Connection<S>, origin: ReplicaNo) -> Result<(u64, i64), StoreFault>
-    requires idles { HasCleanDisk (state S.Store conn.old) → Idles (state S.Store conn.old) }
-    requires filled { HasCleanDisk (state S.Store conn.old) → IsFilled (state S.Store conn.old).now.trees }
-    requires kept { HasCleanDisk (state S.Store conn.old) → AreKept (state S.Store conn.old).now.trees }
-    ensures { Asked (state S.Store conn.old) (state S.Store conn.new) result (IsLast (content_in (state S.Store conn.old).now.trees) origin) }
+    requires idles { WhereClean S.Store conn.old Idles }
+    requires filled { WhereClean S.Store conn.old (Sees IsFilled) }
+    requires kept { WhereClean S.Store conn.old (Sees AreKept) }
+    ensures { LeavesUnchanged (state S.Store conn.old) (state S.Store conn.new) result
+        (IsLast (content_of S.Store conn.old) origin) }
 {
     let name = first_of(origin);
     let rows = rows_last(conn, &name)?;
@@ -123,10 +125,11 @@ fn is_held<S: Alter>(
     conn: &mut Connection<S>,
     candidate: &Record,
 ) -> Result<bool, StoreFault>
-    requires idles { HasCleanDisk (state S.Store conn.old) → Idles (state S.Store conn.old) }
-    requires filled { HasCleanDisk (state S.Store conn.old) → IsFilled (state S.Store conn.old).now.trees }
+    requires idles { WhereClean S.Store conn.old Idles }
+    requires filled { WhereClean S.Store conn.old (Sees IsFilled) }
     requires lawful { IsLawfulRecord candidate.now }
-    ensures { Asked (state S.Store conn.old) (state S.Store conn.new) result (λ b. b ≡ list_any (same_record candidate.now) (content_in (state S.Store conn.old).now.trees)) }
+    ensures { LeavesUnchanged (state S.Store conn.old) (state S.Store conn.new) result
+        (λ b. b ≡ list_any (same_record candidate.now) (content_of S.Store conn.old)) }
 {
     let name = name_of(candidate);
     let rows = rows_named(conn, &name)?;
@@ -140,12 +143,13 @@ fn judge<S: Alter>(
     conn: &mut Connection<S>,
     candidate: &Record,
 ) -> Result<Result<bool, LearnFault>, StoreFault>
-    requires idles { HasCleanDisk (state S.Store conn.old) → Idles (state S.Store conn.old) }
-    requires filled { HasCleanDisk (state S.Store conn.old) → IsFilled (state S.Store conn.old).now.trees }
-    requires kept { HasCleanDisk (state S.Store conn.old) → AreKept (state S.Store conn.old).now.trees }
+    requires idles { WhereClean S.Store conn.old Idles }
+    requires filled { WhereClean S.Store conn.old (Sees IsFilled) }
+    requires kept { WhereClean S.Store conn.old (Sees AreKept) }
     requires lawful { IsLawfulRecord candidate.now }
     ensures own { IsOwn result }
-    ensures asked { Asked (state S.Store conn.old) (state S.Store conn.new) result (λ told. told ≡ answer_to (finding (content_in (state S.Store conn.old).now.trees) candidate.now)) }
+    ensures asked { LeavesUnchanged (state S.Store conn.old) (state S.Store conn.new) result
+        (λ told. told ≡ answer_to (finding (content_of S.Store conn.old) candidate.now)) }
 {
     let (held, last) = last_of(conn, candidate.origin)?;
     if candidate.number > held {
@@ -171,13 +175,15 @@ fn add<S: Alter>(
     conn: &mut Connection<S>,
     candidate: &Record,
 ) -> Result<Result<bool, LearnFault>, StoreFault>
-    requires idles { HasCleanDisk (state S.Store conn.old) → Idles (state S.Store conn.old) }
-    requires filled { HasCleanDisk (state S.Store conn.old) → IsFilled (state S.Store conn.old).now.trees }
-    requires kept { HasCleanDisk (state S.Store conn.old) → AreKept (state S.Store conn.old).now.trees }
+    requires idles { WhereClean S.Store conn.old Idles }
+    requires filled { WhereClean S.Store conn.old (Sees IsFilled) }
+    requires kept { WhereClean S.Store conn.old (Sees AreKept) }
     requires lawful { IsLawfulRecord candidate.now }
-    requires next { HasCleanDisk (state S.Store conn.old) → finding (content_in (state S.Store conn.old).now.trees) candidate.now ≡ Adds }
+    requires next { HasCleanDisk (state S.Store conn.old)
+        → finding (content_of S.Store conn.old) candidate.now ≡ Adds }
     ensures own { IsOwn result }
-    ensures learned { Learned (state S.Store conn.old) (state S.Store conn.new) candidate.now result }
+    ensures learned { Learned (state S.Store conn.old) (state S.Store conn.new)
+        candidate.now result }
 {
     match store_record(alloc, conn, candidate) {
         Ok(()) => Ok(Ok(true)),
@@ -191,12 +197,13 @@ pub(crate) fn learn_in<S: Alter>(
     conn: &mut Connection<S>,
     candidate: &Record,
 ) -> Result<Result<bool, LearnFault>, StoreFault>
-    requires idles { HasCleanDisk (state S.Store conn.old) → Idles (state S.Store conn.old) }
-    requires filled { HasCleanDisk (state S.Store conn.old) → IsFilled (state S.Store conn.old).now.trees }
-    requires kept { HasCleanDisk (state S.Store conn.old) → AreKept (state S.Store conn.old).now.trees }
+    requires idles { WhereClean S.Store conn.old Idles }
+    requires filled { WhereClean S.Store conn.old (Sees IsFilled) }
+    requires kept { WhereClean S.Store conn.old (Sees AreKept) }
     requires lawful { IsLawfulRecord candidate.now }
     ensures own { IsOwn result }
-    ensures learned { Learned (state S.Store conn.old) (state S.Store conn.new) candidate.now result }
+    ensures learned { Learned (state S.Store conn.old) (state S.Store conn.new)
+        candidate.now result }
 {
     let told = judge(alloc, conn, candidate)?;
     if is_added(&told) {

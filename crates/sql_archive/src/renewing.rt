@@ -1,15 +1,17 @@
 //! How an archive begins with a store of format 1, whose moments have no picoseconds.
 
-ghost use Rattle.std.specs.Prelude.{◌≡◌, ◌∷◌, ◌<◌, [], false, IfOk, IfErr, Err};
-ghost use Rattle.sqlite.specs.State.{HasCleanDisk, Survives};
+ghost use Rattle.std.specs.Prelude.{◌≡◌, ◌∷◌, ◌<◌, [], IfOk, IfErr, Err};
+ghost use Rattle.sqlite.specs.State.{HasCleanDisk};
 ghost use Rattle.sqlite.specs.Held.{state};
 ghost use Rattle.sqlite_value.specs.declared.value.Value.TheVariants as value;
 ghost use Rattle.archive.specs.Store.{IsOfOpening};
 ghost use Rattle.sql_schema.specs.Tables.{schema1};
 ghost use Rattle.sql_tables.specs.Rows.{meta_cells};
-ghost use Rattle.sql_tables.specs.State.{Rests};
+ghost use Rattle.sql_tables.specs.State.{IsOpenAndIdle};
 ghost use Rattle.sql_opening.specs.Renewing.{meta1_row, IsRead1};
-ghost use Rattle.sql_opening.specs.Opening.{judged, IsRenewedIn};
+ghost use Rattle.sql_opening.specs.Opening.{checked_meta, IsRenewedIn};
+ghost use Rattle.sql_tables.specs.Connections.{WhereClean, HasSchema, tables_of};
+ghost use Rattle.sql_archive.specs.Starting.{IsBegun, MayCommit};
 
 use crate::store::SqlArchive;
 use archive::StoreFault;
@@ -29,14 +31,16 @@ fn begin<S: Alter>(
     number: ReplicaNo,
     rows: &Rows1,
 ) -> Result<SqlArchive<S>, (StoreFault, Connection<S>)>
-    requires first { HasCleanDisk (state S.Store conn) → (state S.Store conn).now.schema ≡ schema1 }
-    requires read { HasCleanDisk (state S.Store conn) → IsRead1 (state S.Store conn).now.trees rows.now }
-    requires meta { HasCleanDisk (state S.Store conn) → meta_cells (state S.Store conn).now.trees ≡ meta1_row id number ∷ [] }
-    ensures own { IfOk result (λ a. (a.id ≡ id) × (a.number ≡ number) × (a.faults ≡ 0) × (a.broken ≡ false)) }
-    ensures renewed { IfOk result (λ a. HasCleanDisk (state S.Store a.conn) → IsRenewedIn id number (state S.Store conn).now (state S.Store a.conn).now.trees) }
+    requires first { WhereClean S.Store conn (HasSchema schema1) }
+    requires read { HasCleanDisk (state S.Store conn) → IsRead1 (tables_of S.Store conn) rows.now }
+    requires meta { HasCleanDisk (state S.Store conn)
+        → meta_cells (tables_of S.Store conn) ≡ meta1_row id number ∷ [] }
+    ensures own { IfOk result (IsBegun id number) }
+    ensures renewed { IfOk result (λ a. HasCleanDisk (state S.Store a.conn)
+        → IsRenewedIn id number (state S.Store conn).now (tables_of S.Store a.conn)) }
     ensures wrong { IfErr result (λ e. HasCleanDisk (state S.Store e.1) → IsOfOpening e.0 → ⊥) }
-    ensures opened { IfOk result (λ a. Survives (state S.Store conn) (state S.Store a.conn) (IsRenewedIn id number (state S.Store conn).now)) }
-    ensures left { IfErr result (λ e. Survives (state S.Store conn) (state S.Store e.1) (IsRenewedIn id number (state S.Store conn).now)) }
+    ensures opened { IfOk result (λ a. MayCommit S.Store conn a.conn (IsRenewedIn id number)) }
+    ensures left { IfErr result (λ e. MayCommit S.Store conn e.1 (IsRenewedIn id number)) }
 {
     if !conn.is_autocommit() {
         return Err((StoreFault::Refused, conn));
@@ -59,13 +63,15 @@ pub(crate) fn take_over_first<S: Alter>(
     id: Uuid,
     number: ReplicaNo,
 ) -> Result<SqlArchive<S>, (StoreFault, Connection<S>)>
-    requires rests { HasCleanDisk (state S.Store conn) → Rests (state S.Store conn) }
-    requires first { HasCleanDisk (state S.Store conn) → (state S.Store conn).now.schema ≡ schema1 }
-    ensures own { IfOk result (λ a. (a.id ≡ id) × (a.number ≡ number) × (a.faults ≡ 0) × (a.broken ≡ false)) }
-    ensures renewed { IfOk result (λ a. HasCleanDisk (state S.Store a.conn) → IsRenewedIn id number (state S.Store conn).now (state S.Store a.conn).now.trees) }
-    ensures wrong { IfErr result (λ e. HasCleanDisk (state S.Store e.1) → IsOfOpening e.0 → judged id number (meta_cells (state S.Store conn).now.trees) ≡ Err e.0) }
-    ensures opened { IfOk result (λ a. Survives (state S.Store conn) (state S.Store a.conn) (IsRenewedIn id number (state S.Store conn).now)) }
-    ensures left { IfErr result (λ e. Survives (state S.Store conn) (state S.Store e.1) (IsRenewedIn id number (state S.Store conn).now)) }
+    requires rests { WhereClean S.Store conn IsOpenAndIdle }
+    requires first { WhereClean S.Store conn (HasSchema schema1) }
+    ensures own { IfOk result (IsBegun id number) }
+    ensures renewed { IfOk result (λ a. HasCleanDisk (state S.Store a.conn)
+        → IsRenewedIn id number (state S.Store conn).now (tables_of S.Store a.conn)) }
+    ensures wrong { IfErr result (λ e. HasCleanDisk (state S.Store e.1) → IsOfOpening e.0
+        → checked_meta id number (meta_cells (tables_of S.Store conn)) ≡ Err e.0) }
+    ensures opened { IfOk result (λ a. MayCommit S.Store conn a.conn (IsRenewedIn id number)) }
+    ensures left { IfErr result (λ e. MayCommit S.Store conn e.1 (IsRenewedIn id number)) }
 {
     match open_rows(alloc, &mut conn, &id, number) {
         Ok(rows) => begin(alloc, conn, id, number, &rows),

@@ -1,19 +1,21 @@
 //! How an archive begins over a connection.
 
 ghost use Rattle.std.specs.Prelude.{◌≡◌, ◌≢◌, pos, false, IfOk, IfErr, Err};
-ghost use Rattle.sqlite.specs.State.{HasCleanDisk, Survives, Opens};
+ghost use Rattle.sqlite.specs.State.{HasCleanDisk, Opens};
 ghost use Rattle.sqlite.specs.Held.{state};
 ghost use Rattle.archive.specs.Store.{IsOfOpening};
 ghost use Rattle.sql_schema.specs.Tables.{no_schema};
 ghost use Rattle.sql_tables.specs.State.{IsNewArchive};
 ghost use Rattle.sql_opening.specs.Opening.{Starts, IsBegunIn, IsRefused};
+ghost use Rattle.sql_tables.specs.Connections.{WhereClean, HasSchema, tables_of};
+ghost use Rattle.sql_archive.specs.Starting.{IsBegun, MayCommit};
 
 use crate::clearing::take_out_empty;
 use crate::renewing::take_over_first;
 use crate::store::SqlArchive;
 use archive::StoreFault;
 use sql_opening::refusal_by_meta;
-use sql_schema::{Standing, standing_in};
+use sql_schema::{Standing, layout_of};
 use sql_tables::{fault_of, first_open, number_of};
 use sqlite::{Alter, Connection};
 use stamp::ReplicaNo;
@@ -40,12 +42,15 @@ pub(crate) fn make<S: Alter>(
     number: ReplicaNo,
 ) -> Result<SqlArchive<S>, (StoreFault, Connection<S>)>
     requires idle { conn.in_transaction ≡ false }
-    requires empty { HasCleanDisk (state S.Store conn) → (state S.Store conn).now.schema ≡ no_schema }
-    ensures own { IfOk result (λ a. (a.id ≡ id) × (a.number ≡ number) × (a.faults ≡ 0) × (a.broken ≡ false)) }
-    ensures made { IfOk result (λ a. HasCleanDisk (state S.Store a.conn) → IsNewArchive id (pos number) (state S.Store a.conn).now.trees) }
+    requires empty { WhereClean S.Store conn (HasSchema no_schema) }
+    ensures own { IfOk result (IsBegun id number) }
+    ensures made { IfOk result (λ a. HasCleanDisk (state S.Store a.conn)
+        → IsNewArchive id (pos number) (tables_of S.Store a.conn)) }
     ensures wrong { IfErr result (λ e. HasCleanDisk (state S.Store e.1) → IsOfOpening e.0 → ⊥) }
-    ensures opened { IfOk result (λ a. Survives (state S.Store conn) (state S.Store a.conn) (IsNewArchive id (pos number))) }
-    ensures left { IfErr result (λ e. Survives (state S.Store conn) (state S.Store e.1) (IsNewArchive id (pos number))) }
+    ensures opened { IfOk result
+        (λ a. MayCommit S.Store conn a.conn (λ _. IsNewArchive id (pos number))) }
+    ensures left { IfErr result
+        (λ e. MayCommit S.Store conn e.1 (λ _. IsNewArchive id (pos number))) }
 {
     let own = number_of(number);
     match first_open(&mut conn, id.as_bytes(), &own) {
@@ -67,14 +72,16 @@ pub(crate) fn start<S: Alter>(
     number: ReplicaNo,
 ) -> Result<SqlArchive<S>, (StoreFault, Connection<S>)>
     requires idle { conn.in_transaction ≡ false }
-    requires open { HasCleanDisk (state S.Store conn) → Opens (state S.Store conn) }
-    ensures own { IfOk result (λ a. (a.id ≡ id) × (a.number ≡ number) × (a.faults ≡ 0) × (a.broken ≡ false)) }
-    ensures started { IfOk result (λ a. HasCleanDisk (state S.Store a.conn) → Starts id number (state S.Store conn).now (state S.Store a.conn).now) }
-    ensures wrong { IfErr result (λ e. HasCleanDisk (state S.Store e.1) → IsOfOpening e.0 → IsRefused id number (state S.Store conn).now e.0) }
-    ensures opened { IfOk result (λ a. Survives (state S.Store conn) (state S.Store a.conn) (IsBegunIn id number (state S.Store conn).now)) }
-    ensures left { IfErr result (λ e. Survives (state S.Store conn) (state S.Store e.1) (IsBegunIn id number (state S.Store conn).now)) }
+    requires open { WhereClean S.Store conn Opens }
+    ensures own { IfOk result (IsBegun id number) }
+    ensures started { IfOk result (λ a. HasCleanDisk (state S.Store a.conn)
+        → Starts id number (state S.Store conn).now (state S.Store a.conn).now) }
+    ensures wrong { IfErr result (λ e. HasCleanDisk (state S.Store e.1) → IsOfOpening e.0
+        → IsRefused id number (state S.Store conn).now e.0) }
+    ensures opened { IfOk result (λ a. MayCommit S.Store conn a.conn (IsBegunIn id number)) }
+    ensures left { IfErr result (λ e. MayCommit S.Store conn e.1 (IsBegunIn id number)) }
 {
-    match standing_in(alloc, conn.schema()) {
+    match layout_of(alloc, conn.schema()) {
         Ok(Standing::Empty) => make(alloc, conn, id, number),
         Ok(Standing::Archive) => SqlArchive::over(alloc, conn, id, number),
         Ok(Standing::Beside) => take_out_empty(alloc, conn, id, number),

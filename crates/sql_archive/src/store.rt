@@ -6,6 +6,8 @@ ghost use Rattle.sqlite.specs.Held.{state};
 ghost use Rattle.archive.specs.Store.{fault_in};
 ghost use Rattle.archive.specs.Listed.{failures, is_broken};
 ghost use Rattle.sql_tables.specs.State.{Idles};
+ghost use Rattle.sql_tables.specs.Connections.{WhereClean, tables_of, CommitsNothing};
+ghost use Rattle.sql_archive.specs.Starting.{IsBegun};
 
 use crate::learning::{flat, learn_in};
 use crate::starting::{as_told, make};
@@ -39,9 +41,28 @@ impl<S: Alter> Model for SqlArchive<S> {
 
     ghost coded = { kept_code S.code };
 
-    ghost view = { λ a. record { conn = a.conn; id = a.id; number = a.number; numbers = a.latest.numbers; tick = a.latest.tick; faults = a.faults; broken = a.broken } };
+    ghost view = { λ a.
+        record {
+          conn = a.conn;
+          id = a.id;
+          number = a.number;
+          numbers = a.latest.numbers;
+          tick = a.latest.tick;
+          faults = a.faults;
+          broken = a.broken;
+        } };
 
-    ghost invariant = { λ a. Serves S.Store (record { conn = a.conn; id = a.id; number = a.number; numbers = a.latest.numbers; tick = a.latest.tick; faults = a.faults; broken = a.broken }) };
+    ghost invariant = { λ a.
+        Serves S.Store
+        (record {
+          conn = a.conn;
+          id = a.id;
+          number = a.number;
+          numbers = a.latest.numbers;
+          tick = a.latest.tick;
+          faults = a.faults;
+          broken = a.broken;
+        }) };
 }
 
 /// Counts a fault, and breaks behind `Broken`.
@@ -228,8 +249,7 @@ impl<S: Alter> SqlArchive<S> {
     ghost use Rattle.sql_archive.specs.Kept.{Serves, LeavesStores};
     ghost use Rattle.archive.specs.declared.fault.StoreFault.TheVariants as store;
     ghost use Rattle.std.specs.Prelude.{IfErr, Err};
-    ghost use Rattle.sqlite.specs.State.{Survives};
-    ghost use Rattle.sql_opening.specs.Opening.{judged};
+    ghost use Rattle.sql_opening.specs.Opening.{checked_meta};
     ghost use Rattle.sql_tables.specs.Rows.{meta_cells, IsStored};
     ghost use Rattle.sql_tables.specs.Derived.{AreKept};
 
@@ -241,14 +261,18 @@ impl<S: Alter> SqlArchive<S> {
         id: Uuid,
         number: ReplicaNo,
     ) -> Result<SqlArchive<S>, (StoreFault, Connection<S>)>
-        requires { HasCleanDisk (state S.Store conn) → Idles (state S.Store conn) }
-        ensures own { IfOk result (λ a. (a.id ≡ id) × (a.number ≡ number) × (a.faults ≡ 0) × (a.broken ≡ false)) }
-        ensures same { IfOk result (λ a. HasCleanDisk (state S.Store a.conn) → (state S.Store a.conn).now ≡ (state S.Store conn).now) }
-        ensures stored { IfOk result (λ a. HasCleanDisk (state S.Store a.conn) → IsStored id number (state S.Store conn).now.trees) }
-        ensures kept { IfOk result (λ a. HasCleanDisk (state S.Store a.conn) → AreKept (state S.Store conn).now.trees) }
-        ensures wrong { IfErr result (λ e. HasCleanDisk (state S.Store e.1) → IsOfOpening e.0 → judged id number (meta_cells (state S.Store conn).now.trees) ≡ Err e.0) }
-        ensures opened { IfOk result (λ a. Survives (state S.Store conn) (state S.Store a.conn) (λ _. ⊥)) }
-        ensures left { IfErr result (λ e. Survives (state S.Store conn) (state S.Store e.1) (λ _. ⊥)) }
+        requires { WhereClean S.Store conn Idles }
+        ensures own { IfOk result (IsBegun id number) }
+        ensures same { IfOk result (λ a. HasCleanDisk (state S.Store a.conn)
+            → (state S.Store a.conn).now ≡ (state S.Store conn).now) }
+        ensures stored { IfOk result (λ a. HasCleanDisk (state S.Store a.conn)
+            → IsStored id number (tables_of S.Store conn)) }
+        ensures kept { IfOk result (λ a. HasCleanDisk (state S.Store a.conn)
+            → AreKept (tables_of S.Store conn)) }
+        ensures wrong { IfErr result (λ e. HasCleanDisk (state S.Store e.1) → IsOfOpening e.0
+            → checked_meta id number (meta_cells (tables_of S.Store conn)) ≡ Err e.0) }
+        ensures opened { IfOk result (λ a. CommitsNothing S.Store conn a.conn) }
+        ensures left { IfErr result (λ e. CommitsNothing S.Store conn e.1) }
     {
         match open_all(alloc, &mut conn, &id, number) {
             Ok(latest) => {
@@ -319,7 +343,7 @@ impl SqlArchive<MemStore> {
 
     /// An archive of this id and replica in memory, which holds nothing.
     pub fn open_in_memory(alloc: Global, id: Uuid, number: ReplicaNo) -> Result<Self, StoreFault>
-        ensures own { IfOk result (λ a. (a.id ≡ id) × (a.number ≡ number) × (a.faults ≡ 0) × (a.broken ≡ false)) }
+        ensures own { IfOk result (IsBegun id number) }
         ensures empty { IfOk result (λ a. content_in (state over_memory a.conn).now.trees ≡ []) }
         ensures begins { IfOk result (λ a. HoldsNothing id number (store_of over_memory a)) }
         ensures refused { IfErr result (λ e. IsOfOpening e → ⊥) }

@@ -35,7 +35,7 @@ use Rattle.sql_tables.proofs.AgreeLemmas.{listing, listed, none_first, none_of, 
 use Rattle.sql_tables.proofs.Texts.{drop_currents_text, drop_records_text}
 use Rattle.sql_tables.proofs.WriteLemmas.{went, same_value}
 use Rattle.sql_opening.specs.Clearing.{AreBare, KeepsTables, IsCleared}
-use Rattle.sql_opening.specs.Opening.{judged, judged_as, OpensBeside}
+use Rattle.sql_opening.specs.Opening.{checked_meta, judged_as, OpensBeside}
 
 -- ---- whether they hold a row
 
@@ -149,7 +149,7 @@ cleared_then a b c one two = record {
 }
 
 -- what an opening makes of them
-pub opened_beside : (id : List ℕ) (own : ℕ) (a b c : State) (result : Result Unit StoreFault) → Found a b (Ok (Ok tt)) (λ told. told ≡ judged id own (meta_cells a.now.trees)) → Found b c result (λ _. AreBare b.now.trees) → (HasCleanDisk c → HasCleanDisk b)
+pub opened_beside : (id : List ℕ) (own : ℕ) (a b c : State) (result : Result Unit StoreFault) → Found a b (Ok (Ok tt)) (λ told. told ≡ checked_meta id own (meta_cells a.now.trees)) → Found b c result (λ _. AreBare b.now.trees) → (HasCleanDisk c → HasCleanDisk b)
     → OpensBeside id own a c result
 opened_beside id own a b c result one two early = record {
   opened = λ clean. go result (one.kept (early clean) refl) (one.answer (early clean)) (two.kept clean) (two.answer clean);
@@ -157,14 +157,14 @@ opened_beside id own a b c result one two early = record {
   crash = survives_then a b c _ _ _ (λ clean db none. none) (λ clean db none. none) one.crash two.crash;
 }
   where
-    go : (r : Result Unit StoreFault) → Holds a b → Ok tt ≡ judged id own (meta_cells a.now.trees) → (is_broken (fault_in r) ≡ false → Holds b c) → IfOk r (λ _. AreBare b.now.trees)
-        → OnOk r (Holds a c × (judged id own (meta_cells a.now.trees) ≡ Ok tt) × AreBare a.now.trees)
+    go : (r : Result Unit StoreFault) → Holds a b → Ok tt ≡ checked_meta id own (meta_cells a.now.trees) → (is_broken (fault_in r) ≡ false → Holds b c) → IfOk r (λ _. AreBare b.now.trees)
+        → OnOk r (Holds a c × (checked_meta id own (meta_cells a.now.trees) ≡ Ok tt) × AreBare a.now.trees)
     go (Ok v) s is more bare =
         let t = more refl in
         let same = ap (λ (d : Database). d.trees) s.same in
         (record { rests = t.rests; same = t.same ∙ s.same }, sym is, subst AreBare same bare)
     go (Err f) s is more bare = tt
 
-    never : (r : Result Unit StoreFault) → IfErr r (λ f. IsOfOpening f → ⊥) → IfErr r (λ f. IsOfOpening f → judged id own (meta_cells a.now.trees) ≡ Err f)
+    never : (r : Result Unit StoreFault) → IfErr r (λ f. IsOfOpening f → ⊥) → IfErr r (λ f. IsOfOpening f → checked_meta id own (meta_cells a.now.trees) ≡ Err f)
     never (Ok t) h = tt
     never (Err f) h = λ o. absurd (h o)

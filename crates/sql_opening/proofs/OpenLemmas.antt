@@ -61,7 +61,7 @@ use Rattle.records.proofs.ContentsParts.{number_from}
 use Rattle.sql_opening.specs.Latest.{Remembers, Raises}
 use Rattle.sql_opening.specs.declared.checking.Mark.{Mark}
 use Rattle.sql_opening.specs.declared.checking.Walk.{Walk}
-use Rattle.sql_opening.specs.Opening.{mark_of, nowhere, comes_next, are_in_turn, mark_behind, HasWalked, HasChecked, AreOutOfTurn, BeginOutOfTurn, has_number, has_bytes, judged_row, judged_as, judged, Opens}
+use Rattle.sql_opening.specs.Opening.{mark_of, nowhere, comes_next, are_in_turn, mark_behind, HasWalked, HasChecked, AreOutOfTurn, BeginOutOfTurn, has_number, has_bytes, judged_row, judged_as, checked_meta, Opens}
 
 -- the content ends with this mark: its origin's last number and tick, and no later origin
 record Ends (P : Content) (m : Mark) : Type 0 where
@@ -322,7 +322,7 @@ meta_passed format id own [] e = absurd cc
 meta_passed format id own (r ∷ []) e = ap (λ x. x ∷ []) (row_passed format id own (column r 0) (column r 2) (column r 3) (column r 4) e)
 meta_passed format id own (r ∷ s ∷ rows) e = absurd cc
 
-pub opened_by : {A : Type 0} (id : List ℕ) (own : ℕ) (a b c : State) (P : Trees → A → Type 0) (result : Result A StoreFault) → Found a b (Ok (Ok tt)) (λ told. told ≡ judged id own (meta_cells a.now.trees))
+pub opened_by : {A : Type 0} (id : List ℕ) (own : ℕ) (a b c : State) (P : Trees → A → Type 0) (result : Result A StoreFault) → Found a b (Ok (Ok tt)) (λ told. told ≡ checked_meta id own (meta_cells a.now.trees))
     → Found b c result (λ l. IsFilled b.now.trees × P b.now.trees l) → (HasCleanDisk c → HasCleanDisk b) → Opens id own a c (P a.now.trees) result
 opened_by {A} id own a b c P result one two early = record {
   opened = λ clean. go result (one.kept (early clean) refl) (one.answer (early clean)) (two.kept clean) (two.answer clean);
@@ -330,7 +330,7 @@ opened_by {A} id own a b c P result one two early = record {
   crash = survives_then a b c _ _ _ (λ clean db none. none) (λ clean db none. none) one.crash two.crash;
 }
   where
-    go : (r : Result A StoreFault) → Holds a b → Ok tt ≡ judged id own (meta_cells a.now.trees) → (is_broken (fault_in r) ≡ false → Holds b c) → IfOk r (λ l. IsFilled b.now.trees × P b.now.trees l) → IfOk r (λ l. Holds a c × IsStored id own a.now.trees × P a.now.trees l)
+    go : (r : Result A StoreFault) → Holds a b → Ok tt ≡ checked_meta id own (meta_cells a.now.trees) → (is_broken (fault_in r) ≡ false → Holds b c) → IfOk r (λ l. IsFilled b.now.trees × P b.now.trees l) → IfOk r (λ l. Holds a c × IsStored id own a.now.trees × P a.now.trees l)
     go (Ok l) s is more filled =
         let t = more refl in
         let same = ap (λ (d : Database). d.trees) s.same in
@@ -338,7 +338,7 @@ opened_by {A} id own a b c P result one two early = record {
         (record { rests = t.rests; same = t.same ∙ s.same }, record { content = all.0.0; lawful = all.0.1; stands = record { meta = meta_passed 2 id own (a.now.trees 0) (sym is); records = all.0.2 } }, all.1)
     go (Err f) s is more filled = tt
 
-    never : (r : Result A StoreFault) → IfErr r (λ f. IsOfOpening f → ⊥) → IfErr r (λ f. IsOfOpening f → judged id own (meta_cells a.now.trees) ≡ Err f)
+    never : (r : Result A StoreFault) → IfErr r (λ f. IsOfOpening f → ⊥) → IfErr r (λ f. IsOfOpening f → checked_meta id own (meta_cells a.now.trees) ≡ Err f)
     never (Ok t) h = tt
     never (Err f) h = λ o. absurd (h o)
 
@@ -349,9 +349,9 @@ nothing_in db none = ap (λ rows. sort_by name_cmp (flat_map records_in (cells r
 same_number : (n : ℕ) → (n == n) ≡ true
 same_number n = eq-eqb n n refl
 
-pub own_row : (id : List ℕ) (own : ℕ) → judged id own (meta_row id own ∷ []) ≡ Ok tt
+pub own_row : (id : List ℕ) (own : ℕ) → checked_meta id own (meta_row id own ∷ []) ≡ Ok tt
 own_row id own = rw ((bytes_eq-Decides id id).1 refl, same_number own) refl
 
 -- new tables are those of their archive and replica
-pub new_is_own : (id : List ℕ) (own : ℕ) (db : Trees) → IsNewArchive id (pos own) db → judged id own (meta_cells db) ≡ Ok tt
-new_is_own id own db new = ap (λ rows. judged id own (map meta_columns rows)) new.meta ∙ own_row id own
+pub new_is_own : (id : List ℕ) (own : ℕ) (db : Trees) → IsNewArchive id (pos own) db → checked_meta id own (meta_cells db) ≡ Ok tt
+new_is_own id own db new = ap (λ rows. checked_meta id own (map meta_columns rows)) new.meta ∙ own_row id own

@@ -16,7 +16,7 @@ use Rattle.archive.specs.declared.fault.StoreFault.{StoreFault}
 use Rattle.archive.specs.declared.fault.StoreFault.TheVariants.{WrongArchive, WrongReplica, Refused}
 use Rattle.archive.specs.Store.{IsLawfulContent, IsOfOpening, fault_in}
 use Rattle.archive.specs.Listed.{is_broken}
-use Rattle.sql_opening.specs.declared.renewing.Rows1.{Rows1}
+use Rattle.sql_opening.specs.declared.migrate.Rows1.{Rows1}
 use Rattle.sql_opening.specs.declared.checking.Walk.{Walk}
 use Rattle.sql_schema.specs.Tables.{archive_schema}
 use Rattle.sql_tables.specs.Words.{cells}
@@ -24,7 +24,7 @@ use Rattle.sql_tables.specs.Derived.{currents_of, current_columns, vectors_of, v
 use Rattle.sql_tables.specs.Rows.{row_of, meta_cells, meta_columns}
 use Rattle.sql_tables.specs.Keeping.{AddsRecord, Fills}
 use Rattle.sql_tables.specs.State.{Making, IsNewArchive, Found, Holds, shown_of}
-use Rattle.sql_opening.specs.Opening.{has_bytes, has_number, judged, judged_as, HasWalked, Opens1}
+use Rattle.sql_opening.specs.Opening.{has_bytes, has_number, checked_meta, judged_as, HasWalked, OpensV1}
 use Rattle.sql_opening.specs.Renewing.{columns1, cells1, current1, meta1_row, IsStored1, IsRead1, IsRenewed, IsTurned, PutsRecords}
 use Rattle.sql_tables.proofs.QueryLemmas.{repaired}
 use Rattle.sql_tables.proofs.DerivedLemmas.{currents_permuted, vectors_permuted}
@@ -128,7 +128,7 @@ moments1 id own db stored = All-from_recursion (λ r. pico_of r.time ≡ 0) stor
 
 -- ---- whose it is
 
-pub judged_alike : (id : List ℕ) (own : ℕ) (rows : List Row) (fault : StoreFault) → judged_as 1 id own rows ≡ Err fault → IsOfOpening fault → judged id own rows ≡ Err fault
+pub judged_alike : (id : List ℕ) (own : ℕ) (rows : List Row) (fault : StoreFault) → judged_as 1 id own rows ≡ Err fault → IsOfOpening fault → checked_meta id own rows ≡ Err fault
 judged_alike id own [] fault e of = e
 judged_alike id own (r ∷ s ∷ rs) fault e of = e
 judged_alike id own (r ∷ []) fault e of = go (has_bytes (column r 2) id) (has_number (column r 3) own) (has_number (column r 0) 1 && has_number (column r 1) 1) (has_number (column r 0) 1 && has_number (column r 1) 2) e
@@ -144,11 +144,11 @@ judged_alike id own (r ∷ []) fault e of = go (has_bytes (column r 2) id) (has_
     go true true false w e = let is : Refused ≡ fault = cc in absurd (elim of [ inl a ↦ let no : Refused ≡ WrongReplica = is ∙ a in cc | inr a ↦ let no : Refused ≡ WrongArchive = is ∙ a in cc ])
 
 -- new tables are those of their archive and replica
-pub renewed_is_own : (id : List ℕ) (own : ℕ) (rows : List Row) (db : Trees) → IsRenewed id (pos own) rows db → judged id own (meta_cells db) ≡ Ok tt
-renewed_is_own id own rows db made = ap (judged id own) made.meta ∙ own_row id own
+pub renewed_is_own : (id : List ℕ) (own : ℕ) (rows : List Row) (db : Trees) → IsRenewed id (pos own) rows db → checked_meta id own (meta_cells db) ≡ Ok tt
+renewed_is_own id own rows db made = ap (checked_meta id own) made.meta ∙ own_row id own
 
 -- what an opening makes of its rows
-pub opened_rows : (id : List ℕ) (own : ℕ) (a b c : State) (result : Result Rows1 StoreFault) → Found a b (Ok (Ok tt)) (λ told. told ≡ judged_as 1 id own (meta_cells a.now.trees)) → Found b c result (IsRead1 b.now.trees) → (HasCleanDisk c → HasCleanDisk b) → Opens1 id own a c result
+pub opened_rows : (id : List ℕ) (own : ℕ) (a b c : State) (result : Result Rows1 StoreFault) → Found a b (Ok (Ok tt)) (λ told. told ≡ judged_as 1 id own (meta_cells a.now.trees)) → Found b c result (IsRead1 b.now.trees) → (HasCleanDisk c → HasCleanDisk b) → OpensV1 id own a c result
 opened_rows id own a b c result one two early = record {
   opened = λ clean. go result (one.kept (early clean) refl) (one.answer (early clean)) (two.kept clean) (two.answer clean);
   wrong = λ clean. never result two.met;
@@ -163,7 +163,7 @@ opened_rows id own a b c result one two early = record {
         (record { rests = t.rests; same = t.same ∙ s.same }, meta_passed 1 id own (a.now.trees 0) (sym is), subst (λ d. IsRead1 d rows) same read)
     go (Err f) s is more read = tt
 
-    never : (r : Result Rows1 StoreFault) → IfErr r (λ f. IsOfOpening f → ⊥) → IfErr r (λ f. IsOfOpening f → judged id own (meta_cells a.now.trees) ≡ Err f)
+    never : (r : Result Rows1 StoreFault) → IfErr r (λ f. IsOfOpening f → ⊥) → IfErr r (λ f. IsOfOpening f → checked_meta id own (meta_cells a.now.trees) ≡ Err f)
     never (Ok t) h = tt
     never (Err f) h = λ o. absurd (h o)
 

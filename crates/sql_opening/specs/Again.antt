@@ -7,7 +7,7 @@ use Rattle.sqlite_trees.specs.Objects.{number_in}
 use Rattle.stamp.specs.Numbers.{entries}
 use Rattle.sql_tables.specs.Derived.{int_in, vector_columns}
 use Rattle.sql_tables.specs.Rows.{meta_cells}
-use Rattle.sql_opening.specs.Opening.{judged}
+use Rattle.sql_opening.specs.Opening.{checked_meta}
 
 -- the origin and the last number that a row of vectors tells
 abbrev pub last_in : Row → ℕ × ℕ
@@ -20,8 +20,9 @@ top_in (c ∷ rows) = int_max (int_in (column c 2)) (top_in rows)
 
 -- meta says that it is this archive's and replica's store; the rows of vectors, by origin, are the
 -- origins that have a number and their numbers, as they are remembered, and so is the greatest tick
-pub record IsAsHeld (id : List ℕ) (own : ℕ) (numbers : List ℕ) (tick : ℤ) (db : Trees) : Type 0 where
-  pub meta : judged id own (meta_cells db) ≡ Ok tt
+pub record IsAsHeld (id : List ℕ) (own : ℕ) (numbers : List ℕ) (tick : ℤ)
+    (db : Trees) : Type 0 where
+  pub meta : checked_meta id own (meta_cells db) ≡ Ok tt
   pub rows : List Row
   pub all : IsPermutation (map vector_columns (db 6)) rows
   pub lasts : map last_in rows ≡ entries numbers

@@ -11,6 +11,10 @@ pub record Remembers (R : Content) (numbers : List ℕ) (tick : ℤ) : Type 0 wh
   pub newest : tick ≡ top R
 
 -- the numbers and the tick, with a record's where it is added
-pub record Raises (r : Record) (added : Bool) (numbers : List ℕ) (tick : ℤ) (new_numbers : List ℕ) (new_tick : ℤ) : Type 0 where
-  pub lasts : (replica : ℕ) → number_of new_numbers replica ≡ (if added then max (number_of numbers replica) (if r.origin == replica then r.number else 0) else number_of numbers replica)
+pub record Raises (r : Record) (added : Bool) (numbers : List ℕ) (tick : ℤ) (new_numbers : List ℕ)
+    (new_tick : ℤ) : Type 0 where
+  pub lasts : (replica : ℕ)
+      → number_of new_numbers replica
+      ≡ (if added then max (number_of numbers replica) (if r.origin == replica then r.number else 0)
+      else number_of numbers replica)
   pub newest : new_tick ≡ (if added then int_max tick r.tick else tick)

@@ -15,7 +15,7 @@ use Rattle.records.specs.Spelling.{IsRecord}
 use Rattle.sqlite_trees.specs.Tree.{Trees}
 use Rattle.sql_opening.specs.declared.checking.Mark.{Mark}
 use Rattle.sql_opening.specs.declared.checking.Walk.{Walk}
-use Rattle.sql_opening.specs.declared.renewing.Rows1.{Rows1}
+use Rattle.sql_opening.specs.declared.migrate.Rows1.{Rows1}
 use Rattle.sql_opening.specs.Renewing.{cells1, meta1_row, IsRead1, IsStored1, IsRenewed}
 use Rattle.sql_opening.specs.Clearing.{AreBare, IsCleared}
 use Rattle.sql_tables.specs.Words.{cells, name_order}
@@ -24,7 +24,7 @@ use Rattle.sql_tables.specs.Derived.{AreKept}
 use Rattle.sql_tables.specs.Rows.{IsStored, meta_cells, row_of}
 use Rattle.sqlite.specs.Effect.{Database}
 use Rattle.sql_schema.specs.Tables.{no_schema, schema1, archive_schema, beside_schema}
-use Rattle.sql_tables.specs.State.{Holds, Stays, HasMeta, IsNewArchive, shown_of}
+use Rattle.sql_tables.specs.State.{Holds, KeepsState, HasMeta, IsNewArchive, shown_of}
 
 abbrev pub mark_of : Record → Mark
 mark_of r = record { origin = r.origin; number = r.number; tick = r.tick }
@@ -34,7 +34,9 @@ nowhere = record { origin = 0; number = 0; tick = pos 0 }
 
 -- the record is the first of a later origin, or the next of the same one, with a tick that rises
 abbrev pub comes_next : Mark → Record → Bool
-comes_next m r = if nat_lt m.origin r.origin then r.number == 1 else (m.origin == r.origin) && (r.number == m.number + 1) && int_lt m.tick r.tick
+comes_next m r =
+    if nat_lt m.origin r.origin then r.number == 1
+    else (m.origin == r.origin) && (r.number == m.number + 1) && int_lt m.tick r.tick
 
 abbrev pub are_in_turn : Mark → List Record → Bool
 are_in_turn m [] = true
@@ -45,7 +47,8 @@ abbrev pub mark_behind : Mark → List Record → Mark
 mark_behind m [] = m
 mark_behind m (r ∷ rs) = mark_behind (mark_of r) rs
 
--- these rows were gone over: they are those of records in turn, the last of which stands there, and of which this is remembered
+-- these rows were gone over: they are those of records in turn, the last of which stands there, and
+-- of which this is remembered
 pub record HasWalked (rows : List Row) (walk : Walk) : Type 0 where
   pub items : List Record
   pub spelled : map row_of items ≡ map shown_of rows
@@ -56,7 +59,9 @@ pub record HasWalked (rows : List Row) (walk : Walk) : Type 0 where
 
 -- they aren't those of records in turn, or there are too many to be counted
 abbrev pub AreOutOfTurn : List Row → Type 0
-AreOutOfTurn rows = ((items : List Record) → map row_of items ≡ map shown_of rows → AllByRecursion IsRecord items → are_in_turn nowhere items ≡ true → ⊥) ⊎ (2 ^ 64 - 1 ≤ length rows)
+AreOutOfTurn rows =
+    ((items : List Record) → map row_of items ≡ map shown_of rows → AllByRecursion IsRecord items
+    → are_in_turn nowhere items ≡ true → ⊥) ⊎ (2 ^ 64 - 1 ≤ length rows)
 
 -- the rows of records2, by name, begin with such
 pub record BeginOutOfTurn (db : Trees) : Type 0 where
@@ -102,35 +107,51 @@ judged_as format id own (r ∷ []) = judged_row format id own r
 judged_as format id own (r ∷ s ∷ rs) = Err Refused
 
 -- as one of format 2
-abbrev pub judged : List ℕ → ℕ → List Row → Result Unit StoreFault
-judged = judged_as 2
+abbrev pub checked_meta : List ℕ → ℕ → List Row → Result Unit StoreFault
+checked_meta = judged_as 2
 
--- what an opening makes of meta and records2: Ok only where they stand for a lawful content of this archive and replica;
--- WrongArchive and WrongReplica only as meta says
-pub record Opens {A : Type 0} (id : List ℕ) (own : ℕ) (old new : State) (IsAnswer : A → Type 0) (result : Result A StoreFault) : Type 0 where
-  pub opened : HasCleanDisk new → IfOk result (λ a. Holds old new × IsStored id own old.now.trees × IsAnswer a)
-  pub wrong : HasCleanDisk new → IfErr result (λ fault. IsOfOpening fault → judged id own (meta_cells old.now.trees) ≡ Err fault)
+-- what an opening makes of meta and records2: Ok only where they stand for a lawful content of this
+-- archive and replica; WrongArchive and WrongReplica only as meta says
+pub record Opens {A : Type 0} (id : List ℕ) (own : ℕ) (old new : State) (IsAnswer : A → Type 0)
+    (result : Result A StoreFault) : Type 0 where
+  pub opened : HasCleanDisk new
+      → IfOk result (λ a. Holds old new × IsStored id own old.now.trees × IsAnswer a)
+  pub wrong : HasCleanDisk new
+      → IfErr result
+      (λ fault. IsOfOpening fault → checked_meta id own (meta_cells old.now.trees) ≡ Err fault)
   pub crash : Survives old new (λ _. ⊥)
 
 -- what an opening makes of all tables of an archive
-pub record OpensAll {A : Type 0} (id : List ℕ) (own : ℕ) (old new : State) (IsAnswer : A → Type 0) (result : Result A StoreFault) : Type 0 where
-  pub opened : HasCleanDisk new → IfOk result (λ a. Stays old new × IsStored id own old.now.trees × AreKept old.now.trees × IsAnswer a)
-  pub wrong : HasCleanDisk new → IfErr result (λ fault. IsOfOpening fault → judged id own (meta_cells old.now.trees) ≡ Err fault)
+pub record OpensAll {A : Type 0} (id : List ℕ) (own : ℕ) (old new : State) (IsAnswer : A → Type 0)
+    (result : Result A StoreFault) : Type 0 where
+  pub opened : HasCleanDisk new
+      → IfOk result
+      (λ a. KeepsState old new × IsStored id own old.now.trees × AreKept old.now.trees × IsAnswer a)
+  pub wrong : HasCleanDisk new
+      → IfErr result
+      (λ fault. IsOfOpening fault → checked_meta id own (meta_cells old.now.trees) ≡ Err fault)
   pub crash : Survives old new (λ _. ⊥)
 
 -- what an opening makes of a store of format 1
-pub record Opens1 (id : List ℕ) (own : ℕ) (old new : State) (result : Result Rows1 StoreFault) : Type 0 where
-  pub opened : HasCleanDisk new → IfOk result (λ rows. Holds old new × (meta_cells old.now.trees ≡ meta1_row id own ∷ []) × IsRead1 old.now.trees rows)
-  pub wrong : HasCleanDisk new → IfErr result (λ fault. IsOfOpening fault → judged id own (meta_cells old.now.trees) ≡ Err fault)
+pub record OpensV1 (id : List ℕ) (own : ℕ) (old new : State)
+    (result : Result Rows1 StoreFault) : Type 0 where
+  pub opened : HasCleanDisk new
+      → IfOk result
+      (λ rows. Holds old new × (meta_cells old.now.trees ≡ meta1_row id own ∷ [])
+      × IsRead1 old.now.trees rows)
+  pub wrong : HasCleanDisk new
+      → IfErr result
+      (λ fault. IsOfOpening fault → checked_meta id own (meta_cells old.now.trees) ≡ Err fault)
   pub crash : Survives old new (λ _. ⊥)
 
 -- what an opening makes of tables of format 1 behind those of an archive, before they are taken out
 pub record OpensBeside (id : List ℕ) (own : ℕ) (old new : State)
     (result : Result Unit StoreFault) : Type 0 where
   pub opened : HasCleanDisk new → OnOk result
-      (Holds old new × (judged id own (meta_cells old.now.trees) ≡ Ok tt) × AreBare old.now.trees)
+      (Holds old new × (checked_meta id own (meta_cells old.now.trees) ≡ Ok tt)
+      × AreBare old.now.trees)
   pub wrong : HasCleanDisk new → IfErr result
-      (λ fault. IsOfOpening fault → judged id own (meta_cells old.now.trees) ≡ Err fault)
+      (λ fault. IsOfOpening fault → checked_meta id own (meta_cells old.now.trees) ≡ Err fault)
   pub crash : Survives old new (λ _. ⊥)
 
 -- new tables are made where there are none
@@ -139,13 +160,16 @@ IsMadeIn id own old db = (old.schema ≡ no_schema) × IsNewArchive id (pos own)
 
 -- the tables of an archive are made of those of format 1 of this archive and replica
 abbrev pub IsRenewedIn : List ℕ → ℕ → Database → Trees → Type 0
-IsRenewedIn id own old db = (old.schema ≡ schema1) × IsStored1 id own old.trees × IsRenewed id (pos own) (cells1 old.trees) db
+IsRenewedIn id own old db =
+    (old.schema ≡ schema1) × IsStored1 id own old.trees
+    × IsRenewed id (pos own) (cells1 old.trees) db
 
--- tables of format 1 that hold no row are taken out behind those of an archive of this archive and replica
+-- tables of format 1 that hold no row are taken out behind those of an archive of this archive and
+-- replica
 abbrev pub IsClearedIn : List ℕ → ℕ → Database → Trees → Type 0
 IsClearedIn id own old db =
     (old.schema ≡ beside_schema) × AreBare old.trees
-    × (judged id own (meta_cells old.trees) ≡ Ok tt) × IsCleared old.trees db
+    × (checked_meta id own (meta_cells old.trees) ≡ Ok tt) × IsCleared old.trees db
 
 -- what an opening commits
 abbrev pub IsBegunIn : List ℕ → ℕ → Database → Trees → Type 0
@@ -167,4 +191,4 @@ Starts id own old new =
 -- meta, the first of the tables, says that this is another archive's store, or another replica's
 pub record IsRefused (id : List ℕ) (own : ℕ) (old : Database) (fault : StoreFault) : Type 0 where
   pub schema : HasMeta old.schema
-  pub judged : judged id own (meta_cells old.trees) ≡ Err fault
+  pub judged : checked_meta id own (meta_cells old.trees) ≡ Err fault

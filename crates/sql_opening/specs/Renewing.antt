@@ -1,4 +1,5 @@
--- A store of format 1, whose moments have no picoseconds: what it holds, and what its tables become.
+-- A store of format 1, whose moments have no picoseconds: what it holds, and what its tables
+-- become.
 use Rattle.std.specs.Prelude.{◌≡◌, ℕ, ℤ, pos, List, [], ◌∷◌, ◌++◌, map, IsPermutation}
 use Rattle.std.specs.List.{flat_map}
 use Rattle.sqlite_value.specs.declared.value.Value.TheVariants.{Int, Blob as Bytes}
@@ -10,7 +11,7 @@ use Rattle.records.specs.Lists.{sort_by}
 use Rattle.records.specs.Records.{name_cmp}
 use Rattle.records.specs.Contents.{Content}
 use Rattle.archive.specs.Store.{IsLawfulContent}
-use Rattle.sql_opening.specs.declared.renewing.Rows1.{Rows1}
+use Rattle.sql_opening.specs.declared.migrate.Rows1.{Rows1}
 use Rattle.sql_tables.specs.State.{shown_of}
 use Rattle.sql_schema.specs.Tables.{schema1, archive_schema}
 use Rattle.sql_tables.specs.Words.{cells}
@@ -19,7 +20,9 @@ use Rattle.sql_tables.specs.Rows.{row_of, records_in, meta_cells}
 
 -- the row of records2 that a row of records becomes: its moment has 0 picoseconds
 abbrev pub columns1 : Row → Row
-columns1 r = column r 1 ∷ column r 2 ∷ column r 3 ∷ column r 4 ∷ column r 5 ∷ Int (pos 0) ∷ column r 6 ∷ column r 7 ∷ column r 8 ∷ []
+columns1 r =
+    column r 1 ∷ column r 2 ∷ column r 3 ∷ column r 4 ∷ column r 5 ∷ Int (pos 0) ∷ column r 6
+    ∷ column r 7 ∷ column r 8 ∷ []
 
 -- the rows of records, as those of records2
 abbrev pub cells1 : Trees → List Row
@@ -27,7 +30,9 @@ cells1 db = map columns1 (db 1)
 
 -- a row of currents, as one of currents2
 abbrev pub current1 : Row → Row
-current1 r = column r 1 ∷ column r 2 ∷ Int (pos 0) ∷ column r 3 ∷ column r 4 ∷ column r 5 ∷ column r 6 ∷ column r 7 ∷ []
+current1 r =
+    column r 1 ∷ column r 2 ∷ Int (pos 0) ∷ column r 3 ∷ column r 4 ∷ column r 5 ∷ column r 6
+    ∷ column r 7 ∷ []
 
 -- the records in the tables, by name
 abbrev pub content1_in : Trees → Content
@@ -37,7 +42,8 @@ content1_in db = sort_by name_cmp (flat_map records_in (cells1 db))
 abbrev pub meta1_row : List ℕ → ℕ → Row
 meta1_row id own = Int (pos 1) ∷ Int (pos 1) ∷ Bytes id ∷ Int (pos own) ∷ []
 
--- the tables of format 1 stand for a lawful content: current values and last numbers are those of its records
+-- the tables of format 1 stand for a lawful content: current values and last numbers are those of
+-- its records
 pub record IsStored1 (id : List ℕ) (own : ℕ) (db : Trees) : Type 0 where
   pub content : Content
   pub lawful : IsLawfulContent content
@@ -66,7 +72,8 @@ pub record IsRenewed (id : List ℕ) (own : ℤ) (rows : List Row) (db : Trees) 
   pub kept : AreKept db
   pub lists : Lists (db catalog_tree) archive_schema
 
--- current values and last numbers of format 1 are those of its records, and the new tables hold these
+-- current values and last numbers of format 1 are those of its records, and the new tables hold
+-- these
 pub record IsTurned (id : List ℕ) (own : ℤ) (old new : Trees) : Type 0 where
   pub currents : IsPermutation (currents_of (cells1 old)) (map current1 (old 4))
   pub vectors : IsPermutation (vectors_of (cells1 old)) (map vector_columns (old 6))

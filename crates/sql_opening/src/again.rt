@@ -1,12 +1,12 @@
 //! A store that is open, read anew.
 
 ghost use Rattle.std.specs.Prelude.{◌≡◌, map, IsTrue, IsPermutation};
-ghost use Rattle.sqlite.specs.State.{HasCleanDisk};
 ghost use Rattle.sqlite.specs.Held.{state};
 ghost use Rattle.sql_tables.specs.Derived.{vector_columns};
-ghost use Rattle.sql_tables.specs.State.{Asked, Idles};
+ghost use Rattle.sql_tables.specs.State.{LeavesUnchanged, Idles};
 ghost use Rattle.stamp.specs.Numbers.{entries};
 ghost use Rattle.sql_opening.specs.Again.{last_in, top_in, IsAsHeld};
+ghost use Rattle.sql_tables.specs.Connections.{WhereClean, tables_of};
 
 use crate::latest::Latest;
 use crate::opening::judge;
@@ -18,8 +18,9 @@ use uuid::Uuid;
 
 /// The rows of vectors, by origin.
 fn last_rows<S: Alter>(conn: &mut Connection<S>) -> Result<Vec<Row>, StoreFault>
-    requires { HasCleanDisk (state S.Store conn.old) → Idles (state S.Store conn.old) }
-    ensures { Asked (state S.Store conn.old) (state S.Store conn.new) result (λ rows. IsPermutation (map vector_columns ((state S.Store conn.old).now.trees 6)) rows.items) }
+    requires { WhereClean S.Store conn.old Idles }
+    ensures { LeavesUnchanged (state S.Store conn.old) (state S.Store conn.new) result
+        (λ rows. IsPermutation (map vector_columns (tables_of S.Store conn.old 6)) rows.items) }
 {
     select(
         conn,
@@ -80,8 +81,10 @@ pub fn read_again<S: Alter>(
     number: ReplicaNo,
     latest: &Latest,
 ) -> Result<(), StoreFault>
-    requires { HasCleanDisk (state S.Store conn.old) → Idles (state S.Store conn.old) }
-    ensures { Asked (state S.Store conn.old) (state S.Store conn.new) result (λ _. IsAsHeld id.now number latest.now.numbers latest.now.tick (state S.Store conn.old).now.trees) }
+    requires { WhereClean S.Store conn.old Idles }
+    ensures { LeavesUnchanged (state S.Store conn.old) (state S.Store conn.new) result
+        (λ _. IsAsHeld id.now number latest.now.numbers latest.now.tick
+        (tables_of S.Store conn.old)) }
 {
     let told = judge(conn, id, number, 2)?;
     if told.is_err() {

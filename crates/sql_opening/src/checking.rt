@@ -1,16 +1,17 @@
 //! The records of a store that anybody may have written, gone over one row at a time.
 
 ghost use Rattle.std.specs.Prelude.{◌≡◌, ◌⊎◌, ◌↔◌, [], ◌∷◌, ◌++◌, List, IfOk, IfErr, OnOk, IsTrue};
-ghost use Rattle.sqlite.specs.State.{HasCleanDisk, IsUnchanged, Survives};
+ghost use Rattle.sqlite.specs.State.{HasCleanDisk, IsUnchanged};
 ghost use Rattle.sqlite.specs.Held.{state};
 ghost use Rattle.sqlite_value.specs.Order.{Row as Columns, column};
 ghost use Rattle.sqlite_value.specs.declared.value.Value.TheVariants as value;
 ghost use Rattle.records.specs.Spelling.{IsRecord};
-ghost use Rattle.sql_tables.specs.Words.{cells_of};
 ghost use Rattle.sql_tables.specs.Rows.{row_of, IsNoRecords};
 ghost use Rattle.sql_schema.specs.Tables.{archive_schema};
-ghost use Rattle.sql_tables.specs.State.{Holds, Rests, shown_of};
+ghost use Rattle.sql_tables.specs.State.{Holds, IsOpenAndIdle, shown_of};
 ghost use Rattle.sql_opening.specs.Opening.{comes_next, HasWalked, HasChecked, AreOutOfTurn, BeginOutOfTurn};
+ghost use Rattle.sql_tables.specs.Connections.{WhereClean, HasSchema, tables_of, CommitsNothing};
+ghost use Rattle.sql_tables.specs.Words.{row_of_cells};
 
 use crate::latest::{Latest, raised};
 use archive::StoreFault;
@@ -61,21 +62,24 @@ pub(crate) fn is_bytes(row: &Row, at: usize, bytes: &[u8]) -> bool
 
 /// Whether a row begins with the name and the tick of these cells.
 fn has_name(row: &Row, c: &Cells) -> bool
-    ensures { IsTrue result ↔ ((column row.now 0 ≡ value.Int c.now.origin) × (column row.now 1 ≡ value.Int c.now.number) × (column row.now 2 ≡ value.Int c.now.tick)) }
+    ensures { IsTrue result ↔ ((column row.now 0 ≡ value.Int c.now.origin)
+        × (column row.now 1 ≡ value.Int c.now.number) × (column row.now 2 ≡ value.Int c.now.tick)) }
 {
     is_int(row, 0, c.origin) && is_int(row, 1, c.number) && is_int(row, 2, c.tick)
 }
 
 /// Whether it has their node and moment.
 fn has_place(row: &Row, c: &Cells) -> bool
-    ensures { IsTrue result ↔ ((column row.now 3 ≡ value.Blob c.now.node.items) × (column row.now 4 ≡ value.Int c.now.time) × (column row.now 5 ≡ value.Int c.now.pico)) }
+    ensures { IsTrue result ↔ ((column row.now 3 ≡ value.Blob c.now.node.items)
+        × (column row.now 4 ≡ value.Int c.now.time) × (column row.now 5 ≡ value.Int c.now.pico)) }
 {
     is_bytes(row, 3, &c.node) && is_int(row, 4, c.time) && is_int(row, 5, c.pico)
 }
 
 /// Whether it has what they say was asked, by whom, and the value.
 fn has_rest(row: &Row, c: &Cells) -> bool
-    ensures { IsTrue result ↔ ((column row.now 6 ≡ value.Int c.now.asked) × (column row.now 7 ≡ value.Blob c.now.who.items) × (column row.now 8 ≡ value.Blob c.now.value.items)) }
+    ensures { IsTrue result ↔ ((column row.now 6 ≡ value.Int c.now.asked) × (column row.now 7
+        ≡ value.Blob c.now.who.items) × (column row.now 8 ≡ value.Blob c.now.value.items)) }
 {
     is_int(row, 6, c.asked) && is_bytes(row, 7, &c.who) && is_bytes(row, 8, &c.value)
 }
@@ -83,7 +87,7 @@ fn has_rest(row: &Row, c: &Cells) -> bool
 /// Whether a row is that of these cells.
 #[tactic(auto, using(crate::proofs::OpenLemmas::columns_are, crate::proofs::OpenLemmas::are_columns))]
 fn is_row(row: &Row, c: &Cells) -> bool
-    ensures { IsTrue result ↔ (shown_of row.now ≡ cells_of c.now.origin c.now.number c.now.tick c.now.node.items c.now.time c.now.pico c.now.asked c.now.who.items c.now.value.items) }
+    ensures { IsTrue result ↔ (shown_of row.now ≡ row_of_cells c.now) }
 {
     has_name(row, c) && has_place(row, c) && has_rest(row, c)
 }
@@ -91,7 +95,8 @@ fn is_row(row: &Row, c: &Cells) -> bool
 /// The record of exactly this row; a row that is no record's is `Refused`.
 fn read_row(alloc: Global, row: &Row) -> Result<Record, StoreFault>
     ensures read { IfOk result (λ r. IsRecord r × (shown_of row.now ≡ row_of r)) }
-    ensures met { IfErr result (λ fault. (fault ≡ StoreFault.OutOfMemory) ⊎ ((fault ≡ StoreFault.Refused) × IsNoRecords row.now)) }
+    ensures met { IfErr result (λ fault. (fault ≡ StoreFault.OutOfMemory)
+        ⊎ ((fault ≡ StoreFault.Refused) × IsNoRecords row.now)) }
 {
     let r = decode(alloc, row)?;
     let cells = make_cells(alloc, &r)?;
@@ -127,9 +132,12 @@ pub(crate) fn start() -> Walk
 
 /// Goes on over one row more, which is that of the next record in turn; else it is refused.
 pub(crate) fn go_on(alloc: Global, walk: Walk, row: &Row) -> Result<Walk, StoreFault>
-    ensures walked { (rows : List Columns) → HasWalked rows walk → IfOk result (HasWalked (rows ++ row.now ∷ [])) }
-    ensures met { IfErr result (λ fault. (fault ≡ StoreFault.OutOfMemory) ⊎ (fault ≡ StoreFault.Refused)) }
-    ensures refused { (rows : List Columns) → HasWalked rows walk → IfErr result (λ fault. (fault ≡ StoreFault.OutOfMemory) ⊎ AreOutOfTurn (rows ++ row.now ∷ [])) }
+    ensures walked { (rows : List Columns) → HasWalked rows walk
+        → IfOk result (HasWalked (rows ++ row.now ∷ [])) }
+    ensures met { IfErr result (λ fault. (fault ≡ StoreFault.OutOfMemory)
+        ⊎ (fault ≡ StoreFault.Refused)) }
+    ensures refused { (rows : List Columns) → HasWalked rows walk → IfErr result
+        (λ fault. (fault ≡ StoreFault.OutOfMemory) ⊎ AreOutOfTurn (rows ++ row.now ∷ [])) }
 {
     let r = read_row(alloc, row)?;
     if !comes_next(walk.last, &r) {
@@ -151,14 +159,20 @@ pub(crate) fn check_rows<S: Alter>(
     alloc: Global,
     conn: &mut Connection<S>,
 ) -> Result<Result<Walk, StoreFault>, Error>
-    requires rests { HasCleanDisk (state S.Store conn.old) → Rests (state S.Store conn.old) }
-    requires known { HasCleanDisk (state S.Store conn.old) → (state S.Store conn.old).now.schema ≡ archive_schema }
-    ensures checked { HasCleanDisk (state S.Store conn.new) → IfOk result (λ told. IfOk told (HasChecked (state S.Store conn.old).now.trees)) }
-    ensures met { IfOk result (λ told. IfErr told (λ fault. (fault ≡ StoreFault.OutOfMemory) ⊎ (fault ≡ StoreFault.Refused))) }
-    ensures refuted { HasCleanDisk (state S.Store conn.new) → IfOk result (λ told. IfErr told (λ fault. (fault ≡ StoreFault.OutOfMemory) ⊎ BeginOutOfTurn (state S.Store conn.old).now.trees)) }
-    ensures same { HasCleanDisk (state S.Store conn.new) → OnOk result (IsUnchanged (state S.Store conn.old) (state S.Store conn.new)) }
-    ensures refused { HasCleanDisk (state S.Store conn.new) → IfErr result (λ _. IsTrue (state S.Store conn.new).is_open → Holds (state S.Store conn.old) (state S.Store conn.new)) }
-    ensures crash { Survives (state S.Store conn.old) (state S.Store conn.new) (λ _. ⊥) }
+    requires rests { WhereClean S.Store conn.old IsOpenAndIdle }
+    requires known { WhereClean S.Store conn.old (HasSchema archive_schema) }
+    ensures checked { HasCleanDisk (state S.Store conn.new)
+        → IfOk result (λ told. IfOk told (HasChecked (tables_of S.Store conn.old))) }
+    ensures met { IfOk result (λ told. IfErr told (λ fault. (fault ≡ StoreFault.OutOfMemory)
+        ⊎ (fault ≡ StoreFault.Refused))) }
+    ensures refuted { HasCleanDisk (state S.Store conn.new) → IfOk result (λ told. IfErr told
+        (λ fault. (fault ≡ StoreFault.OutOfMemory) ⊎ BeginOutOfTurn (tables_of S.Store conn.old))) }
+    ensures same { HasCleanDisk (state S.Store conn.new)
+        → OnOk result (IsUnchanged (state S.Store conn.old) (state S.Store conn.new)) }
+    ensures refused { HasCleanDisk (state S.Store conn.new)
+        → IfErr result (λ _. IsTrue (state S.Store conn.new).is_open
+        → Holds (state S.Store conn.old) (state S.Store conn.new)) }
+    ensures crash { CommitsNothing S.Store conn.old conn.new }
 {
     let mut walk = start();
     let mut rows = conn.query(

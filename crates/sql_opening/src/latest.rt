@@ -36,7 +36,8 @@ pub fn latest_after(
     answer: &Result<Result<bool, LearnFault>, StoreFault>,
 ) -> Latest
     requires { IsLawfulRecord r.now }
-    ensures { Raises r.now (was_added answer.now) before.numbers before.tick result.numbers result.tick }
+    ensures { Raises r.now
+        (was_added answer.now) before.numbers before.tick result.numbers result.tick }
 {
     match answer {
         Ok(Ok(true)) => raised(before, r),

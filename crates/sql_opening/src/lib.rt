@@ -3,15 +3,15 @@
 #![tactic(auto)]
 
 mod again;
+mod backfill;
 mod checking;
 mod clearing;
-mod filling;
 mod latest;
+mod migrate;
 mod opening;
-mod renewing;
 
 pub use again::read_again;
 pub use clearing::{clear, open_beside};
 pub use latest::{Latest, latest_after};
+pub use migrate::{Rows1, open_rows, turn};
 pub use opening::{open_all, refusal_by_meta};
-pub use renewing::{Rows1, open_rows, turn};

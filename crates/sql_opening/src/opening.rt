@@ -2,15 +2,16 @@
 
 ghost use Rattle.std.specs.Prelude.{◌≡◌, ◌<◌, length, Err};
 ghost use Rattle.std.specs.List.{AllByRecursion};
-ghost use Rattle.sqlite.specs.State.{HasCleanDisk, Survives};
+ghost use Rattle.sqlite.specs.State.{HasCleanDisk};
 ghost use Rattle.archive.specs.Store.{IsOfOpening};
 ghost use Rattle.sqlite.specs.Held.{state};
 ghost use Rattle.sqlite_value.specs.Order.{column};
-ghost use Rattle.sql_tables.specs.Rows.{content_in, IsFilled, meta_cells};
+ghost use Rattle.sql_tables.specs.Rows.{IsFilled, meta_cells};
 ghost use Rattle.sql_opening.specs.Latest.{Remembers};
 ghost use Rattle.sql_schema.specs.Tables.{archive_schema};
-ghost use Rattle.sql_tables.specs.State.{Found, HasMeta, Idles, Rests};
-ghost use Rattle.sql_opening.specs.Opening.{has_number, has_bytes, judged_row, judged_as, judged, Opens, OpensAll};
+ghost use Rattle.sql_tables.specs.State.{Found, HasMeta, Idles, IsOpenAndIdle};
+ghost use Rattle.sql_opening.specs.Opening.{has_number, has_bytes, judged_row, judged_as, checked_meta, Opens, OpensAll};
+ghost use Rattle.sql_tables.specs.Connections.{WhereClean, HasSchema, tables_of, content_of, CommitsNothing};
 
 use crate::checking::check_rows;
 use crate::latest::Latest;
@@ -25,9 +26,11 @@ use uuid::Uuid;
 /// The last numbers and the greatest tick of the records, where they are the rows of a lawful content;
 /// else it is refused. It goes over them one at a time.
 fn walk<S: Alter>(alloc: Global, conn: &mut Connection<S>) -> Result<Latest, StoreFault>
-    requires rests { HasCleanDisk (state S.Store conn.old) → Rests (state S.Store conn.old) }
-    requires known { HasCleanDisk (state S.Store conn.old) → (state S.Store conn.old).now.schema ≡ archive_schema }
-    ensures { Found (state S.Store conn.old) (state S.Store conn.new) result (λ l. IsFilled (state S.Store conn.old).now.trees × Remembers (content_in (state S.Store conn.old).now.trees) l.numbers l.tick) }
+    requires rests { WhereClean S.Store conn.old IsOpenAndIdle }
+    requires known { WhereClean S.Store conn.old (HasSchema archive_schema) }
+    ensures { Found (state S.Store conn.old) (state S.Store conn.new) result
+        (λ l. IsFilled (tables_of S.Store conn.old)
+        × Remembers (content_of S.Store conn.old) l.numbers l.tick) }
 {
     match check_rows(alloc, conn) {
         Ok(Ok(walk)) => Ok(walk.latest),
@@ -84,7 +87,8 @@ fn judge_row(row: &Row, id: &Uuid, number: ReplicaNo, format: u64) -> Result<(),
 
 /// Whose store it is, by the rows of meta.
 fn judge_meta(rows: &[Row], id: &Uuid, number: ReplicaNo, format: u64) -> Result<(), StoreFault>
-    ensures { AllByRecursion (λ r. length r ≡ 4) rows.now → result ≡ judged_as format id.now number rows.now }
+    ensures { AllByRecursion (λ r. length r ≡ 4) rows.now
+        → result ≡ judged_as format id.now number rows.now }
 {
     match rows {
         [row] => judge_row(row, id, number, format),
@@ -99,9 +103,10 @@ pub(crate) fn judge<S: Alter>(
     number: ReplicaNo,
     format: u64,
 ) -> Result<Result<(), StoreFault>, StoreFault>
-    requires rests { HasCleanDisk (state S.Store conn.old) → Rests (state S.Store conn.old) }
-    requires known { HasCleanDisk (state S.Store conn.old) → HasMeta (state S.Store conn.old).now.schema }
-    ensures { Found (state S.Store conn.old) (state S.Store conn.new) result (λ told. told ≡ judged_as format id.now number (meta_cells (state S.Store conn.old).now.trees)) }
+    requires rests { WhereClean S.Store conn.old IsOpenAndIdle }
+    requires known { WhereClean S.Store conn.old (λ s. HasMeta s.now.schema) }
+    ensures { Found (state S.Store conn.old) (state S.Store conn.new) result
+        (λ told. told ≡ judged_as format id.now number (meta_cells (tables_of S.Store conn.old))) }
 {
     let rows = rows_of_meta(conn)?;
     Ok(judge_meta(&rows, id, number, format))
@@ -118,9 +123,10 @@ fn open_tables<S: Alter>(
     id: &Uuid,
     number: ReplicaNo,
 ) -> Result<Latest, StoreFault>
-    requires rests { HasCleanDisk (state S.Store conn.old) → Rests (state S.Store conn.old) }
-    requires known { HasCleanDisk (state S.Store conn.old) → (state S.Store conn.old).now.schema ≡ archive_schema }
-    ensures { Opens id.now number (state S.Store conn.old) (state S.Store conn.new) (λ l. Remembers (content_in (state S.Store conn.old).now.trees) l.numbers l.tick) result }
+    requires rests { WhereClean S.Store conn.old IsOpenAndIdle }
+    requires known { WhereClean S.Store conn.old (HasSchema archive_schema) }
+    ensures { Opens id.now number (state S.Store conn.old) (state S.Store conn.new)
+        (λ l. Remembers (content_of S.Store conn.old) l.numbers l.tick) result }
 {
     let told = judge(conn, id, number, 2)?;
     match told {
@@ -136,8 +142,9 @@ pub fn open_all<S: Alter>(
     id: &Uuid,
     number: ReplicaNo,
 ) -> Result<Latest, StoreFault>
-    requires { HasCleanDisk (state S.Store conn.old) → Idles (state S.Store conn.old) }
-    ensures { OpensAll id.now number (state S.Store conn.old) (state S.Store conn.new) (λ l. Remembers (content_in (state S.Store conn.old).now.trees) l.numbers l.tick) result }
+    requires { WhereClean S.Store conn.old Idles }
+    ensures { OpensAll id.now number (state S.Store conn.old) (state S.Store conn.new)
+        (λ l. Remembers (content_of S.Store conn.old) l.numbers l.tick) result }
 {
     let latest = open_tables(alloc, conn, id, number)?;
     check_kept(conn)?;
@@ -151,10 +158,11 @@ pub fn refusal_by_meta<S: Alter>(
     id: &Uuid,
     number: ReplicaNo,
 ) -> StoreFault
-    requires rests { HasCleanDisk (state S.Store conn.old) → Rests (state S.Store conn.old) }
-    requires known { HasCleanDisk (state S.Store conn.old) → HasMeta (state S.Store conn.old).now.schema }
-    ensures wrong { HasCleanDisk (state S.Store conn.new) → IsOfOpening result → judged id.now number (meta_cells (state S.Store conn.old).now.trees) ≡ Err result }
-    ensures crash { Survives (state S.Store conn.old) (state S.Store conn.new) (λ _. ⊥) }
+    requires rests { WhereClean S.Store conn.old IsOpenAndIdle }
+    requires known { WhereClean S.Store conn.old (λ s. HasMeta s.now.schema) }
+    ensures wrong { HasCleanDisk (state S.Store conn.new) → IsOfOpening result
+        → checked_meta id.now number (meta_cells (tables_of S.Store conn.old)) ≡ Err result }
+    ensures crash { CommitsNothing S.Store conn.old conn.new }
 {
     match judge(conn, id, number, 2) {
         Ok(Ok(())) => StoreFault::Refused,

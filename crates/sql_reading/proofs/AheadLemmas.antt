@@ -12,7 +12,7 @@ use Rattle.sqlite_trees.specs.Tree.{Trees}
 use Rattle.records.specs.Lists.{Has, Rises, IsApart}
 use Rattle.records.specs.Same.{same_node}
 use Rattle.records.proofs.SameParts.{node_code}
-use Rattle.records.specs.Records.{stamp_cmp, story}
+use Rattle.records.specs.Records.{record_stamp_cmp, versions}
 use Rattle.records.specs.Contents.{Content}
 use Rattle.records.specs.declared.record.Record.{Record}
 use Rattle.records.proofs.CloseLemmas.{closed_stamps}
@@ -30,8 +30,8 @@ use Rattle.sql_tables.proofs.RowLemmas.{content_is}
 use Rattle.sql_reading.proofs.PageLemmas.{time_order_total, next_by, forward_goes, backward_goes, apart_beyond, time_there, beyond_place}
 use Rattle.sql_reading.proofs.WalkLemmas.{turned_total, not_past_itself, past_then, past_less, past_or_same}
 
-pub stamps_apart : (db : Trees) → IsFilled db → IsApart stamp_cmp (content_in db)
-stamps_apart db (R, l, stand) = subst (IsApart stamp_cmp) (sym (content_is R db l stand)) (closed_stamps R l.closed)
+pub stamps_apart : (db : Trees) → IsFilled db → IsApart record_stamp_cmp (content_in db)
+stamps_apart db (R, l, stand) = subst (IsApart record_stamp_cmp) (sym (content_is R db l stand)) (closed_stamps R l.closed)
 
 -- ---- the order in a direction
 
@@ -44,17 +44,17 @@ walk_goes Forward a b h = forward_goes a b h
 walk_goes Backward a b h = backward_goes a b h
 
 past_walks : (d : Direction) (a b : Record) → is_past d a.time b.time ≡ true → walk_cmp d a b ≡ Less
-past_walks Forward a b h = ap (λ o. ordering_then o (stamp_cmp a b)) (past_less Forward a.time b.time h)
-past_walks Backward a b h = ap (λ o. ordering_then o (stamp_cmp b a)) (past_less Backward a.time b.time h)
+past_walks Forward a b h = ap (λ o. ordering_then o (record_stamp_cmp a b)) (past_less Forward a.time b.time h)
+past_walks Backward a b h = ap (λ o. ordering_then o (record_stamp_cmp b a)) (past_less Backward a.time b.time h)
 
-timed_step : (t : ℤ) (a b : Record) → a.time ≡ t → b.time ≡ t → stamp_cmp a b ≡ Less → time_order a b ≡ Less
-timed_step t a b p q h = ap (λ o. ordering_then o (stamp_cmp a b)) (ap₂ int_cmp p q ∙ tied_itself int_cmp_total t) ∙ h
+timed_step : (t : ℤ) (a b : Record) → a.time ≡ t → b.time ≡ t → record_stamp_cmp a b ≡ Less → time_order a b ≡ Less
+timed_step t a b p q h = ap (λ o. ordering_then o (record_stamp_cmp a b)) (ap₂ int_cmp p q ∙ tied_itself int_cmp_total t) ∙ h
 
 -- records of one time that rise by stamp
-timed_rise : (t : ℤ) (rs : List Record) → ((r : Record) → Has rs r → r.time ≡ t) → Rises stamp_cmp rs → Rises time_order rs
+timed_rise : (t : ℤ) (rs : List Record) → ((r : Record) → Has rs r → r.time ≡ t) → Rises record_stamp_cmp rs → Rises time_order rs
 timed_rise t [] same up = tt
 timed_rise t (r ∷ rs) same up =
-    (all_from_has (λ z. time_order r z ≡ Less) rs (λ z h. timed_step t r z (same r (inl refl)) (same z (inr h)) (all-has (λ y. stamp_cmp r y ≡ Less) rs z up.0 h)), timed_rise t rs (λ z h. same z (inr h)) up.1)
+    (all_from_has (λ z. time_order r z ≡ Less) rs (λ z h. timed_step t r z (same r (inl refl)) (same z (inr h)) (all-has (λ y. record_stamp_cmp r y ≡ Less) rs z up.0 h)), timed_rise t rs (λ z h. same z (inr h)) up.1)
 
 turned_rise : (d : Direction) (rs : List Record) → Rises time_order rs → Rises (walk_cmp d) (in_direction d rs)
 turned_rise Forward rs up = up
@@ -70,46 +70,46 @@ from_beyond R node d place r h =
     let p = has_from_filter (beyond_place d node place) R r (has_from_sort_by (walk_cmp d) (walk_total d) (filter (beyond_place d node place) R) r h) in
     let q = and_parts (same_node r.node node) (is_past d place r.time) p.1 in (p.0, q.0, q.1)
 
-rises_beyond : (R : Content) (node : NodeId) (d : Direction) (place : ℤ) → IsApart stamp_cmp R → Rises (walk_cmp d) (records_beyond R node d place)
+rises_beyond : (R : Content) (node : NodeId) (d : Direction) (place : ℤ) → IsApart record_stamp_cmp R → Rises (walk_cmp d) (records_beyond R node d place)
 rises_beyond R node d place apart = rises-sort_by (walk_cmp d) (walk_total d) (filter (beyond_place d node place) R) (apart_beyond d R node place apart)
 
-first_beyond : (R : Content) (node : NodeId) (d : Direction) (place : ℤ) → IsApart stamp_cmp R → IsNextTime d place (times R node) (first_time (records_beyond R node d place))
+first_beyond : (R : Content) (node : NodeId) (d : Direction) (place : ℤ) → IsApart record_stamp_cmp R → IsNextTime d place (times R node) (first_time (records_beyond R node d place))
 first_beyond R node d place apart = next_by d R node place (walk_cmp d) (walk_total d) (walk_goes d) (apart_beyond d R node place apart)
 
 -- no record beyond a time is of it
-not_of_it : (R : Content) (node : NodeId) (d : Direction) (t : ℤ) → IsApart stamp_cmp R → first_time (records_beyond R node d t) ≡ Some t → ⊥
+not_of_it : (R : Content) (node : NodeId) (d : Direction) (t : ℤ) → IsApart record_stamp_cmp R → first_time (records_beyond R node d t) ≡ Some t → ⊥
 not_of_it R node d t apart e =
     let next = subst (IsNextTime d t (times R node)) e (first_beyond R node d t apart) in absurd (true≢false (sym next.1 ∙ not_past_itself d t))
 
-of_time : (R : Content) (node : NodeId) (d : Direction) (t : ℤ) (r : Record) → Has (in_direction d (story R node t)) r → Has R r × (r.node ≡ node) × (r.time ≡ t)
-of_time R node d t r h = (story_has R node t r).0 ((has-in_direction d (story R node t) r).0 h)
+of_time : (R : Content) (node : NodeId) (d : Direction) (t : ℤ) (r : Record) → Has (in_direction d (versions R node t)) r → Has R r × (r.node ≡ node) × (r.time ≡ t)
+of_time R node d t r h = (story_has R node t r).0 ((has-in_direction d (versions R node t) r).0 h)
 
 -- the story of the next time stands first, and behind it what is beyond that time
-beyond_splits : (R : Content) (node : NodeId) (d : Direction) (place t : ℤ) → IsApart stamp_cmp R → IsNextTime d place (times R node) (Some t) → records_beyond R node d place ≡ in_direction d (story R node t) ++ records_beyond R node d t
+beyond_splits : (R : Content) (node : NodeId) (d : Direction) (place t : ℤ) → IsApart record_stamp_cmp R → IsNextTime d place (times R node) (Some t) → records_beyond R node d place ≡ in_direction d (versions R node t) ++ records_beyond R node d t
 beyond_splits R node d place t apart next =
     same_members (walk_cmp d) (walk_total d) (records_beyond R node d place) (here ++ there) (rises_beyond R node d place apart)
-    (pairwise-append (λ a b. walk_cmp d a b ≡ Less) here there (turned_rise d (story R node t) (timed_rise t (story R node t) (λ r h. ((story_has R node t r).0 h).2) (story_rises R node t apart))) (rises_beyond R node d t apart) across)
+    (pairwise-append (λ a b. walk_cmp d a b ≡ Less) here there (turned_rise d (versions R node t) (timed_rise t (versions R node t) (λ r h. ((story_has R node t r).0 h).2) (story_rises R node t apart))) (rises_beyond R node d t apart) across)
     forth back
   where
     here : List Record
-    here = in_direction d (story R node t)
+    here = in_direction d (versions R node t)
 
     there : List Record
     there = records_beyond R node d t
 
-    across : (a b : Record) → Has (in_direction d (story R node t)) a → Has (records_beyond R node d t) b → walk_cmp d a b ≡ Less
+    across : (a b : Record) → Has (in_direction d (versions R node t)) a → Has (records_beyond R node d t) b → walk_cmp d a b ≡ Less
     across a b h k = past_walks d a b (subst (λ s. is_past d s b.time ≡ true) (sym (of_time R node d t a h).2) (from_beyond R node d t b k).2)
 
-    forth : (r : Record) → Has (records_beyond R node d place) r → Has (in_direction d (story R node t) ++ records_beyond R node d t) r
+    forth : (r : Record) → Has (records_beyond R node d place) r → Has (in_direction d (versions R node t) ++ records_beyond R node d t) r
     forth r h =
         let p = from_beyond R node d place r h in
-        has-append (in_direction d (story R node t)) (records_beyond R node d t) r (elim (past_or_same d r.time t (next.2 r.time (time_there R node r p.0 p.1) p.2)) [
-          | inl e ↦ inl ((has-in_direction d (story R node t) r).1 ((story_has R node t r).1 (p.0, (Decides-is_same node_code r.node node).0 p.1, e)))
+        has-append (in_direction d (versions R node t)) (records_beyond R node d t) r (elim (past_or_same d r.time t (next.2 r.time (time_there R node r p.0 p.1) p.2)) [
+          | inl e ↦ inl ((has-in_direction d (versions R node t) r).1 ((story_has R node t r).1 (p.0, (Decides-is_same node_code r.node node).0 p.1, e)))
           | inr q ↦ inr (in_beyond R node d t r p.0 p.1 q)
         ])
 
-    back : (r : Record) → Has (in_direction d (story R node t) ++ records_beyond R node d t) r → Has (records_beyond R node d place) r
-    back r h = elim (has_from_append (in_direction d (story R node t)) (records_beyond R node d t) r h) [
+    back : (r : Record) → Has (in_direction d (versions R node t) ++ records_beyond R node d t) r → Has (records_beyond R node d place) r
+    back r h = elim (has_from_append (in_direction d (versions R node t)) (records_beyond R node d t) r h) [
       | inl k ↦ let p = of_time R node d t r k in in_beyond R node d place r p.0 ((Decides-is_same node_code r.node node).1 p.1) (subst (λ s. is_past d place s ≡ true) (sym p.2) next.1)
       | inr k ↦ let p = from_beyond R node d t r k in in_beyond R node d place r p.0 p.1 (past_then d place t r.time next.1 p.2)
     ]
@@ -143,7 +143,7 @@ nothing_held all [] false e = record { behind = all; next = refl; whole = λ p. 
 nothing_held all (r ∷ rs) ends e = absurd (true≢false (sym e))
 
 -- the first record that is held tells the next time
-pub next_told : (R : Content) (node : NodeId) (d : Direction) (place : ℤ) (held : List Record) (ends : Bool) → IsApart stamp_cmp R → IsAhead R node d place held ends → is_used_up held ends ≡ false
+pub next_told : (R : Content) (node : NodeId) (d : Direction) (place : ℤ) (held : List Record) (ends : Bool) → IsApart record_stamp_cmp R → IsAhead R node d place held ends → is_used_up held ends ≡ false
     → IsNextTime d place (times R node) (first_time held) × IfSome (first_time held) (λ t. StandsFirst R node d t held ends)
 next_told R node d place [] true apart a e = (subst (λ l. IsNextTime d place (times R node) (first_time l)) (a.next ∙ a.whole refl) (first_beyond R node d place apart), tt)
 next_told R node d place [] false apart a e = absurd (true≢false e)
@@ -164,10 +164,10 @@ same_front t (x ∷ xs) (y ∷ ys) us vs e p q fresh none =
     (ap₂ ◌∷◌ heads more.0, more.1)
 
 -- where others are held behind those that were taken, or none stand there, they are the story
-pub story_taken : (R : Content) (node : NodeId) (d : Direction) (t : ℤ) (held taken left : List Record) (ends : Bool) → IsApart stamp_cmp R → StandsFirst R node d t held ends → AreTaken t held taken left → is_used_up left ends ≡ false
-    → (taken ≡ in_direction d (story R node t)) × IsAhead R node d t left ends
+pub story_taken : (R : Content) (node : NodeId) (d : Direction) (t : ℤ) (held taken left : List Record) (ends : Bool) → IsApart record_stamp_cmp R → StandsFirst R node d t held ends → AreTaken t held taken left → is_used_up left ends ≡ false
+    → (taken ≡ in_direction d (versions R node t)) × IsAhead R node d t left ends
 story_taken R node d t held taken left ends apart first took e =
-    let here = in_direction d (story R node t) in
+    let here = in_direction d (versions R node t) in
     let there = records_beyond R node d t in
     let both : taken ++ (left ++ first.behind) ≡ here ++ there = sym (append_assoc taken left first.behind) ∙ (ap (λ l. l ++ first.behind) (sym took.parts) ∙ sym first.next) in
     let same = same_front t taken here (left ++ first.behind) there both took.each (all_from_has (λ r. r.time ≡ t) here (λ r h. (of_time R node d t r h).2)) (no_more left ends e took.no_more first.whole) (not_of_it R node d t apart) in

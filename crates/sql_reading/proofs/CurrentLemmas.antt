@@ -57,7 +57,7 @@ use Rattle.sql_reading.specs.Tables.{current_row, last_row, AreCurrents, AreLast
 use Rattle.sql_tables.proofs.KeptLemmas.{newer_is, not_above, is_above as is_above_number, same_origins}
 use Rattle.sql_tables.specs.Derived.{same, is_later, is_other, is_newer, last_of, vectors_of, vector_columns, flag, int_in, current_of, currents_of, current_columns, AreKept}
 use Rattle.sql_tables.specs.Currents.{is_live_after, is_live_before, current_order, AreNextCurrents, values_in, helds_in}
-use Rattle.sql_reading.specs.Walking.{moment_at, IsPlace, stretch, values_at}
+use Rattle.sql_reading.specs.Walking.{moment_at, IsStartPlace, stretch, values_at}
 use Rattle.sql_tables.proofs.QueryLemmas.{equals}
 use Rattle.sql_tables.proofs.RowLemmas.{each_record, content_is}
 use Rattle.sql_reading.proofs.StoryLemmas.{same_moment, nodes_as, numbers_cmp, filter_as}
@@ -134,7 +134,7 @@ untie cmp total (x ∷ xs) apart a b h k e =
     turned same_one = ap is_eq (total.antisymm x a) ∙ back (cmp a x) same_one
 
 -- the last element of a list that rises is the greatest
-last_greatest : (xs : List Record) (r : Record) → Rises told.stamp_cmp xs → last xs ≡ Some r → (s : Record) → Has xs s → (s ≡ r) ⊎ (told.stamp_cmp s r ≡ Less)
+last_greatest : (xs : List Record) (r : Record) → Rises told.record_stamp_cmp xs → last xs ≡ Some r → (s : Record) → Has xs s → (s ≡ r) ⊎ (told.record_stamp_cmp s r ≡ Less)
 last_greatest [] r up e s h = absurd h
 last_greatest (x ∷ []) r up e s h = elim h [ inl p ↦ inl (sym p ∙ some_is x r e) | inr k ↦ absurd k ]
   where
@@ -143,7 +143,7 @@ last_greatest (x ∷ []) r up e s h = elim h [ inl p ↦ inl (sym p ∙ some_is 
 last_greatest (x ∷ y ∷ xs) r up e s h =
     let more = sym (last_more x y xs) ∙ e in
     elim h [
-      | inl p ↦ inr (subst (λ z. told.stamp_cmp z r ≡ Less) p (all-has (λ z. told.stamp_cmp x z ≡ Less) (y ∷ xs) r up.0 (has_from_get (y ∷ xs) _ r more)))
+      | inl p ↦ inr (subst (λ z. told.record_stamp_cmp z r ≡ Less) p (all-has (λ z. told.record_stamp_cmp x z ≡ Less) (y ∷ xs) r up.0 (has_from_get (y ∷ xs) _ r more)))
       | inr k ↦ last_greatest (y ∷ xs) r up.1 more s k
     ]
 
@@ -151,11 +151,11 @@ last_greatest (x ∷ y ∷ xs) r up e s h =
 
 -- the second record is of the first one's node and time, and its stamp is later
 abbrev pub is_above : Record → Record → Bool
-is_above r s = told.is_at r.node r.time s && is_lt (told.stamp_cmp r s)
+is_above r s = told.is_at r.node r.time s && is_lt (told.record_stamp_cmp r s)
 
 -- it is of that node and time, and its stamp is another
 abbrev pub is_another : Record → Record → Bool
-is_another r s = told.is_at r.node r.time s && not (is_eq (told.stamp_cmp r s))
+is_another r s = told.is_at r.node r.time s && not (is_eq (told.record_stamp_cmp r s))
 
 regroup : (a b c d : Bool) → (a && (b && (c && d))) ≡ ((a && (b && c)) && d)
 regroup true true c d = refl
@@ -248,7 +248,7 @@ unfolding data_value
 read_value v h = subst (λ bs. data_value.read bs ≡ Ok (v, [])) (append-nil (data_value.canon v)) (data_value_lawful.only (data_value.canon v) v [] (data_value_lawful.written v h))
 
 module _ (R : Content) (l : IsLawfulContent R) where
-  apart : IsApart told.stamp_cmp R
+  apart : IsApart told.record_stamp_cmp R
   apart = closed_stamps R l.closed
 
   own_node : (r : Record) → Has R r → IsNodeId r.node
@@ -271,32 +271,32 @@ module _ (R : Content) (l : IsLawfulContent R) where
       ∙ twice (current_of (map row_of R)) row_of tops
 
   latest_of : (r : Record) → Has R r → is_top r ≡ true → IsLatest R r
-  latest_of r h top = record { there = h; above = λ s k node time. below s k (told.stamp_cmp r s) refl (off s k node time) }
+  latest_of r h top = record { there = h; above = λ s k node time. below s k (told.record_stamp_cmp r s) refl (off s k node time) }
     where
-      off : (s : Record) → Has R s → s.node ≡ r.node → s.time ≡ r.time → is_lt (told.stamp_cmp r s) ≡ false
+      off : (s : Record) → Has R s → s.node ≡ r.node → s.time ≡ r.time → is_lt (told.record_stamp_cmp r s) ≡ false
       off s k node time =
-          subst (λ b. (b && is_lt (told.stamp_cmp r s)) ≡ false) (and_from (same_node s.node r.node) (int_eq s.time r.time) ((Decides-is_same node_code s.node r.node).1 node) ((Decides-int_eq s.time r.time).1 time))
+          subst (λ b. (b && is_lt (told.record_stamp_cmp r s)) ≡ false) (and_from (same_node s.node r.node) (int_eq s.time r.time) ((Decides-is_same node_code s.node r.node).1 node) ((Decides-int_eq s.time r.time).1 time))
           (any_none (is_above r) R s (flipped (list_any (is_above r) R) top) k)
         where
           flipped : (b : Bool) → not b ≡ true → b ≡ false
           flipped true e = absurd (true≢false (sym e))
           flipped false e = refl
 
-      below : (s : Record) → Has R s → (o : Ordering) → told.stamp_cmp r s ≡ o → is_lt (told.stamp_cmp r s) ≡ false → (s ≡ r) ⊎ (told.stamp_cmp s r ≡ Less)
+      below : (s : Record) → Has R s → (o : Ordering) → told.record_stamp_cmp r s ≡ o → is_lt (told.record_stamp_cmp r s) ≡ false → (s ≡ r) ⊎ (told.record_stamp_cmp s r ≡ Less)
       below s k Less e n = absurd (true≢false (sym (ap is_lt e) ∙ n))
-      below s k Equal e n = inl (sym (untie told.stamp_cmp stamp_total R apart r s h k (ap is_eq e)))
+      below s k Equal e n = inl (sym (untie told.record_stamp_cmp stamp_total R apart r s h k (ap is_eq e)))
       below s k Greater e n = inr (stamp_total.antisymm s r ∙ ap ordering_reverse e)
 
   top_of : (r : Record) → IsLatest R r → is_top r ≡ true
   top_of r latest = ap not (any_from_none (is_above r) R (all_from_has (λ s. is_above r s ≡ false) R none))
     where
-      go : (s : Record) → Has R s → (a b : Bool) → told.is_at r.node r.time s ≡ a → is_lt (told.stamp_cmp r s) ≡ b → (a && b) ≡ false
+      go : (s : Record) → Has R s → (a b : Bool) → told.is_at r.node r.time s ≡ a → is_lt (told.record_stamp_cmp r s) ≡ b → (a && b) ≡ false
       go s h true true p q =
           let parts = and_parts (same_node s.node r.node) (int_eq s.time r.time) p in
-          let less : told.stamp_cmp r s ≡ Less = is_less (told.stamp_cmp r s) q in
+          let less : told.record_stamp_cmp r s ≡ Less = is_less (told.record_stamp_cmp r s) q in
           elim (latest.above s h ((Decides-is_same node_code s.node r.node).0 parts.0) ((Decides-int_eq s.time r.time).0 parts.1)) [
-            | inl e ↦ absurd (irreflexive told.stamp_cmp stamp_total r (subst (λ z. told.stamp_cmp r z ≡ Less) e less))
-            | inr k ↦ absurd (asymmetric told.stamp_cmp stamp_total r s less k)
+            | inl e ↦ absurd (irreflexive told.record_stamp_cmp stamp_total r (subst (λ z. told.record_stamp_cmp r z ≡ Less) e less))
+            | inr k ↦ absurd (asymmetric told.record_stamp_cmp stamp_total r s less k)
           ]
         where
           is_less : (o : Ordering) → is_lt o ≡ true → o ≡ Less
@@ -307,32 +307,32 @@ module _ (R : Content) (l : IsLawfulContent R) where
       go s h false b p q = refl
 
       none : (s : Record) → Has R s → is_above r s ≡ false
-      none s h = go s h (told.is_at r.node r.time s) (is_lt (told.stamp_cmp r s)) refl refl
+      none s h = go s h (told.is_at r.node r.time s) (is_lt (told.record_stamp_cmp r s)) refl refl
 
   -- whether others stand at a record's node and time
   other_is : (r : Record) → Has R r → (list_any (is_another r) R ≡ true → HasOther R r) × (HasOther R r → list_any (is_another r) R ≡ true)
   other_is r h = (
     λ some.
         let s = any_there (is_another r) R some in
-        let parts = and_parts (told.is_at r.node r.time s.0) (not (is_eq (told.stamp_cmp r s.0))) s.2 in
+        let parts = and_parts (told.is_at r.node r.time s.0) (not (is_eq (told.record_stamp_cmp r s.0))) s.2 in
         let place = and_parts (same_node s.0.node r.node) (int_eq s.0.time r.time) parts.0 in (
           s.0,
           s.1,
           (Decides-is_same node_code s.0.node r.node).0 place.0,
           (Decides-int_eq s.0.time r.time).0 place.1,
-          λ e. true≢false (sym parts.1 ∙ ap not (subst (λ z. is_eq (told.stamp_cmp r z) ≡ true) (sym e) (tied r))),
+          λ e. true≢false (sym parts.1 ∙ ap not (subst (λ z. is_eq (told.record_stamp_cmp r z) ≡ true) (sym e) (tied r))),
         ),
     λ o.
         there_any (is_another r) R o.0 o.1
-        (and_from (told.is_at r.node r.time o.0) (not (is_eq (told.stamp_cmp r o.0))) (and_from (same_node o.0.node r.node) (int_eq o.0.time r.time) ((Decides-is_same node_code o.0.node r.node).1 o.2) ((Decides-int_eq o.0.time r.time).1 o.3))
-        (apart_yes o.0 o.1 o.4 (is_eq (told.stamp_cmp r o.0)) refl)),
+        (and_from (told.is_at r.node r.time o.0) (not (is_eq (told.record_stamp_cmp r o.0))) (and_from (same_node o.0.node r.node) (int_eq o.0.time r.time) ((Decides-is_same node_code o.0.node r.node).1 o.2) ((Decides-int_eq o.0.time r.time).1 o.3))
+        (apart_yes o.0 o.1 o.4 (is_eq (told.record_stamp_cmp r o.0)) refl)),
   )
     where
-      tied : (z : Record) → is_eq (told.stamp_cmp z z) ≡ true
+      tied : (z : Record) → is_eq (told.record_stamp_cmp z z) ≡ true
       tied z = ap is_eq (tied_itself stamp_total z)
 
-      apart_yes : (s : Record) → Has R s → (s ≡ r → ⊥) → (b : Bool) → is_eq (told.stamp_cmp r s) ≡ b → not b ≡ true
-      apart_yes s k no_same true e = absurd (no_same (sym (untie told.stamp_cmp stamp_total R apart r s h k e)))
+      apart_yes : (s : Record) → Has R s → (s ≡ r → ⊥) → (b : Bool) → is_eq (told.record_stamp_cmp r s) ≡ b → not b ≡ true
+      apart_yes s k no_same true e = absurd (no_same (sym (untie told.record_stamp_cmp stamp_total R apart r s h k e)))
       apart_yes s k no_same false e = refl
 
   extra_as : (r : Record) → Has R r → list_any (is_other (row_of r)) (map row_of R) ≡ list_any (is_another r) R
@@ -398,21 +398,21 @@ module _ (R : Content) (l : IsLawfulContent R) where
 
     -- no two of them have one time
     times_apart : IsApart (by_time d) here
-    times_apart = pairwise_in (λ a b. is_eq (told.stamp_cmp a b) ≡ false) (λ a b. is_eq (by_time d a b) ≡ false) here (λ a b h k e. go a b (in_here a h) (in_here b k) e (along d a.time b.time) refl) (pairwise-filter _ (shows d node place far) tops (pairwise-filter _ is_top R apart))
+    times_apart = pairwise_in (λ a b. is_eq (told.record_stamp_cmp a b) ≡ false) (λ a b. is_eq (by_time d a b) ≡ false) here (λ a b h k e. go a b (in_here a h) (in_here b k) e (along d a.time b.time) refl) (pairwise-filter _ (shows d node place far) tops (pairwise-filter _ is_top R apart))
       where
         equal_times : (way : Direction) (s t : ℤ) → along way s t ≡ Equal → s ≡ t
         equal_times Forward s t e = grind (arith, nat_tests, ints)
         equal_times Backward s t e = grind (arith, nat_tests, ints)
 
-        go : (a b : Record) → IsInside a → IsInside b → is_eq (told.stamp_cmp a b) ≡ false → (o : Ordering) → along d a.time b.time ≡ o → is_eq o ≡ false
+        go : (a b : Record) → IsInside a → IsInside b → is_eq (told.record_stamp_cmp a b) ≡ false → (o : Ordering) → along d a.time b.time ≡ o → is_eq o ≡ false
         go a b i j e Less p = refl
         go a b i j e Greater p = refl
         go a b i j e Equal p =
             let same_time = equal_times d a.time b.time p in
             let up = (latest_of a i.there i.top).above b j.there (j.own ∙ sym i.own) (sym same_time) in
             let down = (latest_of b j.there j.top).above a i.there (i.own ∙ sym j.own) same_time in
-            let tie : a ≡ b → ⊥ = λ q. true≢false (sym (ap is_eq (tied_itself stamp_total a)) ∙ subst (λ z. is_eq (told.stamp_cmp a z) ≡ false) (sym q) e) in
-            absurd (elim up [ inl q ↦ tie (sym q) | inr s ↦ elim down [ inl q ↦ tie q | inr t ↦ asymmetric told.stamp_cmp stamp_total a b t s ] ])
+            let tie : a ≡ b → ⊥ = λ q. true≢false (sym (ap is_eq (tied_itself stamp_total a)) ∙ subst (λ z. is_eq (told.record_stamp_cmp a z) ≡ false) (sym q) e) in
+            absurd (elim up [ inl q ↦ tie (sym q) | inr s ↦ elim down [ inl q ↦ tie q | inr t ↦ asymmetric told.record_stamp_cmp stamp_total a b t s ] ])
 
     has_inside : (r : Record) → Has inside r → IsInside r
     has_inside r h = in_here r (has_from_sort_by (by_time d) (by_time_total d) here r h)
@@ -452,9 +452,9 @@ module _ (R : Content) (l : IsLawfulContent R) where
             go : (o : Option Held) → told.current R node t ≡ o → is_some o ≡ true → is_past d place t ≡ true → not (is_past d far t) ≡ true → Has (map time_of inside) t
             go None e some past within = absurd (true≢false (sym some))
             go (Some x) e some past within =
-                let r = held_live _ (last (told.story R node t)) x e in
-                let m = (story_has R node t r.0).0 (has_from_get (told.story R node t) _ r.0 r.1) in
-                let latest : IsLatest R r.0 = record { there = m.0; above = λ z k zn zt. last_greatest (told.story R node t) r.0 (story_rises R node t apart) r.1 z ((story_has R node t z).1 (k, zn ∙ m.1, zt ∙ m.2)) } in
+                let r = held_live _ (last (told.versions R node t)) x e in
+                let m = (story_has R node t r.0).0 (has_from_get (told.versions R node t) _ r.0 r.1) in
+                let latest : IsLatest R r.0 = record { there = m.0; above = λ z k zn zt. last_greatest (told.versions R node t) r.0 (story_rises R node t apart) r.1 z ((story_has R node t z).1 (k, zn ∙ m.1, zt ∙ m.2)) } in
                 subst (Has (map time_of inside)) m.2
                 (has-map time_of inside r.0 (has-sort_by (by_time d) (by_time_total d) here r.0 (to_here r.0 (record {
                   there = m.0;
@@ -499,7 +499,7 @@ module _ (R : Content) (l : IsLawfulContent R) where
         ap (flat_map helds_in) (page_of row pass row_cmp row_total (shows d node place far) (by_time d) (by_time_total d) limit tops all rows stand tests orders times_apart page)
         ∙ (rows_show (limited limit inside) (λ r h. (has_inside r (from_some limit inside r h)).there) ∙ (limited_map limit inside ∙ ap (limited limit) shown_are))
 
-  after_as : (node : NodeId) (t q far : ℤ) (r : Record) → IsNodeId node → Has tops r → IsPlace Forward q → is_live_after (node_id.canon node) t q (ticks_of far) (pos (pico_of far)) (row r) ≡ shows Forward node (moment_at t q) far r
+  after_as : (node : NodeId) (t q far : ℤ) (r : Record) → IsNodeId node → Has tops r → IsStartPlace Forward q → is_live_after (node_id.canon node) t q (ticks_of far) (pos (pico_of far)) (row r) ≡ shows Forward node (moment_at t q) far r
   after_as node t q far r ok h place =
       ap₂ ◌&&◌ (nodes_as node r ok (own_node r (has_from_filter is_top R r h).0))
       (ap₂ ◌&&◌ (ap is_true (compared Ge a t) ∙ truly _) (ap₂ ◌&&◌ (ap is_true (ap₂ (binary Or) (compared Gt a t) (compared Gt p q)) ∙ either_of _ _)
@@ -521,7 +521,7 @@ module _ (R : Content) (l : IsLawfulContent R) where
       g : ℤ
       g = pos (pico_of far)
 
-  before_as : (node : NodeId) (t q far : ℤ) (r : Record) → IsNodeId node → Has tops r → IsPlace Backward q → is_live_before (node_id.canon node) t q (ticks_of far) (pos (pico_of far)) (row r) ≡ shows Backward node (moment_at t q) far r
+  before_as : (node : NodeId) (t q far : ℤ) (r : Record) → IsNodeId node → Has tops r → IsStartPlace Backward q → is_live_before (node_id.canon node) t q (ticks_of far) (pos (pico_of far)) (row r) ≡ shows Backward node (moment_at t q) far r
   before_as node t q far r ok h place =
       ap₂ ◌&&◌ (nodes_as node r ok (own_node r (has_from_filter is_top R r h).0))
       (ap₂ ◌&&◌ (ap is_true (compared Le a t) ∙ truly _) (ap₂ ◌&&◌ (ap is_true (ap₂ (binary Or) (compared Lt a t) (compared Lt p q)) ∙ either_of _ _)
@@ -543,7 +543,7 @@ module _ (R : Content) (l : IsLawfulContent R) where
       g : ℤ
       g = pos (pico_of far)
 
-  found_in : (d : Direction) (node : NodeId) (t q far : ℤ) (limit : Option ℕ) (all rows : List Row) → IsNodeId node → IsPlace d q → IsPermutation (map row tops) all → AreNextCurrents d (node_id.canon node) t q (ticks_of far) (pos (pico_of far)) limit all rows
+  found_in : (d : Direction) (node : NodeId) (t q far : ℤ) (limit : Option ℕ) (all rows : List Row) → IsNodeId node → IsStartPlace d q → IsPermutation (map row tops) all → AreNextCurrents d (node_id.canon node) t q (ticks_of far) (pos (pico_of far)) limit all rows
       → flat_map helds_in rows ≡ limited limit (flat_map (values_at R node) (stretch d (moment_at t q) far (times R node)))
   found_in Forward node t q far limit all rows ok place stand page =
       shown_by node Forward (moment_at t q) far (is_live_after (node_id.canon node) t q (ticks_of far) (pos (pico_of far))) current_order current_order_total (λ r h. after_as node t q far r ok h place) (λ a b. moments_cmp a.time b.time) limit all rows stand page
@@ -551,7 +551,7 @@ module _ (R : Content) (l : IsLawfulContent R) where
       shown_by node Backward (moment_at t q) far (is_live_before (node_id.canon node) t q (ticks_of far) (pos (pico_of far))) (λ a b. current_order b a) (turned_total current_order current_order_total) (λ r h. before_as node t q far r ok h place) (λ a b. moments_cmp b.time a.time) limit all rows stand page
 
 -- a query's rows, read as live values
-pub currents_found : (d : Direction) (db : Trees) (node : NodeId) (bytes : List ℕ) (t q far : ℤ) (limit : Option ℕ) (rows : List Row) (items : List Held) → IsFilled db → AreKept db → IsNodeId node → bytes ≡ node_id.canon node → IsPlace d q
+pub currents_found : (d : Direction) (db : Trees) (node : NodeId) (bytes : List ℕ) (t q far : ℤ) (limit : Option ℕ) (rows : List Row) (items : List Held) → IsFilled db → AreKept db → IsNodeId node → bytes ≡ node_id.canon node → IsStartPlace d q
     → AreNextCurrents d bytes t q (ticks_of far) (pos (pico_of far)) limit (map current_columns (db 4)) rows → items ≡ flat_map helds_in rows → items ≡ limited limit (flat_map (values_at (content_in db) node) (stretch d (moment_at t q) far (times (content_in db) node)))
 currents_found d db node bytes t q far limit rows items (R, l, stand) kept ok is place page read =
     let all : IsPermutation (map (row R l) (tops R l)) (map current_columns (db 4)) = subst (λ xs. IsPermutation xs (map current_columns (db 4))) (rows_are R l) (IsPermutation-trans _ _ _ (currents_permuted (map row_of R) (cells (db 1)) stand) kept.currents) in
@@ -582,12 +582,12 @@ two_or_more [] r s h k apart = absurd h
 two_or_more (x ∷ []) r s h k apart = elim h [ inl e ↦ elim k [ inl f ↦ absurd (apart (sym f ∙ e)) | inr m ↦ absurd m ] | inr m ↦ absurd m ]
 two_or_more (x ∷ y ∷ xs) r s h k apart = lt-ltb 1 (length (x ∷ y ∷ xs)) (omega arith)
 
-another_one : (xs : List Record) (r : Record) → Rises told.stamp_cmp xs → Has xs r → nat_lt 1 (length xs) ≡ true → (s : Record) × Has xs s × (s ≡ r → ⊥)
+another_one : (xs : List Record) (r : Record) → Rises told.record_stamp_cmp xs → Has xs r → nat_lt 1 (length xs) ≡ true → (s : Record) × Has xs s × (s ≡ r → ⊥)
 another_one [] r up h lt = absurd h
 another_one (x ∷ []) r up h lt = absurd (true≢false (sym lt))
 another_one (x ∷ y ∷ xs) r up h lt = elim h [
-  | inl e ↦ (y, inr (inl refl), λ f. irreflexive told.stamp_cmp stamp_total x (subst (λ z. told.stamp_cmp x z ≡ Less) (f ∙ sym e) up.0.0))
-  | inr k ↦ (x, inl refl, λ f. irreflexive told.stamp_cmp stamp_total x (subst (λ z. told.stamp_cmp x z ≡ Less) (sym f) (all-has (λ z. told.stamp_cmp x z ≡ Less) (y ∷ xs) r up.0 k)))
+  | inl e ↦ (y, inr (inl refl), λ f. irreflexive told.record_stamp_cmp stamp_total x (subst (λ z. told.record_stamp_cmp x z ≡ Less) (f ∙ sym e) up.0.0))
+  | inr k ↦ (x, inl refl, λ f. irreflexive told.record_stamp_cmp stamp_total x (subst (λ z. told.record_stamp_cmp x z ≡ Less) (sym f) (all-has (λ z. told.record_stamp_cmp x z ≡ Less) (y ∷ xs) r up.0 k)))
 ]
 
 has_last : (xs : List Record) (r : Record) → last xs ≡ Some r → Has xs r
@@ -607,35 +607,35 @@ map_in f g [] each = refl
 map_in f g (x ∷ xs) each = ap₂ ◌∷◌ (each x (inl refl)) (map_in f g xs (λ y h. each y (inr h)))
 
 module _ (R : Content) (l : IsLawfulContent R) where
-  in_its_story : (r : Record) → Has R r → Has (told.story R r.node r.time) r
+  in_its_story : (r : Record) → Has R r → Has (told.versions R r.node r.time) r
   in_its_story r h = (story_has R r.node r.time r).1 (h, refl, refl)
 
-  extra_is : (r : Record) → Has R r → (nat_lt 1 (length (told.story R r.node r.time)) ≡ true) ↔ HasOther R r
+  extra_is : (r : Record) → Has R r → (nat_lt 1 (length (told.versions R r.node r.time)) ≡ true) ↔ HasOther R r
   extra_is r h = (
     λ e.
-        let s = another_one (told.story R r.node r.time) r (story_rises R r.node r.time (apart R l)) (in_its_story r h) e in
+        let s = another_one (told.versions R r.node r.time) r (story_rises R r.node r.time (apart R l)) (in_its_story r h) e in
         let k = (story_has R r.node r.time s.0).0 s.1 in
         (s.0, k.0, k.1, k.2, s.2),
-    λ o. two_or_more (told.story R r.node r.time) r o.0 (in_its_story r h) ((story_has R r.node r.time o.0).1 (o.1, o.2, o.3)) o.4,
+    λ o. two_or_more (told.versions R r.node r.time) r o.0 (in_its_story r h) ((story_has R r.node r.time o.0).1 (o.1, o.2, o.3)) o.4,
   )
 
   row_is : (r : Record) → Has R r → row R l r ≡ current_row R r
   row_is r h =
-      let extra : list_any (is_other (row_of r)) (map row_of R) ≡ nat_lt 1 (length (told.story R r.node r.time)) =
-      extra_as R l r h ∙ sym (one_answer (nat_lt 1 (length (told.story R r.node r.time))) (list_any (is_another r) R) (extra_is r h) (other_is R l r h)) in
+      let extra : list_any (is_other (row_of r)) (map row_of R) ≡ nat_lt 1 (length (told.versions R r.node r.time)) =
+      extra_as R l r h ∙ sym (one_answer (nat_lt 1 (length (told.versions R r.node r.time))) (list_any (is_another r) R) (extra_is r h) (other_is R l r h)) in
       rw (live_flag r.asked, extra) refl
 
-  last_is_top : (r : Record) → last (told.story R r.node r.time) ≡ Some r → Has R r × (is_top R l r ≡ true)
+  last_is_top : (r : Record) → last (told.versions R r.node r.time) ≡ Some r → Has R r × (is_top R l r ≡ true)
   last_is_top r e =
       let up = story_rises R r.node r.time (apart R l) in
-      let there = (story_has R r.node r.time r).0 (has_last (told.story R r.node r.time) r e) in
-      (there.0, top_of R l r (record { there = there.0; above = λ s k node time. last_greatest (told.story R r.node r.time) r up e s ((story_has R r.node r.time s).1 (k, node, time)) }))
+      let there = (story_has R r.node r.time r).0 (has_last (told.versions R r.node r.time) r e) in
+      (there.0, top_of R l r (record { there = there.0; above = λ s k node time. last_greatest (told.versions R r.node r.time) r up e s ((story_has R r.node r.time s).1 (k, node, time)) }))
 
-  top_is_last : (r : Record) → Has R r → is_top R l r ≡ true → last (told.story R r.node r.time) ≡ Some r
+  top_is_last : (r : Record) → Has R r → is_top R l r ≡ true → last (told.versions R r.node r.time) ≡ Some r
   top_is_last r h top = latest_last R r (apart R l) (latest_of R l r h top)
 
-  once_each : (a b : Record) → is_eq (told.stamp_cmp a b) ≡ false → a ≡ b → ⊥
-  once_each a b off e = true≢false (sym (ap is_eq (tied_itself stamp_total a)) ∙ subst (λ z. is_eq (told.stamp_cmp a z) ≡ false) (sym e) off)
+  once_each : (a b : Record) → is_eq (told.record_stamp_cmp a b) ≡ false → a ≡ b → ⊥
+  once_each a b off e = true≢false (sym (ap is_eq (tied_itself stamp_total a)) ∙ subst (λ z. is_eq (told.record_stamp_cmp a z) ≡ false) (sym e) off)
 
   pub currents_are : (db : Trees) → AreRecords R db → AreKept db → AreCurrents R (map current_columns (db 4))
   currents_are db stand kept = record {
@@ -647,7 +647,7 @@ module _ (R : Content) (l : IsLawfulContent R) where
       λ h. let k = has_from_filter (is_top R l) R r h in top_is_last r k.0 k.1,
       λ e. let k = last_is_top r e in has-filter (is_top R l) R r k.0 k.1,
     );
-    once = pairwise_in (λ a b. is_eq (told.stamp_cmp a b) ≡ false) (λ a b. a ≡ b → ⊥) (tops R l) (λ a b h k off. once_each a b off) (pairwise-filter _ (is_top R l) R (apart R l));
+    once = pairwise_in (λ a b. is_eq (told.record_stamp_cmp a b) ≡ false) (λ a b. a ≡ b → ⊥) (tops R l) (λ a b h k off. once_each a b off) (pairwise-filter _ (is_top R l) R (apart R l));
   }
 
   -- ---- last numbers
@@ -704,5 +704,5 @@ module _ (R : Content) (l : IsLawfulContent R) where
       λ h. let k = has_from_filter is_newest R r h in (k.0, newest_row r k.0 k.1),
       λ k. has-filter is_newest R r k.0 (row_newest r k.0 k.1),
     );
-    once = pairwise_in (λ a b. is_eq (told.stamp_cmp a b) ≡ false) (λ a b. a ≡ b → ⊥) (filter is_newest R) (λ a b h k off. once_each a b off) (pairwise-filter _ is_newest R (apart R l));
+    once = pairwise_in (λ a b. is_eq (told.record_stamp_cmp a b) ≡ false) (λ a b. a ≡ b → ⊥) (filter is_newest R) (λ a b h k off. once_each a b off) (pairwise-filter _ is_newest R (apart R l));
   }

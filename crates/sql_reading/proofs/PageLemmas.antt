@@ -24,7 +24,7 @@ use Rattle.sqlite_keyed.proofs.SortLemmas.{IsPermutation-sort_by, sorted_unique}
 use Rattle.sqlite_keyed.proofs.ListLemmas.{filter-map, IsPermutation-filter, ascending-map, ascending_weaker}
 use Rattle.records.specs.Lists.{Has, Rises, IsApart, sort_by}
 use Rattle.records.specs.Same.{same_node}
-use Rattle.records.specs.Records.{stamp_cmp}
+use Rattle.records.specs.Records.{record_stamp_cmp}
 use Rattle.records.specs.Moments.{ticks_of, pico_of, whole_again, pico_within}
 use Rattle.records.specs.declared.record.Record.{Record}
 use Rattle.records.specs.Contents.{Content}
@@ -41,7 +41,7 @@ use Rattle.archive.proofs.SetLemmas.{has-once, has_from_once}
 use Rattle.archive.proofs.Turning.{has-map, has_from_map}
 use Rattle.sql_tables.specs.Words.{cells, is_after, is_before, moment_order, IsPage, AreNextRows}
 use Rattle.sql_tables.specs.Rows.{row_of, records_in, content_in, AreRecords, IsFilled}
-use Rattle.sql_reading.specs.Walking.{moment_at, IsPlace, IsNextTime, first_time, time_order, walk_cmp, records_beyond}
+use Rattle.sql_reading.specs.Walking.{moment_at, IsStartPlace, IsNextTime, first_time, time_order, walk_cmp, records_beyond}
 use Rattle.sql_tables.proofs.RowLemmas.{each_record, records_back, content_is}
 use Rattle.sql_reading.proofs.StoryLemmas.{sort_same, ascends, row_stamp_total, numbers_cmp, stamps_as, nodes_as, filter_as}
 use Rattle.sql_reading.proofs.WalkLemmas.{turned_total}
@@ -108,16 +108,16 @@ moments_as a b =
     ∙ ap₂ ordering_then (ap₂ ordering_then (value_cmp-Int (ticks_of a.time) (ticks_of b.time)) (value_cmp-Int (pos (pico_of a.time)) (pos (pico_of b.time)) ∙ numbers_cmp (pico_of a.time) (pico_of b.time))
     ∙ (in_order (ticks_of a.time) (ticks_of b.time) (pico_of a.time) (pico_of b.time) (pico_within a.time) (pico_within b.time) ∙ ap₂ int_cmp (whole_again a.time) (whole_again b.time))) (stamps_as a b)
 
-pub untied : (a b : Record) → is_eq (stamp_cmp a b) ≡ false → is_eq (time_order a b) ≡ false
+pub untied : (a b : Record) → is_eq (record_stamp_cmp a b) ≡ false → is_eq (time_order a b) ≡ false
 untied a b h = go (int_cmp a.time b.time)
   where
-    go : (o : Ordering) → is_eq (ordering_then o (stamp_cmp a b)) ≡ false
+    go : (o : Ordering) → is_eq (ordering_then o (record_stamp_cmp a b)) ≡ false
     go Less = refl
     go Equal = h
     go Greater = refl
 
-pub untied_back : (a b : Record) → is_eq (stamp_cmp a b) ≡ false → is_eq (time_order b a) ≡ false
-untied_back a b h = untied b a (ap is_eq (stamp_total.antisymm b a) ∙ go (stamp_cmp a b) h)
+pub untied_back : (a b : Record) → is_eq (record_stamp_cmp a b) ≡ false → is_eq (time_order b a) ≡ false
+untied_back a b h = untied b a (ap is_eq (stamp_total.antisymm b a) ∙ go (record_stamp_cmp a b) h)
   where
     go : (o : Ordering) → is_eq o ≡ false → is_eq (Rattle.std.specs.Ordering.ordering_reverse o) ≡ false
     go Less e = refl
@@ -141,16 +141,16 @@ pub compared : (op : CompareOp) (m n : ℤ) → binary (Compare op Binary) (Int 
 unfolding binary
 compared op m n = ap (λ o. from_truth (Some (test op o))) (value_cmp-Int m n)
 
-pub after_by : (a t p q : ℤ) → pos 0 ≤ℤ p → p ≤ℤ pos 9999 → IsPlace Forward q → (is_ge (int_cmp a t) && (is_gt (int_cmp a t) || is_gt (int_cmp p q))) ≡ is_past Forward (moment_at t q) (moment_at a p)
+pub after_by : (a t p q : ℤ) → pos 0 ≤ℤ p → p ≤ℤ pos 9999 → IsStartPlace Forward q → (is_ge (int_cmp a t) && (is_gt (int_cmp a t) || is_gt (int_cmp p q))) ≡ is_past Forward (moment_at t q) (moment_at a p)
 after_by a t p q low high place = grind (arith, nat_tests, ints)
 
-pub before_by : (a t p q : ℤ) → pos 0 ≤ℤ p → p ≤ℤ pos 9999 → IsPlace Backward q → (is_le (int_cmp a t) && (is_lt (int_cmp a t) || is_lt (int_cmp p q))) ≡ is_past Backward (moment_at t q) (moment_at a p)
+pub before_by : (a t p q : ℤ) → pos 0 ≤ℤ p → p ≤ℤ pos 9999 → IsStartPlace Backward q → (is_le (int_cmp a t) && (is_lt (int_cmp a t) || is_lt (int_cmp p q))) ≡ is_past Backward (moment_at t q) (moment_at a p)
 before_by a t p q low high place = grind (arith, nat_tests, ints)
 
 abbrev pub beyond_place : Direction → NodeId → ℤ → Record → Bool
 beyond_place d node place r = same_node r.node node && is_past d place r.time
 
-after_as : (node : NodeId) (t q : ℤ) (r : Record) → IsNodeId node → IsNodeId r.node → IsPlace Forward q → is_after (node_id.canon node) t q (row_of r) ≡ beyond_place Forward node (moment_at t q) r
+after_as : (node : NodeId) (t q : ℤ) (r : Record) → IsNodeId node → IsNodeId r.node → IsStartPlace Forward q → is_after (node_id.canon node) t q (row_of r) ≡ beyond_place Forward node (moment_at t q) r
 after_as node t q r ok own place =
     ap₂ ◌&&◌ (nodes_as node r ok own) (ap₂ ◌&&◌ (ap is_true (compared Ge a t) ∙ truly _) (ap is_true (ap₂ (binary Or) (compared Gt a t) (compared Gt p q)) ∙ either_of _ _)
     ∙ (after_by a t p q (omega (arith, ints)) (omega (arith, ints, pico_within r.time)) place ∙ ap (is_past Forward (moment_at t q)) (whole_again r.time)))
@@ -161,7 +161,7 @@ after_as node t q r ok own place =
     p : ℤ
     p = pos (pico_of r.time)
 
-before_as : (node : NodeId) (t q : ℤ) (r : Record) → IsNodeId node → IsNodeId r.node → IsPlace Backward q → is_before (node_id.canon node) t q (row_of r) ≡ beyond_place Backward node (moment_at t q) r
+before_as : (node : NodeId) (t q : ℤ) (r : Record) → IsNodeId node → IsNodeId r.node → IsStartPlace Backward q → is_before (node_id.canon node) t q (row_of r) ≡ beyond_place Backward node (moment_at t q) r
 before_as node t q r ok own place =
     ap₂ ◌&&◌ (nodes_as node r ok own) (ap₂ ◌&&◌ (ap is_true (compared Le a t) ∙ truly _) (ap is_true (ap₂ (binary Or) (compared Lt a t) (compared Lt p q)) ∙ either_of _ _)
     ∙ (before_by a t p q (omega (arith, ints)) (omega (arith, ints, pico_within r.time)) place ∙ ap (is_past Backward (moment_at t q)) (whole_again r.time)))
@@ -221,7 +221,7 @@ next_by d R node place cmp total goes apart = go (sort_by cmp (filter beyond R))
 pub forward_goes : (a b : Record) → time_order a b ≡ Less → is_past Forward b.time a.time ≡ false
 forward_goes a b e = go (int_cmp a.time b.time) refl e
   where
-    go : (o : Ordering) → int_cmp a.time b.time ≡ o → ordering_then o (stamp_cmp a b) ≡ Less → is_past Forward b.time a.time ≡ false
+    go : (o : Ordering) → int_cmp a.time b.time ≡ o → ordering_then o (record_stamp_cmp a b) ≡ Less → is_past Forward b.time a.time ≡ false
     go Less p h = grind (arith, nat_tests, ints)
     go Equal p h = grind (arith, nat_tests, ints)
     go Greater p h = absurd (let q = h in cc)
@@ -229,18 +229,18 @@ forward_goes a b e = go (int_cmp a.time b.time) refl e
 pub backward_goes : (a b : Record) → time_order b a ≡ Less → is_past Backward b.time a.time ≡ false
 backward_goes a b e = go (int_cmp b.time a.time) refl e
   where
-    go : (o : Ordering) → int_cmp b.time a.time ≡ o → ordering_then o (stamp_cmp b a) ≡ Less → is_past Backward b.time a.time ≡ false
+    go : (o : Ordering) → int_cmp b.time a.time ≡ o → ordering_then o (record_stamp_cmp b a) ≡ Less → is_past Backward b.time a.time ≡ false
     go Less p h = grind (arith, nat_tests, ints)
     go Equal p h = grind (arith, nat_tests, ints)
     go Greater p h = absurd (let q = h in cc)
 
 -- no two of a node's records beyond a place tie
-pub apart_beyond : (d : Direction) (R : Content) (node : NodeId) (place : ℤ) → IsApart stamp_cmp R → IsApart (walk_cmp d) (filter (beyond_place d node place) R)
+pub apart_beyond : (d : Direction) (R : Content) (node : NodeId) (place : ℤ) → IsApart record_stamp_cmp R → IsApart (walk_cmp d) (filter (beyond_place d node place) R)
 apart_beyond Forward R node place apart = pairwise-filter _ (beyond_place Forward node place) R (pairwise_weaker _ _ untied R apart)
 apart_beyond Backward R node place apart = pairwise-filter _ (beyond_place Backward node place) R (pairwise_weaker _ _ untied_back R apart)
 
 -- the rows beyond a place, as IsPage has them, are the records there
-pub rows_found : (d : Direction) (db : Trees) (node : NodeId) (bytes : List ℕ) (ticks pico : ℤ) (limit : Option ℕ) (rows : List Row) (items : List Record) → IsFilled db → IsNodeId node → bytes ≡ node_id.canon node → IsPlace d pico
+pub rows_found : (d : Direction) (db : Trees) (node : NodeId) (bytes : List ℕ) (ticks pico : ℤ) (limit : Option ℕ) (rows : List Row) (items : List Record) → IsFilled db → IsNodeId node → bytes ≡ node_id.canon node → IsStartPlace d pico
     → AreNextRows d bytes ticks pico limit (cells (db 1)) rows → items ≡ flat_map records_in rows → items ≡ limited limit (records_beyond (content_in db) node d (moment_at ticks pico))
 rows_found Forward db node bytes ticks pico limit rows items (R, l, stand) ok is place page read =
     let p = beyond_place Forward node (moment_at ticks pico) in

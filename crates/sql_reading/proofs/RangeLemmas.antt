@@ -15,7 +15,7 @@ use Rattle.ua_binary.specs.declared.values.NodeId.{NodeId}
 use Rattle.records.specs.Lists.{Has}
 use Rattle.records.proofs.SameParts.{node_code}
 use Rattle.records.specs.Contents.{Content, cut}
-use Rattle.records.specs.Records.{is_beyond, held, story, current, entries, entries_after}
+use Rattle.records.specs.Records.{is_beyond, held, versions, current, modifications_at, entries_after}
 use Rattle.records.specs.Moments.{ticks_of, whole_again, pico_within}
 use Rattle.records.specs.declared.record.Record.{Record}
 use Rattle.records.specs.declared.shown.Held.{Held}
@@ -158,25 +158,25 @@ none_there [] e = refl
 none_there (r ∷ rs) e = absurd (true≢false e)
 
 module _ (R : Content) (node : NodeId) (v : ℕ → ℕ) where
-  times_cut : times (cut R v) node ≡ filter (λ t. is_there (story (cut R v) node t)) (times R node)
+  times_cut : times (cut R v) node ≡ filter (λ t. is_there (versions (cut R v) node t)) (times R node)
   times_cut =
-      same_members int_cmp int_cmp_total (times (cut R v) node) (filter (λ t. is_there (story (cut R v) node t)) (times R node)) (times_rise (cut R v) node) (pairwise-filter (λ s t. int_cmp s t ≡ Less) (λ t. is_there (story (cut R v) node t)) (times R node) (times_rise R node))
+      same_members int_cmp int_cmp_total (times (cut R v) node) (filter (λ t. is_there (versions (cut R v) node t)) (times R node)) (times_rise (cut R v) node) (pairwise-filter (λ s t. int_cmp s t ≡ Less) (λ t. is_there (versions (cut R v) node t)) (times R node) (times_rise R node))
       (λ t h.
       let r = at_time (cut R v) node t h in
       let own = has_from_filter (λ s. not (is_beyond v s)) R r.0 r.1 in
-      has-filter (λ s. is_there (story (cut R v) node s)) (times R node) t (subst (Has (times R node)) r.3 (time_there R node r.0 own.0 r.2))
-      (has_there (story (cut R v) node t) r.0 ((story_has (cut R v) node t r.0).1 (r.1, (Decides-is_same node_code r.0.node node).0 r.2, r.3))))
+      has-filter (λ s. is_there (versions (cut R v) node s)) (times R node) t (subst (Has (times R node)) r.3 (time_there R node r.0 own.0 r.2))
+      (has_there (versions (cut R v) node t) r.0 ((story_has (cut R v) node t r.0).1 (r.1, (Decides-is_same node_code r.0.node node).0 r.2, r.3))))
       (λ t h.
-      let p = has_from_filter (λ s. is_there (story (cut R v) node s)) (times R node) t h in
-      let r = there_has (story (cut R v) node t) p.1 in
+      let p = has_from_filter (λ s. is_there (versions (cut R v) node s)) (times R node) t h in
+      let r = there_has (versions (cut R v) node t) p.1 in
       let q = (story_has (cut R v) node t r.0).0 r.1 in
       subst (Has (times (cut R v) node)) q.2 (time_there (cut R v) node r.0 q.0 ((Decides-is_same node_code r.0.node node).1 q.1)))
 
-  module _ {X : Type 0} (time : X → ℤ) (f : ℤ → List X) (own : (t : ℤ) (x : X) → Has (f t) x → time x ≡ t) (none : (t : ℤ) → story (cut R v) node t ≡ [] → f t ≡ []) where
+  module _ {X : Type 0} (time : X → ℤ) (f : ℤ → List X) (own : (t : ℤ) (x : X) → Has (f t) x → time x ≡ t) (none : (t : ℤ) → versions (cut R v) node t ≡ [] → f t ≡ []) where
     -- what is shown of the part's times that pass, by the times of the whole
     pub over : (d : Direction) (b : ℤ → Bool) → in_direction d (filter (λ x. b (time x)) (flat_map f (times (cut R v) node))) ≡ flat_map (λ t. in_direction d (f t)) (filter b (in_direction d (times R node)))
     over d b =
-        ap (λ l. in_direction d (filter (λ x. b (time x)) l)) (ap (flat_map f) times_cut ∙ flat_map-filter f (λ t. is_there (story (cut R v) node t)) (times R node) (λ t e. none t (none_there (story (cut R v) node t) e)))
+        ap (λ l. in_direction d (filter (λ x. b (time x)) l)) (ap (flat_map f) times_cut ∙ flat_map-filter f (λ t. is_there (versions (cut R v) node t)) (times R node) (λ t e. none t (none_there (versions (cut R v) node t) e)))
         ∙ (ap (in_direction d) (filter-flat_map (λ x. b (time x)) f (times R node) ∙ flat_map-chosen (λ x. b (time x)) b f (times R node) (λ t x h. ap b (own t x h)))
         ∙ (turned-flat_map d f (filter b (times R node)) ∙ ap (flat_map (λ t. in_direction d (f t))) (turned-filter d b (times R node))))
 
@@ -187,7 +187,7 @@ module _ (R : Content) (node : NodeId) (v : ℕ → ℕ) where
       go None e k = absurd k
       go (Some x) e k = elim k [ inl same ↦ ap (λ (y : Held). y.time) (sym same) ∙ (current_time (cut R v) node t x e).1 | inr n ↦ absurd n ]
 
-  values_none : (t : ℤ) → story (cut R v) node t ≡ [] → values_at (cut R v) node t ≡ []
+  values_none : (t : ℤ) → versions (cut R v) node t ≡ [] → values_at (cut R v) node t ≡ []
   values_none t e = ap (λ rs. cons_option (held rs) []) e
 
   lives_over : lives (cut R v) node ≡ flat_map (values_at (cut R v) node) (times (cut R v) node)
@@ -228,15 +228,15 @@ module _ (R : Content) (node : NodeId) (v : ℕ → ℕ) where
       yes true = refl
       yes false = refl
 
-  entries_own : (t : ℤ) (e : Entry) → Has (reverse (entries (cut R v) node t)) e → e.time ≡ t
-  entries_own t e h = (entry_time (cut R v) node t e (has_from_reverse (entries (cut R v) node t) e h)).1
+  entries_own : (t : ℤ) (e : Entry) → Has (reverse (modifications_at (cut R v) node t)) e → e.time ≡ t
+  entries_own t e h = (entry_time (cut R v) node t e (has_from_reverse (modifications_at (cut R v) node t) e h)).1
 
   pub log_found : (d : Direction) (from to near far : ℤ) (after : Option LogPlace) → IsSpan d from to near far
       → log_of (cut R v) node from to after d ≡ flat_map (entries_at (cut R v) node after d) (stretch d near far (times R node))
   log_found d from to near far after span =
-      ap (filter (follows d after)) (over (λ (e : Entry). e.time) (λ t. reverse (entries (cut R v) node t)) entries_own (λ t e. ap (λ rs. reverse (entries_after None rs)) e) d (is_between from to)
-      ∙ ap (flat_map (λ t. in_direction d (reverse (entries (cut R v) node t)))) (stretch_as d near far (is_between from to) (λ t h. span_as d from to near far t span)))
-      ∙ filter-flat_map (follows d after) (λ t. in_direction d (reverse (entries (cut R v) node t))) (stretch d near far (times R node))
+      ap (filter (follows d after)) (over (λ (e : Entry). e.time) (λ t. reverse (modifications_at (cut R v) node t)) entries_own (λ t e. ap (λ rs. reverse (entries_after None rs)) e) d (is_between from to)
+      ∙ ap (flat_map (λ t. in_direction d (reverse (modifications_at (cut R v) node t)))) (stretch_as d near far (is_between from to) (λ t h. span_as d from to near far t span)))
+      ∙ filter-flat_map (follows d after) (λ t. in_direction d (reverse (modifications_at (cut R v) node t))) (stretch d near far (times R node))
 
   -- ---- a node of which there is nothing
 
@@ -252,8 +252,8 @@ module _ (R : Content) (node : NodeId) (v : ℕ → ℕ) where
 
   pub no_log : (d : Direction) (from to : ℤ) (after : Option LogPlace) → times R node ≡ [] → log_of (cut R v) node from to after d ≡ []
   no_log d from to after none =
-      ap (filter (follows d after)) (over (λ (e : Entry). e.time) (λ t. reverse (entries (cut R v) node t)) entries_own (λ t e. ap (λ rs. reverse (entries_after None rs)) e) d (is_between from to)
-      ∙ (ap (λ ts. flat_map (λ t. in_direction d (reverse (entries (cut R v) node t))) (filter (is_between from to) (in_direction d ts))) none ∙ ap (flat_map (λ t. in_direction d (reverse (entries (cut R v) node t)))) (nothing_turned d (is_between from to))))
+      ap (filter (follows d after)) (over (λ (e : Entry). e.time) (λ t. reverse (modifications_at (cut R v) node t)) entries_own (λ t e. ap (λ rs. reverse (entries_after None rs)) e) d (is_between from to)
+      ∙ (ap (λ ts. flat_map (λ t. in_direction d (reverse (modifications_at (cut R v) node t))) (filter (is_between from to) (in_direction d ts))) none ∙ ap (flat_map (λ t. in_direction d (reverse (modifications_at (cut R v) node t)))) (nothing_turned d (is_between from to))))
 
 pub take_nothing : {X : Type 0} (n : ℕ) → ◌≡◌ {A = List X} [] (take n [])
 take_nothing zero = refl

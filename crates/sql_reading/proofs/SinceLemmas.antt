@@ -30,8 +30,8 @@ use Rattle.archive.specs.declared.fault.StoreFault.{StoreFault}
 use Rattle.archive.specs.declared.fault.StoreFault.TheVariants.{OutOfMemory}
 use Rattle.sql_tables.specs.Words.{cells, is_behind, name_order, IsPage}
 use Rattle.sql_tables.specs.Rows.{row_of, records_in, content_in, IsFilled}
-use Rattle.sql_tables.specs.State.{Idles, Asked}
-use Rattle.sql_reading.specs.Lacked.{behind, lacked_of}
+use Rattle.sql_tables.specs.State.{Idles, LeavesUnchanged}
+use Rattle.sql_reading.specs.Lacked.{records_after, lacked_of}
 use Rattle.sql_tables.proofs.RowLemmas.{content_is}
 use Rattle.sql_reading.proofs.StoryLemmas.{numbers_cmp, filter_as}
 use Rattle.sql_reading.proofs.PageLemmas.{page_found, compared, truly}
@@ -90,27 +90,27 @@ take_room room (suc n) (x ∷ xs) ys e = ap (λ l. x ∷ l) (take_room room n xs
 
 pub behind_found : (db : Trees) (origin number limit wanted : ℕ) (place above count : ℤ) (rows : List Row) (found more all : List Record) → IsFilled db → place ≡ pos origin → above ≡ pos number → length found + wanted ≡ limit
     → (as_count (Int count) ≡ None) ⊎ (as_count (Int count) ≡ Some wanted) → IsPage (is_behind place above) name_order (as_count (Int count)) (cells (db 1)) rows → more ≡ flat_map records_in rows → all ≡ take limit (found ++ more)
-    → all ≡ take limit (found ++ behind (content_in db) origin number)
+    → all ≡ take limit (found ++ records_after (content_in db) origin number)
 behind_found db origin number limit wanted place above count rows found more all (R, l, stand) e k room asks page read is =
-    is ∙ (ap (λ rs. take limit (found ++ rs)) (read ∙ rows_are) ∙ (front (as_count (Int count)) asks ∙ ap (λ S. take limit (found ++ behind S origin number)) (sym (content_is R db l stand))))
+    is ∙ (ap (λ rs. take limit (found ++ rs)) (read ∙ rows_are) ∙ (front (as_count (Int count)) asks ∙ ap (λ S. take limit (found ++ records_after S origin number)) (sym (content_is R db l stand))))
   where
     p : Record → Bool
     p r = (r.origin == origin) && nat_lt number r.number
 
-    rows_are : flat_map records_in rows ≡ limited (as_count (Int count)) (behind R origin number)
+    rows_are : flat_map records_in rows ≡ limited (as_count (Int count)) (records_after R origin number)
     rows_are =
         page_found (is_behind (pos origin) (pos number)) name_order name_order_total p name_cmp name_total (as_count (Int count)) R db rows l stand (λ r h. behind_as origin number r) names_as (pairwise-filter _ p R (closed_names R l.closed))
         (subst (λ n. IsPage (is_behind (pos origin) n) name_order (as_count (Int count)) (cells (db 1)) rows) k (subst (λ o. IsPage (is_behind o above) name_order (as_count (Int count)) (cells (db 1)) rows) e page))
-        ∙ ap (limited (as_count (Int count))) (rising_sorted (behind R origin number) (pairwise-filter _ p R (closed_names R l.closed)) (pairwise-filter _ p R l.closed.ordered))
+        ∙ ap (limited (as_count (Int count))) (rising_sorted (records_after R origin number) (pairwise-filter _ p R (closed_names R l.closed)) (pairwise-filter _ p R l.closed.ordered))
 
-    front : (o : Option ℕ) → (o ≡ None) ⊎ (o ≡ Some wanted) → take limit (found ++ limited o (behind R origin number)) ≡ take limit (found ++ behind R origin number)
-    front o (inl none) = ap (λ c. take limit (found ++ limited c (behind R origin number))) none
-    front o (inr some) = ap (λ c. take limit (found ++ limited c (behind R origin number))) some ∙ take_room wanted limit found (behind R origin number) room
+    front : (o : Option ℕ) → (o ≡ None) ⊎ (o ≡ Some wanted) → take limit (found ++ limited o (records_after R origin number)) ≡ take limit (found ++ records_after R origin number)
+    front o (inl none) = ap (λ c. take limit (found ++ limited c (records_after R origin number))) none
+    front o (inr some) = ap (λ c. take limit (found ++ limited c (records_after R origin number))) some ∙ take_room wanted limit found (records_after R origin number) room
 
 -- ---- the records of an origin
 
-pub behind_lacked : (R : Content) (v : ℕ → ℕ) (origin held : ℕ) → held ≡ v origin → behind R origin held ≡ lacked_of R v origin
-behind_lacked R v origin held e = ap (behind R origin) e ∙ filter_as (λ r. (r.origin == origin) && nat_lt (v origin) r.number) (λ r. (r.origin == origin) && is_beyond v r) R (λ r h. go r (r.origin == origin) refl)
+pub behind_lacked : (R : Content) (v : ℕ → ℕ) (origin held : ℕ) → held ≡ v origin → records_after R origin held ≡ lacked_of R v origin
+behind_lacked R v origin held e = ap (records_after R origin) e ∙ filter_as (λ r. (r.origin == origin) && nat_lt (v origin) r.number) (λ r. (r.origin == origin) && is_beyond v r) R (λ r h. go r (r.origin == origin) refl)
   where
     go : (r : Record) (b : Bool) → (r.origin == origin) ≡ b → (b && nat_lt (v origin) r.number) ≡ (b && is_beyond v r)
     go r true e = let same : r.origin ≡ origin = grind (arith, nat_tests) in ap (λ o. nat_lt (v o) r.number) (sym same)
@@ -135,7 +135,7 @@ not_behind R own v number origin held is e h none = elim (cases_lt (v origin) (o
 ]
 
 -- what a query showed is put behind others
-pub pushed : {A : Type 0} (a b : State) (rows : A) (P : A → Type 0) (r : Result (Unit {0}) StoreFault) (Q S : Type 0) → Asked a b (Ok rows) P → IfOk r (λ _. Q) → IfErr r (λ e. e ≡ OutOfMemory) → (HasCleanDisk b → P rows → Q → S) → Asked a b r (λ _. S)
+pub pushed : {A : Type 0} (a b : State) (rows : A) (P : A → Type 0) (r : Result (Unit {0}) StoreFault) (Q S : Type 0) → LeavesUnchanged a b (Ok rows) P → IfOk r (λ _. Q) → IfErr r (λ e. e ≡ OutOfMemory) → (HasCleanDisk b → P rows → Q → S) → LeavesUnchanged a b r (λ _. S)
 pushed a b rows P (Ok u) Q S h q m f = record { answer = λ clean. f clean (h.answer clean) q; kept = λ clean ok. h.kept clean refl; met = tt; crash = h.crash }
 pushed a b rows P (Err e) Q S h q m f = record { answer = λ clean. tt; kept = λ clean ok. h.kept clean refl; met = memory_own e m; crash = h.crash }
 
@@ -219,7 +219,7 @@ gathered_start a v limit found idles filled none = record {
   within = λ clean. subst (λ l. length l ≤ limit) (sym none) (omega arith);
 }
 
-pub gathered_on : (a b c : State) (v : ℕ → ℕ) (limit next : ℕ) (found more : List Record) (told : Unit {0}) → Gathered a b v limit next found → Asked b c (Ok told) (λ _. more ≡ take limit (found ++ lacked_of (content_in b.now.trees) v next)) → Gathered a c v limit (next + 1) more
+pub gathered_on : (a b c : State) (v : ℕ → ℕ) (limit next : ℕ) (found more : List Record) (told : Unit {0}) → Gathered a b v limit next found → LeavesUnchanged b c (Ok told) (λ _. more ≡ take limit (found ++ lacked_of (content_in b.now.trees) v next)) → Gathered a c v limit (next + 1) more
 gathered_on a b c v limit next found more told g asked =
     let passed = passed_ok b c told _ asked in
     record {
@@ -238,12 +238,12 @@ gathered_on a b c v limit next found more told g asked =
     more_is : HasCleanDisk c → HasCleanDisk b → more ≡ take limit (found ++ lacked_of (content_in a.now.trees) v next)
     more_is clean before = subst (λ t. more ≡ take limit (found ++ lacked_of (content_in t) v next)) (same_trees a b g.passed before) (asked.answer clean)
 
-pub gathered_enough : {V : Type 0} (items : V → List Record) (a b : State) (v : ℕ → ℕ) (limit next : ℕ) (r : V) → Gathered a b v limit next (items r) → limit ≤ length (items r) → Asked a b (Ok r) (λ x. items x ≡ missing (content_in a.now.trees) v limit)
+pub gathered_enough : {V : Type 0} (items : V → List Record) (a b : State) (v : ℕ → ℕ) (limit next : ℕ) (r : V) → Gathered a b v limit next (items r) → limit ≤ length (items r) → LeavesUnchanged a b (Ok r) (λ x. items x ≡ missing (content_in a.now.trees) v limit)
 gathered_enough items a b v limit next r g reached =
     passed_told a b r (λ x. items x ≡ missing (content_in a.now.trees) v limit) g.passed
     (λ clean. sym (take_whole limit (items r) (g.within clean)) ∙ (sym (take-append-le limit (items r) (lacked_from (content_in a.now.trees) v next) reached) ∙ g.so clean))
 
-pub gathered_ends : {V : Type 0} (items : V → List Record) (a b : State) (v : ℕ → ℕ) (limit next : ℕ) (r : V) → Gathered a b v limit next (items r) → 65 ≤ next → Asked a b (Ok r) (λ x. items x ≡ missing (content_in a.now.trees) v limit)
+pub gathered_ends : {V : Type 0} (items : V → List Record) (a b : State) (v : ℕ → ℕ) (limit next : ℕ) (r : V) → Gathered a b v limit next (items r) → 65 ≤ next → LeavesUnchanged a b (Ok r) (λ x. items x ≡ missing (content_in a.now.trees) v limit)
 gathered_ends items a b v limit next r g end =
     passed_told a b r (λ x. items x ≡ missing (content_in a.now.trees) v limit) g.passed
     (λ clean.

@@ -40,7 +40,7 @@ use Rattle.records.proofs.LatestLemmas.{story_rises}
 use Rattle.records.proofs.Sorting.{has_from_filter, has_from_sort_by}
 use Rattle.records.proofs.Orders.{stamp_total}
 use Rattle.archive.specs.Store.{IsLawfulContent}
-use Rattle.sql_tables.specs.Words.{cells, is_at, is_named, stamp_cmp}
+use Rattle.sql_tables.specs.Words.{cells, is_at, is_named, row_stamp_cmp}
 use Rattle.sql_tables.specs.Rows.{row_of, records_in, content_in, AreRecords, IsFilled}
 use Rattle.sql_tables.specs.State.{IsStory}
 use Rattle.sql_tables.proofs.RowLemmas.{each_record, records_back, content_is}
@@ -60,7 +60,7 @@ pub ascends : {X : Type 0} (R : X → X → Type 0) (xs : List X) → IsPairwise
 ascends R [] h = tt
 ascends R (x ∷ xs) h = (h.0, ascends R xs h.1)
 
-pub row_stamp_total : IsTotalOrder stamp_cmp
+pub row_stamp_total : IsTotalOrder row_stamp_cmp
 row_stamp_total = then_total (on_total (λ c. column c 2) value_cmp_total) (on_total (λ c. column c 0) value_cmp_total)
 
 pub numbers_cmp : (m n : ℕ) → int_cmp (pos m) (pos n) ≡ nat_cmp m n
@@ -74,7 +74,7 @@ numbers_cmp m n = go (nat_lt m n) (m == n) (nat_lt n m) refl refl refl
     go false false false p q r = let f = ltb-false m n p in let g = ltb-false n m r in let e : m ≡ n = omega arith in absurd (true≢false (sym (eq-eqb m n e) ∙ q))
 
 -- rows compare by stamp as their records do
-pub stamps_as : (a b : Record) → stamp_cmp (row_of a) (row_of b) ≡ told.stamp_cmp a b
+pub stamps_as : (a b : Record) → row_stamp_cmp (row_of a) (row_of b) ≡ told.record_stamp_cmp a b
 stamps_as a b = ap₂ ordering_then (value_cmp-Int a.tick b.tick) (value_cmp-Int (pos a.origin) (pos b.origin) ∙ numbers_cmp a.origin b.origin)
 
 read_node : (n : NodeId) → IsNodeId n → node_id.read (node_id.canon n) ≡ Ok (n, [])
@@ -116,29 +116,29 @@ filter_as p q (x ∷ xs) same = rw (same x (inl refl), filter_as p q xs (λ z h.
 
 -- the records of a node and time, by the rows that a query found
 pub story_found : (R : Content) (db : Trees) (node : NodeId) (time : ℤ) (rows : List Row) → IsLawfulContent R → AreRecords R db → IsNodeId node → IsStory (node_id.canon node) (ticks_of time) (pos (pico_of time)) (cells (db 1)) rows
-    → flat_map records_in rows ≡ told.story R node time
+    → flat_map records_in rows ≡ told.versions R node time
 story_found R db node time rows l stand ok at =
     let here = filter (told.is_at node time) R in
     let here_rows : filter (is_at (node_id.canon node) (ticks_of time) (pos (pico_of time))) (map row_of R) ≡ map row_of here =
     filter-map (is_at (node_id.canon node) (ticks_of time) (pos (pico_of time))) row_of R ∙ ap (map row_of) (filter_as _ (told.is_at node time) R (λ r h. is_at_as node time r ok (each_record R l r h).0.node)) in
     let some : IsPermutation (map row_of here) rows =
     IsPermutation-trans _ _ _ (subst (λ xs. IsPermutation xs (filter (is_at (node_id.canon node) (ticks_of time) (pos (pico_of time))) (cells (db 1)))) here_rows (IsPermutation-filter (is_at (node_id.canon node) (ticks_of time) (pos (pico_of time))) (map row_of R) (cells (db 1)) stand)) at.same in
-    let sorted : IsPermutation (told.story R node time) here = subst (λ xs. IsPermutation xs here) (sort_same told.stamp_cmp here) (IsPermutation-sort_by told.stamp_cmp stamp_total here) in
-    let same : IsPermutation (map row_of (told.story R node time)) rows = IsPermutation-trans _ _ _ (IsPermutation-map row_of (told.story R node time) here sorted) some in
-    let up : IsAscending (λ a b. stamp_cmp a b ≡ Less) (map row_of (told.story R node time)) =
-    ascending-map (λ a b. stamp_cmp a b ≡ Less) row_of (told.story R node time)
-    (ascending_weaker (λ a b. told.stamp_cmp a b ≡ Less) (λ a b. stamp_cmp (row_of a) (row_of b) ≡ Less) (λ a b h. stamps_as a b ∙ h) (told.story R node time) (ascends _ (told.story R node time) (story_rises R node time (closed_stamps R l.closed)))) in
-    let is : rows ≡ map row_of (told.story R node time) = sorted_unique stamp_cmp row_stamp_total (map row_of (told.story R node time)) rows up same at.sorted in
-    ap (flat_map records_in) is ∙ records_back (told.story R node time) (λ r h. each_record R l r (has_from_filter (told.is_at node time) R r (has_from_sort_by told.stamp_cmp stamp_total here r h)).0)
+    let sorted : IsPermutation (told.versions R node time) here = subst (λ xs. IsPermutation xs here) (sort_same told.record_stamp_cmp here) (IsPermutation-sort_by told.record_stamp_cmp stamp_total here) in
+    let same : IsPermutation (map row_of (told.versions R node time)) rows = IsPermutation-trans _ _ _ (IsPermutation-map row_of (told.versions R node time) here sorted) some in
+    let up : IsAscending (λ a b. row_stamp_cmp a b ≡ Less) (map row_of (told.versions R node time)) =
+    ascending-map (λ a b. row_stamp_cmp a b ≡ Less) row_of (told.versions R node time)
+    (ascending_weaker (λ a b. told.record_stamp_cmp a b ≡ Less) (λ a b. row_stamp_cmp (row_of a) (row_of b) ≡ Less) (λ a b h. stamps_as a b ∙ h) (told.versions R node time) (ascends _ (told.versions R node time) (story_rises R node time (closed_stamps R l.closed)))) in
+    let is : rows ≡ map row_of (told.versions R node time) = sorted_unique row_stamp_cmp row_stamp_total (map row_of (told.versions R node time)) rows up same at.sorted in
+    ap (flat_map records_in) is ∙ records_back (told.versions R node time) (λ r h. each_record R l r (has_from_filter (told.is_at node time) R r (has_from_sort_by told.record_stamp_cmp stamp_total here r h)).0)
 
 -- a query's rows, read as records
 pub records_found : (db : Trees) (node : NodeId) (time : ℤ) (bytes : List ℕ) (rows : List Row) (items : List Record) → IsFilled db → IsNodeId node → bytes ≡ node_id.canon node → IsStory bytes (ticks_of time) (pos (pico_of time)) (cells (db 1)) rows
-    → items ≡ flat_map records_in rows → items ≡ told.story (content_in db) node time
+    → items ≡ flat_map records_in rows → items ≡ told.versions (content_in db) node time
 records_found db node time bytes rows items (R, l, stand) ok is at read =
-    read ∙ story_found R db node time rows l stand ok (subst (λ b. IsStory b (ticks_of time) (pos (pico_of time)) (cells (db 1)) rows) is at) ∙ ap (λ S. told.story S node time) (sym (content_is R db l stand))
+    read ∙ story_found R db node time rows l stand ok (subst (λ b. IsStory b (ticks_of time) (pos (pico_of time)) (cells (db 1)) rows) is at) ∙ ap (λ S. told.versions S node time) (sym (content_is R db l stand))
 
-none_there : (R : Content) (node : NodeId) (time : ℤ) → ((r : Record) → Has R r → r.node ≡ node → ⊥) → told.story R node time ≡ []
-none_there R node time none = ap (sort_by told.stamp_cmp) (go R none)
+none_there : (R : Content) (node : NodeId) (time : ℤ) → ((r : Record) → Has R r → r.node ≡ node → ⊥) → told.versions R node time ≡ []
+none_there R node time none = ap (sort_by told.record_stamp_cmp) (go R none)
   where
     go : (S : Content) → ((r : Record) → Has S r → r.node ≡ node → ⊥) → filter (told.is_at node time) S ≡ []
     go [] none = refl
@@ -152,9 +152,9 @@ pub node_within : (r : Record) → length (node_id.canon r.node) ≤ length (fie
 node_within r = omega (arith, fields_length r)
 
 -- a node that is too long for a record has none
-pub none_found : (db : Trees) (node : NodeId) (time : ℤ) → IsFilled db → longest < length (node_id.canon node) → [] ≡ told.story (content_in db) node time
+pub none_found : (db : Trees) (node : NodeId) (time : ℤ) → IsFilled db → longest < length (node_id.canon node) → [] ≡ told.versions (content_in db) node time
 none_found db node time (R, l, stand) long =
-    sym (ap (λ S. told.story S node time) (content_is R db l stand) ∙ none_there R node time (λ r h e. let fits = (l.records r h).size in let in_it = node_within r in
+    sym (ap (λ S. told.versions S node time) (content_is R db l stand) ∙ none_there R node time (λ r h e. let fits = (l.records r h).size in let in_it = node_within r in
     let too : longest < length (node_id.canon r.node) = subst (λ n. longest < length (node_id.canon n)) (sym e) long in absurd (omega (arith, fits, in_it, too))))
 
 -- ---- the record of a name

@@ -11,7 +11,7 @@ use Rattle.std.proofs.lemmas.List.{append_assoc, append-nil, take-append-le}
 use Rattle.ua_binary.specs.declared.values.NodeId.{NodeId}
 use Rattle.records.specs.Lists.{Has, Rises, IsApart}
 use Rattle.records.specs.Contents.{Content, cut}
-use Rattle.records.specs.Records.{stamp_cmp, is_beyond, story}
+use Rattle.records.specs.Records.{record_stamp_cmp, is_beyond, versions}
 use Rattle.records.specs.declared.record.Record.{Record}
 use Rattle.records.proofs.Orders.{stamp_total}
 use Rattle.records.proofs.LatestLemmas.{story_rises, story_has}
@@ -124,29 +124,29 @@ stretch_goes d place far t ts up next within = ap (filter (λ u. not (is_past d 
 
 -- ---- the records of a time that a vector covers
 
-module _ (R : Content) (node : NodeId) (t : ℤ) (v : ℕ → ℕ) (apart : IsApart stamp_cmp R) where
-  pub story_cut : filter (λ r. not (is_beyond v r)) (story R node t) ≡ story (cut R v) node t
+module _ (R : Content) (node : NodeId) (t : ℤ) (v : ℕ → ℕ) (apart : IsApart record_stamp_cmp R) where
+  pub story_cut : filter (λ r. not (is_beyond v r)) (versions R node t) ≡ versions (cut R v) node t
   story_cut =
-      same_members stamp_cmp stamp_total (filter covered (story R node t)) (story (cut R v) node t)
-      (pairwise-filter (λ a b. stamp_cmp a b ≡ Less) covered (story R node t) (story_rises R node t apart))
+      same_members record_stamp_cmp stamp_total (filter covered (versions R node t)) (versions (cut R v) node t)
+      (pairwise-filter (λ a b. record_stamp_cmp a b ≡ Less) covered (versions R node t) (story_rises R node t apart))
       (story_rises (cut R v) node t (apart_cut R v apart))
-      (λ r h. let p = has_from_filter covered (story R node t) r h in let q = (story_has R node t r).0 p.0 in (story_has (cut R v) node t r).1 (has-filter covered R r q.0 p.1, q.1, q.2))
-      (λ r h. let q = (story_has (cut R v) node t r).0 h in let p = has_from_filter covered R r q.0 in has-filter covered (story R node t) r ((story_has R node t r).1 (p.0, q.1, q.2)) p.1)
+      (λ r h. let p = has_from_filter covered (versions R node t) r h in let q = (story_has R node t r).0 p.0 in (story_has (cut R v) node t r).1 (has-filter covered R r q.0 p.1, q.1, q.2))
+      (λ r h. let q = (story_has (cut R v) node t r).0 h in let p = has_from_filter covered R r q.0 in has-filter covered (versions R node t) r ((story_has R node t r).1 (p.0, q.1, q.2)) p.1)
     where
       covered : Record → Bool
       covered r = not (is_beyond v r)
 
 -- a content's records that a vector covers, of one time
-pub covered_found : (db : Trees) (node : NodeId) (t : ℤ) (v : ℕ → ℕ) (all items : List Record) → IsFilled db → all ≡ story (content_in db) node t → items ≡ filter (λ r. not (is_beyond v r)) all → items ≡ story (cut (content_in db) v) node t
+pub covered_found : (db : Trees) (node : NodeId) (t : ℤ) (v : ℕ → ℕ) (all items : List Record) → IsFilled db → all ≡ versions (content_in db) node t → items ≡ filter (λ r. not (is_beyond v r)) all → items ≡ versions (cut (content_in db) v) node t
 covered_found db node t v all items (R, l, stand) is kept =
-    kept ∙ (ap (filter (λ r. not (is_beyond v r))) is ∙ story_cut (content_in db) node t v (subst (IsApart stamp_cmp) (sym (content_is R db l stand)) (closed_stamps R l.closed)))
+    kept ∙ (ap (filter (λ r. not (is_beyond v r))) is ∙ story_cut (content_in db) node t v (subst (IsApart record_stamp_cmp) (sym (content_is R db l stand)) (closed_stamps R l.closed)))
 
 -- ---- the next story
 
 pub no_story : (R : Content) (node : NodeId) (v : ℕ → ℕ) (d : Direction) (place far : ℤ) → IsNextTime d place (times R node) None → stretch d place far (times R node) ≡ []
 no_story R node v d place far none = stretch_ends d place far (times R node) none
 
-pub next_story_is : (R : Content) (node : NodeId) (v : ℕ → ℕ) (d : Direction) (place far t : ℤ) (records : List Record) → IsNextTime d place (times R node) (Some t) → is_past d far t ≡ false → records ≡ story (cut R v) node t → IsStoryAt R node v d place far t records
+pub next_story_is : (R : Content) (node : NodeId) (v : ℕ → ℕ) (d : Direction) (place far t : ℤ) (records : List Record) → IsNextTime d place (times R node) (Some t) → is_past d far t ≡ false → records ≡ versions (cut R v) node t → IsStoryAt R node v d place far t records
 next_story_is R node v d place far t records next within is = record { first = stretch_goes d place far t (times R node) (times_rise R node) next within; there = is }
 
 -- ---- what is found so far, and what is still to come

@@ -5,8 +5,8 @@ use Rattle.records.specs.Records.{is_beyond}
 use Rattle.records.specs.declared.record.Record.{Record}
 
 -- those behind a number
-abbrev pub behind : Content → ℕ → ℕ → List Record
-behind R origin number = filter (λ r. (r.origin == origin) && nat_lt number r.number) R
+abbrev pub records_after : Content → ℕ → ℕ → List Record
+records_after R origin number = filter (λ r. (r.origin == origin) && nat_lt number r.number) R
 
 -- those beyond a vector
 abbrev pub lacked_of : Content → (ℕ → ℕ) → ℕ → List Record

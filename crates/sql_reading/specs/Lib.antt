@@ -1,3 +1,4 @@
 pub mod Walking
 pub mod Lacked
 pub mod Tables
+pub mod Connections

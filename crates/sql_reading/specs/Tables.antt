@@ -1,7 +1,7 @@
 -- What currents2 and vectors hold, in the words of the records.
 use Rattle.std.specs.Prelude.{◌≡◌, ◌↔◌, nat_lt, pos, if◌then◌else◌, List, [], ◌∷◌, map, length, Some, IsPermutation}
 use Rattle.records.specs.Lists.{Has, IsPairwise, last}
-use Rattle.records.specs.Records.{is_delete, story}
+use Rattle.records.specs.Records.{is_delete, versions}
 use Rattle.records.specs.Moments.{ticks_of, pico_of}
 use Rattle.records.specs.Contents.{Content, vec, last_tick}
 use Rattle.records.specs.declared.record.Record.{Record}
@@ -10,11 +10,15 @@ use Rattle.ua_variant.specs.DataValue.{data_value}
 use Rattle.sqlite_value.specs.declared.value.Value.TheVariants.{Int, Blob as Bytes}
 use Rattle.sqlite_value.specs.Order.{Row}
 
--- the row of a record that is the last of its node and moment: where it stands, its stamp, whether it holds a value, whether others stand there, and the value
+-- the row of a record that is the last of its node and moment: where it stands, its stamp, whether
+-- it holds a value, whether others stand there, and the value
 abbrev pub current_row : Content → Record → Row
 current_row R r =
-    Bytes (node_id.canon r.node) ∷ Int (ticks_of r.time) ∷ Int (pos (pico_of r.time)) ∷ Int r.tick ∷ Int (pos r.origin)
-    ∷ Int (pos (if is_delete r.asked then 0 else 1)) ∷ Int (pos (if nat_lt 1 (length (story R r.node r.time)) then 1 else 0)) ∷ Bytes (data_value.canon r.value) ∷ []
+    Bytes (node_id.canon r.node) ∷ Int (ticks_of r.time) ∷ Int (pos (pico_of r.time)) ∷ Int r.tick
+    ∷ Int (pos r.origin)
+    ∷ Int (pos (if is_delete r.asked then 0 else 1))
+    ∷ Int (pos (if nat_lt 1 (length (versions R r.node r.time)) then 1 else 0))
+    ∷ Bytes (data_value.canon r.value) ∷ []
 
 -- the row of an origin that has records: its last number, and that record's tick
 abbrev pub last_row : Content → Record → Row
@@ -29,7 +33,7 @@ pub record HasRowsOf (IsOne : Record → Type 0) (row : Record → Row) (rows : 
 
 -- per node and moment with records one row, that of the last of them by stamp
 abbrev pub AreCurrents : Content → List Row → Type 0
-AreCurrents R = HasRowsOf (λ r. last (story R r.node r.time) ≡ Some r) (current_row R)
+AreCurrents R = HasRowsOf (λ r. last (versions R r.node r.time) ≡ Some r) (current_row R)
 
 -- per origin with records one row
 abbrev pub AreLasts : Content → List Row → Type 0

@@ -6,9 +6,11 @@ use Rattle.std.specs.Ordering.{int_cmp, on, then_cmp}
 use Rattle.ua_binary.specs.declared.values.NodeId.{NodeId}
 use Rattle.records.specs.Lists.{Has, sort_by}
 use Rattle.records.specs.Same.{same_node}
+use Rattle.sql_tables.specs.declared.queries.RowTime.{RowTime}
+use Rattle.sql_reading.specs.declared.lookahead.Ahead.{Ahead}
 use Rattle.sql_reading.specs.declared.reads.Story.{Story}
 use Rattle.records.specs.Contents.{Content, cut}
-use Rattle.records.specs.Records.{story, stamp_cmp, current, entries}
+use Rattle.records.specs.Records.{versions, record_stamp_cmp, current, modifications_at}
 use Rattle.records.specs.declared.record.Record.{Record}
 use Rattle.records.specs.Moments.{moment}
 use Rattle.records.specs.declared.shown.Held.{Held}
@@ -22,19 +24,26 @@ use Rattle.archive.specs.declared.reading.LogPlace.{LogPlace}
 abbrev pub moment_at : ℤ → ℤ → ℤ
 moment_at ticks pico = ticks *ℤ pos 10000 +ℤ pico
 
+-- the moment of a place that a query starts at
+abbrev pub moment_of : RowTime → ℤ
+moment_of place = moment_at place.ticks place.pico
+
 -- a place beyond which moments are told by ticks and picoseconds
-abbrev pub IsPlace : Direction → ℤ → Type 0
-IsPlace Forward pico = (negsuc 0 ≤ℤ pico) × (pico ≤ℤ pos 9999)
-IsPlace Backward pico = (pos 0 ≤ℤ pico) × (pico ≤ℤ pos 10000)
+abbrev pub IsStartPlace : Direction → ℤ → Type 0
+IsStartPlace Forward pico = (negsuc 0 ≤ℤ pico) × (pico ≤ℤ pos 9999)
+IsStartPlace Backward pico = (pos 0 ≤ℤ pico) × (pico ≤ℤ pos 10000)
 
 -- of these times, the first in the direction that is strictly beyond a place
 abbrev pub IsNextTime : Direction → ℤ → List ℤ → Option ℤ → Type 0
 IsNextTime d place ts None = (t : ℤ) → Has ts t → is_past d place t ≡ false
-IsNextTime d place ts (Some t) = Has ts t × (is_past d place t ≡ true) × ((s : ℤ) → Has ts s → is_past d place s ≡ true → is_past d s t ≡ false)
+IsNextTime d place ts (Some t) =
+    Has ts t × (is_past d place t ≡ true)
+    × ((s : ℤ) → Has ts s → is_past d place s ≡ true → is_past d s t ≡ false)
 
 -- the times strictly beyond a place, in the direction, up to a far one
 abbrev pub stretch : Direction → ℤ → ℤ → List ℤ → List ℤ
-stretch d place far ts = filter (λ t. not (is_past d far t)) (filter (is_past d place) (in_direction d ts))
+stretch d place far ts =
+    filter (λ t. not (is_past d far t)) (filter (is_past d place) (in_direction d ts))
 
 -- a range's ends, in the direction: the place right before the near one, and the far one
 abbrev pub IsSpan : Direction → ℤ → ℤ → ℤ → ℤ → Type 0
@@ -43,7 +52,10 @@ IsSpan Backward from to near far = (near ≡ to +ℤ pos 1) × (far ≡ from)
 
 -- behind a place a log between the one two times shows what it shows between the others
 abbrev pub ShowSame : Direction → Option LogPlace → ℤ → ℤ → ℤ → ℤ → Type 0
-ShowSame d after from to new_from new_to = (e : Entry) → (is_between from to e.time && follows d after e) ≡ (is_between new_from new_to e.time && follows d after e)
+ShowSame d after from to new_from new_to =
+    (e : Entry)
+    → (is_between from to e.time && follows d after e)
+    ≡ (is_between new_from new_to e.time && follows d after e)
 
 -- the last moment that a record may have, in the direction
 abbrev pub end_of_time : Direction → ℤ
@@ -59,7 +71,7 @@ first_time (r ∷ rs) = Some r.time
 
 -- by time, and within a time by stamp
 abbrev pub time_order : Record → Record → Ordering
-time_order = then_cmp (on (λ r. r.time) int_cmp) stamp_cmp
+time_order = then_cmp (on (λ r. r.time) int_cmp) record_stamp_cmp
 
 -- the same in the direction
 abbrev pub walk_cmp : Direction → Record → Record → Ordering
@@ -68,7 +80,8 @@ walk_cmp Backward = λ a b. time_order b a
 
 -- the node's records whose time is strictly beyond a place, in the direction
 abbrev pub records_beyond : Content → NodeId → Direction → ℤ → List Record
-records_beyond R node d place = sort_by (walk_cmp d) (filter (λ r. same_node r.node node && is_past d place r.time) R)
+records_beyond R node d place =
+    sort_by (walk_cmp d) (filter (λ r. same_node r.node node && is_past d place r.time) R)
 
 -- the first of these records are held; where they end, all of them
 pub record AreHeld (all held : List Record) (ends : Bool) : Type 0 where
@@ -82,12 +95,21 @@ IsAhead R node d place = AreHeld (records_beyond R node d place)
 
 -- held are the records of this time, in the direction, and behind them the next ones beyond it
 abbrev pub StandsFirst : Content → NodeId → Direction → ℤ → List Record → Bool → Type 0
-StandsFirst R node d time = AreHeld (in_direction d (story R node time) ++ records_beyond R node d time)
+StandsFirst R node d time =
+    AreHeld (in_direction d (versions R node time) ++ records_beyond R node d time)
 
 -- nothing is held, and others may stand behind it
 abbrev pub is_used_up : List Record → Bool → Bool
 is_used_up [] ends = not ends
 is_used_up (r ∷ rs) ends = false
+
+-- what is held ahead are the next records beyond a place
+abbrev pub HoldsNext : Content → NodeId → Direction → ℤ → Ahead → Type 0
+HoldsNext R node d place ahead = IsAhead R node d place ahead.records.items ahead.ends
+
+-- what is held ahead are the records of this time, and behind them the next ones beyond it
+abbrev pub HoldsFirst : Content → NodeId → Direction → ℤ → Ahead → Type 0
+HoldsFirst R node d time ahead = StandsFirst R node d time ahead.records.items ahead.ends
 
 -- the first record is taken where it is of this time, and else nothing
 abbrev pub IsTaken : ℤ → List Record → Option Record → List Record → Type 0
@@ -106,17 +128,22 @@ abbrev pub values_at : Content → NodeId → ℤ → List Held
 values_at C node t = cons_option (current C node t) []
 
 abbrev pub entries_at : Content → NodeId → Option LogPlace → Direction → ℤ → List Entry
-entries_at C node after d t = filter (follows d after) (in_direction d (reverse (entries C node t)))
+entries_at C node after d t =
+    filter (follows d after) (in_direction d (reverse (modifications_at C node t)))
 
--- at the first of the times beyond a place and up to a far one stand these records; None where there is no such time
-pub record IsStoryAt (R : Content) (node : NodeId) (v : ℕ → ℕ) (d : Direction) (place far : ℤ) (time : ℤ) (records : List Record) : Type 0 where
+-- at the first of the times beyond a place and up to a far one stand these records; None where
+-- there is no such time
+pub record IsStoryAt (R : Content) (node : NodeId) (v : ℕ → ℕ) (d : Direction) (place far : ℤ)
+    (time : ℤ) (records : List Record) : Type 0 where
   pub first : stretch d place far (times R node) ≡ time ∷ stretch d time far (times R node)
-  pub there : records ≡ story (cut R v) node time
+  pub there : records ≡ versions (cut R v) node time
 
 abbrev pub IsNextStory : Content → NodeId → (ℕ → ℕ) → Direction → ℤ → ℤ → Option Story → Type 0
 IsNextStory R node v d place far None = stretch d place far (times R node) ≡ []
 IsNextStory R node v d place far (Some s) = IsStoryAt R node v d place far s.time s.records.items
 
 -- the next story; behind one, held are the next records beyond its time
-abbrev pub IsTold : Content → NodeId → (ℕ → ℕ) → Direction → ℤ → ℤ → Option Story → List Record → Bool → Type 0
-IsTold R node v d place far told held ends = IsNextStory R node v d place far told × IfSome told (λ s. IsAhead R node d s.time held ends)
+abbrev pub IsStoryRead : Content → NodeId → (ℕ → ℕ) → Direction → ℤ → ℤ → Option Story → List Record
+    → Bool → Type 0
+IsStoryRead R node v d place far told held ends =
+    IsNextStory R node v d place far told × IfSome told (λ s. IsAhead R node d s.time held ends)

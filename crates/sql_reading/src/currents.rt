@@ -2,7 +2,6 @@
 
 ghost use Rattle.std.specs.Prelude.{◌≡◌, ◌∷◌, ◌⊎◌, [], None, Some, pos, map, take, IfOk};
 ghost use Rattle.std.specs.List.{flat_map};
-ghost use Rattle.sqlite.specs.State.{HasCleanDisk};
 ghost use Rattle.sqlite.specs.Held.{state};
 ghost use Rattle.sqlite_value.specs.Order.{column, bytes};
 ghost use Rattle.sqlite_value.specs.declared.value.Value.TheVariants as value;
@@ -11,16 +10,17 @@ ghost use Rattle.ua_binary.specs.Binary.{node_id, IsNodeId};
 ghost use Rattle.ua_variant.specs.DataValue.{data_value};
 ghost use Rattle.records.specs.Moments.{ticks_of, pico_of};
 ghost use Rattle.archive.specs.Reading.{times};
-ghost use Rattle.sql_tables.specs.Rows.{content_in, IsFilled};
+ghost use Rattle.sql_tables.specs.Rows.{IsFilled};
 ghost use Rattle.sql_tables.specs.Derived.{AreKept, current_columns};
 ghost use Rattle.sql_tables.specs.Currents.{is_live_after, is_live_before, current_order, AreNextCurrents, values_in, helds_in};
-ghost use Rattle.sql_tables.specs.State.{Idles, Asked};
+ghost use Rattle.sql_tables.specs.State.{Idles, LeavesUnchanged};
 ghost use Rattle.sql_tables.specs.Words.{IsPage};
-ghost use Rattle.sql_reading.specs.Walking.{moment_at, IsPlace, stretch, values_at};
+ghost use Rattle.sql_reading.specs.Walking.{IsStartPlace, stretch, values_at, moment_of};
+ghost use Rattle.sql_tables.specs.Connections.{WhereClean, Sees, tables_of, content_of};
 
 use archive::{Direction, StoreFault};
 use records::{Held, Moment, RecordFault};
-use sql_tables::{Place, bytes_at, int_at, place_of, select, short_at};
+use sql_tables::{RowTime, bytes_at, int_at, place_of, select, short_at};
 use sqlite::{Alter, Connection, Row, params};
 use std::alloc::Global;
 use ua_binary::{Cursor, NodeId};
@@ -30,8 +30,8 @@ use ua_variant::{DataValue, read_data_value};
 /// count is below 0.
 #[derive(Clone, Copy, Debug)]
 struct Stretch {
-    near: Place,
-    far: Place,
+    near: RowTime,
+    far: RowTime,
     count: i64,
 }
 
@@ -41,8 +41,11 @@ fn currents_after<S: Alter>(
     node: &[u8],
     along: &Stretch,
 ) -> Result<Vec<Row>, StoreFault>
-    requires { HasCleanDisk (state S.Store conn.old) → Idles (state S.Store conn.old) }
-    ensures { Asked (state S.Store conn.old) (state S.Store conn.new) result (λ rows. IsPage (is_live_after node.now along.now.near.ticks along.now.near.pico along.now.far.ticks along.now.far.pico) current_order (as_count (value.Int along.now.count)) (map current_columns ((state S.Store conn.old).now.trees 4)) rows.items) }
+    requires { WhereClean S.Store conn.old Idles }
+    ensures { LeavesUnchanged (state S.Store conn.old) (state S.Store conn.new) result
+        (λ rows. IsPage (is_live_after node.now along.now.near.ticks along.now.near.pico
+        along.now.far.ticks along.now.far.pico) current_order (as_count (value.Int along.now.count))
+        (map current_columns (tables_of S.Store conn.old 4)) rows.items) }
 {
     select(
         conn,
@@ -64,8 +67,12 @@ fn currents_before<S: Alter>(
     node: &[u8],
     along: &Stretch,
 ) -> Result<Vec<Row>, StoreFault>
-    requires { HasCleanDisk (state S.Store conn.old) → Idles (state S.Store conn.old) }
-    ensures { Asked (state S.Store conn.old) (state S.Store conn.new) result (λ rows. IsPage (is_live_before node.now along.now.near.ticks along.now.near.pico along.now.far.ticks along.now.far.pico) (λ a b. current_order b a) (as_count (value.Int along.now.count)) (map current_columns ((state S.Store conn.old).now.trees 4)) rows.items) }
+    requires { WhereClean S.Store conn.old Idles }
+    ensures { LeavesUnchanged (state S.Store conn.old) (state S.Store conn.new) result
+        (λ rows. IsPage (is_live_before node.now along.now.near.ticks along.now.near.pico
+        along.now.far.ticks along.now.far.pico) (λ a b. current_order b a)
+        (as_count (value.Int along.now.count))
+        (map current_columns (tables_of S.Store conn.old 4)) rows.items) }
 {
     select(
         conn,
@@ -88,8 +95,11 @@ fn currents_next<S: Alter>(
     along: &Stretch,
     direction: Direction,
 ) -> Result<Vec<Row>, StoreFault>
-    requires { HasCleanDisk (state S.Store conn.old) → Idles (state S.Store conn.old) }
-    ensures { Asked (state S.Store conn.old) (state S.Store conn.new) result (λ rows. AreNextCurrents direction node.now along.now.near.ticks along.now.near.pico along.now.far.ticks along.now.far.pico (as_count (value.Int along.now.count)) (map current_columns ((state S.Store conn.old).now.trees 4)) rows.items) }
+    requires { WhereClean S.Store conn.old Idles }
+    ensures { LeavesUnchanged (state S.Store conn.old) (state S.Store conn.new) result
+        (λ rows. AreNextCurrents direction node.now along.now.near.ticks along.now.near.pico
+        along.now.far.ticks along.now.far.pico (as_count (value.Int along.now.count))
+        (map current_columns (tables_of S.Store conn.old 4)) rows.items) }
 {
     match direction {
         Direction::Forward => currents_after(conn, node, along),
@@ -145,10 +155,11 @@ pub(crate) fn count_of(wanted: usize) -> i64
 }
 
 /// So many beyond a place, up to a far moment.
-fn stretch_of(near: Place, far: Moment, limit: usize) -> Stretch
+fn stretch_of(near: RowTime, far: Moment, limit: usize) -> Stretch
     ensures near { (result.near.ticks ≡ near.ticks) × (result.near.pico ≡ near.pico) }
     ensures far { (result.far.ticks ≡ ticks_of far) × (result.far.pico ≡ pos (pico_of far)) }
-    ensures count { (as_count (value.Int result.count) ≡ None) ⊎ (as_count (value.Int result.count) ≡ Some limit) }
+    ensures count { (as_count (value.Int result.count) ≡ None)
+        ⊎ (as_count (value.Int result.count) ≡ Some limit) }
 {
     Stretch {
         near,
@@ -163,18 +174,20 @@ pub(crate) fn current_values<S: Alter>(
     conn: &mut Connection<S>,
     node: &NodeId,
     bytes: &[u8],
-    start: Place,
+    start: RowTime,
     far: Moment,
     direction: Direction,
     limit: usize,
 ) -> Result<Vec<Held>, StoreFault>
-    requires idles { HasCleanDisk (state S.Store conn.old) → Idles (state S.Store conn.old) }
-    requires filled { HasCleanDisk (state S.Store conn.old) → IsFilled (state S.Store conn.old).now.trees }
-    requires kept { HasCleanDisk (state S.Store conn.old) → AreKept (state S.Store conn.old).now.trees }
+    requires idles { WhereClean S.Store conn.old Idles }
+    requires filled { WhereClean S.Store conn.old (Sees IsFilled) }
+    requires kept { WhereClean S.Store conn.old (Sees AreKept) }
     requires spelled { bytes.now ≡ node_id.canon node.now }
     requires lawful { IsNodeId node.now }
-    requires place { IsPlace direction start.pico }
-    ensures { Asked (state S.Store conn.old) (state S.Store conn.new) result (λ v. v.items ≡ take limit (flat_map (values_at (content_in (state S.Store conn.old).now.trees) node.now) (stretch direction (moment_at start.ticks start.pico) far (times (content_in (state S.Store conn.old).now.trees) node.now)))) }
+    requires place { IsStartPlace direction start.pico }
+    ensures { LeavesUnchanged (state S.Store conn.old) (state S.Store conn.new) result
+        (λ v. v.items ≡ take limit (flat_map (values_at (content_of S.Store conn.old) node.now)
+        (stretch direction (moment_of start) far (times (content_of S.Store conn.old) node.now)))) }
 {
     let along = stretch_of(start, far, limit);
     let rows = currents_next(conn, bytes, &along, direction)?;

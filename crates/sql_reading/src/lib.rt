@@ -1,8 +1,8 @@
 //! Reads of a store over SQLite: the values of a range, the log of a range, and the records that another replica lacks.
 #![tactic(auto)]
 
-mod ahead;
 mod currents;
+mod lookahead;
 mod ranges;
 mod reads;
 mod shown;

@@ -1,24 +1,24 @@
 //! What an archive shows of a node: values in a range and nearest outside it, and modifications.
 
-ghost use Rattle.std.specs.Prelude.{◌≡◌, ℕ, take, slice_get};
+ghost use Rattle.std.specs.Prelude.{◌≡◌, take, slice_get};
 ghost use Rattle.std.specs.List.{flat_map};
 ghost use Rattle.sqlite.specs.State.{HasCleanDisk};
 ghost use Rattle.sqlite.specs.Held.{state};
-ghost use Rattle.stamp.specs.Numbers.{number_of};
-ghost use Rattle.records.specs.Contents.{cut, vec};
 ghost use Rattle.archive.specs.Reading.{range_of, log_of, outside_of, times};
-ghost use Rattle.sql_tables.specs.Rows.{content_in, IsFilled};
+ghost use Rattle.sql_tables.specs.Rows.{IsFilled};
 ghost use Rattle.sql_tables.specs.Derived.{AreKept};
-ghost use Rattle.sql_tables.specs.State.{Idles, Asked};
-ghost use Rattle.sql_reading.specs.Walking.{moment_at, IsPlace, IsSpan, ShowSame, end_of_time, stretch, values_at};
+ghost use Rattle.sql_tables.specs.State.{Idles, LeavesUnchanged};
+ghost use Rattle.sql_reading.specs.Walking.{IsStartPlace, IsSpan, ShowSame, end_of_time, stretch, values_at, moment_of};
 ghost use Rattle.ua_binary.specs.Binary.{node_id, IsNodeId};
+ghost use Rattle.sql_tables.specs.Connections.{WhereClean, Sees, content_of};
+ghost use Rattle.sql_reading.specs.Connections.{AreLastNumbers, content_within};
 
 use crate::currents::current_values;
 use crate::reads::spelled_node;
 use crate::walking::{entries, values};
 use archive::{Direction, LogPlace, StoreFault};
 use records::{Entry, Held, Moment};
-use sql_tables::{Place, place_of};
+use sql_tables::{RowTime, place_of};
 use sqlite::{Alter, Connection};
 use stamp::Vector;
 use std::alloc::Global;
@@ -27,20 +27,20 @@ use ua_binary::NodeId;
 /// Where a reading starts, and the time at which it ends.
 #[derive(Clone, Copy, Debug)]
 struct Span {
-    start: Place,
+    start: RowTime,
     far: Moment,
 }
 
 /// The span from one time to another in a direction, both included.
 fn span_of(from: Moment, to: Moment, direction: Direction) -> Span
-    ensures place { IsPlace direction result.start.pico }
-    ensures span { IsSpan direction from to (moment_at result.start.ticks result.start.pico) result.far }
+    ensures place { IsStartPlace direction result.start.pico }
+    ensures span { IsSpan direction from to (moment_of result.start) result.far }
 {
     match direction {
         Direction::Forward => {
             let place = place_of(from);
             Span {
-                start: Place {
+                start: RowTime {
                     ticks: place.ticks,
                     pico: place.pico - 1,
                 },
@@ -50,7 +50,7 @@ fn span_of(from: Moment, to: Moment, direction: Direction) -> Span
         Direction::Backward => {
             let place = place_of(to);
             Span {
-                start: Place {
+                start: RowTime {
                     ticks: place.ticks,
                     pico: place.pico + 1,
                 },
@@ -108,21 +108,25 @@ fn live_values<S: Alter>(
     conn: &mut Connection<S>,
     node: &NodeId,
     bytes: &[u8],
-    start: Place,
+    start: RowTime,
     far: Moment,
     direction: Direction,
     limit: usize,
     latest: &Vector,
     within: &Vector,
 ) -> Result<Vec<Held>, StoreFault>
-    requires idles { HasCleanDisk (state S.Store conn.old) → Idles (state S.Store conn.old) }
-    requires filled { HasCleanDisk (state S.Store conn.old) → IsFilled (state S.Store conn.old).now.trees }
-    requires kept { HasCleanDisk (state S.Store conn.old) → AreKept (state S.Store conn.old).now.trees }
-    requires latest { HasCleanDisk (state S.Store conn.old) → (replica : ℕ) → number_of latest.now replica ≡ vec (content_in (state S.Store conn.old).now.trees) replica }
+    requires idles { WhereClean S.Store conn.old Idles }
+    requires filled { WhereClean S.Store conn.old (Sees IsFilled) }
+    requires kept { WhereClean S.Store conn.old (Sees AreKept) }
+    requires latest { HasCleanDisk (state S.Store conn.old)
+        → AreLastNumbers latest.now (content_of S.Store conn.old) }
     requires spelled { bytes.now ≡ node_id.canon node.now }
     requires lawful { IsNodeId node.now }
-    requires place { IsPlace direction start.pico }
-    ensures { Asked (state S.Store conn.old) (state S.Store conn.new) result (λ v. v.items ≡ take limit (flat_map (values_at (cut (content_in (state S.Store conn.old).now.trees) (number_of within.now)) node.now) (stretch direction (moment_at start.ticks start.pico) far (times (content_in (state S.Store conn.old).now.trees) node.now)))) }
+    requires place { IsStartPlace direction start.pico }
+    ensures { LeavesUnchanged (state S.Store conn.old) (state S.Store conn.new) result
+        (λ v. v.items ≡ take limit
+        (flat_map (values_at (content_within S.Store conn.old within.now) node.now)
+        (stretch direction (moment_of start) far (times (content_of S.Store conn.old) node.now)))) }
 {
     if within.at_least(latest) {
         return current_values(alloc, conn, node, bytes, start, far, direction, limit);
@@ -144,11 +148,14 @@ pub fn range_in<S: Alter>(
     latest: &Vector,
     within: &Vector,
 ) -> Result<Vec<Held>, StoreFault>
-    requires idles { HasCleanDisk (state S.Store conn.old) → Idles (state S.Store conn.old) }
-    requires filled { HasCleanDisk (state S.Store conn.old) → IsFilled (state S.Store conn.old).now.trees }
-    requires kept { HasCleanDisk (state S.Store conn.old) → AreKept (state S.Store conn.old).now.trees }
-    requires latest { HasCleanDisk (state S.Store conn.old) → (replica : ℕ) → number_of latest.now replica ≡ vec (content_in (state S.Store conn.old).now.trees) replica }
-    ensures { Asked (state S.Store conn.old) (state S.Store conn.new) result (λ v. v.items ≡ take limit (range_of (cut (content_in (state S.Store conn.old).now.trees) (number_of within.now)) node.now from to direction)) }
+    requires idles { WhereClean S.Store conn.old Idles }
+    requires filled { WhereClean S.Store conn.old (Sees IsFilled) }
+    requires kept { WhereClean S.Store conn.old (Sees AreKept) }
+    requires latest { HasCleanDisk (state S.Store conn.old)
+        → AreLastNumbers latest.now (content_of S.Store conn.old) }
+    ensures { LeavesUnchanged (state S.Store conn.old) (state S.Store conn.new) result
+        (λ v. v.items ≡ take limit
+        (range_of (content_within S.Store conn.old within.now) node.now from to direction)) }
 {
     match spelled_node(alloc, node)? {
         Some(bytes) => {
@@ -174,9 +181,11 @@ pub fn log_in<S: Alter>(
     limit: usize,
     within: &Vector,
 ) -> Result<Vec<Entry>, StoreFault>
-    requires idles { HasCleanDisk (state S.Store conn.old) → Idles (state S.Store conn.old) }
-    requires filled { HasCleanDisk (state S.Store conn.old) → IsFilled (state S.Store conn.old).now.trees }
-    ensures { Asked (state S.Store conn.old) (state S.Store conn.new) result (λ v. v.items ≡ take limit (log_of (cut (content_in (state S.Store conn.old).now.trees) (number_of within.now)) node.now from to after.now direction)) }
+    requires idles { WhereClean S.Store conn.old Idles }
+    requires filled { WhereClean S.Store conn.old (Sees IsFilled) }
+    ensures { LeavesUnchanged (state S.Store conn.old) (state S.Store conn.new) result
+        (λ v. v.items ≡ take limit (log_of (content_within S.Store conn.old within.now) node.now
+        from to after.now direction)) }
 {
     match spelled_node(alloc, node)? {
         Some(bytes) => {
@@ -201,13 +210,15 @@ fn outside_of<S: Alter>(
     latest: &Vector,
     within: &Vector,
 ) -> Result<Option<Held>, StoreFault>
-    requires idles { HasCleanDisk (state S.Store conn.old) → Idles (state S.Store conn.old) }
-    requires filled { HasCleanDisk (state S.Store conn.old) → IsFilled (state S.Store conn.old).now.trees }
-    requires kept { HasCleanDisk (state S.Store conn.old) → AreKept (state S.Store conn.old).now.trees }
-    requires latest { HasCleanDisk (state S.Store conn.old) → (replica : ℕ) → number_of latest.now replica ≡ vec (content_in (state S.Store conn.old).now.trees) replica }
+    requires idles { WhereClean S.Store conn.old Idles }
+    requires filled { WhereClean S.Store conn.old (Sees IsFilled) }
+    requires kept { WhereClean S.Store conn.old (Sees AreKept) }
+    requires latest { HasCleanDisk (state S.Store conn.old)
+        → AreLastNumbers latest.now (content_of S.Store conn.old) }
     requires spelled { bytes.now ≡ node_id.canon node.now }
     requires lawful { IsNodeId node.now }
-    ensures { Asked (state S.Store conn.old) (state S.Store conn.new) result (λ h. h ≡ outside_of (cut (content_in (state S.Store conn.old).now.trees) (number_of within.now)) node.now time direction) }
+    ensures { LeavesUnchanged (state S.Store conn.old) (state S.Store conn.new) result
+        (λ h. h ≡ outside_of (content_within S.Store conn.old within.now) node.now time direction) }
 {
     let place = place_of(time);
     let far = end_of_time(direction);
@@ -227,11 +238,13 @@ pub fn outside_in<S: Alter>(
     latest: &Vector,
     within: &Vector,
 ) -> Result<Option<Held>, StoreFault>
-    requires idles { HasCleanDisk (state S.Store conn.old) → Idles (state S.Store conn.old) }
-    requires filled { HasCleanDisk (state S.Store conn.old) → IsFilled (state S.Store conn.old).now.trees }
-    requires kept { HasCleanDisk (state S.Store conn.old) → AreKept (state S.Store conn.old).now.trees }
-    requires latest { HasCleanDisk (state S.Store conn.old) → (replica : ℕ) → number_of latest.now replica ≡ vec (content_in (state S.Store conn.old).now.trees) replica }
-    ensures { Asked (state S.Store conn.old) (state S.Store conn.new) result (λ h. h ≡ outside_of (cut (content_in (state S.Store conn.old).now.trees) (number_of within.now)) node.now time direction) }
+    requires idles { WhereClean S.Store conn.old Idles }
+    requires filled { WhereClean S.Store conn.old (Sees IsFilled) }
+    requires kept { WhereClean S.Store conn.old (Sees AreKept) }
+    requires latest { HasCleanDisk (state S.Store conn.old)
+        → AreLastNumbers latest.now (content_of S.Store conn.old) }
+    ensures { LeavesUnchanged (state S.Store conn.old) (state S.Store conn.new) result
+        (λ h. h ≡ outside_of (content_within S.Store conn.old within.now) node.now time direction) }
 {
     match spelled_node(alloc, node)? {
         Some(bytes) => outside_of(alloc, conn, node, &bytes, time, direction, latest, within),

@@ -2,12 +2,12 @@
 
 ghost use Rattle.records.specs.Spelling.{longest};
 ghost use Rattle.std.specs.Prelude.{◌≡◌, ◌<◌, length, None, IfSome, IfOk, IfErr};
-ghost use Rattle.sqlite.specs.State.{HasCleanDisk};
 ghost use Rattle.sqlite.specs.Held.{state};
 ghost use Rattle.ua_binary.specs.Binary.{node_id, IsNodeId};
-ghost use Rattle.records.specs.Records.{story};
-ghost use Rattle.sql_tables.specs.Rows.{content_in, IsFilled};
-ghost use Rattle.sql_tables.specs.State.{Idles, Asked};
+ghost use Rattle.records.specs.Records.{versions};
+ghost use Rattle.sql_tables.specs.Rows.{IsFilled};
+ghost use Rattle.sql_tables.specs.State.{Idles, LeavesUnchanged};
+ghost use Rattle.sql_tables.specs.Connections.{WhereClean, Sees, content_of};
 
 use archive::StoreFault;
 use records::{Moment, Record};
@@ -25,7 +25,8 @@ pub(crate) struct Story {
 
 /// The spelling of a node, where it isn't too long for a record.
 pub(crate) fn spelled_node(alloc: Global, node: &NodeId) -> Result<Option<Vec<u8>>, StoreFault>
-    ensures spelled { IfOk result (λ found. IfSome found (λ b. (b.items ≡ node_id.canon node.now) × IsNodeId node.now)) }
+    ensures spelled { IfOk result
+        (λ found. IfSome found (λ b. (b.items ≡ node_id.canon node.now) × IsNodeId node.now)) }
     ensures long { IfOk result (λ found. found ≡ None → longest < length (node_id.canon node.now)) }
     ensures met { IfErr result (λ fault. fault ≡ StoreFault.OutOfMemory) }
 {
@@ -48,11 +49,12 @@ pub(crate) fn story_at<S: Alter>(
     bytes: &[u8],
     time: Moment,
 ) -> Result<Vec<Record>, StoreFault>
-    requires idles { HasCleanDisk (state S.Store conn.old) → Idles (state S.Store conn.old) }
-    requires filled { HasCleanDisk (state S.Store conn.old) → IsFilled (state S.Store conn.old).now.trees }
+    requires idles { WhereClean S.Store conn.old Idles }
+    requires filled { WhereClean S.Store conn.old (Sees IsFilled) }
     requires spelled { bytes.now ≡ node_id.canon node.now }
     requires lawful { IsNodeId node.now }
-    ensures { Asked (state S.Store conn.old) (state S.Store conn.new) result (λ v. v.items ≡ story (content_in (state S.Store conn.old).now.trees) node.now time) }
+    ensures { LeavesUnchanged (state S.Store conn.old) (state S.Store conn.new) result
+        (λ v. v.items ≡ versions (content_of S.Store conn.old) node.now time) }
 {
     let place = place_of(time);
     let rows = rows_at(conn, bytes, &place)?;
@@ -66,9 +68,10 @@ pub fn records_at<S: Alter>(
     node: &NodeId,
     time: Moment,
 ) -> Result<Vec<Record>, StoreFault>
-    requires idles { HasCleanDisk (state S.Store conn.old) → Idles (state S.Store conn.old) }
-    requires filled { HasCleanDisk (state S.Store conn.old) → IsFilled (state S.Store conn.old).now.trees }
-    ensures { Asked (state S.Store conn.old) (state S.Store conn.new) result (λ v. v.items ≡ story (content_in (state S.Store conn.old).now.trees) node.now time) }
+    requires idles { WhereClean S.Store conn.old Idles }
+    requires filled { WhereClean S.Store conn.old (Sees IsFilled) }
+    ensures { LeavesUnchanged (state S.Store conn.old) (state S.Store conn.new) result
+        (λ v. v.items ≡ versions (content_of S.Store conn.old) node.now time) }
 {
     match spelled_node(alloc, node)? {
         Some(bytes) => story_at(alloc, conn, node, &bytes, time),

@@ -32,7 +32,8 @@ fn held_of(mut records: Vec<Record>) -> Option<Held>
 
 /// Puts what a story leaves behind other values.
 pub(crate) fn push_value(found: &mut Vec<Held>, records: Vec<Record>) -> Result<(), StoreFault>
-    ensures value { IfOk result (λ _. found.new.items ≡ found.old.items ++ cons_option (held records.items) []) }
+    ensures value { IfOk result
+        (λ _. found.new.items ≡ found.old.items ++ cons_option (held records.items) []) }
     ensures memory { IfErr result (λ e. e ≡ store.OutOfMemory) }
 {
     let Some(held) = held_of(records) else {
@@ -146,7 +147,8 @@ pub(crate) fn push_entries(
     direction: Direction,
     after: &Option<LogPlace>,
 ) -> Result<(), StoreFault>
-    ensures value { IfOk result (λ _. found.new.items ≡ found.old.items ++ filter (follows direction after.now) (in_direction direction (reverse (entries_after None story.now)))) }
+    ensures value { IfOk result (λ _. found.new.items ≡ found.old.items ++ filter (follows direction
+        after.now) (in_direction direction (reverse (entries_after None story.now)))) }
     ensures memory { IfErr result (λ e. e ≡ store.OutOfMemory) }
 {
     let mut shown = entries_in(alloc, story)?;

@@ -1,34 +1,36 @@
 //! The records that a vector lacks: one query for each origin that has some.
 
-ghost use Rattle.std.specs.Prelude.{◌≡◌, ◌≤◌, ◌<◌, ◌⊎◌, ◌++◌, ℕ, pos, length, take, Some, None, IfOk, IfErr};
+ghost use Rattle.std.specs.Prelude.{◌≡◌, ◌≤◌, ◌<◌, ◌⊎◌, ◌++◌, pos, length, take, Some, None, IfOk, IfErr};
 ghost use Rattle.sqlite.specs.State.{HasCleanDisk};
 ghost use Rattle.sqlite.specs.Held.{state};
 ghost use Rattle.sqlite_value.specs.declared.value.Value.TheVariants as value;
 ghost use Rattle.sqlite_sql.specs.Query.{as_count};
 ghost use Rattle.stamp.specs.Limits.{greatest, IsReplica};
 ghost use Rattle.stamp.specs.Numbers.{number_of};
-ghost use Rattle.records.specs.Contents.{vec};
 ghost use Rattle.records.specs.Records.{missing};
-ghost use Rattle.sql_tables.specs.Rows.{content_in, IsFilled};
-ghost use Rattle.sql_reading.specs.Lacked.{behind, lacked_of};
-ghost use Rattle.sql_tables.specs.State.{Idles, Asked};
+ghost use Rattle.sql_tables.specs.Rows.{IsFilled};
+ghost use Rattle.sql_reading.specs.Lacked.{records_after, lacked_of};
+ghost use Rattle.sql_tables.specs.State.{Idles, LeavesUnchanged};
+ghost use Rattle.sql_tables.specs.Connections.{WhereClean, Sees, content_of};
+ghost use Rattle.sql_reading.specs.Connections.{AreLastNumbers};
 
 use crate::currents::count_of;
 use archive::StoreFault;
 use records::Record;
-use sql_tables::{Behind, decode_all, rows_behind};
+use sql_tables::{RowsAfter, decode_all, rows_behind};
 use sqlite::{Alter, Connection};
 use stamp::{ReplicaNo, Vector};
 use std::alloc::Global;
 
 /// The rows of an origin behind a number, as many as are wanted, or all where SQL has no such count.
-fn behind(origin: ReplicaNo, number: u64, wanted: usize) -> Behind
+fn behind(origin: ReplicaNo, number: u64, wanted: usize) -> RowsAfter
     requires { number ≤ greatest }
     ensures origin { result.origin ≡ pos origin }
     ensures number { result.number ≡ pos number }
-    ensures count { (as_count (value.Int result.count) ≡ None) ⊎ (as_count (value.Int result.count) ≡ Some wanted) }
+    ensures count { (as_count (value.Int result.count) ≡ None)
+        ⊎ (as_count (value.Int result.count) ≡ Some wanted) }
 {
-    Behind {
+    RowsAfter {
         origin: i64::from(origin.get()),
         number: number as i64,
         count: count_of(wanted),
@@ -37,7 +39,8 @@ fn behind(origin: ReplicaNo, number: u64, wanted: usize) -> Behind
 
 /// Puts records behind others, and keeps the first `limit` of them.
 fn push_all(found: &mut Vec<Record>, mut more: Vec<Record>, limit: usize) -> Result<(), StoreFault>
-    ensures value { IfOk result (λ _. found.new.items ≡ take limit (found.old.items ++ more.items)) }
+    ensures value { IfOk result
+        (λ _. found.new.items ≡ take limit (found.old.items ++ more.items)) }
     ensures memory { IfErr result (λ e. e ≡ StoreFault.OutOfMemory) }
 {
     match found.append(&mut more) {
@@ -57,11 +60,13 @@ fn push_behind<S: Alter>(
     number: u64,
     limit: usize,
 ) -> Result<(), StoreFault>
-    requires idles { HasCleanDisk (state S.Store conn.old) → Idles (state S.Store conn.old) }
-    requires filled { HasCleanDisk (state S.Store conn.old) → IsFilled (state S.Store conn.old).now.trees }
+    requires idles { WhereClean S.Store conn.old Idles }
+    requires filled { WhereClean S.Store conn.old (Sees IsFilled) }
     requires number { number ≤ greatest }
     requires room { length found.old.items < limit }
-    ensures { Asked (state S.Store conn.old) (state S.Store conn.new) result (λ _. found.new.items ≡ take limit (found.old.items ++ behind (content_in (state S.Store conn.old).now.trees) origin number)) }
+    ensures { LeavesUnchanged (state S.Store conn.old) (state S.Store conn.new) result
+        (λ _. found.new.items ≡ take limit (found.old.items
+        ++ records_after (content_of S.Store conn.old) origin number)) }
 {
     let asked = behind(origin, number, limit - found.len());
     let rows = rows_behind(conn, &asked)?;
@@ -79,12 +84,15 @@ fn push_lacked<S: Alter>(
     vector: &Vector,
     limit: usize,
 ) -> Result<(), StoreFault>
-    requires idles { HasCleanDisk (state S.Store conn.old) → Idles (state S.Store conn.old) }
-    requires filled { HasCleanDisk (state S.Store conn.old) → IsFilled (state S.Store conn.old).now.trees }
-    requires own { HasCleanDisk (state S.Store conn.old) → (replica : ℕ) → number_of own.now replica ≡ vec (content_in (state S.Store conn.old).now.trees) replica }
+    requires idles { WhereClean S.Store conn.old Idles }
+    requires filled { WhereClean S.Store conn.old (Sees IsFilled) }
+    requires own { HasCleanDisk (state S.Store conn.old)
+        → AreLastNumbers own.now (content_of S.Store conn.old) }
     requires replica { IsReplica number }
     requires room { length found.old.items < limit }
-    ensures { Asked (state S.Store conn.old) (state S.Store conn.new) result (λ _. found.new.items ≡ take limit (found.old.items ++ lacked_of (content_in (state S.Store conn.old).now.trees) (number_of vector.now) number)) }
+    ensures { LeavesUnchanged (state S.Store conn.old) (state S.Store conn.new) result
+        (λ _. found.new.items ≡ take limit (found.old.items
+        ++ lacked_of (content_of S.Store conn.old) (number_of vector.now) number)) }
 {
     let Some(origin) = ReplicaNo::new(number) else {
         return Ok(());
@@ -105,10 +113,12 @@ pub fn records_since<S: Alter>(
     vector: &Vector,
     limit: usize,
 ) -> Result<Vec<Record>, StoreFault>
-    requires idles { HasCleanDisk (state S.Store conn.old) → Idles (state S.Store conn.old) }
-    requires filled { HasCleanDisk (state S.Store conn.old) → IsFilled (state S.Store conn.old).now.trees }
-    requires own { HasCleanDisk (state S.Store conn.old) → (replica : ℕ) → number_of own.now replica ≡ vec (content_in (state S.Store conn.old).now.trees) replica }
-    ensures { Asked (state S.Store conn.old) (state S.Store conn.new) result (λ v. v.items ≡ missing (content_in (state S.Store conn.old).now.trees) (number_of vector.now) limit) }
+    requires idles { WhereClean S.Store conn.old Idles }
+    requires filled { WhereClean S.Store conn.old (Sees IsFilled) }
+    requires own { HasCleanDisk (state S.Store conn.old)
+        → AreLastNumbers own.now (content_of S.Store conn.old) }
+    ensures { LeavesUnchanged (state S.Store conn.old) (state S.Store conn.new) result
+        (λ v. v.items ≡ missing (content_of S.Store conn.old) (number_of vector.now) limit) }
 {
     let mut found = Vec::new(alloc);
     for number in 1..65u8 {

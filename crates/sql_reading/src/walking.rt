@@ -6,19 +6,20 @@ ghost use Rattle.sqlite.specs.State.{HasCleanDisk};
 ghost use Rattle.sqlite.specs.Held.{state};
 ghost use Rattle.stamp.specs.Numbers.{number_of};
 ghost use Rattle.ua_binary.specs.Binary.{node_id, IsNodeId};
-ghost use Rattle.records.specs.Contents.{cut};
-ghost use Rattle.records.specs.Records.{story, is_beyond};
+ghost use Rattle.records.specs.Records.{versions, is_beyond};
 ghost use Rattle.archive.specs.Reading.{times};
-ghost use Rattle.sql_tables.specs.Rows.{content_in, IsFilled};
-ghost use Rattle.sql_tables.specs.State.{Idles, Asked};
-ghost use Rattle.sql_reading.specs.Walking.{moment_at, IsPlace, IsTold, StandsFirst, IsAhead, stretch, values_at, entries_at};
+ghost use Rattle.sql_tables.specs.Rows.{IsFilled};
+ghost use Rattle.sql_tables.specs.State.{Idles, LeavesUnchanged};
+ghost use Rattle.sql_reading.specs.Walking.{IsStartPlace, IsStoryRead, stretch, values_at, entries_at, moment_of, HoldsNext, HoldsFirst};
+ghost use Rattle.sql_tables.specs.Connections.{WhereClean, Sees, content_of};
+ghost use Rattle.sql_reading.specs.Connections.{content_within};
 
-use crate::ahead::{Ahead, next_time, nothing_ahead, rows_to_ask, take_story};
+use crate::lookahead::{Ahead, next_time, nothing_ahead, rows_to_ask, take_story};
 use crate::reads::Story;
 use crate::shown::{push_entries, push_value};
 use archive::{Direction, LogPlace, StoreFault};
 use records::{Entry, Held, Moment, Record};
-use sql_tables::{Place, place_of};
+use sql_tables::{RowTime, place_of};
 use sqlite::{Alter, Connection};
 use stamp::Vector;
 use std::alloc::Global;
@@ -35,12 +36,15 @@ fn covered_story<S: Alter>(
     direction: Direction,
     within: &Vector,
 ) -> Result<Vec<Record>, StoreFault>
-    requires idles { HasCleanDisk (state S.Store conn.old) → Idles (state S.Store conn.old) }
-    requires filled { HasCleanDisk (state S.Store conn.old) → IsFilled (state S.Store conn.old).now.trees }
+    requires idles { WhereClean S.Store conn.old Idles }
+    requires filled { WhereClean S.Store conn.old (Sees IsFilled) }
     requires spelled { bytes.now ≡ node_id.canon node.now }
     requires lawful { IsNodeId node.now }
-    requires first { HasCleanDisk (state S.Store conn.old) → StandsFirst (content_in (state S.Store conn.old).now.trees) node.now direction time ahead.old.records.items ahead.old.ends }
-    ensures { Asked (state S.Store conn.old) (state S.Store conn.new) result (λ v. (v.items ≡ story (cut (content_in (state S.Store conn.old).now.trees) (number_of within.now)) node.now time) × IsAhead (content_in (state S.Store conn.old).now.trees) node.now direction time ahead.new.records.items ahead.new.ends) }
+    requires first { HasCleanDisk (state S.Store conn.old)
+        → HoldsFirst (content_of S.Store conn.old) node.now direction time ahead.old }
+    ensures { LeavesUnchanged (state S.Store conn.old) (state S.Store conn.new) result
+        (λ v. (v.items ≡ versions (content_within S.Store conn.old within.now) node.now time)
+        × HoldsNext (content_of S.Store conn.old) node.now direction time ahead.new) }
 {
     let mut records = take_story(alloc, conn, ahead, node, bytes, time, direction)?;
     keep_covered(&mut records, within);
@@ -48,7 +52,8 @@ fn covered_story<S: Alter>(
 }
 
 fn keep_covered(records: &mut Vec<Record>, within: &Vector)
-    ensures { records.new.items ≡ filter (λ r. not (is_beyond (number_of within.now) r)) records.old.items }
+    ensures { records.new.items
+        ≡ filter (λ r. not (is_beyond (number_of within.now) r)) records.old.items }
 {
     records.retain(|r| within.covers(r.origin, r.number));
 }
@@ -61,20 +66,23 @@ fn next_story<S: Alter>(
     ahead: &mut Ahead,
     node: &NodeId,
     bytes: &[u8],
-    place: &Place,
+    place: &RowTime,
     far: Moment,
     direction: Direction,
     count: u16,
     within: &Vector,
 ) -> Result<Option<Story>, StoreFault>
-    requires idles { HasCleanDisk (state S.Store conn.old) → Idles (state S.Store conn.old) }
-    requires filled { HasCleanDisk (state S.Store conn.old) → IsFilled (state S.Store conn.old).now.trees }
+    requires idles { WhereClean S.Store conn.old Idles }
+    requires filled { WhereClean S.Store conn.old (Sees IsFilled) }
     requires spelled { bytes.now ≡ node_id.canon node.now }
     requires lawful { IsNodeId node.now }
-    requires place { IsPlace direction place.now.pico }
+    requires place { IsStartPlace direction place.now.pico }
     requires some { 0 < count }
-    requires ahead { HasCleanDisk (state S.Store conn.old) → IsAhead (content_in (state S.Store conn.old).now.trees) node.now direction (moment_at place.now.ticks place.now.pico) ahead.old.records.items ahead.old.ends }
-    ensures { Asked (state S.Store conn.old) (state S.Store conn.new) result (λ o. IsTold (content_in (state S.Store conn.old).now.trees) node.now (number_of within.now) direction (moment_at place.now.ticks place.now.pico) far o ahead.new.records.items ahead.new.ends) }
+    requires ahead { HasCleanDisk (state S.Store conn.old) → HoldsNext
+        (content_of S.Store conn.old) node.now direction (moment_of place.now) ahead.old }
+    ensures { LeavesUnchanged (state S.Store conn.old) (state S.Store conn.new) result
+        (λ o. IsStoryRead (content_of S.Store conn.old) node.now (number_of within.now) direction
+        (moment_of place.now) far o ahead.new.records.items ahead.new.ends) }
 {
     let next = next_time(alloc, conn, ahead, node, bytes, place, direction, count)?;
     let Some(time) = next else {
@@ -93,18 +101,21 @@ pub(crate) fn values<S: Alter>(
     conn: &mut Connection<S>,
     node: &NodeId,
     bytes: &[u8],
-    start: Place,
+    start: RowTime,
     far: Moment,
     direction: Direction,
     limit: usize,
     within: &Vector,
 ) -> Result<Vec<Held>, StoreFault>
-    requires idles { HasCleanDisk (state S.Store conn.old) → Idles (state S.Store conn.old) }
-    requires filled { HasCleanDisk (state S.Store conn.old) → IsFilled (state S.Store conn.old).now.trees }
+    requires idles { WhereClean S.Store conn.old Idles }
+    requires filled { WhereClean S.Store conn.old (Sees IsFilled) }
     requires spelled { bytes.now ≡ node_id.canon node.now }
     requires lawful { IsNodeId node.now }
-    requires place { IsPlace direction start.pico }
-    ensures { Asked (state S.Store conn.old) (state S.Store conn.new) result (λ v. v.items ≡ take limit (flat_map (values_at (cut (content_in (state S.Store conn.old).now.trees) (number_of within.now)) node.now) (stretch direction (moment_at start.ticks start.pico) far (times (content_in (state S.Store conn.old).now.trees) node.now)))) }
+    requires place { IsStartPlace direction start.pico }
+    ensures { LeavesUnchanged (state S.Store conn.old) (state S.Store conn.new) result
+        (λ v. v.items ≡ take limit
+        (flat_map (values_at (content_within S.Store conn.old within.now) node.now)
+        (stretch direction (moment_of start) far (times (content_of S.Store conn.old) node.now)))) }
 {
     let mut found = Vec::new(alloc);
     let mut ahead = nothing_ahead(alloc);
@@ -135,19 +146,22 @@ pub(crate) fn entries<S: Alter>(
     conn: &mut Connection<S>,
     node: &NodeId,
     bytes: &[u8],
-    start: Place,
+    start: RowTime,
     far: Moment,
     after: &Option<LogPlace>,
     direction: Direction,
     limit: usize,
     within: &Vector,
 ) -> Result<Vec<Entry>, StoreFault>
-    requires idles { HasCleanDisk (state S.Store conn.old) → Idles (state S.Store conn.old) }
-    requires filled { HasCleanDisk (state S.Store conn.old) → IsFilled (state S.Store conn.old).now.trees }
+    requires idles { WhereClean S.Store conn.old Idles }
+    requires filled { WhereClean S.Store conn.old (Sees IsFilled) }
     requires spelled { bytes.now ≡ node_id.canon node.now }
     requires lawful { IsNodeId node.now }
-    requires place { IsPlace direction start.pico }
-    ensures { Asked (state S.Store conn.old) (state S.Store conn.new) result (λ v. v.items ≡ take limit (flat_map (entries_at (cut (content_in (state S.Store conn.old).now.trees) (number_of within.now)) node.now after.now direction) (stretch direction (moment_at start.ticks start.pico) far (times (content_in (state S.Store conn.old).now.trees) node.now)))) }
+    requires place { IsStartPlace direction start.pico }
+    ensures { LeavesUnchanged (state S.Store conn.old) (state S.Store conn.new) result
+        (λ v. v.items ≡ take limit (flat_map
+        (entries_at (content_within S.Store conn.old within.now) node.now after.now direction)
+        (stretch direction (moment_of start) far (times (content_of S.Store conn.old) node.now)))) }
 {
     let mut found = Vec::new(alloc);
     let mut ahead = nothing_ahead(alloc);

@@ -15,7 +15,15 @@ use Rattle.sqlite_sql.specs.Term.{lit, col, op2}
 use Rattle.sqlite_catalog.specs.Change.{created}
 
 abbrev pub strict : List ℕ → Kind → Bool → Column
-strict name kind needed = record { name = name; kind = kind; is_strict = true; not_null = needed; default = Null; collation = Binary }
+strict name kind needed =
+    record {
+      name = name;
+      kind = kind;
+      is_strict = true;
+      not_null = needed;
+      default = Null;
+      collation = Binary;
+    }
 
 abbrev pub bare : List ℕ → List Column → Table
 bare name columns = record {
@@ -34,46 +42,77 @@ bare name columns = record {
 }
 
 abbrev pub meta : Table
-meta = record (bare (codes "meta") (strict (codes "one") Integer false ∷ strict (codes "format") Integer true ∷ strict (codes "archive") Blob true ∷ strict (codes "replica") Integer true ∷ [])) {
-  key = Some 0;
-  primary = 0 ∷ [];
-  checks = op2 (Compare Eq Binary) (col 1 0) (lit (Int (pos 1))) ∷ [];
-}
+meta =
+    record
+    (bare (codes "meta")
+    (strict (codes "one") Integer false ∷ strict (codes "format") Integer true
+    ∷ strict (codes "archive") Blob true ∷ strict (codes "replica") Integer true ∷ [])) {
+      key = Some 0;
+      primary = 0 ∷ [];
+      checks = op2 (Compare Eq Binary) (col 1 0) (lit (Int (pos 1))) ∷ [];
+    }
 
 abbrev pub records2 : Table
-records2 = record (bare (codes "records2") (strict (codes "origin") Integer true ∷ strict (codes "number") Integer true ∷ strict (codes "tick") Integer true ∷ strict (codes "node") Blob true ∷ strict (codes "time") Integer true
-    ∷ strict (codes "pico") Integer true ∷ strict (codes "asked") Integer true ∷ strict (codes "who") Blob true ∷ strict (codes "value") Blob true ∷ [])) {
+records2 =
+    record
+    (bare (codes "records2")
+    (strict (codes "origin") Integer true ∷ strict (codes "number") Integer true
+    ∷ strict (codes "tick") Integer true ∷ strict (codes "node") Blob true
+    ∷ strict (codes "time") Integer true
+    ∷ strict (codes "pico") Integer true ∷ strict (codes "asked") Integer true
+    ∷ strict (codes "who") Blob true ∷ strict (codes "value") Blob true ∷ [])) {
       primary = 1 ∷ 2 ∷ [];
       uniques = (1 ∷ 2 ∷ []) ∷ (4 ∷ 5 ∷ 6 ∷ 3 ∷ 1 ∷ []) ∷ [];
       orders = plain ∷ plain ∷ [];
     }
 
 abbrev pub currents2 : Table
-currents2 = record (bare (codes "currents2") (strict (codes "node") Blob true ∷ strict (codes "time") Integer true ∷ strict (codes "pico") Integer true ∷ strict (codes "tick") Integer true
-    ∷ strict (codes "origin") Integer true ∷ strict (codes "live") Integer true ∷ strict (codes "extra") Integer true ∷ strict (codes "value") Blob true ∷ [])) {
+currents2 =
+    record
+    (bare (codes "currents2")
+    (strict (codes "node") Blob true ∷ strict (codes "time") Integer true
+    ∷ strict (codes "pico") Integer true ∷ strict (codes "tick") Integer true
+    ∷ strict (codes "origin") Integer true ∷ strict (codes "live") Integer true
+    ∷ strict (codes "extra") Integer true ∷ strict (codes "value") Blob true ∷ [])) {
       primary = 1 ∷ 2 ∷ 3 ∷ [];
       uniques = (1 ∷ 2 ∷ 3 ∷ []) ∷ [];
       orders = plain ∷ [];
     }
 
 abbrev pub vectors : Table
-vectors = record (bare (codes "vectors") (strict (codes "origin") Integer false ∷ strict (codes "number") Integer true ∷ strict (codes "tick") Integer true ∷ [])) {
-  key = Some 0;
-  primary = 0 ∷ [];
-}
+vectors =
+    record
+    (bare (codes "vectors")
+    (strict (codes "origin") Integer false ∷ strict (codes "number") Integer true
+    ∷ strict (codes "tick") Integer true ∷ [])) {
+      key = Some 0;
+      primary = 0 ∷ [];
+    }
 
--- the tables of records and of current values of a store of format 1, whose moments have no picoseconds
+-- the tables of records and of current values of a store of format 1, whose moments have no
+-- picoseconds
 abbrev pub records1 : Table
-records1 = record (bare (codes "records") (strict (codes "origin") Integer true ∷ strict (codes "number") Integer true ∷ strict (codes "tick") Integer true ∷ strict (codes "node") Blob true ∷ strict (codes "time") Integer true
-    ∷ strict (codes "asked") Integer true ∷ strict (codes "who") Blob true ∷ strict (codes "value") Blob true ∷ [])) {
+records1 =
+    record
+    (bare (codes "records")
+    (strict (codes "origin") Integer true ∷ strict (codes "number") Integer true
+    ∷ strict (codes "tick") Integer true ∷ strict (codes "node") Blob true
+    ∷ strict (codes "time") Integer true
+    ∷ strict (codes "asked") Integer true ∷ strict (codes "who") Blob true
+    ∷ strict (codes "value") Blob true ∷ [])) {
       primary = 1 ∷ 2 ∷ [];
       uniques = (1 ∷ 2 ∷ []) ∷ (4 ∷ 5 ∷ 3 ∷ 1 ∷ []) ∷ [];
       orders = plain ∷ plain ∷ [];
     }
 
 abbrev pub currents1 : Table
-currents1 = record (bare (codes "currents") (strict (codes "node") Blob true ∷ strict (codes "time") Integer true ∷ strict (codes "tick") Integer true
-    ∷ strict (codes "origin") Integer true ∷ strict (codes "live") Integer true ∷ strict (codes "extra") Integer true ∷ strict (codes "value") Blob true ∷ [])) {
+currents1 =
+    record
+    (bare (codes "currents")
+    (strict (codes "node") Blob true ∷ strict (codes "time") Integer true
+    ∷ strict (codes "tick") Integer true
+    ∷ strict (codes "origin") Integer true ∷ strict (codes "live") Integer true
+    ∷ strict (codes "extra") Integer true ∷ strict (codes "value") Blob true ∷ [])) {
       primary = 1 ∷ 2 ∷ [];
       uniques = (1 ∷ 2 ∷ []) ∷ [];
       orders = plain ∷ [];
@@ -118,7 +157,9 @@ abbrev pub fourth_table : Table
 fourth_table = record vectors { tree = 6 }
 
 abbrev pub index_of : List ℕ → ℕ → ℕ → List ℕ → Index
-index_of name tree table columns = record { name = name; tree = tree; table = table; columns = columns; order = plain; is_unique = true }
+index_of name tree table columns =
+    record
+    { name = name; tree = tree; table = table; columns = columns; order = plain; is_unique = true }
 
 abbrev pub first_index : Index
 first_index = index_of (codes "sqlite_autoindex_records2_1") 2 1 (1 ∷ 2 ∷ [])
@@ -139,7 +180,10 @@ abbrev pub third_table1 : Table
 third_table1 = record currents1 { tree = 4 }
 
 abbrev pub indexes1 : List Index
-indexes1 = index_of (codes "sqlite_autoindex_records_1") 2 1 (1 ∷ 2 ∷ []) ∷ index_of (codes "sqlite_autoindex_records_2") 3 1 (4 ∷ 5 ∷ 3 ∷ 1 ∷ []) ∷ index_of (codes "sqlite_autoindex_currents_1") 5 4 (1 ∷ 2 ∷ []) ∷ []
+indexes1 =
+    index_of (codes "sqlite_autoindex_records_1") 2 1 (1 ∷ 2 ∷ [])
+    ∷ index_of (codes "sqlite_autoindex_records_2") 3 1 (4 ∷ 5 ∷ 3 ∷ 1 ∷ [])
+    ∷ index_of (codes "sqlite_autoindex_currents_1") 5 4 (1 ∷ 2 ∷ []) ∷ []
 
 -- the tables of an archive, and behind them those of records and current values of format 1
 abbrev pub with_records_beside : Schema

@@ -1,8 +1,8 @@
 //! The schemas of a store's tables over SQLite, and which of them stand in a database.
 #![tactic(auto)]
 
-mod standing;
+mod recognize;
 mod standing_beside;
 mod standing_first;
 
-pub use standing::{Standing, standing_in};
+pub use recognize::{Standing, layout_of};

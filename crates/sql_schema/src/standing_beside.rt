@@ -3,7 +3,7 @@
 ghost use Rattle.std.specs.Prelude.{◌≡◌, ◌++◌, ◌↔◌, IfOk, IsTrue};
 ghost use Rattle.sql_schema.specs.Tables.{first_index, second_index, third_index, names_beside, times_beside, values_beside, key_indexes, indexes_beside, beside_schema};
 
-use crate::standing::{are_of_records, is_currents, is_index, is_meta, is_records, is_vectors};
+use crate::recognize::{are_of_records, is_currents, is_index, is_meta, is_records, is_vectors};
 use crate::standing_first;
 use sqlite_schema::schema::{Index, Schema, Table};
 use std::alloc::{AllocError, Global};
@@ -27,7 +27,9 @@ fn are_tables(alloc: Global, tables: &[Table]) -> Result<bool, AllocError>
 
 /// Whether these are the indexes of an archive's keys.
 fn are_of_archive(names: &Index, moments: &Index, currents: &Index) -> bool
-    ensures { IsTrue result ↔ ((names.now ≡ first_index) × (moments.now ≡ second_index) × (currents.now ≡ third_index)) }
+    ensures { IsTrue result
+        ↔
+        ((names.now ≡ first_index) × (moments.now ≡ second_index) × (currents.now ≡ third_index)) }
 {
     are_of_records(names, moments)
         && is_index(currents, b"sqlite_autoindex_currents2_1", 5, 4, &[1, 2, 3])
@@ -35,7 +37,9 @@ fn are_of_archive(names: &Index, moments: &Index, currents: &Index) -> bool
 
 /// Whether these are the indexes of the other keys.
 fn are_of_first(names: &Index, times: &Index, currents: &Index) -> bool
-    ensures { IsTrue result ↔ ((names.now ≡ names_beside) × (times.now ≡ times_beside) × (currents.now ≡ values_beside)) }
+    ensures { IsTrue result
+        ↔
+        ((names.now ≡ names_beside) × (times.now ≡ times_beside) × (currents.now ≡ values_beside)) }
 {
     is_index(names, b"sqlite_autoindex_records_1", 8, 7, &[1, 2])
         && is_index(times, b"sqlite_autoindex_records_2", 9, 7, &[4, 5, 3, 1])

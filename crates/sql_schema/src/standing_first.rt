@@ -3,7 +3,7 @@
 ghost use Rattle.std.specs.Prelude.{◌≡◌, true, codes, ◌↔◌, IfOk, IsTrue};
 ghost use Rattle.sql_schema.specs.Tables.{strict, records1, currents1, indexes1, schema1};
 
-use crate::standing::{
+use crate::recognize::{
     are_asked, are_keys, are_named, are_no_stamps, are_none, are_plain, are_shown, is_index,
     is_meta, is_named, is_only_key, is_plain, is_strict, is_vectors,
 };
@@ -12,14 +12,22 @@ use std::alloc::{AllocError, Global};
 
 /// Whether these are the columns of a node and a time.
 fn are_timed(node: &Column, time: &Column) -> bool
-    ensures { IsTrue result ↔ ((node.now ≡ strict (codes "node") Kind.Blob true) × (time.now ≡ strict (codes "time") Kind.Integer true)) }
+    ensures { IsTrue result
+        ↔
+        ((node.now ≡ strict (codes "node") Kind.Blob true)
+        × (time.now ≡ strict (codes "time") Kind.Integer true)) }
 {
     is_strict(node, b"node", Kind::Blob, true) && is_strict(time, b"time", Kind::Integer, true)
 }
 
 /// Whether these are the columns of a current value's node, time and stamp.
 fn are_current(node: &Column, time: &Column, tick: &Column, origin: &Column) -> bool
-    ensures { IsTrue result ↔ ((node.now ≡ strict (codes "node") Kind.Blob true) × (time.now ≡ strict (codes "time") Kind.Integer true) × (tick.now ≡ strict (codes "tick") Kind.Integer true) × (origin.now ≡ strict (codes "origin") Kind.Integer true)) }
+    ensures { IsTrue result
+        ↔
+        ((node.now ≡ strict (codes "node") Kind.Blob true)
+        × (time.now ≡ strict (codes "time") Kind.Integer true)
+        × (tick.now ≡ strict (codes "tick") Kind.Integer true)
+        × (origin.now ≡ strict (codes "origin") Kind.Integer true)) }
 {
     are_timed(node, time)
         && is_strict(tick, b"tick", Kind::Integer, true)
@@ -28,7 +36,13 @@ fn are_current(node: &Column, time: &Column, tick: &Column, origin: &Column) -> 
 
 /// Whether these are the columns behind a record's name and tick.
 fn are_behind(node: &Column, time: &Column, asked: &Column, who: &Column, value: &Column) -> bool
-    ensures { IsTrue result ↔ ((node.now ≡ strict (codes "node") Kind.Blob true) × (time.now ≡ strict (codes "time") Kind.Integer true) × (asked.now ≡ strict (codes "asked") Kind.Integer true) × (who.now ≡ strict (codes "who") Kind.Blob true) × (value.now ≡ strict (codes "value") Kind.Blob true)) }
+    ensures { IsTrue result
+        ↔
+        ((node.now ≡ strict (codes "node") Kind.Blob true)
+        × (time.now ≡ strict (codes "time") Kind.Integer true)
+        × (asked.now ≡ strict (codes "asked") Kind.Integer true)
+        × (who.now ≡ strict (codes "who") Kind.Blob true)
+        × (value.now ≡ strict (codes "value") Kind.Blob true)) }
 {
     are_timed(node, time) && are_asked(asked, who, value)
 }

@@ -42,7 +42,7 @@ use Rattle.sqlite.proofs.Callers.{command_of, reads_as, begins_as}
 use Rattle.sqlite_resolve.specs.declared.compiled.Compiled.{Compiled}
 use Rattle.sqlite_resolve.specs.declared.error.CompileError.{CompileError}
 use Rattle.std.proofs.lemmas.List.{map-append, length-append}
-use Rattle.sql_tables.specs.declared.agreeing.Ids.{Ids}
+use Rattle.sql_tables.specs.declared.integrity.Ids.{Ids}
 use Rattle.sqlite_catalog.specs.Listing.{IsSound}
 use Rattle.sqlite_schema.specs.declared.schema.Constraint.TheVariants.{Datatype}
 use Rattle.sql_schema.specs.Tables.{archive_schema, third_table, fourth_table}

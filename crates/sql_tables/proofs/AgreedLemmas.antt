@@ -9,7 +9,7 @@ use Rattle.sqlite_rules.specs.Lists.{Has}
 use Rattle.sqlite_trees.specs.Tree.{Trees, IsAscending}
 use Rattle.sqlite_keyed.proofs.ListLemmas.{ascending-map, ascending-filter}
 use Rattle.records.specs.Lists.{IsPairwise}
-use Rattle.records.specs.Records.{name_cmp, stamp_cmp}
+use Rattle.records.specs.Records.{name_cmp, record_stamp_cmp}
 use Rattle.records.specs.declared.record.Record.{Record}
 use Rattle.records.proofs.CloseLemmas.{closed_names, closed_stamps}
 use Rattle.sql_tables.specs.Words.{cells}
@@ -17,7 +17,7 @@ use Rattle.sql_tables.specs.Derived.{current_of, currents_of, current_columns, i
 use Rattle.sql_tables.specs.Rows.{row_of, IsFilled}
 use Rattle.sqlite.specs.State.{State, HasCleanDisk}
 use Rattle.archive.specs.declared.fault.StoreFault.{StoreFault}
-use Rattle.sql_tables.specs.State.{Asked}
+use Rattle.sql_tables.specs.State.{LeavesUnchanged}
 use Rattle.sql_tables.specs.Agreeing.{HasEach, HasCurrents, HasVectors}
 use Rattle.sql_tables.proofs.AskLemmas.{passed_ok, passed_then, passed_told, passed_asked, passed_fault, early, same_trees}
 use Rattle.archive.specs.Store.{IsOfOpening}
@@ -49,7 +49,7 @@ module _ (cmp : Record → Record → Ordering) (f : Row → Row) (p : Row → B
       weaker [] all = tt
       weaker (x ∷ xs) all = (weaker_each x xs all.0, weaker xs all.1)
 
-same_stamp : (rows : List Row) (a b : Record) → current_of rows (row_of a) ≡ current_of rows (row_of b) → is_eq (stamp_cmp a b) ≡ true
+same_stamp : (rows : List Row) (a b : Record) → current_of rows (row_of a) ≡ current_of rows (row_of b) → is_eq (record_stamp_cmp a b) ≡ true
 same_stamp rows a b e =
     let tick : a.tick ≡ b.tick = ap (λ (r : Row). int_in (column r 3)) e in
     let origin : a.origin ≡ b.origin = by_number (ap (λ (r : Row). int_in (column r 4)) e) in grind (arith, tick, origin)
@@ -72,7 +72,7 @@ there_too xs ys C same_rows all = each_has (Has C) xs (recursion_from_All (Has C
 pub has_currents : (db : Trees) → IsFilled db → AllByRecursion (Has (map current_columns (db 4))) (currents_of (cells (db 1))) → length (currents_of (cells (db 1))) ≡ length (map current_columns (db 4)) → AreNumbered (db 4) → HasCurrents db
 has_currents db (R, l, stand) there many numbered =
     let follow = currents_permuted (map row_of R) (cells (db 1)) stand in
-    let differ = rows_differ stamp_cmp (current_of (map row_of R)) (λ r. not (list_any (is_later r) (map row_of R))) R (closed_stamps R l.closed) (same_stamp (map row_of R)) in
+    let differ = rows_differ record_stamp_cmp (current_of (map row_of R)) (λ r. not (list_any (is_later r) (map row_of R))) R (closed_stamps R l.closed) (same_stamp (map row_of R)) in
     let is = filled_by (currents_of (map row_of R)) (map current_columns (db 4)) differ (there_too _ _ _ follow there) (sym (length_permutation _ _ follow) ∙ many) in
     (IsPermutation-trans _ _ _ (IsPermutation-sym _ _ follow) is, numbered)
 
@@ -85,8 +85,8 @@ has_vectors db (R, l, stand) there many numbered =
 
 -- ---- one question behind the other
 
-pub checked_currents : (a b c d : State) (fit : Bool) (wanted held : ℕ) → (HasCleanDisk a → IsFilled a.now.trees) → Asked a b (Ok fit) (λ f. IsTrue f → HasEach (map current_columns (a.now.trees 4)) (currents_of (cells (a.now.trees 1))))
-    → Asked b c (Ok wanted) (λ n. n ≡ length (currents_of (cells (b.now.trees 1)))) → Asked c d (Ok held) (λ n. (n ≡ length (c.now.trees 4)) × AreNumbered (c.now.trees 4)) → (r : Result Unit StoreFault) → OnOk r (IsTrue fit × (wanted ≡ held)) → IfErr r (λ f. IsOfOpening f → ⊥) → Asked a d r (λ _. HasCurrents a.now.trees)
+pub checked_currents : (a b c d : State) (fit : Bool) (wanted held : ℕ) → (HasCleanDisk a → IsFilled a.now.trees) → LeavesUnchanged a b (Ok fit) (λ f. IsTrue f → HasEach (map current_columns (a.now.trees 4)) (currents_of (cells (a.now.trees 1))))
+    → LeavesUnchanged b c (Ok wanted) (λ n. n ≡ length (currents_of (cells (b.now.trees 1)))) → LeavesUnchanged c d (Ok held) (λ n. (n ≡ length (c.now.trees 4)) × AreNumbered (c.now.trees 4)) → (r : Result Unit StoreFault) → OnOk r (IsTrue fit × (wanted ≡ held)) → IfErr r (λ f. IsOfOpening f → ⊥) → LeavesUnchanged a d r (λ _. HasCurrents a.now.trees)
 checked_currents a b c d fit wanted held filled one two three (Err fault) same met =
     passed_fault a d fault (λ _. HasCurrents a.now.trees) (passed_then a c d (passed_then a b c (passed_ok a b fit _ one) (passed_ok b c wanted _ two)) (passed_ok c d held _ three)) met
 checked_currents a b c d fit wanted held filled one two three (Ok tt) (fits, same_count) met =
@@ -104,8 +104,8 @@ checked_currents a b c d fit wanted held filled one two three (Ok tt) (fits, sam
     let ids = have.1 in
     has_currents a.now.trees (filled start) (one.answer mid fits) (sym many ∙ (same_count ∙ (have.0 ∙ sym (length-map (a.now.trees 4) current_columns)))) ids)
 
-pub checked_vectors : (a b c d : State) (fit : Bool) (wanted held : ℕ) → (HasCleanDisk a → IsFilled a.now.trees) → Asked a b (Ok fit) (λ f. IsTrue f → AreNumbered (a.now.trees 6) → HasEach (map vector_columns (a.now.trees 6)) (vectors_of (cells (a.now.trees 1))))
-    → Asked b c (Ok wanted) (λ n. n ≡ length (vectors_of (cells (b.now.trees 1)))) → Asked c d (Ok held) (λ n. (n ≡ length (c.now.trees 6)) × AreNumbered (c.now.trees 6)) → (r : Result Unit StoreFault) → OnOk r (IsTrue fit × (wanted ≡ held)) → IfErr r (λ f. IsOfOpening f → ⊥) → Asked a d r (λ _. HasVectors a.now.trees)
+pub checked_vectors : (a b c d : State) (fit : Bool) (wanted held : ℕ) → (HasCleanDisk a → IsFilled a.now.trees) → LeavesUnchanged a b (Ok fit) (λ f. IsTrue f → AreNumbered (a.now.trees 6) → HasEach (map vector_columns (a.now.trees 6)) (vectors_of (cells (a.now.trees 1))))
+    → LeavesUnchanged b c (Ok wanted) (λ n. n ≡ length (vectors_of (cells (b.now.trees 1)))) → LeavesUnchanged c d (Ok held) (λ n. (n ≡ length (c.now.trees 6)) × AreNumbered (c.now.trees 6)) → (r : Result Unit StoreFault) → OnOk r (IsTrue fit × (wanted ≡ held)) → IfErr r (λ f. IsOfOpening f → ⊥) → LeavesUnchanged a d r (λ _. HasVectors a.now.trees)
 checked_vectors a b c d fit wanted held filled one two three (Err fault) same met =
     passed_fault a d fault (λ _. HasVectors a.now.trees) (passed_then a c d (passed_then a b c (passed_ok a b fit _ one) (passed_ok b c wanted _ two)) (passed_ok c d held _ three)) met
 checked_vectors a b c d fit wanted held filled one two three (Ok tt) (fits, same_count) met =
@@ -123,7 +123,7 @@ checked_vectors a b c d fit wanted held filled one two three (Ok tt) (fits, same
     let ids = have.1 in
     has_vectors a.now.trees (filled start) (one.answer mid fits ids) (sym many ∙ (same_count ∙ (have.0 ∙ sym (length-map (a.now.trees 6) vector_columns)))) ids)
 
-pub checked_both : (a b c : State) (r : Result Unit StoreFault) → Asked {A = Unit {0}} a b (Ok tt) (λ _. HasCurrents a.now.trees) → Asked b c r (λ _. HasVectors b.now.trees) → Asked a c r (λ _. AreKept a.now.trees)
+pub checked_both : (a b c : State) (r : Result Unit StoreFault) → LeavesUnchanged {A = Unit {0}} a b (Ok tt) (λ _. HasCurrents a.now.trees) → LeavesUnchanged b c r (λ _. HasVectors b.now.trees) → LeavesUnchanged a c r (λ _. AreKept a.now.trees)
 checked_both a b c r one two =
     let first = passed_ok {A = Unit {0}} a b tt (λ _. HasCurrents a.now.trees) one in
     passed_asked a b c r (λ _. HasVectors b.now.trees) (λ _. AreKept a.now.trees) first two (λ clean v vectors.

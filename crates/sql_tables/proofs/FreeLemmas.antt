@@ -18,7 +18,7 @@ use Rattle.sqlite.proofs.Callers.{IsPlain, command_of, reads_as}
 use Rattle.sql_schema.specs.Tables.{archive_schema}
 use Rattle.sql_tables.specs.Words.{cells, columns_of}
 use Rattle.sql_tables.specs.Derived.{AreKept, same, is_of, is_later, is_current_of, current_of, currents_of, current_columns}
-use Rattle.sql_tables.specs.Keeping.{HasNoneOf, IsFree}
+use Rattle.sql_tables.specs.Keeping.{HasNoneOf, HasNoRowAt}
 use Rattle.sql_tables.proofs.Texts.{some_at_text}
 use Rattle.sql_tables.proofs.MadeLemmas.{eq}
 use Rattle.sql_tables.proofs.KeepLemmas.{three_true}
@@ -48,7 +48,7 @@ none_at old new node time pico rows has h none =
     (all_weaker (λ r. keep r ≡ false) (λ r. is_of node time pico (columns_of r) ≡ false) (λ r e. sym (three_true (same (column r 4) (Blob node)) (same (column r 5) (Int time)) (same (column r 6) (Int pico))) ∙ e) (db 1) off)
 
 -- where no record stands, no row of currents2 does
-pub free_by : (node : List ℕ) (time pico : ℤ) (db : Trees) → AreKept db → HasNoneOf node time pico (cells (db 1)) → IsFree node time pico db
+pub free_by : (node : List ℕ) (time pico : ℤ) (db : Trees) → AreKept db → HasNoneOf node time pico (cells (db 1)) → HasNoRowAt node time pico db
 free_by node time pico db kept none = record {
   records = none;
   currents = recursion_from_All P (map current_columns (db 4)) (All-permutation P (currents_of (cells (db 1))) (map current_columns (db 4)) kept.currents (All-from_recursion P (currents_of (cells (db 1))) made));

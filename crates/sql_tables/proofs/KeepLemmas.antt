@@ -39,7 +39,7 @@ use Rattle.sql_schema.specs.Tables.{archive_schema, third_table, fourth_table}
 use Rattle.sql_tables.specs.Words.{cells, cells_of, columns_of}
 use Rattle.sql_tables.specs.State.{Making}
 use Rattle.sql_tables.specs.Derived.{AreNumbered, IsCells, is_of, is_current_of, current_of, current_columns, same, vectors_of, vector_columns}
-use Rattle.sql_tables.specs.Keeping.{KeepsBesideVectors, ChangesVectors, SetsVectors, KeepsBesideCurrents, DropsCurrent, PutsCurrents, ChangesCurrents, AddsRecord, IsFree, IsOnly, currents_where, is_vector_of, DropsVector, PutsVectors, vector_cells}
+use Rattle.sql_tables.specs.Keeping.{KeepsBesideVectors, ChangesVectors, SetsVectors, KeepsBesideCurrents, DropsCurrent, PutsCurrents, ChangesCurrents, AddsRecord, HasNoRowAt, IsOnly, currents_where, is_vector_of, DropsVector, PutsVectors, vector_cells}
 use Rattle.sql_tables.proofs.Texts.{drop_current_text, add_current_text, first_current_text, fill_currents_text, add_vector_text, set_vector_text, fill_vectors_text}
 use Rattle.sql_tables.proofs.WriteLemmas.{apart_by, cast_int}
 use Rattle.sql_tables.proofs.RemoveLemmas.{ids_where, left_without, same_taken}
@@ -423,7 +423,7 @@ fills_vectors old new (Ok count) was h =
     )
 
 -- where nothing stood at the node and time of a row, it is the only one there once it is added
-pub only_by : (row : Row) (node : List ℕ) (time pico : ℤ) (old added : Trees) → AddsRecord row old added → IsFree node time pico old → IsOnly row node time pico added
+pub only_by : (row : Row) (node : List ℕ) (time pico : ℤ) (old added : Trees) → AddsRecord row old added → HasNoRowAt node time pico old → IsOnly row node time pico added
 only_by row node time pico old added adds free = record {
   others = cells (old 1);
   records = adds.records;

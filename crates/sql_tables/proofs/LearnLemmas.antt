@@ -29,7 +29,7 @@ use Rattle.sql_tables.specs.Words.{cells}
 use Rattle.sql_tables.specs.Rows.{row_of, content_in, IsFilled, AreRecords}
 use Rattle.sql_tables.specs.Derived.{AreKept, IsNextRow}
 use Rattle.sql_tables.specs.State as state
-use Rattle.sql_tables.specs.State.{Idles, Stays, Asked}
+use Rattle.sql_tables.specs.State.{Idles, KeepsState, LeavesUnchanged}
 use Rattle.sql_tables.specs.Learning.{Stored, Follows, Learned, IsCommitOf, IsLast, beyond, reached, is_added}
 use Rattle.sql_tables.proofs.RowLemmas.{content_is}
 use Rattle.sql_tables.proofs.KeptLemmas.{next_row}
@@ -84,11 +84,11 @@ adds_by TickNotRising e = absurd (true≢false (sym e))
 abbrev pub Judges : State → Record → Result Bool LearnFault → Type 0
 Judges a r told = told ≡ answer_to (finding (content_in a.now.trees) r)
 
-same_trees : (a b : State) → Stays a b → b.now.trees ≡ a.now.trees
+same_trees : (a b : State) → KeepsState a b → b.now.trees ≡ a.now.trees
 same_trees a b s = ap (λ (d : Database). d.trees) s.same
 
 -- a record that isn't added changes nothing
-pub judged_only : (a b : State) (r : Record) (told : Result Bool LearnFault) → (HasCleanDisk a → IsFilled a.now.trees) → (HasCleanDisk a → AreKept a.now.trees) → (HasCleanDisk b → HasCleanDisk a) → Asked a b (Ok told) (Judges a r) → is_added told ≡ false → Learned a b r (Ok told)
+pub judged_only : (a b : State) (r : Record) (told : Result Bool LearnFault) → (HasCleanDisk a → IsFilled a.now.trees) → (HasCleanDisk a → AreKept a.now.trees) → (HasCleanDisk b → HasCleanDisk a) → LeavesUnchanged a b (Ok told) (Judges a r) → is_added told ≡ false → Learned a b r (Ok told)
 judged_only a b r told filled kept early asked none = record {
   answered = λ clean.
       let s = asked.kept clean refl in
@@ -108,11 +108,11 @@ judged_only a b r told filled kept early asked none = record {
   crash = survives_weaker a b _ _ (λ clean db none. absurd none) asked.crash;
 }
 
-pub next_by : (a b : State) (r : Record) (told : Result Bool LearnFault) → Asked a b (Ok told) (Judges a r) → is_added told ≡ true → HasCleanDisk b → finding (content_in b.now.trees) r ≡ Adds
+pub next_by : (a b : State) (r : Record) (told : Result Bool LearnFault) → LeavesUnchanged a b (Ok told) (Judges a r) → is_added told ≡ true → HasCleanDisk b → finding (content_in b.now.trees) r ≡ Adds
 next_by a b r told asked some clean =
     ap (λ t. finding (content_in t) r) (same_trees a b (asked.kept clean refl)) ∙ adds_by (finding (content_in a.now.trees) r) (ap is_added (sym (asked.answer clean)) ∙ some)
 
-pub stored_as : (a b : State) (r : Record) (row : Row) (result : Result Unit StoreFault) → row ≡ row_of r → (HasCleanDisk b → OnOk result (Idles b × state.Adds row a.now.trees b.now.trees)) → (HasCleanDisk b → IfErr result (λ fault. fault ≢ Broken → Stays a b))
+pub stored_as : (a b : State) (r : Record) (row : Row) (result : Result Unit StoreFault) → row ≡ row_of r → (HasCleanDisk b → OnOk result (Idles b × state.Adds row a.now.trees b.now.trees)) → (HasCleanDisk b → IfErr result (λ fault. fault ≢ Broken → KeepsState a b))
     → IfErr result (λ fault. IsOfOpening fault → ⊥) → Survives a b (state.Adds row a.now.trees) → Stored a b r result
 stored_as a b r row result is added refused met crash = record {
   added = λ clean. subst (λ x. OnOk result (Idles b × state.Adds x a.now.trees b.now.trees)) is (added clean);
@@ -121,7 +121,7 @@ stored_as a b r row result is added refused met crash = record {
   crash = subst (λ x. Survives a b (state.Adds x a.now.trees)) is crash;
 }
   where
-    kept : (x : Result Unit StoreFault) → is_broken (fault_in x) ≡ false → IfErr x (λ fault. fault ≢ Broken → Stays a b) → IfErr x (λ _. Stays a b)
+    kept : (x : Result Unit StoreFault) → is_broken (fault_in x) ≡ false → IfErr x (λ fault. fault ≢ Broken → KeepsState a b) → IfErr x (λ _. KeepsState a b)
     kept (Ok t) ok h = tt
     kept (Err f) ok h = h (λ e. absurd (true≢false (sym (ap (λ g. is_broken (Some g)) e) ∙ ok)))
 
@@ -144,7 +144,7 @@ stored_err a b r fault early filled lawful next stored = record {
 }
 
 -- what is learned behind a judgement is learned
-pub judged_then : (a b c : State) (r : Record) (told : Result Bool LearnFault) (result : Result (Result Bool LearnFault) StoreFault) → (HasCleanDisk c → HasCleanDisk b) → Asked a b (Ok told) (Judges a r) → Learned b c r result → Learned a c r result
+pub judged_then : (a b c : State) (r : Record) (told : Result Bool LearnFault) (result : Result (Result Bool LearnFault) StoreFault) → (HasCleanDisk c → HasCleanDisk b) → LeavesUnchanged a b (Ok told) (Judges a r) → Learned b c r result → Learned a c r result
 judged_then a b c r told result early asked one = record {
   answered = λ clean. go result (same clean) (one.answered clean);
   kept = λ clean ok. kept result (λ s. record { idles = s.idles; same = s.same ∙ (asked.kept (early clean) refl).same }) (one.kept clean ok);
@@ -160,7 +160,7 @@ judged_then a b c r told result early asked one = record {
     go (Ok t) e h = (h.0 ∙ ap (λ d. answer_to (finding (content_in d) r)) e, h.1, subst (λ d. Follows r d c.now.trees) e h.2)
     go (Err f) e h = tt
 
-    kept : (x : Result (Result Bool LearnFault) StoreFault) → (Stays b c → Stays a c) → IfErr x (λ _. Stays b c) → IfErr x (λ _. Stays a c)
+    kept : (x : Result (Result Bool LearnFault) StoreFault) → (KeepsState b c → KeepsState a c) → IfErr x (λ _. KeepsState b c) → IfErr x (λ _. KeepsState a c)
     kept (Ok t) f h = tt
     kept (Err e) f h = f h
 
@@ -184,5 +184,5 @@ pub next_of : (r : Record) (db : Trees) → IsFilled db → finding (content_in 
 next_of r db (R, l, stand) adds = next_row R r db stand (subst (λ S. finding S r ≡ Adds) (content_is R db l stand) adds)
 
 -- behind a judgement the tables are as they were
-pub kept_behind : {A : Type 0} (a b : State) (told : A) (P : A → Type 0) → (HasCleanDisk a → AreKept a.now.trees) → Asked a b (Ok told) P → (HasCleanDisk b → HasCleanDisk a) → HasCleanDisk b → AreKept b.now.trees
+pub kept_behind : {A : Type 0} (a b : State) (told : A) (P : A → Type 0) → (HasCleanDisk a → AreKept a.now.trees) → LeavesUnchanged a b (Ok told) P → (HasCleanDisk b → HasCleanDisk a) → HasCleanDisk b → AreKept b.now.trees
 kept_behind a b told P kept asked early clean = subst AreKept (sym (same_trees a b (asked.kept clean refl))) (kept (early clean))

@@ -36,7 +36,7 @@ use Rattle.sqlite.specs.State.{State, Shown, Begins, IsStatement, ShowsRows, IsU
 use Rattle.sqlite.specs.Clock.{timed}
 use Rattle.sqlite.proofs.Callers.{IsPlain, EndsIn, command_of, reads_as, begins_shown}
 use Rattle.sql_schema.specs.Tables.{archive_schema}
-use Rattle.sql_tables.specs.Words.{columns_of, cells, is_at, is_named, is_behind, is_after, is_before, IsPage, name_order, moment_order, stamp_cmp}
+use Rattle.sql_tables.specs.Words.{columns_of, cells, is_at, is_named, is_behind, is_after, is_before, IsPage, name_order, moment_order, row_stamp_cmp}
 use Rattle.sql_tables.specs.State.{AreAt, HasMeta, shown_of}
 use Rattle.sql_tables.specs.Rows.{meta_columns, meta_cells}
 use Rattle.sql_tables.specs.Derived.{current_columns, vector_columns}
@@ -174,7 +174,7 @@ finds_at old new node time pico rows has h =
     let same : rows ≡ all.0 = all.3 in
     record {
       same = subst (IsPermutation (filter (is_at node time pico) (cells (old.now.trees 1)))) (sym same) all.1;
-      sorted = subst (IsSorted stamp_cmp) (sym same) (sorted_alike (λ a b. key_cmp 0 (map (λ (k : Term × Key). k.1) by_stamp) (column a 2 ∷ column a 0 ∷ []) (column b 2 ∷ column b 0 ∷ [])) stamp_cmp (λ a b. ap (ordering_then (value_cmp (column a 2) (column b 2))) (then-Equal (value_cmp (column a 0) (column b 0)))) all.0 all.2);
+      sorted = subst (IsSorted row_stamp_cmp) (sym same) (sorted_alike (λ a b. key_cmp 0 (map (λ (k : Term × Key). k.1) by_stamp) (column a 2 ∷ column a 0 ∷ []) (column b 2 ∷ column b 0 ∷ [])) row_stamp_cmp (λ a b. ap (ordering_then (value_cmp (column a 2) (column b 2))) (then-Equal (value_cmp (column a 0) (column b 0)))) all.0 all.2);
     }
 
 -- a query changes nothing

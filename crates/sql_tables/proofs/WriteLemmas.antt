@@ -16,7 +16,7 @@ use Rattle.sqlite_schema.specs.declared.schema.Kind.TheVariants.{Integer}
 use Rattle.sqlite_schema.specs.declared.command.Source.TheVariants.{Values}
 use Rattle.sqlite_schema.specs.declared.command.Command.TheVariants.{Insert, CreateTable}
 use Rattle.sql_tables.specs.Keeping.{AddsRecord}
-use Rattle.sql_tables.specs.State.{KeepsFirst, AreEmpty, Rests, Holds, Idles, Stays, Making, Makes, IsNewArchive}
+use Rattle.sql_tables.specs.State.{KeepsFirst, AreEmpty, IsOpenAndIdle, Holds, Idles, KeepsState, Making, Makes, IsNewArchive}
 use Rattle.sqlite_resolve.specs.Compile.{table_defined_by}
 use Rattle.sqlite_rules.specs.Edit.{edit_of, is_taken, are_fresh, numbered, with_rowid, put_all}
 use Rattle.sqlite_rules.specs.Cast.{cast, cast_row}
@@ -238,15 +238,15 @@ fills_meta name replica old new (Ok count) was empty h =
       h.1.committed_is,
     )
 
-pub holds_as : (old new : State) → Rests old → IsUnchanged old new → Holds old new
+pub holds_as : (old new : State) → IsOpenAndIdle old → IsUnchanged old new → Holds old new
 holds_as old new was (shown, counts, marks) = record { rests = record { is_open = shown.is_open; autocommit = shown.mode ∙ was.autocommit; settled = shown.committed_is ∙ was.settled ∙ sym shown.now_is }; same = shown.now_is }
 
-holds_after : (old new : State) → Rests old → IsTrue new.is_open → IsRolledBack old new → Holds old new
+holds_after : (old new : State) → IsOpenAndIdle old → IsTrue new.is_open → IsRolledBack old new → Holds old new
 holds_after old new was is_open back =
     let both = back.undone is_open in record { rests = record { is_open = is_open; autocommit = back.autocommit; settled = both.1 ∙ sym both.0 }; same = both.0 ∙ was.settled }
 
 -- what a query that fails leaves
-pub fails_query : (sql : List ℕ) (params : Row) (old new : State) (e : Error) → IsPlain (understood old.now.schema sql) → Rests old → IsTrue new.is_open → FailsToQuery sql params old new e → Holds old new
+pub fails_query : (sql : List ℕ) (params : Row) (old new : State) (e : Error) → IsPlain (understood old.now.schema sql) → IsOpenAndIdle old → IsTrue new.is_open → FailsToQuery sql params old new e → Holds old new
 unfolding FailsToQuery IsNotRun
 fails_query sql params old new e plain was is_open (inl (inl kept)) = holds_as old new was kept.1
 fails_query sql params old new e plain was is_open (inl (inr failed)) = holds_after old new was is_open failed.3
@@ -255,7 +255,7 @@ fails_query sql params old new e plain was is_open (inr h) =
     let shown = subst (FailsToShow old new sql h.0 (timed params h.0.formats h.1.now) e) none h.2 in holds_as old new was shown.3
 
 -- what a transaction that failed leaves
-pub stays_behind : (a b c : State) → Idles a → Rests b → b.now ≡ a.committed → IsUnchanged b c → Stays a c
+pub stays_behind : (a b c : State) → Idles a → IsOpenAndIdle b → b.now ≡ a.committed → IsUnchanged b c → KeepsState a c
 stays_behind a b c was rests back same =
     let h = holds_as b c rests same in
     let all : c.now ≡ a.now = h.same ∙ back ∙ was.settled in

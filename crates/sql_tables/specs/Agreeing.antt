@@ -1,4 +1,5 @@
--- Whether currents2 and vectors hold the rows that follow from those of records2, as an opening finds out.
+-- Whether currents2 and vectors hold the rows that follow from those of records2, as an opening
+-- finds out.
 use Rattle.std.specs.Prelude.{◌≡◌, ◌⊎◌, ℕ, ◌-◌, ◌^◌, ◌≤◌, ℤ, ◌<ℤ◌, ◌≤ℤ◌, List, [], length, map, IsPermutation, None, IfSome, Result, Ok, Err}
 use Rattle.std.specs.List.{AllByRecursion}
 use Rattle.sqlite_value.specs.declared.value.Value.TheVariants.{Int}
@@ -11,7 +12,7 @@ use Rattle.sqlite_rules.specs.Lists.{Has}
 use Rattle.sqlite_trees.specs.Tree.{Trees, IsAscending}
 use Rattle.sqlite.specs.Effect.{Database, Reads, ReadsFirst}
 use Rattle.sqlite.specs.Listing.{understood}
-use Rattle.sql_tables.specs.declared.agreeing.Ids.{Ids}
+use Rattle.sql_tables.specs.declared.integrity.Ids.{Ids}
 use Rattle.sql_schema.specs.Tables.{archive_schema}
 use Rattle.sql_tables.specs.Words.{cells}
 use Rattle.sql_tables.specs.Derived.{AreNumbered, currents_of, current_columns, vectors_of, vector_columns}
@@ -62,8 +63,10 @@ HasEach rows = AllByRecursion (Has rows)
 
 -- currents2 holds what follows from records2
 abbrev pub HasCurrents : Trees → Type 0
-HasCurrents db = IsPermutation (currents_of (cells (db 1))) (map current_columns (db 4)) × AreNumbered (db 4)
+HasCurrents db =
+    IsPermutation (currents_of (cells (db 1))) (map current_columns (db 4)) × AreNumbered (db 4)
 
 -- and so does vectors
 abbrev pub HasVectors : Trees → Type 0
-HasVectors db = IsPermutation (vectors_of (cells (db 1))) (map vector_columns (db 6)) × AreNumbered (db 6)
+HasVectors db =
+    IsPermutation (vectors_of (cells (db 1))) (map vector_columns (db 6)) × AreNumbered (db 6)

@@ -28,23 +28,50 @@ is_live c = is_eq (value_cmp (column c 5) (Int (pos 1)))
 -- a live row of this node, after a place and up to a far one, as SQL compares
 abbrev pub is_live_after : List ℕ → ℤ → ℤ → ℤ → ℤ → Row → Bool
 is_live_after node time pico far far_pico c =
-    is_eq (value_cmp (column c 0) (Bytes node)) && (is_true (binary (Compare Ge Binary) (column c 1) (Int time)) && (is_true (binary Or (binary (Compare Gt Binary) (column c 1) (Int time)) (binary (Compare Gt Binary) (column c 2) (Int pico)))
-    && (is_true (binary (Compare Le Binary) (column c 1) (Int far)) && (is_true (binary Or (binary (Compare Lt Binary) (column c 1) (Int far)) (binary (Compare Le Binary) (column c 2) (Int far_pico))) && is_live c))))
+    is_eq (value_cmp (column c 0) (Bytes node))
+    &&
+    (is_true (binary (Compare Ge Binary) (column c 1) (Int time))
+    &&
+    (is_true
+    (binary Or (binary (Compare Gt Binary) (column c 1) (Int time))
+    (binary (Compare Gt Binary) (column c 2) (Int pico)))
+    &&
+    (is_true (binary (Compare Le Binary) (column c 1) (Int far))
+    &&
+    (is_true
+    (binary Or (binary (Compare Lt Binary) (column c 1) (Int far))
+    (binary (Compare Le Binary) (column c 2) (Int far_pico))) && is_live c))))
 
 -- the same before it, down to the far one
 abbrev pub is_live_before : List ℕ → ℤ → ℤ → ℤ → ℤ → Row → Bool
 is_live_before node time pico far far_pico c =
-    is_eq (value_cmp (column c 0) (Bytes node)) && (is_true (binary (Compare Le Binary) (column c 1) (Int time)) && (is_true (binary Or (binary (Compare Lt Binary) (column c 1) (Int time)) (binary (Compare Lt Binary) (column c 2) (Int pico)))
-    && (is_true (binary (Compare Ge Binary) (column c 1) (Int far)) && (is_true (binary Or (binary (Compare Gt Binary) (column c 1) (Int far)) (binary (Compare Ge Binary) (column c 2) (Int far_pico))) && is_live c))))
+    is_eq (value_cmp (column c 0) (Bytes node))
+    &&
+    (is_true (binary (Compare Le Binary) (column c 1) (Int time))
+    &&
+    (is_true
+    (binary Or (binary (Compare Lt Binary) (column c 1) (Int time))
+    (binary (Compare Lt Binary) (column c 2) (Int pico)))
+    &&
+    (is_true (binary (Compare Ge Binary) (column c 1) (Int far))
+    &&
+    (is_true
+    (binary Or (binary (Compare Gt Binary) (column c 1) (Int far))
+    (binary (Compare Ge Binary) (column c 2) (Int far_pico))) && is_live c))))
 
 -- by time and picoseconds
 abbrev pub current_order : Row → Row → Ordering
-current_order a b = ordering_then (value_cmp (column a 1) (column b 1)) (value_cmp (column a 2) (column b 2))
+current_order a b =
+    ordering_then (value_cmp (column a 1) (column b 1)) (value_cmp (column a 2) (column b 2))
 
--- of the rows of currents2 the first so many live ones of a node, in the direction, beyond a place and up to a far one
-abbrev pub AreNextCurrents : Direction → List ℕ → ℤ → ℤ → ℤ → ℤ → Option ℕ → List Row → List Row → Type 0
-AreNextCurrents Forward node time pico far far_pico = IsPage (is_live_after node time pico far far_pico) current_order
-AreNextCurrents Backward node time pico far far_pico = IsPage (is_live_before node time pico far far_pico) (λ a b. current_order b a)
+-- of the rows of currents2 the first so many live ones of a node, in the direction, beyond a place
+-- and up to a far one
+abbrev pub AreNextCurrents : Direction → List ℕ → ℤ → ℤ → ℤ → ℤ → Option ℕ → List Row → List Row
+    → Type 0
+AreNextCurrents Forward node time pico far far_pico =
+    IsPage (is_live_after node time pico far far_pico) current_order
+AreNextCurrents Backward node time pico far far_pico =
+    IsPage (is_live_before node time pico far far_pico) (λ a b. current_order b a)
 
 -- ---- what a row shows
 
@@ -54,4 +81,12 @@ values_in (Err e) = []
 
 -- the live value that a row of currents2 stands for, if there is one
 abbrev pub helds_in : Row → List Held
-helds_in c = map (λ v. record { time = moment (int_in (column c 1)) (number_in (column c 2)); value = v; extra = not (int_eq (int_in (column c 6)) (pos 0)) }) (values_in (data_value.read (bytes (column c 7))))
+helds_in c =
+    map
+    (λ v.
+    record {
+      time = moment (int_in (column c 1)) (number_in (column c 2));
+      value = v;
+      extra = not (int_eq (int_in (column c 6)) (pos 0));
+    })
+    (values_in (data_value.read (bytes (column c 7))))

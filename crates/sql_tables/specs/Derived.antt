@@ -28,16 +28,29 @@ same a b = is_true (binary (Compare Eq Binary) a b)
 abbrev pub above : Value → Value → Bool
 above a b = is_true (binary (Compare Gt Binary) a b)
 
--- the second row of records2 is of the first one's node, time and picoseconds, and its stamp is later
+-- the second row of records2 is of the first one's node, time and picoseconds, and its stamp is
+-- later
 abbrev pub is_later : Row → Row → Bool
 is_later r s =
-    same (column s 3) (column r 3) && (same (column s 4) (column r 4) && (same (column s 5) (column r 5)
-    && (is_true (binary (Compare Ge Binary) (column s 2) (column r 2)) && is_true (binary Or (binary (Compare Gt Binary) (column s 2) (column r 2)) (binary (Compare Gt Binary) (column s 0) (column r 0))))))
+    same (column s 3) (column r 3)
+    && (same (column s 4) (column r 4) && (same (column s 5) (column r 5)
+    &&
+    (is_true (binary (Compare Ge Binary) (column s 2) (column r 2))
+    && is_true
+    (binary Or (binary (Compare Gt Binary) (column s 2) (column r 2))
+    (binary (Compare Gt Binary) (column s 0) (column r 0))))))
 
 -- it is of that node, time and picoseconds, and its stamp is another
 abbrev pub is_other : Row → Row → Bool
 is_other r s =
-    same (column s 3) (column r 3) && (same (column s 4) (column r 4) && (same (column s 5) (column r 5) && is_true (binary Or (binary (Compare Ne Binary) (column s 2) (column r 2)) (binary (Compare Ne Binary) (column s 0) (column r 0)))))
+    same (column s 3) (column r 3)
+    &&
+    (same (column s 4) (column r 4)
+    &&
+    (same (column s 5) (column r 5)
+    && is_true
+    (binary Or (binary (Compare Ne Binary) (column s 2) (column r 2))
+    (binary (Compare Ne Binary) (column s 0) (column r 0)))))
 
 -- it is of the first one's origin, and its number is greater
 abbrev pub is_newer : Row → Row → Bool
@@ -48,12 +61,16 @@ is_newer r s = same (column s 0) (column r 0) && above (column s 1) (column r 1)
 abbrev pub flag : Bool → Value
 flag b = Int (pos (if b then 1 else 0))
 
--- the row of currents2 for a row of records2: node, time, picoseconds, tick, origin; 0 where that deletes, and else 1; 1 where others stand at its moment, and else 0; the value
+-- the row of currents2 for a row of records2: node, time, picoseconds, tick, origin; 0 where that
+-- deletes, and else 1; 1 where others stand at its moment, and else 0; the value
 abbrev pub current_of : List Row → Row → Row
 current_of rows r =
-    column r 3 ∷ column r 4 ∷ column r 5 ∷ column r 2 ∷ column r 0 ∷ binary (Compare Ne Binary) (column r 6) (Int (pos 4)) ∷ flag (list_any (is_other r) rows) ∷ column r 8 ∷ []
+    column r 3 ∷ column r 4 ∷ column r 5 ∷ column r 2 ∷ column r 0
+    ∷ binary (Compare Ne Binary) (column r 6) (Int (pos 4)) ∷ flag (list_any (is_other r) rows)
+    ∷ column r 8 ∷ []
 
--- the rows of currents2: one for each row of records2 with no later one at its node, time and picoseconds
+-- the rows of currents2: one for each row of records2 with no later one at its node, time and
+-- picoseconds
 abbrev pub currents_of : List Row → List Row
 currents_of rows = map (current_of rows) (filter (λ r. not (list_any (is_later r) rows)) rows)
 
@@ -68,7 +85,9 @@ vectors_of rows = map last_of (filter (λ r. not (list_any (is_newer r) rows)) r
 -- ---- the tables
 
 abbrev pub current_columns : Row → Row
-current_columns r = column r 1 ∷ column r 2 ∷ column r 3 ∷ column r 4 ∷ column r 5 ∷ column r 6 ∷ column r 7 ∷ column r 8 ∷ []
+current_columns r =
+    column r 1 ∷ column r 2 ∷ column r 3 ∷ column r 4 ∷ column r 5 ∷ column r 6 ∷ column r 7
+    ∷ column r 8 ∷ []
 
 -- a row of vectors by its columns, the rowid as the first of them
 abbrev pub vector_columns : Row → Row
@@ -100,17 +119,24 @@ pub record IsCells (c : Row) : Type 0 where
 
 -- the row of records2 is of this node, time and picoseconds
 abbrev pub is_of : List ℕ → ℤ → ℤ → Row → Bool
-is_of node time pico c = same (column c 3) (Bytes node) && (same (column c 4) (Int time) && same (column c 5) (Int pico))
+is_of node time pico c =
+    same (column c 3) (Bytes node) && (same (column c 4) (Int time) && same (column c 5) (Int pico))
 
 -- the row of currents2 is
 abbrev pub is_current_of : List ℕ → ℤ → ℤ → Row → Bool
-is_current_of node time pico c = same (column c 0) (Bytes node) && (same (column c 1) (Int time) && same (column c 2) (Int pico))
+is_current_of node time pico c =
+    same (column c 0) (Bytes node) && (same (column c 1) (Int time) && same (column c 2) (Int pico))
 
 -- no row is newer than this one, and it is newer than each of its origin
 abbrev pub IsNewest : Row → List Row → Type 0
-IsNewest n rows = (is_newer n n ≡ false) × AllByRecursion (λ r. (is_newer n r ≡ false) × (same (column r 0) (column n 0) ≡ true → is_newer r n ≡ true)) rows
+IsNewest n rows =
+    (is_newer n n ≡ false)
+    × AllByRecursion
+    (λ r. (is_newer n r ≡ false)
+    × (same (column r 0) (column n 0) ≡ true → is_newer r n ≡ true)) rows
 
--- the rows of records2 have columns of their kinds, and so has this one, which is the newest of its origin
+-- the rows of records2 have columns of their kinds, and so has this one, which is the newest of its
+-- origin
 pub record IsNextRow (row : Row) (db : Trees) : Type 0 where
   pub each : AllByRecursion IsCells (cells (db 1))
   pub it : IsCells row

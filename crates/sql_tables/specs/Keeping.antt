@@ -1,4 +1,5 @@
--- The writes of one record in one transaction: its row, and the rows of currents2 and of vectors that it changes.
+-- The writes of one record in one transaction: its row, and the rows of currents2 and of vectors
+-- that it changes.
 use Rattle.std.specs.Prelude.{◌≡◌, true, false, ℕ, ℤ, not, ◌&&◌, Bool, List, [], ◌∷◌, ◌++◌, map, filter, IsPermutation}
 use Rattle.std.specs.List.{list_any, AllByRecursion}
 use Rattle.sqlite_value.specs.declared.value.Value.TheVariants.{Int}
@@ -32,16 +33,20 @@ pub record KeepsBesideVectors (old new : Trees) : Type 0 where
 -- currents2 has no row of this node, time and picoseconds any more
 pub record DropsCurrent (node : List ℕ) (time pico : ℤ) (old new : Trees) : Type 0 where
   pub rest : KeepsBesideCurrents old new
-  pub left : AreNumbered (old 4) → new 4 ≡ filter (λ r. not (is_current_of node time pico (current_columns r))) (old 4)
+  pub left : AreNumbered (old 4)
+      → new 4 ≡ filter (λ r. not (is_current_of node time pico (current_columns r))) (old 4)
 
 -- the rows of currents2 that rows of records2 make, where these pass
 abbrev pub currents_where : (Row → Bool) → List Row → List Row
-currents_where q rows = map (current_of rows) (filter (λ r. q r && not (list_any (is_later r) rows)) rows)
+currents_where q rows =
+    map (current_of rows) (filter (λ r. q r && not (list_any (is_later r) rows)) rows)
 
 -- currents2 has these rows more
 pub record PutsCurrents (q : Row → Bool) (old new : Trees) : Type 0 where
   pub rest : KeepsBesideCurrents old new
-  pub more : AllByRecursion IsCells (cells (old 1)) → IsPermutation (currents_where q (cells (old 1)) ++ map current_columns (old 4)) (map current_columns (new 4))
+  pub more : AllByRecursion IsCells (cells (old 1))
+      → IsPermutation (currents_where q (cells (old 1)) ++ map current_columns (old 4))
+      (map current_columns (new 4))
   pub numbered : AreNumbered (old 4) → AreNumbered (new 4)
 
 -- the row of vectors is of this origin
@@ -51,12 +56,15 @@ is_vector_of origin c = same (column c 0) (Int origin)
 -- vectors has no row of this origin any more
 pub record DropsVector (origin : ℤ) (old new : Trees) : Type 0 where
   pub rest : KeepsBesideVectors old new
-  pub left : AreNumbered (old 6) → new 6 ≡ filter (λ r. not (is_vector_of origin (vector_columns r))) (old 6)
+  pub left : AreNumbered (old 6)
+      → new 6 ≡ filter (λ r. not (is_vector_of origin (vector_columns r))) (old 6)
 
 -- vectors has these rows more
 pub record PutsVectors (rows : List Row → List Row) (old new : Trees) : Type 0 where
   pub rest : KeepsBesideVectors old new
-  pub more : AllByRecursion IsCells (cells (old 1)) → IsPermutation (rows (cells (old 1)) ++ map vector_columns (old 6)) (map vector_columns (new 6))
+  pub more : AllByRecursion IsCells (cells (old 1))
+      → IsPermutation (rows (cells (old 1)) ++ map vector_columns (old 6))
+      (map vector_columns (new 6))
   pub numbered : AreNumbered (old 6) → AreNumbered (new 6)
 
 abbrev pub vector_cells : ℤ → ℤ → ℤ → Row
@@ -75,7 +83,8 @@ pub record ChangesVectors (row : Row) (origin : ℤ) (old new : Trees) : Type 0 
   pub put : PutsVectors (λ _. row ∷ []) between new
   pub lists : Lists (new catalog_tree) archive_schema
 
--- so many rows of vectors were of this origin: where none was, none is gone, and where one was, it is another now
+-- so many rows of vectors were of this origin: where none was, none is gone, and where one was, it
+-- is another now
 pub record SetsVectors (count : ℕ) (row : Row) (origin : ℤ) (old new : Trees) : Type 0 where
   pub none : count ≡ 0 → DropsVector origin old new
   pub one : count ≡ 1 → ChangesVectors row origin old new
@@ -85,16 +94,19 @@ abbrev pub HasNoneOf : List ℕ → ℤ → ℤ → List Row → Type 0
 HasNoneOf node time pico = AllByRecursion (λ c. is_of node time pico c ≡ false)
 
 -- no row of records2 is of this node, time and picoseconds, and none of currents2
-pub record IsFree (node : List ℕ) (time pico : ℤ) (db : Trees) : Type 0 where
+pub record HasNoRowAt (node : List ℕ) (time pico : ℤ) (db : Trees) : Type 0 where
   pub records : HasNoneOf node time pico (cells (db 1))
-  pub currents : AllByRecursion (λ c. is_current_of node time pico c ≡ false) (map current_columns (db 4))
+  pub currents : AllByRecursion (λ c. is_current_of node time pico c ≡ false)
+      (map current_columns (db 4))
 
--- of the rows of records2 this is the only one of its node, time and picoseconds, and currents2 has none of them
+-- of the rows of records2 this is the only one of its node, time and picoseconds, and currents2 has
+-- none of them
 pub record IsOnly (row : Row) (node : List ℕ) (time pico : ℤ) (db : Trees) : Type 0 where
   pub others : List Row
   pub records : IsPermutation (row ∷ others) (cells (db 1))
   pub apart : HasNoneOf node time pico others
-  pub currents : AllByRecursion (λ c. is_current_of node time pico c ≡ false) (map current_columns (db 4))
+  pub currents : AllByRecursion (λ c. is_current_of node time pico c ≡ false)
+      (map current_columns (db 4))
 
 abbrev pub int_at : Row → ℕ → ℤ
 int_at c at = int_in (column c at)
@@ -107,7 +119,8 @@ pub record Keeps (row : Row) (old new : Trees) : Type 0 where
   pub currents : ChangesCurrents (bytes (column row 3)) (int_at row 4) (int_at row 5) added changed
   pub vectors : ChangesVectors (last_of row) (int_at row 0) changed new
 
--- currents2 and vectors are filled with the rows that follow from those of records2, and the tables of an archive are listed
+-- currents2 and vectors are filled with the rows that follow from those of records2, and the tables
+-- of an archive are listed
 pub record Fills (old new : Trees) : Type 0 where
   pub between : Trees
   pub currents : PutsCurrents (λ _. true) old between

@@ -42,12 +42,16 @@ was_added (Err fault) = false
 
 -- what a record meets whose number isn't reached, by its origin's last number and tick
 abbrev pub beyond : ℕ → ℤ → Record → Finding
-beyond held last r = if nat_lt (held + 1) r.number then Gap held r.number else if int_lt (pos greatest) r.tick then TickTooFar else if int_le r.tick last then TickNotRising else Adds
+beyond held last r =
+    if nat_lt (held + 1) r.number then Gap held r.number else if int_lt (pos greatest) r.tick
+    then TickTooFar else if int_le r.tick last then TickNotRising else Adds
 
 -- the row of the record is written, and the rows that follow, in one commit
 pub record Stored (old new : State) (r : Record) (result : Result Unit StoreFault) : Type 0 where
-  pub added : HasCleanDisk new → OnOk result (state.Idles new × state.Adds (row_of r) old.now.trees new.now.trees)
-  pub kept : HasCleanDisk new → is_broken (fault_in result) ≡ false → IfErr result (λ _. state.Stays old new)
+  pub added : HasCleanDisk new
+      → OnOk result (state.Idles new × state.Adds (row_of r) old.now.trees new.now.trees)
+  pub kept : HasCleanDisk new → is_broken (fault_in result) ≡ false
+      → IfErr result (λ _. state.KeepsState old new)
   pub met : IfErr result (λ fault. IsOfOpening fault → ⊥)
   pub crash : Survives old new (state.Adds (row_of r) old.now.trees)
 
@@ -60,12 +64,18 @@ pub record Follows (r : Record) (old new : Trees) : Type 0 where
 
 -- a commit of the record, which may be added, leaves the old tables with it
 abbrev pub IsCommitOf : Record → Trees → Trees → Type 0
-IsCommitOf r old db = (finding (content_in old) r ≡ Adds) × Follows r old db × Lists (db catalog_tree) archive_schema
+IsCommitOf r old db =
+    (finding (content_in old) r ≡ Adds) × Follows r old db × Lists (db catalog_tree) archive_schema
 
 -- the record meets what it meets, and is stored where it is added
-pub record Learned (old new : State) (r : Record) (result : Result (Result Bool LearnFault) StoreFault) : Type 0 where
-  pub answered : HasCleanDisk new → IfOk result (λ told. (told ≡ answer_to (finding (content_in old.now.trees) r)) × state.Idles new × Follows r old.now.trees new.now.trees)
-  pub kept : HasCleanDisk new → is_broken (fault_in result) ≡ false → IfErr result (λ _. state.Stays old new)
+pub record Learned (old new : State) (r : Record)
+    (result : Result (Result Bool LearnFault) StoreFault) : Type 0 where
+  pub answered : HasCleanDisk new
+      → IfOk result
+      (λ told. (told ≡ answer_to (finding (content_in old.now.trees) r)) × state.Idles new
+      × Follows r old.now.trees new.now.trees)
+  pub kept : HasCleanDisk new → is_broken (fault_in result) ≡ false
+      → IfErr result (λ _. state.KeepsState old new)
   pub met : IfErr result (λ fault. IsOfOpening fault → ⊥)
   pub crash : Survives old new (IsCommitOf r old.now.trees)
 

@@ -3,6 +3,7 @@ pub mod Derived
 pub mod Keeping
 pub mod Rows
 pub mod State
+pub mod Connections
 pub mod Learning
 pub mod Agreeing
 pub mod Currents

@@ -28,13 +28,24 @@ use Rattle.sql_tables.specs.State.{shown_of}
 
 -- the row of a record
 abbrev pub row_of : Record → Row
-row_of r = cells_of (pos r.origin) (pos r.number) r.tick (node_id.canon r.node) (ticks_of r.time) (pos (pico_of r.time)) (pos (update_number r.asked)) r.user (data_value.canon r.value)
+row_of r =
+    cells_of (pos r.origin) (pos r.number) r.tick (node_id.canon r.node) (ticks_of r.time)
+    (pos (pico_of r.time)) (pos (update_number r.asked)) r.user (data_value.canon r.value)
 
 -- what a row spells: its columns as the fields of a record
 abbrev pub spelled : Row → List ℕ
 spelled c =
-    ((2 ∷ []) ++ ((number_in (column c 0) ∷ []) ++ ((unsigned w64).canon (number_in (column c 1)) ++ ((signed w64).canon (int_in (column c 2)) ++ (bytes (column c 3)
-    ++ (((signed w64).canon (int_in (column c 4)) ++ (unsigned w16).canon (number_in (column c 5))) ++ ((number_in (column c 6) ∷ []) ++ text.canon (Some (bytes (column c 7)))))))))) ++ bytes (column c 8)
+    ((2 ∷ [])
+    ++
+    ((number_in (column c 0) ∷ [])
+    ++
+    ((unsigned w64).canon (number_in (column c 1))
+    ++ ((signed w64).canon (int_in (column c 2)) ++ (bytes (column c 3)
+    ++
+    (((signed w64).canon (int_in (column c 4)) ++ (unsigned w16).canon (number_in (column c 5)))
+    ++
+    ((number_in (column c 6) ∷ [])
+    ++ text.canon (Some (bytes (column c 7)))))))))) ++ bytes (column c 8)
 
 abbrev pub found : Result Record RecordFault → List Record
 found (Ok r) = r ∷ []
@@ -84,7 +95,8 @@ pub record IsStored (id : List ℕ) (own : ℕ) (db : Trees) : Type 0 where
   pub lawful : IsLawfulContent content
   pub stands : StandFor id own content db
 
--- a store of this archive and replica, as an opening takes it: the tables of an archive, and nothing else, stand for a lawful content
+-- a store of this archive and replica, as an opening takes it: the tables of an archive, and
+-- nothing else, stand for a lawful content
 abbrev pub IsStoreOf : List ℕ → ℕ → Trees → Type 0
 IsStoreOf id own db = Lists (db catalog_tree) archive_schema × IsStored id own db × AreKept db
 

@@ -13,21 +13,21 @@ use Rattle.sqlite_value.specs.declared.value.Value.TheVariants.{Null, Int, Blob 
 use Rattle.sql_schema.specs.Tables.{archive_schema, with_records}
 pub use Rattle.sql_schema.specs.Tables.{HasMeta}
 use Rattle.sql_tables.specs.Derived.{AreKept}
-use Rattle.sql_tables.specs.Words.{cells, is_at, stamp_cmp}
+use Rattle.sql_tables.specs.Words.{cells, is_at, row_stamp_cmp}
 
 -- the connection has the tables of an archive
 abbrev pub HasTables : State → Type 0
 HasTables s = s.now.schema ≡ archive_schema
 
 -- open, nothing pending, whatever the tables
-pub record Rests (s : State) : Type 0 where
+pub record IsOpenAndIdle (s : State) : Type 0 where
   pub is_open : IsTrue s.is_open
   pub autocommit : s.in_transaction ≡ false
   pub settled : s.committed ≡ s.now
 
 -- it rests, and sees what it saw
 pub record Holds (old new : State) : Type 0 where
-  pub rests : Rests new
+  pub rests : IsOpenAndIdle new
   pub same : new.now ≡ old.now
 
 -- between the calls: open, nothing pending
@@ -38,11 +38,12 @@ pub record Idles (s : State) : Type 0 where
   pub tables : HasTables s
 
 -- it idles, and sees what it saw
-pub record Stays (old new : State) : Type 0 where
+pub record KeepsState (old new : State) : Type 0 where
   pub idles : Idles new
   pub same : new.now ≡ old.now
 
--- the trees are the old ones with one row more in records2 and with the rows of currents2 and vectors that follow, and list the tables of an archive
+-- the trees are the old ones with one row more in records2 and with the rows of currents2 and
+-- vectors that follow, and list the tables of an archive
 pub record Adds (row : Row) (old new : Trees) : Type 0 where
   pub records : IsPermutation (row ∷ cells (old 1)) (cells (new 1))
   pub meta : new 0 ≡ old 0
@@ -52,7 +53,7 @@ pub record Adds (row : Row) (old new : Trees) : Type 0 where
 -- of all rows those of one node, time and picoseconds, by stamp
 pub record IsStory (node : List ℕ) (time pico : ℤ) (all rows : List Row) : Type 0 where
   pub same : IsPermutation (filter (is_at node time pico) all) rows
-  pub sorted : IsSorted stamp_cmp rows
+  pub sorted : IsSorted row_stamp_cmp rows
 
 abbrev pub AreAt : List ℕ → ℤ → ℤ → State → List Row → Type 0
 AreAt node time pico s = IsStory node time pico (cells (s.now.trees 1))
@@ -105,17 +106,21 @@ pub record IsNewArchive (id : List ℕ) (own : ℤ) (db : Trees) : Type 0 where
 
 -- the first nine columns of what a query shows
 abbrev pub shown_of : Row → Row
-shown_of c = column c 0 ∷ column c 1 ∷ column c 2 ∷ column c 3 ∷ column c 4 ∷ column c 5 ∷ column c 6 ∷ column c 7 ∷ column c 8 ∷ []
+shown_of c =
+    column c 0 ∷ column c 1 ∷ column c 2 ∷ column c 3 ∷ column c 4 ∷ column c 5 ∷ column c 6
+    ∷ column c 7 ∷ column c 8 ∷ []
 
 -- what a crash may leave, and whether the store may be used, after a call that changes nothing
-pub record Asked {A : Type 0} (old new : State) (result : Result A StoreFault) (IsAnswer : A → Type 0) : Type 0 where
+pub record LeavesUnchanged {A : Type 0} (old new : State) (result : Result A StoreFault)
+    (IsAnswer : A → Type 0) : Type 0 where
   pub answer : HasCleanDisk new → IfOk result IsAnswer
-  pub kept : HasCleanDisk new → is_broken (fault_in result) ≡ false → Stays old new
+  pub kept : HasCleanDisk new → is_broken (fault_in result) ≡ false → KeepsState old new
   pub met : IfErr result (λ fault. IsOfOpening fault → ⊥)
   pub crash : Survives old new (λ _. ⊥)
 
 -- the same, whatever the tables
-pub record Found {A : Type 0} (old new : State) (result : Result A StoreFault) (IsAnswer : A → Type 0) : Type 0 where
+pub record Found {A : Type 0} (old new : State) (result : Result A StoreFault)
+    (IsAnswer : A → Type 0) : Type 0 where
   pub answer : HasCleanDisk new → IfOk result IsAnswer
   pub kept : HasCleanDisk new → is_broken (fault_in result) ≡ false → Holds old new
   pub met : IfErr result (λ fault. IsOfOpening fault → ⊥)

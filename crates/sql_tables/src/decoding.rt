@@ -65,7 +65,8 @@ pub fn number_at(row: &Row, at: usize) -> Result<u64, RecordFault>
 fn byte_at(row: &Row, at: usize) -> Result<u8, RecordFault>
     ensures found { IfOk result (λ n. number_in (column row.now at) ≡ n) }
     ensures err { IfErr result (λ fault. fault ≡ RecordFault.BadField) }
-    ensures other { IfErr result (λ _. (n : ℕ) → n < 256 → column row.now at ≡ value.Int (pos n) → ⊥) }
+    ensures other { IfErr result (λ _. (n : ℕ) → n < 256
+        → column row.now at ≡ value.Int (pos n) → ⊥) }
 {
     match u8::try_from(number_at(row, at)?) {
         Ok(n) => Ok(n),
@@ -77,7 +78,8 @@ fn byte_at(row: &Row, at: usize) -> Result<u8, RecordFault>
 pub fn short_at(row: &Row, at: usize) -> Result<u16, RecordFault>
     ensures found { IfOk result (λ n. number_in (column row.now at) ≡ n) }
     ensures err { IfErr result (λ fault. fault ≡ RecordFault.BadField) }
-    ensures other { IfErr result (λ _. (n : ℕ) → n < 65536 → column row.now at ≡ value.Int (pos n) → ⊥) }
+    ensures other { IfErr result (λ _. (n : ℕ) → n < 65536
+        → column row.now at ≡ value.Int (pos n) → ⊥) }
 {
     match u16::try_from(number_at(row, at)?) {
         Ok(n) => Ok(n),
@@ -86,8 +88,10 @@ pub fn short_at(row: &Row, at: usize) -> Result<u16, RecordFault>
 }
 
 fn text_at(row: &Row, at: usize) -> Result<&str, RecordFault>
-    ensures found { IfOk result (λ s. (bytes (column row.now at) ≡ s.now) × (length s.now < 2 ^ 31)) }
-    ensures other { IfErr result (λ _. (b : List ℕ) → IsUtf8 b → length b ≤ 256 → column row.now at ≡ value.Blob b → ⊥) }
+    ensures found { IfOk result (λ s. (bytes (column row.now at) ≡ s.now)
+        × (length s.now < 2 ^ 31)) }
+    ensures other { IfErr result
+        (λ _. (b : List ℕ) → IsUtf8 b → length b ≤ 256 → column row.now at ≡ value.Blob b → ⊥) }
 {
     match std::str::from_utf8(bytes_at(row, at)?) {
         Ok(text) if text.len() <= 256 => Ok(text),
@@ -106,8 +110,17 @@ fn push_bytes(out: &mut Vec<u8>, bytes: &[u8]) -> Result<(), RecordFault>
 /// Puts what a row spells before its node.
 #[tactic(auto, using(crate::proofs::UnreadLemmas::no_origin, crate::proofs::UnreadLemmas::no_number, crate::proofs::UnreadLemmas::no_tick))]
 fn put_head(out: &mut Vec<u8>, row: &Row) -> Result<(), RecordFault>
-    ensures spelled { IfOk result (λ _. out.new.items ≡ out.old.items ++ ((2 ∷ []) ++ ((number_in (column row.now 0) ∷ []) ++ ((unsigned w64).canon (number_in (column row.now 1)) ++ (signed w64).canon (int_in (column row.now 2)))))) }
-    ensures unread { IfErr result (λ fault. (fault ≡ RecordFault.OutOfMemory) ⊎ IsNoRecords row.now) }
+    ensures spelled { IfOk result
+        (λ _. out.new.items ≡ out.old.items
+        ++
+        ((2 ∷ [])
+        ++
+        ((number_in (column row.now 0) ∷ [])
+        ++
+        ((unsigned w64).canon (number_in (column row.now 1))
+        ++ (signed w64).canon (int_in (column row.now 2)))))) }
+    ensures unread { IfErr result (λ fault. (fault ≡ RecordFault.OutOfMemory)
+        ⊎ IsNoRecords row.now) }
 {
     put_u8(out, 2)?;
     put_u8(out, byte_at(row, 0)?)?;
@@ -119,8 +132,19 @@ fn put_head(out: &mut Vec<u8>, row: &Row) -> Result<(), RecordFault>
 /// Puts what it spells from its node on.
 #[tactic(auto, using(crate::proofs::UnreadLemmas::no_node, crate::proofs::UnreadLemmas::no_time, crate::proofs::UnreadLemmas::no_pico, crate::proofs::UnreadLemmas::no_asked, crate::proofs::UnreadLemmas::no_user, crate::proofs::UnreadLemmas::no_value))]
 fn put_tail(out: &mut Vec<u8>, row: &Row) -> Result<(), RecordFault>
-    ensures spelled { IfOk result (λ _. out.new.items ≡ out.old.items ++ (bytes (column row.now 3) ++ ((signed w64).canon (int_in (column row.now 4)) ++ ((unsigned w16).canon (number_in (column row.now 5)) ++ ((number_in (column row.now 6) ∷ []) ++ (text.canon (Some (bytes (column row.now 7))) ++ bytes (column row.now 8))))))) }
-    ensures unread { IfErr result (λ fault. (fault ≡ RecordFault.OutOfMemory) ⊎ IsNoRecords row.now) }
+    ensures spelled { IfOk result
+        (λ _. out.new.items ≡ out.old.items
+        ++
+        (bytes (column row.now 3)
+        ++
+        ((signed w64).canon (int_in (column row.now 4))
+        ++
+        ((unsigned w16).canon (number_in (column row.now 5))
+        ++
+        ((number_in (column row.now 6) ∷ [])
+        ++ (text.canon (Some (bytes (column row.now 7))) ++ bytes (column row.now 8))))))) }
+    ensures unread { IfErr result (λ fault. (fault ≡ RecordFault.OutOfMemory)
+        ⊎ IsNoRecords row.now) }
 {
     push_bytes(out, bytes_at(row, 3)?)?;
     put_i64(out, int_at(row, 4)?)?;
@@ -133,7 +157,8 @@ fn put_tail(out: &mut Vec<u8>, row: &Row) -> Result<(), RecordFault>
 /// The bytes that a row spells.
 fn spelling(alloc: Global, row: &Row) -> Result<Vec<u8>, RecordFault>
     ensures spelled { IfOk result (λ b. b.items ≡ spelled row.now) }
-    ensures unread { IfErr result (λ fault. (fault ≡ RecordFault.OutOfMemory) ⊎ IsNoRecords row.now) }
+    ensures unread { IfErr result (λ fault. (fault ≡ RecordFault.OutOfMemory)
+        ⊎ IsNoRecords row.now) }
 {
     let mut out = Vec::new(alloc);
     put_head(&mut out, row)?;
@@ -147,7 +172,8 @@ fn spelling(alloc: Global, row: &Row) -> Result<Vec<u8>, RecordFault>
 pub fn decode(alloc: Global, row: &Row) -> Result<Record, RecordFault>
     ensures found { IfOk result (λ r. records_in row.now ≡ r ∷ []) }
     ensures lawful { IfOk result IsRecord }
-    ensures unread { IfErr result (λ fault. (fault ≡ RecordFault.OutOfMemory) ⊎ IsNoRecords row.now) }
+    ensures unread { IfErr result (λ fault. (fault ≡ RecordFault.OutOfMemory)
+        ⊎ IsNoRecords row.now) }
 {
     let bytes = spelling(alloc, row)?;
     read_record(alloc, &bytes)
@@ -156,7 +182,8 @@ pub fn decode(alloc: Global, row: &Row) -> Result<Record, RecordFault>
 /// The records that rows spell, in their order, or the fault of the first that spells none; `OutOfMemory` for want of memory.
 pub fn decode_all(alloc: Global, rows: &[Row]) -> Result<Vec<Record>, RecordFault>
     ensures read { IfOk result (λ all. all.items ≡ flat_map records_in rows.now) }
-    ensures unread { IfErr result (λ fault. (fault ≡ RecordFault.OutOfMemory) ⊎ HasNoRecords rows.now) }
+    ensures unread { IfErr result (λ fault. (fault ≡ RecordFault.OutOfMemory)
+        ⊎ HasNoRecords rows.now) }
 {
     let mut all = Vec::new(alloc);
     for row in rows {

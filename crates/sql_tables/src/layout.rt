@@ -1,10 +1,11 @@
 //! The tables of an archive.
 
 ghost use Rattle.std.specs.Prelude.{◌≡◌, ◌≤◌, pos, false, [], OnOk, OnErr, IsTrue};
-ghost use Rattle.sqlite.specs.State.{HasCleanDisk, Survives, KeepsCommit};
+ghost use Rattle.sqlite.specs.State.{HasCleanDisk, Survives};
 ghost use Rattle.sqlite.specs.Held.{state};
 ghost use Rattle.sql_schema.specs.Tables.{no_schema, with_meta, with_records, with_currents, archive_schema};
-ghost use Rattle.sql_tables.specs.State.{Making, Makes, MakesFirst, MakesBeside, KeepsFirst, AreEmpty, IsNewArchive, Idles};
+ghost use Rattle.sql_tables.specs.State.{Making, Makes, MakesFirst, MakesBeside, KeepsFirst, AreEmpty, IsNewArchive};
+ghost use Rattle.sql_tables.specs.Connections.{WhereClean, Sees, HasSchema, tables_of, CommitsNothing, KeepsLastCommit, Commits};
 
 use sqlite::{Alter, Connection, Error, Transaction, params};
 use stamp::ReplicaNo;
@@ -18,11 +19,13 @@ pub fn number_of(number: ReplicaNo) -> i64
 }
 
 fn make_meta<S: Alter>(tx: &mut Transaction<'_, S>) -> Result<usize, Error>
-    requires { HasCleanDisk (state S.Store tx.old.conn.now) → Making no_schema (state S.Store tx.old.conn.now) }
-    ensures made { HasCleanDisk (state S.Store tx.new.conn.now) → OnOk result (Makes (state S.Store tx.old.conn.now) (state S.Store tx.new.conn.now) with_meta 0) }
-    ensures kept { HasCleanDisk (state S.Store tx.new.conn.now) → KeepsCommit (state S.Store tx.old.conn.now) (state S.Store tx.new.conn.now) }
+    requires { WhereClean S.Store tx.old.conn.now (Making no_schema) }
+    ensures made { HasCleanDisk (state S.Store tx.new.conn.now)
+        → OnOk result
+        (Makes (state S.Store tx.old.conn.now) (state S.Store tx.new.conn.now) with_meta 0) }
+    ensures kept { KeepsLastCommit S.Store tx.old.conn.now tx.new.conn.now }
     ensures same { tx.new.conn.ghost_name ≡ tx.old.conn.ghost_name }
-    ensures crash { Survives (state S.Store tx.old.conn.now) (state S.Store tx.new.conn.now) (λ _. ⊥) }
+    ensures crash { CommitsNothing S.Store tx.old.conn.now tx.new.conn.now }
 {
     tx.execute(
         "CREATE TABLE meta (one INTEGER PRIMARY KEY CHECK (one = 1), format INTEGER NOT NULL, archive BLOB NOT NULL, replica INTEGER NOT NULL) STRICT",
@@ -31,11 +34,13 @@ fn make_meta<S: Alter>(tx: &mut Transaction<'_, S>) -> Result<usize, Error>
 }
 
 fn make_records<S: Alter>(tx: &mut Transaction<'_, S>) -> Result<usize, Error>
-    requires { HasCleanDisk (state S.Store tx.old.conn.now) → Making with_meta (state S.Store tx.old.conn.now) }
-    ensures made { HasCleanDisk (state S.Store tx.new.conn.now) → OnOk result (Makes (state S.Store tx.old.conn.now) (state S.Store tx.new.conn.now) with_records 1 × ((state S.Store tx.new.conn.now).now.trees 0 ≡ (state S.Store tx.old.conn.now).now.trees 0)) }
-    ensures kept { HasCleanDisk (state S.Store tx.new.conn.now) → KeepsCommit (state S.Store tx.old.conn.now) (state S.Store tx.new.conn.now) }
+    requires { WhereClean S.Store tx.old.conn.now (Making with_meta) }
+    ensures made { HasCleanDisk (state S.Store tx.new.conn.now) → OnOk result
+        (Makes (state S.Store tx.old.conn.now) (state S.Store tx.new.conn.now) with_records 1
+        × (tables_of S.Store tx.new.conn.now 0 ≡ tables_of S.Store tx.old.conn.now 0)) }
+    ensures kept { KeepsLastCommit S.Store tx.old.conn.now tx.new.conn.now }
     ensures same { tx.new.conn.ghost_name ≡ tx.old.conn.ghost_name }
-    ensures crash { Survives (state S.Store tx.old.conn.now) (state S.Store tx.new.conn.now) (λ _. ⊥) }
+    ensures crash { CommitsNothing S.Store tx.old.conn.now tx.new.conn.now }
 {
     tx.execute(
         "CREATE TABLE records2 (origin INTEGER NOT NULL, number INTEGER NOT NULL, tick INTEGER NOT NULL, node BLOB NOT NULL, time INTEGER NOT NULL, pico INTEGER NOT NULL, asked INTEGER NOT NULL, who BLOB NOT NULL, value BLOB NOT NULL, PRIMARY KEY (origin, number), UNIQUE (node, time, pico, tick, origin)) STRICT",
@@ -44,11 +49,13 @@ fn make_records<S: Alter>(tx: &mut Transaction<'_, S>) -> Result<usize, Error>
 }
 
 fn make_currents<S: Alter>(tx: &mut Transaction<'_, S>) -> Result<usize, Error>
-    requires { HasCleanDisk (state S.Store tx.old.conn.now) → Making with_records (state S.Store tx.old.conn.now) }
-    ensures made { HasCleanDisk (state S.Store tx.new.conn.now) → OnOk result (Makes (state S.Store tx.old.conn.now) (state S.Store tx.new.conn.now) with_currents 4 × KeepsFirst (state S.Store tx.old.conn.now).now.trees (state S.Store tx.new.conn.now).now.trees) }
-    ensures kept { HasCleanDisk (state S.Store tx.new.conn.now) → KeepsCommit (state S.Store tx.old.conn.now) (state S.Store tx.new.conn.now) }
+    requires { WhereClean S.Store tx.old.conn.now (Making with_records) }
+    ensures made { HasCleanDisk (state S.Store tx.new.conn.now) → OnOk result
+        (Makes (state S.Store tx.old.conn.now) (state S.Store tx.new.conn.now) with_currents 4
+        × KeepsFirst (tables_of S.Store tx.old.conn.now) (tables_of S.Store tx.new.conn.now)) }
+    ensures kept { KeepsLastCommit S.Store tx.old.conn.now tx.new.conn.now }
     ensures same { tx.new.conn.ghost_name ≡ tx.old.conn.ghost_name }
-    ensures crash { Survives (state S.Store tx.old.conn.now) (state S.Store tx.new.conn.now) (λ _. ⊥) }
+    ensures crash { CommitsNothing S.Store tx.old.conn.now tx.new.conn.now }
 {
     tx.execute(
         "CREATE TABLE currents2 (node BLOB NOT NULL, time INTEGER NOT NULL, pico INTEGER NOT NULL, tick INTEGER NOT NULL, origin INTEGER NOT NULL, live INTEGER NOT NULL, extra INTEGER NOT NULL, value BLOB NOT NULL, PRIMARY KEY (node, time, pico)) STRICT",
@@ -57,11 +64,14 @@ fn make_currents<S: Alter>(tx: &mut Transaction<'_, S>) -> Result<usize, Error>
 }
 
 fn make_vectors<S: Alter>(tx: &mut Transaction<'_, S>) -> Result<usize, Error>
-    requires { HasCleanDisk (state S.Store tx.old.conn.now) → Making with_currents (state S.Store tx.old.conn.now) }
-    ensures made { HasCleanDisk (state S.Store tx.new.conn.now) → OnOk result (Makes (state S.Store tx.old.conn.now) (state S.Store tx.new.conn.now) archive_schema 6 × KeepsFirst (state S.Store tx.old.conn.now).now.trees (state S.Store tx.new.conn.now).now.trees × ((state S.Store tx.new.conn.now).now.trees 4 ≡ (state S.Store tx.old.conn.now).now.trees 4)) }
-    ensures kept { HasCleanDisk (state S.Store tx.new.conn.now) → KeepsCommit (state S.Store tx.old.conn.now) (state S.Store tx.new.conn.now) }
+    requires { WhereClean S.Store tx.old.conn.now (Making with_currents) }
+    ensures made { HasCleanDisk (state S.Store tx.new.conn.now) → OnOk result
+        (Makes (state S.Store tx.old.conn.now) (state S.Store tx.new.conn.now) archive_schema 6
+        × KeepsFirst (tables_of S.Store tx.old.conn.now) (tables_of S.Store tx.new.conn.now)
+        × (tables_of S.Store tx.new.conn.now 4 ≡ tables_of S.Store tx.old.conn.now 4)) }
+    ensures kept { KeepsLastCommit S.Store tx.old.conn.now tx.new.conn.now }
     ensures same { tx.new.conn.ghost_name ≡ tx.old.conn.ghost_name }
-    ensures crash { Survives (state S.Store tx.old.conn.now) (state S.Store tx.new.conn.now) (λ _. ⊥) }
+    ensures crash { CommitsNothing S.Store tx.old.conn.now tx.new.conn.now }
 {
     tx.execute(
         "CREATE TABLE vectors (origin INTEGER PRIMARY KEY, number INTEGER NOT NULL, tick INTEGER NOT NULL) STRICT",
@@ -71,11 +81,13 @@ fn make_vectors<S: Alter>(tx: &mut Transaction<'_, S>) -> Result<usize, Error>
 
 /// Makes the tables of current values and of vectors, without rows, beside those of `meta` and of records, in a transaction.
 fn make_beside<S: Alter>(tx: &mut Transaction<'_, S>) -> Result<(), Error>
-    requires { HasCleanDisk (state S.Store tx.old.conn.now) → Making with_records (state S.Store tx.old.conn.now) }
-    ensures made { HasCleanDisk (state S.Store tx.new.conn.now) → OnOk result (MakesBeside (state S.Store tx.old.conn.now) (state S.Store tx.new.conn.now)) }
-    ensures kept { HasCleanDisk (state S.Store tx.new.conn.now) → KeepsCommit (state S.Store tx.old.conn.now) (state S.Store tx.new.conn.now) }
+    requires { WhereClean S.Store tx.old.conn.now (Making with_records) }
+    ensures made { HasCleanDisk (state S.Store tx.new.conn.now)
+        → OnOk result
+        (MakesBeside (state S.Store tx.old.conn.now) (state S.Store tx.new.conn.now)) }
+    ensures kept { KeepsLastCommit S.Store tx.old.conn.now tx.new.conn.now }
     ensures same { tx.new.conn.ghost_name ≡ tx.old.conn.ghost_name }
-    ensures crash { Survives (state S.Store tx.old.conn.now) (state S.Store tx.new.conn.now) (λ _. ⊥) }
+    ensures crash { CommitsNothing S.Store tx.old.conn.now tx.new.conn.now }
 {
     make_currents(tx)?;
     make_vectors(tx)?;
@@ -84,11 +96,12 @@ fn make_beside<S: Alter>(tx: &mut Transaction<'_, S>) -> Result<(), Error>
 
 /// Makes the tables of meta and of records, in a transaction.
 fn make_first<S: Alter>(tx: &mut Transaction<'_, S>) -> Result<(), Error>
-    requires { HasCleanDisk (state S.Store tx.old.conn.now) → Making no_schema (state S.Store tx.old.conn.now) }
-    ensures made { HasCleanDisk (state S.Store tx.new.conn.now) → OnOk result (MakesFirst (state S.Store tx.old.conn.now) (state S.Store tx.new.conn.now)) }
-    ensures kept { HasCleanDisk (state S.Store tx.new.conn.now) → KeepsCommit (state S.Store tx.old.conn.now) (state S.Store tx.new.conn.now) }
+    requires { WhereClean S.Store tx.old.conn.now (Making no_schema) }
+    ensures made { HasCleanDisk (state S.Store tx.new.conn.now)
+        → OnOk result (MakesFirst (state S.Store tx.old.conn.now) (state S.Store tx.new.conn.now)) }
+    ensures kept { KeepsLastCommit S.Store tx.old.conn.now tx.new.conn.now }
     ensures same { tx.new.conn.ghost_name ≡ tx.old.conn.ghost_name }
-    ensures crash { Survives (state S.Store tx.old.conn.now) (state S.Store tx.new.conn.now) (λ _. ⊥) }
+    ensures crash { CommitsNothing S.Store tx.old.conn.now tx.new.conn.now }
 {
     make_meta(tx)?;
     make_records(tx)?;
@@ -100,12 +113,15 @@ fn fill_meta<S: Alter>(
     archive: &[u8],
     replica: &i64,
 ) -> Result<usize, Error>
-    requires making { HasCleanDisk (state S.Store tx.old.conn.now) → Making archive_schema (state S.Store tx.old.conn.now) }
-    requires empty { HasCleanDisk (state S.Store tx.old.conn.now) → AreEmpty (state S.Store tx.old.conn.now).now.trees }
-    ensures made { HasCleanDisk (state S.Store tx.new.conn.now) → OnOk result (Making archive_schema (state S.Store tx.new.conn.now) × IsNewArchive archive.now replica.now (state S.Store tx.new.conn.now).now.trees × ((state S.Store tx.new.conn.now).committed ≡ (state S.Store tx.old.conn.now).committed)) }
-    ensures kept { HasCleanDisk (state S.Store tx.new.conn.now) → KeepsCommit (state S.Store tx.old.conn.now) (state S.Store tx.new.conn.now) }
+    requires making { WhereClean S.Store tx.old.conn.now (Making archive_schema) }
+    requires empty { WhereClean S.Store tx.old.conn.now (Sees AreEmpty) }
+    ensures made { HasCleanDisk (state S.Store tx.new.conn.now)
+        → OnOk result (Making archive_schema (state S.Store tx.new.conn.now)
+        × IsNewArchive archive.now replica.now (tables_of S.Store tx.new.conn.now)
+        × ((state S.Store tx.new.conn.now).committed ≡ (state S.Store tx.old.conn.now).committed)) }
+    ensures kept { KeepsLastCommit S.Store tx.old.conn.now tx.new.conn.now }
     ensures same { tx.new.conn.ghost_name ≡ tx.old.conn.ghost_name }
-    ensures crash { Survives (state S.Store tx.old.conn.now) (state S.Store tx.new.conn.now) (λ _. ⊥) }
+    ensures crash { CommitsNothing S.Store tx.old.conn.now tx.new.conn.now }
 {
     tx.execute(
         "INSERT INTO meta VALUES (1, 2, ?1, ?2)",
@@ -120,11 +136,14 @@ pub fn make_tables<S: Alter>(
     archive: &[u8],
     replica: &i64,
 ) -> Result<(), Error>
-    requires { HasCleanDisk (state S.Store tx.old.conn.now) → Making no_schema (state S.Store tx.old.conn.now) }
-    ensures made { HasCleanDisk (state S.Store tx.new.conn.now) → OnOk result (Making archive_schema (state S.Store tx.new.conn.now) × IsNewArchive archive.now replica.now (state S.Store tx.new.conn.now).now.trees × ((state S.Store tx.new.conn.now).committed ≡ (state S.Store tx.old.conn.now).committed)) }
-    ensures kept { HasCleanDisk (state S.Store tx.new.conn.now) → KeepsCommit (state S.Store tx.old.conn.now) (state S.Store tx.new.conn.now) }
+    requires { WhereClean S.Store tx.old.conn.now (Making no_schema) }
+    ensures made { HasCleanDisk (state S.Store tx.new.conn.now)
+        → OnOk result (Making archive_schema (state S.Store tx.new.conn.now)
+        × IsNewArchive archive.now replica.now (tables_of S.Store tx.new.conn.now)
+        × ((state S.Store tx.new.conn.now).committed ≡ (state S.Store tx.old.conn.now).committed)) }
+    ensures kept { KeepsLastCommit S.Store tx.old.conn.now tx.new.conn.now }
     ensures same { tx.new.conn.ghost_name ≡ tx.old.conn.ghost_name }
-    ensures crash { Survives (state S.Store tx.old.conn.now) (state S.Store tx.new.conn.now) (λ _. ⊥) }
+    ensures crash { CommitsNothing S.Store tx.old.conn.now tx.new.conn.now }
 {
     make_first(tx)?;
     make_beside(tx)?;
@@ -140,10 +159,14 @@ pub fn first_open<S: Alter>(
     replica: &i64,
 ) -> Result<(), Error>
     requires idle { conn.old.in_transaction ≡ false }
-    requires empty { HasCleanDisk (state S.Store conn.old) → (state S.Store conn.old).now.schema ≡ no_schema }
-    ensures made { HasCleanDisk (state S.Store conn.new) → OnOk result (Idles (state S.Store conn.new) × IsNewArchive archive.now replica.now (state S.Store conn.new).now.trees) }
-    ensures refused { HasCleanDisk (state S.Store conn.new) → IsTrue (state S.Store conn.new).is_open → OnErr result ((state S.Store conn.new).now ≡ (state S.Store conn.old).committed) }
-    ensures crash { Survives (state S.Store conn.old) (state S.Store conn.new) (IsNewArchive archive.now replica.now) }
+    requires empty { WhereClean S.Store conn.old (HasSchema no_schema) }
+    ensures made { Commits S.Store conn.old conn.new result
+        (λ _. IsNewArchive archive.now replica.now) }
+    ensures refused { HasCleanDisk (state S.Store conn.new)
+        → IsTrue (state S.Store conn.new).is_open
+        → OnErr result ((state S.Store conn.new).now ≡ (state S.Store conn.old).committed) }
+    ensures crash { Survives (state S.Store conn.old) (state S.Store conn.new)
+        (IsNewArchive archive.now replica.now) }
 {
     let mut tx = conn.transaction();
     make_tables(&mut tx, archive, replica)?;

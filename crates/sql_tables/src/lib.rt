@@ -1,21 +1,21 @@
 //! The tables of a store over SQLite: what they hold, and the statements that make, ask, fill and judge them.
 #![tactic(auto)]
 
-mod agreeing;
 mod decoding;
-mod keeping;
+mod insert;
+mod integrity;
 mod layout;
 mod queries;
 mod statements;
 mod writes;
 
-pub use agreeing::check_kept;
 pub use decoding::{bytes_at, decode, decode_all, int_at, number_at, short_at, tick_at};
-pub use keeping::add_record;
+pub use insert::add_record;
+pub use integrity::check_kept;
 pub use layout::{first_open, make_tables, number_of};
 pub use queries::{
-    Behind, Name, Next, Place, place_of, rows_at, rows_behind, rows_last, rows_named, rows_next,
-    rows_of_meta,
+    Name, Next, RowTime, RowsAfter, place_of, rows_at, rows_behind, rows_last, rows_named,
+    rows_next, rows_of_meta,
 };
 pub use statements::{ask, fault_of, refusal_of, select};
 pub use writes::{Cells, make_cells, store_record};

@@ -1,7 +1,6 @@
 //! The queries over the rows of records.
 
 ghost use Rattle.std.specs.Prelude.{◌≡◌, pos, map, filter, IsPermutation};
-ghost use Rattle.sqlite.specs.State.{HasCleanDisk};
 ghost use Rattle.sqlite.specs.Held.{state};
 ghost use Rattle.records.specs.Moments.{ticks_of, pico_of};
 ghost use Rattle.sqlite_value.specs.declared.value.Value.TheVariants.{Int};
@@ -10,7 +9,8 @@ ghost use Rattle.sql_tables.specs.Words.{cells, is_named, is_behind, name_order,
 ghost use Rattle.sql_tables.specs.Derived.{vector_columns};
 ghost use Rattle.sql_tables.specs.Keeping.{is_vector_of};
 ghost use Rattle.sql_tables.specs.Rows.{meta_cells};
-ghost use Rattle.sql_tables.specs.State.{AreAt, Asked, Found, HasMeta, Idles, Rests};
+ghost use Rattle.sql_tables.specs.State.{AreAt, LeavesUnchanged, Found, HasMeta, Idles, IsOpenAndIdle};
+ghost use Rattle.sql_tables.specs.Connections.{WhereClean, tables_of};
 
 use crate::statements::{ask, select};
 use archive::{Direction, StoreFault};
@@ -20,16 +20,16 @@ use stamp::ReplicaNo;
 
 /// A place in time, as rows have it: ticks, and picoseconds in tens.
 #[derive(Clone, Copy, Debug)]
-pub struct Place {
+pub struct RowTime {
     pub ticks: i64,
     pub pico: i64,
 }
 
 /// The place of a moment.
-pub fn place_of(time: Moment) -> Place
+pub fn place_of(time: Moment) -> RowTime
     ensures { (result.ticks ≡ ticks_of time) × (result.pico ≡ pos (pico_of time)) }
 {
-    Place {
+    RowTime {
         ticks: time.ticks(),
         pico: i64::from(time.pico()),
     }
@@ -38,7 +38,7 @@ pub fn place_of(time: Moment) -> Place
 /// Rows of a node beyond a place in time: so many of them.
 #[derive(Clone, Copy, Debug)]
 pub struct Next {
-    pub place: Place,
+    pub place: RowTime,
     pub count: i64,
 }
 
@@ -51,7 +51,7 @@ pub struct Name {
 
 /// Rows of an origin: those behind a number, so many of them, or all where the count is below 0.
 #[derive(Clone, Copy, Debug)]
-pub struct Behind {
+pub struct RowsAfter {
     pub origin: i64,
     pub number: i64,
     pub count: i64,
@@ -61,10 +61,12 @@ pub struct Behind {
 pub fn rows_at<S: Alter>(
     conn: &mut Connection<S>,
     node: &[u8],
-    place: &Place,
+    place: &RowTime,
 ) -> Result<Vec<Row>, StoreFault>
-    requires { HasCleanDisk (state S.Store conn.old) → Idles (state S.Store conn.old) }
-    ensures { Asked (state S.Store conn.old) (state S.Store conn.new) result (λ rows. AreAt node.now place.now.ticks place.now.pico (state S.Store conn.old) rows.items) }
+    requires { WhereClean S.Store conn.old Idles }
+    ensures { LeavesUnchanged (state S.Store conn.old) (state S.Store conn.new) result
+        (λ rows.
+        AreAt node.now place.now.ticks place.now.pico (state S.Store conn.old) rows.items) }
 {
     select(
         conn,
@@ -79,8 +81,10 @@ fn rows_after<S: Alter>(
     node: &[u8],
     next: &Next,
 ) -> Result<Vec<Row>, StoreFault>
-    requires { HasCleanDisk (state S.Store conn.old) → Idles (state S.Store conn.old) }
-    ensures { Asked (state S.Store conn.old) (state S.Store conn.new) result (λ rows. IsPage (is_after node.now next.now.place.ticks next.now.place.pico) moment_order (as_count (Int next.now.count)) (cells ((state S.Store conn.old).now.trees 1)) rows.items) }
+    requires { WhereClean S.Store conn.old Idles }
+    ensures { LeavesUnchanged (state S.Store conn.old) (state S.Store conn.new) result
+        (λ rows. IsPage (is_after node.now next.now.place.ticks next.now.place.pico) moment_order
+        (as_count (Int next.now.count)) (cells (tables_of S.Store conn.old 1)) rows.items) }
 {
     select(
         conn,
@@ -95,8 +99,11 @@ fn rows_before<S: Alter>(
     node: &[u8],
     next: &Next,
 ) -> Result<Vec<Row>, StoreFault>
-    requires { HasCleanDisk (state S.Store conn.old) → Idles (state S.Store conn.old) }
-    ensures { Asked (state S.Store conn.old) (state S.Store conn.new) result (λ rows. IsPage (is_before node.now next.now.place.ticks next.now.place.pico) (λ a b. moment_order b a) (as_count (Int next.now.count)) (cells ((state S.Store conn.old).now.trees 1)) rows.items) }
+    requires { WhereClean S.Store conn.old Idles }
+    ensures { LeavesUnchanged (state S.Store conn.old) (state S.Store conn.new) result
+        (λ rows. IsPage (is_before node.now next.now.place.ticks next.now.place.pico)
+        (λ a b. moment_order b a) (as_count (Int next.now.count))
+        (cells (tables_of S.Store conn.old 1)) rows.items) }
 {
     select(
         conn,
@@ -112,8 +119,10 @@ pub fn rows_next<S: Alter>(
     next: &Next,
     direction: Direction,
 ) -> Result<Vec<Row>, StoreFault>
-    requires { HasCleanDisk (state S.Store conn.old) → Idles (state S.Store conn.old) }
-    ensures { Asked (state S.Store conn.old) (state S.Store conn.new) result (λ rows. AreNextRows direction node.now next.now.place.ticks next.now.place.pico (as_count (Int next.now.count)) (cells ((state S.Store conn.old).now.trees 1)) rows.items) }
+    requires { WhereClean S.Store conn.old Idles }
+    ensures { LeavesUnchanged (state S.Store conn.old) (state S.Store conn.new) result
+        (λ rows. AreNextRows direction node.now next.now.place.ticks next.now.place.pico
+        (as_count (Int next.now.count)) (cells (tables_of S.Store conn.old 1)) rows.items) }
 {
     match direction {
         Direction::Forward => rows_after(conn, node, next),
@@ -123,8 +132,10 @@ pub fn rows_next<S: Alter>(
 
 /// The row of a record's name, in a list, which is empty where there is none.
 pub fn rows_named<S: Alter>(conn: &mut Connection<S>, name: &Name) -> Result<Vec<Row>, StoreFault>
-    requires { HasCleanDisk (state S.Store conn.old) → Idles (state S.Store conn.old) }
-    ensures { Asked (state S.Store conn.old) (state S.Store conn.new) result (λ rows. IsPermutation (filter (is_named name.now.origin name.now.number) (cells ((state S.Store conn.old).now.trees 1))) rows.items) }
+    requires { WhereClean S.Store conn.old Idles }
+    ensures { LeavesUnchanged (state S.Store conn.old) (state S.Store conn.new) result
+        (λ rows. IsPermutation (filter (is_named name.now.origin name.now.number)
+        (cells (tables_of S.Store conn.old 1))) rows.items) }
 {
     select(
         conn,
@@ -135,8 +146,10 @@ pub fn rows_named<S: Alter>(conn: &mut Connection<S>, name: &Name) -> Result<Vec
 
 /// The row of `vectors` of an origin (the name's number plays no part), in a list, which is empty where there is none.
 pub fn rows_last<S: Alter>(conn: &mut Connection<S>, name: &Name) -> Result<Vec<Row>, StoreFault>
-    requires { HasCleanDisk (state S.Store conn.old) → Idles (state S.Store conn.old) }
-    ensures { Asked (state S.Store conn.old) (state S.Store conn.new) result (λ rows. IsPermutation (filter (is_vector_of name.now.origin) (map vector_columns ((state S.Store conn.old).now.trees 6))) rows.items) }
+    requires { WhereClean S.Store conn.old Idles }
+    ensures { LeavesUnchanged (state S.Store conn.old) (state S.Store conn.new) result
+        (λ rows. IsPermutation (filter (is_vector_of name.now.origin)
+        (map vector_columns (tables_of S.Store conn.old 6))) rows.items) }
 {
     select(
         conn,
@@ -148,10 +161,12 @@ pub fn rows_last<S: Alter>(conn: &mut Connection<S>, name: &Name) -> Result<Vec<
 /// Rows of an origin behind a number, the first ones by number.
 pub fn rows_behind<S: Alter>(
     conn: &mut Connection<S>,
-    behind: &Behind,
+    behind: &RowsAfter,
 ) -> Result<Vec<Row>, StoreFault>
-    requires { HasCleanDisk (state S.Store conn.old) → Idles (state S.Store conn.old) }
-    ensures { Asked (state S.Store conn.old) (state S.Store conn.new) result (λ rows. IsPage (is_behind behind.now.origin behind.now.number) name_order (as_count (Int behind.now.count)) (cells ((state S.Store conn.old).now.trees 1)) rows.items) }
+    requires { WhereClean S.Store conn.old Idles }
+    ensures { LeavesUnchanged (state S.Store conn.old) (state S.Store conn.new) result
+        (λ rows. IsPage (is_behind behind.now.origin behind.now.number) name_order
+        (as_count (Int behind.now.count)) (cells (tables_of S.Store conn.old 1)) rows.items) }
 {
     select(
         conn,
@@ -162,9 +177,10 @@ pub fn rows_behind<S: Alter>(
 
 /// The rows of meta, where it is the first table, whatever stands behind it.
 pub fn rows_of_meta<S: Alter>(conn: &mut Connection<S>) -> Result<Vec<Row>, StoreFault>
-    requires rests { HasCleanDisk (state S.Store conn.old) → Rests (state S.Store conn.old) }
-    requires known { HasCleanDisk (state S.Store conn.old) → HasMeta (state S.Store conn.old).now.schema }
-    ensures { Found (state S.Store conn.old) (state S.Store conn.new) result (λ rows. IsPermutation (meta_cells (state S.Store conn.old).now.trees) rows.items) }
+    requires rests { WhereClean S.Store conn.old IsOpenAndIdle }
+    requires known { WhereClean S.Store conn.old (λ s. HasMeta s.now.schema) }
+    ensures { Found (state S.Store conn.old) (state S.Store conn.new) result
+        (λ rows. IsPermutation (meta_cells (tables_of S.Store conn.old)) rows.items) }
 {
     ask(conn, "SELECT one, format, archive, replica FROM meta", &[])
 }

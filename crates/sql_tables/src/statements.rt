@@ -1,14 +1,15 @@
 //! Statements over a connection, and what their faults tell.
 
 ghost use Rattle.std.specs.Prelude.{◌≡◌, ◌≢◌, ◌⊎◌, IsTrue, IfOk, IfErr, OnOk};
-ghost use Rattle.sqlite.specs.State.{HasCleanDisk, IsUnchanged, Shown, Survives};
+ghost use Rattle.sqlite.specs.State.{HasCleanDisk, IsUnchanged, Shown};
 ghost use Rattle.sqlite.specs.Held.{state};
 ghost use Rattle.sqlite.specs.Values.{bound};
 ghost use Rattle.sqlite.specs.Given.{IsPlain};
 ghost use Rattle.sqlite.specs.Listing.{understood};
 ghost use Rattle.archive.specs.Store.{IsOfOpening};
 ghost use Rattle.sql_schema.specs.Tables.{archive_schema};
-ghost use Rattle.sql_tables.specs.State.{Asked, Found, Holds, Idles, Rests};
+ghost use Rattle.sql_tables.specs.State.{LeavesUnchanged, Found, Holds, Idles, IsOpenAndIdle};
+ghost use Rattle.sql_tables.specs.Connections.{WhereClean, CommitsNothing};
 
 use archive::StoreFault;
 use sqlite::{Alter, Connection, Error, ErrorCode, Row};
@@ -16,17 +17,19 @@ use sqlite_value::value::ValueRef;
 
 /// Whether the store is still open.
 fn is_alive<S: Alter>(conn: &mut Connection<S>) -> bool
-    ensures alive { HasCleanDisk (state S.Store conn.new) → IsTrue result → IsUnchanged (state S.Store conn.old) (state S.Store conn.new) }
-    ensures crash { Survives (state S.Store conn.old) (state S.Store conn.new) (λ _. ⊥) }
+    ensures alive { HasCleanDisk (state S.Store conn.new) → IsTrue result
+        → IsUnchanged (state S.Store conn.old) (state S.Store conn.new) }
+    ensures crash { CommitsNothing S.Store conn.old conn.new }
 {
     conn.prepare("SELECT 1").is_ok()
 }
 
 /// What a failed call is told as: `Broken` where the connection is found shut.
 pub fn fault_of<S: Alter>(conn: &mut Connection<S>, error: Error) -> StoreFault
-    ensures alive { HasCleanDisk (state S.Store conn.new) → result ≢ StoreFault.Broken → IsUnchanged (state S.Store conn.old) (state S.Store conn.new) }
+    ensures alive { HasCleanDisk (state S.Store conn.new) → result ≢ StoreFault.Broken
+        → IsUnchanged (state S.Store conn.old) (state S.Store conn.new) }
     ensures met { IsOfOpening result → ⊥ }
-    ensures crash { Survives (state S.Store conn.old) (state S.Store conn.new) (λ _. ⊥) }
+    ensures crash { CommitsNothing S.Store conn.old conn.new }
 {
     if !is_alive(conn) {
         return StoreFault::Broken;
@@ -51,12 +54,21 @@ fn rows_of<S: Alter>(
     sql: &str,
     params: &[ValueRef<'_>],
 ) -> Result<Vec<Row>, Error>
-    requires rests { HasCleanDisk (state S.Store conn.old) → Rests (state S.Store conn.old) }
-    requires plain { HasCleanDisk (state S.Store conn.old) → IsPlain (understood (state S.Store conn.old).now.schema sql.now) }
-    ensures rows { HasCleanDisk (state S.Store conn.new) → IfOk result (λ rows. Shown sql.now (bound params.now) (state S.Store conn.old) (state S.Store conn.new) rows.items) }
-    ensures same { HasCleanDisk (state S.Store conn.new) → OnOk result (IsUnchanged (state S.Store conn.old) (state S.Store conn.new)) }
-    ensures refused { HasCleanDisk (state S.Store conn.new) → IfErr result (λ _. IsTrue (state S.Store conn.new).is_open → Holds (state S.Store conn.old) (state S.Store conn.new)) }
-    ensures crash { Survives (state S.Store conn.old) (state S.Store conn.new) (λ _. ⊥) }
+    requires rests { WhereClean S.Store conn.old IsOpenAndIdle }
+    requires plain { HasCleanDisk (state S.Store conn.old)
+        → IsPlain (understood (state S.Store conn.old).now.schema sql.now) }
+    ensures rows { HasCleanDisk (state S.Store conn.new)
+        → IfOk result
+        (λ rows.
+        Shown sql.now (bound params.now) (state S.Store conn.old)
+        (state S.Store conn.new) rows.items) }
+    ensures same { HasCleanDisk (state S.Store conn.new)
+        → OnOk result (IsUnchanged (state S.Store conn.old) (state S.Store conn.new)) }
+    ensures refused { HasCleanDisk (state S.Store conn.new)
+        → IfErr result
+        (λ _. IsTrue (state S.Store conn.new).is_open
+        → Holds (state S.Store conn.old) (state S.Store conn.new)) }
+    ensures crash { CommitsNothing S.Store conn.old conn.new }
 {
     conn.query_all(sql, params)
 }
@@ -69,9 +81,13 @@ pub fn ask<S: Alter>(
     sql: &str,
     params: &[ValueRef<'_>],
 ) -> Result<Vec<Row>, StoreFault>
-    requires rests { HasCleanDisk (state S.Store conn.old) → Rests (state S.Store conn.old) }
-    requires plain { HasCleanDisk (state S.Store conn.old) → IsPlain (understood (state S.Store conn.old).now.schema sql.now) }
-    ensures { Found (state S.Store conn.old) (state S.Store conn.new) result (λ rows. Shown sql.now (bound params.now) (state S.Store conn.old) (state S.Store conn.new) rows.items) }
+    requires rests { WhereClean S.Store conn.old IsOpenAndIdle }
+    requires plain { HasCleanDisk (state S.Store conn.old)
+        → IsPlain (understood (state S.Store conn.old).now.schema sql.now) }
+    ensures { Found (state S.Store conn.old) (state S.Store conn.new) result
+        (λ rows.
+        Shown sql.now (bound params.now) (state S.Store conn.old)
+        (state S.Store conn.new) rows.items) }
 {
     match rows_of(conn, sql, params) {
         Ok(rows) => Ok(rows),
@@ -85,9 +101,12 @@ pub fn select<S: Alter>(
     sql: &str,
     params: &[ValueRef<'_>],
 ) -> Result<Vec<Row>, StoreFault>
-    requires idles { HasCleanDisk (state S.Store conn.old) → Idles (state S.Store conn.old) }
+    requires idles { WhereClean S.Store conn.old Idles }
     requires plain { IsPlain (understood archive_schema sql.now) }
-    ensures { Asked (state S.Store conn.old) (state S.Store conn.new) result (λ rows. Shown sql.now (bound params.now) (state S.Store conn.old) (state S.Store conn.new) rows.items) }
+    ensures { LeavesUnchanged (state S.Store conn.old) (state S.Store conn.new) result
+        (λ rows.
+        Shown sql.now (bound params.now) (state S.Store conn.old)
+        (state S.Store conn.new) rows.items) }
 {
     ask(conn, sql, params)
 }

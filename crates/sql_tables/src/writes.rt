@@ -1,21 +1,22 @@
 //! The writes of a record.
 
-ghost use Rattle.std.specs.Prelude.{◌≡◌, ◌≢◌, IfOk, IfErr, OnOk, IsTrue};
+ghost use Rattle.std.specs.Prelude.{◌≡◌, ◌≢◌, IfOk, IfErr, IsTrue};
 ghost use Rattle.sqlite.specs.State.{HasCleanDisk, Survives};
 ghost use Rattle.sqlite.specs.Held.{state};
 ghost use Rattle.archive.specs.Store.{IsOfOpening};
-ghost use Rattle.sql_tables.specs.Words.{cells, cells_of};
+ghost use Rattle.sql_tables.specs.Words.{cells, row_of_cells};
 ghost use Rattle.sql_tables.specs.Derived.{AreKept, IsNextRow};
 ghost use Rattle.sql_tables.specs.Keeping.{HasNoneOf};
-ghost use Rattle.sql_tables.specs.State.{Adds, Asked, Idles, Stays};
+ghost use Rattle.sql_tables.specs.State.{Adds, LeavesUnchanged, Idles, KeepsState};
 ghost use Rattle.ua_binary.specs.Binary.{node_id, IsShortNode};
 ghost use Rattle.ua_variant.specs.DataValue.{data_value, IsShortData};
 ghost use Rattle.records.specs.Spelling.{IsLawfulRecord};
 ghost use Rattle.sql_tables.specs.Rows.{row_of};
 ghost use Rattle.sql_tables.specs.Learning.{Stored};
+ghost use Rattle.sql_tables.specs.Connections.{WhereClean, Sees, tables_of, Commits};
 
-use crate::agreeing::are_none;
-use crate::keeping::keep;
+use crate::insert::keep;
+use crate::integrity::are_none;
 use crate::statements::{fault_of, select};
 use archive::StoreFault;
 use records::Record;
@@ -40,8 +41,10 @@ pub struct Cells {
 
 /// Whether no record stands at a record's node and time.
 fn is_first<S: Alter>(conn: &mut Connection<S>, r: &Cells) -> Result<bool, StoreFault>
-    requires { HasCleanDisk (state S.Store conn.old) → Idles (state S.Store conn.old) }
-    ensures { Asked (state S.Store conn.old) (state S.Store conn.new) result (λ first. IsTrue first → HasNoneOf r.now.node.items r.now.time r.now.pico (cells ((state S.Store conn.old).now.trees 1))) }
+    requires { WhereClean S.Store conn.old Idles }
+    ensures { LeavesUnchanged (state S.Store conn.old) (state S.Store conn.new) result
+        (λ first. IsTrue first
+        → HasNoneOf r.now.node.items r.now.time r.now.pico (cells (tables_of S.Store conn.old 1))) }
 {
     let rows = select(
         conn,
@@ -54,14 +57,19 @@ fn is_first<S: Alter>(conn: &mut Connection<S>, r: &Cells) -> Result<bool, Store
 /// Adds a record with the rows that follow, in one commit; `first` tells that no other stands at its node and
 /// time. A connection that is inside a transaction is refused: none is where the disk is honest.
 fn write_cells<S: Alter>(conn: &mut Connection<S>, r: &Cells, first: bool) -> Result<(), StoreFault>
-    requires idles { HasCleanDisk (state S.Store conn.old) → Idles (state S.Store conn.old) }
-    requires kept { HasCleanDisk (state S.Store conn.old) → AreKept (state S.Store conn.old).now.trees }
-    requires next { HasCleanDisk (state S.Store conn.old) → IsNextRow (cells_of r.now.origin r.now.number r.now.tick r.now.node.items r.now.time r.now.pico r.now.asked r.now.who.items r.now.value.items) (state S.Store conn.old).now.trees }
-    requires none { IsTrue first → HasCleanDisk (state S.Store conn.old) → HasNoneOf r.now.node.items r.now.time r.now.pico (cells ((state S.Store conn.old).now.trees 1)) }
-    ensures added { HasCleanDisk (state S.Store conn.new) → OnOk result (Idles (state S.Store conn.new) × Adds (cells_of r.now.origin r.now.number r.now.tick r.now.node.items r.now.time r.now.pico r.now.asked r.now.who.items r.now.value.items) (state S.Store conn.old).now.trees (state S.Store conn.new).now.trees) }
-    ensures refused { HasCleanDisk (state S.Store conn.new) → IfErr result (λ fault. fault ≢ StoreFault.Broken → Stays (state S.Store conn.old) (state S.Store conn.new)) }
+    requires idles { WhereClean S.Store conn.old Idles }
+    requires kept { WhereClean S.Store conn.old (Sees AreKept) }
+    requires next { WhereClean S.Store conn.old (Sees (IsNextRow (row_of_cells r.now))) }
+    requires none { IsTrue first → HasCleanDisk (state S.Store conn.old)
+        → HasNoneOf r.now.node.items r.now.time r.now.pico (cells (tables_of S.Store conn.old 1)) }
+    ensures added { Commits S.Store conn.old conn.new result (Adds (row_of_cells r.now)) }
+    ensures refused { HasCleanDisk (state S.Store conn.new)
+        → IfErr result
+        (λ fault. fault ≢ StoreFault.Broken
+        → KeepsState (state S.Store conn.old) (state S.Store conn.new)) }
     ensures met { IfErr result (λ fault. IsOfOpening fault → ⊥) }
-    ensures crash { Survives (state S.Store conn.old) (state S.Store conn.new) (Adds (cells_of r.now.origin r.now.number r.now.tick r.now.node.items r.now.time r.now.pico r.now.asked r.now.who.items r.now.value.items) (state S.Store conn.old).now.trees) }
+    ensures crash { Survives (state S.Store conn.old) (state S.Store conn.new)
+        (Adds (row_of_cells r.now) (tables_of S.Store conn.old)) }
 {
     if !conn.is_autocommit() {
         return Err(StoreFault::Refused);
@@ -74,13 +82,17 @@ fn write_cells<S: Alter>(conn: &mut Connection<S>, r: &Cells, first: bool) -> Re
 
 /// Adds a record with the rows that follow, in one commit.
 pub(crate) fn store_cells<S: Alter>(conn: &mut Connection<S>, r: &Cells) -> Result<(), StoreFault>
-    requires idles { HasCleanDisk (state S.Store conn.old) → Idles (state S.Store conn.old) }
-    requires kept { HasCleanDisk (state S.Store conn.old) → AreKept (state S.Store conn.old).now.trees }
-    requires next { HasCleanDisk (state S.Store conn.old) → IsNextRow (cells_of r.now.origin r.now.number r.now.tick r.now.node.items r.now.time r.now.pico r.now.asked r.now.who.items r.now.value.items) (state S.Store conn.old).now.trees }
-    ensures added { HasCleanDisk (state S.Store conn.new) → OnOk result (Idles (state S.Store conn.new) × Adds (cells_of r.now.origin r.now.number r.now.tick r.now.node.items r.now.time r.now.pico r.now.asked r.now.who.items r.now.value.items) (state S.Store conn.old).now.trees (state S.Store conn.new).now.trees) }
-    ensures refused { HasCleanDisk (state S.Store conn.new) → IfErr result (λ fault. fault ≢ StoreFault.Broken → Stays (state S.Store conn.old) (state S.Store conn.new)) }
+    requires idles { WhereClean S.Store conn.old Idles }
+    requires kept { WhereClean S.Store conn.old (Sees AreKept) }
+    requires next { WhereClean S.Store conn.old (Sees (IsNextRow (row_of_cells r.now))) }
+    ensures added { Commits S.Store conn.old conn.new result (Adds (row_of_cells r.now)) }
+    ensures refused { HasCleanDisk (state S.Store conn.new)
+        → IfErr result
+        (λ fault. fault ≢ StoreFault.Broken
+        → KeepsState (state S.Store conn.old) (state S.Store conn.new)) }
     ensures met { IfErr result (λ fault. IsOfOpening fault → ⊥) }
-    ensures crash { Survives (state S.Store conn.old) (state S.Store conn.new) (Adds (cells_of r.now.origin r.now.number r.now.tick r.now.node.items r.now.time r.now.pico r.now.asked r.now.who.items r.now.value.items) (state S.Store conn.old).now.trees) }
+    ensures crash { Survives (state S.Store conn.old) (state S.Store conn.new)
+        (Adds (row_of_cells r.now) (tables_of S.Store conn.old)) }
 {
     let first = is_first(conn, r)?;
     write_cells(conn, r, first)
@@ -123,7 +135,7 @@ fn value_bytes(alloc: Global, value: &DataValue) -> Result<Vec<u8>, StoreFault>
 #[tactic(auto, using(crate::proofs::LearnLemmas::short_enough))]
 pub fn make_cells(alloc: Global, r: &Record) -> Result<Cells, StoreFault>
     requires { IsLawfulRecord r.now }
-    ensures row { IfOk result (λ c. cells_of c.origin c.number c.tick c.node.items c.time c.pico c.asked c.who.items c.value.items ≡ row_of r.now) }
+    ensures row { IfOk result (λ c. row_of_cells c ≡ row_of r.now) }
     ensures met { IfErr result (λ fault. fault ≡ StoreFault.OutOfMemory) }
 {
     let number = r.number as i64;
@@ -150,10 +162,10 @@ pub fn store_record<S: Alter>(
     conn: &mut Connection<S>,
     r: &Record,
 ) -> Result<(), StoreFault>
-    requires idles { HasCleanDisk (state S.Store conn.old) → Idles (state S.Store conn.old) }
-    requires kept { HasCleanDisk (state S.Store conn.old) → AreKept (state S.Store conn.old).now.trees }
+    requires idles { WhereClean S.Store conn.old Idles }
+    requires kept { WhereClean S.Store conn.old (Sees AreKept) }
     requires lawful { IsLawfulRecord r.now }
-    requires next { HasCleanDisk (state S.Store conn.old) → IsNextRow (row_of r.now) (state S.Store conn.old).now.trees }
+    requires next { WhereClean S.Store conn.old (Sees (IsNextRow (row_of r.now))) }
     ensures { Stored (state S.Store conn.old) (state S.Store conn.new) r.now result }
 {
     let row = make_cells(alloc, r)?;

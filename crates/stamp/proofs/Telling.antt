@@ -7,7 +7,7 @@ use Rattle.std.specs.Prelude.{nat_le, ◌&&◌, slice_set}
 use Rattle.std.specs.List.{AllByRecursion}
 use Rattle.stamp.specs.Limits.{greatest}
 use Rattle.stamp.specs.Numbers.{number_of, IsVector, zeros, filled}
-use Rattle.stamp.specs.Vector.{entries_above, entry_list, Tells, vector}
+use Rattle.stamp.specs.Vector.{entries_above, entry_list, IsVectorOf, vector}
 use Rattle.stamp.proofs.Maps.{number_of-zeros, number_of-set_same, number_of-set_other, zeros_vector, set_vector, same_numbers}
 
 -- entries of replicas up to 64 and numbers up to the greatest, each above the one before it, the first above this replica
@@ -53,7 +53,7 @@ named_told (e ∷ es) numbers last whole a =
     let put : number_of next e.0 ≡ e.1 = number_of-set_same numbers (e.0 - 1) e.0 e.1 (omega arith) (omega arith) in
     (others_kept es next e.0 e.0 a.2 (below_all es e.0 e.0 a.2 (omega arith)) ∙ put, named_told es next e.0 (length-set numbers (e.0 - 1) e.1 ∙ whole) a.2)
 
-filled_tells : (es : List (ℕ × ℕ)) → Ascends 0 es → Tells es (filled zeros es)
+filled_tells : (es : List (ℕ × ℕ)) → Ascends 0 es → IsVectorOf es (filled zeros es)
 filled_tells es a = record {
   named = named_told es zeros 0 zeros_vector.whole a;
   others = λ replica ne. others_kept es zeros 0 replica a ne ∙ number_of-zeros replica;
@@ -70,7 +70,7 @@ named_or_not (e ∷ es) a b p q replica = elim (cases_eq e.0 replica) [
   ]
 ]
 
-tells_one : (es : List (ℕ × ℕ)) (a b : List ℕ) → Tells es a → Tells es b → (replica : ℕ) → number_of a replica ≡ number_of b replica
+tells_one : (es : List (ℕ × ℕ)) (a b : List ℕ) → IsVectorOf es a → IsVectorOf es b → (replica : ℕ) → number_of a replica ≡ number_of b replica
 tells_one es a b p q replica = elim (named_or_not es a b p.named q.named replica) [
   | inl same ↦ same
   | inr ne ↦ p.others replica ne ∙ sym (q.others replica ne)
@@ -86,14 +86,14 @@ unfolding vector
 spelled_vector bytes numbers s = subst IsVector (sym s.2) (filled_vector s.0 zeros 0 zeros_vector (ascends s.1.2 0 s.1.1 s.0 s.1.5))
 
 -- what is spelled is told by entries that are spelled there
-pub told : (bytes numbers : List ℕ) → vector.Spells bytes numbers → (es : List (ℕ × ℕ)) × entry_list.Spells bytes es × Tells es numbers
+pub told : (bytes numbers : List ℕ) → vector.Spells bytes numbers → (es : List (ℕ × ℕ)) × entry_list.Spells bytes es × IsVectorOf es numbers
 unfolding vector
 told bytes numbers s =
     let a : Ascends 0 s.0 = ascends s.1.2 0 s.1.1 s.0 s.1.5 in
-    (s.0, s.1, subst (Tells s.0) (sym s.2) (filled_tells s.0 a))
+    (s.0, s.1, subst (IsVectorOf s.0) (sym s.2) (filled_tells s.0 a))
 
 -- and what entries tell that are spelled there, is spelled
-pub spelled : (bytes numbers : List ℕ) (es : List (ℕ × ℕ)) → length numbers ≡ 64 → entry_list.Spells bytes es → Tells es numbers → vector.Spells bytes numbers
+pub spelled : (bytes numbers : List ℕ) (es : List (ℕ × ℕ)) → length numbers ≡ 64 → entry_list.Spells bytes es → IsVectorOf es numbers → vector.Spells bytes numbers
 unfolding vector
 spelled bytes numbers es whole s tells =
     let a : Ascends 0 es = ascends s.2 0 s.1 es s.5 in

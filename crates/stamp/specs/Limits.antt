@@ -13,4 +13,6 @@ IsReplica n = (1 ≤ n) × (n ≤ 64)
 -- the tick of a new record, at this clock reading and above this greatest tick of all: none where
 -- the ticks are used up
 abbrev pub lift : ℤ → ℤ → Option ℤ
-lift now top = if int_lt top (pos greatest) then Some (int_max (top +ℤ pos 1) (int_min now (pos greatest))) else None
+lift now top =
+    if int_lt top (pos greatest) then Some (int_max (top +ℤ pos 1) (int_min now (pos greatest)))
+    else None

@@ -6,7 +6,7 @@ ghost use Rattle.ua_binary.specs.Format.{IsLawful, IsPrefixFree};
 ghost use Rattle.stamp.specs.declared.stamps.Stamp.{Stamp as StampValue};
 ghost use Rattle.stamp.specs.Stamp.{stamp_cmp};
 ghost use Rattle.stamp.specs.Numbers.{number_of, IsVector};
-ghost use Rattle.stamp.specs.Vector.{vector, entry_list, Tells};
+ghost use Rattle.stamp.specs.Vector.{vector, entry_list, IsVectorOf};
 
 use crate::stamps::Stamp;
 
@@ -27,7 +27,8 @@ pub fn formats_are_prefix_free()
 /// A vector is a map from replicas to numbers: two with the same number at each replica are equal.
 #[tactic(auto, using(crate::proofs::Maps::same_vectors))]
 pub fn vectors_are_maps()
-    ensures { (a b : List ℕ) → IsVector a → IsVector b → ((replica : ℕ) → number_of a replica ≡ number_of b replica) → a ≡ b }
+    ensures { (a b : List ℕ) → IsVector a → IsVector b
+        → ((replica : ℕ) → number_of a replica ≡ number_of b replica) → a ≡ b }
 {}
 
 /// Bytes spell a vector where they spell entries that tell its numbers: at each replica that they
@@ -35,8 +36,10 @@ pub fn vectors_are_maps()
 #[tactic(auto, using(crate::proofs::Telling::tellings))]
 pub fn vectors_are_told()
     ensures vector { (bytes numbers : List ℕ) → vector.Spells bytes numbers → IsVector numbers }
-    ensures told { (bytes numbers : List ℕ) → vector.Spells bytes numbers → (es : List (ℕ × ℕ)) × entry_list.Spells bytes es × Tells es numbers }
-    ensures spelled { (bytes numbers : List ℕ) (es : List (ℕ × ℕ)) → length numbers ≡ 64 → entry_list.Spells bytes es → Tells es numbers → vector.Spells bytes numbers }
+    ensures told { (bytes numbers : List ℕ) → vector.Spells bytes numbers
+        → (es : List (ℕ × ℕ)) × entry_list.Spells bytes es × IsVectorOf es numbers }
+    ensures spelled { (bytes numbers : List ℕ) (es : List (ℕ × ℕ)) → length numbers ≡ 64
+        → entry_list.Spells bytes es → IsVectorOf es numbers → vector.Spells bytes numbers }
 {}
 
 /// Stamps are in a total order, and it is the one by which they compare: by tick, then origin.

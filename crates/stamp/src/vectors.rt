@@ -85,7 +85,8 @@ impl Vector {
     /// Whether each replica's number is at least that in `other`.
     #[tactic(auto, using(crate::proofs::Maps::comparisons))]
     pub fn at_least(&self, other: &Vector) -> bool
-        ensures { IsTrue result ↔ ((replica : ℕ) → number_of other.now replica ≤ number_of self.now replica) }
+        ensures { IsTrue result
+            ↔ ((replica : ℕ) → number_of other.now replica ≤ number_of self.now replica) }
     {
         for i in 0..64 {
             if self.numbers[i] < other.numbers[i] {
@@ -98,7 +99,9 @@ impl Vector {
     /// Raises each replica's number to that in `other`, where it is below.
     #[tactic(auto, using(crate::proofs::Maps::joins))]
     pub fn join(&mut self, other: &Vector)
-        ensures { (replica : ℕ) → number_of self.new replica ≡ max (number_of self.old replica) (number_of other.now replica) }
+        ensures { (replica : ℕ)
+            → number_of self.new replica
+            ≡ max (number_of self.old replica) (number_of other.now replica) }
     {
         for i in 0..64 {
             self.numbers[i] = self.numbers[i].max(other.numbers[i]);
@@ -125,7 +128,8 @@ impl Vector {
     /// Writes it at the end, as `read` reads it, with the replicas whose number is above 0 alone. The
     /// one error is `OutOfMemory`, and then `out` is as it was.
     pub fn put(&self, out: &mut Vec<u8>) -> Result<(), VectorFault>
-        ensures { Puts VectorFault.OutOfMemory result out.old.items out.new.items (vector.canon self.now) }
+        ensures { Puts VectorFault.OutOfMemory result out.old.items out.new.items
+            (vector.canon self.now) }
     {
         let len = out.len();
         let put = self.put_parts(out);
@@ -135,7 +139,8 @@ impl Vector {
 
     #[tactic(auto, using(ua_binary::proofs::Kept::kept, crate::proofs::Putting::canon_vector))]
     fn put_parts(&self, out: &mut Vec<u8>) -> Result<(), BinaryFault>
-        ensures { PutsPart BinaryFault.OutOfMemory result out.old.items out.new.items (vector.canon self.now) }
+        ensures { PutsPart BinaryFault.OutOfMemory result out.old.items out.new.items
+            (vector.canon self.now) }
     {
         put_u8(out, count_entries(&self.numbers))?;
         put_entries(out, &self.numbers)?;
@@ -188,7 +193,8 @@ fn place_of(replica: ReplicaNo) -> usize
 
 /// How many entries a vector has.
 fn read_count(cursor: &mut Cursor) -> Result<u8, VectorFault>
-    ensures { Reads (λ x. x) result cursor.old cursor.new (passing (λ n. nat_le n 64) BadNumber (raised vector_fault byte)).read }
+    ensures { Reads (λ x. x) result cursor.old cursor.new
+        (passing (λ n. nat_le n 64) BadNumber (raised vector_fault byte)).read }
 {
     let mut next = cursor.fork();
     let count = next.u8()?;
@@ -221,7 +227,8 @@ fn read_entry(cursor: &mut Cursor, last: u8) -> Result<(ReplicaNo, u64), VectorF
 
 /// The numbers that so many entries give.
 fn read_entries(cursor: &mut Cursor, count: u8) -> Result<[u64; 64], VectorFault>
-    ensures numbers { Reads (λ x. x) result cursor.old cursor.new (standing_for (filled zeros) entries (entries_above 0 count)).read }
+    ensures numbers { Reads (λ x. x) result cursor.old cursor.new
+        (standing_for (filled zeros) entries (entries_above 0 count)).read }
     ensures vector { IfOk result IsVector }
 {
     let mut next = cursor.fork();
@@ -253,7 +260,8 @@ fn count_entries(numbers: &[u64; 64]) -> u8
 /// A replica and its number.
 #[tactic(auto, using(ua_binary::proofs::Kept::kept))]
 fn put_entry(out: &mut Vec<u8>, replica: u8, number: u64) -> Result<(), BinaryFault>
-    ensures { PutsPart BinaryFault.OutOfMemory result out.old.items out.new.items ((entry_above 0).canon (replica, number)) }
+    ensures { PutsPart BinaryFault.OutOfMemory result out.old.items out.new.items
+        ((entry_above 0).canon (replica, number)) }
 {
     put_u8(out, replica)?;
     put_u64(out, number)
@@ -262,7 +270,8 @@ fn put_entry(out: &mut Vec<u8>, replica: u8, number: u64) -> Result<(), BinaryFa
 /// The replicas with a number above 0, each with its number.
 #[tactic(auto, using(crate::proofs::Putting::puts))]
 fn put_entries(out: &mut Vec<u8>, numbers: &[u64; 64]) -> Result<(), BinaryFault>
-    ensures { PutsPart BinaryFault.OutOfMemory result out.old.items out.new.items (flat_map (entry_above 0).canon (entries numbers.now)) }
+    ensures { PutsPart BinaryFault.OutOfMemory result out.old.items out.new.items
+        (flat_map (entry_above 0).canon (entries numbers.now)) }
 {
     for i in 0..64 {
         if numbers[i] > 0 {

@@ -10,8 +10,8 @@ use Rattle.ua_binary.specs.declared.values.NodeId.TheVariants.{Numeric, Named, G
 use Rattle.ua_binary.specs.declared.values.LocalizedText.{LocalizedText}
 use Rattle.ua_binary.specs.declared.values.Body.{Body}
 use Rattle.ua_binary.specs.declared.values.Body.TheVariants.{Absent, Binary, Xml}
-use Rattle.ua_binary.specs.Format.{Format, nothing, refused, byte, block, ◌▸◌, chosen, standing_for, flagged, items, at_least}
-use Rattle.ua_binary.specs.Binary.{unsigned, byte_string, text, guid, guid_of, numbers_of}
+use Rattle.ua_binary.specs.Format.{Format, nothing, no_format, byte, block, ◌▸◌, chosen, standing_for, flagged, items, at_least}
+use Rattle.ua_binary.specs.Binary.{unsigned, byte_string, text, guid, guid_of, numeric_parts}
 
 -- the bytes, where there are any, are UTF-8
 abbrev pub is_text : Option (List ℕ) → Bool
@@ -27,13 +27,13 @@ opaque_parts v = elim v [ Opaque ns id ↦ (ns, Some id) | _ ↦ (0, None) ]
 
 -- the forms of node ids: of namespace 0 in two bytes, in four bytes, of any numbers, and with a Guid
 abbrev pub two_byte_node : Format BinaryFault NodeId
-two_byte_node = standing_for (λ id. Numeric 0 id) (λ v. (numbers_of v).1) byte
+two_byte_node = standing_for (λ id. Numeric 0 id) (λ v. (numeric_parts v).1) byte
 
 abbrev pub four_byte_node : Format BinaryFault NodeId
-four_byte_node = standing_for (λ p. Numeric p.0 p.1) numbers_of (byte ▸ unsigned w16)
+four_byte_node = standing_for (λ p. Numeric p.0 p.1) numeric_parts (byte ▸ unsigned w16)
 
 abbrev pub numeric_node : Format BinaryFault NodeId
-numeric_node = standing_for (λ p. Numeric p.0 p.1) numbers_of (unsigned w16 ▸ unsigned w32)
+numeric_node = standing_for (λ p. Numeric p.0 p.1) numeric_parts (unsigned w16 ▸ unsigned w32)
 
 abbrev pub global_node : Format BinaryFault NodeId
 global_node = standing_for (λ p. Global p.0 p.1) (λ v. elim v [ Global ns id ↦ (ns, id) | _ ↦ (0, guid_of (0, (0, (0, [])))) ]) (unsigned w16 ▸ guid)
@@ -44,7 +44,7 @@ localized_mask v = (if is_some v.locale then 1 else 0) + (if is_some v.text then
 
 -- what follows a count: as many bytes; nothing after -1, which is null; below -1 it is no count
 abbrev pub counted : ℤ → Format BinaryFault (Option (List ℕ))
-counted v = elim v [ pos n ↦ flagged true (block n) | negsuc zero ↦ nothing None | negsuc (suc n) ↦ refused BadLength ]
+counted v = elim v [ pos n ↦ flagged true (block n) | negsuc zero ↦ nothing None | negsuc (suc n) ↦ no_format BadLength ]
 
 -- the count that is written
 abbrev pub count_of : Option (List ℕ) → ℤ
@@ -52,7 +52,7 @@ count_of given = elim given [ None ↦ negsuc 0 | Some bytes ↦ pos (length byt
 
 -- as many items as a number tells; told says how a fault of the encoding is told
 abbrev pub counted_items : {E A : Type 0} → (BinaryFault → E) → Format E A → ℤ → Format E (List A)
-counted_items told f v = elim v [ pos n ↦ at_least n (told Short) (items n f) | negsuc zero ↦ nothing [] | negsuc (suc n) ↦ refused (told BadLength) ]
+counted_items told f v = elim v [ pos n ↦ at_least n (told Short) (items n f) | negsuc zero ↦ nothing [] | negsuc (suc n) ↦ no_format (told BadLength) ]
 
 -- the kind that is written
 abbrev pub body_kind : Body → ℕ
@@ -61,7 +61,7 @@ body_kind body = elim body [ Absent ↦ 0 | Binary b ↦ 1 | Xml b ↦ 2 ]
 -- those that the mask names, the locale first; a null one is absent; another bit has no meaning
 abbrev pub localized_fields : ℕ → Format BinaryFault LocalizedText
 localized_fields mask =
-    chosen (nat_lt 3 mask) (refused BadEncodingByte) (
+    chosen (nat_lt 3 mask) (no_format BadEncodingByte) (
     standing_for (λ p. record { locale = option_flatten p.0; text = option_flatten p.1 }) (λ v. (option_map Some v.locale, option_map Some v.text))
     (flagged (not (bit_and mask 1 == 0)) text ▸ flagged (not (bit_and mask 2 == 0)) text))
 
@@ -71,4 +71,4 @@ body_form kind =
     chosen (kind == 0) (nothing Absent) (
     chosen (kind == 1) (standing_for (λ b. Binary (unwrap_or b [])) (λ v. elim v [ Binary b ↦ Some b | _ ↦ None ]) byte_string) (
     chosen (kind == 2) (standing_for (λ b. Xml (unwrap_or b [])) (λ v. elim v [ Xml b ↦ Some b | _ ↦ None ]) byte_string) (
-    refused BadEncodingByte)))
+    no_format BadEncodingByte)))

@@ -9,7 +9,7 @@ use Rattle.std.specs.Prelude.{bit_and, unwrap_or}
 use Rattle.ua_binary.specs.declared.fault.BinaryFault.{BinaryFault}
 use Rattle.ua_binary.specs.declared.fault.BinaryFault.TheVariants.{BadLength, BadUtf8, BadEncodingByte}
 use Rattle.ua_binary.specs.declared.values.NodeId.TheVariants.{Numeric, Named, Global, Opaque}
-use Rattle.ua_binary.specs.Format.{IsLawful, Format, nothing, refused, byte, block, ◌▸◌, chosen, headed, standing_for, passing, flagged, fitting, raised, ItemsSpelled, items}
+use Rattle.ua_binary.specs.Format.{IsLawful, Format, nothing, no_format, byte, block, ◌▸◌, chosen, headed, standing_for, passing, flagged, fitting, raised, ItemsSpelled, items}
 use Rattle.ua_binary.specs.Binary.{unsigned, signed, IsCounted, byte_string, text, IsText, guid, node_form, node_form_of, IsNodeId, IsShortNode, node_id, localized, IsLocalized, IsShortLocalized, qualified, IsQualified, array}
 use Rattle.ua_binary.proofs.BinaryParts.{is_text, named_parts, opaque_parts, two_byte_node, four_byte_node, numeric_node, global_node, localized_fields, counted_items, count_of, counted, localized_mask}
 
@@ -25,7 +25,7 @@ any_only f = record { holds = λ bytes v s. tt }
 pub nothing_only : {E A : Type 0} {P : A → Type 0} (a : A) → P a → SpellsOnly (nothing {E = E} a) P
 nothing_only {P = P} a h = record { holds = λ bytes v s. subst P (sym s.1) h }
 
-pub refused_only : {E A : Type 0} {P : A → Type 0} (e : E) → SpellsOnly (refused {A = A} e) P
+pub refused_only : {E A : Type 0} {P : A → Type 0} (e : E) → SpellsOnly (no_format {A = A} e) P
 refused_only e = record { holds = λ bytes v s. absurd s }
 
 pub then_only : {E A B : Type 0} {f : Format E A} {g : Format E B} {P : A → Type 0} {Q : B → Type 0} → SpellsOnly f P → SpellsOnly g Q → SpellsOnly (f ▸ g) (λ v. P v.0 × Q v.1)

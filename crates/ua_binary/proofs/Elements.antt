@@ -1,7 +1,7 @@
 -- What may stand in an array: an item takes a byte at least, so that no count passes the bytes left.
 use Rattle.std.proofs.Common.{◌≡◌, ℕ, ◌<◌, Bool, true, false, List, [], ◌∷◌, length, Err, sym, ◌∙◌, arith}
 use Rattle.std.proofs.lemmas.List.{length-append}
-use Rattle.ua_binary.specs.Format.{Format, IsLawful, refused, ◌▸◌, chosen, headed, standing_for, passing, fitting, raised}
+use Rattle.ua_binary.specs.Format.{Format, IsLawful, no_format, ◌▸◌, chosen, headed, standing_for, passing, fitting, raised}
 use Rattle.ua_binary.proofs.Combined.{IsNonEmpty, refused_lawful, then_lawful, headed_lawful, standing_lawful, passing_lawful, fitting_lawful, raised_lawful}
 
 -- a lawful format of items
@@ -17,7 +17,7 @@ positive p e (b ∷ bytes) v s = omega arith
 pub item : {E A : Type 0} {f : Format E A} {e : E} → IsLawful f → f.read [] ≡ Err e → IsItemLawful f
 item p e = record { lawful = p; some = record { some = positive p e } }
 
-pub refused_item : {E A : Type 0} (e : E) → IsItemLawful (refused {A = A} e)
+pub refused_item : {E A : Type 0} (e : E) → IsItemLawful (no_format {A = A} e)
 refused_item e = record { lawful = refused_lawful e; some = record { some = λ bytes v s. absurd s } }
 
 pub standing_item : {E A B : Type 0} (to : A → B) (from : B → A) {f : Format E A} → IsItemLawful f → IsItemLawful (standing_for to from f)

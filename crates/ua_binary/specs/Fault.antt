@@ -6,14 +6,14 @@ use Rattle.ua_binary.specs.declared.fault.BinaryFault.{BinaryFault}
 use Rattle.ua_binary.specs.declared.fault.BinaryFault.TheVariants.{Short, BadLength, BadUtf8, BadEncodingByte, OutOfMemory}
 
 -- the number that scripts and logs show
-abbrev pub number_of : BinaryFault → ℕ
-number_of Short = 1
-number_of BadLength = 2
-number_of BadUtf8 = 3
-number_of BadEncodingByte = 4
-number_of OutOfMemory = 5
+abbrev pub binary_fault_number : BinaryFault → ℕ
+binary_fault_number Short = 1
+binary_fault_number BadLength = 2
+binary_fault_number BadUtf8 = 3
+binary_fault_number BadEncodingByte = 4
+binary_fault_number OutOfMemory = 5
 
 -- want of memory has a code of its own
-abbrev pub status_of : BinaryFault → Status
-status_of OutOfMemory = BAD_OUT_OF_MEMORY
-status_of fault = BAD_DECODING_ERROR
+abbrev pub binary_fault_status : BinaryFault → Status
+binary_fault_status OutOfMemory = BAD_OUT_OF_MEMORY
+binary_fault_status fault = BAD_DECODING_ERROR

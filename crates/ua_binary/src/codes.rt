@@ -133,9 +133,9 @@ impl<T: Drop> From<AllocFailed<T>> for Status {
 /// Want of memory stays what it is, and every other fault of the encoding is Bad_DecodingError.
 impl From<BinaryFault> for Status {
     ghost use Rattle.std.specs.Prelude.{◌≡◌};
-    ghost use Rattle.ua_binary.specs.Fault.{status_of};
+    ghost use Rattle.ua_binary.specs.Fault.{binary_fault_status};
 
-    ghost from_gives = { λ cause told. told ≡ status_of cause };
+    ghost from_gives = { λ cause told. told ≡ binary_fault_status cause };
 
     fn from(cause: BinaryFault) -> Status {
         match cause {

@@ -403,7 +403,8 @@ impl<'a> Cursor<'a> {
 #[tactic(auto, using(crate::proofs::Utf8::tested))]
 #[inline(never)]
 fn utf8(bytes: &[u8]) -> Option<&str>
-    ensures { MatchOption result (is_utf8 bytes.now ≡ false) (λ s. (s.now ≡ bytes.now) × (is_utf8 s.now ≡ true)) }
+    ensures { MatchOption result (is_utf8 bytes.now ≡ false)
+        (λ s. (s.now ≡ bytes.now) × (is_utf8 s.now ≡ true)) }
 {
     match str::from_utf8(bytes) {
         Ok(found) => Some(found),

@@ -89,7 +89,8 @@ impl<'a, T> IntoIterator for &'a Listing<T> {
 
     type IntoIter = slice::Iter<'a, T>;
 
-    ghost into_iter_gives = { λ l it. (iter_rest it ≡ l.now) × (length (iter_rest it) < 2 ^ 64) × EveryRun (iter_steps {A = T}) (λ p. ItemsMapTo p (λ x. x.now) (iter_rest p.from)) };
+    ghost into_iter_gives = { λ l it. (iter_rest it ≡ l.now) × (length (iter_rest it) < 2 ^ 64)
+        × EveryRun (iter_steps {A = T}) (λ p. ItemsMapTo p (λ x. x.now) (iter_rest p.from)) };
 
     fn into_iter(self) -> slice::Iter<'a, T> {
         self.as_slice().iter()

@@ -21,7 +21,8 @@ use crate::values::{
 #[inline(always)]
 pub fn or_undone<E>(put: Result<(), E>, out: &mut Vec<u8>, len: usize) -> Result<(), E>
     ensures same { result ≡ put }
-    ensures items { MatchResult put (λ _. out.new.items ≡ out.old.items) (λ _. out.new.items ≡ take len out.old.items) }
+    ensures items { MatchResult put (λ _. out.new.items ≡ out.old.items)
+        (λ _. out.new.items ≡ take len out.old.items) }
 {
     if put.is_err() {
         out.truncate(len);
@@ -146,7 +147,8 @@ pub fn put_status(out: &mut Vec<u8>, v: Status) -> Result<(), BinaryFault>
 #[inline(always)]
 pub fn put_count(out: &mut Vec<u8>, count: usize) -> Result<(), BinaryFault>
     requires { count < 2 ^ 31 }
-    ensures { Puts BinaryFault.OutOfMemory result out.old.items out.new.items ((signed w32).canon (pos count)) }
+    ensures { Puts BinaryFault.OutOfMemory result out.old.items out.new.items
+        ((signed w32).canon (pos count)) }
 {
     put_i32(out, count as i32)
 }
@@ -154,7 +156,8 @@ pub fn put_count(out: &mut Vec<u8>, count: usize) -> Result<(), BinaryFault>
 #[tactic(auto, using(crate::proofs::Kept::kept), unfolding(crate::specs::Binary::byte_string))]
 fn put_bytes_parts(out: &mut Vec<u8>, v: Option<&[u8]>) -> Result<(), BinaryFault>
     requires { IsCounted (option_copied v) }
-    ensures { PutsPart BinaryFault.OutOfMemory result out.old.items out.new.items (byte_string.canon (option_copied v.entry)) }
+    ensures { PutsPart BinaryFault.OutOfMemory result out.old.items out.new.items
+        (byte_string.canon (option_copied v.entry)) }
 {
     match v {
         None => put_i32(out, -1)?,
@@ -170,7 +173,8 @@ fn put_bytes_parts(out: &mut Vec<u8>, v: Option<&[u8]>) -> Result<(), BinaryFaul
 /// -1 for a null one.
 pub fn put_bytes(out: &mut Vec<u8>, v: Option<&[u8]>) -> Result<(), BinaryFault>
     requires { IsCounted (option_copied v) }
-    ensures { Puts BinaryFault.OutOfMemory result out.old.items out.new.items (byte_string.canon (option_copied v.entry)) }
+    ensures { Puts BinaryFault.OutOfMemory result out.old.items out.new.items
+        (byte_string.canon (option_copied v.entry)) }
 {
     let len = out.len();
     let put = put_bytes_parts(out, v);
@@ -180,7 +184,8 @@ pub fn put_bytes(out: &mut Vec<u8>, v: Option<&[u8]>) -> Result<(), BinaryFault>
 /// The same of bytes that own their memory.
 pub fn put_owned_bytes(out: &mut Vec<u8>, v: &Option<Bytes>) -> Result<(), BinaryFault>
     requires { IsCounted v.now }
-    ensures { Puts BinaryFault.OutOfMemory result out.old.items out.new.items (byte_string.canon v.now) }
+    ensures { Puts BinaryFault.OutOfMemory result out.old.items out.new.items
+        (byte_string.canon v.now) }
 {
     match v {
         None => put_bytes(out, None),
@@ -193,7 +198,8 @@ pub fn put_owned_bytes(out: &mut Vec<u8>, v: &Option<Bytes>) -> Result<(), Binar
 #[tactic(auto, unfolding(crate::specs::Binary::text))]
 pub fn put_text(out: &mut Vec<u8>, v: Option<&str>) -> Result<(), BinaryFault>
     requires { IsCounted (option_copied v) }
-    ensures { Puts BinaryFault.OutOfMemory result out.old.items out.new.items (text.canon (option_copied v.entry)) }
+    ensures { Puts BinaryFault.OutOfMemory result out.old.items out.new.items
+        (text.canon (option_copied v.entry)) }
 {
     match v {
         None => put_bytes(out, None),
@@ -245,7 +251,8 @@ pub fn put_guid(out: &mut Vec<u8>, v: &Guid) -> Result<(), BinaryFault>
 #[inline(always)]
 fn put_node_id_parts(out: &mut Vec<u8>, v: NodeIdRef<'_>) -> Result<(), BinaryFault>
     requires { IsShortNode (node_of v) }
-    ensures puts { PutsPart BinaryFault.OutOfMemory result out.old.items out.new.items (node_id.canon (node_of v.entry)) }
+    ensures puts { PutsPart BinaryFault.OutOfMemory result out.old.items out.new.items
+        (node_id.canon (node_of v.entry)) }
 {
     match v {
         NodeIdRef::Numeric(namespace, id) => {
@@ -293,7 +300,8 @@ pub fn put_node_id(out: &mut Vec<u8>, v: &NodeId) -> Result<(), BinaryFault>
 #[inline(always)]
 pub fn put_node_id_ref(out: &mut Vec<u8>, v: NodeIdRef<'_>) -> Result<(), BinaryFault>
     requires { IsShortNode (node_of v) }
-    ensures puts { Puts BinaryFault.OutOfMemory result out.old.items out.new.items (node_id.canon (node_of v.entry)) }
+    ensures puts { Puts BinaryFault.OutOfMemory result out.old.items out.new.items
+        (node_id.canon (node_of v.entry)) }
 {
     let len = out.len();
     let put = put_node_id_parts(out, v);
@@ -303,7 +311,8 @@ pub fn put_node_id_ref(out: &mut Vec<u8>, v: NodeIdRef<'_>) -> Result<(), Binary
 #[tactic(auto, using(crate::proofs::Kept::kept), unfolding(crate::specs::Binary::qualified))]
 fn put_qualified_parts(out: &mut Vec<u8>, v: &QualifiedName) -> Result<(), BinaryFault>
     requires { IsCounted v.now.name }
-    ensures puts { PutsPart BinaryFault.OutOfMemory result out.old.items out.new.items (qualified.canon v.now) }
+    ensures puts { PutsPart BinaryFault.OutOfMemory result out.old.items out.new.items
+        (qualified.canon v.now) }
     ensures spelled { IfOk result (λ _. IsQualified v.now) }
 {
     let QualifiedName { namespace, name } = v;
@@ -326,7 +335,8 @@ pub fn put_qualified(out: &mut Vec<u8>, v: &QualifiedName) -> Result<(), BinaryF
 #[tactic(auto, using(crate::proofs::Kept::kept), unfolding(crate::specs::Binary::localized))]
 fn put_localized_parts(out: &mut Vec<u8>, v: &LocalizedText) -> Result<(), BinaryFault>
     requires { IsShortLocalized v.now }
-    ensures puts { PutsPart BinaryFault.OutOfMemory result out.old.items out.new.items (localized.canon v.now) }
+    ensures puts { PutsPart BinaryFault.OutOfMemory result out.old.items out.new.items
+        (localized.canon v.now) }
     ensures spelled { IfOk result (λ _. IsLocalized v.now) }
 {
     let locale_bit = if v.locale.is_some() { 1 } else { 0 };
@@ -355,7 +365,8 @@ pub fn put_localized(out: &mut Vec<u8>, v: &LocalizedText) -> Result<(), BinaryF
 #[tactic(auto, using(crate::proofs::Kept::kept), unfolding(crate::specs::Binary::extension))]
 fn put_extension_parts(out: &mut Vec<u8>, v: &ExtensionObject) -> Result<(), BinaryFault>
     requires { IsShortNode v.now.type_id × IsBody v.now.body }
-    ensures puts { PutsPart BinaryFault.OutOfMemory result out.old.items out.new.items (extension.canon v.now) }
+    ensures puts { PutsPart BinaryFault.OutOfMemory result out.old.items out.new.items
+        (extension.canon v.now) }
     ensures spelled { IfOk result (λ _. IsExtension v.now) }
 {
     put_node_id(out, &v.type_id)?;

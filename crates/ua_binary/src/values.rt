@@ -362,7 +362,8 @@ impl<'a> QualifiedRef<'a> {
 
     /// The same name, in memory of its own. The one error is `OutOfMemory`.
     pub fn to_owned(self, alloc: Global) -> Result<QualifiedName, BinaryFault>
-        ensures { MatchResult result (λ v. v ≡ qualified_of self.entry) (λ e. e ≡ BinaryFault.OutOfMemory) }
+        ensures { MatchResult result (λ v. v ≡ qualified_of self.entry)
+            (λ e. e ≡ BinaryFault.OutOfMemory) }
     {
         let name = owned_text(alloc, self.name)?;
         Ok(QualifiedName {
@@ -414,7 +415,8 @@ impl<'a> LocalizedRef<'a> {
 
     /// The same text, in memory of its own. The one error is `OutOfMemory`.
     pub fn to_owned(self, alloc: Global) -> Result<LocalizedText, BinaryFault>
-        ensures { MatchResult result (λ v. v ≡ localized_of self.entry) (λ e. e ≡ BinaryFault.OutOfMemory) }
+        ensures { MatchResult result (λ v. v ≡ localized_of self.entry)
+            (λ e. e ≡ BinaryFault.OutOfMemory) }
     {
         let locale = owned_text(alloc, self.locale)?;
         let text = owned_text(alloc, self.text)?;
@@ -505,7 +507,8 @@ impl<'a> ExtensionRef<'a> {
 
     /// The same structure, in memory of its own. The one error is `OutOfMemory`.
     pub fn to_owned(self, alloc: Global) -> Result<ExtensionObject, BinaryFault>
-        ensures { MatchResult result (λ v. v ≡ extension_of self.entry) (λ e. e ≡ BinaryFault.OutOfMemory) }
+        ensures { MatchResult result (λ v. v ≡ extension_of self.entry)
+            (λ e. e ≡ BinaryFault.OutOfMemory) }
     {
         let type_id = self.type_id.to_owned(alloc)?;
         let body = match self.body {
@@ -519,7 +522,8 @@ impl<'a> ExtensionRef<'a> {
 
 /// A text in memory of its own, where there is one.
 fn owned_text(alloc: Global, text: Option<&str>) -> Result<Option<Text>, BinaryFault>
-    ensures { MatchResult result (λ v. v ≡ option_copied text.entry) (λ e. e ≡ BinaryFault.OutOfMemory) }
+    ensures { MatchResult result (λ v. v ≡ option_copied text.entry)
+        (λ e. e ≡ BinaryFault.OutOfMemory) }
 {
     match text {
         None => Ok(None),

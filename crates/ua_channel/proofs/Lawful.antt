@@ -8,7 +8,7 @@ use Rattle.ua_binary.specs.declared.values.NodeId.TheVariants.{Numeric}
 use Rattle.ua_binary.specs.declared.values.Body.TheVariants.{Absent}
 use Rattle.ua_binary.proofs.Combined.{exactly_lawful, then_lawful, standing_lawful, passing_lawful, fitting_lawful}
 use Rattle.ua_binary.proofs.Lawful.{u32_lawful, i32_lawful, text_lawful, byte_string_lawful, node_id_lawful, ticks_lawful, status_lawful, extension_lawful}
-use Rattle.ua_channel.specs.Headers.{security_header, sequence_header, message_header, request_header, response_header, open_request, open_response, IsNumbers, IsAsked}
+use Rattle.ua_channel.specs.Headers.{security_header, sequence_header, message_header, request_header, response_header, open_request, open_response, IsNumbers, IsOpenRequestBody}
 use Rattle.ua_channel.proofs.HeadersParts.{is_opening}
 
 pub security_lawful : IsLawful security_header
@@ -33,7 +33,7 @@ response_lawful = standing_lawful _ _ (then_lawful ticks_lawful (then_lawful u32
 
 pub open_request_lawful : IsLawful open_request
 unfolding open_request unsigned signed text byte_string ticks node_id extension request_header
-open_request_lawful = fitting_lawful IsAsked
+open_request_lawful = fitting_lawful IsOpenRequestBody
     (λ v h. ((((omega arith, omega arith), refl), (((omega arith, omega arith), (omega (arith, ints), (h.0, (omega arith, (tt, (omega arith, ((omega arith, omega arith), tt))))))), (omega arith, (h.1, (h.2, (tt, h.3)))))), refl))
     (standing_lawful _ (λ v. (Numeric 0 446, ((Numeric 0 0, (record { 0 = pos 0 }, (v.handle, (0, (None, (0, record { type_id = Numeric 0 0; body = Absent })))))), (0, (v.request_type, (v.mode, (None, v.lifetime)))))))
     (then_lawful (passing_lawful is_opening BadEncodingByte node_id_lawful) (then_lawful request_lawful (then_lawful u32_lawful (then_lawful i32_lawful (then_lawful i32_lawful (then_lawful byte_string_lawful u32_lawful)))))))

@@ -11,18 +11,18 @@ use Rattle.uacp.specs.declared.types.Letter.{Letter}
 use Rattle.uacp.specs.declared.types.Letter.TheVariants.{Final, More, Abort}
 use Rattle.uacp.specs.declared.greeting.Hello.{Hello as Greeting}
 use Rattle.uacp.specs.declared.greeting.Ack.{Ack}
-use Rattle.uacp.specs.Stream.{Piece}
+use Rattle.uacp.specs.Stream.{ChunkContent}
 use Rattle.ua_channel.specs.declared.fault.ChannelFault.{ChannelFault}
 use Rattle.ua_channel.specs.declared.headers.Numbers.{Numbers}
 use Rattle.ua_channel.specs.declared.taken.Taken.{Taken}
 use Rattle.ua_channel.specs.declared.taken.Taken.TheVariants as taken
 use Rattle.ua_channel.specs.Headers.{security_header, sequence_header, message_header}
 use Rattle.ua_binary.specs.Rules.{checked}
-use Rattle.ua_channel.specs.Placed.{Placed, Opens, Says, Closes, Heard, heard_of, judged, decoded, asked_at, asked_rules, number_rules, size_rules, open_run, bodies_of}
+use Rattle.ua_channel.specs.Placed.{Placed, Opens, Says, Closes, Heard, heard_of, placed_chunk, with_decoding_fault, asked_at, asked_rules, number_rules, size_rules, open_run, bodies_of}
 use Rattle.ua_channel.proofs.PlacedParts.{sequence_rules, security_rules, judged_by}
-use Rattle.ua_channel.specs.Taking.{State, fresh, answer_of, after, HasRoomFor, Takes, LeavesReady}
+use Rattle.ua_channel.specs.Taking.{ChannelState, new_channel, taken_answer, heard_after, HasRoomFor, Takes, LeavesReady}
 use Rattle.ua_channel.specs.Sending.{number_after, IsNumber}
-use Rattle.ua_channel.specs.Run.{Event, Took, Starved, Wrote, Runs, written_of_run, AreMore, IsBetween, AreTaken}
+use Rattle.ua_channel.specs.Run.{ChannelCall, Took, Starved, Wrote, RunsChannel, written_of_run, AreMore, IsBetween, AreTaken}
 use Rattle.ua_channel.proofs.Takings.{refuses-told}
 use Rattle.ua_channel.proofs.Sendings.{number_after-none}
 
@@ -34,7 +34,7 @@ open_run-append [] (chunk ∷ older) between more = rw between refl
 open_run-append (chunk ∷ run) older between more = rw (more.0) (ap (λ chunks. chunk ∷ chunks) (open_run-append run older between more.1))
 
 pub message-run : (older run : List Placed) (numbers : Numbers) (body : List ℕ) → IsBetween older → AreMore run
-    → answer_of (heard_of (run ++ older)) (Says Final numbers body) ≡ taken.Message numbers.request_id (bodies_of run ++ body)
+    → taken_answer (heard_of (run ++ older)) (Says Final numbers body) ≡ taken.Message numbers.request_id (bodies_of run ++ body)
 message-run older run numbers body between more = ap (λ chunks. taken.Message numbers.request_id (bodies_of chunks ++ body)) (open_run-append run older between more)
 
 -- ---- a chunk that was judged well placed has room in its message
@@ -68,17 +68,17 @@ size_room heard Abort body e = tt
 judged_by_room : (heard : Heard) (kind : Kind) (letter : Letter) (body : List ℕ) → Room heard (judged_by heard kind letter body)
 judged_by_room heard Hello letter body = tt
 judged_by_room heard Open letter body =
-    bind_room heard (decoded (security_header.read body)) _ (λ security _.
+    bind_room heard (with_decoding_fault (security_header.read body)) _ (λ security _.
     bind_room heard (checked (security_rules heard security.0)) _ (λ _ _.
-    bind_room heard (decoded (sequence_header.read security.1)) _ (λ sequence _.
+    bind_room heard (with_decoding_fault (sequence_header.read security.1)) _ (λ sequence _.
     bind_room heard (checked (sequence_rules heard sequence.0)) _ (λ _ _.
     bind_room heard (asked_at sequence.1) _ (λ asked _.
     bind_room heard (checked (asked_rules heard asked)) _ (λ _ _. tt))))))
 judged_by_room heard Close letter body =
-    bind_room heard (decoded (message_header.read body)) _ (λ header _.
+    bind_room heard (with_decoding_fault (message_header.read body)) _ (λ header _.
     bind_room heard (checked (number_rules heard header.0)) _ (λ _ _. tt))
 judged_by_room heard Message letter body =
-    bind_room heard (decoded (message_header.read body)) _ (λ header _.
+    bind_room heard (with_decoding_fault (message_header.read body)) _ (λ header _.
     bind_room heard (checked (number_rules heard header.0)) _ (λ _ _.
     bind_room heard (checked (size_rules heard letter header.1)) _ (λ _ e. size_room heard letter header.1 e)))
 
@@ -86,7 +86,7 @@ ended_room : (heard : Heard) (e : Bool) (r : Result Placed ChannelFault) (fault 
 ended_room heard true r fault room = tt
 ended_room heard false r fault room = room
 
-judged_room : (heard : Heard) (chunk : Piece) (placed : Placed) → judged heard chunk ≡ Ok placed → Room heard (Ok placed)
+judged_room : (heard : Heard) (chunk : ChunkContent) (placed : Placed) → placed_chunk heard chunk ≡ Ok placed → Room heard (Ok placed)
 judged_room heard chunk placed e = subst (Room heard) e (ended_room heard heard.ended (judged_by heard chunk.kind chunk.letter chunk.body) _ (judged_by_room heard chunk.kind chunk.letter chunk.body))
 
 -- ---- a chunk of a message is taken where the channel is open alone
@@ -111,17 +111,17 @@ some_openings n e = grind (arith, nat_tests)
 judged_by_opened : (heard : Heard) (kind : Kind) (letter : Letter) (body : List ℕ) → IsOpened heard (judged_by heard kind letter body)
 judged_by_opened heard Hello letter body = tt
 judged_by_opened heard Open letter body =
-    bind_opened heard (decoded (security_header.read body)) _ (λ security _.
+    bind_opened heard (with_decoding_fault (security_header.read body)) _ (λ security _.
     bind_opened heard (checked (security_rules heard security.0)) _ (λ _ _.
-    bind_opened heard (decoded (sequence_header.read security.1)) _ (λ sequence _.
+    bind_opened heard (with_decoding_fault (sequence_header.read security.1)) _ (λ sequence _.
     bind_opened heard (checked (sequence_rules heard sequence.0)) _ (λ _ _.
     bind_opened heard (asked_at sequence.1) _ (λ asked _.
     bind_opened heard (checked (asked_rules heard asked)) _ (λ _ _. tt))))))
 judged_by_opened heard Close letter body =
-    bind_opened heard (decoded (message_header.read body)) _ (λ header _.
+    bind_opened heard (with_decoding_fault (message_header.read body)) _ (λ header _.
     bind_opened heard (checked (number_rules heard header.0)) _ (λ _ _. tt))
 judged_by_opened heard Message letter body =
-    bind_opened heard (decoded (message_header.read body)) _ (λ header _.
+    bind_opened heard (with_decoding_fault (message_header.read body)) _ (λ header _.
     bind_opened heard (checked (number_rules heard header.0)) _ (λ _ e.
     bind_opened heard (checked (size_rules heard letter header.1)) _ (λ _ _. some_openings heard.openings (first_holds _ _ _ e))))
 
@@ -129,26 +129,26 @@ ended_opened : (heard : Heard) (e : Bool) (r : Result Placed ChannelFault) (faul
 ended_opened heard true r fault opened = tt
 ended_opened heard false r fault opened = opened
 
-judged_opened : (heard : Heard) (chunk : Piece) (placed : Placed) → judged heard chunk ≡ Ok placed → IsOpened heard (Ok placed)
+judged_opened : (heard : Heard) (chunk : ChunkContent) (placed : Placed) → placed_chunk heard chunk ≡ Ok placed → IsOpened heard (Ok placed)
 judged_opened heard chunk placed e = subst (IsOpened heard) e (ended_opened heard heard.ended (judged_by heard chunk.kind chunk.letter chunk.body) _ (judged_by_opened heard chunk.kind chunk.letter chunk.body))
 
 not_ended : (e : Bool) (r : Result Placed ChannelFault) (fault : ChannelFault) (placed : Placed) → cond e (Err fault) r ≡ Ok placed → e ≡ false
 not_ended true r fault placed h = absurd cc
 not_ended false r fault placed h = refl
 
-leaves_ready : (heard : Heard) (new : State) (placed : Placed) → heard.ended ≡ false → IsOpened heard (Ok placed) → new.heard ≡ after heard placed → LeavesReady (answer_of heard placed) new
+leaves_ready : (heard : Heard) (new : ChannelState) (placed : Placed) → heard.ended ≡ false → IsOpened heard (Ok placed) → new.heard ≡ heard_after heard placed → LeavesReady (taken_answer heard placed) new
 leaves_ready heard new (Opens sequence asked) going opened is = (ap (λ (h : Heard). h.ended) is ∙ going, omega (arith, ap (λ (h : Heard). h.openings) is))
 leaves_ready heard new (Says Final numbers body) going opened is = (ap (λ (h : Heard). h.ended) is ∙ going, omega (arith, opened, ap (λ (h : Heard). h.openings) is))
 leaves_ready heard new (Says More numbers body) going opened is = tt
 leaves_ready heard new (Says Abort numbers body) going opened is = tt
 leaves_ready heard new (Closes numbers) going opened is = tt
 
-pub takes-ready : (old new : State) (chunk : Piece) (result : Result Taken ChannelFault) → Takes old chunk result new → IfOk result (λ t. LeavesReady t new)
+pub takes-ready : (old new : ChannelState) (chunk : ChunkContent) (result : Result Taken ChannelFault) → Takes old chunk result new → IfOk result (λ t. LeavesReady t new)
 takes-ready old new chunk (Ok t) takes =
     let going = not_ended old.heard.ended (judged_by old.heard chunk.kind chunk.letter chunk.body) _ takes.0 takes.1 in
     let opened = judged_opened old.heard chunk takes.0 takes.1 in
     let P : Taken → Type 0 = λ u. LeavesReady u new in
-    subst P (sym takes.2) (leaves_ready old.heard new takes.0 going opened (ap (λ (s : State). s.heard) takes.3))
+    subst P (sym takes.2) (leaves_ready old.heard new takes.0 going opened (ap (λ (s : ChannelState). s.heard) takes.3))
 takes-ready old new chunk (Err fault) takes = tt
 
 abbrev IsBounded : List Placed → Type 0
@@ -188,26 +188,26 @@ number_after-again number a b =
 number_after-is : (number k : ℕ) → IsNumber (number_after number k)
 number_after-is number k = (omega arith, omega arith)
 
-next_of_run : (events : List Event) (old new : State) → IsNumber old.next → Runs old events new → new.next ≡ number_after old.next (written_of_run events)
-next_of_run [] old new is run = ap (λ (s : State). s.next) run ∙ sym (number_after-none old.next is)
+next_of_run : (events : List ChannelCall) (old new : ChannelState) → IsNumber old.next → RunsChannel old events new → new.next ≡ number_after old.next (written_of_run events)
+next_of_run [] old new is run = ap (λ (s : ChannelState). s.next) run ∙ sym (number_after-none old.next is)
 next_of_run (Took chunk (Ok t) ∷ events) old new is run =
-    let same : run.0.next ≡ old.next = ap (λ (s : State). s.next) run.1.0.3 in
+    let same : run.0.next ≡ old.next = ap (λ (s : ChannelState). s.next) run.1.0.3 in
     next_of_run events run.0 new (subst IsNumber (sym same) is) run.2 ∙ ap (λ n. number_after n (written_of_run events)) same
 next_of_run (Took chunk (Err fault) ∷ events) old new is run =
     let refuses = refuses-told old run.0 chunk fault (λ e. run.1.1 (ap Err e)) run.1.0 in
-    let same : run.0.next ≡ old.next = ap (λ (s : State). s.next) refuses.1 in
+    let same : run.0.next ≡ old.next = ap (λ (s : ChannelState). s.next) refuses.1 in
     next_of_run events run.0 new (subst IsNumber (sym same) is) run.2 ∙ ap (λ n. number_after n (written_of_run events)) same
 next_of_run (Starved chunk ∷ events) old new is run =
-    let same : run.0.next ≡ old.next = ap (λ (s : State). s.next) run.1.1 in
+    let same : run.0.next ≡ old.next = ap (λ (s : ChannelState). s.next) run.1.1 in
     next_of_run events run.0 new (subst IsNumber (sym same) is) run.2 ∙ ap (λ n. number_after n (written_of_run events)) same
 next_of_run (Wrote count ∷ events) old new is run =
-    let now : run.0.next ≡ number_after old.next count = ap (λ (s : State). s.next) run.1 in
+    let now : run.0.next ≡ number_after old.next count = ap (λ (s : ChannelState). s.next) run.1 in
     next_of_run events run.0 new (subst IsNumber (sym now) (number_after-is old.next count)) run.2
     ∙ ap (λ n. number_after n (written_of_run events)) now ∙ number_after-again old.next count (written_of_run events)
 
-pub run-number : (hello : Greeting) (ack : Ack) (events : List Event) (state : State) → Runs (fresh hello ack) events state → state.next ≡ written_of_run events % 4294966272 + 1
+pub run-number : (hello : Greeting) (ack : Ack) (events : List ChannelCall) (state : ChannelState) → RunsChannel (new_channel hello ack) events state → state.next ≡ written_of_run events % 4294966272 + 1
 run-number hello ack events state run =
     let first : 1 - 1 + written_of_run events ≡ written_of_run events = omega arith in
-    next_of_run events (fresh hello ack) state (omega arith, omega arith) run ∙ ap (λ n. n % 4294966272 + 1) first
+    next_of_run events (new_channel hello ack) state (omega arith, omega arith) run ∙ ap (λ n. n % 4294966272 + 1) first
 
 pub ruleset messages = (message-run, run-chunks, run-bytes, message-bounds, run-number)

@@ -7,7 +7,7 @@ use Rattle.uacp.specs.declared.types.Letter.{Letter}
 use Rattle.ua_channel.specs.declared.fault.ChannelFault.{ChannelFault}
 use Rattle.ua_channel.specs.declared.fault.ChannelFault.TheVariants.{Policy, ChannelId, Sequence, Decoding}
 use Rattle.ua_channel.specs.Headers.{policy_none}
-use Rattle.ua_channel.specs.Placed.{Heard, Placed, closing_judged, follows, message_judged, opening_judged}
+use Rattle.ua_channel.specs.Placed.{Heard, Placed, closing_judged, is_next_number, message_judged, opening_judged}
 
 -- a chunk of a channel that hasn't ended; a Hello is no chunk of one
 abbrev pub judged_by : Heard → Kind → Letter → List ℕ → Result Placed ChannelFault
@@ -19,4 +19,4 @@ security_rules heard header = (elim header.1 [ None ↦ false | Some uri ↦ byt
 
 -- by its sequence header
 abbrev pub sequence_rules : Heard → ℕ × ℕ → List (Bool × ChannelFault)
-sequence_rules heard header = (follows heard.last header.0, Sequence) ∷ (heard.chunks == 0, Sequence) ∷ []
+sequence_rules heard header = (is_next_number heard.last header.0, Sequence) ∷ (heard.chunks == 0, Sequence) ∷ []

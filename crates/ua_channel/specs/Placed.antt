@@ -1,4 +1,5 @@
--- Which chunks of a channel are well placed, by the chunks before them (Part 6, 6.7.2; Part 4, 5.6.2).
+-- Which chunks of a channel are well placed, by the chunks before them (Part 6, 6.7.2; Part 4,
+-- 5.6.2).
 use Rattle.std.specs.Prelude.{◌+◌, ℕ, pos, List, [], ◌∷◌, ◌++◌, length, max, Option, None, Some, Bool, true, false, not, ◌&&◌, ◌||◌, ◌==◌, nat_lt, nat_le, if◌then◌else◌, Result, Ok, Err}
 use Rattle.std.specs.Str.{bytes_eq}
 use Rattle.std.specs.Ordering.{int_eq}
@@ -8,17 +9,17 @@ use Rattle.ua_binary.specs.Rules.{checked}
 use Rattle.uacp.specs.declared.types.Kind.TheVariants.{Hello, Open, Close, Message}
 use Rattle.uacp.specs.declared.types.Letter.{Letter}
 use Rattle.uacp.specs.declared.types.Letter.TheVariants.{Final, More, Abort}
-use Rattle.uacp.specs.Stream.{Piece}
+use Rattle.uacp.specs.Stream.{ChunkContent}
 use Rattle.ua_channel.specs.declared.fault.ChannelFault.{ChannelFault}
 use Rattle.ua_channel.specs.declared.fault.ChannelFault.TheVariants.{Policy, Mode, RequestType, ChannelId, Token, Sequence, TooManyChunks, TooLarge, Decoding}
 use Rattle.ua_channel.specs.declared.headers.Numbers.{Numbers}
-use Rattle.ua_channel.specs.declared.headers.Asked.{Asked}
+use Rattle.ua_channel.specs.declared.headers.OpenRequestBody.{OpenRequestBody}
 use Rattle.ua_channel.specs.Headers.{policy_none, security_header, sequence_header, message_header, open_request}
 
 -- a chunk that was taken, as it is read
 pub data Placed : Type 0 where
   -- OPN, by its sequence number and request id, and what it asks
-  Opens : ℕ × ℕ → Asked → Placed
+  Opens : ℕ × ℕ → OpenRequestBody → Placed
   -- MSG, by its letter, its numbers and the bytes behind them
   Says : Letter → Numbers → List ℕ → Placed
   -- CLO, by its numbers
@@ -117,53 +118,98 @@ heard_of past = record {
 
 -- ---- the rules
 
--- the first sequence number is taken as it comes; the next one is greater by one, or, near the end of the numbers, begins anew below 1,024
-abbrev pub follows : Option ℕ → ℕ → Bool
-follows given number = elim given [ None ↦ true | Some last ↦ (number == last + 1) || (nat_lt 4294966271 last && nat_lt number 1024) ]
+-- the first sequence number is taken as it comes; the next one is greater by one, or, near the end
+-- of the numbers, begins anew below 1,024
+abbrev pub is_next_number : Option ℕ → ℕ → Bool
+is_next_number given number =
+    elim given [
+      | None ↦ true
+      | Some last ↦ (number == last + 1) || (nat_lt 4294966271 last && nat_lt number 1024)
+    ]
+
+-- the token of a MSG or CLO chunk is the newest one, or the one before it
+abbrev pub is_token : Heard → Numbers → Bool
+is_token heard numbers =
+    not (numbers.token == 0)
+    && ((numbers.token == heard.openings) || (numbers.token + 1 == heard.openings))
 
 -- of a MSG or CLO chunk
 abbrev pub number_rules : Heard → Numbers → List (Bool × ChannelFault)
 number_rules heard numbers =
-    (not (heard.openings == 0), ChannelId) ∷ (numbers.channel_id == 1, ChannelId) ∷ (not (numbers.token == 0) && ((numbers.token == heard.openings) || (numbers.token + 1 == heard.openings)), Token)
-    ∷ (follows heard.last numbers.number, Sequence) ∷ ((heard.chunks == 0) || (heard.request == numbers.request_id), Sequence) ∷ []
+    (not (heard.openings == 0), ChannelId) ∷ (numbers.channel_id == 1, ChannelId)
+    ∷ (is_token heard numbers, Token)
+    ∷ (is_next_number heard.last numbers.number, Sequence)
+    ∷ ((heard.chunks == 0) || (heard.request == numbers.request_id), Sequence) ∷ []
 
--- of a MSG chunk besides: at most 64 chunks and 4,194,304 bytes a message; what gives a message up counts toward neither
+-- of a MSG chunk besides: at most 64 chunks and 4,194,304 bytes a message; what gives a message up
+-- counts toward neither
 abbrev pub size_rules : Heard → Letter → List ℕ → List (Bool × ChannelFault)
-size_rules heard letter body = elim letter [ Abort ↦ [] | _ ↦ (nat_lt heard.chunks 64, TooManyChunks) ∷ (nat_le (length heard.bytes + length body) 4194304, TooLarge) ∷ [] ]
+size_rules heard letter body =
+    elim letter [
+      | Abort ↦ []
+      | _ ↦ (nat_lt heard.chunks 64, TooManyChunks)
+          ∷ (nat_le (length heard.bytes + length body) 4194304, TooLarge) ∷ []
+    ]
 
 -- by what it asks: mode 1 is None, and token ids have 32 bits
-abbrev pub asked_rules : Heard → Asked → List (Bool × ChannelFault)
-asked_rules heard asked = (if heard.openings == 0 then int_eq asked.request_type (pos 0) else int_eq asked.request_type (pos 1), RequestType) ∷ (int_eq asked.mode (pos 1), Mode) ∷ (nat_lt heard.openings 4294967295, Token) ∷ []
+abbrev pub asked_rules : Heard → OpenRequestBody → List (Bool × ChannelFault)
+asked_rules heard asked = (
+  if heard.openings == 0 then int_eq asked.request_type (pos 0)
+      else int_eq asked.request_type (pos 1),
+  RequestType,
+) ∷ (int_eq asked.mode (pos 1), Mode)
+    ∷ (nat_lt heard.openings 4294967295, Token) ∷ []
 
 -- a fault of the encoding is Decoding
-abbrev pub decoded : {A : Type 0} → Reading BinaryFault A → Reading ChannelFault A
-decoded reading = with_fault (λ _. Decoding) reading
+abbrev pub with_decoding_fault : {A : Type 0} → Reading BinaryFault A → Reading ChannelFault A
+with_decoding_fault reading = with_fault (λ _. Decoding) reading
 
 -- all of some bytes are a request for a channel
-abbrev pub asked_at : List ℕ → Result Asked ChannelFault
+abbrev pub asked_at : List ℕ → Result OpenRequestBody ChannelFault
 asked_at bytes = whole Decoding (raised (λ _. Decoding) open_request) bytes
+
+-- of an OPN chunk: its policy, and the channel, 1 but for the first opening
+abbrev pub security_rules : Heard → ℕ × Option (List ℕ) → List (Bool × ChannelFault)
+security_rules heard (channel, policy) =
+    (elim policy [ None ↦ false | Some uri ↦ bytes_eq uri policy_none ], Policy)
+    ∷ ((heard.openings == 0) || (channel == 1), ChannelId) ∷ []
+
+-- and its place: it comes next, and no message is open
+abbrev pub sequence_rules : Heard → ℕ → List (Bool × ChannelFault)
+sequence_rules heard number =
+    (is_next_number heard.last number, Sequence) ∷ (heard.chunks == 0, Sequence) ∷ []
 
 -- an OPN chunk
 abbrev pub opening_judged : Heard → List ℕ → Result Placed ChannelFault
 opening_judged heard body =
-    decoded (security_header.read body) >>= λ security.
-    checked ((elim security.0.1 [ None ↦ false | Some uri ↦ bytes_eq uri policy_none ], Policy) ∷ ((heard.openings == 0) || (security.0.0 == 1), ChannelId) ∷ []) >>= λ _.
-    decoded (sequence_header.read security.1) >>= λ sequence.
-    checked ((follows heard.last sequence.0.0, Sequence) ∷ (heard.chunks == 0, Sequence) ∷ []) >>= λ _.
-    asked_at sequence.1 >>= λ asked.
-    checked (asked_rules heard asked) >>= λ _.
-    Ok (Opens sequence.0 asked)
+    with_decoding_fault (security_header.read body)
+    >>= λ security. checked (security_rules heard security.0)
+    >>= λ _. with_decoding_fault (sequence_header.read security.1)
+    >>= λ (sequence, asked_bytes). checked (sequence_rules heard sequence.0)
+    >>= λ _. asked_at asked_bytes
+    >>= λ asked. checked (asked_rules heard asked) >>= λ _. Ok (Opens sequence asked)
 
 -- a MSG chunk
 abbrev pub message_judged : Heard → Letter → List ℕ → Result Placed ChannelFault
 message_judged heard letter body =
-    decoded (message_header.read body) >>= λ header. checked (number_rules heard header.0) >>= λ _. checked (size_rules heard letter header.1) >>= λ _.
+    with_decoding_fault (message_header.read body)
+    >>= λ header. checked (number_rules heard header.0)
+    >>= λ _. checked (size_rules heard letter header.1) >>= λ _.
     Ok (Says letter header.0 header.1)
 
 -- a CLO chunk, whose body isn't read
 abbrev pub closing_judged : Heard → List ℕ → Result Placed ChannelFault
-closing_judged heard body = decoded (message_header.read body) >>= λ header. checked (number_rules heard header.0) >>= λ _. Ok (Closes header.0)
+closing_judged heard body =
+    with_decoding_fault (message_header.read body)
+    >>= λ header. checked (number_rules heard header.0) >>= λ _. Ok (Closes header.0)
 
 -- the chunk as it is read, where it is well placed, or else its first fault
-abbrev pub judged : Heard → Piece → Result Placed ChannelFault
-judged heard chunk = if heard.ended then Err ChannelId else elim chunk.kind [ Hello ↦ Err Decoding | Open ↦ opening_judged heard chunk.body | Close ↦ closing_judged heard chunk.body | Message ↦ message_judged heard chunk.letter chunk.body ]
+abbrev pub placed_chunk : Heard → ChunkContent → Result Placed ChannelFault
+placed_chunk heard chunk =
+    if heard.ended then Err ChannelId
+    else elim chunk.kind [
+      | Hello ↦ Err Decoding
+      | Open ↦ opening_judged heard chunk.body
+      | Close ↦ closing_judged heard chunk.body
+      | Message ↦ message_judged heard chunk.letter chunk.body
+    ]

@@ -26,24 +26,31 @@ pub struct Channel {
 
 impl Model for Channel {
     ghost use Rattle.std.specs.Prelude.{◌≤◌, ◌<◌};
-    ghost use Rattle.ua_channel.specs.Taking.{State};
+    ghost use Rattle.ua_channel.specs.Taking.{ChannelState};
 
-    ghost Value = { State };
+    ghost Value = { ChannelState };
 
-    ghost view = { λ c. record { heard = c.inbound; next = c.next; limit = c.limit; max_message = c.max_message; max_chunks = c.max_chunks } };
+    ghost view = { λ c.
+        record {
+          heard = c.inbound;
+          next = c.next;
+          limit = c.limit;
+          max_message = c.max_message;
+          max_chunks = c.max_chunks;
+        } };
 
     ghost invariant = { λ c. (0 < c.next) × (c.next ≤ 4294966272) × (24 < c.limit) };
 }
 
 impl Channel {
     ghost use Rattle.std.specs.Prelude.{IfOk};
-    ghost use Rattle.ua_channel.specs.Taking.{fresh, piece_of, Takes, IsReady, LeavesReady};
+    ghost use Rattle.ua_channel.specs.Taking.{new_channel, piece_of, Takes, IsReady, LeavesReady};
     ghost use Rattle.ua_channel.specs.Sending.{opened_chunk, Writes, message_bytes, chunk_count, is_fitting};
 
     /// A channel that isn't open yet, between a client and a server that greeted each other so. A send
     /// size below 25 is read as 25, so that each chunk has a byte of its message. It takes no memory.
     pub fn new(alloc: Global, hello: &Hello, ack: &Ack) -> Self
-        ensures { result ≡ fresh hello.now ack.now }
+        ensures { result ≡ new_channel hello.now ack.now }
     {
         Channel {
             inbound: Inbound::new(alloc),
@@ -90,7 +97,9 @@ impl Channel {
         now: Ticks,
         out: &mut Vec<u8>,
     ) -> Result<(), ChannelFault>
-        ensures { Writes self.old (opened_chunk self.old.next request.now now) 1 result out.old.items out.new.items self.new }
+        ensures { Writes self.old
+            (opened_chunk self.old.next request.now now) 1 result out.old.items out.new.items
+            self.new }
     {
         let len = out.len();
         let put = put_opened_parts(self.next, request, now, out);
@@ -116,7 +125,8 @@ impl Channel {
         out: &mut Vec<u8>,
     ) -> Result<(), ChannelFault>
         requires { IsReady self.old }
-        ensures { Writes self.old (message_bytes self.old request_id body.now) (chunk_count self.old body.now) result out.old.items out.new.items self.new }
+        ensures { Writes self.old (message_bytes self.old request_id body.now)
+            (chunk_count self.old body.now) result out.old.items out.new.items self.new }
     {
         let len = out.len();
         let pieces = split(body, self.limit as usize);

@@ -43,11 +43,11 @@ pub enum ChannelFault {
 }
 
 impl ChannelFault {
-    ghost use Rattle.ua_channel.specs.Fault.{number_of, code_of};
+    ghost use Rattle.ua_channel.specs.Fault.{channel_fault_number, channel_fault_status};
 
     /// The fault's number, from 1 to 10 in the order of the variants.
     pub fn number(self) -> u8
-        ensures { result ≡ number_of self }
+        ensures { result ≡ channel_fault_number self }
     {
         match self {
             ChannelFault::Policy => 1,
@@ -65,7 +65,7 @@ impl ChannelFault {
 
     /// The status code that an Error tells the client (Part 6, 7.1.2.5).
     pub fn code(self) -> Status
-        ensures { result ≡ code_of self }
+        ensures { result ≡ channel_fault_status self }
     {
         match self {
             ChannelFault::Policy => Status::BAD_SECURITY_POLICY_REJECTED,

@@ -36,7 +36,7 @@ pub(crate) struct Numbers {
 
 /// What an OpenSecureChannel request asks for (Part 4, 5.6.2).
 #[derive(Clone, Copy, Debug, PartialEq, Eq)]
-pub(crate) struct Asked {
+pub(crate) struct OpenRequestBody {
     pub handle: u32,
     pub request_type: i32,
     pub mode: i32,
@@ -140,7 +140,9 @@ pub fn read_request_header<'a>(cursor: &mut Cursor<'a>) -> Result<RequestHeader<
 }
 
 fn is_opening_id(id: &NodeIdRef<'_>) -> bool
-    ensures { result ≡ (elim (node_of id.now) [ Numeric namespace id ↦ namespace == 0 && id == 446 | _ ↦ false ]) }
+    ensures { result
+        ≡ (elim (node_of id.now)
+        [ Numeric namespace id ↦ namespace == 0 && id == 446 | _ ↦ false ]) }
 {
     match id {
         NodeIdRef::Numeric(namespace, id) => *namespace == 0 && *id == 446,
@@ -150,7 +152,7 @@ fn is_opening_id(id: &NodeIdRef<'_>) -> bool
 
 /// A request for a channel: its type id, its header and its fields.
 #[tactic(auto, unfolding(crate::specs::Headers::open_request))]
-pub(crate) fn read_open_request(cursor: &mut Cursor<'_>) -> Result<Asked, BinaryFault>
+pub(crate) fn read_open_request(cursor: &mut Cursor<'_>) -> Result<OpenRequestBody, BinaryFault>
     ensures { Reads (λ x. x) result cursor.old cursor.new open_request.read }
 {
     let mut next = cursor.fork();
@@ -165,7 +167,7 @@ pub(crate) fn read_open_request(cursor: &mut Cursor<'_>) -> Result<Asked, Binary
     let _nonce = next.bytes()?;
     let lifetime = next.u32()?;
     *cursor = next;
-    Ok(Asked {
+    Ok(OpenRequestBody {
         handle: header.handle,
         request_type,
         mode,
@@ -199,7 +201,8 @@ pub fn put_response_header(
     status: Status,
     out: &mut Vec<u8>,
 ) -> Result<(), BinaryFault>
-    ensures { Puts BinaryFault.OutOfMemory result out.old.items out.new.items (response_header.canon (now, (handle, status))) }
+    ensures { Puts BinaryFault.OutOfMemory result out.old.items out.new.items
+        (response_header.canon (now, (handle, status))) }
 {
     put_block(out, &response_head(now, handle, status))
 }
@@ -208,7 +211,8 @@ pub fn put_response_header(
 /// thumbprint. An error leaves a part.
 #[tactic(auto, using(ua_binary::proofs::Kept::kept), unfolding(crate::specs::Headers::security_header))]
 pub(crate) fn put_security_header_parts(out: &mut Vec<u8>) -> Result<(), BinaryFault>
-    ensures { PutsPart BinaryFault.OutOfMemory result out.old.items out.new.items (security_header.canon (1, Some policy_none)) }
+    ensures { PutsPart BinaryFault.OutOfMemory result out.old.items out.new.items
+        (security_header.canon (1, Some policy_none)) }
 {
     put_u32(out, 1)?;
     put_text(out, Some(policy_uri()))?;
@@ -230,7 +234,10 @@ pub(crate) struct Opened {
 #[tactic(auto, using(ua_binary::proofs::Kept::kept), unfolding(crate::specs::Headers::open_response))]
 pub(crate) fn put_open_response_parts(out: &mut Vec<u8>, opened: &Opened) -> Result<(), BinaryFault>
     ensures { PutsPart BinaryFault.OutOfMemory result out.old.items out.new.items
-        (open_response.canon ((opened.now.made, (opened.now.handle, record { 0 = 0 })), (opened.now.token, (opened.now.made, opened.now.lifetime)))) }
+        (open_response.canon (
+          (opened.now.made, (opened.now.handle, record { 0 = 0 })),
+          (opened.now.token, (opened.now.made, opened.now.lifetime)),
+        )) }
 {
     put_node_id(out, &NodeId::Numeric(0, 449))?;
     put_response_header(opened.made, opened.handle, Status(0), out)?;

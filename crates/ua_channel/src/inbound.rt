@@ -1,6 +1,6 @@
 //! What is known of the chunks that were taken.
 
-ghost use Rattle.ua_channel.specs.Placed.{follows};
+ghost use Rattle.ua_channel.specs.Placed.{is_next_number};
 ghost use Rattle.ua_channel.specs.declared.fault.ChannelFault.TheVariants.{ChannelId, Policy, Sequence};
 ghost use Rattle.std.specs.Str.{bytes_eq};
 ghost use Rattle.ua_channel.specs.Headers.{policy_none};
@@ -8,9 +8,9 @@ ghost use Rattle.std.specs.Prelude.{◌≡◌, ◌≤◌, OnOk, IfOk, None, fals
 
 use crate::fault::ChannelFault;
 use crate::headers::{
-    Asked, Numbers, read_message_header, read_security_header, read_sequence_header,
+    Numbers, OpenRequestBody, read_message_header, read_security_header, read_sequence_header,
 };
-use crate::message::{Lies, Message};
+use crate::message::{Lies, MessageBytes};
 use crate::placed::{PlacedChunk, is_due_type, is_known, is_next, is_policy_none, read_asked};
 use crate::taken::{OpenRequest, Taken};
 use std::alloc::Global;
@@ -45,7 +45,16 @@ impl Model for Inbound {
 
     ghost Value = { Heard };
 
-    ghost view = { λ i. record { ended = i.is_ended; openings = i.openings; last = i.last; token = i.token; chunks = i.chunks; request = i.request_id; bytes = i.bytes.items } };
+    ghost view = { λ i.
+        record {
+          ended = i.is_ended;
+          openings = i.openings;
+          last = i.last;
+          token = i.token;
+          chunks = i.chunks;
+          request = i.request_id;
+          bytes = i.bytes.items;
+        } };
 
     ghost invariant = { λ i. (i.chunks ≤ 64) × (vec_len i.bytes ≤ 4194304) };
 }
@@ -54,7 +63,7 @@ impl Inbound {
     ghost use Rattle.std.specs.Option.{option_copied};
     ghost use Rattle.std.specs.Prelude.{true, max, Some, IfOk, OnOk, ◌<◌, []};
     ghost use Rattle.ua_binary.specs.Rules.{checked};
-    ghost use Rattle.ua_channel.specs.Placed.{Says, heard_of, number_rules, size_rules, asked_rules, opening_judged, message_judged, closing_judged, judged};
+    ghost use Rattle.ua_channel.specs.Placed.{Says, heard_of, number_rules, size_rules, asked_rules, opening_judged, message_judged, closing_judged, placed_chunk};
     ghost use Rattle.ua_channel.specs.Taking.{piece_of, placed_of, with_none_open, IsJudged, HasRoom, HasRoomFor, Accepts};
 
     pub(crate) fn new(alloc: Global) -> Self
@@ -126,7 +135,14 @@ impl Inbound {
     }
 
     fn check_security(&self, header: (u32, Option<&str>)) -> Result<(), ChannelFault>
-        ensures { result ≡ checked ((elim (option_copied header.entry.1) [ None ↦ false | Some uri ↦ bytes_eq uri policy_none ], Policy) ∷ ((self.now.openings == 0) || (header.entry.0 == 1), ChannelId) ∷ []) }
+        ensures { result
+            ≡ checked
+            ((
+              elim (option_copied header.entry.1)
+                  [ None ↦ false | Some uri ↦ bytes_eq uri policy_none ],
+              Policy,
+            )
+            ∷ ((self.now.openings == 0) || (header.entry.0 == 1), ChannelId) ∷ []) }
     {
         if !is_policy_none(header.1) {
             return Err(ChannelFault::Policy);
@@ -138,7 +154,10 @@ impl Inbound {
     }
 
     fn check_sequence(&self, header: (u32, u32)) -> Result<(), ChannelFault>
-        ensures { result ≡ checked ((follows self.now.last header.0, Sequence) ∷ (self.now.chunks == 0, Sequence) ∷ []) }
+        ensures { result
+            ≡ checked
+            ((is_next_number self.now.last header.0, Sequence) ∷ (self.now.chunks == 0, Sequence)
+            ∷ []) }
     {
         if !is_next(self.last, header.0) {
             return Err(ChannelFault::Sequence);
@@ -149,7 +168,7 @@ impl Inbound {
         Ok(())
     }
 
-    fn check_asked(&self, asked: &Asked) -> Result<(), ChannelFault>
+    fn check_asked(&self, asked: &OpenRequestBody) -> Result<(), ChannelFault>
         ensures value { result ≡ checked (asked_rules self.now asked.now) }
         ensures room { OnOk result (self.now.openings < 4294967295) }
     {
@@ -215,7 +234,7 @@ impl Inbound {
 
     /// The chunk as it is read, where it is well placed, or else its first fault.
     pub(crate) fn judge<'a>(&self, chunk: Chunk<'a>) -> Result<PlacedChunk<'a>, ChannelFault>
-        ensures value { IsJudged (judged self.now (piece_of chunk.entry)) result }
+        ensures value { IsJudged (placed_chunk self.now (piece_of chunk.entry)) result }
         ensures room { IfOk result (λ placed. HasRoom self.now (placed_of placed)) }
     {
         if self.is_ended {
@@ -241,7 +260,9 @@ impl Inbound {
 
     /// The next sequence number, and the token if it is greater.
     fn note(&mut self, numbers: &Numbers)
-        ensures { self.new ≡ record self.old { last = Some numbers.now.number; token = max self.old.token numbers.now.token } }
+        ensures { self.new
+            ≡ record self.old
+            { last = Some numbers.now.number; token = max self.old.token numbers.now.token } }
     {
         self.last = Some(numbers.number);
         self.token = self.token.max(numbers.token);
@@ -299,13 +320,13 @@ impl Inbound {
             Letter::Final if self.bytes.is_empty() => {
                 self.note(&numbers);
                 let _empty = self.close_message();
-                let message = Message::new(Lies::InChunk(body));
+                let message = MessageBytes::new(Lies::InChunk(body));
                 Ok(Taken::Message(numbers.request_id, message))
             }
             Letter::Final => {
                 self.bytes.extend_from_slice(body)?;
                 self.note(&numbers);
-                let message = Message::new(Lies::Joined(self.close_message()));
+                let message = MessageBytes::new(Lies::Joined(self.close_message()));
                 Ok(Taken::Message(numbers.request_id, message))
             }
         }

@@ -20,5 +20,5 @@ pub use laws::{
     formats_are_prefix_free, message_is_the_bodies_of_its_run, messages_are_bounded,
     numbers_run_on, pieces_are_counted, wrapped_bytes_are_whole_chunks,
 };
-pub use message::Message;
+pub use message::MessageBytes;
 pub use taken::{OpenRequest, Taken};

@@ -15,11 +15,11 @@ pub(crate) enum Lies<'a> {
 /// The bytes of a message, which contracts see as their list. Those of a message of one chunk are lent
 /// by the chunk.
 #[derive(Debug, Drop)]
-pub struct Message<'a> {
+pub struct MessageBytes<'a> {
     lies: Lies<'a>,
 }
 
-impl<'a> Model for Message<'a> {
+impl<'a> Model for MessageBytes<'a> {
     ghost use Rattle.std.specs.Prelude.{List, ℕ};
     ghost use Rattle.ua_channel.specs.Message.{bytes_in};
 
@@ -28,14 +28,14 @@ impl<'a> Model for Message<'a> {
     ghost view = { λ m. bytes_in m.lies };
 }
 
-impl<'a> Message<'a> {
+impl<'a> MessageBytes<'a> {
     ghost use Rattle.std.specs.Prelude.{◌≡◌};
     ghost use Rattle.ua_channel.specs.Message.{bytes_in};
 
     pub(crate) fn new(lies: Lies<'a>) -> Self
         ensures { result ≡ bytes_in lies.entry }
     {
-        Message { lies }
+        MessageBytes { lies }
     }
 
     /// The bytes.

@@ -5,10 +5,10 @@ ghost use Rattle.std.specs.Str.{bytes_eq};
 ghost use Rattle.ua_channel.specs.Headers.{policy_none};
 ghost use Rattle.std.specs.Option.{option_copied};
 ghost use Rattle.std.specs.Prelude.{◌≡◌, None, Some, false, not, pos, ◌==◌, ◌&&◌, ◌||◌, if◌then◌else◌, ◌+◌};
-ghost use Rattle.ua_channel.specs.Placed.{follows, asked_at};
+ghost use Rattle.ua_channel.specs.Placed.{is_next_number, asked_at};
 
 use crate::fault::ChannelFault;
-use crate::headers::{Asked, Numbers, policy_uri, read_open_request};
+use crate::headers::{Numbers, OpenRequestBody, policy_uri, read_open_request};
 use ua_binary::Cursor;
 use uacp::Letter;
 
@@ -16,7 +16,7 @@ use uacp::Letter;
 #[derive(Clone, Copy)]
 pub(crate) enum PlacedChunk<'a> {
     /// OPN: its sequence number and request id, and what it asks.
-    Opens((u32, u32), Asked),
+    Opens((u32, u32), OpenRequestBody),
     /// MSG: the bytes after its numbers.
     Says(Letter, Numbers, &'a [u8]),
     /// CLO.
@@ -25,7 +25,7 @@ pub(crate) enum PlacedChunk<'a> {
 
 /// Whether a sequence number may follow the newest one.
 pub(crate) fn is_next(last: Option<u32>, number: u32) -> bool
-    ensures { result ≡ follows last number }
+    ensures { result ≡ is_next_number last number }
 {
     match last {
         None => true,
@@ -44,7 +44,9 @@ pub(crate) fn is_known(openings: u32, token: u32) -> bool
 
 /// Whether the policy is None.
 pub(crate) fn is_policy_none(policy: Option<&str>) -> bool
-    ensures { result ≡ (elim (option_copied policy.entry) [ None ↦ false | Some uri ↦ bytes_eq uri policy_none ]) }
+    ensures { result
+        ≡ (elim (option_copied policy.entry)
+        [ None ↦ false | Some uri ↦ bytes_eq uri policy_none ]) }
 {
     match policy {
         None => false,
@@ -53,8 +55,10 @@ pub(crate) fn is_policy_none(policy: Option<&str>) -> bool
 }
 
 /// Whether the request type is the one that is due: Issue once, and Renew from then on.
-pub(crate) fn is_due_type(openings: u32, asked: &Asked) -> bool
-    ensures { result ≡ (if openings == 0 then int_eq asked.now.request_type (pos 0) else int_eq asked.now.request_type (pos 1)) }
+pub(crate) fn is_due_type(openings: u32, asked: &OpenRequestBody) -> bool
+    ensures { result
+        ≡ (if openings == 0 then int_eq asked.now.request_type (pos 0)
+        else int_eq asked.now.request_type (pos 1)) }
 {
     if openings == 0 {
         asked.request_type == 0
@@ -64,7 +68,7 @@ pub(crate) fn is_due_type(openings: u32, asked: &Asked) -> bool
 }
 
 /// The request for a channel that all of some bytes spell.
-pub(crate) fn read_asked(bytes: &[u8]) -> Result<Asked, ChannelFault>
+pub(crate) fn read_asked(bytes: &[u8]) -> Result<OpenRequestBody, ChannelFault>
     ensures { result ≡ asked_at bytes.now }
 {
     let mut cursor = Cursor::new(bytes);

@@ -38,7 +38,8 @@ pub(crate) fn put_opened_parts(
     now: Ticks,
     out: &mut Vec<u8>,
 ) -> Result<(), BinaryFault>
-    ensures { PutsPart BinaryFault.OutOfMemory result out.old.items out.new.items (opened_chunk number request.now now) }
+    ensures { PutsPart BinaryFault.OutOfMemory result out.old.items out.new.items
+        (opened_chunk number request.now now) }
 {
     let opened = Opened {
         handle: request.handle,
@@ -104,7 +105,8 @@ fn put_message_parts(
     out: &mut Vec<u8>,
 ) -> Result<(), BinaryFault>
     requires { length piece.now ≤ 4294967271 }
-    ensures { PutsPart BinaryFault.OutOfMemory result out.old.items out.new.items (message_chunk letter token number request_id piece.now) }
+    ensures { PutsPart BinaryFault.OutOfMemory result out.old.items out.new.items
+        (message_chunk letter token number request_id piece.now) }
 {
     let head = message_head(letter, 24 + piece.len() as u32, token, number, request_id);
     put_block(out, &head)?;

@@ -1,6 +1,6 @@
 //! What a channel answers to a chunk.
 
-use crate::message::Message;
+use crate::message::MessageBytes;
 
 /// A request that opens the channel or renews its token (Part 4, 5.6.2).
 #[derive(Clone, Copy, Debug, PartialEq, Eq)]
@@ -23,7 +23,7 @@ pub enum Taken<'a> {
     /// A request to open or renew the channel, to be answered by `put_opened`.
     Opening(OpenRequest),
     /// The last chunk of a message: its request id, and the bodies of its chunks, joined.
-    Message(u32, Message<'a>),
+    Message(u32, MessageBytes<'a>),
     /// The message with this request id, if one was open, is given up.
     Aborted(u32),
     /// The client closed the channel.

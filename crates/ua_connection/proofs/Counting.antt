@@ -10,119 +10,119 @@ use Rattle.uacp.specs.declared.types.Kind.{Kind}
 use Rattle.uacp.specs.declared.types.Kind.TheVariants.{Hello, Open, Close, Message}
 use Rattle.uacp.specs.declared.greeting.Hello.{Hello as HelloNumbers}
 use Rattle.uacp.specs.declared.greeting.Ack.{Ack}
-use Rattle.uacp.specs.Stream.{Piece}
+use Rattle.uacp.specs.Stream.{ChunkContent}
 use Rattle.uacp.specs.Greeting.{hello_at, ack_of}
-use Rattle.uacp.specs.Fault.{code_of}
+use Rattle.uacp.specs.Fault.{uacp_fault_status}
 use Rattle.ua_channel.specs.Fault as channel
 use Rattle.ua_channel.specs.declared.fault.ChannelFault.{ChannelFault}
 use Rattle.ua_channel.specs.declared.taken.Taken.{Taken}
 use Rattle.ua_channel.specs.declared.taken.Taken.TheVariants as taken
-use Rattle.ua_channel.specs.Placed.{Placed, judged}
-use Rattle.ua_channel.specs.Taking.{State, after, answer_of}
-use Rattle.archive.specs.Store.{Mark, Fine, Starved, Stands, Met}
-use Rattle.historian.specs.Services.{Site, Outcome, answered as performed}
+use Rattle.ua_channel.specs.Placed.{Placed, placed_chunk}
+use Rattle.ua_channel.specs.Taking.{ChannelState, heard_after, taken_answer}
+use Rattle.archive.specs.Store.{StepResult, Done, NoMemory, Stands, StoreFailed}
+use Rattle.historian.specs.Services.{ServerConfig, MessageOutcome, answered as performed}
 use Rattle.counted_io.specs.declared.fault.ServeFault.TheVariants.{TooLong}
 use Rattle.archive.specs.Steps.{give, and_then}
-use Rattle.ua_connection.specs.Given.{Outside, Given, by_marks, made, clock}
-use Rattle.ua_connection.specs.Run.{Reply, answered, joined, ended}
+use Rattle.ua_connection.specs.Environments.{Environment, WithEnvironment, by_marks, or_out_of_memory, clock}
+use Rattle.ua_connection.specs.Run.{Reply, stream_answered, joined, ended}
 use Rattle.ua_connection.proofs.RunParts.{stepped}
-use Rattle.ua_connection.specs.Client.{Standing, Item, whole, ill, partial, Ending, Answering, ends, goes, refuse, acknowledged, greeted, opened, told, responded, answered_come, answered_piece, answered_item, answer, chunks, next}
+use Rattle.ua_connection.specs.Client.{ClientState, Item, whole, ill, partial, Ending, Answering, ends, goes, refuse, acknowledged, greeted, opened, outcome_response, responded, answered_come, answered_piece, answered_item, answer, chunks, next}
 use Rattle.ua_connection.specs.Client.{answered_placed, answered_on}
 use Rattle.ua_connection.proofs.Runs.{answered-step}
 use Rattle.ua_connection.proofs.Cutting.{falls}
 
-pub one_too_many : (site : Site) (standing : Standing) (piece : Piece) (later : Outside) → standing.client.taken ≡ 1000000 → answered_item site standing (whole piece) later ≡ (ends standing [] (Err TooLong), later)
+pub one_too_many : (site : ServerConfig) (standing : ClientState) (piece : ChunkContent) (later : Environment) → standing.client.taken ≡ 1000000 → answered_item site standing (whole piece) later ≡ (ends standing [] (Err TooLong), later)
 one_too_many site standing piece later many = let test : (standing.client.taken == 1000000) ≡ true = eq-eqb standing.client.taken 1000000 many in rw test refl
 
 -- a reply that doesn't end by TooLong, and counts one where it doesn't end
-record Counts (n : ℕ) (reply : Reply Standing Ending) : Type 0 where
+record Counts (n : ℕ) (reply : Reply ClientState Ending) : Type 0 where
   sooner : reply.ending ≡ Some (Err TooLong) → n ≡ 1000000
   each : reply.ending ≡ None → reply.state.client.taken ≡ n + 1
 
 -- whatever the outside gives
 abbrev Counted : ℕ → Answering → Type 0
-Counted n f = (marks : List Mark) (readings : List ℤ) → Counts n (f (record { marks = marks; readings = readings })).0
+Counted n f = (marks : List StepResult) (readings : List ℤ) → Counts n (f (record { marks = marks; readings = readings })).0
 
-made-counts : (n : ℕ) (went starved : Answering) → Counted n went → Counted n starved → Counted n (made went starved)
+made-counts : (n : ℕ) (went starved : Answering) → Counted n went → Counted n starved → Counted n (or_out_of_memory went starved)
 made-counts n went starved a b [] readings = a [] readings
-made-counts n went starved a b (Fine ∷ marks) readings = a marks readings
-made-counts n went starved a b (Starved ∷ marks) readings = b marks readings
+made-counts n went starved a b (Done ∷ marks) readings = a marks readings
+made-counts n went starved a b (NoMemory ∷ marks) readings = b marks readings
 made-counts n went starved a b (Stands ∷ marks) readings = a marks readings
-made-counts n went starved a b (Met fault ∷ marks) readings = a marks readings
+made-counts n went starved a b (StoreFailed fault ∷ marks) readings = a marks readings
 
-then-counts : {A : Type 0} (n : ℕ) (m : Given A) (f : A → Answering) → ((a : A) → Counted n (f a)) → Counted n (and_then m f)
+then-counts : {A : Type 0} (n : ℕ) (m : WithEnvironment A) (f : A → Answering) → ((a : A) → Counted n (f a)) → Counted n (and_then m f)
 then-counts n m f counts marks readings = let r = m (record { marks = marks; readings = readings }) in counts r.0 r.1.marks r.1.readings
 
-goes-counts : (standing : Standing) (out : List ℕ) (channel : Option State) → Counted standing.client.taken (give (goes standing out channel))
+goes-counts : (standing : ClientState) (out : List ℕ) (channel : Option ChannelState) → Counted standing.client.taken (give (goes standing out channel))
 goes-counts standing out channel marks readings = record { sooner = λ e. absurd cc; each = λ e. refl }
 
-refuse-counts : (n : ℕ) (standing : Standing) (code : Status) → Counted n (refuse standing code)
+refuse-counts : (n : ℕ) (standing : ClientState) (code : Status) → Counted n (refuse standing code)
 refuse-counts n standing code = made-counts n _ _ (λ marks readings. record { sooner = λ e. absurd cc; each = λ e. absurd cc }) (λ marks readings. record { sooner = λ e. absurd cc; each = λ e. absurd cc })
 
-acknowledged-counts : (standing : Standing) (hello : HelloNumbers) (ack : Result Ack UacpFault) → Counted standing.client.taken (acknowledged standing hello ack)
-acknowledged-counts standing hello (Err fault) = refuse-counts standing.client.taken standing (code_of fault)
+acknowledged-counts : (standing : ClientState) (hello : HelloNumbers) (ack : Result Ack UacpFault) → Counted standing.client.taken (acknowledged standing hello ack)
+acknowledged-counts standing hello (Err fault) = refuse-counts standing.client.taken standing (uacp_fault_status fault)
 acknowledged-counts standing hello (Ok ack) = made-counts standing.client.taken _ _ (λ marks readings. record { sooner = λ e. absurd cc; each = λ e. refl }) (refuse-counts standing.client.taken standing BAD_OUT_OF_MEMORY)
 
-greeted-counts : (standing : Standing) (hello : Result HelloNumbers UacpFault) → Counted standing.client.taken (greeted standing hello)
-greeted-counts standing (Err fault) = refuse-counts standing.client.taken standing (code_of fault)
+greeted-counts : (standing : ClientState) (hello : Result HelloNumbers UacpFault) → Counted standing.client.taken (greeted standing hello)
+greeted-counts standing (Err fault) = refuse-counts standing.client.taken standing (uacp_fault_status fault)
 greeted-counts standing (Ok hello) = acknowledged-counts standing hello (ack_of hello)
 
-told-counts : (standing : Standing) (state : State) (request : ℕ) (message : List ℕ) (now : Ticks) (outcome : Outcome) → Counted standing.client.taken (told standing state request message now outcome)
+told-counts : (standing : ClientState) (state : ChannelState) (request : ℕ) (message : List ℕ) (now : Ticks) (outcome : MessageOutcome) → Counted standing.client.taken (outcome_response standing state request message now outcome)
 told-counts standing state request message now outcome =
     made-counts standing.client.taken _ _ (λ marks readings. record { sooner = λ e. absurd cc; each = λ e. refl })
     (made-counts standing.client.taken _ _ (λ marks readings. record { sooner = λ e. absurd cc; each = λ e. refl }) (λ marks readings. record { sooner = λ e. absurd cc; each = λ e. absurd cc }))
 
-come-counts : (site : Site) (standing : Standing) (state : State) (come : Taken) → Counted standing.client.taken (answered_come site standing state come)
+come-counts : (site : ServerConfig) (standing : ClientState) (state : ChannelState) (come : Taken) → Counted standing.client.taken (answered_come site standing state come)
 come-counts site standing state taken.Nothing = goes-counts standing [] (Some state)
 come-counts site standing state (taken.Opening request) =
     then-counts standing.client.taken clock (opened standing state request)
     (λ now. made-counts standing.client.taken _ _ (λ marks readings. record { sooner = λ e. absurd cc; each = λ e. refl }) (refuse-counts standing.client.taken standing BAD_OUT_OF_MEMORY))
 come-counts site standing state (taken.Message request message) =
     then-counts standing.client.taken clock (responded site standing state request message)
-    (λ now. then-counts standing.client.taken (by_marks (performed site now message standing.client.sessions standing.content)) (told standing state request message now) (λ outcome. told-counts standing state request message now outcome))
+    (λ now. then-counts standing.client.taken (by_marks (performed site now message standing.client.sessions standing.content)) (outcome_response standing state request message now) (λ outcome. told-counts standing state request message now outcome))
 come-counts site standing state (taken.Aborted request) = goes-counts standing [] (Some state)
 come-counts site standing state taken.Closed = λ marks readings. record { sooner = λ e. absurd cc; each = λ e. absurd cc }
 
-placed-counts : (site : Site) (standing : Standing) (state : State) (placed : Result Placed ChannelFault) → Counted standing.client.taken (answered_placed site standing state placed)
-placed-counts site standing state (Ok placed) = come-counts site standing (record state { heard = after state.heard placed }) (answer_of state.heard placed)
-placed-counts site standing state (Err fault) = refuse-counts standing.client.taken standing (channel.code_of fault)
+placed-counts : (site : ServerConfig) (standing : ClientState) (state : ChannelState) (placed : Result Placed ChannelFault) → Counted standing.client.taken (answered_placed site standing state placed)
+placed-counts site standing state (Ok placed) = come-counts site standing (record state { heard = heard_after state.heard placed }) (taken_answer state.heard placed)
+placed-counts site standing state (Err fault) = refuse-counts standing.client.taken standing (channel.channel_fault_status fault)
 
-on-counts : (site : Site) (standing : Standing) (channel : Option State) (piece : Piece) → Counted standing.client.taken (answered_on site standing channel piece)
+on-counts : (site : ServerConfig) (standing : ClientState) (channel : Option ChannelState) (piece : ChunkContent) → Counted standing.client.taken (answered_on site standing channel piece)
 on-counts site standing None piece = refuse-counts standing.client.taken standing BAD_TCP_MESSAGE_TYPE_INVALID
-on-counts site standing (Some state) piece = placed-counts site standing state (judged state.heard piece)
+on-counts site standing (Some state) piece = placed-counts site standing state (placed_chunk state.heard piece)
 
-piece-counts : (site : Site) (standing : Standing) (kind : Kind) (piece : Piece) → Counted standing.client.taken (answered_piece site standing kind piece)
+piece-counts : (site : ServerConfig) (standing : ClientState) (kind : Kind) (piece : ChunkContent) → Counted standing.client.taken (answered_piece site standing kind piece)
 piece-counts site standing Hello piece = greeted-counts standing (hello_at piece.body)
 piece-counts site standing Open piece = on-counts site standing standing.client.channel piece
 piece-counts site standing Close piece = on-counts site standing standing.client.channel piece
 piece-counts site standing Message piece = on-counts site standing standing.client.channel piece
 
-tested-counts : (site : Site) (standing : Standing) (piece : Piece) (test : Bool) → (standing.client.taken == 1000000) ≡ test → Counted standing.client.taken (answered_item site standing (whole piece))
+tested-counts : (site : ServerConfig) (standing : ClientState) (piece : ChunkContent) (test : Bool) → (standing.client.taken == 1000000) ≡ test → Counted standing.client.taken (answered_item site standing (whole piece))
 tested-counts site standing piece true is marks readings = rw is (record { sooner = λ e. eqb-true standing.client.taken 1000000 is; each = λ e. absurd cc })
 tested-counts site standing piece false is marks readings = rw is (piece-counts site standing piece.kind piece marks readings)
 
-item-counts : (site : Site) (standing : Standing) (item : Item) → Counted standing.client.taken (answered_item site standing item)
+item-counts : (site : ServerConfig) (standing : ClientState) (item : Item) → Counted standing.client.taken (answered_item site standing item)
 item-counts site standing (whole piece) = tested-counts site standing piece (standing.client.taken == 1000000) refl
-item-counts site standing (ill fault) = refuse-counts standing.client.taken standing (code_of fault)
+item-counts site standing (ill fault) = refuse-counts standing.client.taken standing (uacp_fault_status fault)
 item-counts site standing partial = λ marks readings. record { sooner = λ e. absurd cc; each = λ e. absurd cc }
 
-counts : (site : Site) (standing : Standing) (item : Item) → Counted standing.client.taken (answer site standing item)
+counts : (site : ServerConfig) (standing : ClientState) (item : Item) → Counted standing.client.taken (answer site standing item)
 counts site standing item = made-counts standing.client.taken (answered_item site standing item) (refuse standing BAD_OUT_OF_MEMORY) (item-counts site standing item) (refuse-counts standing.client.taken standing BAD_OUT_OF_MEMORY)
 
-pub no_sooner : (site : Site) (standing : Standing) (item : Item) (outside : Outside) → (answer site standing item outside).0.ending ≡ Some (Err TooLong) → standing.client.taken ≡ 1000000
+pub no_sooner : (site : ServerConfig) (standing : ClientState) (item : Item) (outside : Environment) → (answer site standing item outside).0.ending ≡ Some (Err TooLong) → standing.client.taken ≡ 1000000
 no_sooner site standing item outside e = (counts site standing item outside.marks outside.readings).sooner e
 
-pub each : (site : Site) (standing : Standing) (item : Item) (outside : Outside) → (answer site standing item outside).0.ending ≡ None
+pub each : (site : ServerConfig) (standing : ClientState) (item : Item) (outside : Environment) → (answer site standing item outside).0.ending ≡ None
     → (answer site standing item outside).0.state.client.taken ≡ standing.client.taken + 1
 each site standing item outside e = (counts site standing item outside.marks outside.readings).each e
 
-pub first_item : (site : Site) (standing : Standing) (bytes : List ℕ) (item : Item × ℕ) (outside : Outside) → next standing bytes ≡ Some item
-    → answered (chunks site) standing bytes outside ≡ and_then (answer site standing item.0) (λ reply. joined (answered (chunks site) reply.state (drop item.1 bytes)) reply) outside
+pub first_item : (site : ServerConfig) (standing : ClientState) (bytes : List ℕ) (item : Item × ℕ) (outside : Environment) → next standing bytes ≡ Some item
+    → stream_answered (chunks site) standing bytes outside ≡ and_then (answer site standing item.0) (λ reply. joined (stream_answered (chunks site) reply.state (drop item.1 bytes)) reply) outside
 first_item site standing bytes item outside stands =
-    answered-step (chunks site) (falls site) standing bytes outside ∙ ap (λ (o : Option (Item × ℕ)). stepped (answered (chunks site)) (chunks site) standing bytes o outside) stands
+    answered-step (chunks site) (falls site) standing bytes outside ∙ ap (λ (o : Option (Item × ℕ)). stepped (stream_answered (chunks site)) (chunks site) standing bytes o outside) stands
 
-pub no_item : (site : Site) (standing : Standing) (bytes : List ℕ) (outside : Outside) → next standing bytes ≡ None → answered (chunks site) standing bytes outside ≡ ended (chunks site) standing outside
+pub no_item : (site : ServerConfig) (standing : ClientState) (bytes : List ℕ) (outside : Environment) → next standing bytes ≡ None → stream_answered (chunks site) standing bytes outside ≡ ended (chunks site) standing outside
 no_item site standing bytes outside none =
-    answered-step (chunks site) (falls site) standing bytes outside ∙ ap (λ (o : Option (Item × ℕ)). stepped (answered (chunks site)) (chunks site) standing bytes o outside) none
+    answered-step (chunks site) (falls site) standing bytes outside ∙ ap (λ (o : Option (Item × ℕ)). stepped (stream_answered (chunks site)) (chunks site) standing bytes o outside) none
 
 pub ruleset counting = (one_too_many, no_sooner, each, first_item, no_item)

@@ -6,21 +6,21 @@ use Rattle.uacp.specs.declared.types.Letter.TheVariants.{Final}
 use Rattle.uacp.specs.declared.types.UacpFault.{UacpFault}
 use Rattle.uacp.specs.declared.greeting.Hello.{Hello}
 use Rattle.uacp.specs.declared.greeting.Ack.{Ack}
-use Rattle.uacp.specs.Stream.{Piece, Splits}
+use Rattle.uacp.specs.Stream.{ChunkContent, Splits}
 use Rattle.uacp.specs.Greeting.{hello_at, ack_of}
-use Rattle.uacp.specs.Fault.{code_of}
+use Rattle.uacp.specs.Fault.{uacp_fault_status}
 use Rattle.ua_channel.specs.Fault as channel
 use Rattle.ua_channel.specs.declared.taken.OpenRequest.{OpenRequest}
-use Rattle.ua_channel.specs.Placed.{Placed, Opens, Says, Closes, heard_of, openings_of, open_run, bodies_of, judged}
-use Rattle.ua_channel.specs.Taking.{State}
+use Rattle.ua_channel.specs.Placed.{Placed, Opens, Says, Closes, heard_of, openings_of, open_run, bodies_of, placed_chunk}
+use Rattle.ua_channel.specs.Taking.{ChannelState}
 use Rattle.records.specs.Contents.{Content}
 use Rattle.archive.specs.Steps.{give, and_then}
-use Rattle.historian.specs.Services.{Site}
+use Rattle.historian.specs.Services.{ServerConfig}
 use Rattle.counted_io.specs.declared.fault.ServeFault.TheVariants.{TooLong}
 use Rattle.ua_connection.specs.declared.outcome.Served.TheVariants.{EndOfInput, Closed}
-use Rattle.ua_connection.specs.Given.{Outside, before, made, clock}
+use Rattle.ua_connection.specs.Environments.{Environment, before, or_out_of_memory, clock}
 use Rattle.ua_connection.specs.Run.{joined}
-use Rattle.ua_connection.specs.Client.{Standing, Ending, Answering, ends, goes, refuse, greeted, opened, responded}
+use Rattle.ua_connection.specs.Client.{ClientState, Ending, Answering, ends, goes, refuse, greeted, opened, responded}
 use Rattle.ua_connection.specs.Serving.{new_standing}
 
 -- ---- the bytes
@@ -32,7 +32,7 @@ limits_by granted (suc k) = granted
 
 -- The granted size is the Acknowledge's receive size. Where the first chunk gets no Acknowledge it
 -- may be any, since the connection ends there.
-abbrev pub IsGranted : List Piece → ℕ → Type 0
+abbrev pub IsGranted : List ChunkContent → ℕ → Type 0
 IsGranted [] granted = Unit {0}
 IsGranted (first ∷ pieces) granted = (hello : Hello) (ack : Ack)
     → hello_at first.body ≡ Ok hello → ack_of hello ≡ Ok ack → granted ≡ ack.receive_size
@@ -40,7 +40,7 @@ IsGranted (first ∷ pieces) granted = (hello : Hello) (ack : Ack)
 -- a stream of bytes is these whole chunks, the first alone a Hello, and this rest that is none
 pub record Chunked (bytes : List ℕ) : Type 0 where
   pub granted : ℕ
-  pub pieces : List Piece
+  pub pieces : List ChunkContent
   pub rest : List ℕ
   pub fault : Option UacpFault
   pub splits : Splits (limits_by granted) bytes pieces rest fault
@@ -58,7 +58,8 @@ opening_behind past request handle lifetime =
 -- by its opening. The last chunk of a message is answered by the message's service, over all its
 -- bodies joined. A chunk within a message, or one that gives it up, is answered by nothing. CLO is
 -- the end.
-abbrev pub answered_well : Site → Standing → State → List Placed → Placed → Answering
+abbrev pub answered_well : ServerConfig → ClientState → ChannelState → List Placed → Placed
+    → Answering
 answered_well site standing state past (Opens sequence asked) = and_then clock
     (opened standing state (opening_behind past sequence.1 asked.handle asked.lifetime))
 answered_well site standing state past (Says Final numbers body) = and_then clock
@@ -69,15 +70,16 @@ answered_well site standing state past (Closes numbers) = give (ends standing []
 
 -- Any chunk is answered by its place behind `past`, which is what the channel has heard; one that
 -- isn't well placed is refused.
-abbrev pub answered_at : Site → List Placed → Standing → State → Piece → Answering
-answered_at site past standing state piece = elim (judged (heard_of past) piece) [
+abbrev pub answered_at : ServerConfig → List Placed → ClientState → ChannelState → ChunkContent
+    → Answering
+answered_at site past standing state piece = elim (placed_chunk (heard_of past) piece) [
   | Ok placed ↦
       answered_well site standing (record state { heard = heard_of (placed ∷ past) }) past placed
-  | Err fault ↦ refuse standing (channel.code_of fault)
+  | Err fault ↦ refuse standing (channel.channel_fault_status fault)
 ]
 
 -- 1,000,000 chunks are answered and no more
-abbrev pub answered_next : Site → List Placed → Standing → Piece → Answering
+abbrev pub answered_next : ServerConfig → List Placed → ClientState → ChunkContent → Answering
 answered_next site past standing piece =
     if standing.client.taken == 1000000 then give (ends standing [] (Err TooLong))
     else elim standing.client.channel [
@@ -88,45 +90,47 @@ answered_next site past standing piece =
 -- ---- the connection
 
 -- memory for what stands first is had, and it is answered so; or it is wanting, and that is told
-abbrev pub had : Standing → Answering → Answering
-had standing answering = made answering (refuse standing BAD_OUT_OF_MEMORY)
+abbrev pub had : ClientState → Answering → Answering
+had standing answering = or_out_of_memory answering (refuse standing BAD_OUT_OF_MEMORY)
 
 -- the chunks that were taken once this one came
-abbrev pub taken_with : List Placed → Piece → List Placed
+abbrev pub taken_with : List Placed → ChunkContent → List Placed
 taken_with past piece =
-    elim (judged (heard_of past) piece) [ Ok placed ↦ placed ∷ past | Err fault ↦ past ]
+    elim (placed_chunk (heard_of past) piece) [ Ok placed ↦ placed ∷ past | Err fault ↦ past ]
 
 -- the chunks of the channel behind these are answered one after the other, and then the end
 abbrev pub conversed
-    : Site → (Standing → Answering) → List Placed → Standing → List Piece → Answering
+    : ServerConfig → (ClientState → Answering) → List Placed → ClientState → List ChunkContent
+    → Answering
 conversed site end past standing [] = end standing
 conversed site end past standing (piece ∷ pieces) =
     and_then (had standing (answered_next site past standing piece))
     (λ reply. joined (conversed site end (taken_with past piece) reply.state pieces) reply)
 
 -- the end of the stream: a fault is refused; less than a chunk, or nothing, is the input's end
-abbrev pub answered_rest : Option UacpFault → List ℕ → Standing → Answering
-answered_rest (Some fault) rest standing = had standing (refuse standing (code_of fault))
+abbrev pub answered_rest : Option UacpFault → List ℕ → ClientState → Answering
+answered_rest (Some fault) rest standing = had standing (refuse standing (uacp_fault_status fault))
 answered_rest None [] standing = give (ends standing [] (Ok EndOfInput))
 answered_rest None (byte ∷ rest) standing = had standing (give (ends standing [] (Ok EndOfInput)))
 
 -- a whole connection: its Hello is answered, then the chunks of the channel, then the end
-abbrev pub answered_chunks : Site → (Standing → Answering) → Standing → List Piece → Answering
+abbrev pub answered_chunks : ServerConfig → (ClientState → Answering) → ClientState
+    → List ChunkContent → Answering
 answered_chunks site end standing [] = end standing
 answered_chunks site end standing (first ∷ pieces) =
     and_then (had standing (greeted standing (hello_at first.body)))
     (λ reply. joined (conversed site end [] reply.state pieces) reply)
 
 -- the same of a stream, of a client of whom nothing was answered, over what the archive holds
-abbrev pub answered_stream : Site → Content → (bytes : List ℕ) → Chunked bytes → Answering
+abbrev pub answered_stream : ServerConfig → Content → (bytes : List ℕ) → Chunked bytes → Answering
 answered_stream site R bytes stream =
     answered_chunks site (answered_rest stream.fault stream.rest) (new_standing R) stream.pieces
 
 -- The bytes that came are such chunks and a rest. Their answer, which uses just what `used` has of
 -- the outside, is `out`; it ended so, and left `last`.
-pub record IsConversed (site : Site) (R : Content) (came : List ℕ) (used : Outside)
-    (out : List ℕ) (ending : Ending) (last : Standing) : Type 0 where
+pub record IsConversed (site : ServerConfig) (R : Content) (came : List ℕ) (used : Environment)
+    (out : List ℕ) (ending : Ending) (last : ClientState) : Type 0 where
   pub stream : Chunked came
-  pub answers : (later : Outside)
+  pub answers : (later : Environment)
       → answered_stream site R came stream (before used later)
       ≡ (record { out = out; ending = Some ending; state = last }, later)

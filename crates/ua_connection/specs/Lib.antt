@@ -1,5 +1,5 @@
 pub mod Readings
-pub mod Given
+pub mod Environments
 pub mod Passing
 pub mod Run
 pub mod Client

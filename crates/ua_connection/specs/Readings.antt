@@ -15,6 +15,7 @@ abbrev pub AllSinceEpoch : List ℤ → Type 0
 AllSinceEpoch [] = Unit {0}
 AllSinceEpoch (now ∷ readings) = (pos 116444736000000000 ≤ℤ now) × AllSinceEpoch readings
 
-pub AllSinceEpoch-append : (xs ys : List ℤ) → AllSinceEpoch xs → AllSinceEpoch ys → AllSinceEpoch (xs ++ ys)
+pub AllSinceEpoch-append : (xs ys : List ℤ) → AllSinceEpoch xs → AllSinceEpoch ys
+    → AllSinceEpoch (xs ++ ys)
 AllSinceEpoch-append [] ys p q = q
 AllSinceEpoch-append (x ∷ xs) ys p q = (p.0, AllSinceEpoch-append xs ys p.1 q)

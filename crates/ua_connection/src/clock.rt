@@ -51,7 +51,8 @@ impl<'a, T: TimeSource> SystemClock<'a, T> {
 /// A time of the machine as a moment: the Unix epoch where it is before that.
 fn moment_of(time: SystemTime) -> i64
     ensures since { pos 116444736000000000 ≤ℤ result }
-    ensures exact { result ≡ pos (min (116444736000000000 + system_time_nanos time / 100) (2 ^ 63 - 1)) }
+    ensures exact { result
+        ≡ pos (min (116444736000000000 + system_time_nanos time / 100) (2 ^ 63 - 1)) }
 {
     match time.duration_since(SystemTime::UNIX_EPOCH) {
         Ok(since) => after_epoch(since),
@@ -83,7 +84,8 @@ impl Clock for ConstantClock {
 
     ghost gave_none = { λ a. (refl, tt) };
 
-    ghost gave_more = { λ a b c xs ys p q. (q.0 ∙ p.0, AllAre-append a.0 xs ys p.1 (subst (λ n. AllAre n ys) p.0 q.1)) };
+    ghost gave_more = { λ a b c xs ys p q.
+        (q.0 ∙ p.0, AllAre-append a.0 xs ys p.1 (subst (λ n. AllAre n ys) p.0 q.1)) };
 
     fn now(&mut self) -> i64 {
         self.0

@@ -1,13 +1,13 @@
 //! A connection, one item after the other.
 
 ghost use Rattle.std.specs.Prelude.{◌≡◌, ◌≤◌, ◌++◌, OnOk, OnErr};
-ghost use Rattle.ua_connection.specs.Given.{Outside};
+ghost use Rattle.ua_connection.specs.Environments.{Environment};
 ghost use Rattle.ua_connection.specs.Client.{Client};
-ghost use Rattle.ua_connection.specs.Turns.{Link, new_link, IsShort, IsSmall, IsOwn, IsSound, TurnedInto, LeavesIntake, Shortens, IsCounted, ending_of, behind, link_of};
+ghost use Rattle.ua_connection.specs.Turns.{ConnectionState, new_link, NeedsBytes, IsSmall, IsOwn, IsNextCurrent, AdvancesInto, LeavesIntake, Shortens, IsCounted, ending_of, client_after, link_of};
 
-use crate::answering::answer_piece;
+use crate::answering::answer_chunk;
 use crate::clock::Clock;
-use crate::turn::{Turn, refuse};
+use crate::turn::{Step, refuse};
 use archive::Archive;
 use counted_io::ServeFault;
 use std::alloc::Global;
@@ -35,13 +35,13 @@ pub(crate) struct Connection {
 
 impl Model for Connection {
     ghost use Rattle.std.specs.Prelude.{◌≤◌};
-    ghost use Rattle.ua_connection.specs.Turns.{Link, IsSound, link_of};
+    ghost use Rattle.ua_connection.specs.Turns.{ConnectionState, IsNextCurrent, link_of};
 
-    ghost Value = { Link };
+    ghost Value = { ConnectionState };
 
     ghost view = { λ c. link_of c.intake c.taken c.channel c.sessions };
 
-    ghost invariant = { λ c. (c.taken ≤ 1000000) × (c.intake.limit ≤ 65536) × IsSound c.intake };
+    ghost invariant = { λ c. (c.taken ≤ 1000000) × (c.intake.limit ≤ 65536) × IsNextCurrent c.intake };
 }
 
 /// Takes the next chunk, if it is whole, and answers it, or the fault that stands in its place.
@@ -56,25 +56,32 @@ fn take_next<A: Archive, C: Clock>(
     clock: &mut C,
     body: &mut Vec<u8>,
     out: &mut Vec<u8>,
-) -> Result<Turn, ServeFault>
+) -> Result<Step, ServeFault>
     requires few { taken ≤ MOST_CHUNKS }
     requires limit { intake.old.limit ≤ 65536 }
-    requires sound { IsSound intake.old }
-    ensures turned { (used : Outside) × C.gave clock.old used.readings clock.new
-        × TurnedInto settings.now (A.state archive.old) (A.state archive.new) (link_of intake.old taken channel.old sessions.old) used out.old.items out.new.items (ending_of result)
-        (record { client = behind (link_of intake.old taken channel.old sessions.old).client result channel.new sessions.new; waiting = intake.new.waiting }) }
-    ensures own { IsOwn (IsShort (link_of intake.old taken channel.old sessions.old)) 65536 result }
+    requires sound { IsNextCurrent intake.old }
+    ensures turned { (used : Environment) × C.gave clock.old used.readings clock.new
+        × AdvancesInto settings.now (A.state archive.old) (A.state archive.new)
+        (link_of intake.old taken channel.old sessions.old) used out.old.items out.new.items
+        (ending_of result)
+        (record {
+          client = client_after
+              (link_of intake.old taken channel.old sessions.old).client result channel.new sessions.new;
+          waiting = intake.new.waiting;
+        }) }
+    ensures own { IsOwn
+        (NeedsBytes (link_of intake.old taken channel.old sessions.old)) 65536 result }
     ensures few { IsCounted taken result }
     ensures leaves { LeavesIntake result intake.old intake.new }
 {
     match intake.next_chunk() {
-        Ok(None) => Ok(Turn::Waits),
+        Ok(None) => Ok(Step::NeedsInput),
         Err(fault) => refuse(fault.code(), out),
         Ok(Some(chunk)) => {
             if taken == MOST_CHUNKS {
                 return Err(ServeFault::TooLong);
             }
-            answer_piece(
+            answer_chunk(
                 alloc, settings, archive, channel, sessions, chunk, clock, body, out,
             )
         }
@@ -97,7 +104,8 @@ impl Connection {
 
     /// Takes the next bytes of the client. The one error is want of memory, which changes nothing.
     pub(crate) fn feed(&mut self, piece: &[u8]) -> Result<(), UacpFault>
-        ensures ok { OnOk result (self.new ≡ record self.old { waiting = self.old.waiting ++ piece.now }) }
+        ensures ok { OnOk result
+            (self.new ≡ record self.old { waiting = self.old.waiting ++ piece.now }) }
         ensures err { OnErr result (self.new ≡ self.old) }
     {
         match self.intake.feed(piece) {
@@ -118,10 +126,12 @@ impl Connection {
         archive: &mut A,
         clock: &mut C,
         out: &mut Vec<u8>,
-    ) -> Result<Turn, ServeFault>
-        ensures turned { (used : Outside) × C.gave clock.old used.readings clock.new
-            × TurnedInto settings.now (A.state archive.old) (A.state archive.new) self.old used out.old.items out.new.items (ending_of result) self.new }
-        ensures own { IsOwn (IsShort self.new) 65536 result }
+    ) -> Result<Step, ServeFault>
+        ensures turned { (used : Environment) × C.gave clock.old used.readings clock.new
+            × AdvancesInto settings.now (A.state archive.old)
+            (A.state archive.new) self.old used out.old.items out.new.items
+            (ending_of result) self.new }
+        ensures own { IsOwn (NeedsBytes self.new) 65536 result }
         ensures small { IsSmall self.new }
         ensures shorter { Shortens result self.old self.new }
     {
@@ -138,13 +148,13 @@ impl Connection {
             out,
         );
         match turn {
-            Ok(Turn::Greets(limit)) => {
+            Ok(Step::Acknowledged(limit)) => {
                 self.intake.set_limit(limit);
                 self.taken += 1;
             }
-            Ok(Turn::Goes) => self.taken += 1,
-            Ok(Turn::Waits) => {}
-            Ok(Turn::Ends(_)) => {}
+            Ok(Step::Continues) => self.taken += 1,
+            Ok(Step::NeedsInput) => {}
+            Ok(Step::Ended(_)) => {}
             Err(_) => {}
         }
         turn

@@ -2,11 +2,11 @@
 
 ghost use Rattle.std.specs.Prelude.{◌≡◌, ◌≤◌, List, Ok};
 ghost use Rattle.uacp.specs.Greeting.{hello_at};
-ghost use Rattle.archive.specs.Store.{Mark};
+ghost use Rattle.archive.specs.Store.{StepResult};
 ghost use Rattle.ua_connection.specs.Client.{Client, acknowledged, greeted};
-ghost use Rattle.ua_connection.specs.Turns.{IsOwn, AnsweredHere, ending_of, behind};
+ghost use Rattle.ua_connection.specs.Turns.{IsOwn, AnsweredHere, ending_of, client_after};
 
-use crate::turn::{Turn, refuse};
+use crate::turn::{Step, refuse};
 use counted_io::ServeFault;
 use std::alloc::Global;
 use ua_binary::Status;
@@ -20,16 +20,19 @@ fn acknowledge(
     ack: &Ack,
     channel: &mut Option<Channel>,
     out: &mut Vec<u8>,
-) -> Result<Turn, ServeFault>
+) -> Result<Step, ServeFault>
     requires { ack.now.receive_size ≤ 65536 }
-    ensures answered { (client : Client) → (used : List Mark)
-        × AnsweredHere (λ R. acknowledged (record { client = client; content = R }) hello.now (Ok ack.now)) used out.old.items out.new.items (ending_of result) (behind client result channel.new client.sessions) }
+    ensures answered { (client : Client) → (used : List StepResult)
+        × AnsweredHere
+        (λ R. acknowledged (record { client = client; content = R }) hello.now (Ok ack.now)) used
+        out.old.items out.new.items (ending_of result)
+        (client_after client result channel.new client.sessions) }
     ensures own { IsOwn ⊥ 65536 result }
 {
     match put_ack(out, ack) {
         Ok(()) => {
             *channel = Some(Channel::new(alloc, hello, ack));
-            Ok(Turn::Greets(ack.receive_size))
+            Ok(Step::Acknowledged(ack.receive_size))
         }
         Err(_) => refuse(Status::BAD_OUT_OF_MEMORY, out),
     }
@@ -41,9 +44,12 @@ pub(crate) fn greet(
     body: &[u8],
     channel: &mut Option<Channel>,
     out: &mut Vec<u8>,
-) -> Result<Turn, ServeFault>
-    ensures answered { (client : Client) → (used : List Mark)
-        × AnsweredHere (λ R. greeted (record { client = client; content = R }) (hello_at body.now)) used out.old.items out.new.items (ending_of result) (behind client result channel.new client.sessions) }
+) -> Result<Step, ServeFault>
+    ensures answered { (client : Client) → (used : List StepResult)
+        × AnsweredHere
+        (λ R. greeted (record { client = client; content = R }) (hello_at body.now)) used
+        out.old.items out.new.items (ending_of result)
+        (client_after client result channel.new client.sessions) }
     ensures own { IsOwn ⊥ 65536 result }
 {
     let hello = match read_hello(body) {

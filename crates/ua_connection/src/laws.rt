@@ -1,13 +1,13 @@
 //! What holds of every connection of a client.
 
 ghost use Rattle.std.specs.Prelude.{◌≡◌, ◌+◌, ℕ, List, [], drop, None, Some, Err};
-ghost use Rattle.uacp.specs.Stream.{Piece};
+ghost use Rattle.uacp.specs.Stream.{ChunkContent};
 ghost use Rattle.records.specs.Contents.{Content};
-ghost use Rattle.historian.specs.Services.{Site};
-ghost use Rattle.ua_connection.specs.Given.{Outside};
+ghost use Rattle.historian.specs.Services.{ServerConfig};
+ghost use Rattle.ua_connection.specs.Environments.{Environment};
 ghost use Rattle.archive.specs.Steps.{and_then};
-ghost use Rattle.ua_connection.specs.Run.{answered, joined, ended};
-ghost use Rattle.ua_connection.specs.Client.{Standing, Ending, Item, whole, ends, answered_item, answer, chunks, next};
+ghost use Rattle.ua_connection.specs.Run.{stream_answered, joined, ended};
+ghost use Rattle.ua_connection.specs.Client.{ClientState, Ending, Item, whole, ends, answered_item, answer, chunks, next};
 ghost use Rattle.ua_connection.specs.Serving.{new_standing, IsServed};
 ghost use Rattle.ua_connection.specs.Conversation.{Chunked, answered_stream, IsConversed};
 
@@ -17,20 +17,34 @@ use counted_io::ServeFault;
 /// does, and each chunk that is answered and doesn't end the connection is counted.
 #[tactic(auto, using(crate::proofs::Counting::counting))]
 pub fn chunks_are_counted()
-    ensures one_too_many { (site : Site) (standing : Standing) (piece : Piece) (later : Outside) → standing.client.taken ≡ 1000000
-        → answered_item site standing (whole piece) later ≡ (ends standing [] (Err ServeFault.TooLong), later) }
-    ensures no_sooner { (site : Site) (standing : Standing) (item : Item) (outside : Outside) → (answer site standing item outside).0.ending ≡ Some (Err ServeFault.TooLong)
+    ensures one_too_many { (site : ServerConfig) (standing : ClientState) (piece : ChunkContent)
+        (later : Environment) → standing.client.taken ≡ 1000000
+        → answered_item site standing (whole piece) later
+        ≡ (ends standing [] (Err ServeFault.TooLong), later) }
+    ensures no_sooner { (site : ServerConfig) (standing : ClientState) (item : Item)
+        (outside : Environment)
+        → (answer site standing item outside).0.ending ≡ Some (Err ServeFault.TooLong)
         → standing.client.taken ≡ 1000000 }
-    ensures each { (site : Site) (standing : Standing) (item : Item) (outside : Outside) → (answer site standing item outside).0.ending ≡ None
+    ensures each { (site : ServerConfig) (standing : ClientState) (item : Item)
+        (outside : Environment)
+        → (answer site standing item outside).0.ending ≡ None
         → (answer site standing item outside).0.state.client.taken ≡ standing.client.taken + 1 }
 {}
 
 /// The answer to a stream is what stands first, answered, and then the answer to the rest; it doesn't stop before the stream does.
 #[tactic(auto, using(crate::proofs::Counting::counting))]
 pub fn answers_go_item_by_item()
-    ensures item { (site : Site) (standing : Standing) (bytes : List ℕ) (item : Item × ℕ) (outside : Outside) → next standing bytes ≡ Some item
-        → answered (chunks site) standing bytes outside ≡ and_then (answer site standing item.0) (λ reply. joined (answered (chunks site) reply.state (drop item.1 bytes)) reply) outside }
-    ensures none { (site : Site) (standing : Standing) (bytes : List ℕ) (outside : Outside) → next standing bytes ≡ None → answered (chunks site) standing bytes outside ≡ ended (chunks site) standing outside }
+    ensures item { (site : ServerConfig) (standing : ClientState) (bytes : List ℕ) (item : Item × ℕ)
+        (outside : Environment) → next standing bytes ≡ Some item
+        → stream_answered (chunks site) standing bytes outside
+        ≡ and_then (answer site standing item.0)
+        (λ reply.
+        joined (stream_answered (chunks site) reply.state (drop item.1 bytes)) reply) outside }
+    ensures none { (site : ServerConfig) (standing : ClientState) (bytes : List ℕ)
+        (outside : Environment)
+        → next standing bytes ≡ None
+        → stream_answered (chunks site) standing bytes outside
+        ≡ ended (chunks site) standing outside }
 {}
 
 /// A client's whole connection, in the words of the stream. All bytes are whole chunks, later ones judged by the size that the
@@ -39,9 +53,13 @@ pub fn answers_go_item_by_item()
 #[tactic(auto, using(crate::proofs::Conversing::conversing))]
 pub fn connections_are_answered_chunk_by_chunk()
     ensures chunked { (bytes : List ℕ) → Chunked bytes }
-    ensures answers { (site : Site) (R : Content) (bytes : List ℕ) (stream : Chunked bytes) (outside : Outside)
-        → answered (chunks site) (new_standing R) bytes outside ≡ answered_stream site R bytes stream outside }
-    ensures served { (site : Site) (R : Content) (came out : List ℕ) (used : Outside) (ending : Ending) (last : Standing)
-        → IsServed (chunks site) (new_standing R) came used out ending last → (ending ≡ Err ServeFault.Read → ⊥) → (ending ≡ Err ServeFault.Write → ⊥)
+    ensures answers { (site : ServerConfig) (R : Content) (bytes : List ℕ) (stream : Chunked bytes)
+        (outside : Environment)
+        → stream_answered (chunks site) (new_standing R) bytes outside
+        ≡ answered_stream site R bytes stream outside }
+    ensures served { (site : ServerConfig) (R : Content) (came out : List ℕ) (used : Environment)
+        (ending : Ending) (last : ClientState)
+        → IsServed (chunks site) (new_standing R) came used out ending last
+        → (ending ≡ Err ServeFault.Read → ⊥) → (ending ≡ Err ServeFault.Write → ⊥)
         → IsConversed site R came used out ending last }
 {}

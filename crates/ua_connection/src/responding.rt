@@ -1,19 +1,19 @@
 //! Messages, each answered by its response in chunks (Part 4, 7.33 to 7.35).
 
 ghost use Rattle.std.specs.Prelude.{◌≡◌, List, [], Some, OnOk, IfErr};
-ghost use Rattle.archive.specs.Store.{Mark};
+ghost use Rattle.archive.specs.Store.{StepResult};
 ghost use Rattle.ua_binary.specs.declared.codes.TheConstants.Status.{BAD_OUT_OF_MEMORY};
 ghost use Rattle.ua_channel.specs.Taking.{IsReady};
 ghost use Rattle.ua_channel.specs.Sending.{Writes, message_bytes, chunk_count};
 ghost use Rattle.historian.specs.Services.{site_of};
 ghost use Rattle.historian.specs.Answers.{service_fault};
 ghost use Rattle.ua_connection.specs.Client.{Client, fitted, responded};
-ghost use Rattle.ua_connection.specs.Turns.{IsOwn, Answered, SendsTurn, ending_of, behind, standing_of};
+ghost use Rattle.ua_connection.specs.Turns.{IsOwn, Answered, SendsTurn, ending_of, client_after, standing_of};
 
-use crate::turn::Turn;
+use crate::turn::Step;
 use archive::Archive;
 use counted_io::ServeFault;
-use historian::{Message, answer_message, put_service_fault};
+use historian::{ClientMessage, answer_message, put_service_fault};
 use std::alloc::Global;
 use ua_binary::{Status, Ticks};
 use ua_channel::{Channel, ChannelFault};
@@ -40,7 +40,12 @@ fn make_fault(
 
 /// Makes of a body that isn't within what the client takes a ServiceFault that says so. The one error is `OutOfMemory`.
 #[inline(always)]
-fn fit(channel: &Channel, now: Ticks, handle: u32, body: &mut Vec<u8>) -> Result<(), ChannelFault>
+fn replace_if_too_large(
+    channel: &Channel,
+    now: Ticks,
+    handle: u32,
+    body: &mut Vec<u8>,
+) -> Result<(), ChannelFault>
     ensures ok { OnOk result (body.new.items ≡ fitted channel.now now handle body.old.items) }
     ensures err { IfErr result (λ fault. fault ≡ ChannelFault.OutOfMemory) }
 {
@@ -61,9 +66,12 @@ fn send_fitting(
     out: &mut Vec<u8>,
 ) -> Result<(), ChannelFault>
     requires { IsReady channel.old }
-    ensures { Writes channel.old (message_bytes channel.old request_id (fitted channel.old now handle body.old.items)) (chunk_count channel.old (fitted channel.old now handle body.old.items)) result out.old.items out.new.items channel.new }
+    ensures { Writes channel.old
+        (message_bytes channel.old request_id (fitted channel.old now handle body.old.items))
+        (chunk_count channel.old (fitted channel.old now handle body.old.items)) result
+        out.old.items out.new.items channel.new }
 {
-    match fit(channel, now, handle, body) {
+    match replace_if_too_large(channel, now, handle, body) {
         Ok(()) => channel.wrap(request_id, body.as_slice(), out),
         Err(fault) => Err(fault),
     }
@@ -78,9 +86,11 @@ fn send_starved(
     handle: u32,
     body: &mut Vec<u8>,
     out: &mut Vec<u8>,
-) -> Result<Turn, ServeFault>
+) -> Result<Step, ServeFault>
     requires { IsReady channel.old }
-    ensures sends { SendsTurn channel.old request_id (service_fault now handle BAD_OUT_OF_MEMORY) result out.old.items out.new.items channel.new }
+    ensures sends { SendsTurn channel.old request_id
+        (service_fault now handle BAD_OUT_OF_MEMORY) result out.old.items out.new.items
+        channel.new }
     ensures own { IsOwn ⊥ 65536 result }
 {
     match make_fault(body, now, handle, Status::BAD_OUT_OF_MEMORY) {
@@ -88,7 +98,7 @@ fn send_starved(
         Err(_) => return Err(ServeFault::OutOfMemory),
     }
     match channel.wrap(request_id, body.as_slice(), out) {
-        Ok(()) => Ok(Turn::Goes),
+        Ok(()) => Ok(Step::Continues),
         Err(_) => Err(ServeFault::OutOfMemory),
     }
 }
@@ -107,18 +117,23 @@ pub(crate) fn respond<A: Archive>(
     now: Ticks,
     body: &mut Vec<u8>,
     out: &mut Vec<u8>,
-) -> Result<Turn, ServeFault>
+) -> Result<Step, ServeFault>
     requires { IsReady channel.old }
-    ensures answered { (client : Client) → (used : List Mark)
-        × Answered (A.state archive.old) (A.state archive.new) (λ R. responded (site_of settings.now (A.state archive.old)) (standing_of client sessions.old R) channel.old request_id message.now now) (record { marks = used; readings = [] }) out.old.items out.new.items (ending_of result) (behind client result (Some channel.new) sessions.new) }
+    ensures answered { (client : Client) → (used : List StepResult)
+        × Answered (A.state archive.old) (A.state archive.new)
+        (λ R.
+        responded (site_of settings.now (A.state archive.old))
+        (standing_of client sessions.old R) channel.old request_id message.now now)
+        (record { marks = used; readings = [] }) out.old.items out.new.items (ending_of result)
+        (client_after client result (Some channel.new) sessions.new) }
     ensures own { IsOwn ⊥ 65536 result }
 {
     body.clear();
-    let request = Message::read(message);
+    let request = ClientMessage::read(message);
     let handle = request.handle();
     match answer_message(alloc, settings, archive, sessions, now, request, body) {
         Ok(()) => match send_fitting(channel, request_id, now, handle, body, out) {
-            Ok(()) => Ok(Turn::Goes),
+            Ok(()) => Ok(Step::Continues),
             Err(_) => send_starved(channel, request_id, now, handle, body, out),
         },
         Err(_) => send_starved(channel, request_id, now, handle, body, out),

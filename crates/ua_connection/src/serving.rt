@@ -1,19 +1,19 @@
 //! A connection, from the first byte read to the last one written.
 
 ghost use Rattle.std.specs.Prelude.{◌≡◌, ◌≤◌, ◌<◌, ◌⊎◌, List, [], None, IfOk, OnOk, OnErr, IsErrOf, length};
-ghost use Rattle.counted_io.specs.Bytes.{counted};
+ghost use Rattle.counted_io.specs.Bytes.{CountsWhere};
 ghost use Rattle.ua_connection.specs.Client.{new_client};
 ghost use Rattle.ua_binary.specs.declared.codes.TheConstants.Status.{BAD_OUT_OF_MEMORY};
-ghost use Rattle.ua_connection.specs.Given.{Outside};
-ghost use Rattle.ua_connection.specs.Passing.{Event};
-ghost use Rattle.ua_connection.specs.Turns.{IsShort, IsSmall, IsOwn, IsOwnEnd, IsNoLess, Shortens, TurnedInto, Drained, SendsRefusal, ending_of};
+ghost use Rattle.ua_connection.specs.Environments.{Environment};
+ghost use Rattle.ua_connection.specs.Passing.{LineEvent};
+ghost use Rattle.ua_connection.specs.Turns.{NeedsBytes, IsSmall, IsOwn, IsOwnEnd, IsNoLess, Shortens, AdvancesInto, SentAll, SendsRefusal, ending_of};
 ghost use Rattle.ua_connection.specs.Serving.{ServesPromptly};
 
 use crate::clock::Clock;
 use crate::connection::Connection;
 use crate::line::Line;
 use crate::outcome::Served;
-use crate::turn::{Turn, end_of, put_refusal};
+use crate::turn::{Step, end_of, put_refusal};
 use archive::Archive;
 use counted_io::ServeFault;
 use std::alloc::Global;
@@ -31,27 +31,29 @@ fn answer_some<A: Archive, C: Clock>(
     connection: &mut Connection,
     clock: &mut C,
     out: &mut Vec<u8>,
-) -> Result<Turn, ServeFault>
+) -> Result<Step, ServeFault>
     requires { IsSmall connection.old }
-    ensures turned { (used : Outside) × C.gave clock.old used.readings clock.new
-        × TurnedInto settings.now (A.state archive.old) (A.state archive.new) connection.old used out.old.items out.new.items (ending_of result) connection.new }
-    ensures own { IsOwn (IsShort connection.new) 65536 result }
+    ensures turned { (used : Environment) × C.gave clock.old used.readings clock.new
+        × AdvancesInto settings.now (A.state archive.old)
+        (A.state archive.new) connection.old used out.old.items out.new.items
+        (ending_of result) connection.new }
+    ensures own { IsOwn (NeedsBytes connection.new) 65536 result }
     ensures small { IsSmall connection.new }
     ensures shorter { Shortens result connection.old connection.new }
 {
     'items: loop {
         match connection.next_answer(alloc, settings, archive, clock, out) {
-            Ok(Turn::Waits) => return Ok(Turn::Waits),
-            Ok(Turn::Ends(served)) => return Ok(Turn::Ends(served)),
+            Ok(Step::NeedsInput) => return Ok(Step::NeedsInput),
+            Ok(Step::Ended(served)) => return Ok(Step::Ended(served)),
             Err(fault) => return Err(fault),
-            Ok(Turn::Greets(_)) => {
+            Ok(Step::Acknowledged(_)) => {
                 if out.len() >= PIECE {
-                    return Ok(Turn::Goes);
+                    return Ok(Step::Continues);
                 }
             }
-            Ok(Turn::Goes) => {
+            Ok(Step::Continues) => {
                 if out.len() >= PIECE {
-                    return Ok(Turn::Goes);
+                    return Ok(Step::Continues);
                 }
             }
         }
@@ -69,12 +71,15 @@ fn answer_waiting<A: Archive, X: Line, C: Clock>(
     out: &mut Vec<u8>,
 ) -> Result<Option<Served>, ServeFault>
     requires { IsSmall connection.old }
-    ensures drained { (used : Outside) × C.gave clock.old used.readings clock.new × (events : List Event) × X.passed line.old events line.new
-        × Drained settings.now (A.state archive.old) (A.state archive.new) connection.old used events result connection.new }
-    ensures own { IsOwnEnd (IsShort connection.new × IsNoLess connection.old connection.new) result }
+    ensures drained { (used : Environment) × C.gave clock.old used.readings clock.new
+        × (events : List LineEvent) × X.passed line.old events line.new
+        × SentAll settings.now (A.state archive.old)
+        (A.state archive.new) connection.old used events result connection.new }
+    ensures own { IsOwnEnd
+        (NeedsBytes connection.new × IsNoLess connection.old connection.new) result }
     ensures small { IsSmall connection.new }
-    ensures write { IsErrOf result ServeFault.Write → X.failed_writes line.new ≡ counted (X.failed_writes line.old) }
-    ensures kept { (IsErrOf result ServeFault.Write → ⊥) → X.failed_writes line.new ≡ X.failed_writes line.old }
+    ensures writes { CountsWhere (IsErrOf result ServeFault.Write) (X.failed_writes line.old)
+        (X.failed_writes line.new) }
     ensures reads { X.failed_reads line.new ≡ X.failed_reads line.old }
 {
     'parts: loop {
@@ -90,9 +95,10 @@ fn answer_waiting<A: Archive, X: Line, C: Clock>(
 
 /// Ends the connection by an Error message that says that memory ran out.
 fn send_starved<X: Line>(line: &mut X, out: &mut Vec<u8>) -> Result<Served, ServeFault>
-    ensures sends { (events : List Event) × X.passed line.old events line.new × SendsRefusal BAD_OUT_OF_MEMORY events result }
-    ensures write { IsErrOf result ServeFault.Write → X.failed_writes line.new ≡ counted (X.failed_writes line.old) }
-    ensures kept { (IsErrOf result ServeFault.Write → ⊥) → X.failed_writes line.new ≡ X.failed_writes line.old }
+    ensures sends { (events : List LineEvent) × X.passed line.old events line.new
+        × SendsRefusal BAD_OUT_OF_MEMORY events result }
+    ensures writes { CountsWhere (IsErrOf result ServeFault.Write) (X.failed_writes line.old)
+        (X.failed_writes line.new) }
     ensures reads { X.failed_reads line.new ≡ X.failed_reads line.old }
 {
     out.clear();
@@ -111,13 +117,15 @@ fn serve_on<X: Line, C: Clock, A: Archive>(
     clock: &mut C,
 ) -> Result<Served, ServeFault>
     requires fresh { connection.old.client ≡ new_client }
-    requires short { IsShort connection.old }
-    ensures serves { (used : Outside) × C.gave clock.old used.readings clock.new × (events : List Event) × X.passed line.old events line.new
-        × ServesPromptly settings.now (A.state archive.old) (A.state archive.new) connection.old.waiting events used result }
-    ensures read { IsErrOf result ServeFault.Read → X.failed_reads line.new ≡ counted (X.failed_reads line.old) }
-    ensures write { IsErrOf result ServeFault.Write → X.failed_writes line.new ≡ counted (X.failed_writes line.old) }
-    ensures read_kept { (IsErrOf result ServeFault.Read → ⊥) → X.failed_reads line.new ≡ X.failed_reads line.old }
-    ensures write_kept { (IsErrOf result ServeFault.Write → ⊥) → X.failed_writes line.new ≡ X.failed_writes line.old }
+    requires short { NeedsBytes connection.old }
+    ensures serves { (used : Environment) × C.gave clock.old used.readings clock.new
+        × (events : List LineEvent) × X.passed line.old events line.new
+        × ServesPromptly settings.now (A.state archive.old)
+        (A.state archive.new) connection.old.waiting events used result }
+    ensures reads { CountsWhere (IsErrOf result ServeFault.Read) (X.failed_reads line.old)
+        (X.failed_reads line.new) }
+    ensures writes { CountsWhere (IsErrOf result ServeFault.Write) (X.failed_writes line.old)
+        (X.failed_writes line.new) }
 {
     let mut out = Vec::new(alloc);
     let mut piece = [0u8; PIECE];
@@ -146,12 +154,14 @@ fn serve_first<X: Line, C: Clock, A: Archive>(
     line: &mut X,
     clock: &mut C,
 ) -> Result<Served, ServeFault>
-    ensures serves { (used : Outside) × C.gave clock.old used.readings clock.new × (events : List Event) × X.passed line.old events line.new
-        × ServesPromptly settings.now (A.state archive.old) (A.state archive.new) [] events used result }
-    ensures read { IsErrOf result ServeFault.Read → X.failed_reads line.new ≡ counted (X.failed_reads line.old) }
-    ensures write { IsErrOf result ServeFault.Write → X.failed_writes line.new ≡ counted (X.failed_writes line.old) }
-    ensures read_kept { (IsErrOf result ServeFault.Read → ⊥) → X.failed_reads line.new ≡ X.failed_reads line.old }
-    ensures write_kept { (IsErrOf result ServeFault.Write → ⊥) → X.failed_writes line.new ≡ X.failed_writes line.old }
+    ensures serves { (used : Environment) × C.gave clock.old used.readings clock.new
+        × (events : List LineEvent) × X.passed line.old events line.new
+        × ServesPromptly settings.now (A.state archive.old) (A.state archive.new)
+        [] events used result }
+    ensures reads { CountsWhere (IsErrOf result ServeFault.Read) (X.failed_reads line.old)
+        (X.failed_reads line.new) }
+    ensures writes { CountsWhere (IsErrOf result ServeFault.Write) (X.failed_writes line.old)
+        (X.failed_writes line.new) }
 {
     let mut connection = Connection::new(alloc);
     serve_on(alloc, settings, archive, &mut connection, line, clock)
@@ -168,12 +178,14 @@ fn serve_behind<X: Line, C: Clock, A: Archive>(
 ) -> Result<Served, ServeFault>
     requires some { 0 < length first.now }
     requires few { length first.now < 8 }
-    ensures serves { (used : Outside) × C.gave clock.old used.readings clock.new × (events : List Event) × X.passed line.old events line.new
-        × ServesPromptly settings.now (A.state archive.old) (A.state archive.new) first.now events used result }
-    ensures read { IsErrOf result ServeFault.Read → X.failed_reads line.new ≡ counted (X.failed_reads line.old) }
-    ensures write { IsErrOf result ServeFault.Write → X.failed_writes line.new ≡ counted (X.failed_writes line.old) }
-    ensures read_kept { (IsErrOf result ServeFault.Read → ⊥) → X.failed_reads line.new ≡ X.failed_reads line.old }
-    ensures write_kept { (IsErrOf result ServeFault.Write → ⊥) → X.failed_writes line.new ≡ X.failed_writes line.old }
+    ensures serves { (used : Environment) × C.gave clock.old used.readings clock.new
+        × (events : List LineEvent) × X.passed line.old events line.new
+        × ServesPromptly settings.now (A.state archive.old)
+        (A.state archive.new) first.now events used result }
+    ensures reads { CountsWhere (IsErrOf result ServeFault.Read) (X.failed_reads line.old)
+        (X.failed_reads line.new) }
+    ensures writes { CountsWhere (IsErrOf result ServeFault.Write) (X.failed_writes line.old)
+        (X.failed_writes line.new) }
 {
     let mut connection = Connection::new(alloc);
     match connection.feed(first) {
@@ -200,12 +212,14 @@ pub fn serve<X: Line, C: Clock, A: Archive>(
     clock: &mut C,
 ) -> Result<Served, ServeFault>
     requires { length first.now < 8 }
-    ensures serves { (used : Outside) × C.gave clock.old used.readings clock.new × (events : List Event) × X.passed line.old events line.new
-        × ServesPromptly settings.now (A.state archive.old) (A.state archive.new) first.now events used result }
-    ensures read { IsErrOf result ServeFault.Read → X.failed_reads line.new ≡ counted (X.failed_reads line.old) }
-    ensures write { IsErrOf result ServeFault.Write → X.failed_writes line.new ≡ counted (X.failed_writes line.old) }
-    ensures read_kept { (IsErrOf result ServeFault.Read → ⊥) → X.failed_reads line.new ≡ X.failed_reads line.old }
-    ensures write_kept { (IsErrOf result ServeFault.Write → ⊥) → X.failed_writes line.new ≡ X.failed_writes line.old }
+    ensures serves { (used : Environment) × C.gave clock.old used.readings clock.new
+        × (events : List LineEvent) × X.passed line.old events line.new
+        × ServesPromptly settings.now (A.state archive.old)
+        (A.state archive.new) first.now events used result }
+    ensures reads { CountsWhere (IsErrOf result ServeFault.Read) (X.failed_reads line.old)
+        (X.failed_reads line.new) }
+    ensures writes { CountsWhere (IsErrOf result ServeFault.Write) (X.failed_writes line.old)
+        (X.failed_writes line.new) }
 {
     if first.is_empty() {
         serve_first(alloc, settings, archive, line, clock)

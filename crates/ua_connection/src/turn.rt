@@ -10,15 +10,15 @@ use uacp::put_error;
 
 /// What one turn comes to.
 #[derive(Clone, Copy)]
-pub(crate) enum Turn {
+pub(crate) enum Step {
     /// No whole chunk is there.
-    Waits,
+    NeedsInput,
     /// A Hello was acknowledged; later chunks may have so many bytes.
-    Greets(u32),
+    Acknowledged(u32),
     /// A chunk was taken, and answered where it asks for an answer.
-    Goes,
+    Continues,
     /// The connection ends.
-    Ends(Served),
+    Ended(Served),
 }
 
 /// Appends an Error message with this status code (Part 6, 7.1.2.5). The one error is `OutOfMemory`, which leaves `out`
@@ -33,25 +33,25 @@ pub(crate) fn put_refusal(code: Status, out: &mut Vec<u8>) -> Result<Served, Ser
 }
 
 /// Ends the connection by an Error message with this status code.
-pub(crate) fn refuse(code: Status, out: &mut Vec<u8>) -> Result<Turn, ServeFault>
+pub(crate) fn refuse(code: Status, out: &mut Vec<u8>) -> Result<Step, ServeFault>
     ensures refuses { RefusesTurn code result out.old.items out.new.items }
     ensures own { IsOwn ⊥ 65536 result }
 {
     match put_refusal(code, out) {
-        Ok(served) => Ok(Turn::Ends(served)),
+        Ok(served) => Ok(Step::Ended(served)),
         Err(fault) => Err(fault),
     }
 }
 
 /// The end of a stretch of turns, where this one ends it.
-pub(crate) fn end_of(turn: Result<Turn, ServeFault>) -> Option<Result<Option<Served>, ServeFault>>
+pub(crate) fn end_of(turn: Result<Step, ServeFault>) -> Option<Result<Option<Served>, ServeFault>>
     ensures { result ≡ end_of turn }
 {
     match turn {
-        Ok(Turn::Waits) => Some(Ok(None)),
-        Ok(Turn::Greets(_)) => None,
-        Ok(Turn::Goes) => None,
-        Ok(Turn::Ends(served)) => Some(Ok(Some(served))),
+        Ok(Step::NeedsInput) => Some(Ok(None)),
+        Ok(Step::Acknowledged(_)) => None,
+        Ok(Step::Continues) => None,
+        Ok(Step::Ended(served)) => Some(Ok(Some(served))),
         Err(fault) => Some(Err(fault)),
     }
 }

@@ -7,22 +7,22 @@ use Rattle.stamp.specs.Numbers.{number_of}
 use Rattle.records.specs.Contents.{Content}
 use Rattle.records.specs.declared.record.Record.{Record}
 use Rattle.archive.specs.declared.fault.StoreFault.{StoreFault}
-use Rattle.archive.specs.Store.{Store, Passes}
+use Rattle.archive.specs.Store.{Store, CountsFaults}
 use Rattle.exchange.specs.declared.fault.ExchangeFault.{ExchangeFault}
 use Rattle.exchange.specs.declared.message.State.{State}
 use Rattle.exchange.specs.declared.message.State.TheVariants.{Pulling, Pushing, Serving, Done, Failed}
 use Rattle.exchange.specs.declared.message.Message.TheVariants.{Asks, Carries, Ends}
 use Rattle.exchange.specs.Batches.{batch_of}
 use Rattle.exchange.specs.Named.{Party, Message}
-use Rattle.exchange.specs.Dialogs.{Turn, failing, pushing, refusal, turned, Way, Clear, Unread, Stopped, Starved, Met, gone, fault_on, Standing, received, answered_to, party_of, Writes, capped, counted_by, added_to}
+use Rattle.exchange.specs.Dialogs.{Turn, failing, pushing, refusal, turned, Way, Clear, Unread, Stopped, Starved, Met, gone, fault_on, DialogState, received, answered_to, party_of, Writes, capped, counted_by, added_to}
 use Rattle.exchange.proofs.DialogsParts.{learnt}
 use Rattle.exchange.proofs.MergeLemmas.{grown}
 use Rattle.counted_io.specs.declared.fault.ServeFault.{ServeFault}
-use Rattle.ua_peers.specs.declared.peers.Parted.{Parted}
-use Rattle.ua_peers.specs.declared.peers.Parted.TheVariants as parted
+use Rattle.ua_peers.specs.declared.peers.PeerEnded.{PeerEnded}
+use Rattle.ua_peers.specs.declared.peers.PeerEnded.TheVariants as parted
 use Rattle.ua_peers.specs.declared.calling.Synced.{Synced}
 use Rattle.ua_peers.specs.declared.calling.SyncFault.{SyncFault}
-use Rattle.ua_peers.specs.Peers.{Taken, Side, side_of, turn_of, after, after_all, AreAnswered, AreOpen, failed_as, ended_as, is_silent, IsEnd, Talks, Speaks}
+use Rattle.ua_peers.specs.Peers.{Taken, Side, side_of, turn_of, side_after, after_all, AreAnswered, AreOpen, failed_as, ended_as, is_silent, IsEnd, Talks, Speaks}
 use Rattle.ua_peers.proofs.PeersParts.{is_open, faults_met}
 use Rattle.ua_peers.specs.Calling.{calling, synced_by, Syncs, Adds}
 use Rattle.ua_peers.proofs.Talks.{clear-so, written-so}
@@ -79,7 +79,7 @@ no-faults p side [] answered fine = refl
 no-faults p side (t ∷ later) answered fine =
     let went = fine-turn p side t fine.0.0 fine.0.1 answered.0.1 in
     let none : fault_on t.way ≡ None = clear-so p side.standing.state fine.0.0 side.content t.way (received p side.standing t.frame.kind t.frame.body) went in
-    ap (λ (o : Option StoreFault). option_to_list o ++ faults_met later) none ∙ no-faults p (after p side t) later answered.1 fine.1
+    ap (λ (o : Option StoreFault). option_to_list o ++ faults_met later) none ∙ no-faults p (side_after p side t) later answered.1 fine.1
 
 counts-on : (n m k before now later : ℕ) → n ≤ m → m ≤ k → now ≡ capped (before + (m - n)) → later ≡ capped (now + (k - m)) → later ≡ capped (before + (k - n))
 counts-on n m k before now later one two is so = omega (arith, one, two, is, so)
@@ -89,11 +89,11 @@ grows : (p : Party) (side : Side) (taken : List Taken) → side.standing.learned
 grows p side [] few answered fine = (omega arith, omega (arith, few))
 grows p side (t ∷ later) few answered fine =
     let went = fine-turn p side t fine.0.0 fine.0.1 answered.0.1 in
-    let now : (after p side t).standing.learned ≡ capped (side.standing.learned + added_to side.content (turn_of p side t)) = ap (λ (r : Result State ExchangeFault). counted_by r side.standing.learned (added_to side.content (turn_of p side t))) went in
+    let now : (side_after p side t).standing.learned ≡ capped (side.standing.learned + added_to side.content (turn_of p side t)) = ap (λ (r : Result State ExchangeFault). counted_by r side.standing.learned (added_to side.content (turn_of p side t))) went in
     let more = answered-grows p side.standing.state side.content t.way (received p side.standing t.frame.kind t.frame.body) in
-    let rest = grows p (after p side t) later (omega (arith, now)) answered.1 fine.1 in (
+    let rest = grows p (side_after p side t) later (omega (arith, now)) answered.1 fine.1 in (
       omega (arith, more, rest.0),
-      counts-on (length side.content) (length (turn_of p side t).content) (length (after_all p (after p side t) later).content) side.standing.learned (after p side t).standing.learned (after_all p (after p side t) later).standing.learned more rest.0 now rest.1,
+      counts-on (length side.content) (length (turn_of p side t).content) (length (after_all p (side_after p side t) later).content) side.standing.learned (side_after p side t).standing.learned (after_all p (side_after p side t) later).standing.learned more rest.0 now rest.1,
     )
 
 -- ---- a dialog that came to its end
@@ -130,15 +130,15 @@ done-fine taken code rest beside is = elim is [
 from-none : (n m : ℕ) → n ≡ capped (0 + m) → n ≡ capped m
 from-none n m is = omega (arith, is)
 
-talk-adds : (a b : Store) (came out rest : List ℕ) (last : Standing) → Talks calling a b came out rest (Some (Ok parted.Done)) last → b.honest → a.broken ≡ false → last.learned ≡ capped (length b.content - length a.content)
+talk-adds : (a b : Store) (came out rest : List ℕ) (last : DialogState) → Talks calling a b came out rest (Some (Ok parted.Done)) last → b.honest → a.broken ≡ false → last.learned ≡ capped (length b.content - length a.content)
 talk-adds a b came out rest last talks h u =
     let fine = done-fine talks.taken last.code rest talks.beside talks.ends in
     let answered = talks.answered h a.content (λ x. refl) in
-    let quiet : Passes a b [] = subst (λ (faults : List StoreFault). Passes a b faults) (no-faults (party_of a) (side_of calling a.content) talks.taken answered fine) talks.passes in
+    let quiet : CountsFaults a b [] = subst (λ (faults : List StoreFault). CountsFaults a b faults) (no-faults (party_of a) (side_of calling a.content) talks.taken answered fine) talks.passes in
     let used : b.broken ≡ false = quiet.broken ∙ (or-false a.broken ∙ u) in
     let more = grows (party_of a) (side_of calling a.content) talks.taken (omega arith) answered fine in
     let counts : (after_all (party_of a) (side_of calling a.content) talks.taken).standing.learned ≡ capped (length (after_all (party_of a) (side_of calling a.content) talks.taken).content - length a.content) = from-none _ _ more.1 in
-    ap (λ (s : Standing). s.learned) (talks.stands h a.content (λ x. refl)) ∙ (counts ∙ ap (λ (R : Content). capped (length R - length a.content)) (sym (talks.content h a.content (λ x. refl) used)))
+    ap (λ (s : DialogState). s.learned) (talks.stands h a.content (λ x. refl)) ∙ (counts ∙ ap (λ (R : Content). capped (length R - length a.content)) (sym (talks.content h a.content (λ x. refl) used)))
 
 pub adds-so : (a b : Store) (unread left before written : Option (List ℕ)) (result : Result Synced SyncFault) → Syncs a b unread left before written result → Adds a b result
 adds-so a b unread left before written result syncs h u = elim syncs [
@@ -152,7 +152,7 @@ adds-so a b unread left before written result syncs h u = elim syncs [
     is_so : Synced → Type 0
     is_so synced = synced.learned ≡ capped (length b.content - length a.content)
 
-    ends : (last : Standing) (came out : List ℕ) (ending : Result Parted ServeFault) → Speaks calling a b came out ending last → IfOk (synced_by last ending) is_so
+    ends : (last : DialogState) (came out : List ℕ) (ending : Result PeerEnded ServeFault) → Speaks calling a b came out ending last → IfOk (synced_by last ending) is_so
     ends last came out (Ok parted.EndOfInput) speaks = tt
     ends last came out (Ok parted.Done) speaks = talk-adds a b came out speaks.0 last speaks.1 h u
     ends last came out (Ok (parted.Refused n)) speaks = tt

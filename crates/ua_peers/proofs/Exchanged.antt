@@ -14,7 +14,7 @@ use Rattle.records.proofs.PutLemmas.{has-put}
 use Rattle.records.proofs.LearnLemmas.{has-merged, next_found, closed-next}
 use Rattle.records.specs.declared.record.Record.{Record}
 use Rattle.archive.specs.declared.fault.LearnFault.TheVariants as refused
-use Rattle.archive.specs.Store.{Store, Rests, IsLawfulContent, IsLeft}
+use Rattle.archive.specs.Store.{Store, IsQuiescent, IsLawfulContent, IsLeft}
 use Rattle.exchange.specs.declared.fault.ExchangeFault.{ExchangeFault}
 use Rattle.exchange.specs.declared.fault.ExchangeFault.TheVariants as exchange
 use Rattle.exchange.specs.declared.message.Message.TheVariants.{Asks, Carries, Ends}
@@ -24,12 +24,12 @@ use Rattle.exchange.specs.declared.message.Title.{Title}
 use Rattle.exchange.specs.Named.{Party, Message, end_frame, asking_frame}
 use Rattle.exchange.specs.Fault.{exchange_number}
 use Rattle.exchange.specs.Batches.{batch_of, IsBatchFor}
-use Rattle.exchange.specs.Frames.{kind_of, body_of, frame_of, message_at, checked, IsSpelled}
+use Rattle.exchange.specs.Frames.{kind_of, frame_body_of, frame_of, message_at, checked_sender, HasFrame}
 use Rattle.exchange.specs.Streams.{AreFrames}
 use Rattle.exchange.specs.Dialogs.{Turn, Way, Clear, Unread, Stopped, Starved, Met, title_by, failing, carrying, pushing, ended_by, turned, gone, unfit, received, records_in, records_read, learned_at, answered_to, party_of, Writes}
 use Rattle.exchange.proofs.DialogsParts.{asking, learnt, bytes_of}
 use Rattle.exchange.specs.Meetings.{IsBetween, CanMeet, checked_title}
-use Rattle.exchange.specs.Worlds.{Site, World, Event, Sends, Delivers, IsSite, sent, step, run}
+use Rattle.exchange.specs.Worlds.{ReplicaState, World, Event, Sends, Delivers, IsReplicaAt, sent, after_event, run}
 use Rattle.exchange.proofs.FrameLemmas.{read_own}
 use Rattle.exchange.proofs.TitleLemmas.{batch_is}
 use Rattle.exchange.proofs.WorldLemmas.{get_last}
@@ -39,11 +39,11 @@ use Rattle.exchange.proofs.DialogLemmas.{batch_has, between_first, between_merge
 use Rattle.exchange.proofs.ConverseLemmas.{IsParty, title_spelled, carries_spelled, check_title}
 use Rattle.counted_io.specs.declared.fault.ServeFault.{ServeFault}
 use Rattle.counted_io.specs.declared.fault.ServeFault.TheVariants as fault
-use Rattle.ua_peers.specs.declared.peers.Parted.{Parted}
-use Rattle.ua_peers.specs.declared.peers.Parted.TheVariants as parted
+use Rattle.ua_peers.specs.declared.peers.PeerEnded.{PeerEnded}
+use Rattle.ua_peers.specs.declared.peers.PeerEnded.TheVariants as parted
 use Rattle.ua_peers.specs.Wires.{IsFirstPart}
 use Rattle.ua_peers.specs.Calling.{calling}
-use Rattle.ua_peers.specs.Peers.{Taken, Side, side_of, turn_of, after, after_all, AreAnswered, message_to, learned_by, IsLeftBy, responding, Talks, Speaks}
+use Rattle.ua_peers.specs.Peers.{Taken, Side, side_of, turn_of, side_after, after_all, AreAnswered, message_to, learned_by, IsLeftBy, responding, Talks, Speaks}
 use Rattle.ua_peers.proofs.PeersParts.{is_open}
 use Rattle.ua_peers.specs.Events.{AreExchanges, AreUpdated, AreEnds}
 use Rattle.ua_peers.proofs.Delivered.{delivered_here}
@@ -54,7 +54,7 @@ use Rattle.ua_peers.proofs.Joined.{first_frame, no_frame, numbered, got_by, IsLa
 -- the records that came in some frames
 abbrev records_of : Party → Side → List Taken → List Record
 records_of p side [] = []
-records_of p side (t ∷ later) = records_read (received p side.standing t.frame.kind t.frame.body) ++ records_of p (after p side t) later
+records_of p side (t ∷ later) = records_read (received p side.standing t.frame.kind t.frame.body) ++ records_of p (side_after p side t) later
 
 -- this content, or it with one of these records more, which may be added to it
 abbrev HasAtMostOneMore : Content → List Record → Content → Type 0
@@ -80,10 +80,10 @@ left-more p side (t ∷ []) left by = go (cases_Bool (nat_lt n by.0))
     with-first : ℕ → Content
     with-first k = merged (take k rs) side.content
 
-    is : (after p side t).content ≡ with-first n
+    is : (side_after p side t).content ≡ with-first n
     is = answered_left p side.standing.state side.content t.way (message_to p side t)
 
-    last : by.0 ≡ suc n → HasAtMostOneMore (after p side t).content (rs ++ []) left
+    last : by.0 ≡ suc n → HasAtMostOneMore (side_after p side t).content (rs ++ []) left
     last more = elim (next_merged rs n side.content) [
       | inl same ↦ inl (by.3 ∙ (ap with-first more ∙ (same ∙ sym is)))
       | inr one ↦ inr (
@@ -94,7 +94,7 @@ left-more p side (t ∷ []) left by = go (cases_Bool (nat_lt n by.0))
       )
     ]
 
-    go : (nat_lt n by.0 ≡ true) ⊎ (nat_lt n by.0 ≡ false) → HasAtMostOneMore (after p side t).content (rs ++ []) left
+    go : (nat_lt n by.0 ≡ true) ⊎ (nat_lt n by.0 ≡ false) → HasAtMostOneMore (side_after p side t).content (rs ++ []) left
     go (inl above) =
         let more = ltb-true n by.0 above in
         let most = by.2 in
@@ -105,8 +105,8 @@ left-more p side (t ∷ []) left by = go (cases_Bool (nat_lt n by.0))
         let same : by.0 ≡ n = omega (arith, most, least) in
         inl (by.3 ∙ (ap with-first same ∙ sym is))
 left-more p side (t ∷ u ∷ later) left by =
-    more-in (after_all p side (t ∷ u ∷ later)).content (records_of p (after p side t) (u ∷ later)) (records_of p side (t ∷ u ∷ later)) left
-    (λ r has. has-append (records_read (message_to p side t)) (records_of p (after p side t) (u ∷ later)) r (inr has)) (left-more p (after p side t) (u ∷ later) left by)
+    more-in (after_all p side (t ∷ u ∷ later)).content (records_of p (side_after p side t) (u ∷ later)) (records_of p side (t ∷ u ∷ later)) left
+    (λ r has. has-append (records_read (message_to p side t)) (records_of p (side_after p side t) (u ∷ later)) r (inr has)) (left-more p (side_after p side t) (u ∷ later) left by)
 
 -- ---- what an end says
 
@@ -179,38 +179,38 @@ word_of p turn result said (inl w) (inl none) = inl (w.1 ∙ ap bytes_of none.0,
 word_of p turn result said (inl w) (inr some) = inr (some.0, w.1 ∙ ap bytes_of some.1, some.2)
 word_of p turn result said (inr w) is = inl (w.3, ap is_open w.2)
 
-from_spelled : (p : Party) (A : Content) (m : Message) → IsParty p → IsLawfulContent A → IsFrom p A m → IsSpelled m
-from_spelled p A (Asks t) party lawful is = subst (λ (x : Title). IsSpelled (Asks x)) (sym is) (title_spelled p A party lawful)
-from_spelled p A (Carries t rs) party lawful is = subst (λ (x : Title). IsSpelled (Carries x rs)) (sym is.0) (carries_spelled p A is.1 rs party lawful is.2)
+from_spelled : (p : Party) (A : Content) (m : Message) → IsParty p → IsLawfulContent A → IsFrom p A m → HasFrame m
+from_spelled p A (Asks t) party lawful is = subst (λ (x : Title). HasFrame (Asks x)) (sym is) (title_spelled p A party lawful)
+from_spelled p A (Carries t rs) party lawful is = subst (λ (x : Title). HasFrame (Carries x rs)) (sym is.0) (carries_spelled p A is.1 rs party lawful is.2)
 from_spelled p A (Ends n) party lawful is = is
 
 from_checked : (p q : Party) (A : Content) (m : Message) → p.id ≡ q.id → (p.own ≡ q.own → ⊥) → IsFrom p A m → checked_title q m
-from_checked p q A (Asks t) id apart is = subst (λ (x : Title). checked q x ≡ Ok tt) (sym is) (check_title p q A id apart)
-from_checked p q A (Carries t rs) id apart is = subst (λ (x : Title). checked q x ≡ Ok tt) (sym is.0) (check_title p q A id apart)
+from_checked p q A (Asks t) id apart is = subst (λ (x : Title). checked_sender q x ≡ Ok tt) (sym is) (check_title p q A id apart)
+from_checked p q A (Carries t rs) id apart is = subst (λ (x : Title). checked_sender q x ≡ Ok tt) (sym is.0) (check_title p q A id apart)
 from_checked p q A (Ends n) id apart is = tt
 
 -- ---- one frame is taken
 
 -- the records of the message, or none, where no frame is taken any more
-took : (p : Party) (side : Side) (t : Taken) (m : Message) → t.frame.kind ≡ kind_of m → t.frame.body ≡ body_of m → IsSpelled m → checked_title p m
+took : (p : Party) (side : Side) (t : Taken) (m : Message) → t.frame.kind ≡ kind_of m → t.frame.body ≡ frame_body_of m → HasFrame m → checked_title p m
     → (records_read (received p side.standing t.frame.kind t.frame.body) ≡ records_in m) ⊎ (records_read (received p side.standing t.frame.kind t.frame.body) ≡ [])
 took p side t m kind body spelled is = go (unfit side.standing (kind_of m)) refl
   where
-    got : records_read (received p side.standing t.frame.kind t.frame.body) ≡ records_read (received p side.standing (kind_of m) (body_of m))
+    got : records_read (received p side.standing t.frame.kind t.frame.body) ≡ records_read (received p side.standing (kind_of m) (frame_body_of m))
     got = ap records_read (got_by p side t m kind body)
 
     go : (o : Option ExchangeFault) → unfit side.standing (kind_of m) ≡ o
         → (records_read (received p side.standing t.frame.kind t.frame.body) ≡ records_in m) ⊎ (records_read (received p side.standing t.frame.kind t.frame.body) ≡ [])
-    go None e = inl (got ∙ ap records_read (ap (λ (o : Option ExchangeFault). option_map_or (λ f. Err f) o (message_at p (kind_of m) (body_of m))) e ∙ read_own p m spelled is))
-    go (Some f) e = inr (got ∙ ap (λ (o : Option ExchangeFault). records_read (option_map_or (λ f. Err f) o (message_at p (kind_of m) (body_of m)))) e)
+    go None e = inl (got ∙ ap records_read (ap (λ (o : Option ExchangeFault). option_map_or (λ f. Err f) o (message_at p (kind_of m) (frame_body_of m))) e ∙ read_own p m spelled is))
+    go (Some f) e = inr (got ∙ ap (λ (o : Option ExchangeFault). records_read (option_map_or (λ f. Err f) o (message_at p (kind_of m) (frame_body_of m)))) e)
 
 -- what is held then is what was held with some first ones of these records
-left_by : (p : Party) (side : Side) (t : Taken) (rs : List Record) → records_read (received p side.standing t.frame.kind t.frame.body) ≡ rs → (count : ℕ) × ((after p side t).content ≡ merged (take count rs) side.content)
+left_by : (p : Party) (side : Side) (t : Taken) (rs : List Record) → records_read (received p side.standing t.frame.kind t.frame.body) ≡ rs → (count : ℕ) × ((side_after p side t).content ≡ merged (take count rs) side.content)
 left_by p side t rs e =
     let count : ℕ = learned_at p side.standing.state side.content t.way (received p side.standing t.frame.kind t.frame.body) in
     (count, answered_left p side.standing.state side.content t.way (received p side.standing t.frame.kind t.frame.body) ∙ ap (λ (l : List Record). merged (take count l) side.content) e)
 
-kept_by : (p : Party) (side : Side) (t : Taken) → records_read (received p side.standing t.frame.kind t.frame.body) ≡ [] → (after p side t).content ≡ side.content
+kept_by : (p : Party) (side : Side) (t : Taken) → records_read (received p side.standing t.frame.kind t.frame.body) ≡ [] → (side_after p side t).content ≡ side.content
 kept_by p side t e = let left = left_by p side t [] e in left.1 ∙ merged_none left.0 side.content
 
 -- what is held stays held
@@ -218,11 +218,11 @@ held_on : (p : Party) (side : Side) (ts : List Taken) (r : Record) → Has side.
 held_on p side [] r h = h
 held_on p side (t ∷ ts) r h =
     let left = left_by p side t (records_read (received p side.standing t.frame.kind t.frame.body)) refl in
-    held_on p (after p side t) ts r (subst (λ (R : Content). Has R r) (sym left.1) (has-merged (take left.0 (records_read (received p side.standing t.frame.kind t.frame.body))) side.content r h))
+    held_on p (side_after p side t) ts r (subst (λ (R : Content). Has R r) (sym left.1) (has-merged (take left.0 (records_read (received p side.standing t.frame.kind t.frame.body))) side.content r h))
 
 -- behind a frame and others the end holds what it held, and no record came to it
 abbrev Idles : Party → Side → Taken → List Taken → Type 0
-Idles p side t us = ((after_all p (after p side t) us).content ≡ side.content) × (records_read (received p side.standing t.frame.kind t.frame.body) ++ records_of p (after p side t) us ≡ [])
+Idles p side t us = ((after_all p (side_after p side t) us).content ≡ side.content) × (records_read (received p side.standing t.frame.kind t.frame.body) ++ records_of p (side_after p side t) us ≡ [])
 
 -- an end that is told nothing more, or a fault, holds what it held, and no record came to it
 idle : (p : Party) (side : Side) (ts : List Taken) (word came rest later : List ℕ) → IsLastWord word → AreFrames came (map (λ t. t.frame) ts) rest → word ≡ came ++ later
@@ -244,33 +244,33 @@ idle p side (t ∷ ts) word came rest later (inr told) frames out = go ts frames
 -- ---- in the world
 
 -- what one replica sent came to the other
-sent_over : (w : World) (i j limit count : ℕ) (v : ℕ → ℕ) (s t : Site) → (j ≡ i → ⊥) → IsSite w i s → IsSite w j t
+sent_over : (w : World) (i j limit count : ℕ) (v : ℕ → ℕ) (s t : ReplicaState) → (j ≡ i → ⊥) → IsReplicaAt w i s → IsReplicaAt w j t
     → AreUpdated w (run (Sends j v limit ∷ Delivers i (length w.pool) count ∷ []) w) i j s t (merged (take count (missing t.content v limit)) s.content) t.content
 sent_over w i j limit count v s t other one two =
-    let pool : (step w (Sends j v limit)).pool ≡ w.pool ++ (missing t.content v limit ∷ []) = ap (λ (o : Option Site). option_map_or (sent v limit w.pool) o w.pool) two in
-    let there : slice_get (step w (Sends j v limit)).pool (length w.pool) ≡ Some (missing t.content v limit) = ap (λ (l : List (List Record)). slice_get l (length w.pool)) pool ∙ get_last w.pool (missing t.content v limit) in
-    let u = delivered_here (step w (Sends j v limit)) i s (length w.pool) count (missing t.content v limit) one there in
+    let pool : (after_event w (Sends j v limit)).pool ≡ w.pool ++ (missing t.content v limit ∷ []) = ap (λ (o : Option ReplicaState). option_map_or (sent v limit w.pool) o w.pool) two in
+    let there : slice_get (after_event w (Sends j v limit)).pool (length w.pool) ≡ Some (missing t.content v limit) = ap (λ (l : List (List Record)). slice_get l (length w.pool)) pool ∙ get_last w.pool (missing t.content v limit) in
+    let u = delivered_here (after_event w (Sends j v limit)) i s (length w.pool) count (missing t.content v limit) one there in
     record { here = u.here; there = u.others j other ∙ two; others = λ k a b. u.others k a }
 
-abbrev Trades : World → (i j : ℕ) → Site → Site → Content → Content → Type 0
+abbrev Trades : World → (i j : ℕ) → ReplicaState → ReplicaState → Content → Content → Type 0
 Trades w i j s t A B = (events : List Event) × AreExchanges i j events × AreUpdated w (run events w) i j s t A B
 
 swap_each : (i j : ℕ) (events : List Event) → AreExchanges i j events → AreExchanges j i events
 swap_each i j [] are = tt
 swap_each i j (e ∷ es) are = (elim are.0 [ inl h ↦ inr h | inr h ↦ inl h ], swap_each i j es are.1)
 
-swapped : (w : World) (i j : ℕ) (s t : Site) (A B : Content) → Trades w i j s t A B → Trades w j i t s B A
+swapped : (w : World) (i j : ℕ) (s t : ReplicaState) (A B : Content) → Trades w i j s t A B → Trades w j i t s B A
 swapped w i j s t A B trades = (trades.0, swap_each i j trades.0 trades.1, record { here = trades.2.there; there = trades.2.here; others = λ k a b. trades.2.others k b a })
 
 pub run_append : (es fs : List Event) (w : World) → run (es ++ fs) w ≡ run fs (run es w)
 run_append [] fs w = refl
-run_append (e ∷ es) fs w = run_append es fs (step w e)
+run_append (e ∷ es) fs w = run_append es fs (after_event w e)
 
 each_append : (i j : ℕ) (es fs : List Event) → AreExchanges i j es → AreExchanges i j fs → AreExchanges i j (es ++ fs)
 each_append i j [] fs are more = more
 each_append i j (e ∷ es) fs are more = (are.0, each_append i j es fs are.1 more)
 
-trades_then : (w : World) (i j : ℕ) (s t : Site) (A B C D : Content) (first : Trades w i j s t A B) → Trades (run first.0 w) i j (record s { content = A }) (record t { content = B }) C D → Trades w i j s t C D
+trades_then : (w : World) (i j : ℕ) (s t : ReplicaState) (A B C D : Content) (first : Trades w i j s t A B) → Trades (run first.0 w) i j (record s { content = A }) (record t { content = B }) C D → Trades w i j s t C D
 trades_then w i j s t A B C D first more = (
   first.0 ++ more.0,
   each_append i j first.0 more.0 first.1 more.1,
@@ -279,24 +279,24 @@ trades_then w i j s t A B C D first more = (
 )
 
 -- what came to one end, and what that made of it
-received_in : (w : World) (i j : ℕ) (s t : Site) (p q : Party) (a b : Side) (x : Taken) (m : Message) → (j ≡ i → ⊥) → IsSite w i s → s.content ≡ a.content → IsSite w j t → t.content ≡ b.content → IsFrom q b.content m
+received_in : (w : World) (i j : ℕ) (s t : ReplicaState) (p q : Party) (a b : Side) (x : Taken) (m : Message) → (j ≡ i → ⊥) → IsReplicaAt w i s → s.content ≡ a.content → IsReplicaAt w j t → t.content ≡ b.content → IsFrom q b.content m
     → (records_read (received p a.standing x.frame.kind x.frame.body) ≡ records_in m) ⊎ (records_read (received p a.standing x.frame.kind x.frame.body) ≡ [])
-    → Trades w i j s t (after p a x).content b.content
+    → Trades w i j s t (side_after p a x).content b.content
 received_in w i j s t p q a b x m other one same two same' is got = by m is got
   where
-    quiet : (after p a x).content ≡ a.content → Trades w i j s t (after p a x).content b.content
+    quiet : (side_after p a x).content ≡ a.content → Trades w i j s t (side_after p a x).content b.content
     quiet kept = (
       [],
       tt,
       record {
-        here = subst (λ (R : Content). IsSite w i (record s { content = R })) (same ∙ sym kept) one;
-        there = subst (λ (R : Content). IsSite w j (record t { content = R })) same' two;
+        here = subst (λ (R : Content). IsReplicaAt w i (record s { content = R })) (same ∙ sym kept) one;
+        there = subst (λ (R : Content). IsReplicaAt w j (record t { content = R })) same' two;
         others = λ k c d. refl;
       },
     )
 
     by : (m : Message) → IsFrom q b.content m → (records_read (received p a.standing x.frame.kind x.frame.body) ≡ records_in m) ⊎ (records_read (received p a.standing x.frame.kind x.frame.body) ≡ [])
-        → Trades w i j s t (after p a x).content b.content
+        → Trades w i j s t (side_after p a x).content b.content
     by m is (inr none) = quiet (kept_by p a x none)
     by (Asks title) is (inl got) = quiet (kept_by p a x got)
     by (Ends n) is (inl got) = quiet (kept_by p a x got)
@@ -304,7 +304,7 @@ received_in w i j s t p q a b x m other one same two same' is got = by m is got
         let batch = is.2 in
         let left = left_by p a x rs got in
         let first : rs ≡ missing t.content is.1 batch.count = batch.first ∙ ap (λ (R : Content). missing R is.1 batch.count) (sym same') in
-        let now : merged (take left.0 (missing t.content is.1 batch.count)) s.content ≡ (after p a x).content =
+        let now : merged (take left.0 (missing t.content is.1 batch.count)) s.content ≡ (side_after p a x).content =
         ap (λ (l : List Record). merged (take left.0 l) s.content) (sym first) ∙ (ap (merged (take left.0 rs)) same ∙ sym left.1) in (
           Sends j is.1 batch.count ∷ Delivers i (length w.pool) left.0 ∷ [],
           (inr (inl (is.1, batch.count, refl)), (inl (inr (length w.pool, left.0, refl)), tt)),
@@ -314,13 +314,13 @@ received_in w i j s t p q a b x m other one same two same' is got = by m is got
         )
 
 between_then : (p q : Party) (R S : Content) (a b : Side) (x : Taken) (m : Message) → IsBetween R S a.content → IsBetween S R b.content → IsFrom q b.content m
-    → (records_read (received p a.standing x.frame.kind x.frame.body) ≡ records_in m) ⊎ (records_read (received p a.standing x.frame.kind x.frame.body) ≡ []) → IsBetween R S (after p a x).content
+    → (records_read (received p a.standing x.frame.kind x.frame.body) ≡ records_in m) ⊎ (records_read (received p a.standing x.frame.kind x.frame.body) ≡ []) → IsBetween R S (side_after p a x).content
 between_then p q R S a b x m one other is got = by m is got
   where
-    quiet : (after p a x).content ≡ a.content → IsBetween R S (after p a x).content
+    quiet : (side_after p a x).content ≡ a.content → IsBetween R S (side_after p a x).content
     quiet kept = subst (IsBetween R S) (sym kept) one
 
-    by : (m : Message) → IsFrom q b.content m → (records_read (received p a.standing x.frame.kind x.frame.body) ≡ records_in m) ⊎ (records_read (received p a.standing x.frame.kind x.frame.body) ≡ []) → IsBetween R S (after p a x).content
+    by : (m : Message) → IsFrom q b.content m → (records_read (received p a.standing x.frame.kind x.frame.body) ≡ records_in m) ⊎ (records_read (received p a.standing x.frame.kind x.frame.body) ≡ []) → IsBetween R S (side_after p a x).content
     by m is (inr none) = quiet (kept_by p a x none)
     by (Asks title) is (inl got) = quiet (kept_by p a x got)
     by (Ends n) is (inl got) = quiet (kept_by p a x got)
@@ -350,7 +350,7 @@ from_held p A (Carries t rs) r is h = batch_has A is.1 rs r is.2 h
 from_held p A (Ends n) r is h = absurd h
 
 -- what two ends leave: sends and deliveries do the same, each holds its own and some of the other's, and knows all that it sent
-record Traded (w : World) (i j : ℕ) (s t : Site) (p q : Party) (R S : Content) (a b : Side) (xs ys : List Taken) : Type 0 where
+record Traded (w : World) (i j : ℕ) (s t : ReplicaState) (p q : Party) (R S : Content) (a b : Side) (xs ys : List Taken) : Type 0 where
   trades : Trades w i j s t (after_all p a xs).content (after_all q b ys).content
   one : IsBetween R S (after_all p a xs).content
   other : IsBetween S R (after_all q b ys).content
@@ -358,8 +358,8 @@ record Traded (w : World) (i j : ℕ) (s t : Site) (p q : Party) (R S : Content)
   known : (r : Record) → Has (records_of q b ys) r → Has (after_all p a xs).content r
 
 -- one end takes what is on its way, and then the other what it said; each frame is less to come
-trade : (n : ℕ) (p q : Party) (R S : Content) (w : World) (i j : ℕ) (s t : Site) (a b : Side) (xs ys : List Taken) (word came rest later came' rest' later' beside beside' : List ℕ) → p.id ≡ q.id → (p.own ≡ q.own → ⊥) → IsParty p → IsParty q
-    → (i ≡ j → ⊥) → length xs + length ys < n → IsBetween R S a.content → IsBetween S R b.content → IsSite w i s → s.content ≡ a.content → IsSite w j t → t.content ≡ b.content → AreAnswered p a xs → AreAnswered q b ys
+trade : (n : ℕ) (p q : Party) (R S : Content) (w : World) (i j : ℕ) (s t : ReplicaState) (a b : Side) (xs ys : List Taken) (word came rest later came' rest' later' beside beside' : List ℕ) → p.id ≡ q.id → (p.own ≡ q.own → ⊥) → IsParty p → IsParty q
+    → (i ≡ j → ⊥) → length xs + length ys < n → IsBetween R S a.content → IsBetween S R b.content → IsReplicaAt w i s → s.content ≡ a.content → IsReplicaAt w j t → t.content ≡ b.content → AreAnswered p a xs → AreAnswered q b ys
     → GoesOn xs beside → GoesOn ys beside' → IsOnWay q b.content word ys beside' → AreFrames came (map (λ t. t.frame) xs) rest → word ++ (flat_map (λ t. t.said) ys ++ beside') ≡ came ++ later
     → AreFrames came' (map (λ t. t.frame) ys) rest' → flat_map (λ t. t.said) xs ++ beside ≡ came' ++ later'
     → Traded w i j s t p q R S a b xs ys
@@ -371,8 +371,8 @@ trade (suc n) p q R S w i j s t a b [] ys word came rest later came' rest' later
         [],
         tt,
         record {
-          here = subst (λ (R : Content). IsSite w i (record s { content = R })) same at;
-          there = subst (λ (R : Content). IsSite w j (record t { content = R })) (same' ∙ sym kept.0) at';
+          here = subst (λ (R : Content). IsReplicaAt w i (record s { content = R })) same at;
+          there = subst (λ (R : Content). IsReplicaAt w j (record t { content = R })) (same' ∙ sym kept.0) at';
           others = λ k c d. refl;
         },
       );
@@ -392,16 +392,16 @@ trade (suc n) p q R S w i j s t a b (x ∷ xs) ys word came rest later came' res
       let here = received_in w i j s t p q a b x m (λ e. other (sym e)) at same at' same' told.2 got in
       let between = between_then p q R S a b x m one two told.2 got in
       let said = word_of p (turn_of p a x) x.result x.said answered.0.1 (answers_to p a.standing.state a.content x.way (received p a.standing x.frame.kind x.frame.body) one.lawful) in
-      let more = trade n q p S R (run here.0 w) j i (record t { content = b.content }) (record s { content = (after p a x).content }) b (after p a x) ys xs x.said came' rest' later' f.2 rest later beside' beside (sym id)
+      let more = trade n q p S R (run here.0 w) j i (record t { content = b.content }) (record s { content = (side_after p a x).content }) b (side_after p a x) ys xs x.said came' rest' later' f.2 rest later beside' beside (sym id)
       (λ e. apart (sym e)) party' party (λ e. other (sym e)) (omega (arith, less)) two between here.2.there refl here.2.here refl answered' answered.1 goes' (goes_then x xs beside goes)
-      (on_way p (after p a x).content x xs beside goes said) frames' (sym (append_assoc x.said (flat_map (λ t. t.said) xs) beside) ∙ out') f.3 f.4 in
+      (on_way p (side_after p a x).content x xs beside goes said) frames' (sym (append_assoc x.said (flat_map (λ t. t.said) xs) beside) ∙ out') f.3 f.4 in
       record {
         trades =
-            trades_then w i j s t (after p a x).content b.content (after_all p a (x ∷ xs)).content (after_all q b ys).content here
-            (swapped (run here.0 w) j i (record t { content = b.content }) (record s { content = (after p a x).content }) (after_all q b ys).content (after_all p a (x ∷ xs)).content more.trades);
+            trades_then w i j s t (side_after p a x).content b.content (after_all p a (x ∷ xs)).content (after_all q b ys).content here
+            (swapped (run here.0 w) j i (record t { content = b.content }) (record s { content = (side_after p a x).content }) (after_all q b ys).content (after_all p a (x ∷ xs)).content more.trades);
         one = more.other;
         other = more.one;
-        knows = λ r h. elim (has_from_append (records_read (received p a.standing x.frame.kind x.frame.body)) (records_of p (after p a x) xs) r h) [
+        knows = λ r h. elim (has_from_append (records_read (received p a.standing x.frame.kind x.frame.body)) (records_of p (side_after p a x) xs) r h) [
           | inl first ↦ held_on q b ys r (came_from m told.2 got r first)
           | inr then ↦ more.known r then
         ];
@@ -420,16 +420,16 @@ trade (suc n) p q R S w i j s t a b (x ∷ xs) ys word came rest later came' res
 -- ---- two archives
 
 -- what was written is of a dialog that went so
-record IsPartOf (start : Rattle.exchange.specs.Dialogs.Standing) (old new : Store) (came out : List ℕ) : Type 0 where
+record IsPartOf (start : Rattle.exchange.specs.Dialogs.DialogState) (old new : Store) (came out : List ℕ) : Type 0 where
   whole : List ℕ
   rest : List ℕ
-  ending : Option (Result Parted ServeFault)
-  last : Rattle.exchange.specs.Dialogs.Standing
+  ending : Option (Result PeerEnded ServeFault)
+  last : Rattle.exchange.specs.Dialogs.DialogState
   unsent : List ℕ
   parts : whole ≡ out ++ unsent
   talks : Talks start old new came whole rest ending last
 
-spoken : (start last : Rattle.exchange.specs.Dialogs.Standing) (old new : Store) (came out : List ℕ) (ending : Result Parted ServeFault) → Speaks start old new came out ending last → IsPartOf start old new came out
+spoken : (start last : Rattle.exchange.specs.Dialogs.DialogState) (old new : Store) (came out : List ℕ) (ending : Result PeerEnded ServeFault) → Speaks start old new came out ending last → IsPartOf start old new came out
 spoken start last old new came out (Ok parted.EndOfInput) s = record { whole = out; rest = s.0; ending = None; last = last; unsent = []; parts = sym (append-nil out); talks = s.2 }
 spoken start last old new came out (Ok parted.Done) s = record { whole = out; rest = s.0; ending = Some (Ok parted.Done); last = last; unsent = []; parts = sym (append-nil out); talks = s.1 }
 spoken start last old new came out (Ok (parted.Refused k)) s = record { whole = out; rest = s.0; ending = Some (Ok (parted.Refused k)); last = last; unsent = []; parts = sym (append-nil out); talks = s.1 }
@@ -450,7 +450,7 @@ ends_kept c c' d d' ends =
     (caller.talks.passes.id, caller.talks.passes.own, responder.talks.passes.id, responder.talks.passes.own)
 
 -- what an archive holds behind a dialog, or an opening may find
-left_at : (start : Rattle.exchange.specs.Dialogs.Standing) (old new : Store) (came out : List ℕ) (part : IsPartOf start old new came out) (A : Content) → Rests old → old.broken ≡ false → new.honest → IsLeft new A
+left_at : (start : Rattle.exchange.specs.Dialogs.DialogState) (old new : Store) (came out : List ℕ) (part : IsPartOf start old new came out) (A : Content) → IsQuiescent old → old.broken ≡ false → new.honest → IsLeft new A
     → HasAtMostOneMore (after_all (party_of old) (side_of start old.content) part.talks.taken).content (records_of (party_of old) (side_of start old.content) part.talks.taken) A
 left_at start old new came out part A rests used honest (inl held) = inl (sym held.1 ∙ part.talks.content honest old.content (λ u. refl) held.0)
 left_at start old new came out part A rests used honest (inr found) = elim (part.talks.crash honest old.content (λ u. refl) A found) [
@@ -459,7 +459,7 @@ left_at start old new came out part A rests used honest (inr found) = elim (part
 ]
 
 -- one record more that the other holds
-trades_more : (w : World) (i j : ℕ) (s t : Site) (S T A : Content) (rs : List Record) → (j ≡ i → ⊥) → IsClosed S → IsClosed T → ((r : Record) → Has rs r → Has T r) → Trades w i j s t S T → HasAtMostOneMore S rs A
+trades_more : (w : World) (i j : ℕ) (s t : ReplicaState) (S T A : Content) (rs : List Record) → (j ≡ i → ⊥) → IsClosed S → IsClosed T → ((r : Record) → Has rs r → Has T r) → Trades w i j s t S T → HasAtMostOneMore S rs A
     → Trades w i j s t A T × IsClosed A × ((r : Record) → Has S r → Has A r)
 trades_more w i j s t S T A rs other closed closed' knows base (inl same) =
     (subst (λ (Q : Content). Trades w i j s t Q T) (sym same) base, subst IsClosed (sym same) closed, λ r h. subst (λ (Q : Content). Has Q r) (sym same) h)
@@ -478,8 +478,8 @@ trades_more w i j s t S T A rs other closed closed' knows base (inr one) =
       λ z h. subst (λ (Q : Content). Has Q z) (sym one.3) (has-put r S z (inr h)),
     )
 
-pub exchanged : (c c' d d' : Store) (w : World) (i j : ℕ) (s t : Site) (A B : Content) → IsParty (party_of c) → IsParty (party_of d) → CanMeet c d → c'.honest → d'.honest → AreEnds c c' d d' → IsLeft c' A → IsLeft d' B
-    → (i ≡ j → ⊥) → IsSite w i s → s.content ≡ c.content → IsSite w j t → t.content ≡ d.content → Trades w i j s t A B
+pub exchanged : (c c' d d' : Store) (w : World) (i j : ℕ) (s t : ReplicaState) (A B : Content) → IsParty (party_of c) → IsParty (party_of d) → CanMeet c d → c'.honest → d'.honest → AreEnds c c' d d' → IsLeft c' A → IsLeft d' B
+    → (i ≡ j → ⊥) → IsReplicaAt w i s → s.content ≡ c.content → IsReplicaAt w j t → t.content ≡ d.content → Trades w i j s t A B
 exchanged c c' d d' w i j s t A B party party' meet honest honest' ends left left' other at same at' same' =
     let lawful = (meet.one.0 (caller.talks.passes.honest honest) meet.one.1).lawful in
     let lawful' = (meet.other.0 (responder.talks.passes.honest honest') meet.other.1).lawful in

@@ -22,9 +22,9 @@ use Rattle.exchange.specs.declared.message.State.{State}
 use Rattle.exchange.specs.declared.message.State.TheVariants.{Pulling, Pushing, Serving, Done, Failed}
 use Rattle.exchange.specs.Named.{Party, Header, Message, end_frame, asking_frame}
 use Rattle.exchange.specs.Fault.{exchange_number}
-use Rattle.exchange.specs.Frames.{cut, letters, kind_of, body_of, frame_of, message_at, IsSpelled}
-use Rattle.exchange.specs.Streams.{Piece, AreFrames}
-use Rattle.exchange.specs.Dialogs.{Turn, Way, Clear, Unread, Stopped, Starved, Met, Standing, failing, is_over, is_due, unfit, received, records_read, learned_at, turned, answered_to, title_by, party_of, IsHeld, Writes}
+use Rattle.exchange.specs.Frames.{frame_header, frame_letters, kind_of, frame_body_of, frame_of, message_at, HasFrame}
+use Rattle.exchange.specs.Streams.{FrameContent, AreFrames}
+use Rattle.exchange.specs.Dialogs.{Turn, Way, Clear, Unread, Stopped, Starved, Met, DialogState, failing, is_over, is_due, unfit, received, records_read, learned_at, turned, answered_to, title_by, party_of, IsHeld, Writes}
 use Rattle.exchange.proofs.DialogsParts.{bytes_of}
 use Rattle.exchange.specs.Meetings.{IsBetween, AreJoined, CanMeet, checked_title}
 use Rattle.exchange.proofs.FrameLemmas.{read_own, cut_own, body_own}
@@ -33,16 +33,16 @@ use Rattle.exchange.proofs.LeftLemmas.{merged_none, answered_left}
 use Rattle.exchange.proofs.DialogLemmas.{Sent, Replied, Answers, responds, initiates, meets, between_first}
 use Rattle.exchange.proofs.ConverseLemmas.{IsParty, sent_spelled, replied_spelled, sent_checked, replied_checked}
 use Rattle.counted_io.specs.declared.fault.ServeFault.{ServeFault}
-use Rattle.ua_peers.specs.declared.peers.Parted.{Parted}
-use Rattle.ua_peers.specs.declared.peers.Parted.TheVariants as parted
+use Rattle.ua_peers.specs.declared.peers.PeerEnded.{PeerEnded}
+use Rattle.ua_peers.specs.declared.peers.PeerEnded.TheVariants as parted
 use Rattle.ua_peers.specs.Calling.{calling}
 use Rattle.ua_peers.specs.Wires.{IsFirstPart}
-use Rattle.ua_peers.specs.Peers.{Talks, responding, side_of, Taken, Side, turn_of, after, after_all, AreAnswered, AreOpen, failed_as, ended_as, is_silent, IsEnd}
+use Rattle.ua_peers.specs.Peers.{Talks, responding, side_of, Taken, Side, turn_of, side_after, after_all, AreAnswered, AreOpen, failed_as, ended_as, is_silent, IsEnd}
 use Rattle.ua_peers.proofs.PeersParts.{is_open}
 
 -- ---- the frame that stands first
 
-frame_long : (kind : FrameKind) (body : List ℕ) → length (letters kind ++ ((unsigned w32).canon (8 + length body) ++ body)) ≡ 8 + length body
+frame_long : (kind : FrameKind) (body : List ℕ) → length (frame_letters kind ++ ((unsigned w32).canon (8 + length body) ++ body)) ≡ 8 + length body
 unfolding unsigned
 frame_long kind.Vector body = omega arith
 frame_long kind.Records body = omega arith
@@ -54,27 +54,27 @@ same_front xs ys cs bs e n = (
   sym (drop-append_seam xs cs) ∙ (ap (drop (length xs)) e ∙ (ap (λ k. drop k (ys ++ bs)) n ∙ drop-append_seam ys bs)),
 )
 
-settled : (bytes : List ℕ) (h : Header) → cut bytes ≡ Ok (Some h) → cut bytes ≢ Ok None
+settled : (bytes : List ℕ) (h : Header) → frame_header bytes ≡ Ok (Some h) → frame_header bytes ≢ Ok None
 settled bytes h e none = let x = sym e ∙ none in cc
 
-whole_in : (bytes more : List ℕ) (h : Header) → cut bytes ≡ Ok (Some h) → cut (bytes ++ more) ≡ Ok (Some h)
+whole_in : (bytes more : List ℕ) (h : Header) → frame_header bytes ≡ Ok (Some h) → frame_header (bytes ++ more) ≡ Ok (Some h)
 whole_in bytes more h e = cut_append bytes more (settled bytes h e) ∙ e
 
 -- a message that went out, and what came at the other end
-pub first_frame : (m : Message) (piece : Piece) (pieces : List Piece) (came rest later more : List ℕ) → IsSpelled m → AreFrames came (piece ∷ pieces) rest → frame_of m ++ more ≡ came ++ later
-    → (piece.kind ≡ kind_of m) × (piece.body ≡ body_of m) × (came' : List ℕ) × AreFrames came' pieces rest × (more ≡ came' ++ later)
+pub first_frame : (m : Message) (piece : FrameContent) (pieces : List FrameContent) (came rest later more : List ℕ) → HasFrame m → AreFrames came (piece ∷ pieces) rest → frame_of m ++ more ≡ came ++ later
+    → (piece.kind ≡ kind_of m) × (piece.body ≡ frame_body_of m) × (came' : List ℕ) × AreFrames came' pieces rest × (more ≡ came' ++ later)
 first_frame m piece pieces came rest later more is frames e =
     let chunk : List ℕ = frames.0 in
     let out : frame_of m ++ more ≡ frames.0 ++ (frames.1 ++ later) = e ∙ (ap (λ (l : List ℕ). l ++ later) frames.2 ∙ append_assoc frames.0 frames.1 later) in
-    let own : Header = record { kind = kind_of m; size = 8 + length (body_of m) } in
+    let own : Header = record { kind = kind_of m; size = 8 + length (frame_body_of m) } in
     let other : Header = record { kind = piece.kind; size = length frames.0 } in
     let same : ◌≡◌ {A = Result (Option Header) ExchangeFault} (Ok (Some other)) (Ok (Some own)) =
-    sym (whole_in frames.0 (frames.1 ++ later) other frames.3.whole) ∙ (ap cut (sym out) ∙ whole_in (frame_of m) more own (cut_own m is)) in
+    sym (whole_in frames.0 (frames.1 ++ later) other frames.3.whole) ∙ (ap frame_header (sym out) ∙ whole_in (frame_of m) more own (cut_own m is)) in
     let header : other ≡ own = cc in
-    let size : length frames.0 ≡ 8 + length (body_of m) = ap (λ (h : Header). h.size) header in
-    let long : length (frame_of m) ≡ length frames.0 = frame_long (kind_of m) (body_of m) ∙ sym size in
+    let size : length frames.0 ≡ 8 + length (frame_body_of m) = ap (λ (h : Header). h.size) header in
+    let long : length (frame_of m) ≡ length frames.0 = frame_long (kind_of m) (frame_body_of m) ∙ sym size in
     let parts = same_front (frame_of m) frames.0 more (frames.1 ++ later) out long in
-    let body : drop 8 (frame_of m) ≡ body_of m = ap (drop 8) (sym (take_all (8 + length (body_of m)) (frame_of m) (omega (arith, frame_long (kind_of m) (body_of m))))) ∙ body_own m in (
+    let body : drop 8 (frame_of m) ≡ frame_body_of m = ap (drop 8) (sym (take_all (8 + length (frame_body_of m)) (frame_of m) (omega (arith, frame_long (kind_of m) (frame_body_of m))))) ∙ body_own m in (
       ap (λ (h : Header). h.kind) header,
       sym frames.3.body ∙ (ap (drop 8) (sym parts.0) ∙ body),
       frames.1,
@@ -83,11 +83,11 @@ first_frame m piece pieces came rest later more is frames e =
     )
 
 -- where nothing went out no frame came
-pub no_frame : (piece : Piece) (pieces : List Piece) (came rest later : List ℕ) → AreFrames came (piece ∷ pieces) rest → [] ≡ came ++ later → ⊥
-unfolding cut
+pub no_frame : (piece : FrameContent) (pieces : List FrameContent) (came rest later : List ℕ) → AreFrames came (piece ∷ pieces) rest → [] ≡ came ++ later → ⊥
+unfolding frame_header
 no_frame piece pieces came rest later frames e = go frames.0 frames.3.whole (e ∙ (ap (λ (l : List ℕ). l ++ later) frames.2 ∙ append_assoc frames.0 frames.1 later))
   where
-    go : (chunk : List ℕ) → cut chunk ≡ Ok (Some (record { kind = piece.kind; size = length chunk })) → [] ≡ chunk ++ (frames.1 ++ later) → ⊥
+    go : (chunk : List ℕ) → frame_header chunk ≡ Ok (Some (record { kind = piece.kind; size = length chunk })) → [] ≡ chunk ++ (frames.1 ++ later) → ⊥
     go [] whole none = cc
     go (x ∷ xs) whole none = cc
 
@@ -111,26 +111,26 @@ failing_said : (R : Content) (fault : ExchangeFault) (result : Result State Exch
 failing_said R fault result said (inl e) = let n = numbered fault in (fault, e.0, inr (n.0, n.1, e.1 ∙ ap end_frame n.2))
 failing_said R fault result said (inr e) = (exchange.OutOfMemory, e.2, inl e.3)
 
-fit_or : (s : Standing) (k : FrameKind) → is_over s.state ≡ false → is_due s.state k ≡ true → (unfit s k ≡ None) ⊎ (unfit s k ≡ Some exchange.TooLong)
+fit_or : (s : DialogState) (k : FrameKind) → is_over s.state ≡ false → is_due s.state k ≡ true → (unfit s k ≡ None) ⊎ (unfit s k ≡ Some exchange.TooLong)
 fit_or s k over due = go (nat_le 1000000 s.taken) refl
   where
     go : (b : Bool) → nat_le 1000000 s.taken ≡ b → (unfit s k ≡ None) ⊎ (unfit s k ≡ Some exchange.TooLong)
     go true e = inr (rw (over, e) refl)
     go false e = inl (rw (over, e, due) refl)
 
-module _ (p : Party) (side : Side) (t : Taken) (m : Message) (kind : t.frame.kind ≡ kind_of m) (body : t.frame.body ≡ body_of m) where
-  pub got_by : received p side.standing t.frame.kind t.frame.body ≡ received p side.standing (kind_of m) (body_of m)
+module _ (p : Party) (side : Side) (t : Taken) (m : Message) (kind : t.frame.kind ≡ kind_of m) (body : t.frame.body ≡ frame_body_of m) where
+  pub got_by : received p side.standing t.frame.kind t.frame.body ≡ received p side.standing (kind_of m) (frame_body_of m)
   got_by = ap (λ k. received p side.standing k t.frame.body) kind ∙ ap (received p side.standing (kind_of m)) body
 
-  turn_by : (r : Result Message ExchangeFault) → received p side.standing (kind_of m) (body_of m) ≡ r → turn_of p side t ≡ answered_to p side.standing.state side.content t.way r
+  turn_by : (r : Result Message ExchangeFault) → received p side.standing (kind_of m) (frame_body_of m) ≡ r → turn_of p side t ≡ answered_to p side.standing.state side.content t.way r
   turn_by r e = ap (answered_to p side.standing.state side.content t.way) (got_by ∙ e)
 
   -- it makes of it what it makes of the message, or a fault comes
-  takes_as : IsSpelled m → checked_title p m → is_over side.standing.state ≡ false → is_due side.standing.state (kind_of m) ≡ true → Writes (turn_of p side t) t.result [] t.said
+  takes_as : HasFrame m → checked_title p m → is_over side.standing.state ≡ false → is_due side.standing.state (kind_of m) ≡ true → Writes (turn_of p side t) t.result [] t.said
       → ((turn_of p side t ≡ turned p side.standing.state side.content m) × Writes (turned p side.standing.state side.content m) t.result [] t.said) ⊎ IsFaulty t.result t.said
   takes_as spelled checked over due writes = elim (fit_or side.standing (kind_of m) over due) [
-    | inl fit ↦ by_way t.way (turn_by (Ok m) (ap (λ (o : Option ExchangeFault). option_map_or (λ f. Err f) o (message_at p (kind_of m) (body_of m))) fit ∙ read_own p m spelled checked))
-    | inr full ↦ inr (refused t.way (turn_by (Err exchange.TooLong) (ap (λ (o : Option ExchangeFault). option_map_or (λ f. Err f) o (message_at p (kind_of m) (body_of m))) full)))
+    | inl fit ↦ by_way t.way (turn_by (Ok m) (ap (λ (o : Option ExchangeFault). option_map_or (λ f. Err f) o (message_at p (kind_of m) (frame_body_of m))) fit ∙ read_own p m spelled checked))
+    | inr full ↦ inr (refused t.way (turn_by (Err exchange.TooLong) (ap (λ (o : Option ExchangeFault). option_map_or (λ f. Err f) o (message_at p (kind_of m) (frame_body_of m))) full)))
   ]
     where
       faulty : (X : Content) (fault : ExchangeFault) → turn_of p side t ≡ failing X fault → IsFaulty t.result t.said
@@ -184,7 +184,7 @@ fails_not_fine : (result : Result State ExchangeFault) → IsFine result → res
 fails_not_fine result (inl on) e = true≢false (sym on ∙ ap is_open e)
 fails_not_fine result (inr done) e = let x = sym done ∙ e in cc
 
-no_end_told : (p : Party) (side : Side) (t : Taken) (number : ℕ) → suc number < 2 ^ 32 → t.frame.kind ≡ kind.End → t.frame.body ≡ body_of (Ends (suc number)) → is_over side.standing.state ≡ false
+no_end_told : (p : Party) (side : Side) (t : Taken) (number : ℕ) → suc number < 2 ^ 32 → t.frame.kind ≡ kind.End → t.frame.body ≡ frame_body_of (Ends (suc number)) → is_over side.standing.state ≡ false
     → Writes (turn_of p side t) t.result [] t.said → IsFine t.result → ⊥
 no_end_told p side t number small kind body over writes fine =
     elim (takes_as p side t (Ends (suc number)) kind body small tt over (end_due side.standing.state over) writes) [
@@ -212,7 +212,7 @@ last_goes : (before : List Taken) (last : Taken) → AreOpen before → GoesOn (
 last_goes [] last on = inr (refl, refl)
 last_goes (y ∷ ys) last on = inl (on.0, last_goes ys last on.1)
 
-pub goes_by : (ys : List Taken) (code : Option ℕ) (rest beside : List ℕ) (ending : Option (Result Parted ServeFault)) → IsEnd ys code rest beside ending → GoesOn ys beside
+pub goes_by : (ys : List Taken) (code : Option ℕ) (rest beside : List ℕ) (ending : Option (Result PeerEnded ServeFault)) → IsEnd ys code rest beside ending → GoesOn ys beside
 goes_by ys code rest beside None e = open_goes ys beside e.0 (inl e.1)
 goes_by ys code rest beside (Some ending) e = elim e [
   | inl f ↦ subst (GoesOn ys) (sym f.1) (subst (λ (l : List Taken). GoesOn l []) (sym f.0.all) (last_goes f.0.before f.0.last f.0.goes))
@@ -276,23 +276,23 @@ module _ (p q : Party) (R S : Content) (lawful : IsLawfulContent R) (lawful' : I
 
   -- what the responder makes of a frame of the initiator, where the dialog isn't done
   module _ (a b : Side) (n : ℕ) (s : State) (m : Message) (one : IsBetween R S a.content) (other : IsBetween S R b.content) (sent : Sent p R S a.content b.content n s m) (serving : b.standing.state ≡ Serving)
-      (y : Taken) (kind : y.frame.kind ≡ kind_of m) (body : y.frame.body ≡ body_of m) (writes : Writes (turn_of q b y) y.result [] y.said) where
+      (y : Taken) (kind : y.frame.kind ≡ kind_of m) (body : y.frame.body ≡ frame_body_of m) (writes : Writes (turn_of q b y) y.result [] y.said) where
     taken_there : ((turn_of q b y ≡ turned q Serving b.content m) × Writes (turned q Serving b.content m) y.result [] y.said) ⊎ IsFaulty y.result y.said
     taken_there = subst (λ (x : State). ((turn_of q b y ≡ turned q x b.content m) × Writes (turned q x b.content m) y.result [] y.said) ⊎ IsFaulty y.result y.said) serving
         (takes_as q b y m kind body (sent_spelled p R S a.content b.content n s m party one.lawful sent) (sent_checked p q R S a.content b.content n s m id apart sent)
         (ap is_over serving) (ap (λ (x : State). is_due x (kind_of m)) serving ∙ serving_due (kind_of m)) writes)
 
   -- a frame without records leaves what is held
-  keeps : (b : Side) (y : Taken) → records_read (received q b.standing y.frame.kind y.frame.body) ≡ [] → (after q b y).content ≡ b.content
+  keeps : (b : Side) (y : Taken) → records_read (received q b.standing y.frame.kind y.frame.body) ≡ [] → (side_after q b y).content ≡ b.content
   keeps b y none =
       let count : ℕ = learned_at q b.standing.state b.content y.way (received q b.standing y.frame.kind y.frame.body) in
       answered_left q b.standing.state b.content y.way (received q b.standing y.frame.kind y.frame.body)
       ∙ (ap (λ (rs : List Record). merged (take (learned_at q b.standing.state b.content y.way (received q b.standing y.frame.kind y.frame.body)) rs) b.content) none ∙ merged_none _ b.content)
 
-  end_read : (b : Side) (y : Taken) (c : ℕ) → c < 2 ^ 32 → b.standing.state ≡ Serving → y.frame.kind ≡ kind.End → y.frame.body ≡ body_of (Ends c) → records_read (received q b.standing y.frame.kind y.frame.body) ≡ []
+  end_read : (b : Side) (y : Taken) (c : ℕ) → c < 2 ^ 32 → b.standing.state ≡ Serving → y.frame.kind ≡ kind.End → y.frame.body ≡ frame_body_of (Ends c) → records_read (received q b.standing y.frame.kind y.frame.body) ≡ []
   end_read b y c small serving same body = elim (fit_or b.standing kind.End (ap is_over serving) (ap (λ (s : State). is_due s kind.End) serving)) [
-    | inl fit ↦ ap records_read (got_by q b y (Ends c) same body ∙ (ap (λ (o : Option ExchangeFault). option_map_or (λ f. Err f) o (message_at q kind.End (body_of (Ends c)))) fit ∙ read_own q (Ends c) small tt))
-    | inr full ↦ ap records_read (got_by q b y (Ends c) same body ∙ ap (λ (o : Option ExchangeFault). option_map_or (λ f. Err f) o (message_at q kind.End (body_of (Ends c)))) full)
+    | inl fit ↦ ap records_read (got_by q b y (Ends c) same body ∙ (ap (λ (o : Option ExchangeFault). option_map_or (λ f. Err f) o (message_at q kind.End (frame_body_of (Ends c)))) fit ∙ read_own q (Ends c) small tt))
+    | inr full ↦ ap records_read (got_by q b y (Ends c) same body ∙ ap (λ (o : Option ExchangeFault). option_map_or (λ f. Err f) o (message_at q kind.End (frame_body_of (Ends c)))) full)
   ]
 
   -- the end of the dialog leaves what the responder holds, and nothing is taken behind it
@@ -307,13 +307,13 @@ module _ (p q : Party) (R S : Content) (lawful : IsLawfulContent R) (lawful' : I
       let kept = keeps b y (end_read b y c small serving f.0 f.1) in
       elim goes [
         | inl on ↦ absurd (closed (ended_there f.0 f.1) on.0)
-        | inr none ↦ ap (λ (l : List Taken). (after_all q (after q b y) l).content) none.0 ∙ kept
+        | inr none ↦ ap (λ (l : List Taken). (after_all q (side_after q b y) l).content) none.0 ∙ kept
       ]
     where
       responded : (turned q Serving b.content (Ends c)).result ≡ Ok Done
       responded = elim (responds p q R S lawful lawful' compatible a.content b.content n Done (Ends c) one other sent) [ inl end ↦ end.1.result | inr more ↦ absurd more.2 ]
 
-      ended_there : y.frame.kind ≡ kind.End → y.frame.body ≡ body_of (Ends c) → (y.result ≡ Ok Done) ⊎ IsFaulty y.result y.said
+      ended_there : y.frame.kind ≡ kind.End → y.frame.body ≡ frame_body_of (Ends c) → (y.result ≡ Ok Done) ⊎ IsFaulty y.result y.said
       ended_there same body = elim (taken_there a b n Done (Ends c) one other sent serving y same body answered.0.1) [
         | inl clear ↦ inl (clear_so (turned q Serving b.content (Ends c)) y.result y.said Done _ responded refl clear.1).0
         | inr faulty ↦ inr faulty
@@ -324,7 +324,7 @@ module _ (p q : Party) (R S : Content) (lawful : IsLawfulContent R) (lawful' : I
       closed (inr faulty) on = true≢false (sym on ∙ ap is_open faulty.1)
 
   -- the end that began takes no end by a fault
-  no_last_word : (a : Side) (x : Taken) (pieces : List Piece) (came rest later word : List ℕ) → is_over a.standing.state ≡ false → Writes (turn_of p a x) x.result [] x.said → IsFine x.result
+  no_last_word : (a : Side) (x : Taken) (pieces : List FrameContent) (came rest later word : List ℕ) → is_over a.standing.state ≡ false → Writes (turn_of p a x) x.result [] x.said → IsFine x.result
       → AreFrames came (x.frame ∷ pieces) rest → IsLastWord word → word ≡ came ++ later → ⊥
   no_last_word a x pieces came rest later word over writes fine frames (inl none) out = no_frame x.frame pieces came rest later frames (sym none ∙ out)
   no_last_word a x pieces came rest later word over writes fine frames (inr told) out =
@@ -339,12 +339,12 @@ module _ (p q : Party) (R S : Content) (lawful : IsLawfulContent R) (lawful' : I
     state : State
     m : Message
     result : x.result ≡ Ok state
-    stands : (after p a x).standing.state ≡ state
-    one : IsBetween R S (after p a x).content
-    other : IsBetween S R (after q b y).content
-    sent : Sent p R S (after p a x).content (after q b y).content (n + 1 + 1) state m
-    serving : (after q b y).standing.state ≡ Serving
-    answered : AreAnswered q (after q b y) ys'
+    stands : (side_after p a x).standing.state ≡ state
+    one : IsBetween R S (side_after p a x).content
+    other : IsBetween S R (side_after q b y).content
+    sent : Sent p R S (side_after p a x).content (side_after q b y).content (n + 1 + 1) state m
+    serving : (side_after q b y).standing.state ≡ Serving
+    answered : AreAnswered q (side_after q b y) ys'
     goes : GoesOn ys' beside
     came : List ℕ
     frames : AreFrames came (map (λ t. t.frame) xs) rest
@@ -396,7 +396,7 @@ module _ (p q : Party) (R S : Content) (lawful : IsLawfulContent R) (lawful' : I
               let so = clear_so (turned q Serving b.content m) y.result y.said Serving (Some m') answers.result answers.reply wrote in
               let whole : frame_of m' ++ (flat_map (λ t. t.said) ys ++ beside) ≡ came ++ later =
               ap (λ (l : List ℕ). l ++ (flat_map (λ t. t.said) ys ++ beside)) (sym so.1) ∙ (sym (append_assoc y.said (flat_map (λ t. t.said) ys) beside) ∙ out) in
-              let spelled : IsSpelled m' = replied_spelled q R S a.content B (n + 1) a.standing.state m' party' answers.between.lawful is in
+              let spelled : HasFrame m' = replied_spelled q R S a.content B (n + 1) a.standing.state m' party' answers.between.lawful is in
               let f = first_frame m' x.frame (map (λ t. t.frame) xs) came rest later (flat_map (λ t. t.said) ys ++ beside) spelled frames whole in
               let checked = replied_checked p q R S a.content B (n + 1) a.standing.state m' (sym id) (λ e. apart (sym e)) is in
               elim (takes_as p a x m' f.0 f.1 spelled checked over (replied_due a.content B (n + 1) a.standing.state m' is) writes) [
@@ -410,8 +410,8 @@ module _ (p q : Party) (R S : Content) (lawful : IsLawfulContent R) (lawful' : I
               initiated m' answers is came1 frames1 out1 turn_here wrote_here =
                   let to = initiates p q R S lawful lawful' compatible a.content B (n + 1) a.standing.state m' one answers.between is in
                   let so = clear_so (turned p a.standing.state a.content m') x.result x.said to.0 (Some to.1) to.2.result to.2.reply wrote_here in
-                  let here : (after p a x).content ≡ (turned p a.standing.state a.content m').content = ap (λ (t : Turn). t.content) turn_here in
-                  let there : (after q b y).content ≡ B = ap (λ (t : Turn). t.content) turn in
+                  let here : (side_after p a x).content ≡ (turned p a.standing.state a.content m').content = ap (λ (t : Turn). t.content) turn_here in
+                  let there : (side_after q b y).content ≡ B = ap (λ (t : Turn). t.content) turn in
                   record {
                     y = y;
                     ys' = ys;
@@ -422,7 +422,7 @@ module _ (p q : Party) (R S : Content) (lawful : IsLawfulContent R) (lawful' : I
                     stands = ap (λ (t : Turn). result_unwrap_or t.result Failed) turn_here ∙ ap (λ (r : Result State ExchangeFault). result_unwrap_or r Failed) to.2.result;
                     one = subst (IsBetween R S) (sym here) to.2.between;
                     other = subst (IsBetween S R) (sym there) answers.between;
-                    sent = subst (λ (X : Content). Sent p R S X (after q b y).content (n + 1 + 1) to.0 to.1) (sym here) (subst (λ (Y : Content). Sent p R S (turned p a.standing.state a.content m').content Y (n + 1 + 1) to.0 to.1) (sym there) to.3);
+                    sent = subst (λ (X : Content). Sent p R S X (side_after q b y).content (n + 1 + 1) to.0 to.1) (sym here) (subst (λ (Y : Content). Sent p R S (turned p a.standing.state a.content m').content Y (n + 1 + 1) to.0 to.1) (sym there) to.3);
                     serving = ap (λ (t : Turn). result_unwrap_or t.result Failed) turn ∙ ap (λ (r : Result State ExchangeFault). result_unwrap_or r Failed) answers.result;
                     answered = answered.1;
                     goes = goes_then goes;
@@ -443,9 +443,9 @@ module _ (p q : Party) (R S : Content) (lawful : IsLawfulContent R) (lawful' : I
   joined [] last ys a b n m came rest later came' rest' later' beside on done answers answered goes one other sent going serving frames out frames' out' =
       let s = step a b n m last [] ys came rest later came' rest' later' beside one other sent going serving answers.0.1 (inr done) answered goes frames out frames' out' in
       let ended : s.state ≡ Done = same_state s.state (sym s.result ∙ done) in
-      let last_sent : Sent p R S (after p a last).content (after q b s.y).content (n + 1 + 1) Done s.m = subst (λ (x : State). Sent p R S (after p a last).content (after q b s.y).content (n + 1 + 1) x s.m) ended s.sent in
-      let met = both (after p a last) (after q b s.y) (n + 1 + 1) s.m s.one s.other last_sent in
-      let kept = at_end (after p a last) (after q b s.y) (n + 1 + 1) s.m s.ys' s.came' rest' later' beside s.one s.other last_sent s.serving s.answered s.goes s.frames' s.out' in
+      let last_sent : Sent p R S (side_after p a last).content (side_after q b s.y).content (n + 1 + 1) Done s.m = subst (λ (x : State). Sent p R S (side_after p a last).content (side_after q b s.y).content (n + 1 + 1) x s.m) ended s.sent in
+      let met = both (side_after p a last) (side_after q b s.y) (n + 1 + 1) s.m s.one s.other last_sent in
+      let kept = at_end (side_after p a last) (side_after q b s.y) (n + 1 + 1) s.m s.ys' s.came' rest' later' beside s.one s.other last_sent s.serving s.answered s.goes s.frames' s.out' in
       (met.one, ap (λ (l : List Taken). (after_all q b l).content) s.all ∙ (kept ∙ met.other))
     where
       same_state : (x : State) → ◌≡◌ {A = Result State ExchangeFault} (Ok x) (Ok Done) → x ≡ Done
@@ -459,13 +459,13 @@ module _ (p q : Party) (R S : Content) (lawful : IsLawfulContent R) (lawful' : I
   joined (x ∷ before) last ys a b n m came rest later came' rest' later' beside on done answers answered goes one other sent going serving frames out frames' out' =
       let s = step a b n m x (before ++ (last ∷ [])) ys came rest later came' rest' later' beside one other sent going serving answers.0.1 (inl on.0) answered goes frames out frames' out' in
       let ongoing : (s.state ≡ Done → ⊥) = λ e. true≢false (sym on.0 ∙ (ap is_open s.result ∙ ap (λ (y : State). is_open (Ok y)) e)) in
-      let r = joined before last s.ys' (after p a x) (after q b s.y) (n + 1 + 1) s.m s.came rest later s.came' rest' later' beside on.1 done answers.1 s.answered s.goes s.one s.other
-      (subst (λ (y : State). Sent p R S (after p a x).content (after q b s.y).content (n + 1 + 1) y s.m) (sym s.stands) s.sent) (λ e. ongoing (sym s.stands ∙ e)) s.serving s.frames s.out s.frames' s.out' in
+      let r = joined before last s.ys' (side_after p a x) (side_after q b s.y) (n + 1 + 1) s.m s.came rest later s.came' rest' later' beside on.1 done answers.1 s.answered s.goes s.one s.other
+      (subst (λ (y : State). Sent p R S (side_after p a x).content (side_after q b s.y).content (n + 1 + 1) y s.m) (sym s.stands) s.sent) (λ e. ongoing (sym s.stands ∙ e)) s.serving s.frames s.out s.frames' s.out' in
       (r.0, ap (λ (l : List Taken). (after_all q b l).content) s.all ∙ r.1)
 
 -- ---- two archives
 
-pub both_hold : (s s' t t' : Store) (came out rest came' out' rest' : List ℕ) (last last' : Standing) (ending : Option (Result Parted ServeFault)) → IsParty (party_of s) → IsParty (party_of t) → CanMeet s t → s'.honest → t'.honest
+pub both_hold : (s s' t t' : Store) (came out rest came' out' rest' : List ℕ) (last last' : DialogState) (ending : Option (Result PeerEnded ServeFault)) → IsParty (party_of s) → IsParty (party_of t) → CanMeet s t → s'.honest → t'.honest
     → Talks calling s s' came out rest (Some (Ok parted.Done)) last → Talks responding t t' came' out' rest' ending last' → IsFirstPart came out' → IsFirstPart came' (asking_frame (party_of s) s.content ++ out)
     → IsHeld s' (join s.content t.content) × IsHeld t' (join s.content t.content)
 both_hold s s' t t' came out rest came' out' rest' last last' ending party party' meet h h' talks talks' part part' =

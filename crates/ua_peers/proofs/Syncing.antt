@@ -3,14 +3,14 @@ use Rattle.std.proofs.Common.{◌≡◌, List, ℕ, [], ◌++◌, Option, Some, 
 use Rattle.std.proofs.Math.Bool.{or-false}
 use Rattle.std.specs.Io.KnownBytes.{Appends}
 use Rattle.std.proofs.KnownBytes.{Consumes-nil, Appends-nil}
-use Rattle.archive.specs.Store.{Store, Passes, Stays}
+use Rattle.archive.specs.Store.{Store, CountsFaults, KeepsContent}
 use Rattle.exchange.specs.declared.fault.ExchangeFault.{ExchangeFault}
-use Rattle.exchange.specs.Dialogs.{Standing, Greets}
+use Rattle.exchange.specs.Dialogs.{DialogState, Greets}
 use Rattle.exchange.proofs.HandleLemmas.{unbroken_before}
 use Rattle.counted_io.specs.declared.fault.ServeFault.{ServeFault}
 use Rattle.counted_io.specs.declared.fault.ServeFault.TheVariants.{Read, Write, TooLong, OutOfMemory}
-use Rattle.ua_peers.specs.declared.peers.Parted.{Parted}
-use Rattle.ua_peers.specs.declared.peers.Parted.TheVariants as parted
+use Rattle.ua_peers.specs.declared.peers.PeerEnded.{PeerEnded}
+use Rattle.ua_peers.specs.declared.peers.PeerEnded.TheVariants as parted
 use Rattle.ua_peers.specs.declared.calling.Synced.{Synced}
 use Rattle.ua_peers.specs.declared.calling.SyncFault.{SyncFault}
 use Rattle.ua_peers.specs.declared.calling.SyncFault.TheVariants.{Connection, Exchange}
@@ -20,7 +20,7 @@ use Rattle.ua_peers.specs.Calling.{calling, synced_by, Syncs}
 use Rattle.ua_peers.proofs.Talks.{talks-then}
 
 -- calls that show nothing
-talks-quiet : (start : Standing) (a b : Store) (rest : List ℕ) → Stays a b → Passes a b [] → Talks start a b rest [] rest None start
+talks-quiet : (start : DialogState) (a b : Store) (rest : List ℕ) → KeepsContent a b → CountsFaults a b [] → Talks start a b rest [] rest None start
 talks-quiet start a b rest stays passes = record {
   taken = [];
   beside = [];
@@ -35,7 +35,7 @@ talks-quiet start a b rest stays passes = record {
   crash = λ h R held left m. inl (stays.crash h left m, λ u. refl);
 }
 
-speaks-behind : (start last : Standing) (a b c : Store) (came out : List ℕ) (ending : Result Parted ServeFault) → Stays a b → Passes a b [] → Speaks start b c came out ending last → Speaks start a c came out ending last
+speaks-behind : (start last : DialogState) (a b c : Store) (came out : List ℕ) (ending : Result PeerEnded ServeFault) → KeepsContent a b → CountsFaults a b [] → Speaks start b c came out ending last → Speaks start a c came out ending last
 speaks-behind start last a b c came out (Ok parted.EndOfInput) stays passes s = (s.0, s.1, talks-then start start last a b c came [] came out s.0 None (talks-quiet start a b came stays passes) s.2)
 speaks-behind start last a b c came out (Ok parted.Done) stays passes s = (s.0, talks-then start start last a b c came [] came out s.0 (Some (Ok parted.Done)) (talks-quiet start a b came stays passes) s.1)
 speaks-behind start last a b c came out (Ok (parted.Refused n)) stays passes s = (s.0, talks-then start start last a b c came [] came out s.0 (Some (Ok (parted.Refused n))) (talks-quiet start a b came stays passes) s.1)
@@ -45,12 +45,12 @@ speaks-behind start last a b c came out (Err Write) stays passes s = (s.0, s.1, 
 speaks-behind start last a b c came out (Err TooLong) stays passes s = (s.0, talks-then start start last a b c came [] came out s.0 (Some (Err TooLong)) (talks-quiet start a b came stays passes) s.1)
 speaks-behind start last a b c came out (Err OutOfMemory) stays passes s = (s.0, talks-then start start last a b c came [] came out s.0 (Some (Err OutOfMemory)) (talks-quiet start a b came stays passes) s.1)
 
-meets-behind : (start last : Standing) (a b c : Store) (unread left before after : Option (List ℕ)) (ending : Result Parted ServeFault) → Stays a b → Passes a b [] → MeetsTo start b c [] unread left before after ending last
+meets-behind : (start last : DialogState) (a b c : Store) (unread left before after : Option (List ℕ)) (ending : Result PeerEnded ServeFault) → KeepsContent a b → CountsFaults a b [] → MeetsTo start b c [] unread left before after ending last
     → MeetsTo start a c [] unread left before after ending last
 meets-behind start last a b c unread left before after ending stays passes m =
     record { came = m.came; out = m.out; read = m.read; over = m.over; written = m.written; speaks = speaks-behind start last a b c m.came m.out ending stays passes m.speaks }
 
-honest-so : (b c : Store) (start last : Standing) (came out : List ℕ) (ending : Result Parted ServeFault) → Speaks start b c came out ending last → c.honest → b.honest
+honest-so : (b c : Store) (start last : DialogState) (came out : List ℕ) (ending : Result PeerEnded ServeFault) → Speaks start b c came out ending last → c.honest → b.honest
 honest-so b c start last came out (Ok parted.EndOfInput) s = s.2.passes.honest
 honest-so b c start last came out (Ok parted.Done) s = s.1.passes.honest
 honest-so b c start last came out (Ok (parted.Refused n)) s = s.1.passes.honest
@@ -73,13 +73,13 @@ syncs-unsent a b unread before after empty out started fault none greets is part
     let made : Greets a b [] out (Ok tt) = subst (λ (r : Result (Unit {0}) ExchangeFault). Greets a b [] out r) is (subst (λ (e : List ℕ). Greets a b e out started) none greets) in
     inr (inl (record { frame = out; told = ap (λ (f : ServeFault). let r : Result Synced SyncFault = Err (Connection f) in r) write; greets = made; read = Consumes-nil unread; written = part }))
 
-pub syncs-asked : (a b c : Store) (unread left before between after : Option (List ℕ)) (empty out : List ℕ) (started : Result (Unit {0}) ExchangeFault) (ending : Result Parted ServeFault) (result : Result Synced SyncFault) (start last : Standing)
+pub syncs-asked : (a b c : Store) (unread left before between after : Option (List ℕ)) (empty out : List ℕ) (started : Result (Unit {0}) ExchangeFault) (ending : Result PeerEnded ServeFault) (result : Result Synced SyncFault) (start last : DialogState)
     → empty ≡ [] → Greets a b empty out started → started ≡ Ok tt → Appends before between out → start ≡ calling → MeetsTo start b c [] unread left between after ending last → result ≡ synced_by last ending
     → Syncs a c unread left before after result
 syncs-asked a b c unread left before between after empty out started ending result start last none greets is appends at meets told =
     let made : Greets a b [] out (Ok tt) = subst (λ (r : Result (Unit {0}) ExchangeFault). Greets a b [] out r) is (subst (λ (e : List ℕ). Greets a b e out started) none greets) in
     let so : MeetsTo calling b c [] unread left between after ending last =
-    subst (λ (s : Standing). MeetsTo s b c [] unread left between after ending last) at meets in
+    subst (λ (s : DialogState). MeetsTo s b c [] unread left between after ending last) at meets in
     inr (inr (record {
       frame = out;
       is = λ h. made.frame (honest-so b c calling last so.came so.out ending so.speaks h);

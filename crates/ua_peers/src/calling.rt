@@ -1,10 +1,10 @@
 //! A dialog with a peer that is called.
 
 ghost use Rattle.std.specs.Prelude.{◌≡◌, IsErrOf};
-ghost use Rattle.counted_io.specs.Bytes.{counted};
+ghost use Rattle.counted_io.specs.Bytes.{CountsWhere};
 ghost use Rattle.ua_peers.specs.Calling.{synced_by, Syncs, Adds};
 
-use crate::peers::{Parted, talk};
+use crate::peers::{PeerEnded, run_dialog};
 use archive::Archive;
 use counted_io::{Counted, ServeFault};
 use exchange::{Dialog, ExchangeFault, Replica};
@@ -36,17 +36,17 @@ pub enum SyncFault {
 }
 
 /// What the end of a dialog is to the one that called.
-fn synced_by(dialog: &Dialog, parted: Result<Parted, ServeFault>) -> Result<Synced, SyncFault>
+fn synced_by(dialog: &Dialog, parted: Result<PeerEnded, ServeFault>) -> Result<Synced, SyncFault>
     ensures { result ≡ synced_by dialog.now parted }
 {
     match parted {
-        Ok(Parted::EndOfInput) => Err(SyncFault::Exchange(ExchangeFault::Frame)),
-        Ok(Parted::Done) => Ok(Synced {
+        Ok(PeerEnded::EndOfInput) => Err(SyncFault::Exchange(ExchangeFault::Frame)),
+        Ok(PeerEnded::Done) => Ok(Synced {
             learned: dialog.learned(),
             sent: dialog.sent(),
         }),
-        Ok(Parted::Refused(code)) => Err(SyncFault::Peer(code)),
-        Ok(Parted::Failed(fault)) => Err(SyncFault::Exchange(fault)),
+        Ok(PeerEnded::Refused(code)) => Err(SyncFault::Peer(code)),
+        Ok(PeerEnded::Failed(fault)) => Err(SyncFault::Exchange(fault)),
         Err(fault) => Err(SyncFault::Connection(fault)),
     }
 }
@@ -68,12 +68,14 @@ pub fn sync<R: Read, W: Write, A: Archive>(
     reader: &mut Counted<R>,
     writer: &mut Counted<W>,
 ) -> Result<Synced, SyncFault>
-    ensures syncs { Syncs (A.state replica.old.archive) (A.state replica.new.archive) (R.remaining reader.old.inner) (R.remaining reader.new.inner) (W.contents writer.old.inner) (W.contents writer.new.inner) result }
+    ensures syncs { Syncs (A.state replica.old.archive) (A.state replica.new.archive)
+        (R.remaining reader.old.inner) (R.remaining reader.new.inner) (W.contents writer.old.inner)
+        (W.contents writer.new.inner) result }
     ensures adds { Adds (A.state replica.old.archive) (A.state replica.new.archive) result }
-    ensures read { IsErrOf result (SyncFault.Connection ServeFault.Read) → reader.new.faults ≡ counted reader.old.faults }
-    ensures write { IsErrOf result (SyncFault.Connection ServeFault.Write) → writer.new.faults ≡ counted writer.old.faults }
-    ensures read_kept { (IsErrOf result (SyncFault.Connection ServeFault.Read) → ⊥) → reader.new.faults ≡ reader.old.faults }
-    ensures write_kept { (IsErrOf result (SyncFault.Connection ServeFault.Write) → ⊥) → writer.new.faults ≡ writer.old.faults }
+    ensures reads { CountsWhere (IsErrOf result (SyncFault.Connection ServeFault.Read))
+        reader.old.faults reader.new.faults }
+    ensures writes { CountsWhere (IsErrOf result (SyncFault.Connection ServeFault.Write))
+        writer.old.faults writer.new.faults }
 {
     let mut dialog = Dialog::initiator();
     let mut out = Vec::new(alloc);
@@ -85,6 +87,6 @@ pub fn sync<R: Read, W: Write, A: Archive>(
         Ok(()) => {}
         Err(fault) => return Err(SyncFault::Connection(fault)),
     }
-    let parted = talk(alloc, replica, &mut dialog, &[], reader, writer);
+    let parted = run_dialog(alloc, replica, &mut dialog, &[], reader, writer);
     synced_by(&dialog, parted)
 }

@@ -3,9 +3,9 @@
 ghost use Rattle.std.specs.Prelude.{◌≡◌, false, [], IsErrOf, ◌≤◌, ◌<◌, true, length};
 ghost use Rattle.exchange.specs.declared.fault.ExchangeFault.TheVariants as exchange;
 ghost use Rattle.exchange.specs.Dialogs.{TellsFault};
-ghost use Rattle.counted_io.specs.Bytes.{counted};
+ghost use Rattle.counted_io.specs.Bytes.{CountsWhere};
 ghost use Rattle.ua_peers.specs.Peers.{is_silent, Talks, MeetsTo, MeetsBehind, Meets, responding};
-ghost use Rattle.ua_peers.specs.Talking.{ending_of, stop_of, IsReady, LeavesOne, LeavesAll, Drained, TellsWant};
+ghost use Rattle.ua_peers.specs.Talking.{ending_of, stop_of, IsReady, LeavesOne, LeavesAll, SentAllReplies, TellsWant};
 
 use archive::Archive;
 use counted_io::{Counted, ServeFault};
@@ -18,7 +18,7 @@ const PIECE: usize = 65536;
 
 /// How a dialog over a connection ended where the connection met no fault.
 #[derive(Clone, Copy, Debug, PartialEq, Eq)]
-pub enum Parted {
+pub enum PeerEnded {
     /// The input was over before the dialog was.
     EndOfInput,
     /// The dialog came to its end: an `RXE` with 0 was taken or written.
@@ -52,7 +52,9 @@ fn take_first<A: Archive>(
     requires ready { IsReady dialog.old }
     requires sound { frames.old.failed ≡ false }
     requires empty { out.old.items ≡ [] }
-    ensures talks { Talks dialog.old (A.state replica.old.archive) (A.state replica.new.archive) frames.old.waiting out.new.items frames.new.waiting (ending_of dialog.new.code (is_silent out.new.items) result) dialog.new }
+    ensures talks { Talks dialog.old (A.state replica.old.archive)
+        (A.state replica.new.archive) frames.old.waiting out.new.items frames.new.waiting
+        (ending_of dialog.new.code (is_silent out.new.items) result) dialog.new }
     ensures leaves { LeavesOne frames.old frames.new dialog.old dialog.new result }
     ensures started { dialog.new.started ≡ true }
 {
@@ -68,19 +70,19 @@ fn stop_of(
     first: Option<Result<State, ExchangeFault>>,
     code: Option<u32>,
     silent: bool,
-) -> Option<Result<Option<Parted>, ServeFault>>
+) -> Option<Result<Option<PeerEnded>, ServeFault>>
     ensures { result ≡ stop_of code silent first }
 {
     match first {
         None => Some(Ok(None)),
-        Some(Ok(State::Done)) => Some(Ok(Some(Parted::Done))),
-        Some(Ok(State::Failed)) => Some(Ok(Some(Parted::Refused(code.unwrap_or(0))))),
+        Some(Ok(State::Done)) => Some(Ok(Some(PeerEnded::Done))),
+        Some(Ok(State::Failed)) => Some(Ok(Some(PeerEnded::Refused(code.unwrap_or(0))))),
         Some(Ok(State::Pulling | State::Pushing | State::Serving)) => None,
         Some(Err(fault)) => {
             if silent {
                 Some(Err(ServeFault::OutOfMemory))
             } else {
-                Some(Ok(Some(Parted::Failed(fault))))
+                Some(Ok(Some(PeerEnded::Failed(fault))))
             }
         }
     }
@@ -94,13 +96,16 @@ fn take_waiting<A: Archive, W: Write>(
     frames: &mut Frames,
     writer: &mut Counted<W>,
     out: &mut Vec<u8>,
-) -> Result<Option<Parted>, ServeFault>
+) -> Result<Option<PeerEnded>, ServeFault>
     requires ready { IsReady dialog.old }
     requires sound { frames.old.failed ≡ false }
-    ensures drained { Drained dialog.old (A.state replica.old.archive) (A.state replica.new.archive) (W.contents writer.old.inner) (W.contents writer.new.inner) frames.old.waiting frames.new.waiting result dialog.new }
+    ensures drained { SentAllReplies dialog.old (A.state replica.old.archive)
+        (A.state replica.new.archive)
+        (W.contents writer.old.inner)
+        (W.contents writer.new.inner) frames.old.waiting frames.new.waiting result dialog.new }
     ensures leaves { LeavesAll frames.old frames.new dialog.old dialog.new result }
-    ensures write { IsErrOf result ServeFault.Write → writer.new.faults ≡ counted writer.old.faults }
-    ensures kept { (IsErrOf result ServeFault.Write → ⊥) → writer.new.faults ≡ writer.old.faults }
+    ensures writes { CountsWhere (IsErrOf result ServeFault.Write)
+        writer.old.faults writer.new.faults }
 {
     'turns: loop {
         out.clear();
@@ -115,31 +120,34 @@ fn take_waiting<A: Archive, W: Write>(
 }
 
 /// Tells the peer that memory ran out, by an `RXE` with 4, which takes none.
-fn send_starved<W: Write>(writer: &mut Counted<W>) -> Result<Parted, ServeFault>
+fn send_starved<W: Write>(writer: &mut Counted<W>) -> Result<PeerEnded, ServeFault>
     ensures tells { TellsWant (W.contents writer.old.inner) (W.contents writer.new.inner) result }
-    ensures write { IsErrOf result ServeFault.Write → writer.new.faults ≡ counted writer.old.faults }
-    ensures kept { (IsErrOf result ServeFault.Write → ⊥) → writer.new.faults ≡ writer.old.faults }
+    ensures writes { CountsWhere (IsErrOf result ServeFault.Write)
+        writer.old.faults writer.new.faults }
 {
     writer.send(b"RXEF\x0c\0\0\0\x04\0\0\0")?;
-    Ok(Parted::Failed(ExchangeFault::OutOfMemory))
+    Ok(PeerEnded::Failed(ExchangeFault::OutOfMemory))
 }
 
 /// Carries a dialog on over a connection, of which these first bytes were read before, until it ends or the input does.
-pub(crate) fn talk<R: Read, W: Write, A: Archive>(
+pub(crate) fn run_dialog<R: Read, W: Write, A: Archive>(
     alloc: Global,
     replica: &mut Replica<A>,
     dialog: &mut Dialog,
     first: &[u8],
     reader: &mut Counted<R>,
     writer: &mut Counted<W>,
-) -> Result<Parted, ServeFault>
+) -> Result<PeerEnded, ServeFault>
     requires ready { IsReady dialog.old }
     requires few { length first.now < 8 }
-    ensures meets { MeetsTo dialog.old (A.state replica.old.archive) (A.state replica.new.archive) first.now (R.remaining reader.old.inner) (R.remaining reader.new.inner) (W.contents writer.old.inner) (W.contents writer.new.inner) result dialog.new }
-    ensures read { IsErrOf result ServeFault.Read → reader.new.faults ≡ counted reader.old.faults }
-    ensures write { IsErrOf result ServeFault.Write → writer.new.faults ≡ counted writer.old.faults }
-    ensures read_kept { (IsErrOf result ServeFault.Read → ⊥) → reader.new.faults ≡ reader.old.faults }
-    ensures write_kept { (IsErrOf result ServeFault.Write → ⊥) → writer.new.faults ≡ writer.old.faults }
+    ensures meets { MeetsTo dialog.old (A.state replica.old.archive)
+        (A.state replica.new.archive) first.now
+        (R.remaining reader.old.inner) (R.remaining reader.new.inner) (W.contents writer.old.inner)
+        (W.contents writer.new.inner) result dialog.new }
+    ensures reads { CountsWhere (IsErrOf result ServeFault.Read)
+        reader.old.faults reader.new.faults }
+    ensures writes { CountsWhere (IsErrOf result ServeFault.Write)
+        writer.old.faults writer.new.faults }
 {
     let mut frames = Frames::new(alloc);
     let mut out = Vec::new(alloc);
@@ -151,7 +159,7 @@ pub(crate) fn talk<R: Read, W: Write, A: Archive>(
     'reads: loop {
         let n = reader.read_piece(&mut piece)?;
         if n == 0 {
-            return Ok(Parted::EndOfInput);
+            return Ok(PeerEnded::EndOfInput);
         }
         match frames.feed(&piece[..n]) {
             Ok(()) => {}
@@ -180,12 +188,14 @@ pub fn serve_peer<R: Read, W: Write, A: Archive>(
     replica: &mut Replica<A>,
     reader: &mut Counted<R>,
     writer: &mut Counted<W>,
-) -> Result<Parted, ServeFault>
-    ensures meets { Meets responding (A.state replica.old.archive) (A.state replica.new.archive) (R.remaining reader.old.inner) (R.remaining reader.new.inner) (W.contents writer.old.inner) (W.contents writer.new.inner) result }
-    ensures read { IsErrOf result ServeFault.Read → reader.new.faults ≡ counted reader.old.faults }
-    ensures write { IsErrOf result ServeFault.Write → writer.new.faults ≡ counted writer.old.faults }
-    ensures read_kept { (IsErrOf result ServeFault.Read → ⊥) → reader.new.faults ≡ reader.old.faults }
-    ensures write_kept { (IsErrOf result ServeFault.Write → ⊥) → writer.new.faults ≡ writer.old.faults }
+) -> Result<PeerEnded, ServeFault>
+    ensures meets { Meets responding (A.state replica.old.archive) (A.state replica.new.archive)
+        (R.remaining reader.old.inner) (R.remaining reader.new.inner) (W.contents writer.old.inner)
+        (W.contents writer.new.inner) result }
+    ensures reads { CountsWhere (IsErrOf result ServeFault.Read)
+        reader.old.faults reader.new.faults }
+    ensures writes { CountsWhere (IsErrOf result ServeFault.Write)
+        writer.old.faults writer.new.faults }
 {
     serve_peer_from(alloc, replica, &[], reader, writer)
 }
@@ -197,14 +207,17 @@ pub fn serve_peer_from<R: Read, W: Write, A: Archive>(
     first: &[u8],
     reader: &mut Counted<R>,
     writer: &mut Counted<W>,
-) -> Result<Parted, ServeFault>
+) -> Result<PeerEnded, ServeFault>
     requires { length first.now < 8 }
-    ensures meets { MeetsBehind responding (A.state replica.old.archive) (A.state replica.new.archive) first.now (R.remaining reader.old.inner) (R.remaining reader.new.inner) (W.contents writer.old.inner) (W.contents writer.new.inner) result }
-    ensures read { IsErrOf result ServeFault.Read → reader.new.faults ≡ counted reader.old.faults }
-    ensures write { IsErrOf result ServeFault.Write → writer.new.faults ≡ counted writer.old.faults }
-    ensures read_kept { (IsErrOf result ServeFault.Read → ⊥) → reader.new.faults ≡ reader.old.faults }
-    ensures write_kept { (IsErrOf result ServeFault.Write → ⊥) → writer.new.faults ≡ writer.old.faults }
+    ensures meets { MeetsBehind responding (A.state replica.old.archive)
+        (A.state replica.new.archive) first.now (R.remaining reader.old.inner)
+        (R.remaining reader.new.inner) (W.contents writer.old.inner)
+        (W.contents writer.new.inner) result }
+    ensures reads { CountsWhere (IsErrOf result ServeFault.Read)
+        reader.old.faults reader.new.faults }
+    ensures writes { CountsWhere (IsErrOf result ServeFault.Write)
+        writer.old.faults writer.new.faults }
 {
     let mut dialog = Dialog::responder();
-    talk(alloc, replica, &mut dialog, first, reader, writer)
+    run_dialog(alloc, replica, &mut dialog, first, reader, writer)
 }

@@ -23,8 +23,8 @@ use Rattle.records.proofs.MissingLemmas.{missing_is}
 use Rattle.records.proofs.LackLemmas.{missing_within}
 use Rattle.archive.specs.declared.fault.StoreFault.{StoreFault}
 use Rattle.archive.specs.declared.fault.StoreFault.TheVariants.{Refused}
-use Rattle.archive.specs.Store.{Store, Mark, Met, Asks, IsLawfulContent}
-use Rattle.archive.specs.Steps.{Moves}
+use Rattle.archive.specs.Store.{Store, StepResult, StoreFailed, Asks, IsLawfulContent}
+use Rattle.archive.specs.Steps.{Transitions}
 use Rattle.archive.proofs.ListLemmas.{vec_more}
 use Rattle.archive.proofs.Calls.{in_use}
 use Rattle.archive.proofs.Acting.{there-behind, moves-none, moves-stays, moves-then, moves-as, left-before}
@@ -32,8 +32,7 @@ use Rattle.ua_server.specs.declared.dumps.DumpFault.{DumpFault}
 use Rattle.ua_server.specs.declared.dumps.DumpFault.TheVariants as dump
 use Rattle.counted_io.specs.Bytes.{AppendsPart}
 use Rattle.counted_io.proofs.Parts.{part-first, part-second}
-use Rattle.ua_server.specs.Dumping.{lines_of, Dumps, IsSoFar, Dumping}
-use Rattle.ua_server.specs.Parts.{line_of}
+use Rattle.ua_server.specs.Dumping.{lines_of, Dumps, IsSoFar, Dumping, line_of}
 use Rattle.ua_server.proofs.DumpingParts.{IsDumped}
 
 vec-append : (xs ys : List Record) (o : ℕ) → vec (xs ++ ys) o ≡ max (vec xs o) (vec ys o)
@@ -112,7 +111,7 @@ known_more old mid new xs i d lt so raised others o =
 
 -- the records that the archive answered
 pub asked : {A : Type 0} (t u : Store) (items_of : A → List Record) (v : ℕ → ℕ) (k : ℕ) (a : A) → Asks t u (Ok a) (λ x. items_of x ≡ missing t.content v k)
-    → Moves t u [] (λ marks R S. (S ≡ R) × IsLawfulContent R × (items_of a ≡ missing R v k))
+    → Transitions t u [] (λ marks R S. (S ≡ R) × IsLawfulContent R × (items_of a ≡ missing R v k))
 asked t u items_of v k a asks =
     moves-stays t u [] (λ marks R S. (S ≡ R) × IsLawfulContent R × (items_of a ≡ missing R v k)) asks.leaves.passes asks.stays (there-behind t u None asks.leaves) (λ honest R h.
     let is : t.content ≡ R = left-before t u R asks.leaves honest h in
@@ -120,8 +119,8 @@ asked t u items_of v k a asks =
     (refl, subst IsLawfulContent is rests.lawful, asks.answer honest ∙ ap (λ C. missing C v k) is))
 
 -- a fault of its store
-pub asked-none : {A : Type 0} (t u : Store) (fault : StoreFault) (P : A → Type 0) → Asks {A = A} t u (Err fault) P → Moves t u (Met fault ∷ []) (λ marks R S. S ≡ R)
-asked-none t u fault P asks = moves-stays t u (Met fault ∷ []) (λ marks R S. S ≡ R) asks.leaves.passes asks.stays (there-behind t u (Some fault) asks.leaves) (λ honest R h. refl)
+pub asked-none : {A : Type 0} (t u : Store) (fault : StoreFault) (P : A → Type 0) → Asks {A = A} t u (Err fault) P → Transitions t u (StoreFailed fault ∷ []) (λ marks R S. S ≡ R)
+asked-none t u fault P asks = moves-stays t u (StoreFailed fault ∷ []) (λ marks R S. S ≡ R) asks.leaves.passes asks.stays (there-behind t u (Some fault) asks.leaves) (λ honest R h. refl)
 
 lines-parts : (R : Content) (n : ℕ) → lines_of R ≡ lines_of (take n R) ++ lines_of (drop n R)
 lines-parts R n = ap lines_of (sym (take-append-drop n R)) ∙ flat_map-append line_of (take n R) (drop n R)
@@ -155,21 +154,21 @@ take-grows : (R : Content) (n k : ℕ) → take (n + k) R ≡ take n R ++ take k
 take-grows R n k = take-add n k R
 
 -- what the last batch told, in terms of what was held at the start
-abbrev pub Answered : (ℕ → ℕ) → ℕ → List Record → List Mark → Content → Content → Type 0
+abbrev pub Answered : (ℕ → ℕ) → ℕ → List Record → List StepResult → Content → Content → Type 0
 Answered v k records marks R S = (S ≡ R) × IsLawfulContent R × (records ≡ missing R v k)
 
 module _ (s t u : Store) (known : List ℕ) (before now after : Option (List ℕ)) (so : Dumping s t known before now) where
-  pub failed : (fault : StoreFault) → Moves t u (Met fault ∷ []) (λ marks R S. S ≡ R) → Dumps s u before now (Err (dump.Store fault))
+  pub failed : (fault : StoreFault) → Transitions t u (StoreFailed fault ∷ []) (λ marks R S. S ≡ R) → Dumps s u before now (Err (dump.Store fault))
   failed fault q = (
-    Met fault ∷ [],
-    moves-then s t u [] (Met fault ∷ []) (λ marks R S. (S ≡ R) × IsSoFar R known before now) (λ marks R S. S ≡ R) (λ marks R S. (S ≡ R) × IsDumped R before now (fault ∷ []) (Err (dump.Store fault)))
+    StoreFailed fault ∷ [],
+    moves-then s t u [] (StoreFailed fault ∷ []) (λ marks R S. (S ≡ R) × IsSoFar R known before now) (λ marks R S. S ≡ R) (λ marks R S. (S ≡ R) × IsDumped R before now (fault ∷ []) (Err (dump.Store fault)))
         (λ ms ns R S T p e. (e ∙ p.0, (refl, so-far-part R known before now p.1))) so q,
   )
 
-  module _ (k : ℕ) (records : List Record) (q : Moves t u [] (Answered (number_of known) k records)) where
+  module _ (k : ℕ) (records : List Record) (q : Transitions t u [] (Answered (number_of known) k records)) where
     -- of any content that was held, by how many of its records were written
     told : (To : Content → Type 0) → ((R : Content) (n : ℕ) → IsLawfulContent R → records ≡ missing R (number_of known) k → ((o : ℕ) → number_of known o ≡ vec (take n R) o) → Appends before now (lines_of (take n R)) → To R)
-        → Moves s u [] (λ marks R S. (S ≡ R) × To R)
+        → Transitions s u [] (λ marks R S. (S ≡ R) × To R)
     told To f =
         moves-then s t u [] [] (λ marks R S. (S ≡ R) × IsSoFar R known before now) (Answered (number_of known) k records) (λ marks R S. (S ≡ R) × To R)
         (λ ms ns R S T p a.

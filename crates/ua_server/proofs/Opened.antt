@@ -10,13 +10,13 @@ use Rattle.ua_peers.specs.declared.calling.SyncFault.TheVariants as sync
 use Rattle.counted_io.specs.Bytes.{counted}
 use Rattle.counted_io.specs.Tally.{Tally}
 use Rattle.ua_peers.specs.Calling.{Syncs}
-use Rattle.ua_server.specs.Network.{Wires}
+use Rattle.ua_server.specs.Network.{NetworkCalls}
 use Rattle.ua_server.proofs.Networks.{has-counted}
 use Rattle.ua_server.specs.Program.{PrintsSynced}
 use Rattle.ua_server.proofs.ProgramParts.{IsSynced}
 
 -- a peer was called over a connection that had no failed call before
-pub was-synced : {N R W : Type 0} (wires : Wires N R W) (first last : Store) (reader : R) (writer : W) (reader_counted read : Tally R) (writer_counted wrote : Tally W) (between after : N) (old now : Option (List ℕ)) (ending : Result Synced SyncFault) (result : Result (Unit {0}) ProgramFault)
+pub was-synced : {N R W : Type 0} (wires : NetworkCalls N R W) (first last : Store) (reader : R) (writer : W) (reader_counted read : Tally R) (writer_counted wrote : Tally W) (between after : N) (old now : Option (List ℕ)) (ending : Result Synced SyncFault) (result : Result (Unit {0}) ProgramFault)
     → reader_counted ≡ record { inner = reader; faults = 0 } → writer_counted ≡ record { inner = writer; faults = 0 }
     → Syncs first last (wires.unread reader_counted.inner) (wires.unread read.inner) (wires.written writer_counted.inner) (wires.written wrote.inner) ending
     → (ending ≡ Err (sync.Connection Read) → read.faults ≡ counted reader_counted.faults) → (ending ≡ Err (sync.Connection Write) → wrote.faults ≡ counted writer_counted.faults)

@@ -20,11 +20,11 @@ use Rattle.command_line.specs.Line.{IsLine, MayAskForText}
 use Rattle.clap.specs.declared.error.ErrorKind.{ErrorKind}
 use Rattle.ua_settings.specs.Settings.{Values}
 use Rattle.archive.specs.Store.{Store}
-use Rattle.ua_server.specs.Program.{SettingsAt, Machine, By, CallsPeer, Scene, PrintsSynced, Shows, IsMistaken, DoesLine, Runs}
-use Rattle.ua_server.specs.Parts.{dump_fault, fault_of, AnswersBy, ServesBy, DumpsBy, SyncsBy}
+use Rattle.ua_server.specs.Program.{SettingsAt, Machine, WithSettings, CallsPeer, Host, PrintsSynced, Shows, IsMistaken, DoesLine, Runs, AnswersBy, ServesBy, DumpsBy, SyncsBy}
+use Rattle.ua_server.specs.Telling.{dump_fault, fault_of}
 use Rattle.counted_io.specs.Tally.{Tally}
 use Rattle.ua_server.proofs.ProgramParts.{IsUnbegun, path_of, Done, Refused}
-use Rattle.ua_server.specs.Network.{Wires}
+use Rattle.ua_server.specs.Network.{NetworkCalls}
 use Rattle.std.specs.declared.net.socket_addr.SocketAddr.{SocketAddr}
 use Rattle.command_line.specs.declared.line.Line.{Line as CommandLine}
 
@@ -37,7 +37,7 @@ unset reads unasked (Some path) fault (Some text, read, (Err cause, place, starv
 
 -- a command that ends as a refused line: its settings were refused so, and nothing was done
 by-line : {K : Type 0} (machine : Machine K) (path : Option (List ℕ)) (does : Values → K → Type 0) (refused : ProgramFault → Type 0) (line : LineFault) (Q : Type 0)
-    → ((settings : Values) (first : K) → does settings first → ⊥) → ((fault : ProgramFault) → refused fault → (fault ≡ Line line) × Q) → By machine path does refused → IsUnbegun line × Q × machine.unasked × machine.untouched
+    → ((settings : Values) (first : K) → does settings first → ⊥) → ((fault : ProgramFault) → refused fault → (fault ≡ Line line) × Q) → WithSettings machine path does refused → IsUnbegun line × Q × machine.unasked × machine.untouched
 by-line machine path does refused line Q never told (Ok settings, set, (Ok first, opened, so)) = absurd (never settings first so)
 by-line machine path does refused line Q never told (Ok settings, set, (Err fault, opened, so)) = let t = told (program.Store fault) so in absurd cc
 by-line machine path does refused line Q never told (Err fault, set, so) =
@@ -45,7 +45,7 @@ by-line machine path does refused line Q never told (Err fault, set, so) =
     let u = unset machine.reads machine.unasked path line (subst (λ f. SettingsAt machine.reads machine.unasked path (Err f)) t.0 set) in
     (u.0, t.1, u.1, so.0)
 
-abbrev scene : {N C E : Type 0} → Option (List ℕ) → Option (List ℕ) → N → C → Tally E → Scene N C E
+abbrev scene : {N C E : Type 0} → Option (List ℕ) → Option (List ℕ) → N → C → Tally E → Host N C E
 scene unread written network clock errors = record { unread = unread; written = written; network = network; clock = clock; errors = errors }
 
 -- all stays as it was
@@ -72,38 +72,38 @@ synced-line old written (Err (sync.Connection fault)) line prints = let same = p
 synced-line old written (Err (sync.Exchange fault)) line prints = let same = prints.0 in cc
 synced-line old written (Err (sync.Peer number)) line prints = let same = prints.0 in cc
 
-called-line : {T N R W : Type 0} (calls : SocketAddr → Wires N R W) (held : T → Store) (text : List ℕ) (first last : T) (network after : N) (old written : Option (List ℕ)) (line : LineFault) → CallsPeer calls held text first last network after old written (Err (Line line)) → ⊥
+called-line : {T N R W : Type 0} (calls : SocketAddr → NetworkCalls N R W) (held : T → Store) (text : List ℕ) (first last : T) (network after : N) (old written : Option (List ℕ)) (line : LineFault) → CallsPeer calls held text first last network after old written (Err (Line line)) → ⊥
 called-line calls held text first last network after old written line (inl (unheard, is, stays, kept)) = absurd cc
 called-line calls held text first last network after old written line (inr (address, spells, (reader, writer, between, called, synced, prints, counts))) = synced-line old written synced line prints
 
 -- none of them ends as a refused line
-never-line : {K N L R W C E P Q : Type 0} (machine : Machine K) (calls : SocketAddr → Wires N P Q) (wires : Wires L R W) (gave : C → List ℤ → C → Type 0) (listened : N → SocketAddr → Option L → N → Type 0) (told : E → Option (List ℕ))
-    (line : CommandLine) (old new : Scene N C E) (fault : LineFault) (settings : Values) (first : K) → Done machine calls wires gave listened told line old new (Err (Line fault)) settings first → ⊥
+never-line : {K N L R W C E P Q : Type 0} (machine : Machine K) (calls : SocketAddr → NetworkCalls N P Q) (wires : NetworkCalls L R W) (gave : C → List ℤ → C → Type 0) (listened : N → SocketAddr → Option L → N → Type 0) (told : E → Option (List ℕ))
+    (line : CommandLine) (old new : Host N C E) (fault : LineFault) (settings : Values) (first : K) → Done machine calls wires gave listened told line old new (Err (Line fault)) settings first → ⊥
 never-line machine calls wires gave listened told (Answer path hex now) old new fault settings first (last, (same, (used, answered, given, answers, is))) = answered-line answered fault is
 never-line machine calls wires gave listened told (Serve path count) old new fault settings first (last, (same, so)) = so
 never-line machine calls wires gave listened told (Dump path) old new fault settings first (last, (same, (dumped, dumps, is))) = dumped-line dumped fault is
 never-line machine calls wires gave listened told (Sync path peer) old new fault settings first (last, (same, so)) = called-line calls machine.held peer.now first last old.network new.network old.written new.written fault so
 
 -- a command does so over an archive, or nothing is done
-pub does-answer : {K N L R W C E P Q : Type 0} (machine : Machine K) (calls : SocketAddr → Wires N P Q) (wires : Wires L R W) (gave : C → List ℤ → C → Type 0) (listened : N → SocketAddr → Option L → N → Type 0) (told : E → Option (List ℕ))
+pub does-answer : {K N L R W C E P Q : Type 0} (machine : Machine K) (calls : SocketAddr → NetworkCalls N P Q) (wires : NetworkCalls L R W) (gave : C → List ℤ → C → Type 0) (listened : N → SocketAddr → Option L → N → Type 0) (told : E → Option (List ℕ))
     (path : Option (Bor (List ℕ))) (hex : Bool) (now : Option ℤ) (unread left written after : Option (List ℕ)) (network : N) (clock later : C) (errors : Tally E) (result : Result (Unit {0}) ProgramFault) → AnswersBy machine gave (option_copied path) hex now unread left written after clock later result → DoesLine machine calls wires gave listened told (Answer path hex now) (scene unread written network clock errors) (scene left after network later errors) result
 does-answer machine calls wires gave listened told path hex now unread left written after network clock later errors result (Ok settings, set, (Ok first, opened, so)) = (Ok settings, set, (Ok first, opened, (so.0, (refl, so.1))))
 does-answer machine calls wires gave listened told path hex now unread left written after network clock later errors result (Ok settings, set, (Err fault, opened, so)) = (Ok settings, set, (Err fault, opened, (so.0, same-scene unread left written after network network clock later errors errors so.1 so.2 refl so.3 refl)))
 does-answer machine calls wires gave listened told path hex now unread left written after network clock later errors result (Err fault, set, so) = (Err fault, set, (so.0, (so.1.0, same-scene unread left written after network network clock later errors errors so.1.1 so.1.2 refl so.1.3 refl)))
 
-pub does-serve : {K N L R W C E P Q : Type 0} (machine : Machine K) (calls : SocketAddr → Wires N P Q) (wires : Wires L R W) (gave : C → List ℤ → C → Type 0) (listened : N → SocketAddr → Option L → N → Type 0) (told : E → Option (List ℕ))
+pub does-serve : {K N L R W C E P Q : Type 0} (machine : Machine K) (calls : SocketAddr → NetworkCalls N P Q) (wires : NetworkCalls L R W) (gave : C → List ℤ → C → Type 0) (listened : N → SocketAddr → Option L → N → Type 0) (told : E → Option (List ℕ))
     (path : Bor (List ℕ)) (count : ℕ) (unread written : Option (List ℕ)) (network after : N) (clock later : C) (errors soon : Tally E) (result : Result (Unit {0}) ProgramFault) → ServesBy machine wires gave listened told path.now count network after clock later errors soon result → DoesLine machine calls wires gave listened told (Serve path count) (scene unread written network clock errors) (scene unread written after later soon) result
 does-serve machine calls wires gave listened told path count unread written network after clock later errors soon result (Ok settings, set, (Ok first, opened, so)) = (Ok settings, set, (Ok first, opened, (so.0, (refl, so.1))))
 does-serve machine calls wires gave listened told path count unread written network after clock later errors soon result (Ok settings, set, (Err fault, opened, so)) = (Ok settings, set, (Err fault, opened, (so.0, same-scene unread unread written written network after clock later errors soon refl refl so.1 so.2 so.3)))
 does-serve machine calls wires gave listened told path count unread written network after clock later errors soon result (Err fault, set, so) = (Err fault, set, (so.0, (so.1.0, same-scene unread unread written written network after clock later errors soon refl refl so.1.1 so.1.2 so.1.3)))
 
-pub does-dump : {K N L R W C E P Q : Type 0} (machine : Machine K) (calls : SocketAddr → Wires N P Q) (wires : Wires L R W) (gave : C → List ℤ → C → Type 0) (listened : N → SocketAddr → Option L → N → Type 0) (told : E → Option (List ℕ))
+pub does-dump : {K N L R W C E P Q : Type 0} (machine : Machine K) (calls : SocketAddr → NetworkCalls N P Q) (wires : NetworkCalls L R W) (gave : C → List ℤ → C → Type 0) (listened : N → SocketAddr → Option L → N → Type 0) (told : E → Option (List ℕ))
     (path : Bor (List ℕ)) (unread written after : Option (List ℕ)) (network : N) (clock : C) (errors : Tally E) (result : Result (Unit {0}) ProgramFault) → DumpsBy machine path.now written after result → DoesLine machine calls wires gave listened told (Dump path) (scene unread written network clock errors) (scene unread after network clock errors) result
 does-dump machine calls wires gave listened told path unread written after network clock errors result (Ok settings, set, (Ok first, opened, so)) = (Ok settings, set, (Ok first, opened, (so.0, (refl, so.1))))
 does-dump machine calls wires gave listened told path unread written after network clock errors result (Ok settings, set, (Err fault, opened, so)) = (Ok settings, set, (Err fault, opened, (so.0, same-scene unread unread written after network network clock clock errors errors refl so.1 refl refl refl)))
 does-dump machine calls wires gave listened told path unread written after network clock errors result (Err fault, set, so) = (Err fault, set, (so.0, (so.1.0, same-scene unread unread written after network network clock clock errors errors refl so.1.1 refl refl refl)))
 
-pub does-sync : {K N L R W C E P Q : Type 0} (machine : Machine K) (calls : SocketAddr → Wires N P Q) (wires : Wires L R W) (gave : C → List ℤ → C → Type 0) (listened : N → SocketAddr → Option L → N → Type 0) (told : E → Option (List ℕ))
+pub does-sync : {K N L R W C E P Q : Type 0} (machine : Machine K) (calls : SocketAddr → NetworkCalls N P Q) (wires : NetworkCalls L R W) (gave : C → List ℤ → C → Type 0) (listened : N → SocketAddr → Option L → N → Type 0) (told : E → Option (List ℕ))
     (path peer : Bor (List ℕ)) (unread written later : Option (List ℕ)) (network after : N) (clock : C) (errors : Tally E) (result : Result (Unit {0}) ProgramFault) → SyncsBy machine calls path.now peer.now network after written later result → DoesLine machine calls wires gave listened told (Sync path peer) (scene unread written network clock errors) (scene unread later after clock errors) result
 does-sync machine calls wires gave listened told path peer unread written later network after clock errors result (Ok settings, set, (Ok first, opened, so)) = (Ok settings, set, (Ok first, opened, (so.0, (refl, so.1))))
 does-sync machine calls wires gave listened told path peer unread written later network after clock errors result (Ok settings, set, (Err fault, opened, so)) = (Ok settings, set, (Err fault, opened, (so.0, same-scene unread unread written later network after clock clock errors errors refl so.2 so.1 refl refl)))
@@ -118,8 +118,8 @@ only-memory faults taken matches Words so = absurd so
 only-memory faults taken matches NoMemory so = λ words. absurd cc
 
 -- a command that a line names
-pub line-done : {K N L R W C E P Q : Type 0} (faults : List ErrorKind) (taken : Bool) (matches : Option (Text × List Row)) (machine : Machine K) (calls : SocketAddr → Wires N P Q) (wires : Wires L R W) (gave : C → List ℤ → C → Type 0) (listened : N → SocketAddr → Option L → N → Type 0) (told : E → Option (List ℕ))
-    (line : CommandLine) (old new : Scene N C E) (result : Result (Unit {0}) ProgramFault)
+pub line-done : {K N L R W C E P Q : Type 0} (faults : List ErrorKind) (taken : Bool) (matches : Option (Text × List Row)) (machine : Machine K) (calls : SocketAddr → NetworkCalls N P Q) (wires : NetworkCalls L R W) (gave : C → List ℤ → C → Type 0) (listened : N → SocketAddr → Option L → N → Type 0) (told : E → Option (List ℕ))
+    (line : CommandLine) (old new : Host N C E) (result : Result (Unit {0}) ProgramFault)
     → faults ≡ [] → IsLine matches line → DoesLine machine calls wires gave listened told line old new result → Runs faults taken matches machine calls wires gave listened told old new result
 line-done faults taken matches machine calls wires gave listened told line old new (Ok done) free is so = inl (free, (line, is, so))
 line-done faults taken matches machine calls wires gave listened told line old new (Err (Line fault)) free is so =
@@ -138,8 +138,8 @@ line-done faults taken matches machine calls wires gave listened told line old n
 line-done faults taken matches machine calls wires gave listened told line old new (Err (program.Peer number)) free is so = inl (free, (line, is, so))
 
 -- a text that was asked for was printed, and nothing else was done
-pub text-shown : {K N L R W C E P Q : Type 0} (faults : List ErrorKind) (taken : Bool) (matches : Option (Text × List Row)) (machine : Machine K) (calls : SocketAddr → Wires N P Q) (wires : Wires L R W) (gave : C → List ℤ → C → Type 0) (listened : N → SocketAddr → Option L → N → Type 0) (told : E → Option (List ℕ))
-    (old new : Scene N C E) (result : Result (Unit {0}) ProgramFault)
+pub text-shown : {K N L R W C E P Q : Type 0} (faults : List ErrorKind) (taken : Bool) (matches : Option (Text × List Row)) (machine : Machine K) (calls : SocketAddr → NetworkCalls N P Q) (wires : NetworkCalls L R W) (gave : C → List ℤ → C → Type 0) (listened : N → SocketAddr → Option L → N → Type 0) (told : E → Option (List ℕ))
+    (old new : Host N C E) (result : Result (Unit {0}) ProgramFault)
     → MayAskForText faults → Shows machine old new result → Runs faults taken matches machine calls wires gave listened told old new result
 text-shown faults taken matches machine calls wires gave listened told old new (Ok done) may so = inr (may, so)
 text-shown faults taken matches machine calls wires gave listened told old new (Err (Line fault)) may so = let is = so.3.0 in absurd cc

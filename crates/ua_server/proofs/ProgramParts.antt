@@ -11,7 +11,7 @@ use Rattle.command_line.specs.declared.line.LineFault.TheVariants.{Words, OutOfM
 use Rattle.ua_settings.specs.Settings.{Values}
 use Rattle.ua_server.specs.declared.hexed.HexFault.{HexFault}
 use Rattle.ua_server.specs.declared.hexed.HexFault.TheVariants as hexed
-use Rattle.ua_connection.specs.Given.{Outside}
+use Rattle.ua_connection.specs.Environments.{Environment}
 use Rattle.ua_server.specs.Single.{AnswersAt}
 use Rattle.ua_peers.specs.declared.calling.Synced.{Synced}
 use Rattle.ua_peers.specs.declared.calling.SyncFault.{SyncFault}
@@ -23,15 +23,15 @@ use Rattle.ua_server.specs.declared.program.ProgramFault.{ProgramFault}
 use Rattle.ua_server.specs.declared.program.ProgramFault.TheVariants.{BadHex, Connection}
 use Rattle.ua_server.specs.declared.program.ProgramFault.TheVariants as program
 use Rattle.ua_server.specs.Dumping.{Dumps}
-use Rattle.ua_server.specs.Network.{Wires, Counts, Listens}
-use Rattle.ua_server.specs.Program.{Machine, Scene, CallsPeer, PrintsSynced}
+use Rattle.ua_server.specs.Network.{NetworkCalls, Counts, Listens}
+use Rattle.ua_server.specs.Program.{Machine, Host, CallsPeer, PrintsSynced}
 
 -- memory for the server was wanting, and nothing was done
 abbrev pub IsUnbegun : LineFault → Type 0
 IsUnbegun fault = elim fault [ Words ↦ ⊥ | NoMemory ↦ Unit {0} ]
 
 -- a connection was had, and the peer was called over it
-abbrev pub IsSynced : {N R W : Type 0} → Wires N R W → (first last : Store) → R → W → (between after : N) → (old written : Option (List ℕ)) → Result (Unit {0}) ProgramFault → Type 0
+abbrev pub IsSynced : {N R W : Type 0} → NetworkCalls N R W → (first last : Store) → R → W → (between after : N) → (old written : Option (List ℕ)) → Result (Unit {0}) ProgramFault → Type 0
 IsSynced wires first last reader writer between after old written result =
     (synced : Result Synced SyncFault) × PrintsSynced old written synced result
     × Counts (λ fault. synced ≡ Err (sync.Connection fault)) (λ read wrote. wires.closed between read wrote after
@@ -42,10 +42,10 @@ abbrev pub path_of : CommandLine → Option (List ℕ)
 path_of line = elim line [ Answer path hex now ↦ option_copied path | Serve path count ↦ Some path.now | Dump path ↦ Some path.now | Sync path peer ↦ Some path.now ]
 
 -- what a line's command does over the archive of its settings
-abbrev pub Done : {K N L R W C E P Q : Type 0} → Machine K → (SocketAddr → Wires N P Q) → Wires L R W → (C → List ℤ → C → Type 0) → (N → SocketAddr → Option L → N → Type 0) → (E → Option (List ℕ)) → CommandLine → Scene N C E → Scene N C E → Result (Unit {0}) ProgramFault → Values → K → Type 0
+abbrev pub Done : {K N L R W C E P Q : Type 0} → Machine K → (SocketAddr → NetworkCalls N P Q) → NetworkCalls L R W → (C → List ℤ → C → Type 0) → (N → SocketAddr → Option L → N → Type 0) → (E → Option (List ℕ)) → CommandLine → Host N C E → Host N C E → Result (Unit {0}) ProgramFault → Values → K → Type 0
 Done {K} machine calls wires gave listened told line old new result settings first = (last : K) × elim line [
   | Answer path hex now ↦ (new ≡ record old { unread = new.unread; written = new.written; clock = new.clock })
-      × ((used : Outside) × (answered : Result (Unit {0}) HexFault) × gave old.clock used.readings new.clock
+      × ((used : Environment) × (answered : Result (Unit {0}) HexFault) × gave old.clock used.readings new.clock
       × AnswersAt settings (machine.held first) (machine.held last) hex now old.unread new.unread old.written new.written used answered
       × (result ≡ result_map_both (λ done. done) (λ v. elim v [ hexed.BadHex ↦ BadHex | hexed.Serve fault ↦ Connection fault ]) answered))
   | Serve path count ↦ (new ≡ record old { network = new.network; clock = new.clock; errors = new.errors })
@@ -57,5 +57,5 @@ Done {K} machine calls wires gave listened told line old new result settings fir
 ]
 
 -- settings or their archive were refused
-abbrev pub Refused : {N C E : Type 0} → Scene N C E → Scene N C E → Result (Unit {0}) ProgramFault → ProgramFault → Type 0
+abbrev pub Refused : {N C E : Type 0} → Host N C E → Host N C E → Result (Unit {0}) ProgramFault → ProgramFault → Type 0
 Refused old new result fault = (result ≡ Err fault) × (new ≡ old)

@@ -7,14 +7,13 @@ use Rattle.std.specs.Fmt.Cut.{cut_to, dots, floor_char_boundary}
 use Rattle.std.specs.Prelude.{Option}
 use Rattle.ua_server.specs.declared.program.ProgramFault.{ProgramFault}
 use Rattle.ua_server.specs.declared.program.ProgramFault.TheVariants.{Line, File, Settings, Store, BadHex, Address, Connection, Call, Exchange, Peer}
-use Rattle.ua_server.specs.Telling.{words_of, number_told, numbered, text_of, told_line}
-use Rattle.ua_server.specs.Parts.{place_line}
+use Rattle.ua_server.specs.Telling.{words_of, number_told, numbered, fault_text, told_line, place_line}
 
 -- the text of a fault without a number, and of one with it
-pub text-without : (fault : ProgramFault) → number_told fault ≡ None → text_of fault ≡ words_of fault
+pub text-without : (fault : ProgramFault) → number_told fault ≡ None → fault_text fault ≡ words_of fault
 text-without fault e = ap (λ (o : Option ℕ). elim o [ None ↦ words_of fault | Some n ↦ numbered (words_of fault) n ]) e
 
-pub text-with : (fault : ProgramFault) (number : ℕ) → number_told fault ≡ Some number → text_of fault ≡ numbered (words_of fault) number
+pub text-with : (fault : ProgramFault) (number : ℕ) → number_told fault ≡ Some number → fault_text fault ≡ numbered (words_of fault) number
 text-with fault number e = ap (λ (o : Option ℕ). elim o [ None ↦ words_of fault | Some n ↦ numbered (words_of fault) n ]) e
 
 -- the words of a fault that has a number are short

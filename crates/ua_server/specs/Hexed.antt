@@ -7,33 +7,45 @@ use Rattle.ua_server.specs.declared.hexed.HexFault.{HexFault}
 use Rattle.ua_server.specs.declared.hexed.HexFault.TheVariants.{BadHex, Serve}
 use Rattle.ua_settings.specs.Settings.{Values}
 use Rattle.archive.specs.Store.{Store}
-use Rattle.archive.specs.Steps.{Moves}
-use Rattle.ua_connection.specs.Given.{Outside}
-use Rattle.ua_server.specs.Either.{Ending}
+use Rattle.archive.specs.Steps.{Transitions}
+use Rattle.ua_connection.specs.Environments.{Environment}
+use Rattle.ua_server.specs.Either.{ConnectionEnding}
 use Rattle.ua_server.specs.Either.{ServesEither}
 
+-- the digits of a text: all but blanks and line ends
 abbrev pub digits_of : List ℕ → List ℕ
 digits_of text = filter (λ byte. not (byte == 32) && (not (byte == 10) && not (byte == 13))) text
 
 -- the text spells bytes, a client or a peer that sends these was served, and this was written
-abbrev pub AnswersText : Values → Store → Store → List ℕ → Outside → List ℕ → Ending → Type 0
+abbrev pub AnswersText : Values → Store → Store → List ℕ → Environment → List ℕ → ConnectionEnding
+    → Type 0
 AnswersText settings old new text used out ending =
-    (input : List ℕ) × (left : Option (List ℕ)) × (decode_of (digits_of text) ≡ Ok input) × ServesEither settings old new (Some input) left (Some []) (Some out) used ending
+    (input : List ℕ) × (left : Option (List ℕ)) × (decode_of (digits_of text) ≡ Ok input)
+    × ServesEither settings old new (Some input) left (Some []) (Some out) used ending
 
 -- nothing was done: the archive holds what it held, and the clock wasn't read
-abbrev pub IsUntouched : Store → Store → Outside → Type 0
-IsUntouched old new used = Moves old new [] (λ marks R S. S ≡ R) × (used.readings ≡ [])
+abbrev pub IsUntouched : Store → Store → Environment → Type 0
+IsUntouched old new used = Transitions old new [] (λ marks R S. S ≡ R) × (used.readings ≡ [])
 
 -- The digits of what was written are appended; behind a fault nothing is. Where memory is wanting,
 -- nothing was done, or the client or peer was served.
-abbrev pub AnswersHex : Values → Store → Store → List ℕ → Outside → List ℕ → List ℕ → Result Served HexFault → Type 0
-AnswersHex settings old new text used before after (Ok served) = (out : List ℕ) × AnswersText settings old new text used out (Ok served) × (after ≡ before ++ encode_upper out)
-AnswersHex settings old new text used before after (Err BadHex) = IsErr (decode_of (digits_of text)) × (after ≡ before) × IsUntouched old new used
+abbrev pub AnswersHex : Values → Store → Store → List ℕ → Environment → List ℕ → List ℕ
+    → Result Served HexFault → Type 0
+AnswersHex settings old new text used before after (Ok served) =
+    (out : List ℕ) × AnswersText settings old new text used out (Ok served)
+    × (after ≡ before ++ encode_upper out)
+AnswersHex settings old new text used before after (Err BadHex) =
+    IsErr (decode_of (digits_of text)) × (after ≡ before) × IsUntouched old new used
 AnswersHex settings old new text used before after (Err (Serve Read)) = ⊥
 AnswersHex settings old new text used before after (Err (Serve Write)) = ⊥
-AnswersHex settings old new text used before after (Err (Serve TooLong)) = ((out : List ℕ) × AnswersText settings old new text used out (Err TooLong)) × (after ≡ before)
+AnswersHex settings old new text used before after (Err (Serve TooLong)) =
+    ((out : List ℕ) × AnswersText settings old new text used out (Err TooLong)) × (after ≡ before)
 AnswersHex settings old new text used before after (Err (Serve OutOfMemory)) =
-    (after ≡ before) × (IsUntouched old new used ⊎ ((out : List ℕ) × (ending : Ending) × AnswersText settings old new text used out ending))
+    (after ≡ before)
+    × (IsUntouched old new used
+    ⊎
+    ((out : List ℕ) × (ending : ConnectionEnding)
+    × AnswersText settings old new text used out ending))
 
 abbrev pub IsBadOrStarved : HexFault → Type 0
 IsBadOrStarved BadHex = Unit {0}

@@ -5,4 +5,3 @@ pub mod Single
 pub mod Network
 pub mod Dumping
 pub mod Program
-pub mod Parts

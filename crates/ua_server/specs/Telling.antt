@@ -1,8 +1,9 @@
--- What a run of the program tells on standard error, its exit status, and the line of a call of a peer.
+-- What a run of the program tells on standard error, its exit status, and the line of a call of a
+-- peer.
 use Rattle.std.specs.Prelude.{◌≡◌, ℕ, List, [], ◌∷◌, ◌++◌, Option, None, Some, Result, Ok, Err, ◌⊎◌, codes}
 use Rattle.std.specs.Fmt.{decimal}
 use Rattle.std.specs.Io.KnownBytes.{Appends}
-use Rattle.counted_io.specs.Fault.{number_of as connection_number}
+use Rattle.counted_io.specs.Fault.{serve_fault_number as connection_number}
 use Rattle.ua_server.specs.declared.program.ProgramFault.{ProgramFault}
 use Rattle.ua_server.specs.declared.program.ProgramFault.TheVariants.{Line, File, Settings, Store, BadHex, Address, Connection, Call, Exchange, Peer}
 use Rattle.ua_peers.specs.declared.calling.Synced.{Synced}
@@ -11,13 +12,25 @@ use Rattle.counted_io.specs.Bytes.{AppendsPart, counted}
 use Rattle.counted_io.specs.Tally.{Tally}
 use Rattle.exchange.specs.Fault.{exchange_number}
 use Rattle.archive.specs.Fault.{store_number}
-use Rattle.ua_settings.specs.Fault.{number_of as settings_number}
+use Rattle.ua_settings.specs.Fault.{settings_fault_number as settings_number}
+use Rattle.ua_server.specs.declared.hexed.HexFault.{HexFault}
+use Rattle.ua_server.specs.declared.dumps.DumpFault.{DumpFault}
+use Rattle.ua_peers.specs.declared.calling.SyncFault.{SyncFault}
+use Rattle.counted_io.specs.declared.fault.ServeFault.TheVariants.{Write, OutOfMemory}
+use Rattle.ua_server.specs.declared.hexed.HexFault.TheVariants as hexed
+use Rattle.ua_server.specs.declared.dumps.DumpFault.TheVariants as dump
+use Rattle.ua_peers.specs.declared.calling.SyncFault.TheVariants as sync
+use Rattle.ua_server.specs.declared.program.ProgramFault.TheVariants as program
 
+-- the exit status that tells a fault: 2 where what was given is wrong, 3 of the store, 1 else
 abbrev pub fault_status : ProgramFault → ℕ
-fault_status fault = elim fault [ Line fault ↦ 2 | File ↦ 2 | Settings fault place ↦ 2 | Store fault ↦ 3 | BadHex ↦ 2 | _ ↦ 1 ]
+fault_status fault =
+    elim fault
+    [ Line fault ↦ 2 | File ↦ 2 | Settings fault place ↦ 2 | Store fault ↦ 3 | BadHex ↦ 2 | _ ↦ 1 ]
 
-abbrev pub status_of : Result (Unit {0}) ProgramFault → ℕ
-status_of result = elim result [ Ok done ↦ 0 | Err fault ↦ fault_status fault ]
+-- the exit status of a run
+abbrev pub exit_status : Result (Unit {0}) ProgramFault → ℕ
+exit_status result = elim result [ Ok done ↦ 0 | Err fault ↦ fault_status fault ]
 
 -- what is said of a fault
 abbrev pub words_of : ProgramFault → List ℕ
@@ -47,12 +60,15 @@ abbrev pub numbered : List ℕ → ℕ → List ℕ
 numbered words n = words ++ codes " (" ++ decimal n ++ codes ")"
 
 -- the text that tells a fault: its words, and its number, if it has one
-abbrev pub text_of : ProgramFault → List ℕ
-text_of fault = elim (number_told fault) [ None ↦ words_of fault | Some n ↦ numbered (words_of fault) n ]
+abbrev pub fault_text : ProgramFault → List ℕ
+fault_text fault =
+    elim (number_told fault) [ None ↦ words_of fault | Some n ↦ numbered (words_of fault) n ]
 
 -- the line that tells how many records a call of a peer moved
 abbrev pub synced_line : Synced → List ℕ
-synced_line synced = codes "learned " ++ (decimal synced.learned ++ (codes " sent " ++ (decimal synced.sent ++ 10 ∷ [])))
+synced_line synced =
+    codes "learned "
+    ++ (decimal synced.learned ++ (codes " sent " ++ (decimal synced.sent ++ 10 ∷ [])))
 
 -- a line of the program's
 abbrev pub told_line : List ℕ → List ℕ
@@ -60,10 +76,39 @@ told_line text = codes "uahist: " ++ (text ++ 10 ∷ [])
 
 -- what standard error has of a fault: a line, and a second one where settings are refused
 abbrev pub error_lines : ProgramFault → List ℕ
-error_lines fault = told_line (text_of fault) ++ (elim fault [ Settings cause (Some place) ↦ told_line place | _ ↦ [] ])
+error_lines fault =
+    told_line (fault_text fault)
+    ++ (elim fault [ Settings cause (Some place) ↦ told_line place | _ ↦ [] ])
 
 -- the whole line was written, or a first part of it, and one call more failed
-abbrev pub IsTold : {W : Type 0} → (W → Option (List ℕ)) → Tally W → Tally W → List ℕ → Type 0
-IsTold contents old new line =
+abbrev pub LogsLine : {W : Type 0} → (W → Option (List ℕ)) → Tally W → Tally W → List ℕ → Type 0
+LogsLine contents old new line =
     (Appends (contents old.inner) (contents new.inner) line × (new.faults ≡ old.faults))
-    ⊎ (AppendsPart (contents old.inner) (contents new.inner) line × (new.faults ≡ counted old.faults))
+    ⊎
+    (AppendsPart (contents old.inner) (contents new.inner) line × (new.faults ≡ counted old.faults))
+
+-- the second line of a fault, if it has one
+abbrev pub place_line : Option (List ℕ) → List ℕ
+place_line given = elim given [ None ↦ [] | Some place ↦ told_line place ]
+
+-- what a fault of a connection is called by the program
+abbrev pub fault_of : HexFault → ProgramFault
+fault_of v = elim v [ hexed.BadHex ↦ BadHex | hexed.Serve fault ↦ Connection fault ]
+
+-- what a dump's is called
+abbrev pub dump_fault : DumpFault → ProgramFault
+dump_fault fault =
+    elim fault [
+      | dump.Store fault ↦ program.Store fault
+      | dump.Write ↦ Connection Write
+      | dump.OutOfMemory ↦ Connection OutOfMemory
+    ]
+
+-- what that of a dialog with a peer that was called is called
+abbrev pub sync_fault : SyncFault → ProgramFault
+sync_fault v =
+    elim v [
+      | sync.Connection fault ↦ program.Call fault
+      | sync.Exchange fault ↦ program.Exchange fault
+      | sync.Peer number ↦ program.Peer number
+    ]

@@ -3,8 +3,7 @@
 ghost use Rattle.std.specs.Prelude.{◌≡◌, Some, IfOk, IfErr};
 ghost use Rattle.std.specs.Net.Grammar.{IsSocketText};
 ghost use Rattle.std.specs.declared.net.socket_addr.SocketAddr.{SocketAddr};
-ghost use Rattle.ua_server.specs.Network.{Connects, ServesEach, IsUnheard, Listens};
-ghost use Rattle.ua_server.specs.Parts.{Tells};
+ghost use Rattle.ua_server.specs.Network.{Connects, ServesEach, IsUnheard, Listens, LogsEnd, calls_of, surroundings_of};
 
 use crate::either::{Served, serve};
 use crate::network::{Listener, Network};
@@ -26,8 +25,12 @@ fn serve_next<A: Archive, L: Listener, C: Clock>(
     listener: &mut L,
     clock: &mut C,
 ) -> Result<Served, ServeFault>
-    ensures { Connects (record { comes = L.accepted; closed = L.closed; unread = L.Reader.remaining; written = L.Writer.contents }) C.gave A.state settings.now
-        (record { source = listener.old; archive = replica.old.archive; clock = clock.old }) (record { source = listener.new; archive = replica.new.archive; clock = clock.new }) result }
+    ensures { Connects
+        (calls_of L.accepted L.closed L.Reader.remaining L.Writer.contents) C.gave A.state
+        settings.now
+        (surroundings_of listener.old replica.old.archive clock.old)
+        (record
+        { source = listener.new; archive = replica.new.archive; clock = clock.new }) result }
 {
     let Some((reader, writer)) = listener.accept() else {
         return Err(ServeFault::Read);
@@ -41,7 +44,7 @@ fn serve_next<A: Archive, L: Listener, C: Clock>(
 
 /// Tells on `errors` how a connection ended, where that is a fault.
 fn tell_ending<W: Write>(ending: Result<Served, ServeFault>, errors: &mut Counted<W>)
-    ensures { Tells W.contents ending errors.old errors.new }
+    ensures { LogsEnd W.contents ending errors.old errors.new }
 {
     let ending = match ending {
         Ok(_) => Ok(()),
@@ -64,8 +67,13 @@ pub fn serve_connections<A: Archive, L: Listener, C: Clock, W: Write>(
     clock: &mut C,
     errors: &mut Counted<W>,
 )
-    ensures { ServesEach (record { comes = L.accepted; closed = L.closed; unread = L.Reader.remaining; written = L.Writer.contents }) C.gave A.state W.contents settings.now connections
-        (record { source = listener.old; archive = replica.old.archive; clock = clock.old }) errors.old (record { source = listener.new; archive = replica.new.archive; clock = clock.new }) errors.new }
+    ensures { ServesEach
+        (calls_of L.accepted L.closed L.Reader.remaining L.Writer.contents) C.gave A.state
+        W.contents settings.now connections
+        (record
+        { source = listener.old; archive = replica.old.archive; clock = clock.old }) errors.old
+        (record
+        { source = listener.new; archive = replica.new.archive; clock = clock.new }) errors.new }
 {
     for _ in 0..connections {
         let ending = serve_next(alloc, settings, replica, listener, clock);
@@ -75,8 +83,12 @@ pub fn serve_connections<A: Archive, L: Listener, C: Clock, W: Write>(
 
 /// A listener at the address that the text gives.
 fn listen_at<N: Network>(text: &str, network: &mut N) -> Result<N::Listener, ProgramFault>
-    ensures ok { IfOk result (λ listener. (address : SocketAddr) × IsSocketText text.now address × N.listened network.old address (Some listener) network.new) }
-    ensures refused { IfErr result (λ fault. (fault ≡ ProgramFault.Address) × IsUnheard (N.listened network.old) text.now network.old network.new) }
+    ensures ok { IfOk result
+        (λ listener. (address : SocketAddr) × IsSocketText text.now address
+        × N.listened network.old address (Some listener) network.new) }
+    ensures refused { IfErr result
+        (λ fault. (fault ≡ ProgramFault.Address)
+        × IsUnheard (N.listened network.old) text.now network.old network.new) }
 {
     let Ok(address) = text.parse::<SocketAddr>() else {
         return Err(ProgramFault::Address);
@@ -97,8 +109,13 @@ pub(crate) fn serve_at<A: Archive, N: Network, C: Clock, W: Write>(
     clock: &mut C,
     errors: &mut Counted<W>,
 ) -> Result<(), ProgramFault>
-    ensures listens { Listens (record { comes = N.Listener.accepted; closed = N.Listener.closed; unread = N.Listener.Reader.remaining; written = N.Listener.Writer.contents }) C.gave A.state N.listened W.contents settings.now connections
-        (record { source = network.old; archive = replica.old.archive; clock = clock.old }) errors.old (record { source = network.new; archive = replica.new.archive; clock = clock.new }) errors.new result }
+    ensures listens { Listens
+        (calls_of N.Listener.accepted N.Listener.closed N.Listener.Reader.remaining
+        N.Listener.Writer.contents) C.gave A.state
+        N.listened W.contents settings.now connections
+        (record
+        { source = network.old; archive = replica.old.archive; clock = clock.old }) errors.old
+        (surroundings_of network.new replica.new.archive clock.new) errors.new result }
     ensures address { IfErr result (λ fault. fault ≡ ProgramFault.Address) }
 {
     let mut listener = match listen_at(settings.listen(), network) {

@@ -6,8 +6,7 @@ ghost use Rattle.std.specs.List.{flat_map, AllByRecursion};
 ghost use Rattle.stamp.specs.Numbers.{number_of};
 ghost use Rattle.records.specs.Contents.{vec};
 ghost use Rattle.records.specs.Spelling.{IsRecord};
-ghost use Rattle.ua_server.specs.Dumping.{Dumps, Dumping};
-ghost use Rattle.ua_server.specs.Parts.{line_of};
+ghost use Rattle.ua_server.specs.Dumping.{Dumps, Dumping, line_of};
 
 use archive::{Archive, StoreFault};
 use counted_io::Counted;
@@ -62,9 +61,16 @@ fn put_lines(
     known: &mut Vector,
     text: &mut String,
 ) -> Result<(), DumpFault>
-    ensures lines { OnOk result (string_bytes text.new ≡ string_bytes text.old ++ flat_map line_of records.now) }
-    ensures known { OnOk result ((origin : ℕ) → number_of known.new origin ≡ max (number_of known.old origin) (vec records.now origin)) }
-    ensures err { IfErr result (λ fault. (fault ≡ DumpFault.OutOfMemory) ⊎ ((fault ≡ DumpFault.Store StoreFault.Refused) × (AllByRecursion IsRecord records.now → ⊥))) }
+    ensures lines { OnOk result
+        (string_bytes text.new ≡ string_bytes text.old ++ flat_map line_of records.now) }
+    ensures known { OnOk result
+        ((origin : ℕ)
+        → number_of known.new origin ≡ max (number_of known.old origin) (vec records.now origin)) }
+    ensures err { IfErr result
+        (λ fault. (fault ≡ DumpFault.OutOfMemory)
+        ⊎
+        ((fault ≡ DumpFault.Store StoreFault.Refused)
+        × (AllByRecursion IsRecord records.now → ⊥))) }
 {
     for r in records {
         if !is_record(r) {
@@ -90,7 +96,8 @@ pub fn dump<A: Archive, W: Write>(
     archive: &mut A,
     output: &mut Counted<W>,
 ) -> Result<(), DumpFault>
-    ensures dumps { Dumps (A.state archive.old) (A.state archive.new) (W.contents output.old.inner) (W.contents output.new.inner) result }
+    ensures dumps { Dumps (A.state archive.old) (A.state archive.new) (W.contents output.old.inner)
+        (W.contents output.new.inner) result }
     ensures write { IsErrOf result DumpFault.Write → output.new.faults ≡ counted output.old.faults }
     ensures kept { (IsErrOf result DumpFault.Write → ⊥) → output.new.faults ≡ output.old.faults }
 {

@@ -3,9 +3,9 @@
 ghost use Rattle.std.specs.Prelude.{◌≡◌, ◌≤◌, ◌<◌, length, take, IfOk, OnOk, OnErr, IsErrOf, Err, ℕ, List};
 ghost use Rattle.std.specs.Result.{result_map_both};
 ghost use Rattle.std.specs.Io.KnownBytes.{Consumes, IsAtEnd};
-ghost use Rattle.counted_io.specs.Bytes.{counted};
-ghost use Rattle.ua_connection.specs.Given.{Outside};
-ghost use Rattle.ua_connection.specs.Passing.{Event, Passes};
+ghost use Rattle.counted_io.specs.Bytes.{counted, CountsWhere};
+ghost use Rattle.ua_connection.specs.Environments.{Environment};
+ghost use Rattle.ua_connection.specs.Passing.{LineEvent, Passes};
 ghost use Rattle.ua_connection.specs.Serving.{ServesBehind, ServesPromptly};
 ghost use Rattle.ua_peers.specs.Peers.{MeetsBehind, responding};
 ghost use Rattle.ua_server.specs.Either.{is_peers, end_of_client, end_of_peer, ServesEither};
@@ -16,7 +16,7 @@ use exchange::Replica;
 use std::alloc::Global;
 use std::io::{Read, Write};
 use ua_connection::{Clock, Wires};
-use ua_peers::{Parted, serve_peer_from};
+use ua_peers::{PeerEnded, serve_peer_from};
 use ua_settings::Settings;
 
 /// How a connection ended that met no fault.
@@ -45,14 +45,14 @@ fn end_of_client(served: ua_connection::Served) -> Served
 }
 
 /// How a peer's dialog ended.
-fn end_of_peer(parted: Parted) -> Served
+fn end_of_peer(parted: PeerEnded) -> Served
     ensures { result ≡ end_of_peer parted }
 {
     match parted {
-        Parted::EndOfInput => Served::EndOfInput,
-        Parted::Done => Served::Exchanged,
-        Parted::Refused(number) => Served::Refused(number),
-        Parted::Failed(fault) => Served::Refused(u32::from(fault.number())),
+        PeerEnded::EndOfInput => Served::EndOfInput,
+        PeerEnded::Done => Served::Exchanged,
+        PeerEnded::Refused(number) => Served::Refused(number),
+        PeerEnded::Failed(fault) => Served::Refused(u32::from(fault.number())),
     }
 }
 
@@ -61,11 +61,16 @@ fn read_first<R: Read>(reader: &mut Counted<R>, first: &mut [u8]) -> Result<usiz
     requires { length first.old ≡ 3 }
     ensures length { length first.new ≡ 3 }
     ensures within { IfOk result (λ n. n ≤ 3) }
-    ensures bytes { IfOk result (λ n. Consumes (R.remaining reader.old.inner) (R.remaining reader.new.inner) (take n first.new)) }
+    ensures bytes { IfOk result
+        (λ n.
+        Consumes (R.remaining reader.old.inner) (R.remaining reader.new.inner) (take n first.new)) }
     ensures end { IfOk result (λ n. n < 3 → IsAtEnd (R.remaining reader.new.inner)) }
     ensures faults { OnOk result (reader.new.faults ≡ reader.old.faults) }
-    ensures fault { OnErr result ((result ≡ Err ServeFault.Read) × (reader.new.faults ≡ counted reader.old.faults)) }
-    ensures broken { OnErr result ((came : List ℕ) × (length came < 3) × Consumes (R.remaining reader.old.inner) (R.remaining reader.new.inner) came) }
+    ensures fault { OnErr result
+        ((result ≡ Err ServeFault.Read) × (reader.new.faults ≡ counted reader.old.faults)) }
+    ensures broken { OnErr result
+        ((came : List ℕ) × (length came < 3)
+        × Consumes (R.remaining reader.old.inner) (R.remaining reader.new.inner) came) }
 {
     let mut read = 0;
     while read < first.len() {
@@ -86,7 +91,7 @@ fn is_peers(first: &[u8]) -> bool
 }
 
 /// Answers the dialog of a peer of which these first bytes were read before.
-fn meet_peer<R: Read, W: Write, A: Archive>(
+fn serve_a_peer<R: Read, W: Write, A: Archive>(
     alloc: Global,
     replica: &mut Replica<A>,
     first: &[u8],
@@ -95,11 +100,14 @@ fn meet_peer<R: Read, W: Write, A: Archive>(
 ) -> Result<Served, ServeFault>
     requires { length first.now < 8 }
     ensures meets { (parted : _) × (result ≡ result_map_both end_of_peer (λ fault. fault) parted)
-        × MeetsBehind responding (A.state replica.old.archive) (A.state replica.new.archive) first.now (R.remaining reader.old.inner) (R.remaining reader.new.inner) (W.contents writer.old.inner) (W.contents writer.new.inner) parted }
-    ensures read { IsErrOf result ServeFault.Read → reader.new.faults ≡ counted reader.old.faults }
-    ensures write { IsErrOf result ServeFault.Write → writer.new.faults ≡ counted writer.old.faults }
-    ensures read_kept { (IsErrOf result ServeFault.Read → ⊥) → reader.new.faults ≡ reader.old.faults }
-    ensures write_kept { (IsErrOf result ServeFault.Write → ⊥) → writer.new.faults ≡ writer.old.faults }
+        × MeetsBehind responding (A.state replica.old.archive)
+        (A.state replica.new.archive) first.now (R.remaining reader.old.inner)
+        (R.remaining reader.new.inner) (W.contents writer.old.inner)
+        (W.contents writer.new.inner) parted }
+    ensures reads { CountsWhere (IsErrOf result ServeFault.Read)
+        reader.old.faults reader.new.faults }
+    ensures writes { CountsWhere (IsErrOf result ServeFault.Write)
+        writer.old.faults writer.new.faults }
 {
     match serve_peer_from(alloc, replica, first, reader, writer) {
         Ok(parted) => Ok(end_of_peer(parted)),
@@ -118,13 +126,18 @@ fn serve_wires<R: Read, W: Write, C: Clock, A: Archive>(
     clock: &mut C,
 ) -> Result<ua_connection::Served, ServeFault>
     requires { length first.now < 8 }
-    ensures serves { (used : Outside) × C.gave clock.old used.readings clock.new × (events : List Event)
-        × Passes (record { unread = R.remaining reader.old.inner; written = W.contents writer.old.inner }) events (record { unread = R.remaining reader.new.inner; written = W.contents writer.new.inner })
-        × ServesPromptly settings.now (A.state archive.old) (A.state archive.new) first.now events used result }
-    ensures read { IsErrOf result ServeFault.Read → reader.new.faults ≡ counted reader.old.faults }
-    ensures write { IsErrOf result ServeFault.Write → writer.new.faults ≡ counted writer.old.faults }
-    ensures read_kept { (IsErrOf result ServeFault.Read → ⊥) → reader.new.faults ≡ reader.old.faults }
-    ensures write_kept { (IsErrOf result ServeFault.Write → ⊥) → writer.new.faults ≡ writer.old.faults }
+    ensures serves { (used : Environment) × C.gave clock.old used.readings clock.new
+        × (events : List LineEvent)
+        × Passes
+        (record
+        { unread = R.remaining reader.old.inner; written = W.contents writer.old.inner }) events
+        (record { unread = R.remaining reader.new.inner; written = W.contents writer.new.inner })
+        × ServesPromptly settings.now (A.state archive.old)
+        (A.state archive.new) first.now events used result }
+    ensures reads { CountsWhere (IsErrOf result ServeFault.Read)
+        reader.old.faults reader.new.faults }
+    ensures writes { CountsWhere (IsErrOf result ServeFault.Write)
+        writer.old.faults writer.new.faults }
 {
     let mut wires = Wires { reader, writer };
     ua_connection::serve(alloc, settings, archive, first, &mut wires, clock)
@@ -141,12 +154,15 @@ fn serve_client<R: Read, W: Write, C: Clock, A: Archive>(
     clock: &mut C,
 ) -> Result<Served, ServeFault>
     requires { length first.now < 8 }
-    ensures serves { (used : Outside) × C.gave clock.old used.readings clock.new × (served : _) × (result ≡ result_map_both end_of_client (λ fault. fault) served)
-        × ServesBehind settings.now (A.state archive.old) (A.state archive.new) first.now (R.remaining reader.old.inner) (R.remaining reader.new.inner) (W.contents writer.old.inner) (W.contents writer.new.inner) used served }
-    ensures read { IsErrOf result ServeFault.Read → reader.new.faults ≡ counted reader.old.faults }
-    ensures write { IsErrOf result ServeFault.Write → writer.new.faults ≡ counted writer.old.faults }
-    ensures read_kept { (IsErrOf result ServeFault.Read → ⊥) → reader.new.faults ≡ reader.old.faults }
-    ensures write_kept { (IsErrOf result ServeFault.Write → ⊥) → writer.new.faults ≡ writer.old.faults }
+    ensures serves { (used : Environment) × C.gave clock.old used.readings clock.new × (served : _)
+        × (result ≡ result_map_both end_of_client (λ fault. fault) served)
+        × ServesBehind settings.now (A.state archive.old) (A.state archive.new) first.now
+        (R.remaining reader.old.inner) (R.remaining reader.new.inner) (W.contents writer.old.inner)
+        (W.contents writer.new.inner) used served }
+    ensures reads { CountsWhere (IsErrOf result ServeFault.Read)
+        reader.old.faults reader.new.faults }
+    ensures writes { CountsWhere (IsErrOf result ServeFault.Write)
+        writer.old.faults writer.new.faults }
 {
     match serve_wires(alloc, settings, archive, first, reader, writer, clock) {
         Ok(served) => Ok(end_of_client(served)),
@@ -171,12 +187,14 @@ pub fn serve<R: Read, W: Write, C: Clock, A: Archive>(
     writer: &mut Counted<W>,
     clock: &mut C,
 ) -> Result<Served, ServeFault>
-    ensures serves { (used : Outside) × C.gave clock.old used.readings clock.new
-        × ServesEither settings.now (A.state replica.old.archive) (A.state replica.new.archive) (R.remaining reader.old.inner) (R.remaining reader.new.inner) (W.contents writer.old.inner) (W.contents writer.new.inner) used result }
-    ensures read { IsErrOf result ServeFault.Read → reader.new.faults ≡ counted reader.old.faults }
-    ensures write { IsErrOf result ServeFault.Write → writer.new.faults ≡ counted writer.old.faults }
-    ensures read_kept { (IsErrOf result ServeFault.Read → ⊥) → reader.new.faults ≡ reader.old.faults }
-    ensures write_kept { (IsErrOf result ServeFault.Write → ⊥) → writer.new.faults ≡ writer.old.faults }
+    ensures serves { (used : Environment) × C.gave clock.old used.readings clock.new
+        × ServesEither settings.now (A.state replica.old.archive) (A.state replica.new.archive)
+        (R.remaining reader.old.inner) (R.remaining reader.new.inner) (W.contents writer.old.inner)
+        (W.contents writer.new.inner) used result }
+    ensures reads { CountsWhere (IsErrOf result ServeFault.Read)
+        reader.old.faults reader.new.faults }
+    ensures writes { CountsWhere (IsErrOf result ServeFault.Write)
+        writer.old.faults writer.new.faults }
 {
     let mut letters = [0u8; 3];
     let n = match read_first(reader, &mut letters) {
@@ -185,7 +203,7 @@ pub fn serve<R: Read, W: Write, C: Clock, A: Archive>(
     };
     let first = &letters[..n];
     if is_peers(first) {
-        meet_peer(alloc, replica, first, reader, writer)
+        serve_a_peer(alloc, replica, first, reader, writer)
     } else {
         serve_client(
             alloc,

@@ -2,8 +2,7 @@
 
 ghost use Rattle.std.specs.Prelude.{◌≡◌, ℕ, List, Option, IfSome, option_map, option_copied, string_bytes};
 ghost use Rattle.toml.specs.Parse.{parse_document};
-ghost use Rattle.ua_server.specs.Program.{IsSetIn, SettingsAt, TellsPlace};
-ghost use Rattle.ua_server.specs.Parts.{IsBare, IsPlace};
+ghost use Rattle.ua_server.specs.Program.{IsSetIn, SettingsAt, TellsPlace, IsBare, IsFaultPlace};
 
 use crate::program::ProgramFault;
 use command_line::LineFault;
@@ -54,7 +53,7 @@ fn place_in(alloc: Global, text: &str) -> Option<Text>
 
 /// Where a text is refused by this fault, in at most 180 bytes; none where memory is wanting.
 fn place_of(alloc: Global, fault: SettingsFault, text: &str) -> Option<Text>
-    ensures { IsPlace text.now fault result }
+    ensures { IsFaultPlace text.now fault result }
 {
     match fault {
         SettingsFault::OutOfMemory => None,
@@ -82,7 +81,8 @@ pub(crate) fn settings_at<F: SettingsFiles>(
     path: Option<&str>,
     files: &mut F,
 ) -> Result<Settings, ProgramFault>
-    ensures { SettingsAt (λ path text. F.gave files.old path text files.new) (files.new ≡ files.old) (option_copied path.entry) result }
+    ensures { SettingsAt (λ path text. F.gave files.old path text files.new) (files.new ≡ files.old)
+        (option_copied path.entry) result }
 {
     let Some(path) = path else {
         return bare_settings(alloc);

@@ -2,7 +2,7 @@
 
 ghost use Rattle.std.specs.Prelude.{◌≡◌, IfOk, IsErrOf, IsErr, IfErr};
 ghost use Rattle.hex.specs.Hex.{decode_of};
-ghost use Rattle.ua_connection.specs.Given.{Outside};
+ghost use Rattle.ua_connection.specs.Environments.{Environment};
 ghost use Rattle.ua_server.specs.Hexed.{digits_of, AnswersHex, IsBadOrStarved};
 
 use crate::either::{Served, serve};
@@ -66,8 +66,9 @@ pub fn answer_hex<C: Clock, A: Archive>(
     out: &mut Vec<u8>,
     clock: &mut C,
 ) -> Result<Served, HexFault>
-    ensures { (used : Outside) × C.gave clock.old used.readings clock.new
-        × AnswersHex settings.now (A.state replica.old.archive) (A.state replica.new.archive) text.now used out.old.items out.new.items result }
+    ensures { (used : Environment) × C.gave clock.old used.readings clock.new
+        × AnswersHex settings.now (A.state replica.old.archive)
+        (A.state replica.new.archive) text.now used out.old.items out.new.items result }
 {
     let input = match decoded(alloc, text) {
         Ok(input) => input,

@@ -29,6 +29,6 @@ pub use ua_connection::{
     connections_are_answered_chunk_by_chunk,
 };
 pub use ua_peers::{
-    Parted, SyncFault, Synced, a_call_that_ends_joins, calls_are_exchanges, dialogs_are_deliveries,
-    serve_peer, sync,
+    PeerEnded, SyncFault, Synced, a_call_that_ends_joins, calls_are_exchanges,
+    dialogs_are_deliveries, serve_peer, sync,
 };

@@ -1,15 +1,15 @@
 //! The program, over any reader and writers.
 
+ghost use Rattle.ua_server.specs.Network.{calls_of};
 ghost use Rattle.std.specs.Prelude.{◌≡◌, ◌≤◌, ℕ, ℤ, List, [], ◌∷◌, ◌++◌, IfOk, IfErr, OnOk, OnErr, IsErrOf, map, codes, option_copied, string_bytes, None, length};
 ghost use Rattle.std.specs.Fmt.InlineText.{inline_text};
 ghost use Rattle.std.specs.Result.{result_map_both};
 ghost use Rattle.std.specs.Io.KnownBytes.{Appends};
 ghost use Rattle.counted_io.specs.Bytes.{counted, AppendsPart};
-ghost use Rattle.ua_connection.specs.Given.{Outside};
+ghost use Rattle.ua_connection.specs.Environments.{Environment};
 ghost use Rattle.ua_server.specs.Single.{AnswersAt};
-ghost use Rattle.ua_server.specs.Telling.{status_of, IsTold, text_of, numbered, told_line, error_lines, synced_line};
-ghost use Rattle.ua_server.specs.Program.{OpensArchive, PrintsSynced, PrintsText, CallsPeer, DoesLine, Runs};
-ghost use Rattle.ua_server.specs.Parts.{fault_of, dump_fault, sync_fault, AnswersBy, ServesBy, DumpsBy, SyncsBy, place_line};
+ghost use Rattle.ua_server.specs.Telling.{exit_status, LogsLine, fault_text, numbered, told_line, error_lines, synced_line, fault_of, dump_fault, sync_fault, place_line};
+ghost use Rattle.ua_server.specs.Program.{OpensArchive, PrintsSynced, PrintsText, CallsPeer, DoesLine, Runs, AnswersBy, ServesBy, DumpsBy, SyncsBy, machine_around, peers_of, host_of};
 ghost use Rattle.ua_server.specs.Dumping.{Dumps};
 ghost use Rattle.clap.specs.Words.{subcommand_of};
 ghost use Rattle.clap.specs.Takes.{takes};
@@ -106,7 +106,8 @@ impl ProgramFault {
 
     /// Where the settings are refused.
     pub fn place(&self) -> Option<&str>
-        ensures { option_copied result ≡ (elim self.now [ told.Settings fault place ↦ place | _ ↦ None ]) }
+        ensures { option_copied result
+            ≡ (elim self.now [ told.Settings fault place ↦ place | _ ↦ None ]) }
     {
         match self {
             ProgramFault::Settings(_, Some(place)) => Some(place.as_str()),
@@ -126,9 +127,9 @@ impl ProgramFault {
 
 impl fmt::Display for ProgramFault {
     ghost use Rattle.std.specs.Prelude.{Some};
-    ghost use Rattle.ua_server.specs.Telling.{text_of};
+    ghost use Rattle.ua_server.specs.Telling.{fault_text};
 
-    ghost output = { λ fault. Some (text_of fault) };
+    ghost output = { λ fault. Some (fault_text fault) };
 
     fn fmt<W: fmt::Write>(&self, f: &mut fmt::Formatter<W>) -> fmt::Result {
         f.write_str(self.words())?;
@@ -153,7 +154,9 @@ fn fault_of(fault: HexFault) -> ProgramFault
 
 /// Opens the archive of the settings: that of their file, or one in memory that holds nothing.
 fn open_archive<D: Stores>(settings: &Settings, stores: &mut D) -> Result<D::Kept, StoreFault>
-    ensures { OpensArchive (λ path id number opening. D.opened stores.old path id number opening stores.new) (stores.new ≡ stores.old) D.Kept.state settings.now settings.now.store result }
+    ensures { OpensArchive
+        (λ path id number opening. D.opened stores.old path id number opening stores.new)
+        (stores.new ≡ stores.old) D.Kept.state settings.now settings.now.store result }
 {
     match settings.store() {
         None => stores.in_memory(settings.archive(), settings.replica()),
@@ -172,10 +175,15 @@ fn answer_over<A: Archive, R: Read, W: Write, C: Clock>(
     output: &mut Counted<W>,
     clock: &mut C,
 ) -> Result<(), ProgramFault>
-    ensures read { IsErrOf result (ProgramFault.Connection ServeFault.Read) → input.new.faults ≡ counted input.old.faults }
-    ensures write { IsErrOf result (ProgramFault.Connection ServeFault.Write) → output.new.faults ≡ counted output.old.faults }
-    ensures does { (used : Outside) × C.gave clock.old used.readings clock.new × (answered : _)
-        × AnswersAt settings.now (A.state replica.old.archive) (A.state replica.new.archive) hex now (R.remaining input.old.inner) (R.remaining input.new.inner) (W.contents output.old.inner) (W.contents output.new.inner) used answered × (result ≡ result_map_both (λ done. done) fault_of answered) }
+    ensures read { IsErrOf result (ProgramFault.Connection ServeFault.Read)
+        → input.new.faults ≡ counted input.old.faults }
+    ensures write { IsErrOf result (ProgramFault.Connection ServeFault.Write)
+        → output.new.faults ≡ counted output.old.faults }
+    ensures does { (used : Environment) × C.gave clock.old used.readings clock.new × (answered : _)
+        × AnswersAt settings.now (A.state replica.old.archive) (A.state replica.new.archive) hex now
+        (R.remaining input.old.inner) (R.remaining input.new.inner) (W.contents output.old.inner)
+        (W.contents output.new.inner) used answered
+        × (result ≡ result_map_both (λ done. done) fault_of answered) }
 {
     match answer_at(alloc, settings, replica, hex, now, input, output, clock) {
         Ok(()) => Ok(()),
@@ -195,10 +203,15 @@ fn answer_by<F: SettingsFiles, D: Stores, R: Read, W: Write, C: Clock>(
     output: &mut Counted<W>,
     clock: &mut C,
 ) -> Result<(), ProgramFault>
-    ensures read { IsErrOf result (ProgramFault.Connection ServeFault.Read) → input.new.faults ≡ counted input.old.faults }
-    ensures write { IsErrOf result (ProgramFault.Connection ServeFault.Write) → output.new.faults ≡ counted output.old.faults }
-    ensures does { AnswersBy (record { reads = λ path text. F.gave files.old path text files.new; unasked = files.new ≡ files.old; opened = λ path id number opening. D.opened stores.old path id number opening stores.new; untouched = stores.new ≡ stores.old; held = D.Kept.state })
-        C.gave (option_copied path.entry) hex now (R.remaining input.old.inner) (R.remaining input.new.inner) (W.contents output.old.inner) (W.contents output.new.inner) clock.old clock.new result }
+    ensures read { IsErrOf result (ProgramFault.Connection ServeFault.Read)
+        → input.new.faults ≡ counted input.old.faults }
+    ensures write { IsErrOf result (ProgramFault.Connection ServeFault.Write)
+        → output.new.faults ≡ counted output.old.faults }
+    ensures does { AnswersBy
+        (machine_around F.gave D.opened D.Kept.state files.old files.new stores.old stores.new)
+        C.gave (option_copied path.entry) hex now (R.remaining input.old.inner)
+        (R.remaining input.new.inner) (W.contents output.old.inner)
+        (W.contents output.new.inner) clock.old clock.new result }
 {
     let settings = match settings_at(alloc, path, files) {
         Ok(settings) => settings,
@@ -230,8 +243,12 @@ fn serve_by<F: SettingsFiles, D: Stores, N: Network, C: Clock, E: Write>(
     clock: &mut C,
     errors: &mut Counted<E>,
 ) -> Result<(), ProgramFault>
-    ensures serves { ServesBy (record { reads = λ path text. F.gave files.old path text files.new; unasked = files.new ≡ files.old; opened = λ path id number opening. D.opened stores.old path id number opening stores.new; untouched = stores.new ≡ stores.old; held = D.Kept.state })
-        (record { comes = N.Listener.accepted; closed = N.Listener.closed; unread = N.Listener.Reader.remaining; written = N.Listener.Writer.contents }) C.gave N.listened E.contents path.now connections network.old network.new clock.old clock.new errors.old errors.new result }
+    ensures serves { ServesBy
+        (machine_around F.gave D.opened D.Kept.state files.old files.new stores.old stores.new)
+        (calls_of N.Listener.accepted N.Listener.closed N.Listener.Reader.remaining
+        N.Listener.Writer.contents) C.gave
+        N.listened E.contents path.now connections network.old network.new clock.old clock.new
+        errors.old errors.new result }
     ensures connection { (fault : ServeFault) → IsErrOf result (ProgramFault.Connection fault) → ⊥ }
 {
     let settings = match settings_at(alloc, Some(path), files) {
@@ -259,8 +276,12 @@ fn dump_over<A: Archive, W: Write>(
     output: &mut Counted<W>,
 ) -> Result<(), ProgramFault>
     ensures read { IsErrOf result (ProgramFault.Connection ServeFault.Read) → ⊥ }
-    ensures write { IsErrOf result (ProgramFault.Connection ServeFault.Write) → output.new.faults ≡ counted output.old.faults }
-    ensures dumps { (dumped : _) × Dumps (A.state archive.old) (A.state archive.new) (W.contents output.old.inner) (W.contents output.new.inner) dumped × (result ≡ result_map_both (λ done. done) dump_fault dumped) }
+    ensures write { IsErrOf result (ProgramFault.Connection ServeFault.Write)
+        → output.new.faults ≡ counted output.old.faults }
+    ensures dumps { (dumped : _)
+        × Dumps (A.state archive.old) (A.state archive.new) (W.contents output.old.inner)
+        (W.contents output.new.inner) dumped
+        × (result ≡ result_map_both (λ done. done) dump_fault dumped) }
 {
     match dump(alloc, archive, output) {
         Ok(()) => Ok(()),
@@ -279,8 +300,12 @@ fn dump_by<F: SettingsFiles, D: Stores, W: Write>(
     output: &mut Counted<W>,
 ) -> Result<(), ProgramFault>
     ensures read { IsErrOf result (ProgramFault.Connection ServeFault.Read) → ⊥ }
-    ensures write { IsErrOf result (ProgramFault.Connection ServeFault.Write) → output.new.faults ≡ counted output.old.faults }
-    ensures dumps { DumpsBy (record { reads = λ path text. F.gave files.old path text files.new; unasked = files.new ≡ files.old; opened = λ path id number opening. D.opened stores.old path id number opening stores.new; untouched = stores.new ≡ stores.old; held = D.Kept.state }) path.now (W.contents output.old.inner) (W.contents output.new.inner) result }
+    ensures write { IsErrOf result (ProgramFault.Connection ServeFault.Write)
+        → output.new.faults ≡ counted output.old.faults }
+    ensures dumps { DumpsBy
+        (machine_around F.gave D.opened D.Kept.state files.old files.new stores.old
+        stores.new) path.now
+        (W.contents output.old.inner) (W.contents output.new.inner) result }
 {
     let settings = match settings_at(alloc, Some(path), files) {
         Ok(settings) => settings,
@@ -320,9 +345,11 @@ fn print_synced<W: Write>(
     synced: Synced,
     output: &mut Counted<W>,
 ) -> Result<(), ProgramFault>
-    ensures prints { PrintsSynced (W.contents output.old.inner) (W.contents output.new.inner) (Ok synced) result }
+    ensures prints { PrintsSynced (W.contents output.old.inner) (W.contents output.new.inner)
+        (Ok synced) result }
     ensures read { IsErrOf result (ProgramFault.Connection ServeFault.Read) → ⊥ }
-    ensures write { IsErrOf result (ProgramFault.Connection ServeFault.Write) → output.new.faults ≡ counted output.old.faults }
+    ensures write { IsErrOf result (ProgramFault.Connection ServeFault.Write)
+        → output.new.faults ≡ counted output.old.faults }
 {
     let line = match synced_line(alloc, synced) {
         Ok(line) => line,
@@ -340,9 +367,11 @@ fn report_synced<W: Write>(
     ending: Result<Synced, SyncFault>,
     output: &mut Counted<W>,
 ) -> Result<(), ProgramFault>
-    ensures prints { PrintsSynced (W.contents output.old.inner) (W.contents output.new.inner) ending result }
+    ensures prints { PrintsSynced (W.contents output.old.inner)
+        (W.contents output.new.inner) ending result }
     ensures read { IsErrOf result (ProgramFault.Connection ServeFault.Read) → ⊥ }
-    ensures write { IsErrOf result (ProgramFault.Connection ServeFault.Write) → output.new.faults ≡ counted output.old.faults }
+    ensures write { IsErrOf result (ProgramFault.Connection ServeFault.Write)
+        → output.new.faults ≡ counted output.old.faults }
 {
     match ending {
         Ok(synced) => print_synced(alloc, synced, output),
@@ -359,8 +388,13 @@ fn sync_over<A: Archive + Drop, N: Network, W: Write>(
     output: &mut Counted<W>,
 ) -> Result<(), ProgramFault>
     ensures read { IsErrOf result (ProgramFault.Connection ServeFault.Read) → ⊥ }
-    ensures write { IsErrOf result (ProgramFault.Connection ServeFault.Write) → output.new.faults ≡ counted output.old.faults }
-    ensures calls { (last : _) × CallsPeer (λ address. record { comes = λ old came new. N.called old address came new; closed = N.parted; unread = N.Reader.remaining; written = N.Writer.contents }) A.state peer.now archive last network.old network.new (W.contents output.old.inner) (W.contents output.new.inner) result }
+    ensures write { IsErrOf result (ProgramFault.Connection ServeFault.Write)
+        → output.new.faults ≡ counted output.old.faults }
+    ensures calls { (last : _)
+        × CallsPeer
+        (peers_of N.called N.parted N.Reader.remaining N.Writer.contents) A.state peer.now archive
+        last
+        network.old network.new (W.contents output.old.inner) (W.contents output.new.inner) result }
 {
     let Ok(address) = peer.parse::<SocketAddr>() else {
         return Err(ProgramFault::Address);
@@ -387,8 +421,13 @@ fn sync_by<F: SettingsFiles, D: Stores, N: Network, W: Write>(
     output: &mut Counted<W>,
 ) -> Result<(), ProgramFault>
     ensures read { IsErrOf result (ProgramFault.Connection ServeFault.Read) → ⊥ }
-    ensures write { IsErrOf result (ProgramFault.Connection ServeFault.Write) → output.new.faults ≡ counted output.old.faults }
-    ensures syncs { SyncsBy (record { reads = λ path text. F.gave files.old path text files.new; unasked = files.new ≡ files.old; opened = λ path id number opening. D.opened stores.old path id number opening stores.new; untouched = stores.new ≡ stores.old; held = D.Kept.state }) (λ address. record { comes = λ old came new. N.called old address came new; closed = N.parted; unread = N.Reader.remaining; written = N.Writer.contents }) path.now peer.now network.old network.new (W.contents output.old.inner) (W.contents output.new.inner) result }
+    ensures write { IsErrOf result (ProgramFault.Connection ServeFault.Write)
+        → output.new.faults ≡ counted output.old.faults }
+    ensures syncs { SyncsBy
+        (machine_around F.gave D.opened D.Kept.state files.old files.new stores.old stores.new)
+        (peers_of N.called N.parted N.Reader.remaining N.Writer.contents) path.now peer.now
+        network.old
+        network.new (W.contents output.old.inner) (W.contents output.new.inner) result }
 {
     let settings = match settings_at(alloc, Some(path), files) {
         Ok(settings) => settings,
@@ -412,13 +451,20 @@ fn do_line<F: SettingsFiles, D: Stores, N: Network, R: Read, W: Write, E: Write,
     errors: &mut Counted<E>,
     clock: &mut C,
 ) -> Result<(), ProgramFault>
-    ensures read { IsErrOf result (ProgramFault.Connection ServeFault.Read) → input.new.faults ≡ counted input.old.faults }
-    ensures write { IsErrOf result (ProgramFault.Connection ServeFault.Write) → output.new.faults ≡ counted output.old.faults }
-    ensures does { DoesLine (record { reads = λ path text. F.gave files.old path text files.new; unasked = files.new ≡ files.old; opened = λ path id number opening. D.opened stores.old path id number opening stores.new; untouched = stores.new ≡ stores.old; held = D.Kept.state })
-        (λ address. record { comes = λ old came new. N.called old address came new; closed = N.parted; unread = N.Reader.remaining; written = N.Writer.contents })
-        (record { comes = N.Listener.accepted; closed = N.Listener.closed; unread = N.Listener.Reader.remaining; written = N.Listener.Writer.contents }) C.gave N.listened E.contents line.entry
-        (record { unread = R.remaining input.old.inner; written = W.contents output.old.inner; network = network.old; clock = clock.old; errors = errors.old })
-        (record { unread = R.remaining input.new.inner; written = W.contents output.new.inner; network = network.new; clock = clock.new; errors = errors.new }) result }
+    ensures read { IsErrOf result (ProgramFault.Connection ServeFault.Read)
+        → input.new.faults ≡ counted input.old.faults }
+    ensures write { IsErrOf result (ProgramFault.Connection ServeFault.Write)
+        → output.new.faults ≡ counted output.old.faults }
+    ensures does { DoesLine
+        (machine_around F.gave D.opened D.Kept.state files.old files.new stores.old stores.new)
+        (peers_of N.called N.parted N.Reader.remaining N.Writer.contents)
+        (calls_of N.Listener.accepted N.Listener.closed N.Listener.Reader.remaining
+        N.Listener.Writer.contents) C.gave
+        N.listened E.contents line.entry
+        (host_of (R.remaining input.old.inner)
+        (W.contents output.old.inner) network.old clock.old errors.old)
+        (host_of (R.remaining input.new.inner)
+        (W.contents output.new.inner) network.new clock.new errors.new) result }
 {
     match line {
         Line::Answer { settings, hex, now } => answer_by(
@@ -448,7 +494,8 @@ fn do_line<F: SettingsFiles, D: Stores, N: Network, R: Read, W: Write, E: Write,
 fn print_text<W: Write>(text: &[u8], output: &mut Counted<W>) -> Result<(), ProgramFault>
     ensures prints { PrintsText (W.contents output.old.inner) (W.contents output.new.inner) result }
     ensures read { IsErrOf result (ProgramFault.Connection ServeFault.Read) → ⊥ }
-    ensures write { IsErrOf result (ProgramFault.Connection ServeFault.Write) → output.new.faults ≡ counted output.old.faults }
+    ensures write { IsErrOf result (ProgramFault.Connection ServeFault.Write)
+        → output.new.faults ≡ counted output.old.faults }
 {
     match output.send(text) {
         Ok(()) => Ok(()),
@@ -488,14 +535,22 @@ pub fn run<
     errors: &mut Counted<E>,
     clock: &mut C,
 ) -> Result<(), ProgramFault>
-    ensures read { IsErrOf result (ProgramFault.Connection ServeFault.Read) → input.new.faults ≡ counted input.old.faults }
-    ensures write { IsErrOf result (ProgramFault.Connection ServeFault.Write) → output.new.faults ≡ counted output.old.faults }
-    ensures runs { Runs (fault_kinds uahist (map S.text words.now)) (takes uahist (map S.text words.now)) (subcommand_of uahist (map S.text words.now))
-        (record { reads = λ path text. F.gave files.old path text files.new; unasked = files.new ≡ files.old; opened = λ path id number opening. D.opened stores.old path id number opening stores.new; untouched = stores.new ≡ stores.old; held = D.Kept.state })
-        (λ address. record { comes = λ old came new. N.called old address came new; closed = N.parted; unread = N.Reader.remaining; written = N.Writer.contents })
-        (record { comes = N.Listener.accepted; closed = N.Listener.closed; unread = N.Listener.Reader.remaining; written = N.Listener.Writer.contents }) C.gave N.listened E.contents
-        (record { unread = R.remaining input.old.inner; written = W.contents output.old.inner; network = network.old; clock = clock.old; errors = errors.old })
-        (record { unread = R.remaining input.new.inner; written = W.contents output.new.inner; network = network.new; clock = clock.new; errors = errors.new }) result }
+    ensures read { IsErrOf result (ProgramFault.Connection ServeFault.Read)
+        → input.new.faults ≡ counted input.old.faults }
+    ensures write { IsErrOf result (ProgramFault.Connection ServeFault.Write)
+        → output.new.faults ≡ counted output.old.faults }
+    ensures runs { Runs (fault_kinds uahist (map S.text words.now))
+        (takes uahist (map S.text words.now))
+        (subcommand_of uahist (map S.text words.now))
+        (machine_around F.gave D.opened D.Kept.state files.old files.new stores.old stores.new)
+        (peers_of N.called N.parted N.Reader.remaining N.Writer.contents)
+        (calls_of N.Listener.accepted N.Listener.closed N.Listener.Reader.remaining
+        N.Listener.Writer.contents) C.gave
+        N.listened E.contents
+        (host_of (R.remaining input.old.inner)
+        (W.contents output.old.inner) network.old clock.old errors.old)
+        (host_of (R.remaining input.new.inner)
+        (W.contents output.new.inner) network.new clock.new errors.new) result }
 {
     match read_line(alloc, words) {
         Ok(Asked::Work(line)) => do_line(
@@ -508,9 +563,12 @@ pub fn run<
 
 /// Writes a line that begins with `uahist: `.
 fn tell<W: Write>(text: &[u8], errors: &mut Counted<W>) -> Result<(), ServeFault>
-    ensures ok { OnOk result (Appends (W.contents errors.old.inner) (W.contents errors.new.inner) (told_line text.now)) }
+    ensures ok { OnOk result
+        (Appends (W.contents errors.old.inner) (W.contents errors.new.inner) (told_line text.now)) }
     ensures kept { OnOk result (errors.new.faults ≡ errors.old.faults) }
-    ensures part { OnErr result (AppendsPart (W.contents errors.old.inner) (W.contents errors.new.inner) (told_line text.now)) }
+    ensures part { OnErr result
+        (AppendsPart (W.contents errors.old.inner) (W.contents errors.new.inner)
+        (told_line text.now)) }
     ensures write { OnErr result (errors.new.faults ≡ counted errors.old.faults) }
 {
     match errors.send(b"uahist: ") {
@@ -524,9 +582,10 @@ fn tell<W: Write>(text: &[u8], errors: &mut Counted<W>) -> Result<(), ServeFault
 /// settings or the input was refused, 3 where the store was. Of a line that can't be written whole a first part stands, and the failed call is
 /// counted.
 pub fn report<W: Write>(ending: Result<(), ProgramFault>, errors: &mut Counted<W>) -> u8
-    ensures status { result ≡ status_of ending }
+    ensures status { result ≡ exit_status ending }
     ensures silent { OnOk ending (errors.new ≡ errors.old) }
-    ensures told { IfErr ending (λ fault. IsTold W.contents errors.old errors.new (error_lines fault)) }
+    ensures told { IfErr ending
+        (λ fault. LogsLine W.contents errors.old errors.new (error_lines fault)) }
 {
     let Err(fault) = ending else {
         return 0;
@@ -548,9 +607,13 @@ pub fn report<W: Write>(ending: Result<(), ProgramFault>, errors: &mut Counted<W
 
 /// Writes what went wrong, and where in the settings.
 fn tell_fault<W: Write>(fault: &ProgramFault, errors: &mut Counted<W>) -> Result<(), ServeFault>
-    ensures ok { OnOk result (Appends (W.contents errors.old.inner) (W.contents errors.new.inner) (error_lines fault.now)) }
+    ensures ok { OnOk result
+        (Appends (W.contents errors.old.inner) (W.contents errors.new.inner)
+        (error_lines fault.now)) }
     ensures kept { OnOk result (errors.new.faults ≡ errors.old.faults) }
-    ensures part { OnErr result (AppendsPart (W.contents errors.old.inner) (W.contents errors.new.inner) (error_lines fault.now)) }
+    ensures part { OnErr result
+        (AppendsPart (W.contents errors.old.inner) (W.contents errors.new.inner)
+        (error_lines fault.now)) }
     ensures write { OnErr result (errors.new.faults ≡ counted errors.old.faults) }
 {
     match tell_text(fault, errors) {
@@ -561,9 +624,13 @@ fn tell_fault<W: Write>(fault: &ProgramFault, errors: &mut Counted<W>) -> Result
 
 /// Writes the line that says what went wrong.
 fn tell_text<W: Write>(fault: &ProgramFault, errors: &mut Counted<W>) -> Result<(), ServeFault>
-    ensures ok { OnOk result (Appends (W.contents errors.old.inner) (W.contents errors.new.inner) (told_line (text_of fault.now))) }
+    ensures ok { OnOk result
+        (Appends (W.contents errors.old.inner) (W.contents errors.new.inner)
+        (told_line (fault_text fault.now))) }
     ensures kept { OnOk result (errors.new.faults ≡ errors.old.faults) }
-    ensures part { OnErr result (AppendsPart (W.contents errors.old.inner) (W.contents errors.new.inner) (told_line (text_of fault.now))) }
+    ensures part { OnErr result
+        (AppendsPart (W.contents errors.old.inner) (W.contents errors.new.inner)
+        (told_line (fault_text fault.now))) }
     ensures write { OnErr result (errors.new.faults ≡ counted errors.old.faults) }
 {
     match fault.number() {
@@ -590,9 +657,13 @@ fn numbered(words: &str, number: u32) -> InlineText<100>
 
 /// Writes a line that begins with `uahist: `, unless there is nothing to tell.
 fn tell_place<W: Write>(place: Option<&str>, errors: &mut Counted<W>) -> Result<(), ServeFault>
-    ensures ok { OnOk result (Appends (W.contents errors.old.inner) (W.contents errors.new.inner) (place_line (option_copied place.entry))) }
+    ensures ok { OnOk result
+        (Appends (W.contents errors.old.inner) (W.contents errors.new.inner)
+        (place_line (option_copied place.entry))) }
     ensures kept { OnOk result (errors.new.faults ≡ errors.old.faults) }
-    ensures part { OnErr result (AppendsPart (W.contents errors.old.inner) (W.contents errors.new.inner) (place_line (option_copied place.entry))) }
+    ensures part { OnErr result
+        (AppendsPart (W.contents errors.old.inner) (W.contents errors.new.inner)
+        (place_line (option_copied place.entry))) }
     ensures write { OnErr result (errors.new.faults ≡ counted errors.old.faults) }
 {
     match place {

@@ -4,7 +4,7 @@ ghost use Rattle.ua_server.specs.Either.{ServesEither};
 ghost use Rattle.std.specs.Prelude.{◌≡◌, IfOk, IsErrOf, []};
 ghost use Rattle.std.specs.Io.KnownBytes.{Consumes, IsAtEnd};
 ghost use Rattle.counted_io.specs.Bytes.{counted};
-ghost use Rattle.ua_connection.specs.Given.{Outside};
+ghost use Rattle.ua_connection.specs.Environments.{Environment};
 ghost use Rattle.ua_server.specs.Single.{EndsAs, MakesDigits, PrintsHex, DoesAnswer, AnswersAt};
 
 use crate::either::serve;
@@ -22,7 +22,9 @@ const PIECE: usize = 4096;
 
 /// All bytes that the reader has.
 fn read_all<R: Read>(alloc: Global, input: &mut Counted<R>) -> Result<Vec<u8>, ServeFault>
-    ensures bytes { IfOk result (λ bytes. Consumes (R.remaining input.old.inner) (R.remaining input.new.inner) bytes.items × IsAtEnd (R.remaining input.new.inner)) }
+    ensures bytes { IfOk result
+        (λ bytes. Consumes (R.remaining input.old.inner) (R.remaining input.new.inner) bytes.items
+        × IsAtEnd (R.remaining input.new.inner)) }
     ensures read { IsErrOf result ServeFault.Read → input.new.faults ≡ counted input.old.faults }
     ensures no_write { IsErrOf result ServeFault.Write → ⊥ }
     ensures no_long { IsErrOf result ServeFault.TooLong → ⊥ }
@@ -49,9 +51,16 @@ fn answer<A: Archive, R: Read, W: Write, C: Clock>(
     output: &mut Counted<W>,
     clock: &mut C,
 ) -> Result<(), HexFault>
-    ensures read { IsErrOf result (HexFault.Serve ServeFault.Read) → input.new.faults ≡ counted input.old.faults }
-    ensures write { IsErrOf result (HexFault.Serve ServeFault.Write) → output.new.faults ≡ counted output.old.faults }
-    ensures ends { (used : Outside) × C.gave clock.old used.readings clock.new × EndsAs (λ ending. ServesEither settings.now (A.state replica.old.archive) (A.state replica.new.archive) (R.remaining input.old.inner) (R.remaining input.new.inner) (W.contents output.old.inner) (W.contents output.new.inner) used ending) result }
+    ensures read { IsErrOf result (HexFault.Serve ServeFault.Read)
+        → input.new.faults ≡ counted input.old.faults }
+    ensures write { IsErrOf result (HexFault.Serve ServeFault.Write)
+        → output.new.faults ≡ counted output.old.faults }
+    ensures ends { (used : Environment) × C.gave clock.old used.readings clock.new
+        × EndsAs
+        (λ ending.
+        ServesEither settings.now (A.state replica.old.archive) (A.state replica.new.archive)
+        (R.remaining input.old.inner) (R.remaining input.new.inner) (W.contents output.old.inner)
+        (W.contents output.new.inner) used ending) result }
 {
     match serve(alloc, settings, replica, input, output, clock) {
         Ok(_) => Ok(()),
@@ -67,8 +76,11 @@ fn hex_answer<A: Archive, R: Read, C: Clock>(
     input: &mut Counted<R>,
     clock: &mut C,
 ) -> Result<Vec<u8>, HexFault>
-    ensures digits { (used : Outside) × C.gave clock.old used.readings clock.new × MakesDigits settings.now (A.state replica.old.archive) (A.state replica.new.archive) (λ digits. digits.items) (R.remaining input.old.inner) used result }
-    ensures read { IsErrOf result (HexFault.Serve ServeFault.Read) → input.new.faults ≡ counted input.old.faults }
+    ensures digits { (used : Environment) × C.gave clock.old used.readings clock.new
+        × MakesDigits settings.now (A.state replica.old.archive) (A.state replica.new.archive)
+        (λ digits. digits.items) (R.remaining input.old.inner) used result }
+    ensures read { IsErrOf result (HexFault.Serve ServeFault.Read)
+        → input.new.faults ≡ counted input.old.faults }
 {
     let bytes = match read_all(alloc, input) {
         Ok(bytes) => bytes,
@@ -93,9 +105,14 @@ fn answer_in_hex<A: Archive, R: Read, W: Write, C: Clock>(
     output: &mut Counted<W>,
     clock: &mut C,
 ) -> Result<(), HexFault>
-    ensures read { IsErrOf result (HexFault.Serve ServeFault.Read) → input.new.faults ≡ counted input.old.faults }
-    ensures write { IsErrOf result (HexFault.Serve ServeFault.Write) → output.new.faults ≡ counted output.old.faults }
-    ensures prints { (used : Outside) × C.gave clock.old used.readings clock.new × PrintsHex settings.now (A.state replica.old.archive) (A.state replica.new.archive) (R.remaining input.old.inner) (W.contents output.old.inner) (W.contents output.new.inner) used result }
+    ensures read { IsErrOf result (HexFault.Serve ServeFault.Read)
+        → input.new.faults ≡ counted input.old.faults }
+    ensures write { IsErrOf result (HexFault.Serve ServeFault.Write)
+        → output.new.faults ≡ counted output.old.faults }
+    ensures prints { (used : Environment) × C.gave clock.old used.readings clock.new
+        × PrintsHex settings.now (A.state replica.old.archive) (A.state replica.new.archive)
+        (R.remaining input.old.inner) (W.contents output.old.inner)
+        (W.contents output.new.inner) used result }
 {
     let digits = hex_answer(alloc, settings, replica, input, clock)?;
     match output.send_line(digits.as_slice()) {
@@ -114,9 +131,14 @@ fn answer_either<A: Archive, R: Read, W: Write, C: Clock>(
     output: &mut Counted<W>,
     clock: &mut C,
 ) -> Result<(), HexFault>
-    ensures read { IsErrOf result (HexFault.Serve ServeFault.Read) → input.new.faults ≡ counted input.old.faults }
-    ensures write { IsErrOf result (HexFault.Serve ServeFault.Write) → output.new.faults ≡ counted output.old.faults }
-    ensures does { (used : Outside) × C.gave clock.old used.readings clock.new × DoesAnswer settings.now (A.state replica.old.archive) (A.state replica.new.archive) hex (R.remaining input.old.inner) (R.remaining input.new.inner) (W.contents output.old.inner) (W.contents output.new.inner) used result }
+    ensures read { IsErrOf result (HexFault.Serve ServeFault.Read)
+        → input.new.faults ≡ counted input.old.faults }
+    ensures write { IsErrOf result (HexFault.Serve ServeFault.Write)
+        → output.new.faults ≡ counted output.old.faults }
+    ensures does { (used : Environment) × C.gave clock.old used.readings clock.new
+        × DoesAnswer settings.now (A.state replica.old.archive) (A.state replica.new.archive) hex
+        (R.remaining input.old.inner) (R.remaining input.new.inner) (W.contents output.old.inner)
+        (W.contents output.new.inner) used result }
 {
     if hex {
         answer_in_hex(alloc, settings, replica, input, output, clock)
@@ -140,9 +162,14 @@ pub fn answer_at<A: Archive, R: Read, W: Write, C: Clock>(
     output: &mut Counted<W>,
     clock: &mut C,
 ) -> Result<(), HexFault>
-    ensures read { IsErrOf result (HexFault.Serve ServeFault.Read) → input.new.faults ≡ counted input.old.faults }
-    ensures write { IsErrOf result (HexFault.Serve ServeFault.Write) → output.new.faults ≡ counted output.old.faults }
-    ensures does { (used : Outside) × C.gave clock.old used.readings clock.new × AnswersAt settings.now (A.state replica.old.archive) (A.state replica.new.archive) hex now (R.remaining input.old.inner) (R.remaining input.new.inner) (W.contents output.old.inner) (W.contents output.new.inner) used result }
+    ensures read { IsErrOf result (HexFault.Serve ServeFault.Read)
+        → input.new.faults ≡ counted input.old.faults }
+    ensures write { IsErrOf result (HexFault.Serve ServeFault.Write)
+        → output.new.faults ≡ counted output.old.faults }
+    ensures does { (used : Environment) × C.gave clock.old used.readings clock.new
+        × AnswersAt settings.now (A.state replica.old.archive) (A.state replica.new.archive) hex now
+        (R.remaining input.old.inner) (R.remaining input.new.inner) (W.contents output.old.inner)
+        (W.contents output.new.inner) used result }
 {
     match now {
         None => answer_either(alloc, settings, replica, hex, input, output, clock),

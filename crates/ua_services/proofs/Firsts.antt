@@ -9,7 +9,7 @@ use Rattle.ua_binary.proofs.Combined.{bind_ok, ok_is, Found}
 use Rattle.ua_binary.proofs.Elements.{IsItemLawful}
 use Rattle.ua_binary.proofs.Lawful.{array_of_items}
 use Rattle.ua_binary.proofs.Counted.{SpellsOnly, IsFew, array_only}
-use Rattle.ua_services.specs.Unkept.{first_of}
+use Rattle.ua_services.specs.Unkept.{first_items_of}
 
 -- ---- the loop
 
@@ -52,21 +52,21 @@ taken_length most vs = omega (arith, length-take most vs)
 
 -- ---- the format
 
-pub first_lawful : {E A : Type 0} (most : ℕ) (told : BinaryFault → E) {f : Format E A} → IsItemLawful f → IsLawful (first_of most told f)
-unfolding first_of
+pub first_lawful : {E A : Type 0} (most : ℕ) (told : BinaryFault → E) {f : Format E A} → IsItemLawful f → IsLawful (first_items_of most told f)
+unfolding first_items_of
 first_lawful most told {f} p =
     let q : IsLawful (array told f) = array_of_items told p in
     record {
       found = λ bytes v rest e.
           let a = bind_ok ((array told f).read bytes) (λ a. Ok (take most a.0, a.1)) (v, rest) e in
           let x = q.found bytes a.0.0 a.0.1 a.1 in
-          subst (Found (first_of most told f) bytes) (ok_is (take most a.0.0, a.0.1) (v, rest) a.2) (x.0, x.1, (a.0.0, x.2, refl));
+          subst (Found (first_items_of most told f) bytes) (ok_is (take most a.0.0, a.0.1) (v, rest) a.2) (x.0, x.1, (a.0.0, x.2, refl));
       only = λ front v rest s. rw (q.only front s.0 rest s.1, s.2) refl;
       written = λ v h. (v, q.written v h.1, sym (take_all most v h.0));
     }
 
-pub first_only : {E A : Type 0} {P : A → Type 0} (most : ℕ) (told : BinaryFault → E) {f : Format E A} → SpellsOnly f P → SpellsOnly (first_of most told f) (IsFew P)
-unfolding first_of
+pub first_only : {E A : Type 0} {P : A → Type 0} (most : ℕ) (told : BinaryFault → E) {f : Format E A} → SpellsOnly f P → SpellsOnly (first_items_of most told f) (IsFew P)
+unfolding first_items_of
 first_only {P = P} most told {f} p = record {
   holds = λ bytes vs s.
       let few = (array_only told p).holds bytes s.0 s.1 in

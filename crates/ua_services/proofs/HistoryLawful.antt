@@ -10,7 +10,7 @@ use Rattle.ua_binary.proofs.Lawful.{u32_lawful, i32_lawful, boolean_lawful, tick
 use Rattle.ua_variant.specs.Raise.{variant_fault}
 use Rattle.ua_variant.specs.DataValue.{data_value}
 use Rattle.ua_services.specs.declared.history.HistoryReadDetails.TheVariants.{Other}
-use Rattle.ua_services.specs.Structure.{is_type, binary_body}
+use Rattle.ua_services.specs.Structure.{is_standard_type, binary_body}
 use Rattle.ua_services.specs.History.{raw_of, raw_fields, read_raw_modified_details, history_read_details, continuation_point, history_read_value_id, history_read_request, modification_info, History, Nothing, Raw, Modified, IsHistory, history_data, IsHistoryRead, history_read_result, history_read_response}
 use Rattle.ua_services.proofs.HistoryParts.{point_of, read_details_form, read_details_type, history_form, history_type}
 use Rattle.ua_services.proofs.Firsts.{first_lawful}
@@ -22,7 +22,7 @@ unfolding read_raw_modified_details
 raw_lawful = standing_lawful raw_of raw_fields (then_lawful boolean_lawful (then_lawful ticks_lawful (then_lawful ticks_lawful (then_lawful u32_lawful boolean_lawful))))
 
 read_form_lawful : (id : NodeId) → IsLawful (read_details_form id)
-read_form_lawful id = chosen_lawful (is_type 649 id) (standing_lawful _ _ (structure_lawful raw_lawful)) (standing_lawful (λ _. Other) (λ _. Absent) body_lawful)
+read_form_lawful id = chosen_lawful (is_standard_type 649 id) (standing_lawful _ _ (structure_lawful raw_lawful)) (standing_lawful (λ _. Other) (λ _. Absent) body_lawful)
 
 pub read_details_lawful : IsLawful history_read_details
 unfolding history_read_details
@@ -52,8 +52,8 @@ info_lawful = info_item.lawful
 
 history_form_lawful : (id : NodeId) → IsLawful (history_form id)
 history_form_lawful id =
-    chosen_lawful (is_type 658 id) (standing_lawful _ _ (structure_with_values_lawful data_values_lawful)) (
-    chosen_lawful (is_type 11227 id) (standing_lawful _ _ (structure_with_values_lawful (then_lawful data_values_lawful (raised_lawful variant_fault (many_lawful info_item)))))
+    chosen_lawful (is_standard_type 658 id) (standing_lawful _ _ (structure_with_values_lawful data_values_lawful)) (
+    chosen_lawful (is_standard_type 11227 id) (standing_lawful _ _ (structure_with_values_lawful (then_lawful data_values_lawful (raised_lawful variant_fault (many_lawful info_item)))))
     (standing_lawful (λ _. Nothing) (λ _. Absent) (raised_lawful variant_fault body_lawful)))
 
 form_fits : (v : History) → IsHistory v → node_id.Fits (history_type v) × (history_form (history_type v)).Fits v

@@ -9,7 +9,7 @@ use Rattle.ua_binary.proofs.Elements.{IsItemLawful, item, then_item}
 use Rattle.ua_binary.proofs.Lawful.{u32_lawful, i32_lawful, boolean_lawful, text_lawful, text_item, byte_string_lawful, byte_string_item, localized_lawful, status_item, node_id_lawful, body_lawful}
 use Rattle.ua_services.specs.Endpoints.{application_description, IsApplication, user_token_policy, access, IsAccess, endpoint_description, get_endpoints_request, get_endpoints_response}
 use Rattle.ua_services.specs.Unkept.{unkept}
-use Rattle.ua_services.specs.Structure.{is_type}
+use Rattle.ua_services.specs.Structure.{is_standard_type}
 use Rattle.ua_services.specs.Sessions.{user_identity, user_name_form, unknown_form, signature_data, signed_software_certificate, create_session_request, create_session_response, IsSessionMade, activate_session_request, activate_session_response, close_session_request}
 use Rattle.ua_services.proofs.SessionsParts.{no_signature, anonymous_identity_token, user_name_identity_token, anonymous_form, identity_form, identity_type}
 use Rattle.ua_services.proofs.EndpointsParts.{no_application}
@@ -75,7 +75,7 @@ unknown_lawful : (id : NodeId) → IsLawful (unknown_form id)
 unknown_lawful id = standing_lawful _ (λ _. Absent) body_lawful
 
 identity_form_lawful : (id : NodeId) → IsLawful (identity_form id)
-identity_form_lawful id = chosen_lawful (is_type 321 id) anonymous_lawful (chosen_lawful (is_type 324 id) user_name_lawful (unknown_lawful id))
+identity_form_lawful id = chosen_lawful (is_standard_type 321 id) anonymous_lawful (chosen_lawful (is_standard_type 324 id) user_name_lawful (unknown_lawful id))
 
 pub identity_lawful : IsLawful user_identity
 unfolding user_identity

@@ -5,7 +5,7 @@ use Rattle.ua_binary.specs.declared.values.NodeId.{NodeId}
 use Rattle.ua_binary.specs.declared.values.NodeId.TheVariants.{Numeric}
 use Rattle.ua_binary.specs.Format.{Format, ◌▸◌, chosen, standing_for}
 use Rattle.ua_binary.specs.Binary.{text, byte_string}
-use Rattle.ua_services.specs.Structure.{is_type, structure}
+use Rattle.ua_services.specs.Structure.{is_standard_type, structure}
 use Rattle.ua_session.specs.Users.{Claim, Anonymous, Named, Other}
 use Rattle.ua_services.specs.Unkept.{unkept, ◌▹◌}
 use Rattle.ua_services.specs.Sessions.{unknown_form, user_name_form}
@@ -28,4 +28,4 @@ anonymous_form = standing_for (λ _. Anonymous) (λ _. tt) (structure anonymous_
 
 -- what the type calls for: 321 an AnonymousIdentityToken, 324 a UserNameIdentityToken; each fills its body
 abbrev pub identity_form : NodeId → Format BinaryFault Claim
-identity_form id = chosen (is_type 321 id) anonymous_form (chosen (is_type 324 id) user_name_form (unknown_form id))
+identity_form id = chosen (is_standard_type 321 id) anonymous_form (chosen (is_standard_type 324 id) user_name_form (unknown_form id))

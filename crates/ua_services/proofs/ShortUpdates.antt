@@ -11,7 +11,7 @@ use Rattle.ua_variant.specs.Raise.{variant_fault}
 use Rattle.ua_variant.specs.Variant.{raise}
 use Rattle.ua_variant.specs.DataValue.{IsShortData}
 use Rattle.ua_variant.proofs.Short.{data_value_only}
-use Rattle.ua_services.specs.Structure.{is_type}
+use Rattle.ua_services.specs.Structure.{is_standard_type}
 use Rattle.ua_services.specs.Updates.{DataUpdate, Details, HasShortValues, update_data_details, update_data_form, delete_raw_modified_form, delete_at_time_form, history_update_details, history_update_request}
 use Rattle.ua_services.proofs.UpdatesParts.{other_form, details_form, details_type}
 use Rattle.ua_services.proofs.Firsts.{first_only}
@@ -40,9 +40,9 @@ else_only = record { holds = λ bytes v s. subst HasShortValues (sym s.2) tt }
 
 details_only : (id : NodeId) → SpellsOnly (details_form id) HasShortValues
 details_only id =
-    let last = chosen_only (is_type 691 id) {f = raise delete_at_time_form} {g = raise other_form} (raised_only variant_fault at_only) (raised_only variant_fault else_only) in
-    let raw = chosen_only (is_type 688 id) {f = raise delete_raw_modified_form} {g = chosen (is_type 691 id) (raise delete_at_time_form) (raise other_form)} (raised_only variant_fault raw_only) last in
-    chosen_only (is_type 682 id) {f = update_data_form} {g = chosen (is_type 688 id) (raise delete_raw_modified_form) (chosen (is_type 691 id) (raise delete_at_time_form) (raise other_form))} update_only raw
+    let last = chosen_only (is_standard_type 691 id) {f = raise delete_at_time_form} {g = raise other_form} (raised_only variant_fault at_only) (raised_only variant_fault else_only) in
+    let raw = chosen_only (is_standard_type 688 id) {f = raise delete_raw_modified_form} {g = chosen (is_standard_type 691 id) (raise delete_at_time_form) (raise other_form)} (raised_only variant_fault raw_only) last in
+    chosen_only (is_standard_type 682 id) {f = update_data_form} {g = chosen (is_standard_type 688 id) (raise delete_raw_modified_form) (chosen (is_standard_type 691 id) (raise delete_at_time_form) (raise other_form))} update_only raw
 
 request_only : SpellsOnly history_update_request (λ v. AllByRecursion HasShortValues v)
 unfolding history_update_request history_update_details

@@ -10,7 +10,7 @@ use Rattle.ua_binary.proofs.Lawful.{i32_lawful, boolean_lawful, ticks_lawful, ti
 use Rattle.ua_variant.specs.Raise.{variant_fault}
 use Rattle.ua_variant.specs.DataValue.{data_value}
 use Rattle.ua_variant.proofs.Masks.{data_value_lawful}
-use Rattle.ua_services.specs.Structure.{is_type}
+use Rattle.ua_services.specs.Structure.{is_standard_type}
 use Rattle.ua_services.specs.Updates.{Other, update_data_details, delete_raw_modified_details, delete_at_time_details, history_update_details, history_update_request, history_update_result, history_update_response}
 use Rattle.ua_services.proofs.UpdatesParts.{details_form, details_type}
 use Rattle.ua_services.proofs.Firsts.{first_lawful}
@@ -34,9 +34,9 @@ deletion_at_lawful = then_lawful node_id_lawful (first_lawful 1001 (λ e. e) tic
 
 details_form_lawful : (id : NodeId) → IsLawful (details_form id)
 details_form_lawful id =
-    chosen_lawful (is_type 682 id) (standing_lawful _ _ (structure_with_values_lawful data_update_lawful)) (
-    chosen_lawful (is_type 688 id) (raised_lawful variant_fault (standing_lawful _ _ (structure_lawful raw_deletion_lawful))) (
-    chosen_lawful (is_type 691 id) (raised_lawful variant_fault (standing_lawful _ _ (structure_lawful deletion_at_lawful)))
+    chosen_lawful (is_standard_type 682 id) (standing_lawful _ _ (structure_with_values_lawful data_update_lawful)) (
+    chosen_lawful (is_standard_type 688 id) (raised_lawful variant_fault (standing_lawful _ _ (structure_lawful raw_deletion_lawful))) (
+    chosen_lawful (is_standard_type 691 id) (raised_lawful variant_fault (standing_lawful _ _ (structure_lawful deletion_at_lawful)))
     (raised_lawful variant_fault (standing_lawful (λ _. Other) (λ _. Absent) body_lawful))))
 
 pub details_item : IsItemLawful history_update_details

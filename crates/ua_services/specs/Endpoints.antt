@@ -21,12 +21,18 @@ use Rattle.ua_services.specs.declared.endpoints.GetEndpointsRequest.{GetEndpoint
 
 -- ---- enumerations
 
+-- the number of an ApplicationType (Part 4, 7.4)
 abbrev pub application_number : ApplicationType → ℤ
-application_number v = elim v [ Server ↦ pos 0 | Client ↦ pos 1 | ClientAndServer ↦ pos 2 | DiscoveryServer ↦ pos 3 ]
+application_number v =
+    elim v [ Server ↦ pos 0 | Client ↦ pos 1 | ClientAndServer ↦ pos 2 | DiscoveryServer ↦ pos 3 ]
 
+-- the number of a MessageSecurityMode (Part 4, 7.20)
 abbrev pub mode_number : MessageSecurityMode → ℤ
-mode_number v = elim v [ mode.Invalid ↦ pos 0 | mode.None ↦ pos 1 | mode.Sign ↦ pos 2 | mode.SignAndEncrypt ↦ pos 3 ]
+mode_number v =
+    elim v
+    [ mode.Invalid ↦ pos 0 | mode.None ↦ pos 1 | mode.Sign ↦ pos 2 | mode.SignAndEncrypt ↦ pos 3 ]
 
+-- the number of a UserTokenType (Part 4, 7.43)
 abbrev pub token_number : UserTokenType → ℤ
 token_number v = elim v [ Anonymous ↦ pos 0 | UserName ↦ pos 1 ]
 
@@ -34,24 +40,36 @@ token_number v = elim v [ Anonymous ↦ pos 0 | UserName ↦ pos 1 ]
 
 -- URI, product URI, name, type, discovery URLs
 abbrev pub ApplicationFields : Type 0
-ApplicationFields = Option (List ℕ) × (Option (List ℕ) × (LocalizedText × (ℤ × List (Option (List ℕ)))))
+ApplicationFields =
+    Option (List ℕ) × (Option (List ℕ) × (LocalizedText × (ℤ × List (Option (List ℕ)))))
 
 abbrev pub application_fields : ApplicationDescription → ApplicationFields
-application_fields v = (v.application_uri, (v.product_uri, (v.application_name, (application_number v.application_type, v.discovery_urls))))
+application_fields v = (
+  v.application_uri,
+  (
+    v.product_uri,
+    (v.application_name, (application_number v.application_type, v.discovery_urls)),
+  ),
+)
 
 -- what has a spelling
 abbrev pub IsApplication : ApplicationFields → Type 0
-IsApplication v = IsText v.0 × IsText v.1.0 × IsLocalized v.1.1.0 × FitsSigned w32 v.1.1.1.0 × AreFew text v.1.1.1.1
+IsApplication (uri, (product, (name, (type, urls)))) =
+    IsText uri × IsText product × IsLocalized name × FitsSigned w32 type × AreFew text urls
 
 -- URI, product URI, name, type, URI of a gateway, URI of a discovery profile, discovery URLs
 unfoldable pub application_description : Format BinaryFault ApplicationFields
-application_description = fitting IsApplication (text ▸ text ▸ localized ▸ signed w32 ▸ unkept None text ▹ unkept None text ▹ many text)
+application_description =
+    fitting IsApplication
+    (text ▸ text ▸ localized ▸ signed w32 ▸ unkept None text ▹ unkept None text ▹ many text)
 
 abbrev pub IsShortTexts : List (Option (List ℕ)) → Type 0
 IsShortTexts texts = (length texts < 2 ^ 31) × All (λ v. IsCounted v) texts
 
 abbrev pub IsShortApplication : ApplicationDescription → Type 0
-IsShortApplication v = IsCounted v.application_uri × IsCounted v.product_uri × IsShortLocalized v.application_name × IsShortTexts v.discovery_urls
+IsShortApplication v =
+    IsCounted v.application_uri × IsCounted v.product_uri × IsShortLocalized v.application_name
+    × IsShortTexts v.discovery_urls
 
 -- ---- tokens
 
@@ -64,7 +82,9 @@ token_fields v = (v.policy_id, token_number v.token_type)
 
 -- policy id, type of the token, type of an issued one, URL of its issuer, security policy
 unfoldable pub user_token_policy : Format BinaryFault TokenFields
-user_token_policy = fitting (λ v. IsText v.0 × FitsSigned w32 v.1) (text ▸ signed w32 ◃ unkept None text ◃ unkept None text ◃ unkept None text)
+user_token_policy =
+    fitting (λ v. IsText v.0 × FitsSigned w32 v.1)
+    (text ▸ signed w32 ◃ unkept None text ◃ unkept None text ◃ unkept None text)
 
 abbrev pub IsShortToken : UserTokenPolicy → Type 0
 IsShortToken v = IsCounted v.policy_id
@@ -80,24 +100,38 @@ abbrev pub EndpointFields : Type 0
 EndpointFields = Option (List ℕ) × (ApplicationFields × AccessFields)
 
 abbrev pub access_fields : EndpointDescription → AccessFields
-access_fields v = (mode_number v.security_mode, (v.security_policy_uri, (map token_fields v.user_identity_tokens, (v.transport_profile_uri, v.security_level))))
+access_fields v = (
+  mode_number v.security_mode,
+  (
+    v.security_policy_uri,
+    (map token_fields v.user_identity_tokens, (v.transport_profile_uri, v.security_level)),
+  ),
+)
 
 abbrev pub endpoint_fields : EndpointDescription → EndpointFields
 endpoint_fields v = (v.endpoint_url, (application_fields v.server, access_fields v))
 
+-- what has a spelling
 abbrev pub IsAccess : AccessFields → Type 0
-IsAccess v = FitsSigned w32 v.0 × IsText v.1.0 × AreFew user_token_policy v.1.1.0 × IsText v.1.1.1.0 × (v.1.1.1.1 < 2 ^ 8)
+IsAccess (security, (policy, (tokens, (transport, level)))) =
+    FitsSigned w32 security × IsText policy × AreFew user_token_policy tokens × IsText transport
+    × (level < 2 ^ 8)
 
--- how an endpoint is reached: security mode, security policy, tokens, transport profile, security level
+-- how an endpoint is reached: security mode, security policy, tokens, transport profile, security
+-- level
 unfoldable pub access : Format BinaryFault AccessFields
 access = fitting IsAccess (signed w32 ▸ text ▸ many user_token_policy ▸ text ▸ byte)
 
 -- URL, the server, its certificate, and how it is reached
 unfoldable pub endpoint_description : Format BinaryFault EndpointFields
-endpoint_description = fitting (λ v. IsText v.0 × IsApplication v.1.0 × IsAccess v.1.1) (text ▸ application_description ▸ unkept None byte_string ▹ access)
+endpoint_description =
+    fitting (λ (url, (server, access)). IsText url × IsApplication server × IsAccess access)
+    (text ▸ application_description ▸ unkept None byte_string ▹ access)
 
 abbrev pub IsShortAccess : EndpointDescription → Type 0
-IsShortAccess v = IsCounted v.security_policy_uri × (length v.user_identity_tokens < 2 ^ 31) × All IsShortToken v.user_identity_tokens × IsCounted v.transport_profile_uri
+IsShortAccess v =
+    IsCounted v.security_policy_uri × (length v.user_identity_tokens < 2 ^ 31)
+    × All IsShortToken v.user_identity_tokens × IsCounted v.transport_profile_uri
 
 abbrev pub IsShortEndpoint : EndpointDescription → Type 0
 IsShortEndpoint v = IsCounted v.endpoint_url × IsShortApplication v.server × IsShortAccess v

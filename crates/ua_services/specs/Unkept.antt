@@ -30,8 +30,9 @@ abbrev pub AreFew : {E A : Type 0} → Format E A → List A → Type 0
 AreFew f vs = (length vs < 2 ^ 31) × AllByRecursion f.Fits vs
 
 -- the first so many items of an array, each of which is read
-unfoldable pub first_of : {E A : Type 0} → ℕ → (BinaryFault → E) → Format E A → Format E (List A)
-first_of most told f = record {
+unfoldable pub first_items_of : {E A : Type 0} → ℕ → (BinaryFault → E) → Format E A
+    → Format E (List A)
+first_items_of most told f = record {
   Spells = λ bytes vs. (all : List _) × (array told f).Spells bytes all × (vs ≡ take most all);
   read = λ bytes. (array told f).read bytes >>= λ a. Ok (take most a.0, a.1);
   canon = (array told f).canon;

@@ -99,7 +99,8 @@ pub fn read_read_request<'a>(
     alloc: Global,
     cursor: &mut Cursor<'a>,
 ) -> Result<ReadRequest<'a>, BinaryFault>
-    ensures { ReadsUnless BinaryFault.OutOfMemory read_asked result cursor.old cursor.new read_request.read }
+    ensures { ReadsUnless BinaryFault.OutOfMemory read_asked result cursor.old cursor.new
+        read_request.read }
 {
     let mut next = cursor.fork();
     let _max_age = next.eight()?;
@@ -112,7 +113,8 @@ pub fn read_read_request<'a>(
 #[tactic(auto, using(ua_binary::proofs::Kept::kept), unfolding(ua_binary::specs::Binary::array))]
 fn put_data_values_parts(out: &mut Vec<u8>, values: &[DataValue]) -> Result<(), BinaryFault>
     requires { AreShortValues values.now }
-    ensures puts { PutsPart BinaryFault.OutOfMemory result out.old.items out.new.items (data_values.canon values.now) }
+    ensures puts { PutsPart BinaryFault.OutOfMemory result out.old.items out.new.items
+        (data_values.canon values.now) }
     ensures spelled { IfOk result (λ _. AreFew data_value values.now) }
 {
     put_count(out, values.len())?;
@@ -125,7 +127,8 @@ fn put_data_values_parts(out: &mut Vec<u8>, values: &[DataValue]) -> Result<(), 
 /// An array of data values. Where memory runs out, the vector is as it was.
 pub(crate) fn put_data_values(out: &mut Vec<u8>, values: &[DataValue]) -> Result<(), BinaryFault>
     requires { AreShortValues values.now }
-    ensures puts { Puts BinaryFault.OutOfMemory result out.old.items out.new.items (data_values.canon values.now) }
+    ensures puts { Puts BinaryFault.OutOfMemory result out.old.items out.new.items
+        (data_values.canon values.now) }
     ensures spelled { IfOk result (λ _. AreFew data_value values.now) }
 {
     let len = out.len();
@@ -148,7 +151,8 @@ pub(crate) fn data_values_size(values: &[DataValue]) -> usize
 #[tactic(auto, using(ua_binary::proofs::Kept::kept), unfolding(crate::specs::Attributes::read_response))]
 fn put_read_parts(out: &mut Vec<u8>, values: &[DataValue]) -> Result<(), BinaryFault>
     requires { AreShortValues values.now }
-    ensures puts { PutsPart BinaryFault.OutOfMemory result out.old.items out.new.items (read_response.canon values.now) }
+    ensures puts { PutsPart BinaryFault.OutOfMemory result out.old.items out.new.items
+        (read_response.canon values.now) }
     ensures spelled { IfOk result (λ _. AreFew data_value values.now) }
 {
     put_data_values(out, values)?;
@@ -161,7 +165,8 @@ fn put_read_parts(out: &mut Vec<u8>, values: &[DataValue]) -> Result<(), BinaryF
 /// spelling.
 pub fn put_read_response(out: &mut Vec<u8>, values: &[DataValue]) -> Result<(), BinaryFault>
     requires { AreShortValues values.now }
-    ensures puts { Puts BinaryFault.OutOfMemory result out.old.items out.new.items (read_response.canon values.now) }
+    ensures puts { Puts BinaryFault.OutOfMemory result out.old.items out.new.items
+        (read_response.canon values.now) }
     ensures spelled { IfOk result (λ _. AreFew data_value values.now) }
 {
     let len = out.len();

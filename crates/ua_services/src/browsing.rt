@@ -125,7 +125,8 @@ fn read_direction(cursor: &mut Cursor<'_>) -> Result<Option<BrowseDirection>, Bi
 
 /// A view (Part 4, 7.45): its id, a moment and a version.
 fn skip_view(cursor: &mut Cursor<'_>) -> Result<(), BinaryFault>
-    ensures { Reads (λ x. x) result cursor.old cursor.new (unkept (Numeric 0 0, (record { 0 = pos 0 }, 0)) (node_id ▸ ticks ▸ unsigned w32)).read }
+    ensures { Reads (λ x. x) result cursor.old cursor.new
+        (unkept (Numeric 0 0, (record { 0 = pos 0 }, 0)) (node_id ▸ ticks ▸ unsigned w32)).read }
 {
     let mut next = cursor.fork();
     next.node_id()?;
@@ -177,7 +178,8 @@ pub fn read_browse_request<'a>(
     alloc: Global,
     cursor: &mut Cursor<'a>,
 ) -> Result<BrowseRequest<'a>, BinaryFault>
-    ensures { ReadsUnless BinaryFault.OutOfMemory (λ r. map browse_fields r.nodes.items) result cursor.old cursor.new browse_request.read }
+    ensures { ReadsUnless BinaryFault.OutOfMemory
+        (λ r. map browse_fields r.nodes.items) result cursor.old cursor.new browse_request.read }
 {
     let mut next = cursor.fork();
     skip_view(&mut next)?;
@@ -285,7 +287,8 @@ impl Encode for BrowseResult {
 #[tactic(auto, using(ua_binary::proofs::Kept::kept), unfolding(crate::specs::Browsing::browse_response))]
 fn put_browse_parts(out: &mut Vec<u8>, results: &[BrowseResult]) -> Result<(), BinaryFault>
     requires { AreShortBrowsed results.now }
-    ensures puts { PutsPart BinaryFault.OutOfMemory result out.old.items out.new.items (browse_response.canon (map browsed_fields results.now)) }
+    ensures puts { PutsPart BinaryFault.OutOfMemory result out.old.items out.new.items
+        (browse_response.canon (map browsed_fields results.now)) }
     ensures spelled { IfOk result (λ _. AreBrowsed results.now) }
 {
     put_many(out, results)?;
@@ -298,7 +301,8 @@ fn put_browse_parts(out: &mut Vec<u8>, results: &[BrowseResult]) -> Result<(), B
 /// has a spelling.
 pub fn put_browse_response(out: &mut Vec<u8>, results: &[BrowseResult]) -> Result<(), BinaryFault>
     requires { AreShortBrowsed results.now }
-    ensures puts { Puts BinaryFault.OutOfMemory result out.old.items out.new.items (browse_response.canon (map browsed_fields results.now)) }
+    ensures puts { Puts BinaryFault.OutOfMemory result out.old.items out.new.items
+        (browse_response.canon (map browsed_fields results.now)) }
     ensures spelled { IfOk result (λ _. AreBrowsed results.now) }
 {
     let len = out.len();

@@ -227,7 +227,8 @@ impl EndpointDescription {
     #[tactic(auto, using(ua_binary::proofs::Kept::kept, crate::proofs::Fits::fits), unfolding(crate::specs::Endpoints::access))]
     fn put_access_parts(&self, out: &mut Vec<u8>) -> Result<(), BinaryFault>
         requires { IsShortAccess self.now }
-        ensures puts { PutsPart BinaryFault.OutOfMemory result out.old.items out.new.items (access.canon (access_fields self.now)) }
+        ensures puts { PutsPart BinaryFault.OutOfMemory result out.old.items out.new.items
+            (access.canon (access_fields self.now)) }
         ensures spelled { IfOk result (λ _. IsAccess (access_fields self.now)) }
     {
         put_i32(out, self.security_mode.number())?;
@@ -241,7 +242,8 @@ impl EndpointDescription {
     /// The same; where memory runs out, the vector is as it was.
     fn put_access(&self, out: &mut Vec<u8>) -> Result<(), BinaryFault>
         requires { IsShortAccess self.now }
-        ensures puts { Puts BinaryFault.OutOfMemory result out.old.items out.new.items (access.canon (access_fields self.now)) }
+        ensures puts { Puts BinaryFault.OutOfMemory result out.old.items out.new.items
+            (access.canon (access_fields self.now)) }
         ensures spelled { IfOk result (λ _. IsAccess (access_fields self.now)) }
     {
         let len = out.len();
@@ -310,7 +312,8 @@ pub fn read_get_endpoints_request<'a>(
     alloc: Global,
     cursor: &mut Cursor<'a>,
 ) -> Result<GetEndpointsRequest<'a>, BinaryFault>
-    ensures { ReadsUnless BinaryFault.OutOfMemory endpoints_asked result cursor.old cursor.new get_endpoints_request.read }
+    ensures { ReadsUnless BinaryFault.OutOfMemory endpoints_asked result cursor.old cursor.new
+        get_endpoints_request.read }
 {
     let mut next = cursor.fork();
     let endpoint_url = next.text()?;
@@ -331,7 +334,8 @@ pub fn put_get_endpoints_response(
     endpoints: &[EndpointDescription],
 ) -> Result<(), BinaryFault>
     requires { AreShortEndpoints endpoints.now }
-    ensures puts { Puts BinaryFault.OutOfMemory result out.old.items out.new.items (get_endpoints_response.canon (map endpoint_fields endpoints.now)) }
+    ensures puts { Puts BinaryFault.OutOfMemory result out.old.items out.new.items
+        (get_endpoints_response.canon (map endpoint_fields endpoints.now)) }
     ensures spelled { IfOk result (λ _. AreEndpoints endpoints.now) }
 {
     put_many(out, endpoints)

@@ -4,7 +4,7 @@ ghost use Rattle.std.specs.Prelude.{◌≡◌, ◌≤◌, ◌++◌, ◌∷◌, [
 ghost use Rattle.ua_binary.specs.Format.{Reads, ReadsPart, ReadsUnless, items_at, with_fault};
 ghost use Rattle.ua_binary.specs.Binary.{count_at};
 ghost use Rattle.ua_binary.specs.declared.fault.BinaryFault.{BinaryFault};
-ghost use Rattle.ua_services.specs.Unkept.{first_items, first_of};
+ghost use Rattle.ua_services.specs.Unkept.{first_items, first_items_of};
 
 use std::alloc::Global;
 use ua_binary::{BinaryFault, Cursor, Decode, Fault};
@@ -17,7 +17,8 @@ pub(crate) const OF_A_HUNDRED: usize = 101;
 
 /// The count of an array, whose faults are told in another way.
 fn count_as<E: Fault>(cursor: &mut Cursor) -> Result<usize, E>
-    ensures { Reads (λ x. x) result cursor.old cursor.new (λ bytes. with_fault E.told (count_at bytes)) }
+    ensures { Reads (λ x. x) result cursor.old cursor.new
+        (λ bytes. with_fault E.told (count_at bytes)) }
 {
     match cursor.count() {
         Ok(count) => Ok(count),
@@ -39,7 +40,8 @@ fn with_room<E: Fault, T: Drop>(alloc: Global, room: usize) -> Result<Vec<T>, E>
 /// many; want of memory is told in another way.
 fn keep<E: Fault, T: Drop>(items: &mut Vec<T>, item: T, most: usize) -> Result<(), E>
     requires { length items.old.items ≤ most }
-    ensures { MatchResult result (λ _. items.new.items ≡ take most (items.old.items ++ item ∷ [])) (λ e. e ≡ E.told BinaryFault.OutOfMemory) }
+    ensures { MatchResult result (λ _. items.new.items ≡ take most (items.old.items ++ item ∷ []))
+        (λ e. e ≡ E.told BinaryFault.OutOfMemory) }
 {
     if items.len() >= most {
         return Ok(());
@@ -58,7 +60,9 @@ fn read_items<'a, T: Decode<'a> + Drop>(
     count: usize,
     most: usize,
 ) -> Result<Vec<T>, T::Fault>
-    ensures { ReadsPart (T.Fault.told BinaryFault.OutOfMemory) (λ v. map T.view v.items) result cursor.old cursor.new (λ bytes. first_items most (items_at T.format.read count bytes)) }
+    ensures { ReadsPart (T.Fault.told BinaryFault.OutOfMemory)
+        (λ v. map T.view v.items) result cursor.old cursor.new
+        (λ bytes. first_items most (items_at T.format.read count bytes)) }
 {
     let room = count.min(most).min(cursor.rest().len());
     let mut items = with_room::<T::Fault, T>(alloc, room)?;
@@ -72,13 +76,15 @@ fn read_items<'a, T: Decode<'a> + Drop>(
 /// An array, of which the first `most` items are kept: every item is read and judged, and those behind
 /// them are dropped. A refusal leaves the cursor where it was, and is that of the count, of the first
 /// item that is refused, also behind the kept ones, or `OutOfMemory`.
-#[tactic(auto, using(ua_binary::proofs::Lawful::array_read), unfolding(crate::specs::Unkept::first_of))]
+#[tactic(auto, using(ua_binary::proofs::Lawful::array_read), unfolding(crate::specs::Unkept::first_items_of))]
 pub(crate) fn read_first<'a, T: Decode<'a> + Drop>(
     alloc: Global,
     cursor: &mut Cursor<'a>,
     most: usize,
 ) -> Result<Vec<T>, T::Fault>
-    ensures { ReadsUnless (T.Fault.told BinaryFault.OutOfMemory) (λ v. map T.view v.items) result cursor.old cursor.new (first_of most T.Fault.told T.format).read }
+    ensures { ReadsUnless (T.Fault.told BinaryFault.OutOfMemory)
+        (λ v. map T.view v.items) result cursor.old cursor.new
+        (first_items_of most T.Fault.told T.format).read }
 {
     let mut next = cursor.fork();
     let count = count_as::<T::Fault>(&mut next)?;

@@ -121,7 +121,8 @@ fn read_raw_modified(cursor: &mut Cursor<'_>) -> Result<HistoryReadDetails, Bina
 
 /// The body of details of another type.
 fn skip_other(cursor: &mut Cursor<'_>) -> Result<HistoryReadDetails, BinaryFault>
-    ensures { Reads (λ x. x) result cursor.old cursor.new (standing_for (λ _. Other) (λ _. Absent) body).read }
+    ensures { Reads (λ x. x) result cursor.old cursor.new
+        (standing_for (λ _. Other) (λ _. Absent) body).read }
 {
     cursor.body()?;
     Ok(HistoryReadDetails::Other)
@@ -193,7 +194,8 @@ pub fn read_history_read_request<'a>(
     alloc: Global,
     cursor: &mut Cursor<'a>,
 ) -> Result<HistoryReadRequest<'a>, BinaryFault>
-    ensures { ReadsUnless BinaryFault.OutOfMemory history_asked result cursor.old cursor.new history_read_request.read }
+    ensures { ReadsUnless BinaryFault.OutOfMemory history_asked result cursor.old cursor.new
+        history_read_request.read }
 {
     let mut next = cursor.fork();
     let details = read_details(&mut next)?;
@@ -301,7 +303,8 @@ impl HistoryData {
 #[tactic(auto, using(ua_binary::proofs::Kept::kept))]
 fn put_body_front_parts(out: &mut Vec<u8>, type_id: u32, len: usize) -> Result<(), BinaryFault>
     requires { len < 2 ^ 31 }
-    ensures { PutsPart BinaryFault.OutOfMemory result out.old.items out.new.items (node_id.canon (Numeric 0 type_id) ++ 1 ∷ (signed w32).canon (pos len)) }
+    ensures { PutsPart BinaryFault.OutOfMemory result out.old.items out.new.items
+        (node_id.canon (Numeric 0 type_id) ++ 1 ∷ (signed w32).canon (pos len)) }
 {
     put_node_id(out, &NodeId::Numeric(0, type_id))?;
     put_u8(out, 1)?;
@@ -312,7 +315,8 @@ fn put_body_front_parts(out: &mut Vec<u8>, type_id: u32, len: usize) -> Result<(
 /// What stands before a binary body of so many bytes: the id of its type, its kind, and its length.
 fn put_body_front(out: &mut Vec<u8>, type_id: u32, len: usize) -> Result<(), BinaryFault>
     requires { len < 2 ^ 31 }
-    ensures { Puts BinaryFault.OutOfMemory result out.old.items out.new.items (node_id.canon (Numeric 0 type_id) ++ 1 ∷ (signed w32).canon (pos len)) }
+    ensures { Puts BinaryFault.OutOfMemory result out.old.items out.new.items
+        (node_id.canon (Numeric 0 type_id) ++ 1 ∷ (signed w32).canon (pos len)) }
 {
     let start = out.len();
     let put = put_body_front_parts(out, type_id, len);
@@ -322,7 +326,8 @@ fn put_body_front(out: &mut Vec<u8>, type_id: u32, len: usize) -> Result<(), Bin
 #[tactic(auto, using(ua_binary::proofs::Kept::kept, crate::proofs::Canons::canons))]
 fn put_history_data_parts(out: &mut Vec<u8>, v: &HistoryData) -> Result<(), BinaryFault>
     requires { IsShortHistory v.now }
-    ensures puts { PutsPart BinaryFault.OutOfMemory result out.old.items out.new.items (history_data.canon (history_of v.now)) }
+    ensures puts { PutsPart BinaryFault.OutOfMemory result out.old.items out.new.items
+        (history_data.canon (history_of v.now)) }
     ensures spelled { IfOk result (λ _. IsHistory (history_of v.now)) }
 {
     match v {
@@ -346,7 +351,8 @@ fn put_history_data_parts(out: &mut Vec<u8>, v: &HistoryData) -> Result<(), Bina
 /// What was read, in an extension object.
 fn put_history_data(out: &mut Vec<u8>, v: &HistoryData) -> Result<(), BinaryFault>
     requires { IsShortHistory v.now }
-    ensures puts { Puts BinaryFault.OutOfMemory result out.old.items out.new.items (history_data.canon (history_of v.now)) }
+    ensures puts { Puts BinaryFault.OutOfMemory result out.old.items out.new.items
+        (history_data.canon (history_of v.now)) }
     ensures spelled { IfOk result (λ _. IsHistory (history_of v.now)) }
 {
     let len = out.len();
@@ -360,7 +366,8 @@ fn put_history_read_result_parts(
     v: &HistoryReadResult,
 ) -> Result<(), BinaryFault>
     requires { IsShortHistoryRead v.now }
-    ensures puts { PutsPart BinaryFault.OutOfMemory result out.old.items out.new.items (history_read_result.canon (history_fields v.now)) }
+    ensures puts { PutsPart BinaryFault.OutOfMemory result out.old.items out.new.items
+        (history_read_result.canon (history_fields v.now)) }
     ensures spelled { IfOk result (λ _. IsHistoryRead (history_fields v.now)) }
 {
     put_status(out, v.status)?;
@@ -373,7 +380,8 @@ fn put_history_read_result_parts(
 /// what was read in an extension object. The one error is `OutOfMemory`, which leaves the vector as it was.
 pub fn put_history_read_result(out: &mut Vec<u8>, v: &HistoryReadResult) -> Result<(), BinaryFault>
     requires { IsShortHistoryRead v.now }
-    ensures puts { Puts BinaryFault.OutOfMemory result out.old.items out.new.items (history_read_result.canon (history_fields v.now)) }
+    ensures puts { Puts BinaryFault.OutOfMemory result out.old.items out.new.items
+        (history_read_result.canon (history_fields v.now)) }
     ensures spelled { IfOk result (λ _. IsHistoryRead (history_fields v.now)) }
 {
     let len = out.len();
@@ -387,7 +395,8 @@ fn put_history_results_parts(
     results: &[HistoryReadResult],
 ) -> Result<(), BinaryFault>
     requires { AreShortHistoryReads results.now }
-    ensures puts { PutsPart BinaryFault.OutOfMemory result out.old.items out.new.items ((array variant_fault history_read_result).canon (map history_fields results.now)) }
+    ensures puts { PutsPart BinaryFault.OutOfMemory result out.old.items out.new.items
+        ((array variant_fault history_read_result).canon (map history_fields results.now)) }
     ensures spelled { IfOk result (λ _. AreHistoryReads results.now) }
 {
     put_count(out, results.len())?;
@@ -400,7 +409,8 @@ fn put_history_results_parts(
 /// An array of results.
 fn put_history_results(out: &mut Vec<u8>, results: &[HistoryReadResult]) -> Result<(), BinaryFault>
     requires { AreShortHistoryReads results.now }
-    ensures puts { Puts BinaryFault.OutOfMemory result out.old.items out.new.items ((array variant_fault history_read_result).canon (map history_fields results.now)) }
+    ensures puts { Puts BinaryFault.OutOfMemory result out.old.items out.new.items
+        ((array variant_fault history_read_result).canon (map history_fields results.now)) }
     ensures spelled { IfOk result (λ _. AreHistoryReads results.now) }
 {
     let len = out.len();
@@ -414,7 +424,8 @@ fn put_history_read_parts(
     results: &[HistoryReadResult],
 ) -> Result<(), BinaryFault>
     requires { AreShortHistoryReads results.now }
-    ensures puts { PutsPart BinaryFault.OutOfMemory result out.old.items out.new.items (history_read_response.canon (map history_fields results.now)) }
+    ensures puts { PutsPart BinaryFault.OutOfMemory result out.old.items out.new.items
+        (history_read_response.canon (map history_fields results.now)) }
     ensures spelled { IfOk result (λ _. AreHistoryReads results.now) }
 {
     put_history_results(out, results)?;
@@ -430,7 +441,8 @@ pub fn put_history_read_response(
     results: &[HistoryReadResult],
 ) -> Result<(), BinaryFault>
     requires { AreShortHistoryReads results.now }
-    ensures puts { Puts BinaryFault.OutOfMemory result out.old.items out.new.items (history_read_response.canon (map history_fields results.now)) }
+    ensures puts { Puts BinaryFault.OutOfMemory result out.old.items out.new.items
+        (history_read_response.canon (map history_fields results.now)) }
     ensures spelled { IfOk result (λ _. AreHistoryReads results.now) }
 {
     let len = out.len();

@@ -14,7 +14,8 @@ use ua_session::Identity;
 
 /// The body of an AnonymousIdentityToken; the policy id isn't looked at.
 fn read_anonymous<'a>(cursor: &mut Cursor<'a>) -> Result<Identity<'a>, BinaryFault>
-    ensures { Reads claim_of result cursor.old cursor.new (standing_for (λ _. Anonymous) (λ _. tt) (structure (unkept None text))).read }
+    ensures { Reads claim_of result cursor.old cursor.new
+        (standing_for (λ _. Anonymous) (λ _. tt) (structure (unkept None text))).read }
 {
     let mut next = cursor.fork();
     let mut body = read_binary_body(&mut next)?;

@@ -79,7 +79,8 @@ pub fn read_create_session_request<'a>(
 #[tactic(auto, using(ua_binary::proofs::Kept::kept, crate::proofs::Fits::fits), unfolding(crate::specs::Sessions::create_session_response))]
 fn put_create_session_parts(out: &mut Vec<u8>, v: &CreateSessionResponse) -> Result<(), BinaryFault>
     requires { IsShortSession v.now }
-    ensures puts { PutsPart BinaryFault.OutOfMemory result out.old.items out.new.items (create_session_response.canon (session_made v.now)) }
+    ensures puts { PutsPart BinaryFault.OutOfMemory result out.old.items out.new.items
+        (create_session_response.canon (session_made v.now)) }
     ensures spelled { IfOk result (λ _. IsSessionMade (session_made v.now)) }
 {
     put_node_id(out, &v.session_id)?;
@@ -103,7 +104,8 @@ pub fn put_create_session_response(
     v: &CreateSessionResponse,
 ) -> Result<(), BinaryFault>
     requires { IsShortSession v.now }
-    ensures puts { Puts BinaryFault.OutOfMemory result out.old.items out.new.items (create_session_response.canon (session_made v.now)) }
+    ensures puts { Puts BinaryFault.OutOfMemory result out.old.items out.new.items
+        (create_session_response.canon (session_made v.now)) }
     ensures spelled { IfOk result (λ _. IsSessionMade (session_made v.now)) }
 {
     let len = out.len();
@@ -119,7 +121,8 @@ pub fn put_create_session_response(
 pub fn read_activate_session_request<'a>(
     cursor: &mut Cursor<'a>,
 ) -> Result<ActivateSessionRequest<'a>, BinaryFault>
-    ensures { Reads (λ r. claim_of r.user_identity) result cursor.old cursor.new activate_session_request.read }
+    ensures { Reads
+        (λ r. claim_of r.user_identity) result cursor.old cursor.new activate_session_request.read }
 {
     let mut next = cursor.fork();
     skip_signature(&mut next)?;
@@ -133,7 +136,8 @@ pub fn read_activate_session_request<'a>(
 
 #[tactic(auto, using(ua_binary::proofs::Kept::kept), unfolding(crate::specs::Sessions::activate_session_response))]
 fn put_activate_session_parts(out: &mut Vec<u8>) -> Result<(), BinaryFault>
-    ensures { PutsPart BinaryFault.OutOfMemory result out.old.items out.new.items (activate_session_response.canon tt) }
+    ensures { PutsPart BinaryFault.OutOfMemory result out.old.items out.new.items
+        (activate_session_response.canon tt) }
 {
     put_bytes(out, None)?;
     put_null_array(out)?;
@@ -144,7 +148,8 @@ fn put_activate_session_parts(out: &mut Vec<u8>) -> Result<(), BinaryFault>
 /// Writes an ActivateSession response (Part 4, 5.7.3) behind its header: a null nonce, and null arrays
 /// of results and of diagnostics. Its one error is `OutOfMemory`, and then the vector is as it was.
 pub fn put_activate_session_response(out: &mut Vec<u8>) -> Result<(), BinaryFault>
-    ensures { Puts BinaryFault.OutOfMemory result out.old.items out.new.items (activate_session_response.canon tt) }
+    ensures { Puts BinaryFault.OutOfMemory result out.old.items out.new.items
+        (activate_session_response.canon tt) }
 {
     let len = out.len();
     let put = put_activate_session_parts(out);
@@ -157,7 +162,8 @@ pub fn put_activate_session_response(out: &mut Vec<u8>) -> Result<(), BinaryFaul
 pub fn read_close_session_request(
     cursor: &mut Cursor<'_>,
 ) -> Result<CloseSessionRequest, BinaryFault>
-    ensures { Reads (λ r. r.delete_subscriptions) result cursor.old cursor.new close_session_request.read }
+    ensures { Reads
+        (λ r. r.delete_subscriptions) result cursor.old cursor.new close_session_request.read }
 {
     Ok(CloseSessionRequest {
         delete_subscriptions: cursor.boolean()?,

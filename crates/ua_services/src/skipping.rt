@@ -25,7 +25,8 @@ pub(crate) fn skip_texts(cursor: &mut Cursor<'_>) -> Result<(), BinaryFault>
 
 /// A certificate and its signature.
 fn skip_certificate(cursor: &mut Cursor<'_>) -> Result<(), BinaryFault>
-    ensures { Reads (λ x. x) result cursor.old cursor.new (unkept (None, None) signed_software_certificate).read }
+    ensures { Reads (λ x. x) result cursor.old cursor.new
+        (unkept (None, None) signed_software_certificate).read }
 {
     let mut next = cursor.fork();
     next.bytes()?;
@@ -37,7 +38,8 @@ fn skip_certificate(cursor: &mut Cursor<'_>) -> Result<(), BinaryFault>
 /// An array of software certificates (Part 4, 7.38).
 #[tactic(auto, using(ua_binary::proofs::Lawful::array_read, crate::proofs::Skipped::skipped))]
 pub(crate) fn skip_certificates(cursor: &mut Cursor<'_>) -> Result<(), BinaryFault>
-    ensures { Reads (λ x. x) result cursor.old cursor.new (unkept_array signed_software_certificate).read }
+    ensures { Reads (λ x. x) result cursor.old cursor.new
+        (unkept_array signed_software_certificate).read }
 {
     let mut next = cursor.fork();
     let count = next.count()?;
@@ -62,7 +64,14 @@ pub(crate) fn skip_signature(cursor: &mut Cursor<'_>) -> Result<(), BinaryFault>
 /// The description of an application (Part 4, 7.2).
 #[tactic(auto, unfolding(crate::specs::Endpoints::application_description))]
 pub(crate) fn skip_application(cursor: &mut Cursor<'_>) -> Result<(), BinaryFault>
-    ensures { Reads (λ x. x) result cursor.old cursor.new (unkept (None, (None, (record { locale = None; text = None }, (pos 0, [])))) application_description).read }
+    ensures { Reads (λ x. x) result cursor.old cursor.new
+        (unkept (
+          None,
+          (
+            None,
+            (record { locale = None; text = None }, (pos 0, [])),
+          ),
+        ) application_description).read }
 {
     let mut next = cursor.fork();
     next.text()?;

@@ -3,13 +3,13 @@
 ghost use Rattle.std.specs.Prelude.{◌≡◌};
 ghost use Rattle.ua_binary.specs.Format.{Reads};
 ghost use Rattle.ua_binary.specs.Binary.{node_of};
-ghost use Rattle.ua_services.specs.Structure.{binary_body, is_type};
+ghost use Rattle.ua_services.specs.Structure.{binary_body, is_standard_type};
 
 use ua_binary::{BinaryFault, Cursor, NodeIdRef};
 
 /// Whether a type is the one with this id in namespace 0.
 pub(crate) fn is_type(id: u32, type_id: &NodeIdRef<'_>) -> bool
-    ensures { result ≡ is_type id (node_of type_id.now) }
+    ensures { result ≡ is_standard_type id (node_of type_id.now) }
 {
     match type_id {
         NodeIdRef::Numeric(namespace, found) => *namespace == 0 && *found == id,

@@ -79,7 +79,8 @@ fn read_update_data<'a>(
     alloc: Global,
     cursor: &mut Cursor<'a>,
 ) -> Result<HistoryUpdateDetails<'a>, VariantFault>
-    ensures { ReadsUnless VariantFault.OutOfMemory details_of result cursor.old cursor.new update_data_form.read }
+    ensures { ReadsUnless VariantFault.OutOfMemory details_of result cursor.old cursor.new
+        update_data_form.read }
 {
     let mut next = cursor.fork();
     let mut body = read_binary_body(&mut next)?;
@@ -128,7 +129,8 @@ fn read_delete_at_time<'a>(
     alloc: Global,
     cursor: &mut Cursor<'a>,
 ) -> Result<HistoryUpdateDetails<'a>, BinaryFault>
-    ensures { ReadsUnless BinaryFault.OutOfMemory details_of result cursor.old cursor.new delete_at_time_form.read }
+    ensures { ReadsUnless BinaryFault.OutOfMemory details_of result cursor.old cursor.new
+        delete_at_time_form.read }
 {
     let mut next = cursor.fork();
     let mut body = read_binary_body(&mut next)?;
@@ -143,7 +145,8 @@ fn read_delete_at_time<'a>(
 
 /// The body of details of another type.
 fn skip_other<'a>(cursor: &mut Cursor<'a>) -> Result<HistoryUpdateDetails<'a>, BinaryFault>
-    ensures { Reads details_of result cursor.old cursor.new (standing_for (λ _. Other) (λ _. Absent) body).read }
+    ensures { Reads details_of result cursor.old cursor.new
+        (standing_for (λ _. Other) (λ _. Absent) body).read }
 {
     cursor.body()?;
     Ok(HistoryUpdateDetails::Other)
@@ -190,7 +193,9 @@ pub fn read_history_update_request<'a>(
     alloc: Global,
     cursor: &mut Cursor<'a>,
 ) -> Result<HistoryUpdateRequest<'a>, VariantFault>
-    ensures reads { ReadsUnless VariantFault.OutOfMemory (λ r. map details_of r.details.items) result cursor.old cursor.new history_update_request.read }
+    ensures reads { ReadsUnless VariantFault.OutOfMemory
+        (λ r. map details_of r.details.items) result cursor.old cursor.new
+        history_update_request.read }
     ensures short { IfOk result (λ r. AllByRecursion HasShortValues (map details_of r.details.items)) }
 {
     let details = read_first(alloc, cursor, OF_A_HUNDRED)?;
@@ -239,7 +244,8 @@ fn put_history_update_parts(
     results: &[HistoryUpdateResult],
 ) -> Result<(), BinaryFault>
     requires { AreShortUpdates results.now }
-    ensures puts { PutsPart BinaryFault.OutOfMemory result out.old.items out.new.items (history_update_response.canon (map update_fields results.now)) }
+    ensures puts { PutsPart BinaryFault.OutOfMemory result out.old.items out.new.items
+        (history_update_response.canon (map update_fields results.now)) }
     ensures spelled { IfOk result (λ _. AreUpdated results.now) }
 {
     put_many(out, results)?;
@@ -255,7 +261,8 @@ pub fn put_history_update_response(
     results: &[HistoryUpdateResult],
 ) -> Result<(), BinaryFault>
     requires { AreShortUpdates results.now }
-    ensures puts { Puts BinaryFault.OutOfMemory result out.old.items out.new.items (history_update_response.canon (map update_fields results.now)) }
+    ensures puts { Puts BinaryFault.OutOfMemory result out.old.items out.new.items
+        (history_update_response.canon (map update_fields results.now)) }
     ensures spelled { IfOk result (λ _. AreUpdated results.now) }
 {
     let len = out.len();

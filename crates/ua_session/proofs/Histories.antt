@@ -13,9 +13,9 @@ use Rattle.ua_session.specs.declared.identity.User.{User}
 use Rattle.ua_session.specs.Users.{Allowed, Claim, Anonymous, Named as ByName, Other, judgement_of_name, judgement}
 use Rattle.ua_session.proofs.UsersParts.{has_name, nobody, unless_encrypted, judgement_of_user}
 use Rattle.ua_binary.specs.Format.{◌>>=◌, IsOrStarved}
-use Rattle.ua_session.specs.Sessions.{State, fresh, session_id_of, token_of, is_named, with_new, with_user, without_session}
+use Rattle.ua_session.specs.Sessions.{SessionsState, no_sessions, session_id_of, token_of, is_named, with_new, with_user, without_session}
 use Rattle.ua_session.proofs.SessionsParts.{is_full}
-use Rattle.ua_session.specs.History.{Deed, Made, Activated, Closed, made_count, closed_count, was_closed, last_user, IsAlive, session_of, IsValid, HasRoom, Event, Create, Activate, Close, Ask, Does, Runs, after, IsAnswered, AreAnswered}
+use Rattle.ua_session.specs.History.{Deed, Made, Activated, Closed, made_count, closed_count, was_closed, last_user, IsAlive, session_of, IsValid, HasRoom, SessionCall, Create, Activate, Close, Ask, DoesSessionCall, RunsSessions, deeds_after, IsAnswered, AreAnswered}
 use Rattle.ua_session.proofs.Alive.{at, changed, Apart, at_same-with_user, at_other-with_user, at_same-without_session, at_other-without_session, length-without_session, length-with_user, apart-with_user, apart-without_session, at-append, apart-append}
 
 -- a session that is held under a token's number
@@ -25,7 +25,7 @@ pub record Holds (past : List Deed) (n : ℕ) (session : Session) : Type 0 where
   pub user : session.user ≡ last_user (n / 2) past
 
 -- what is held, in terms of what happened
-pub record Represents (past : List Deed) (state : State) : Type 0 where
+pub record Represents (past : List Deed) (state : SessionsState) : Type 0 where
   pub made : state.made ≡ made_count past
   pub count : length state.alive + closed_count past ≡ made_count past
   pub apart : Apart state.alive
@@ -33,7 +33,7 @@ pub record Represents (past : List Deed) (state : State) : Type 0 where
   pub held : (k : ℕ) → IsAlive k past → IsSome (at (2 * k + 1) state.alive)
   pub unmade : (k : ℕ) → made_count past < k → (was_closed k past ≡ false) × (last_user k past ≡ None)
 
-pub represents-fresh : Represents [] fresh
+pub represents-fresh : Represents [] no_sessions
 represents-fresh = record {
   made = refl;
   count = refl;
@@ -45,7 +45,7 @@ represents-fresh = record {
 
 -- ---- a session is made
 
-made-fresh : (past : List Deed) (state : State) → Represents past state → at (2 * (state.made + 1) + 1) state.alive ≡ None
+made-fresh : (past : List Deed) (state : SessionsState) → Represents past state → at (2 * (state.made + 1) + 1) state.alive ≡ None
 made-fresh past state is = by (at (2 * (state.made + 1) + 1) state.alive) refl
   where
     by : (o : Option Session) → at (2 * (state.made + 1) + 1) state.alive ≡ o → at (2 * (state.made + 1) + 1) state.alive ≡ None
@@ -57,7 +57,7 @@ made-fresh past state is = by (at (2 * (state.made + 1) + 1) state.alive) refl
         absurd (omega arith)
 
 -- the last of the sessions is the new one
-holds-made : (past : List Deed) (state : State) (n : ℕ) (session : Session) → Represents past state → (o : Option Session) (b : Bool) → at n state.alive ≡ o → eqb n (2 * (state.made + 1) + 1) ≡ b
+holds-made : (past : List Deed) (state : SessionsState) (n : ℕ) (session : Session) → Represents past state → (o : Option Session) (b : Bool) → at n state.alive ≡ o → eqb n (2 * (state.made + 1) + 1) ≡ b
     → (let new : Session = record { token = 2 * (state.made + 1) + 1; user = None } in option_or o (cond b (Some new) None)) ≡ Some session → Holds (Made ∷ past) n session
 holds-made past state n session is (Some one) b at_is test found =
     let holds = is.holds n session (at_is ∙ found) in
@@ -78,7 +78,7 @@ some_right : {A : Type 0} (o : Option A) (x : A) → IsSome (option_or o (Some x
 some_right (Some y) x = refl
 some_right None x = refl
 
-held-made : (past : List Deed) (state : State) (k : ℕ) → Represents past state → IsAlive k (Made ∷ past) → IsSome (at (2 * k + 1) (with_new state).alive)
+held-made : (past : List Deed) (state : SessionsState) (k : ℕ) → Represents past state → IsAlive k (Made ∷ past) → IsSome (at (2 * k + 1) (with_new state).alive)
 held-made past state k is alive =
     let new : Session = record { token = 2 * (state.made + 1) + 1; user = None } in
     let made = is.made in
@@ -89,7 +89,7 @@ held-made past state k is alive =
       | inr ne ↦ some_left (at (2 * k + 1) state.alive) _ (is.held k (record { first = alive.first; made = omega (arith, alive.made); unclosed = alive.unclosed }))
     ])
 
-represents-made : (past : List Deed) (state : State) → Represents past state → Represents (Made ∷ past) (with_new state)
+represents-made : (past : List Deed) (state : SessionsState) → Represents past state → Represents (Made ∷ past) (with_new state)
 represents-made past state is =
     let new : Session = record { token = 2 * (state.made + 1) + 1; user = None } in
     record {
@@ -110,7 +110,7 @@ halves past n m s t one other ne same =
     let b = other.odd in
     ne (b ∙ ap (λ h. 2 * h + 1) (sym same) ∙ sym a)
 
-represents-activated : (past : List Deed) (state : State) (n : ℕ) (user : List ℕ) (one : Session) → Represents past state → at n state.alive ≡ Some one
+represents-activated : (past : List Deed) (state : SessionsState) (n : ℕ) (user : List ℕ) (one : Session) → Represents past state → at n state.alive ≡ Some one
     → Represents (Activated (n / 2) user ∷ past) (record state { alive = with_user (Numeric 1 n) user state.alive })
 represents-activated past state n user one is there =
     let held_one = is.holds n one there in
@@ -154,7 +154,7 @@ represents-activated past state n user one is there =
 
 -- ---- a session is closed
 
-represents-closed : (past : List Deed) (state : State) (n : ℕ) (one : Session) → Represents past state → at n state.alive ≡ Some one
+represents-closed : (past : List Deed) (state : SessionsState) (n : ℕ) (one : Session) → Represents past state → at n state.alive ≡ Some one
     → Represents (Closed (n / 2) ∷ past) (record state { alive = without_session (Numeric 1 n) state.alive })
 represents-closed past state n one is there =
     let held_one = is.holds n one there in
@@ -195,12 +195,12 @@ none_found [] = refl
 none_found (session ∷ alive) = none_found alive
 
 -- the token that names a session that is held
-record Names (past : List Deed) (state : State) (token : NodeId) (session : Session) : Type 0 where
+record Names (past : List Deed) (state : SessionsState) (token : NodeId) (session : Session) : Type 0 where
   is_token : token ≡ token_of (session_of token)
   there : at (2 * session_of token + 1) state.alive ≡ Some session
   holds : Holds past (2 * session_of token + 1) session
 
-names : (past : List Deed) (state : State) (token : NodeId) (session : Session) → Represents past state → find (is_named token) state.alive ≡ Some session → Names past state token session
+names : (past : List Deed) (state : SessionsState) (token : NodeId) (session : Session) → Represents past state → find (is_named token) state.alive ≡ Some session → Names past state token session
 names past state (Numeric namespace n) session is found = by (eqb namespace 1) refl
   where
     by : (b : Bool) → eqb namespace 1 ≡ b → Names past state (Numeric namespace n) session
@@ -222,7 +222,7 @@ names past state (Opaque namespace id) session is found = let none = none_found 
 pub half : (k : ℕ) → (2 * k + 1) / 2 ≡ k
 half k = omega arith
 
-pub valid : (past : List Deed) (state : State) (token : NodeId) (session : Session) → Represents past state → find (is_named token) state.alive ≡ Some session
+pub valid : (past : List Deed) (state : SessionsState) (token : NodeId) (session : Session) → Represents past state → find (is_named token) state.alive ≡ Some session
     → IsValid token past × (session.user ≡ last_user (session_of token) past)
 valid past state token session is found =
     let named = names past state token session is found in
@@ -231,7 +231,7 @@ valid past state token session is found =
     let both = subst P (half k) (named.holds.is_alive, named.holds.user) in
     (record { is_token = named.is_token; is_alive = both.0 }, both.1)
 
-pub invalid : (past : List Deed) (state : State) (token : NodeId) → Represents past state → find (is_named token) state.alive ≡ None → ¬ IsValid token past
+pub invalid : (past : List Deed) (state : SessionsState) (token : NodeId) → Represents past state → find (is_named token) state.alive ≡ None → ¬ IsValid token past
 invalid past state token is gone one =
     let P : NodeId → Type 0 = λ t. find (is_named t) state.alive ≡ None in
     let none : at (2 * session_of token + 1) state.alive ≡ None = subst P one.is_token gone in
@@ -271,7 +271,7 @@ judged-judges allowed Other = refl
 judged-fault : (allowed : Allowed) (claim : Claim) (fault : SessionFault) → judgement allowed claim ≡ Err fault → of_identity fault ≡ true
 judged-fault allowed claim fault is = sym (ap is_judgement is) ∙ judged-judges allowed claim
 
-has_room : (past : List Deed) (old : State) → Represents past old → is_full old ≡ false → HasRoom past
+has_room : (past : List Deed) (old : SessionsState) → Represents past old → is_full old ≡ false → HasRoom past
 has_room past old is full =
     let parts = or_parts (leb 16 (length old.alive)) (leb 1000000 old.made) full in
     let few = leb-false 16 (length old.alive) parts.0 in
@@ -280,7 +280,7 @@ has_room past old is full =
     let count = is.count in
     record { to_make = omega arith; to_hold = omega arith }
 
-no_room : (past : List Deed) (old : State) → Represents past old → is_full old ≡ true → ¬ HasRoom past
+no_room : (past : List Deed) (old : SessionsState) → Represents past old → is_full old ≡ true → ¬ HasRoom past
 no_room past old is full room =
     let made = is.made in
     let count = is.count in
@@ -289,7 +289,7 @@ no_room past old is full room =
       | inr last ↦ (let h = leb-true 1000000 old.made last in let a = room.to_make in omega arith)
     ]
 
-creating : (past : List Deed) (old : State) (full : Bool) (result : Result (NodeId × NodeId) SessionFault) → Represents past old → is_full old ≡ full
+creating : (past : List Deed) (old : SessionsState) (full : Bool) (result : Result (NodeId × NodeId) SessionFault) → Represents past old → is_full old ≡ full
     → IsOrStarved OutOfMemory (cond full (Err TooMany) (Ok (session_id_of (old.made + 1), token_of (old.made + 1)))) result → IsAnswered past (Create result)
 creating past old true (Ok given) is full answer = absurd cc
 creating past old true (Err TooMany) is full answer = no_room past old is full
@@ -298,7 +298,7 @@ creating past old false (Ok given) is full answer = (has_room past old is full, 
 creating past old false (Err OutOfMemory) is full answer = has_room past old is full
 creating past old false (Err fault) is full answer = cc
 
-activating : (past : List Deed) (old : State) (token : NodeId) (allowed : Allowed) (claim : Claim) (o : Option Session) (j : Result (List ℕ) SessionFault) (result : Result (List ℕ) SessionFault)
+activating : (past : List Deed) (old : SessionsState) (token : NodeId) (allowed : Allowed) (claim : Claim) (o : Option Session) (j : Result (List ℕ) SessionFault) (result : Result (List ℕ) SessionFault)
     → Represents past old → find (is_named token) old.alive ≡ o → judgement allowed claim ≡ j → IsOrStarved OutOfMemory (ok_or o IdInvalid >>= λ _. j) result → IsAnswered past (Activate token allowed claim result)
 activating past old token allowed claim None j (Ok user) is found judges answer = absurd cc
 activating past old token allowed claim None j (Err IdInvalid) is found judges answer = invalid past old token is found
@@ -311,7 +311,7 @@ activating past old token allowed claim (Some session) (Err cause) (Err IdInvali
 activating past old token allowed claim (Some session) (Err cause) (Err OutOfMemory) is found judges answer = let answer_of = judged-fault allowed claim cause judges in absurd cc
 activating past old token allowed claim (Some session) (Err cause) (Err fault) is found judges answer = ((valid past old token session is found).0, judges ∙ sym answer)
 
-closing : (past : List Deed) (old : State) (token : NodeId) (o : Option Session) (result : Result (Unit {0}) SessionFault)
+closing : (past : List Deed) (old : SessionsState) (token : NodeId) (o : Option Session) (result : Result (Unit {0}) SessionFault)
     → Represents past old → find (is_named token) old.alive ≡ o → result ≡ (ok_or o IdInvalid >>= λ _. Ok tt) → IsAnswered past (Close token result)
 closing past old token None (Ok done) is found answer = absurd cc
 closing past old token None (Err IdInvalid) is found answer = invalid past old token is found
@@ -327,7 +327,7 @@ asked past token None (Err fault) is last answer = absurd cc
 asked past token (Some user) (Ok name) is last answer = (is, sym last ∙ sym (ap result_ok answer))
 asked past token (Some user) (Err fault) is last answer = absurd cc
 
-asking : (past : List Deed) (old : State) (token : NodeId) (o : Option Session) (result : Result (List ℕ) SessionFault)
+asking : (past : List Deed) (old : SessionsState) (token : NodeId) (o : Option Session) (result : Result (List ℕ) SessionFault)
     → Represents past old → find (is_named token) old.alive ≡ o → result ≡ (ok_or o IdInvalid >>= λ session. ok_or session.user NotActivated) → IsAnswered past (Ask token result)
 asking past old token None (Ok user) is found answer = absurd cc
 asking past old token None (Err IdInvalid) is found answer = invalid past old token is found
@@ -338,7 +338,7 @@ asking past old token (Some session) result is found answer =
 
 -- ---- what a call leaves
 
-leaves-activated : (past : List Deed) (old : State) (token : NodeId) (user : List ℕ) (session : Session) → Represents past old → find (is_named token) old.alive ≡ Some session
+leaves-activated : (past : List Deed) (old : SessionsState) (token : NodeId) (user : List ℕ) (session : Session) → Represents past old → find (is_named token) old.alive ≡ Some session
     → Represents (Activated (session_of token) user ∷ past) (record old { alive = with_user token user old.alive })
 leaves-activated past old token user session is found =
     let named = names past old token session is found in
@@ -346,7 +346,7 @@ leaves-activated past old token user session is found =
     let Q : ℕ → Type 0 = λ k. Represents (Activated k user ∷ past) (record old { alive = with_user (token_of (session_of token)) user old.alive }) in
     subst P (sym named.is_token) (subst Q (half (session_of token)) (represents-activated past old (2 * session_of token + 1) user session is named.there))
 
-leaves-closed : (past : List Deed) (old : State) (token : NodeId) (session : Session) → Represents past old → find (is_named token) old.alive ≡ Some session
+leaves-closed : (past : List Deed) (old : SessionsState) (token : NodeId) (session : Session) → Represents past old → find (is_named token) old.alive ≡ Some session
     → Represents (Closed (session_of token) ∷ past) (record old { alive = without_session token old.alive })
 leaves-closed past old token session is found =
     let named = names past old token session is found in
@@ -354,26 +354,26 @@ leaves-closed past old token session is found =
     let Q : ℕ → Type 0 = λ k. Represents (Closed k ∷ past) (record old { alive = without_session (token_of (session_of token)) old.alive }) in
     subst P (sym named.is_token) (subst Q (half (session_of token)) (represents-closed past old (2 * session_of token + 1) session is named.there))
 
-goes-activate : (past : List Deed) (old : State) (token : NodeId) (user : List ℕ) (o : Option Session) (j : Result (List ℕ) SessionFault) → Represents past old → find (is_named token) old.alive ≡ o → IsOrStarved OutOfMemory (ok_or o IdInvalid >>= λ _. j) (Ok user)
+goes-activate : (past : List Deed) (old : SessionsState) (token : NodeId) (user : List ℕ) (o : Option Session) (j : Result (List ℕ) SessionFault) → Represents past old → find (is_named token) old.alive ≡ o → IsOrStarved OutOfMemory (ok_or o IdInvalid >>= λ _. j) (Ok user)
     → Represents (Activated (session_of token) user ∷ past) (record old { alive = with_user token user old.alive })
 goes-activate past old token user None j is found answer = absurd cc
 goes-activate past old token user (Some session) j is found answer = leaves-activated past old token user session is found
 
-goes-close : (past : List Deed) (old : State) (token : NodeId) (done : Unit {0}) (o : Option Session) → Represents past old → find (is_named token) old.alive ≡ o
+goes-close : (past : List Deed) (old : SessionsState) (token : NodeId) (done : Unit {0}) (o : Option Session) → Represents past old → find (is_named token) old.alive ≡ o
     → (let r : Result (Unit {0}) SessionFault = Ok done in r ≡ (ok_or o IdInvalid >>= λ _. Ok tt)) → Represents (Closed (session_of token) ∷ past) (record old { alive = without_session token old.alive })
 goes-close past old token done None is found answer = absurd cc
 goes-close past old token done (Some session) is found answer = leaves-closed past old token session is found
 
-represents-along : (past : List Deed) (state new : State) → new ≡ state → Represents past state → Represents past new
-represents-along past state new same is = let P : State → Type 0 = Represents past in subst P (sym same) is
+represents-along : (past : List Deed) (state new : SessionsState) → new ≡ state → Represents past state → Represents past new
+represents-along past state new same is = let P : SessionsState → Type 0 = Represents past in subst P (sym same) is
 
-pub answering : (past : List Deed) (old new : State) (event : Event) → Represents past old → Does old event new → IsAnswered past event
+pub answering : (past : List Deed) (old new : SessionsState) (event : SessionCall) → Represents past old → DoesSessionCall old event new → IsAnswered past event
 answering past old new (Create result) is does = creating past old (is_full old) result is refl does.answer
 answering past old new (Activate token allowed claim result) is does = activating past old token allowed claim (find (is_named token) old.alive) (judgement allowed claim) result is refl refl does.answer
 answering past old new (Close token result) is does = closing past old token (find (is_named token) old.alive) result is refl does.answer
 answering past old new (Ask token result) is does = asking past old token (find (is_named token) old.alive) result is refl does.0
 
-pub leaving : (past : List Deed) (old new : State) (event : Event) → Represents past old → Does old event new → Represents (after past event) new
+pub leaving : (past : List Deed) (old new : SessionsState) (event : SessionCall) → Represents past old → DoesSessionCall old event new → Represents (deeds_after past event) new
 leaving past old new (Create (Ok given)) is does = represents-along _ _ new does.leaves (represents-made past old is)
 leaving past old new (Create (Err fault)) is does = represents-along past old new does.leaves is
 leaving past old new (Activate token allowed claim (Ok user)) is does = represents-along _ _ new does.leaves (goes-activate past old token user (find (is_named token) old.alive) (judgement allowed claim) is refl does.answer)
@@ -384,12 +384,12 @@ leaving past old new (Ask token result) is does = represents-along past old new 
 
 -- ---- whole runs
 
-runs-answered : (past : List Deed) (events : List Event) (old new : State) → Represents past old → Runs old events new → AreAnswered past events
+runs-answered : (past : List Deed) (events : List SessionCall) (old new : SessionsState) → Represents past old → RunsSessions old events new → AreAnswered past events
 runs-answered past [] old new is run = tt
 runs-answered past (event ∷ events) old new is run =
-    (answering past old run.0 event is run.1, runs-answered (after past event) events run.0 new (leaving past old run.0 event is run.1) run.2)
+    (answering past old run.0 event is run.1, runs-answered (deeds_after past event) events run.0 new (leaving past old run.0 event is run.1) run.2)
 
-pub calls-answered : (events : List Event) (state : State) → Runs fresh events state → AreAnswered [] events
-calls-answered events state run = runs-answered [] events fresh state represents-fresh run
+pub calls-answered : (events : List SessionCall) (state : SessionsState) → RunsSessions no_sessions events state → AreAnswered [] events
+calls-answered events state run = runs-answered [] events no_sessions state represents-fresh run
 
 pub ruleset answered = (calls-answered)

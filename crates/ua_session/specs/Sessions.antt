@@ -13,68 +13,88 @@ use Rattle.ua_session.specs.Users.{Allowed, Claim, judgement}
 abbrev pub session_id_of : ℕ → NodeId
 session_id_of k = Numeric 1 (2 * k)
 
+-- the token of the session that was made k-th, from 0
 abbrev pub token_of : ℕ → NodeId
 token_of k = Numeric 1 (2 * k + 1)
 
 -- whether this is the session's token
 abbrev pub is_named : NodeId → Session → Bool
-is_named id session = elim id [ Numeric namespace number ↦ namespace == 1 && number == session.token | _ ↦ false ]
+is_named id session =
+    elim id [ Numeric namespace number ↦ namespace == 1 && number == session.token | _ ↦ false ]
 
 -- how many sessions were made, and those that are open, the oldest first
-pub record State : Type 0 where
+pub record SessionsState : Type 0 where
   pub made : ℕ
   pub alive : List Session
 
 -- no session yet
-abbrev pub fresh : State
-fresh = record { made = 0; alive = [] }
+abbrev pub no_sessions : SessionsState
+no_sessions = record { made = 0; alive = [] }
 
 -- ---- what a call answers where memory is there
 
 -- the id and the token of the next session
-abbrev pub create_answer : State → Result (NodeId × NodeId) SessionFault
-create_answer state = if nat_le 16 (length state.alive) || nat_le 1000000 state.made then Err TooMany else Ok (session_id_of (state.made + 1), token_of (state.made + 1))
+abbrev pub create_answer : SessionsState → Result (NodeId × NodeId) SessionFault
+create_answer state =
+    if nat_le 16 (length state.alive) || nat_le 1000000 state.made then Err TooMany
+    else Ok (session_id_of (state.made + 1), token_of (state.made + 1))
 
 -- as whom an open session is activated
-abbrev pub activate_answer : State → NodeId → Allowed → Claim → Result (List ℕ) SessionFault
-activate_answer state token allowed claim = ok_or (find (is_named token) state.alive) IdInvalid >>= λ _. judgement allowed claim
+abbrev pub activate_answer : SessionsState → NodeId → Allowed → Claim → Result (List ℕ) SessionFault
+activate_answer state token allowed claim =
+    ok_or (find (is_named token) state.alive) IdInvalid >>= λ _. judgement allowed claim
 
-abbrev pub close_answer : State → NodeId → Result (Unit {0}) SessionFault
+-- whether a session of this token can be closed
+abbrev pub close_answer : SessionsState → NodeId → Result (Unit {0}) SessionFault
 close_answer state token = ok_or (find (is_named token) state.alive) IdInvalid >>= λ _. Ok tt
 
 -- the user of an open session, where it has one
-abbrev pub user_at : State → NodeId → Result (List ℕ) SessionFault
-user_at state token = ok_or (find (is_named token) state.alive) IdInvalid >>= λ session. ok_or session.user NotActivated
+abbrev pub user_at : SessionsState → NodeId → Result (List ℕ) SessionFault
+user_at state token =
+    ok_or (find (is_named token) state.alive) IdInvalid
+    >>= λ session. ok_or session.user NotActivated
 
 -- ---- what a call leaves
 
 -- one session more, which nobody activated
-abbrev pub with_new : State → State
-with_new state = record { made = state.made + 1; alive = state.alive ++ record { token = 2 * (state.made + 1) + 1; user = None } ∷ [] }
+abbrev pub with_new : SessionsState → SessionsState
+with_new state =
+    record {
+      made = state.made + 1;
+      alive = state.alive ++ record { token = 2 * (state.made + 1) + 1; user = None } ∷ [];
+    }
 
 -- the session of this token has this user
 abbrev pub with_user : NodeId → List ℕ → List Session → List Session
 with_user token user [] = []
-with_user token user (session ∷ alive) = if is_named token session then record session { user = Some user } ∷ alive else session ∷ with_user token user alive
+with_user token user (session ∷ alive) =
+    if is_named token session then record session { user = Some user } ∷ alive
+    else session ∷ with_user token user alive
 
 -- the session of this token is gone
 abbrev pub without_session : NodeId → List Session → List Session
 without_session token [] = []
-without_session token (session ∷ alive) = if is_named token session then alive else session ∷ without_session token alive
+without_session token (session ∷ alive) =
+    if is_named token session then alive else session ∷ without_session token alive
 
 -- ---- the calls
 
-pub record Creates (old : State) (result : Result (NodeId × NodeId) SessionFault) (new : State) : Type 0 where
+pub record Creates (old : SessionsState) (result : Result (NodeId × NodeId) SessionFault)
+    (new : SessionsState) : Type 0 where
   pub answer : IsOrStarved OutOfMemory (create_answer old) result
   pub leaves : MatchResult result (λ _. new ≡ with_new old) (λ _. new ≡ old)
 
-pub record Activates (old : State) (token : NodeId) (allowed : Allowed) (claim : Claim) (result : Result (List ℕ) SessionFault) (new : State) : Type 0 where
+pub record Activates (old : SessionsState) (token : NodeId) (allowed : Allowed) (claim : Claim)
+    (result : Result (List ℕ) SessionFault) (new : SessionsState) : Type 0 where
   pub answer : IsOrStarved OutOfMemory (activate_answer old token allowed claim) result
-  pub leaves : MatchResult result (λ user. new ≡ record old { alive = with_user token user old.alive }) (λ _. new ≡ old)
+  pub leaves : MatchResult result
+      (λ user. new ≡ record old { alive = with_user token user old.alive }) (λ _. new ≡ old)
 
-pub record Closes (old : State) (token : NodeId) (result : Result (Unit {0}) SessionFault) (new : State) : Type 0 where
+pub record Closes (old : SessionsState) (token : NodeId) (result : Result (Unit {0}) SessionFault)
+    (new : SessionsState) : Type 0 where
   pub answer : result ≡ close_answer old token
-  pub leaves : MatchResult result (λ _. new ≡ record old { alive = without_session token old.alive }) (λ _. new ≡ old)
+  pub leaves : MatchResult result
+      (λ _. new ≡ record old { alive = without_session token old.alive }) (λ _. new ≡ old)
 
 -- ---- what each session keeps
 

@@ -11,40 +11,54 @@ use Rattle.ua_session.specs.declared.identity.User.{User}
 use Rattle.ua_session.specs.declared.identity.Identity.{Identity}
 use Rattle.ua_session.specs.declared.identity.Identity.TheVariants as lent
 
--- whether a user without a name is allowed, and the users with one, in the order in which they were added
+-- whether a user without a name is allowed, and the users with one, in the order in which they were
+-- added
 pub record Allowed : Type 0 where
   pub anonymous : Bool
   pub named : List User
 
 -- with one user more, the last
 abbrev pub with_added : Allowed → List ℕ → List ℕ → Allowed
-with_added allowed name password = record allowed { named = allowed.named ++ record { name = name; password = password } ∷ [] }
+with_added allowed name password =
+    record allowed { named = allowed.named ++ record { name = name; password = password } ∷ [] }
 
--- An identity without where it lies in memory: no name, or a name with a password and the algorithm that encrypted it, or
--- something else.
+-- An identity without where it lies in memory: no name, or a name with a password and the algorithm
+-- that encrypted it, or something else.
 pub data Claim : Type 0 where
   Anonymous Other : Claim
   Named : Option (List ℕ) → Option (List ℕ) → Option (List ℕ) → Claim
 
 abbrev pub claim_of : Identity → Claim
 claim_of lent.Anonymous = Anonymous
-claim_of (lent.Named name password algorithm) = Named (option_copied name) (option_copied password) (option_copied algorithm)
+claim_of (lent.Named name password algorithm) =
+    Named (option_copied name) (option_copied password) (option_copied algorithm)
 claim_of lent.Other = Other
 
 -- an answer without where its name lies in memory
-abbrev pub answer_of : Result (Bor (List ℕ)) SessionFault → Result (List ℕ) SessionFault
-answer_of (Ok name) = Ok name.now
-answer_of (Err fault) = Err fault
+abbrev pub user_name_of : Result (Bor (List ℕ)) SessionFault → Result (List ℕ) SessionFault
+user_name_of (Ok name) = Ok name.now
+user_name_of (Err fault) = Err fault
 
--- the user's name where the password is the user's, every byte of it; of equal names the first one counts, and a null name is nobody's
+-- the user's name where the password is the user's, every byte of it; of equal names the first one
+-- counts, and a null name is nobody's
 abbrev pub judgement_of_name : List User → Option (List ℕ) → List ℕ → Result (List ℕ) SessionFault
 judgement_of_name users given password =
-    elim (option_and_then (λ name. find (λ user. pointwise nat_eq user.name name) users) given) [ None ↦ Err IdentityRejected | Some user ↦ if pointwise nat_eq user.password password then Ok user.name else Err IdentityRejected ]
+    elim (option_and_then (λ name. find (λ user. pointwise nat_eq user.name name) users) given) [
+      | None ↦ Err IdentityRejected
+      | Some user ↦ if pointwise nat_eq user.password password then Ok user.name
+          else Err IdentityRejected
+    ]
 
--- as whom an identity is allowed, or why it isn't; one that is encrypted is invalid; a null password and a null algorithm count as empty ones
+-- as whom an identity is allowed, or why it isn't; one that is encrypted is invalid; a null
+-- password and a null algorithm count as empty ones
 abbrev pub judgement : Allowed → Claim → Result (List ℕ) SessionFault
-judgement allowed Anonymous = if allowed.anonymous then Ok (codes "anonymous") else Err IdentityRejected
-judgement allowed (Named name password algorithm) = elim (unwrap_or algorithm []) [ [] ↦ judgement_of_name allowed.named name (unwrap_or password []) | byte ∷ algorithm ↦ Err IdentityInvalid ]
+judgement allowed Anonymous =
+    if allowed.anonymous then Ok (codes "anonymous") else Err IdentityRejected
+judgement allowed (Named name password algorithm) =
+    elim (unwrap_or algorithm []) [
+      | [] ↦ judgement_of_name allowed.named name (unwrap_or password [])
+      | byte ∷ algorithm ↦ Err IdentityInvalid
+    ]
 judgement allowed Other = Err IdentityInvalid
 
 abbrev pub HasShortName : User → Type 0

@@ -31,11 +31,11 @@ pub enum SessionFault {
 }
 
 impl SessionFault {
-    ghost use Rattle.ua_session.specs.Fault.{number_of, code_of};
+    ghost use Rattle.ua_session.specs.Fault.{session_fault_number, session_fault_status};
 
     /// The fault's number, from 1 to 6 in the order of the variants.
     pub fn number(self) -> u8
-        ensures { result ≡ number_of self }
+        ensures { result ≡ session_fault_number self }
     {
         match self {
             SessionFault::TooMany => 1,
@@ -49,7 +49,7 @@ impl SessionFault {
 
     /// The status code that a response tells the client (Part 4, StatusCode).
     pub fn code(self) -> Status
-        ensures { result ≡ code_of self }
+        ensures { result ≡ session_fault_status self }
     {
         match self {
             SessionFault::TooMany => Status::BAD_TOO_MANY_SESSIONS,
@@ -80,9 +80,9 @@ impl<T: Drop> From<AllocFailed<T>> for SessionFault {
 
 /// The code that a response tells.
 impl From<SessionFault> for Status {
-    ghost use Rattle.ua_session.specs.Fault.{code_of};
+    ghost use Rattle.ua_session.specs.Fault.{session_fault_status};
 
-    ghost from_gives = { λ fault status. status ≡ code_of fault };
+    ghost from_gives = { λ fault status. status ≡ session_fault_status fault };
 
     fn from(fault: SessionFault) -> Status {
         fault.code()

@@ -4,8 +4,8 @@ ghost use Rattle.std.specs.Prelude.{◌≡◌, find, position, IfOk, IfSome};
 ghost use Rattle.std.specs.List.{AllByRecursion};
 ghost use Rattle.std.specs.Option.{option_copied};
 ghost use Rattle.ua_binary.specs.Binary.{node_of};
-ghost use Rattle.ua_session.specs.Users.{claim_of, answer_of, IsUserName};
-ghost use Rattle.ua_session.specs.Sessions.{fresh, user_at, is_named, HasShortUser, Creates, Activates, Closes};
+ghost use Rattle.ua_session.specs.Users.{claim_of, user_name_of, IsUserName};
+ghost use Rattle.ua_session.specs.Sessions.{no_sessions, user_at, is_named, HasShortUser, Creates, Activates, Closes};
 
 use crate::fault::SessionFault;
 use crate::identity::Identity;
@@ -35,9 +35,9 @@ pub struct Sessions {
 impl Model for Sessions {
     ghost use Rattle.std.specs.Prelude.{◌≤◌};
     ghost use Rattle.std.specs.List.{AllByRecursion};
-    ghost use Rattle.ua_session.specs.Sessions.{State, HasShortUser};
+    ghost use Rattle.ua_session.specs.Sessions.{SessionsState, HasShortUser};
 
-    ghost Value = { State };
+    ghost Value = { SessionsState };
 
     ghost view = { λ s. record { made = s.made; alive = s.alive.items } };
 
@@ -47,7 +47,7 @@ impl Model for Sessions {
 impl Sessions {
     /// No session yet. It takes no memory.
     pub fn new(alloc: Global) -> Self
-        ensures { result ≡ fresh }
+        ensures { result ≡ no_sessions }
     {
         Sessions {
             alloc,
@@ -90,7 +90,8 @@ impl Sessions {
         identity: Identity<'_>,
         users: &'u Users,
     ) -> Result<&'u str, SessionFault>
-        ensures activates { Activates self.old (node_of token.entry) users.now (claim_of identity.entry) (answer_of result) self.new }
+        ensures activates { Activates self.old (node_of token.entry) users.now (claim_of identity.entry)
+            (user_name_of result) self.new }
         ensures name { IfOk result (λ user. IsUserName user.now) }
     {
         let Some(place) = place_of(&self.alive, token) else {
@@ -119,7 +120,7 @@ impl Sessions {
     /// token is none of a session that is open, and `NotActivated` where the session has no user. It
     /// takes no memory.
     pub fn user_of(&self, token: NodeIdRef<'_>) -> Result<&str, SessionFault>
-        ensures value { answer_of result ≡ user_at self.now (node_of token.entry) }
+        ensures value { user_name_of result ≡ user_at self.now (node_of token.entry) }
         ensures name { IfOk result (λ user. IsUserName user.now) }
     {
         let session = find_session(&self.alive, token).ok_or(SessionFault::IdInvalid)?;

@@ -4,7 +4,7 @@ ghost use Rattle.std.specs.Cmp.Lexicographic.{pointwise};
 ghost use Rattle.std.specs.Prelude.{◌≡◌, ◌≤◌, ◌<◌, [], length, nat_lt, find, IfOk, IfErr, IfSome, OnOk, nat_eq};
 ghost use Rattle.std.specs.List.{AllByRecursion};
 ghost use Rattle.std.specs.Option.{option_copied};
-ghost use Rattle.ua_session.specs.Users.{answer_of, judgement_of_name, HasShortName, IsUserName};
+ghost use Rattle.ua_session.specs.Users.{user_name_of, judgement_of_name, HasShortName, IsUserName};
 
 use crate::fault::SessionFault;
 use crate::identity::{Identity, User};
@@ -81,7 +81,7 @@ impl Users {
     /// whoever it names; else `IdentityRejected`.
     #[tactic(auto, using(crate::proofs::Nobody::anonymity))]
     pub(crate) fn judge(&self, identity: Identity<'_>) -> Result<&str, SessionFault>
-        ensures judged { answer_of result ≡ judgement self.now (claim_of identity.entry) }
+        ensures judged { user_name_of result ≡ judgement self.now (claim_of identity.entry) }
         ensures name { IfOk result (λ user. IsUserName user.now) }
     {
         match identity {
@@ -114,7 +114,8 @@ fn admit<'a>(
     password: &[u8],
 ) -> Result<&'a str, SessionFault>
     requires { AllByRecursion HasShortName users.now }
-    ensures known { answer_of result ≡ judgement_of_name users.now (option_copied name.entry) password.now }
+    ensures known { user_name_of result
+        ≡ judgement_of_name users.now (option_copied name.entry) password.now }
     ensures name { IfOk result (λ user. IsUserName user.now) }
 {
     let name = name.ok_or(SessionFault::IdentityRejected)?;

@@ -7,10 +7,10 @@ use Rattle.ua_settings.specs.declared.keys.Section.{Section}
 use Rattle.ua_settings.specs.declared.keys.Section.TheVariants.{Document, Archive, Server, User, Folder, Variable}
 use Rattle.ua_settings.specs.declared.keys.Wrong.{Wrong}
 use Rattle.ua_settings.specs.declared.keys.Wrong.TheVariants.{Unknown, Missing, Bad}
-use Rattle.ua_settings.specs.File.{Names, names_in, tables, keys_in, rules, is_wrong, refused}
+use Rattle.ua_settings.specs.File.{Names, names_in, tables, keys_in, rules, is_wrong, first_refusal}
 use Rattle.ua_settings.specs.declared.judging.Spot.{Spot as Found}
 use Rattle.ua_settings.specs.Keys.{refusal_of}
-use Rattle.ua_settings.specs.Judging.{Spot, first_of, first_wrong, is_bad, is_key, is_missing, wrong_at, wrong_from, wrong_key}
+use Rattle.ua_settings.specs.Judging.{Spot, first_some, first_wrong, is_bad, is_key, is_missing, wrong_at, wrong_from, wrong_key}
 use Rattle.ua_settings.specs.declared.fault.SettingsFault.{SettingsFault}
 use Rattle.ua_settings.specs.declared.fault.SettingsFault.TheVariants.{BadValue, MissingKey, UnknownKey}
 use Rattle.ua_settings.specs.Settings.{Values}
@@ -45,30 +45,30 @@ in_tables names wrong section n (members ∷ more) =
     ∙ some_either (option_map (λ key. record { section = section; number = n; key = key }) (wrong_key names wrong section members)) (wrong_from names wrong section (n + 1) more) _ (in_tables names wrong section (n + 1) more)
 
 in_sections : (document : Members) (wrong : Wrong) (sections : List Section)
-    → list_any (λ section. list_any (is_wrong (names_in document) wrong section) (tables document section)) sections ≡ is_some (first_of (wrong_in document wrong) sections)
+    → list_any (λ section. list_any (is_wrong (names_in document) wrong section) (tables document section)) sections ≡ is_some (first_some (wrong_in document wrong) sections)
 in_sections document wrong [] = refl
 in_sections document wrong (section ∷ sections) =
     ap (λ b. b || list_any (λ section. list_any (is_wrong (names_in document) wrong section) (tables document section)) sections) (in_tables (names_in document) wrong section 1 (tables document section))
-    ∙ some_either (wrong_in document wrong section) (first_of (wrong_in document wrong) sections) _ (in_sections document wrong sections)
+    ∙ some_either (wrong_in document wrong section) (first_some (wrong_in document wrong) sections) _ (in_sections document wrong sections)
 
 first_kind : (test : Wrong → Bool) (spot : Wrong → Option Spot) → ((wrong : Wrong) → test wrong ≡ is_some (spot wrong)) → (wrongs : List Wrong)
-    → find test wrongs ≡ option_map (λ (p : Wrong × Spot). p.0) (first_of (λ wrong. option_map (λ s. (wrong, s)) (spot wrong)) wrongs)
+    → find test wrongs ≡ option_map (λ (p : Wrong × Spot). p.0) (first_some (λ wrong. option_map (λ s. (wrong, s)) (spot wrong)) wrongs)
 first_kind test spot same [] = refl
 first_kind test spot same (wrong ∷ wrongs) =
     ap (λ b. cond b (Some wrong) (find test wrongs)) (same wrong) ∙ by (spot wrong) (first_kind test spot same wrongs)
   where
-    by : (o : Option Spot) → find test wrongs ≡ option_map (λ (p : Wrong × Spot). p.0) (first_of (λ wrong. option_map (λ s. (wrong, s)) (spot wrong)) wrongs)
-        → cond (is_some o) (Some wrong) (find test wrongs) ≡ option_map (λ (p : Wrong × Spot). p.0) (option_or (option_map (λ s. (wrong, s)) o) (first_of (λ wrong. option_map (λ s. (wrong, s)) (spot wrong)) wrongs))
+    by : (o : Option Spot) → find test wrongs ≡ option_map (λ (p : Wrong × Spot). p.0) (first_some (λ wrong. option_map (λ s. (wrong, s)) (spot wrong)) wrongs)
+        → cond (is_some o) (Some wrong) (find test wrongs) ≡ option_map (λ (p : Wrong × Spot). p.0) (option_or (option_map (λ s. (wrong, s)) o) (first_some (λ wrong. option_map (λ s. (wrong, s)) (spot wrong)) wrongs))
     by None later = later
     by (Some s) later = refl
 
-pub refused_so : (document : Members) → refused document ≡ option_map (λ (p : Wrong × Spot). p.0) (first_wrong document)
+pub refused_so : (document : Members) → first_refusal document ≡ option_map (λ (p : Wrong × Spot). p.0) (first_wrong document)
 refused_so document =
     first_kind (λ wrong. list_any (λ section. list_any (is_wrong (names_in document) wrong section) (tables document section)) (Document ∷ Archive ∷ Server ∷ User ∷ Folder ∷ Variable ∷ []))
     (wrong_at document) (λ wrong. in_sections document wrong (Document ∷ Archive ∷ Server ∷ User ∷ Folder ∷ Variable ∷ [])) (Unknown ∷ Missing ∷ Bad ∷ [])
 
 -- what was found tells how the document is wrong
-pub kind_of : (document : Members) (found : Option (Wrong × Found)) → option_map refusal_of found ≡ first_wrong document → refused document ≡ option_map (λ (p : Wrong × Found). p.0) found
+pub kind_of : (document : Members) (found : Option (Wrong × Found)) → option_map refusal_of found ≡ first_wrong document → first_refusal document ≡ option_map (λ (p : Wrong × Found). p.0) found
 kind_of document None same = refused_so document ∙ ap (option_map (λ (p : Wrong × Spot). p.0)) (sym same)
 kind_of document (Some (wrong, spot)) same = refused_so document ∙ ap (option_map (λ (p : Wrong × Spot). p.0)) (sym same)
 
@@ -81,10 +81,10 @@ fault_given document Unknown = refl
 fault_given document Missing = refl
 fault_given document Bad = refl
 
-pub refused_told : (document : Members) (wrong : Wrong) (fault : SettingsFault) → refused document ≡ Some wrong → fault ≡ (elim wrong [ Unknown ↦ UnknownKey | Missing ↦ MissingKey | Bad ↦ BadValue ])
+pub refused_told : (document : Members) (wrong : Wrong) (fault : SettingsFault) → first_refusal document ≡ Some wrong → fault ≡ (elim wrong [ Unknown ↦ UnknownKey | Missing ↦ MissingKey | Bad ↦ BadValue ])
     → IsReadOrStarved (Some document) (Err fault)
 refused_told document wrong fault is same = inr (ap Err same ∙ fault_given document wrong ∙ sym (ap (given document) is))
 
-pub accepted_told : (document : Members) (result : Result Values SettingsFault) → refused document ≡ None → IsAcceptedOrStarved document result → IsReadOrStarved (Some document) result
+pub accepted_told : (document : Members) (result : Result Values SettingsFault) → first_refusal document ≡ None → IsAcceptedOrStarved document result → IsReadOrStarved (Some document) result
 accepted_told document result none (inl starved) = inl starved
 accepted_told document result none (inr is) = inr (is ∙ sym (ap (given document) none))

@@ -1,5 +1,6 @@
--- What a settings file says (TOML 1.1): its tables, their keys, what each key must hold, and how a file is wrong.
-use Rattle.std.specs.Prelude.{◌==◌, ◌&&◌, ℕ, pos, negsuc, Bool, true, false, not, List, [], ◌∷◌, length, map, find, codes, nat_eq, nat_le, Option, None, Some, is_some, is_none, option_and_then, unwrap_or}
+-- What a settings file says (TOML 1.1): its tables, their keys, what each key must hold, and how a
+-- file is wrong.
+use Rattle.std.specs.Prelude.{◌==◌, ◌&&◌, ℕ, pos, negsuc, Bool, true, false, not, List, [], ◌∷◌, length, map, find, codes, nat_eq, nat_le, Option, None, Some, is_some, is_none, option_and_then, unwrap_or, ℤ}
 use Rattle.std.specs.Option.{option_map_or, option_to_list}
 use Rattle.std.specs.List.{list_all, list_any, count_by, filter_map}
 use Rattle.std.specs.Cmp.Lexicographic.{pointwise}
@@ -18,39 +19,74 @@ use Rattle.ua_settings.specs.declared.keys.Wrong.TheVariants.{Unknown, Missing, 
 abbrev pub Rule : Type 0
 Rule = record { name : List ℕ; required : Bool; holds : Holds }
 
+-- a key that a table has to have
 abbrev pub required : List ℕ → Holds → Rule
 required name holds = record { name = name; required = true; holds = holds }
 
+-- a key that a table may have
 abbrev pub optional : List ℕ → Holds → Rule
 optional name holds = record { name = name; required = false; holds = holds }
 
+-- the keys of the document
+abbrev pub document_keys : List Rule
+document_keys =
+    required (codes "archive") OneTable ∷ required (codes "server") OneTable
+    ∷ optional (codes "user") Tables ∷ optional (codes "folder") Tables
+    ∷ optional (codes "variable") Tables ∷ []
+
+-- those of the table `archive`
+abbrev pub archive_keys : List Rule
+archive_keys =
+    required (codes "id") Id ∷ required (codes "replica") Replica ∷ optional (codes "store") Text
+    ∷ []
+
+-- those of the table `server`
+abbrev pub server_keys : List Rule
+server_keys =
+    required (codes "listen") Text ∷ required (codes "url") Text
+    ∷ required (codes "application") Text ∷ required (codes "namespace") Text
+    ∷ required (codes "anonymous") Truth ∷ []
+
+-- those of a table of a variable
+abbrev pub variable_keys : List Rule
+variable_keys =
+    required (codes "id") NodeName ∷ required (codes "name") Text ∷ required (codes "type") Text
+    ∷ optional (codes "array") Truth ∷ optional (codes "folder") FolderId ∷ []
+
+-- the keys of each kind of table, and what each holds
 abbrev pub rules : Section → List Rule
-rules Document = required (codes "archive") OneTable ∷ required (codes "server") OneTable ∷ optional (codes "user") Tables ∷ optional (codes "folder") Tables ∷ optional (codes "variable") Tables ∷ []
-rules Archive = required (codes "id") Id ∷ required (codes "replica") Replica ∷ optional (codes "store") Text ∷ []
-rules Server = required (codes "listen") Text ∷ required (codes "url") Text ∷ required (codes "application") Text ∷ required (codes "namespace") Text ∷ required (codes "anonymous") Truth ∷ []
+rules Document = document_keys
+rules Archive = archive_keys
+rules Server = server_keys
 rules User = required (codes "name") UserName ∷ required (codes "password") Text ∷ []
 rules Folder = required (codes "id") Text ∷ required (codes "name") Text ∷ []
-rules Variable = required (codes "id") NodeName ∷ required (codes "name") Text ∷ required (codes "type") Text ∷ optional (codes "array") Truth ∷ optional (codes "folder") FolderId ∷ []
+rules Variable = variable_keys
 
 -- ---- the tables of a document
 
+-- the items of an array
 abbrev pub items_in : Items → List Data
 items_in no_items = []
 items_in (item value items) = value ∷ items_in items
 
+-- the keys of a table
 abbrev pub keys_in : Members → List (List ℕ)
 keys_in no_members = []
 keys_in (member key value members) = key ∷ keys_in members
 
 -- the tables among the values of an array
 abbrev pub many_tables : Option Data → List Members
-many_tables value = filter_map as_table (elim (option_and_then as_array value) [ None ↦ [] | Some items ↦ items_in items ])
+many_tables value =
+    filter_map as_table
+    (elim (option_and_then as_array value) [ None ↦ [] | Some items ↦ items_in items ])
 
 -- the tables of a section
 abbrev pub tables : Members → Section → List Members
 tables document Document = document ∷ []
-tables document Archive = option_to_list (option_and_then as_table (get_member (codes "archive") document))
-tables document Server = option_to_list (option_and_then as_table (get_member (codes "server") document))
+tables document Archive =
+    option_to_list (option_and_then as_table (get_member (codes "archive") document))
+tables document Server =
+    option_to_list (option_and_then as_table (get_member (codes "server") document))
 tables document User = many_tables (get_member (codes "user") document)
 tables document Folder = many_tables (get_member (codes "folder") document)
 tables document Variable = many_tables (get_member (codes "variable") document)
@@ -65,34 +101,75 @@ text_at key members = unwrap_or (option_and_then as_str (get_member key members)
 abbrev pub Names : Type 0
 Names = record { users : List (List ℕ); folders : List (List ℕ) }
 
+-- the names of the users and the ids of the folders of a document
 abbrev pub names_in : Members → Names
-names_in document = record { users = map (text_at (codes "name")) (tables document User); folders = map (text_at (codes "id")) (tables document Folder) }
+names_in document =
+    record {
+      users = map (text_at (codes "name")) (tables document User);
+      folders = map (text_at (codes "id")) (tables document Folder);
+    }
 
 -- 1 to 256 bytes
 abbrev pub is_name : List ℕ → Bool
 is_name text = nat_le 1 (length text) && nat_le (length text) 256
 
--- Text has at most 65,536 bytes; the name of a user is one that no other user has, and not that of a user without one; a replica is 1 to 64.
+-- a replica's number: 1 to 64
+abbrev pub is_replica : ℤ → Bool
+is_replica number = elim number [ pos n ↦ nat_le 1 n && nat_le n 64 | negsuc n ↦ false ]
+
+-- the name of a user: one that no other user has, and not that of a user without one
+abbrev pub is_user_name : Names → List ℕ → Bool
+is_user_name names name =
+    is_name name
+    && (not (pointwise nat_eq name (codes "anonymous"))
+    && (count_by (pointwise nat_eq name) names.users == 1))
+
+-- the id of a folder
+abbrev pub is_folder : Names → List ℕ → Bool
+is_folder names id = list_any (λ folder. pointwise nat_eq folder id) names.folders
+
+-- all are tables
+abbrev pub are_tables : Items → Bool
+are_tables items = list_all (λ item. is_some (as_table item)) (items_in items)
+
+-- whether a value is one that a key may hold; a text has at most 65,536 bytes
 abbrev pub fits : Names → Holds → Data → Bool
 fits names Text value = option_map_or (λ text. nat_le (length text) 65536) (as_str value) false
 fits names Id value = option_map_or (λ text. is_some (parsed text)) (as_str value) false
-fits names Replica value = option_map_or (λ number. elim number [ pos n ↦ nat_le 1 n && nat_le n 64 | negsuc n ↦ false ]) (as_integer value) false
+fits names Replica value = option_map_or is_replica (as_integer value) false
 fits names Truth value = is_some (as_bool value)
 fits names NodeName value = option_map_or is_name (as_str value) false
-fits names UserName value = option_map_or (λ name. is_name name && (not (pointwise nat_eq name (codes "anonymous")) && (count_by (pointwise nat_eq name) names.users == 1))) (as_str value) false
-fits names FolderId value = option_map_or (λ id. list_any (λ folder. pointwise nat_eq folder id) names.folders) (as_str value) false
+fits names UserName value = option_map_or (is_user_name names) (as_str value) false
+fits names FolderId value = option_map_or (is_folder names) (as_str value) false
 fits names OneTable value = is_some (as_table value)
-fits names Tables value = option_map_or (λ items. list_all (λ item. is_some (as_table item)) (items_in items)) (as_array value) false
+fits names Tables value = option_map_or are_tables (as_array value) false
 
 -- ---- how a document is wrong
 
--- whether a key of a table is wrong: one that the table may not have, one that it has to have, or one that doesn't hold what it must
-abbrev pub is_wrong : Names → Wrong → Section → Members → Bool
-is_wrong names Unknown section members = list_any (λ key. not (list_any (λ rule. pointwise nat_eq key rule.name) (rules section))) (keys_in members)
-is_wrong names Missing section members = list_any (λ rule. rule.required && is_none (get_member rule.name members)) (rules section)
-is_wrong names Bad section members = list_any (λ rule. option_map_or (λ value. not (fits names rule.holds value)) (get_member rule.name members) false) (rules section)
+-- the key is none that the table may have
+abbrev pub is_unknown : Section → List ℕ → Bool
+is_unknown section key = not (list_any (λ rule. pointwise nat_eq key rule.name) (rules section))
 
--- the first way in which a document is wrong: unknown keys before missing ones and these before bad ones
-abbrev pub refused : Members → Option Wrong
-refused document = find (λ wrong.
-    list_any (λ section. list_any (is_wrong (names_in document) wrong section) (tables document section)) (Document ∷ Archive ∷ Server ∷ User ∷ Folder ∷ Variable ∷ [])) (Unknown ∷ Missing ∷ Bad ∷ [])
+-- the table has to have the key and hasn't
+abbrev pub lacks : Members → Rule → Bool
+lacks members rule = rule.required && is_none (get_member rule.name members)
+
+-- the key is there and doesn't hold what it must
+abbrev pub misfits : Names → Members → Rule → Bool
+misfits names members rule =
+    option_map_or (λ value. not (fits names rule.holds value)) (get_member rule.name members) false
+
+-- whether a key of a table is wrong in this way
+abbrev pub is_wrong : Names → Wrong → Section → Members → Bool
+is_wrong names Unknown section members = list_any (is_unknown section) (keys_in members)
+is_wrong names Missing section members = list_any (lacks members) (rules section)
+is_wrong names Bad section members = list_any (misfits names members) (rules section)
+
+-- the first way in which a document is wrong: unknown keys before missing ones and these before bad
+-- ones
+abbrev pub first_refusal : Members → Option Wrong
+first_refusal document = find (λ wrong.
+    list_any
+    (λ section. list_any (is_wrong (names_in document) wrong section) (tables document section))
+    (Document ∷ Archive ∷ Server ∷ User ∷ Folder ∷ Variable ∷ [])) (Unknown ∷ Missing ∷ Bad
+    ∷ [])

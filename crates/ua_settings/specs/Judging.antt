@@ -13,6 +13,7 @@ use Rattle.ua_settings.specs.File.{Names, Rule, fits, is_name, keys_in, names_in
 
 -- ---- what a key must hold
 
+-- it is there, and passes
 abbrev pub test : {A : Type 0} → (A → Bool) → Option A → Bool
 test p given = option_map_or p given false
 
@@ -20,7 +21,11 @@ abbrev pub is_short : List ℕ → Bool
 is_short text = nat_le (length text) 65536
 
 abbrev pub is_user_name : List (List ℕ) → List ℕ → Bool
-is_user_name users name = is_name name && (not (pointwise nat_eq name (codes "anonymous")) && (count_by (pointwise nat_eq name) users == 1))
+is_user_name users name =
+    is_name name
+    &&
+    (not (pointwise nat_eq name (codes "anonymous"))
+    && (count_by (pointwise nat_eq name) users == 1))
 
 abbrev pub is_replica : ℤ → Bool
 is_replica v = elim v [ pos n ↦ nat_le 1 n && nat_le n 64 | negsuc n ↦ false ]
@@ -30,20 +35,27 @@ is_id text = is_some (parsed text)
 
 -- ---- where a document is wrong
 
+-- the table may have this key
 abbrev pub is_key : Section → List ℕ → Bool
 is_key section key = list_any (λ rule. pointwise nat_eq key rule.name) (rules section)
 
+-- the table has to have this key and hasn't
 abbrev pub is_missing : Members → Rule → Bool
 is_missing members rule = rule.required && is_none (get_member rule.name members)
 
+-- the key is there and doesn't hold what it must
 abbrev pub is_bad : Names → Members → Rule → Bool
-is_bad names members rule = test (λ value. not (fits names rule.holds value)) (get_member rule.name members)
+is_bad names members rule =
+    test (λ value. not (fits names rule.holds value)) (get_member rule.name members)
 
--- the first key of a table that is wrong: one that the table may not have, one that it has to have, or one that doesn't hold what it must
+-- the first key of a table that is wrong: one that the table may not have, one that it has to have,
+-- or one that doesn't hold what it must
 abbrev pub wrong_key : Names → Wrong → Section → Members → Option (List ℕ)
 wrong_key names Unknown section members = find (λ key. not (is_key section key)) (keys_in members)
-wrong_key names Missing section members = option_map (λ rule. rule.name) (find (is_missing members) (rules section))
-wrong_key names Bad section members = option_map (λ rule. rule.name) (find (is_bad names members) (rules section))
+wrong_key names Missing section members =
+    option_map (λ rule. rule.name) (find (is_missing members) (rules section))
+wrong_key names Bad section members =
+    option_map (λ rule. rule.name) (find (is_bad names members) (rules section))
 
 -- a key in the table of this number, from 1, among those of a section
 abbrev pub Spot : Type 0
@@ -53,16 +65,24 @@ Spot = record { section : Section; number : ℕ; key : List ℕ }
 abbrev pub wrong_from : Names → Wrong → Section → ℕ → List Members → Option Spot
 wrong_from names wrong section number [] = None
 wrong_from names wrong section number (members ∷ more) =
-    option_or (option_map (λ key. record { section = section; number = number; key = key }) (wrong_key names wrong section members)) (wrong_from names wrong section (number + 1) more)
+    option_or
+    (option_map (λ key. record { section = section; number = number; key = key })
+    (wrong_key names wrong section members)) (wrong_from names wrong section (number + 1) more)
 
-abbrev pub first_of : {A B : Type 0} → (A → Option B) → List A → Option B
-first_of f [] = None
-first_of f (a ∷ more) = option_or (f a) (first_of f more)
+-- the first that is there
+abbrev pub first_some : {A B : Type 0} → (A → Option B) → List A → Option B
+first_some f [] = None
+first_some f (a ∷ more) = option_or (f a) (first_some f more)
 
 -- the first wrong key of a document
 abbrev pub wrong_at : Members → Wrong → Option Spot
-wrong_at document wrong = first_of (λ section. wrong_from (names_in document) wrong section 1 (tables document section)) (Document ∷ Archive ∷ Server ∷ User ∷ Folder ∷ Variable ∷ [])
+wrong_at document wrong =
+    first_some (λ section. wrong_from (names_in document) wrong section 1 (tables document section))
+    (Document ∷ Archive ∷ Server ∷ User ∷ Folder ∷ Variable ∷ [])
 
--- the first way in which a document is wrong, unknown keys before missing ones and these before bad ones, and where
+-- the first way in which a document is wrong, unknown keys before missing ones and these before bad
+-- ones, and where
 abbrev pub first_wrong : Members → Option (Wrong × Spot)
-first_wrong document = first_of (λ wrong. option_map (λ spot. (wrong, spot)) (wrong_at document wrong)) (Unknown ∷ Missing ∷ Bad ∷ [])
+first_wrong document =
+    first_some (λ wrong. option_map (λ spot. (wrong, spot)) (wrong_at document wrong))
+    (Unknown ∷ Missing ∷ Bad ∷ [])

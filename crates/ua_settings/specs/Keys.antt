@@ -11,7 +11,11 @@ abbrev pub rule_of : Key → Rule
 rule_of key = record { name = key.name.now; required = key.required; holds = key.holds }
 
 abbrev pub known_of : Known → Names
-known_of known = record { users = map (λ name. name.now) known.users.items; folders = map (λ id. id.now) known.folders.items }
+known_of known =
+    record {
+      users = map (λ name. name.now) known.users.items;
+      folders = map (λ id. id.now) known.folders.items;
+    }
 
 abbrev pub spot_of : Found → Spot
 spot_of found = record { section = found.section; number = found.number; key = found.key.now }

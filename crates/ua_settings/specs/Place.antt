@@ -17,19 +17,24 @@ use Rattle.ua_settings.specs.Judging.{Spot, first_wrong}
 
 -- a key in the table at this place, if there is one
 abbrev pub spot_at : Section → List ℕ → Option ℕ → Option Spot
-spot_at section key place = option_map (λ n. record { section = section; number = n; key = key }) place
+spot_at section key place =
+    option_map (λ n. record { section = section; number = n; key = key }) place
 
--- the number of the first of these ids that stands before it or was seen; the first one has this number
+-- the number of the first of these ids that stands before it or was seen; the first one has this
+-- number
 abbrev pub repeated_from : ℕ → List (List ℕ) → List (List ℕ) → Option ℕ
 repeated_from n seen [] = None
 repeated_from n seen (id ∷ ids) =
-    if list_any (λ other. pointwise nat_eq other id) seen then Some n else repeated_from (n + 1) (seen ++ id ∷ []) ids
+    if list_any (λ other. pointwise nat_eq other id) seen then Some n
+    else repeated_from (n + 1) (seen ++ id ∷ []) ids
 
 -- the number of the first variable whose type is none
 abbrev pub untyped : List Members → Option ℕ
-untyped variables = position_from (λ v. not (is_some (type_number (text_at (codes "type") v)))) 1 variables
+untyped variables =
+    position_from (λ v. not (is_some (type_number (text_at (codes "type") v)))) 1 variables
 
--- the first of these that is there: a variable of an unknown type, a folder and a variable whose id stands before
+-- the first of these that is there: a variable of an unknown type, a folder and a variable whose id
+-- stands before
 abbrev pub first_there : Option ℕ → Option ℕ → Option ℕ → Option Spot
 first_there untyped folder variable =
     option_or (spot_at Variable (codes "type") untyped)
@@ -39,29 +44,33 @@ first_there untyped folder variable =
 abbrev pub node_spot : List Members → List Members → Option Spot
 node_spot folders variables =
     let ids = map (text_at (codes "id")) in
-    first_there (untyped variables) (repeated_from 1 [] (ids folders)) (repeated_from 1 (ids folders) (ids variables))
+    first_there (untyped variables) (repeated_from 1 [] (ids folders))
+    (repeated_from 1 (ids folders) (ids variables))
 
 -- all of them where there are too many, else the first that is wrong
 abbrev pub place_among : List Members → List Members → Place
 place_among folders variables =
-    if nat_lt 1000 (length folders + length variables) then Nodes (length folders + length variables)
-    else option_map_or (λ spot. Key spot.section spot.number spot.key) (node_spot folders variables) (Nodes (length folders + length variables))
+    if nat_lt 1000 (length folders + length variables)
+    then Nodes (length folders + length variables)
+    else option_map_or (λ spot. Key spot.section spot.number spot.key) (node_spot folders variables)
+    (Nodes (length folders + length variables))
 
 -- ---- where a file is refused
 
--- a line of the text
-abbrev pub IsLine : Place → Type 0
-IsLine (Line number) = 0 < number
-IsLine place = ⊥
+-- the number of a line, counted from 1
+abbrev pub IsLineNumber : Place → Type 0
+IsLineNumber (Line number) = 0 < number
+IsLineNumber place = ⊥
 
 -- in a document: its first wrong key; where none is wrong, what makes its nodes no address space
 abbrev pub place_in : Members → Place
 place_in document =
-    option_map_or (λ found. Key found.1.section found.1.number found.1.key) (first_wrong document) (place_among (tables document Folder) (tables document Variable))
+    option_map_or (λ found. Key found.1.section found.1.number found.1.key) (first_wrong document)
+    (place_among (tables document Folder) (tables document Variable))
 
 -- of a text that is no document a line, else the place in the document
 abbrev pub IsPlaceOf : Option Members → Place → Type 0
-IsPlaceOf None place = IsLine place
+IsPlaceOf None place = IsLineNumber place
 IsPlaceOf (Some document) place = place ≡ place_in document
 
 -- ---- how it is told
@@ -83,11 +92,14 @@ is_shown byte = nat_le 32 byte && not (byte == 127)
 abbrev pub plain : ℕ → ℕ
 plain byte = if nat_le 32 byte && nat_lt byte 127 then byte else 63
 
--- a key is told as it is, but an empty one by two quotes, and one with a control character in printing ASCII alone
+-- a key is told as it is, but an empty one by two quotes, and one with a control character in
+-- printing ASCII alone
 abbrev pub shown_key : List ℕ → List ℕ
-shown_key key = if length key == 0 then codes "\"\"" else if list_all is_shown key then key else map plain key
+shown_key key =
+    if length key == 0 then codes "\"\"" else if list_all is_shown key then key else map plain key
 
-abbrev pub text_of : Place → List ℕ
-text_of (Line number) = codes "line " ++ decimal number
-text_of (Nodes count) = decimal count ++ codes " folders and variables"
-text_of (Key section number key) = heading section number ++ shown_key key
+-- the text that names a place in the settings
+abbrev pub place_text : Place → List ℕ
+place_text (Line number) = codes "line " ++ decimal number
+place_text (Nodes count) = decimal count ++ codes " folders and variables"
+place_text (Key section number key) = heading section number ++ shown_key key

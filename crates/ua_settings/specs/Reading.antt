@@ -12,25 +12,51 @@ use Rattle.ua_settings.specs.declared.fault.SettingsFault.{SettingsFault}
 use Rattle.ua_settings.specs.declared.fault.SettingsFault.TheVariants.{NotToml, MissingKey, BadValue, UnknownKey, Space, OutOfMemory}
 use Rattle.ua_settings.specs.declared.keys.Section.TheVariants.{User, Folder, Variable}
 use Rattle.ua_settings.specs.declared.keys.Wrong.TheVariants.{Unknown, Missing, Bad}
-use Rattle.ua_settings.specs.File.{tables, text_at, refused}
+use Rattle.ua_settings.specs.File.{tables, text_at, first_refusal}
 use Rattle.ua_settings.specs.Settings.{Values}
+use Rattle.ua_session.specs.Users.{Allowed}
+use Rattle.ua_session.specs.declared.identity.User.{User as NamedUser}
 
 -- ---- what stands in a document in which nothing is wrong
 
+-- the table at a key, an empty one where there is none
 abbrev pub table_at : List ℕ → Members → Members
 table_at key members = unwrap_or (option_and_then as_table (get_member key members)) no_members
 
+-- the truth at a key, false where there is none
 abbrev pub truth_at : List ℕ → Members → Bool
 truth_at key members = unwrap_or (option_and_then as_bool (get_member key members)) false
 
+-- the number at a key, 0 where there is none
 abbrev pub number_at : List ℕ → Members → ℕ
-number_at key members = elim (option_and_then as_integer (get_member key members)) [ Some (pos n) ↦ n | Some (negsuc n) ↦ 0 | None ↦ 0 ]
+number_at key members =
+    elim (option_and_then as_integer (get_member key members))
+    [ Some (pos n) ↦ n | Some (negsuc n) ↦ 0 | None ↦ 0 ]
 
+-- the folder that a table gives
 abbrev pub folder_in : Members → SpaceFolder
 folder_in folder = record { id = text_at (codes "id") folder; name = text_at (codes "name") folder }
 
+-- the variable that a table gives
 abbrev pub variable_in : Members → Entry
-variable_in variable = record { id = text_at (codes "id") variable; name = text_at (codes "name") variable; type_name = text_at (codes "type") variable; array = truth_at (codes "array") variable; folder = option_and_then as_str (get_member (codes "folder") variable) }
+variable_in variable =
+    record {
+      id = text_at (codes "id") variable;
+      name = text_at (codes "name") variable;
+      type_name = text_at (codes "type") variable;
+      array = truth_at (codes "array") variable;
+      folder = option_and_then as_str (get_member (codes "folder") variable);
+    }
+
+-- a user that a table gives
+abbrev pub user_in : Members → NamedUser
+user_in user =
+    record { name = text_at (codes "name") user; password = text_at (codes "password") user }
+
+-- the users that the tables give
+abbrev pub users_in : Members → List Members → Allowed
+users_in server users =
+    record { anonymous = truth_at (codes "anonymous") server; named = map user_in users }
 
 -- what the tables `archive`, `server` and those of users give, with these nodes
 abbrev pub values_of_tables : Members → Members → List Members → Layout → Values
@@ -41,7 +67,7 @@ values_of_tables archive server users space = record {
   listen = text_at (codes "listen") server;
   url = text_at (codes "url") server;
   application = text_at (codes "application") server;
-  users = record { anonymous = truth_at (codes "anonymous") server; named = map (λ user. record { name = text_at (codes "name") user; password = text_at (codes "password") user }) users };
+  users = users_in server users;
   space = space;
 }
 
@@ -49,16 +75,27 @@ values_of_tables archive server users space = record {
 
 -- the nodes of a document, or why they make no space
 abbrev pub space_in : Members → Result Layout BuildFault
-space_in document = planned (text_at (codes "namespace") (table_at (codes "server") document)) (map folder_in (tables document Folder)) (map variable_in (tables document Variable))
+space_in document =
+    planned (text_at (codes "namespace") (table_at (codes "server") document))
+    (map folder_in (tables document Folder)) (map variable_in (tables document Variable))
 
 -- the settings of a document in which nothing is wrong
 abbrev pub settings_in : Members → Result Values SettingsFault
-settings_in document = result_map_both (values_of_tables (table_at (codes "archive") document) (table_at (codes "server") document) (tables document User)) Space (space_in document)
+settings_in document =
+    result_map_both
+    (values_of_tables (table_at (codes "archive") document) (table_at (codes "server") document)
+    (tables document User)) Space (space_in document)
 
 -- the settings that a text gives, by the document that it is, or the first fault
 abbrev pub read_in : Option Members → Result Values SettingsFault
 read_in None = Err NotToml
-read_in (Some document) = elim (refused document) [ None ↦ settings_in document | Some Unknown ↦ Err UnknownKey | Some Missing ↦ Err MissingKey | Some Bad ↦ Err BadValue ]
+read_in (Some document) =
+    elim (first_refusal document) [
+      | None ↦ settings_in document
+      | Some Unknown ↦ Err UnknownKey
+      | Some Missing ↦ Err MissingKey
+      | Some Bad ↦ Err BadValue
+    ]
 
 -- that, or memory ran out
 abbrev pub IsReadOrStarved : Option Members → Result Values SettingsFault → Type 0
@@ -71,7 +108,9 @@ space_fault build.OutOfMemory = OutOfMemory
 space_fault fault = Space fault
 
 abbrev pub IsSpaceOrStarved : Members → Result Layout SettingsFault → Type 0
-IsSpaceOrStarved document result = (result ≡ Err OutOfMemory) ⊎ (result ≡ result_map_both (λ space. space) Space (space_in document))
+IsSpaceOrStarved document result =
+    (result ≡ Err OutOfMemory)
+    ⊎ (result ≡ result_map_both (λ space. space) Space (space_in document))
 
 abbrev pub IsAcceptedOrStarved : Members → Result Values SettingsFault → Type 0
 IsAcceptedOrStarved document result = (result ≡ Err OutOfMemory) ⊎ (result ≡ settings_in document)

@@ -2,12 +2,14 @@
 use Rattle.std.specs.Prelude.{◌≤◌, List, [], ℕ, length, replicate, codes, true, None}
 use Rattle.ua_settings.specs.declared.settings.Parts.{Parts}
 
--- the archive's id, the number of this replica of it, and the file of its store, none for memory; where the server listens, the URL of its
--- endpoint, the URI of the application; who may use it; and its nodes
+-- the archive's id, the number of this replica of it, and the file of its store, none for memory;
+-- where the server listens, the URL of its endpoint, the URI of the application; who may use it;
+-- and its nodes
 abbrev pub Values : Type 0
 Values = Parts
 
--- without settings: replica 1 of the archive whose id is all zeros, in memory; any user without a name; no variables
+-- without settings: replica 1 of the archive whose id is all zeros, in memory; any user without a
+-- name; no variables
 unfoldable pub bare : Values
 bare = record {
   archive = replicate 16 0;
@@ -21,5 +23,5 @@ bare = record {
 }
 
 -- a text of settings has at most 65,536 bytes
-abbrev pub IsShort : List ℕ → Type 0
-IsShort text = length text ≤ 65536
+abbrev pub IsSettingsText : List ℕ → Type 0
+IsSettingsText text = length text ≤ 65536

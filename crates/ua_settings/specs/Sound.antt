@@ -10,7 +10,8 @@ use Rattle.ua_settings.specs.Reading.{table_at}
 
 pub record IsSoundArchive (archive : Members) : Type 0 where
   pub id : is_id (text_at (codes "id") archive) ≡ true
-  pub replica : test is_replica (option_and_then as_integer (get_member (codes "replica") archive)) ≡ true
+  pub replica : test is_replica (option_and_then as_integer (get_member (codes "replica") archive))
+      ≡ true
 
 pub record IsSoundServer (server : Members) : Type 0 where
   pub url : is_short (text_at (codes "url") server) ≡ true
@@ -27,13 +28,16 @@ pub record IsSoundFolder (folder : Members) : Type 0 where
 pub record IsSoundVariable (folders : List (List ℕ)) (variable : Members) : Type 0 where
   pub id : is_name (text_at (codes "id") variable) ≡ true
   pub name : is_short (text_at (codes "name") variable) ≡ true
-  pub folder : IfSome (option_and_then as_str (get_member (codes "folder") variable)) (λ id. list_any (λ folder. pointwise nat_eq folder id) folders ≡ true)
+  pub folder : IfSome (option_and_then as_str (get_member (codes "folder") variable))
+      (λ id. list_any (λ folder. pointwise nat_eq folder id) folders ≡ true)
 
 pub record IsSound (document : Members) : Type 0 where
-  pub has_archive : is_some (option_and_then as_table (get_member (codes "archive") document)) ≡ true
+  pub has_archive : is_some (option_and_then as_table (get_member (codes "archive") document))
+      ≡ true
   pub has_server : is_some (option_and_then as_table (get_member (codes "server") document)) ≡ true
   pub archive : IsSoundArchive (table_at (codes "archive") document)
   pub server : IsSoundServer (table_at (codes "server") document)
   pub users : AllByRecursion IsSoundUser (tables document User)
   pub folders : AllByRecursion IsSoundFolder (tables document Folder)
-  pub variables : AllByRecursion (IsSoundVariable (names_in document).folders) (tables document Variable)
+  pub variables : AllByRecursion (IsSoundVariable (names_in document).folders)
+      (tables document Variable)

@@ -31,11 +31,11 @@ pub enum SettingsFault {
 }
 
 impl SettingsFault {
-    ghost use Rattle.ua_settings.specs.Fault.{number_of};
+    ghost use Rattle.ua_settings.specs.Fault.{settings_fault_number};
 
     /// The number that the program prints, from 1 to 6 in the order of the variants.
     pub fn number(self) -> u8
-        ensures { result ≡ number_of self }
+        ensures { result ≡ settings_fault_number self }
     {
         match self {
             SettingsFault::NotToml => 1,

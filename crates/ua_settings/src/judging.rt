@@ -176,28 +176,32 @@ fn is_bad(known: &Known<'_>, table: &Table, key: &Key) -> bool
 
 /// The first key of a table that it may not have.
 fn find_unknown(section: Section, table: &Table) -> Option<&String>
-    ensures { option_copied result ≡ find (λ key. not (is_key section (string_bytes key))) (keys table.now) }
+    ensures { option_copied result
+        ≡ find (λ key. not (is_key section (string_bytes key))) (keys table.now) }
 {
     table.keys().find(|key| !is_known(section, key.as_str()))
 }
 
 /// The first of the keys that a table lacks.
 fn find_missing<'a>(keys: &'a [Key], table: &Table) -> Option<&'a Key>
-    ensures { option_copied result ≡ find (λ key. is_missing (table_view table.now) (rule_of key)) keys.now }
+    ensures { option_copied result
+        ≡ find (λ key. is_missing (table_view table.now) (rule_of key)) keys.now }
 {
     keys.iter().find(|key| is_missing(table, key))
 }
 
 /// The first of the keys that doesn't hold what it must.
 fn find_bad<'a>(known: &Known<'_>, keys: &'a [Key], table: &Table) -> Option<&'a Key>
-    ensures { option_copied result ≡ find (λ key. is_bad (known_of known.now) (table_view table.now) (rule_of key)) keys.now }
+    ensures { option_copied result
+        ≡ find (λ key. is_bad (known_of known.now) (table_view table.now) (rule_of key)) keys.now }
 {
     keys.iter().find(|key| is_bad(known, table, key))
 }
 
 /// The name of the first key of a table that it may not have.
 fn unknown_key(section: Section, table: &Table) -> Option<&str>
-    ensures { option_copied result ≡ find (λ key. not (is_key section key)) (keys_in (table_view table.now)) }
+    ensures { option_copied result
+        ≡ find (λ key. not (is_key section key)) (keys_in (table_view table.now)) }
 {
     match find_unknown(section, table) {
         Some(key) => Some(key.as_str()),
@@ -207,7 +211,9 @@ fn unknown_key(section: Section, table: &Table) -> Option<&str>
 
 /// The name of the first key that a table lacks.
 fn missing_key(section: Section, table: &Table) -> Option<&'static str>
-    ensures { option_copied result ≡ option_map (λ rule. rule.name) (find (is_missing (table_view table.now)) (rules section)) }
+    ensures { option_copied result
+        ≡ option_map (λ rule. rule.name)
+        (find (is_missing (table_view table.now)) (rules section)) }
 {
     match find_missing(keys_of(section), table) {
         Some(key) => Some(key.name),
@@ -217,7 +223,9 @@ fn missing_key(section: Section, table: &Table) -> Option<&'static str>
 
 /// The name of the first key of a table that doesn't hold what it must.
 fn bad_key(known: &Known<'_>, section: Section, table: &Table) -> Option<&'static str>
-    ensures { option_copied result ≡ option_map (λ rule. rule.name) (find (is_bad (known_of known.now) (table_view table.now)) (rules section)) }
+    ensures { option_copied result
+        ≡ option_map (λ rule. rule.name)
+        (find (is_bad (known_of known.now) (table_view table.now)) (rules section)) }
 {
     match find_bad(known, keys_of(section), table) {
         Some(key) => Some(key.name),
@@ -232,7 +240,8 @@ fn wrong_key<'a>(
     section: Section,
     table: &'a Table,
 ) -> Option<&'a str>
-    ensures { option_copied result ≡ wrong_key (known_of known.now) wrong section (table_view table.now) }
+    ensures { option_copied result
+        ≡ wrong_key (known_of known.now) wrong section (table_view table.now) }
 {
     match wrong {
         Wrong::Unknown => unknown_key(section, table),
@@ -248,7 +257,9 @@ fn wrong_in<'a>(
     section: Section,
     tables: &[&'a Table],
 ) -> Option<Spot<'a>>
-    ensures { option_map spot_of result ≡ wrong_from (known_of known.now) wrong section 1 (map (λ table. table_view table.now) tables.now) }
+    ensures { option_map spot_of result
+        ≡ wrong_from (known_of known.now) wrong section 1
+        (map (λ table. table_view table.now) tables.now) }
 {
     for (i, table) in tables.iter().enumerate() {
         if let Some(key) = wrong_key(known, wrong, section, table) {
@@ -268,7 +279,9 @@ pub(crate) fn texts<'a>(
     tables: &[&'a Table],
     key: &str,
 ) -> Result<Vec<&'a str>, AllocError>
-    ensures { IfOk result (λ texts. map (λ text. text.now) texts.items ≡ map (λ table. text_at key.now (table_view table.now)) tables.now) }
+    ensures { IfOk result
+        (λ texts. map (λ text. text.now) texts.items
+        ≡ map (λ table. text_at key.now (table_view table.now)) tables.now) }
 {
     let mut texts = Vec::new(alloc);
     for table in tables {
@@ -297,7 +310,8 @@ fn wrong_at<'a>(
     wrong: Wrong,
 ) -> Result<Option<Spot<'a>>, AllocError>
     requires { known_of known.now ≡ names_in (table_view document.now) }
-    ensures { IfOk result (λ found. option_map spot_of found ≡ wrong_at (table_view document.now) wrong) }
+    ensures { IfOk result
+        (λ found. option_map spot_of found ≡ wrong_at (table_view document.now) wrong) }
 {
     for section in SECTIONS {
         let tables = tables_of(alloc, document, section)?;
@@ -314,7 +328,8 @@ pub(crate) fn judge<'a>(
     alloc: Global,
     document: &'a Table,
 ) -> Result<Option<(Wrong, Spot<'a>)>, AllocError>
-    ensures { IfOk result (λ found. option_map refusal_of found ≡ first_wrong (table_view document.now)) }
+    ensures { IfOk result
+        (λ found. option_map refusal_of found ≡ first_wrong (table_view document.now)) }
 {
     let known = known_in(alloc, document)?;
     for wrong in WRONGS {

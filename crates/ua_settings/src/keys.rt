@@ -55,7 +55,8 @@ pub(crate) enum Wrong {
 impl Wrong {
     /// What it is called outside.
     pub fn fault(self) -> SettingsFault
-        ensures { result ≡ (elim self [ Unknown ↦ UnknownKey | Missing ↦ MissingKey | Bad ↦ BadValue ]) }
+        ensures { result
+            ≡ (elim self [ Unknown ↦ UnknownKey | Missing ↦ MissingKey | Bad ↦ BadValue ]) }
     {
         match self {
             Wrong::Unknown => SettingsFault::UnknownKey,

@@ -22,7 +22,8 @@ pub(crate) fn find<'a>(table: &'a Table, key: &str) -> Option<&'a Value>
 
 /// The text at a key.
 pub(crate) fn find_text<'a>(table: &'a Table, key: &str) -> Option<&'a str>
-    ensures { option_copied result ≡ option_and_then as_str (get_member key.now (table_view table.now)) }
+    ensures { option_copied result
+        ≡ option_and_then as_str (get_member key.now (table_view table.now)) }
 {
     match find(table, key) {
         Some(value) => value.as_str(),
@@ -42,7 +43,8 @@ pub(crate) fn text<'a>(table: &'a Table, key: &str) -> &'a str
 
 /// Whether `true` stands at a key.
 pub(crate) fn truth(table: &Table, key: &str) -> bool
-    ensures { result ≡ unwrap_or (option_and_then as_bool (get_member key.now (table_view table.now))) false }
+    ensures { result
+        ≡ unwrap_or (option_and_then as_bool (get_member key.now (table_view table.now))) false }
 {
     match find(table, key) {
         Some(value) => value.as_bool().unwrap_or(false),
@@ -62,7 +64,8 @@ pub(crate) fn number(table: &Table, key: &str) -> Option<i64>
 
 /// The table at a key.
 pub(crate) fn table_at<'a>(table: &'a Table, key: &str) -> Option<&'a Table>
-    ensures { option_map (λ inner. table_view inner.now) result ≡ option_and_then as_table (get_member key.now (table_view table.now)) }
+    ensures { option_map (λ inner. table_view inner.now) result
+        ≡ option_and_then as_table (get_member key.now (table_view table.now)) }
 {
     match find(table, key) {
         Some(value) => value.as_table(),
@@ -72,7 +75,8 @@ pub(crate) fn table_at<'a>(table: &'a Table, key: &str) -> Option<&'a Table>
 
 /// The replica of a number.
 pub(crate) fn replica(number: i64) -> Option<ReplicaNo>
-    ensures { MatchOption result (is_replica number ≡ false) (λ replica. (is_replica number ≡ true) × (number ≡ pos replica)) }
+    ensures { MatchOption result (is_replica number ≡ false)
+        (λ replica. (is_replica number ≡ true) × (number ≡ pos replica)) }
 {
     match u8::try_from(number) {
         Ok(number) => ReplicaNo::new(number),
@@ -82,7 +86,9 @@ pub(crate) fn replica(number: i64) -> Option<ReplicaNo>
 
 /// The table at a key, where it holds one.
 fn one<'a>(alloc: Global, table: &'a Table, key: &str) -> Result<Vec<&'a Table>, AllocError>
-    ensures { IfOk result (λ found. map (λ t. table_view t.now) found.items ≡ option_to_list (option_and_then as_table (get_member key.now (table_view table.now)))) }
+    ensures { IfOk result
+        (λ found. map (λ t. table_view t.now) found.items
+        ≡ option_to_list (option_and_then as_table (get_member key.now (table_view table.now)))) }
 {
     let mut found = Vec::new(alloc);
     if let Some(inner) = table_at(table, key) {
@@ -94,7 +100,9 @@ fn one<'a>(alloc: Global, table: &'a Table, key: &str) -> Result<Vec<&'a Table>,
 /// The values of the array at a key.
 #[tactic(auto, using(crate::proofs::Tables::values_of_array))]
 fn items<'a>(table: &'a Table, key: &str) -> &'a [Value]
-    ensures { map view result.now ≡ (elim (option_and_then as_array (get_member key.now (table_view table.now))) [ None ↦ [] | Some items ↦ items_in items ]) }
+    ensures { map view result.now
+        ≡ (elim (option_and_then as_array (get_member key.now (table_view table.now)))
+        [ None ↦ [] | Some items ↦ items_in items ]) }
 {
     match find(table, key) {
         Some(value) => match value.as_array() {
@@ -108,7 +116,9 @@ fn items<'a>(table: &'a Table, key: &str) -> &'a [Value]
 /// The tables in the array at a key.
 
 fn many<'a>(alloc: Global, table: &'a Table, key: &str) -> Result<Vec<&'a Table>, AllocError>
-    ensures { IfOk result (λ found. map (λ t. table_view t.now) found.items ≡ many_tables (get_member key.now (table_view table.now))) }
+    ensures { IfOk result
+        (λ found. map (λ t. table_view t.now) found.items
+        ≡ many_tables (get_member key.now (table_view table.now))) }
 {
     let mut found = Vec::new(alloc);
     let values = items(table, key);
@@ -126,7 +136,9 @@ pub(crate) fn tables_of<'a>(
     document: &'a Table,
     section: Section,
 ) -> Result<Vec<&'a Table>, AllocError>
-    ensures { IfOk result (λ found. map (λ t. table_view t.now) found.items ≡ tables (table_view document.now) section) }
+    ensures { IfOk result
+        (λ found. map (λ t. table_view t.now) found.items
+        ≡ tables (table_view document.now) section) }
 {
     match section {
         Section::Document => {

@@ -39,7 +39,7 @@ impl Place {
     ghost use Rattle.ua_settings.specs.declared.keys.Section.TheVariants.{Folder, Variable};
     ghost use Rattle.ua_settings.specs.declared.place.Place.TheVariants.{Key};
     ghost use Rattle.ua_settings.specs.File.{tables};
-    ghost use Rattle.ua_settings.specs.Place.{IsPlaceOf, IsLine, place_in, place_among, text_of};
+    ghost use Rattle.ua_settings.specs.Place.{IsPlaceOf, IsLineNumber, place_in, place_among, place_text};
 
     /// Where a text is refused that `Settings::read` refuses: the line where it is no TOML, else the first key that is
     /// unknown, missing or bad, else the type or the id that makes no address space. The one error is want of memory.
@@ -55,7 +55,7 @@ impl Place {
     /// The line of an error of the TOML reader.
     fn in_text(text: &str, error: &toml::de::Error) -> Result<Place, AllocError>
         requires { IsWithin text.now error.now }
-        ensures { IfOk result (λ place. IsLine place × ¬ IsMemory error.now) }
+        ensures { IfOk result (λ place. IsLineNumber place × ¬ IsMemory error.now) }
     {
         match error.span() {
             None => Err(AllocError),
@@ -75,7 +75,10 @@ impl Place {
 
     /// What makes the nodes of a document no address space.
     fn among_nodes(alloc: Global, document: &Table) -> Result<Place, AllocError>
-        ensures { IfOk result (λ place. place ≡ place_among (tables (table_view document.now) Folder) (tables (table_view document.now) Variable)) }
+        ensures { IfOk result
+            (λ place. place
+            ≡ place_among (tables (table_view document.now) Folder)
+            (tables (table_view document.now) Variable)) }
     {
         let folders = tables_of(alloc, document, Section::Folder)?;
         let variables = tables_of(alloc, document, Section::Variable)?;
@@ -91,7 +94,8 @@ impl Place {
 
     /// The place of a key.
     fn at(alloc: Global, spot: Spot<'_>) -> Result<Place, AllocError>
-        ensures { IfOk result (λ place. place ≡ Key spot.entry.section spot.entry.number spot.entry.key.now) }
+        ensures { IfOk result
+            (λ place. place ≡ Key spot.entry.section spot.entry.number spot.entry.key.now) }
     {
         Ok(Place::Key {
             section: spot.section,
@@ -103,7 +107,7 @@ impl Place {
     /// The text that tells it: `line 6`, `[[variable]] 17, type`, `1001 folders and variables`. An empty key is `""`; in one
     /// with a control character a question mark stands for all that is no printing ASCII. The one error is want of memory.
     pub fn text(&self, alloc: Global) -> Result<String, AllocError>
-        ensures { IfOk result (λ text. string_bytes text ≡ text_of self.now) }
+        ensures { IfOk result (λ text. string_bytes text ≡ place_text self.now) }
     {
         let mut text = String::new(alloc);
         match self {
@@ -192,7 +196,10 @@ fn line_at(text: &[u8], place: usize) -> usize
 
 /// The place of the first variable whose type is none.
 fn first_untyped(variables: &[&Table]) -> Option<usize>
-    ensures { result ≡ position (λ table. not (is_some (type_number (text_at (codes "type") (table_view table.now))))) variables.now }
+    ensures { result
+        ≡ position
+        (λ table.
+        not (is_some (type_number (text_at (codes "type") (table_view table.now))))) variables.now }
 {
     variables
         .iter()
@@ -211,7 +218,9 @@ fn untyped(variables: &[&Table]) -> Option<usize>
 
 /// Whether an id is one of others, or of those before it.
 fn stands_before(id: &str, others: &[&str], before: &[&str]) -> bool
-    ensures { result ≡ list_any (λ other. pointwise nat_eq other id.now) (map (λ id. id.now) others.now ++ map (λ id. id.now) before.now) }
+    ensures { result
+        ≡ list_any (λ other. pointwise nat_eq other id.now)
+        (map (λ id. id.now) others.now ++ map (λ id. id.now) before.now) }
 {
     is_among(id, others) || is_among(id, before)
 }
@@ -251,7 +260,10 @@ fn node_spot(
     folders: &[&Table],
     variables: &[&Table],
 ) -> Result<Option<Spot<'static>>, AllocError>
-    ensures { IfOk result (λ found. option_map spot_of found ≡ node_spot (map (λ table. table_view table.now) folders.now) (map (λ table. table_view table.now) variables.now)) }
+    ensures { IfOk result
+        (λ found. option_map spot_of found
+        ≡ node_spot (map (λ table. table_view table.now) folders.now)
+        (map (λ table. table_view table.now) variables.now)) }
 {
     let folder_ids = texts(alloc, folders, "id")?;
     let variable_ids = texts(alloc, variables, "id")?;

@@ -37,7 +37,9 @@ fn read_id(archive: &Table) -> Uuid
 
 /// The number of this replica.
 fn read_replica(archive: &Table) -> ReplicaNo
-    requires { test is_replica (option_and_then as_integer (get_member (codes "replica") (table_view archive.now))) ≡ true }
+    requires { test is_replica
+        (option_and_then as_integer (get_member (codes "replica") (table_view archive.now)))
+        ≡ true }
     ensures { result ≡ number_at (codes "replica") (table_view archive.now) }
 {
     let Some(number) = number(archive, "replica") else {
@@ -52,7 +54,18 @@ fn read_replica(archive: &Table) -> ReplicaNo
 /// The users of these tables.
 fn read_users(alloc: Global, anonymous: bool, tables: &[&Table]) -> Result<Users, SettingsFault>
     requires { AllByRecursion (λ user. IsSoundUser (table_view user.now)) tables.now }
-    ensures ok { IfOk result (λ users. users ≡ record { anonymous = anonymous; named = map (λ user. (record { name = text_at (codes "name") (table_view user.now); password = text_at (codes "password") (table_view user.now) })) tables.now }) }
+    ensures ok { IfOk result
+        (λ users. users
+        ≡ record {
+          anonymous = anonymous;
+          named =
+              map
+              (λ user.
+              (record {
+                name = text_at (codes "name") (table_view user.now);
+                password = text_at (codes "password") (table_view user.now);
+              })) tables.now;
+        }) }
     ensures err { IfErr result (λ fault. fault ≡ SettingsFault.OutOfMemory) }
 {
     let mut users = Users::new(alloc, anonymous);
@@ -67,7 +80,9 @@ fn read_users(alloc: Global, anonymous: bool, tables: &[&Table]) -> Result<Users
 
 /// The folders of these tables.
 fn read_folders<'a>(alloc: Global, tables: &[&'a Table]) -> Result<Vec<FolderPlan<'a>>, AllocError>
-    ensures { IfOk result (λ folders. map folder_of folders.items ≡ map (λ folder. folder_in (table_view folder.now)) tables.now) }
+    ensures { IfOk result
+        (λ folders. map folder_of folders.items
+        ≡ map (λ folder. folder_in (table_view folder.now)) tables.now) }
 {
     let mut folders = Vec::new(alloc);
     for table in tables {
@@ -84,7 +99,9 @@ fn read_variables<'a>(
     alloc: Global,
     tables: &[&'a Table],
 ) -> Result<Vec<VariablePlan<'a>>, AllocError>
-    ensures { IfOk result (λ variables. map entry_of variables.items ≡ map (λ variable. variable_in (table_view variable.now)) tables.now) }
+    ensures { IfOk result
+        (λ variables. map entry_of variables.items
+        ≡ map (λ variable. variable_in (table_view variable.now)) tables.now) }
 {
     let mut variables = Vec::new(alloc);
     for table in tables {
@@ -101,7 +118,9 @@ fn read_variables<'a>(
 
 /// The folders of a document.
 fn folders_of<'a>(alloc: Global, document: &'a Table) -> Result<Vec<FolderPlan<'a>>, AllocError>
-    ensures { IfOk result (λ folders. map folder_of folders.items ≡ map folder_in (tables (table_view document.now) Section.Folder)) }
+    ensures { IfOk result
+        (λ folders. map folder_of folders.items
+        ≡ map folder_in (tables (table_view document.now) Section.Folder)) }
 {
     let tables = tables_of(alloc, document, Section::Folder)?;
     read_folders(alloc, tables.as_slice())
@@ -109,7 +128,9 @@ fn folders_of<'a>(alloc: Global, document: &'a Table) -> Result<Vec<FolderPlan<'
 
 /// The variables of a document.
 fn variables_of<'a>(alloc: Global, document: &'a Table) -> Result<Vec<VariablePlan<'a>>, AllocError>
-    ensures { IfOk result (λ variables. map entry_of variables.items ≡ map variable_in (tables (table_view document.now) Section.Variable)) }
+    ensures { IfOk result
+        (λ variables. map entry_of variables.items
+        ≡ map variable_in (tables (table_view document.now) Section.Variable)) }
 {
     let tables = tables_of(alloc, document, Section::Variable)?;
     read_variables(alloc, tables.as_slice())
@@ -135,8 +156,10 @@ fn build_space(
 ) -> Result<Space, SettingsFault>
     requires sound { IsSound (table_view document.now) }
     requires same { table_view server.now ≡ table_at (codes "server") (table_view document.now) }
-    requires folders { map folder_of folders.now ≡ map folder_in (tables (table_view document.now) Section.Folder) }
-    requires variables { map entry_of variables.now ≡ map variable_in (tables (table_view document.now) Section.Variable) }
+    requires folders { map folder_of folders.now
+        ≡ map folder_in (tables (table_view document.now) Section.Folder) }
+    requires variables { map entry_of variables.now
+        ≡ map variable_in (tables (table_view document.now) Section.Variable) }
     ensures { IsSpaceOrStarved (table_view document.now) result }
 {
     let plan = Plan {
@@ -169,7 +192,9 @@ fn read_space(alloc: Global, document: &Table, server: &Table) -> Result<Space, 
 
 /// The file of the store.
 fn read_store(alloc: Global, archive: &Table) -> Result<Option<Text>, AllocError>
-    ensures { IfOk result (λ store. store ≡ option_and_then as_str (get_member (codes "store") (table_view archive.now))) }
+    ensures { IfOk result
+        (λ store. store
+        ≡ option_and_then as_str (get_member (codes "store") (table_view archive.now))) }
 {
     match find_text(archive, "store") {
         None => Ok(None),
@@ -187,7 +212,10 @@ fn settings_of(
 ) -> Result<Settings, SettingsFault>
     requires archive { IsSoundArchive (table_view archive.now) }
     requires server { IsSoundServer (table_view server.now) }
-    ensures ok { IfOk result (λ settings. settings ≡ record (values_of_tables (table_view archive.now) (table_view server.now) [] space) { users = users }) }
+    ensures ok { IfOk result
+        (λ settings. settings
+        ≡ record (values_of_tables (table_view archive.now) (table_view server.now) [] space)
+        { users = users }) }
     ensures err { IfErr result (λ fault. fault ≡ SettingsFault.OutOfMemory) }
 {
     Ok(Settings::of(Parts {

@@ -6,7 +6,7 @@ ghost use Rattle.toml.specs.Errors.{IsMemory};
 ghost use Rattle.toml.specs.Parse.{parse_document};
 ghost use Rattle.toml.specs.View.{table_view};
 ghost use Rattle.ua_settings.specs.Reading.{IsReadOrStarved};
-ghost use Rattle.ua_settings.specs.Settings.{bare, IsShort};
+ghost use Rattle.ua_settings.specs.Settings.{bare, IsSettingsText};
 
 use crate::fault::SettingsFault;
 use crate::judging::judge;
@@ -55,13 +55,23 @@ pub struct Settings {
 }
 
 impl Model for Settings {
-    ghost use Rattle.ua_settings.specs.Settings.{Values, IsShort};
+    ghost use Rattle.ua_settings.specs.Settings.{Values, IsSettingsText};
 
     ghost Value = { Values };
 
-    ghost view = { λ s. record { archive = s.archive; replica = s.replica; store = s.store; listen = s.listen; url = s.url; application = s.application; users = s.users; space = s.space } };
+    ghost view = { λ s.
+        record {
+          archive = s.archive;
+          replica = s.replica;
+          store = s.store;
+          listen = s.listen;
+          url = s.url;
+          application = s.application;
+          users = s.users;
+          space = s.space;
+        } };
 
-    ghost invariant = { λ s. IsShort s.url × IsShort s.application };
+    ghost invariant = { λ s. IsSettingsText s.url × IsSettingsText s.application };
 }
 
 impl Settings {
@@ -115,8 +125,8 @@ impl Settings {
 
     /// The settings of these parts. The URL and the name of the application have less than 2^31 bytes each.
     pub fn of(parts: Parts) -> Settings
-        requires url { IsShort parts.url }
-        requires application { IsShort parts.application }
+        requires url { IsSettingsText parts.url }
+        requires application { IsSettingsText parts.application }
         ensures { result ≡ parts }
     {
         Settings {
@@ -165,7 +175,7 @@ impl Settings {
     /// The URL of the server's endpoint.
     pub fn url(&self) -> &str
         ensures same { result.now ≡ self.now.url }
-        ensures short { IsShort result.now }
+        ensures short { IsSettingsText result.now }
     {
         self.url.as_str()
     }
@@ -173,7 +183,7 @@ impl Settings {
     /// The URI of the application.
     pub fn application(&self) -> &str
         ensures same { result.now ≡ self.now.application }
-        ensures short { IsShort result.now }
+        ensures short { IsSettingsText result.now }
     {
         self.application.as_str()
     }
@@ -195,7 +205,8 @@ impl Settings {
 
 /// What an error of the TOML reader is called here.
 fn fault_of(error: &toml::de::Error) -> SettingsFault
-    ensures { ((result ≡ SettingsFault.OutOfMemory) × IsMemory error.now) ⊎ ((result ≡ SettingsFault.NotToml) × ¬ IsMemory error.now) }
+    ensures { ((result ≡ SettingsFault.OutOfMemory) × IsMemory error.now)
+        ⊎ ((result ≡ SettingsFault.NotToml) × ¬ IsMemory error.now) }
 {
     if error.is_memory() {
         SettingsFault::OutOfMemory

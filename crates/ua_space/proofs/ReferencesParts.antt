@@ -8,7 +8,7 @@ use Rattle.ua_space.specs.declared.layout.Layout.{Layout}
 use Rattle.ua_space.specs.Space.{Node, Root, Objects, OfFolder}
 use Rattle.ua_space.specs.Nodes.{id_of}
 use Rattle.ua_space.specs.Index.{has_folder_id}
-use Rattle.ua_space.specs.References.{Link, link_to, type_definition, type_number}
+use Rattle.ua_space.specs.References.{Link, link_to, type_definition, reference_type_number}
 
 abbrev pub no_node : NodeId
 no_node = Numeric 0 0
@@ -35,4 +35,4 @@ abbrev pub definition_id : Node → NodeId
 definition_id node = elim (type_definition node) [ None ↦ no_node | Some type ↦ id_of type ]
 
 abbrev pub type_id : ReferenceType → NodeId
-type_id reference_type = Numeric 0 (type_number reference_type)
+type_id reference_type = Numeric 0 (reference_type_number reference_type)

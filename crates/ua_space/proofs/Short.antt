@@ -30,7 +30,7 @@ use Rattle.ua_space.specs.Index.{has_folder_id}
 use Rattle.ua_space.proofs.SpaceParts.{nodes}
 use Rattle.ua_space.specs.Attributes.{own_attributes, attributes, IsShortAnswered}
 use Rattle.ua_space.proofs.AttributesParts.{common_attributes}
-use Rattle.ua_space.specs.References.{Link, holds, children, type_definition, parent, references, is_followed, told}
+use Rattle.ua_space.specs.References.{Link, holds, children, type_definition, parent, references, is_followed, shown_reference}
 use Rattle.ua_space.proofs.ReferencesParts.{type_id, definition_id, folder_node, no_node, objects_below, organizes, is_defined_by}
 
 -- its texts can be counted
@@ -209,7 +209,7 @@ links_short space short node =
     all_append LeadsShort (map (organizes true) (children space node) ++ map is_defined_by (option_to_list (type_definition node))) _
     (all_append LeadsShort (map (organizes true) (children space node)) _ down type) back
 
-told_short : (mask : ℕ) (link : Link) → LeadsShort link → IsShortReference (told mask link)
+told_short : (mask : ℕ) (link : Link) → LeadsShort link → IsShortReference (shown_reference mask link)
 told_short mask link short = (type_short (has mask 1), id_counted link.target short, name_short (has mask 8), text_short (has mask 16), defined_short (has mask 32))
   where
     type_short : (b : Bool) → IsShortNode (if b then type_id link.reference_type else no_node)
@@ -271,18 +271,18 @@ few_links space node short =
 abbrev pub AreShort : List ReferenceDescription → Type 0
 AreShort references = (length references < 2 ^ 31) × All IsShortReference references
 
-each_told : (mask : ℕ) (links : List Link) → AllByRecursion LeadsShort links → AllByRecursion (λ link. IsShortReference (told mask link)) links
+each_told : (mask : ℕ) (links : List Link) → AllByRecursion LeadsShort links → AllByRecursion (λ link. IsShortReference (shown_reference mask link)) links
 each_told mask [] all = tt
 each_told mask (link ∷ links) all = (told_short mask link all.0, each_told mask links all.1)
 
-pub told_all : (space : Layout) (d : BrowseFields) → IsShortLayout space → (direction : BrowseDirection) (node : Node) → AreShort (map (told d.1.1.1.1.1) (filter (is_followed direction d) (references space node)))
+pub told_all : (space : Layout) (d : BrowseFields) → IsShortLayout space → (direction : BrowseDirection) (node : Node) → AreShort (map (shown_reference d.1.1.1.1.1) (filter (is_followed direction d) (references space node)))
 told_all space d short direction node =
     let mask = d.1.1.1.1.1 in
     let some = filter (is_followed direction d) (references space node) in (
-      omega (arith, length-map some (told mask), fewer (is_followed direction d) (references space node), few_links space node short),
-      All-map IsShortReference (told mask) some
-          (all_of (λ link. IsShortReference (told mask link)) some
-          (all_filter (is_followed direction d) (λ link. IsShortReference (told mask link)) (references space node) (each_told mask (references space node) (links_short space short node)))),
+      omega (arith, length-map some (shown_reference mask), fewer (is_followed direction d) (references space node), few_links space node short),
+      All-map IsShortReference (shown_reference mask) some
+          (all_of (λ link. IsShortReference (shown_reference mask link)) some
+          (all_filter (is_followed direction d) (λ link. IsShortReference (shown_reference mask link)) (references space node) (each_told mask (references space node) (links_short space short node)))),
     )
 
 -- what is answered unless memory is wanting

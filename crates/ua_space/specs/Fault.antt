@@ -3,8 +3,8 @@ use Rattle.std.specs.Prelude.{ℕ}
 use Rattle.ua_space.specs.declared.fault.BuildFault.{BuildFault}
 use Rattle.ua_space.specs.declared.fault.BuildFault.TheVariants.{DuplicateNode, BadType, TooMany, OutOfMemory}
 
-abbrev pub number_of : BuildFault → ℕ
-number_of DuplicateNode = 1
-number_of BadType = 2
-number_of TooMany = 3
-number_of OutOfMemory = 4
+abbrev pub build_fault_number : BuildFault → ℕ
+build_fault_number DuplicateNode = 1
+build_fault_number BadType = 2
+build_fault_number TooMany = 3
+build_fault_number OutOfMemory = 4

@@ -19,24 +19,41 @@ abbrev pub folder_of : FolderPlan → Folder
 folder_of folder = record { id = folder.id.now; name = folder.name.now }
 
 abbrev pub entry_of : VariablePlan → Entry
-entry_of plan = record { id = plan.id.now; name = plan.name.now; type_name = plan.type_name.now; array = plan.array; folder = option_copied plan.folder }
+entry_of plan =
+    record {
+      id = plan.id.now;
+      name = plan.name.now;
+      type_name = plan.type_name.now;
+      array = plan.array;
+      folder = option_copied plan.folder;
+    }
 
 abbrev pub variable_of : VariablePlan → Variable
 variable_of plan = variable_for (entry_of plan)
 
 -- the space of a plan, or why there is none
 abbrev pub planned_by : Plan → Result Layout BuildFault
-planned_by plan = planned plan.namespace.now (map folder_of plan.folders.now) (map entry_of plan.variables.now)
+planned_by plan =
+    planned plan.namespace.now (map folder_of plan.folders.now) (map entry_of plan.variables.now)
 
 abbrev pub layout_of : Plan → Layout
-layout_of plan = record { namespace = plan.namespace.now; folders = map folder_of plan.folders.now; variables = map variable_of plan.variables.now }
+layout_of plan =
+    record {
+      namespace = plan.namespace.now;
+      folders = map folder_of plan.folders.now;
+      variables = map variable_of plan.variables.now;
+    }
 
 -- the same as the code judges it
 abbrev pub judged_by : Plan → Result Layout BuildFault
 judged_by plan =
     if nat_lt 1000 (length plan.folders.now + length plan.variables.now) then Err TooMany
-    else if not (list_all (λ variable. is_some (type_number variable.type_name.now)) plan.variables.now) then Err BadType
-    else if have_equal (map (λ folder. folder.id.now) plan.folders.now ++ map (λ variable. variable.id.now) plan.variables.now) then Err DuplicateNode
+    else if not
+    (list_all (λ variable. is_some (type_number variable.type_name.now)) plan.variables.now)
+    then Err BadType
+    else if have_equal
+    (map (λ folder. folder.id.now) plan.folders.now
+    ++ map (λ variable. variable.id.now) plan.variables.now) then Err DuplicateNode
     else Ok (layout_of plan)
 
 -- ---- what is asked of a plan
@@ -47,10 +64,13 @@ HasPlannedId variable = (0 < length variable.id.now) × (length variable.id.now 
 
 -- the folder that a variable names is one of the plan
 abbrev pub HasFolder : List FolderPlan → VariablePlan → Type 0
-HasFolder folders variable = IfSome variable.folder (λ id. list_any (λ folder. pointwise nat_eq folder.id.now id.now) folders ≡ true)
+HasFolder folders variable =
+    IfSome variable.folder
+    (λ id. list_any (λ folder. pointwise nat_eq folder.id.now id.now) folders ≡ true)
 
 -- each text can be counted
 pub record HasShortPlan (plan : Plan) : Type 0 where
   pub namespace : IsCountable plan.namespace.now
   pub folders : AllByRecursion (λ folder. HasShortTexts (folder_of folder)) plan.folders.now
-  pub variables : AllByRecursion (λ variable. HasShortName (variable_of variable)) plan.variables.now
+  pub variables : AllByRecursion
+      (λ variable. HasShortName (variable_of variable)) plan.variables.now

@@ -34,19 +34,33 @@ node_of lent.BaseDataVariableType = BaseDataVariableType
 
 -- ---- attributes that each node has (Part 3, 5.2)
 
--- the id of each, its class and its name
-abbrev pub facts : Node → record { id : NodeId; node_class : NodeClass; name : List ℕ }
-facts Root = record { id = Numeric 0 84; node_class = class.Object; name = codes "Root" }
-facts Objects = record { id = Numeric 0 85; node_class = class.Object; name = codes "Objects" }
-facts NamespaceArray = record { id = Numeric 0 2255; node_class = class.Variable; name = codes "NamespaceArray" }
-facts State = record { id = Numeric 0 2259; node_class = class.Variable; name = codes "State" }
-facts (OfFolder folder) = record { id = Named 1 folder.id; node_class = class.Object; name = folder.name }
-facts (OfVariable variable) = record { id = Named 1 variable.id; node_class = class.Variable; name = variable.name }
-facts FolderType = record { id = Numeric 0 61; node_class = class.ObjectType; name = codes "FolderType" }
-facts BaseDataVariableType = record { id = Numeric 0 63; node_class = class.VariableType; name = codes "BaseDataVariableType" }
+-- what is fixed of a node: its id, its class and its name
+abbrev pub Facts : Type 0
+Facts = record { id : NodeId; node_class : NodeClass; name : List ℕ }
 
+-- these
+abbrev pub facts_of : NodeId → NodeClass → List ℕ → Facts
+facts_of id kind name = record { id = id; node_class = kind; name = name }
+
+-- the id of each, its class and its name
+abbrev pub facts : Node → Facts
+facts Root = facts_of (Numeric 0 84) class.Object (codes "Root")
+facts Objects = facts_of (Numeric 0 85) class.Object (codes "Objects")
+facts NamespaceArray = facts_of (Numeric 0 2255) class.Variable (codes "NamespaceArray")
+facts State = facts_of (Numeric 0 2259) class.Variable (codes "State")
+facts (OfFolder folder) = facts_of (Named 1 folder.id) class.Object folder.name
+facts (OfVariable variable) = facts_of (Named 1 variable.id) class.Variable variable.name
+facts FolderType = facts_of (Numeric 0 61) class.ObjectType (codes "FolderType")
+facts BaseDataVariableType =
+    facts_of (Numeric 0 63) class.VariableType (codes "BaseDataVariableType")
+
+-- the BrowseName of a node (Part 3, 5.2.4)
 abbrev pub browse_name_of : Node → QualifiedName
-browse_name_of node = record { namespace = elim node [ OfFolder folder ↦ 1 | OfVariable variable ↦ 1 | _ ↦ 0 ]; name = Some (facts node).name }
+browse_name_of node =
+    record {
+      namespace = elim node [ OfFolder folder ↦ 1 | OfVariable variable ↦ 1 | _ ↦ 0 ];
+      name = Some (facts node).name;
+    }
 
 -- the name, in no language
 abbrev pub display_name_of : Node → LocalizedText
@@ -62,13 +76,19 @@ is_same_id _ _ = false
 
 -- the node of this id: one of the four of namespace 0, a folder or a variable
 abbrev pub node_at : Layout → NodeId → Option Node
-node_at space id = find (λ node. is_same_id (facts node).id id) ((Root ∷ Objects ∷ NamespaceArray ∷ State ∷ []) ++ (map OfFolder space.folders ++ map OfVariable space.variables))
+node_at space id =
+    find (λ node. is_same_id (facts node).id id)
+    ((Root ∷ Objects ∷ NamespaceArray ∷ State ∷ [])
+    ++ (map OfFolder space.folders ++ map OfVariable space.variables))
 
+-- the type of the variable with this id, where there is one
 abbrev pub value_type_at : Layout → NodeId → Option ValueType
-value_type_at space id = elim (node_at space id) [ Some (OfVariable variable) ↦ Some variable.value_type | _ ↦ None ]
+value_type_at space id =
+    elim (node_at space id) [ Some (OfVariable variable) ↦ Some variable.value_type | _ ↦ None ]
 
 -- ---- what each variable keeps
 
+-- the variable's id has at most 256 bytes
 abbrev pub HasShortId : Variable → Type 0
 HasShortId variable = length variable.id ≤ 256
 
@@ -79,15 +99,19 @@ IsShortId _ = Unit {0}
 
 -- ---- what each space keeps: texts that can be counted, and at most 1,000 nodes
 
+-- the text's length has 31 bits
 abbrev pub IsCountable : List ℕ → Type 0
 IsCountable text = length text < 2 ^ 31
 
+-- the folder's id and its name can be counted in 31 bits
 abbrev pub HasShortTexts : Folder → Type 0
 HasShortTexts folder = IsCountable folder.id × IsCountable folder.name
 
+-- the variable's name can be counted in 31 bits
 abbrev pub HasShortName : Variable → Type 0
 HasShortName variable = IsCountable variable.name
 
+-- what the types and the settings' rules promise of a layout
 pub record IsShortLayout (space : Layout) : Type 0 where
   pub namespace : IsCountable space.namespace
   pub folders : AllByRecursion HasShortTexts space.folders

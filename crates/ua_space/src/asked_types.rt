@@ -11,7 +11,9 @@ use ua_binary::NodeIdRef;
 
 /// The number of an id of namespace 0.
 pub(crate) fn standard_number(id: NodeIdRef<'_>) -> Option<u32>
-    ensures { result ≡ (elim (id_of_lent id.entry) [ Numeric namespace number ↦ if namespace == 0 then Some number else None | _ ↦ None ]) }
+    ensures { result
+        ≡ (elim (id_of_lent id.entry)
+        [ Numeric namespace number ↦ if namespace == 0 then Some number else None | _ ↦ None ]) }
 {
     match id {
         NodeIdRef::Numeric(namespace, number) => {
@@ -37,7 +39,8 @@ pub(crate) fn is_reference_type(id: NodeIdRef<'_>) -> bool
 
 /// Whether a browse may ask for the type of this number.
 fn is_asked(number: u32) -> bool
-    ensures { result ≡ list_any (nat_eq number) (0 ∷ 31 ∷ 32 ∷ 33 ∷ 34 ∷ 35 ∷ 40 ∷ 44 ∷ 45 ∷ 46 ∷ 47 ∷ []) }
+    ensures { result
+        ≡ list_any (nat_eq number) (0 ∷ 31 ∷ 32 ∷ 33 ∷ 34 ∷ 35 ∷ 40 ∷ 44 ∷ 45 ∷ 46 ∷ 47 ∷ []) }
 {
     matches!(number, 0 | 31 | 32 | 33 | 34 | 35 | 40 | 44 | 45 | 46 | 47)
 }

@@ -95,7 +95,13 @@ impl VariableClass {
 
     /// A variable of the plan.
     fn archived(value_type: ValueType) -> VariableClass
-        ensures { result ≡ record { data_type = value_type.number; is_array = value_type.array; access = 13; historizing = true } }
+        ensures { result
+            ≡ record {
+              data_type = value_type.number;
+              is_array = value_type.array;
+              access = 13;
+              historizing = true;
+            } }
     {
         VariableClass {
             data_type: u32::from(value_type.number),
@@ -107,7 +113,11 @@ impl VariableClass {
 
     /// An attribute of a variable that isn't its value.
     fn attribute(self, attribute: u32) -> Result<Answered, Status>
-        ensures { result ≡ ok_or (lookup (nat_eq attribute) (variable_attributes self.data_type self.is_array self.access self.historizing)) Status.BAD_ATTRIBUTE_ID_INVALID }
+        ensures { result
+            ≡ ok_or
+            (lookup (nat_eq attribute)
+            (variable_attributes self.data_type self.is_array self.access
+            self.historizing)) Status.BAD_ATTRIBUTE_ID_INVALID }
     {
         let value = match attribute {
             DATA_TYPE => Scalar::NodeId(NodeId::Numeric(0, self.data_type)),
@@ -144,7 +154,10 @@ impl Layout {
         node: Node<'_>,
         attribute: u32,
     ) -> Result<Answered, Status>
-        ensures { IsOrStarved Status.BAD_OUT_OF_MEMORY (ok_or (lookup (nat_eq attribute) (attributes self.now (node_of node.entry))) Status.BAD_ATTRIBUTE_ID_INVALID) result }
+        ensures { IsOrStarved Status.BAD_OUT_OF_MEMORY
+            (ok_or
+            (lookup (nat_eq attribute)
+            (attributes self.now (node_of node.entry))) Status.BAD_ATTRIBUTE_ID_INVALID) result }
     {
         let value = match attribute {
             NODE_ID => Scalar::NodeId(node.id().to_owned(alloc)?),
@@ -163,7 +176,11 @@ impl Layout {
         node: Node<'_>,
         attribute: u32,
     ) -> Result<Answered, Status>
-        ensures { IsOrStarved Status.BAD_OUT_OF_MEMORY (ok_or (lookup (nat_eq attribute) (own_attributes self.now (node_of node.entry))) Status.BAD_ATTRIBUTE_ID_INVALID) result }
+        ensures { IsOrStarved Status.BAD_OUT_OF_MEMORY
+            (ok_or
+            (lookup (nat_eq attribute)
+            (own_attributes self.now
+            (node_of node.entry))) Status.BAD_ATTRIBUTE_ID_INVALID) result }
     {
         match node {
             Node::Root | Node::Objects | Node::Folder(_) => Answered::of_object(attribute),
@@ -183,7 +200,13 @@ impl Layout {
 
     /// The URIs of the namespaces, in the order of their indices.
     fn namespace_array(&self, alloc: Global) -> Result<Answered, Status>
-        ensures { IsOrStarved Status.BAD_OUT_OF_MEMORY (Ok (Value (variant.Array (array.String (Some (codes "http://opcfoundation.org/UA/") ∷ Some self.now.namespace ∷ []))))) result }
+        ensures { IsOrStarved Status.BAD_OUT_OF_MEMORY
+            (Ok
+            (Value
+            (variant.Array
+            (array.String
+            (Some (codes "http://opcfoundation.org/UA/") ∷ Some self.now.namespace
+            ∷ []))))) result }
     {
         let mut uris = Vec::new(alloc);
         uris.push(Some(Text::from_str(alloc, STANDARD_NAMESPACE)?))?;
@@ -198,7 +221,10 @@ impl Answered {
 
     /// An attribute of an object.
     fn of_object(attribute: u32) -> Result<Answered, Status>
-        ensures { result ≡ ok_or (lookup (nat_eq attribute) ((12, one (scalar.Byte 0)) ∷ [])) Status.BAD_ATTRIBUTE_ID_INVALID }
+        ensures { result
+            ≡ ok_or
+            (lookup (nat_eq attribute)
+            ((12, one (scalar.Byte 0)) ∷ [])) Status.BAD_ATTRIBUTE_ID_INVALID }
     {
         if attribute == EVENT_NOTIFIER {
             Ok(Answered::one(Scalar::Byte(NO_EVENTS)))

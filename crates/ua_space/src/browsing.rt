@@ -9,7 +9,7 @@ ghost use Rattle.ua_binary.specs.Binary.{node_of as id_of_lent};
 ghost use Rattle.ua_binary.specs.Format.{IsOrStarved};
 ghost use Rattle.ua_variant.specs.DataValue.{has};
 ghost use Rattle.ua_services.specs.Browsing.{browse_fields, class_number};
-ghost use Rattle.ua_space.specs.References.{is_followed, told, link_of, type_definition, type_number};
+ghost use Rattle.ua_space.specs.References.{is_followed, shown_reference, link_of, type_definition, reference_type_number};
 
 use crate::asked_types::standard_number;
 use crate::link::{Link, ReferenceType};
@@ -62,7 +62,9 @@ impl ReferenceType {
     /// Whether it is a subtype of References (31), and of NonHierarchicalReferences (32) or
     /// HierarchicalReferences (33).
     fn is_subtype_of(self, number: u32) -> bool
-        ensures { result ≡ list_any (nat_eq number) (elim self [ Organizes ↦ 33 ∷ 31 ∷ [] | HasTypeDefinition ↦ 32 ∷ 31 ∷ [] ]) }
+        ensures { result
+            ≡ list_any (nat_eq number)
+            (elim self [ Organizes ↦ 33 ∷ 31 ∷ [] | HasTypeDefinition ↦ 32 ∷ 31 ∷ [] ]) }
     {
         match self {
             ReferenceType::Organizes => matches!(number, 33 | 31),
@@ -73,7 +75,8 @@ impl ReferenceType {
 
 /// Whether a reference is followed.
 fn is_along(direction: BrowseDirection, is_forward: bool) -> bool
-    ensures { result ≡ (elim direction [ Forward ↦ is_forward | Inverse ↦ not is_forward | Both ↦ true ]) }
+    ensures { result
+        ≡ (elim direction [ Forward ↦ is_forward | Inverse ↦ not is_forward | Both ↦ true ]) }
 {
     match direction {
         BrowseDirection::Forward => is_forward,
@@ -112,7 +115,11 @@ pub(crate) fn tell(
     description: &BrowseDescription<'_>,
     links: &[Link<'_>],
 ) -> Result<Listing<ReferenceDescription>, Status>
-    ensures { IsOrStarved Status.BAD_OUT_OF_MEMORY (Ok (map (told description.now.result_mask) (filter (is_followed direction (browse_fields description.now)) (map link_of links.now)))) result }
+    ensures { IsOrStarved Status.BAD_OUT_OF_MEMORY
+        (Ok
+        (map (shown_reference description.now.result_mask)
+        (filter (is_followed direction (browse_fields description.now))
+        (map link_of links.now)))) result }
 {
     let mut references = Vec::new(alloc);
     for link in links {
@@ -127,11 +134,12 @@ impl Link<'_> {
     ghost use Rattle.ua_services.specs.declared.browsing.NodeClass.TheVariants.{Unspecified};
     ghost use Rattle.ua_space.specs.Space.{node_of, browse_name_of, display_name_of};
     ghost use Rattle.ua_space.specs.Nodes.{class_of};
-    ghost use Rattle.ua_space.specs.References.{told, link_of};
+    ghost use Rattle.ua_space.specs.References.{shown_reference, link_of};
 
     /// The fields whose bits are set.
     fn told(self, alloc: Global, mask: u32) -> Result<ReferenceDescription, BinaryFault>
-        ensures { IsOrStarved BinaryFault.OutOfMemory (Ok (told mask (link_of self.entry))) result }
+        ensures { IsOrStarved BinaryFault.OutOfMemory
+            (Ok (shown_reference mask (link_of self.entry))) result }
     {
         let node_id = self.target.id().to_owned(alloc)?;
         let browse_name = self.wanted_name(alloc, has_bit(mask, BROWSE_NAME))?;
@@ -150,7 +158,9 @@ impl Link<'_> {
 
     /// The type, where it is wanted.
     fn wanted_type(self, wanted: bool) -> NodeId
-        ensures { result ≡ (if wanted then Numeric 0 (type_number self.entry.reference_type) else Numeric 0 0) }
+        ensures { result
+            ≡ (if wanted then Numeric 0 (reference_type_number self.entry.reference_type)
+            else Numeric 0 0) }
     {
         if wanted {
             NodeId::Numeric(0, self.reference_type.number())
@@ -172,7 +182,10 @@ impl Link<'_> {
 
     /// The browse name of the target, where it is wanted.
     fn wanted_name(self, alloc: Global, wanted: bool) -> Result<QualifiedName, BinaryFault>
-        ensures { IsOrStarved BinaryFault.OutOfMemory (Ok (if wanted then browse_name_of (node_of self.entry.target) else record { namespace = 0; name = None })) result }
+        ensures { IsOrStarved BinaryFault.OutOfMemory
+            (Ok
+            (if wanted then browse_name_of (node_of self.entry.target)
+            else record { namespace = 0; name = None })) result }
     {
         if wanted {
             self.target.browse_name().to_owned(alloc)
@@ -186,7 +199,10 @@ impl Link<'_> {
 
     /// The display name of the target, where it is wanted.
     fn wanted_text(self, alloc: Global, wanted: bool) -> Result<LocalizedText, BinaryFault>
-        ensures { IsOrStarved BinaryFault.OutOfMemory (Ok (if wanted then display_name_of (node_of self.entry.target) else record { locale = None; text = None })) result }
+        ensures { IsOrStarved BinaryFault.OutOfMemory
+            (Ok
+            (if wanted then display_name_of (node_of self.entry.target)
+            else record { locale = None; text = None })) result }
     {
         if wanted {
             self.target.display_name().to_owned(alloc)
@@ -200,7 +216,12 @@ impl Link<'_> {
 
     /// The type definition of the target, where it is wanted and there is one.
     fn wanted_definition(self, alloc: Global, wanted: bool) -> Result<NodeId, BinaryFault>
-        ensures { IsOrStarved BinaryFault.OutOfMemory (Ok (if wanted then (elim (type_definition (node_of self.entry.target)) [ None ↦ Numeric 0 0 | Some type ↦ id_of type ]) else Numeric 0 0)) result }
+        ensures { IsOrStarved BinaryFault.OutOfMemory
+            (Ok
+            (if wanted
+            then
+            (elim (type_definition (node_of self.entry.target))
+            [ None ↦ Numeric 0 0 | Some type ↦ id_of type ]) else Numeric 0 0)) result }
     {
         match self.target.type_definition() {
             Some(definition) if wanted => definition.id().to_owned(alloc),

@@ -24,11 +24,11 @@ pub enum BuildFault {
 }
 
 impl BuildFault {
-    ghost use Rattle.ua_space.specs.Fault.{number_of};
+    ghost use Rattle.ua_space.specs.Fault.{build_fault_number};
 
     /// The fault's number, from 1 to 4 in the order of the variants.
     pub fn number(self) -> u8
-        ensures { result ≡ number_of self }
+        ensures { result ≡ build_fault_number self }
     {
         match self {
             BuildFault::DuplicateNode => 1,

@@ -63,7 +63,8 @@ pub(crate) fn judge(plan: &Plan<'_>) -> Result<(), BuildFault>
 
 /// Whether each variable's type is known.
 fn have_types(variables: &[VariablePlan<'_>]) -> bool
-    ensures { result ≡ list_all (λ variable. is_some (type_number variable.type_name.now)) variables.now }
+    ensures { result
+        ≡ list_all (λ variable. is_some (type_number variable.type_name.now)) variables.now }
 {
     variables
         .iter()
@@ -86,7 +87,10 @@ fn has_variable(variables: &[VariablePlan<'_>], id: &str) -> bool
 
 /// Whether a folder has the id of a later folder or of a variable.
 fn has_equal_folder(folders: &[FolderPlan<'_>], variables: &[VariablePlan<'_>]) -> bool
-    ensures { have_equal (map (λ folder. folder.id.now) folders.now ++ map (λ variable. variable.id.now) variables.now) ≡ (result || have_equal (map (λ variable. variable.id.now) variables.now)) }
+    ensures { have_equal
+        (map (λ folder. folder.id.now) folders.now
+        ++ map (λ variable. variable.id.now) variables.now)
+        ≡ (result || have_equal (map (λ variable. variable.id.now) variables.now)) }
 {
     for (i, folder) in folders.iter().enumerate() {
         if has_folder(&folders[i + 1..], folder.id) || has_variable(variables, folder.id) {

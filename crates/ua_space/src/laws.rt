@@ -13,6 +13,9 @@ ghost use Rattle.ua_space.specs.References.{parent, holds};
 /// leads back to has the variable below it, so that it leads forward to it.
 #[tactic(auto, using(crate::proofs::Hanging::hanging))]
 pub fn variables_hang_below_their_parents()
-    ensures somewhere { (plan : Plan) → AllByRecursion (HasFolder plan.folders.now) plan.variables.now → AllByRecursion (λ variable. IsSome (parent (layout_of plan) (OfVariable variable))) (layout_of plan).variables }
-    ensures below { (space : Layout) (variable : Variable) → IfSome (parent space (OfVariable variable)) (λ node. holds node variable ≡ true) }
+    ensures somewhere { (plan : Plan) → AllByRecursion (HasFolder plan.folders.now) plan.variables.now
+        → AllByRecursion (λ variable. IsSome (parent (layout_of plan) (OfVariable variable)))
+        (layout_of plan).variables }
+    ensures below { (space : Layout) (variable : Variable)
+        → IfSome (parent space (OfVariable variable)) (λ node. holds node variable ≡ true) }
 {}

@@ -15,11 +15,11 @@ pub(crate) enum ReferenceType {
 }
 
 impl ReferenceType {
-    ghost use Rattle.ua_space.specs.References.{type_number};
+    ghost use Rattle.ua_space.specs.References.{reference_type_number};
 
     /// The number of its id in namespace 0.
     pub fn number(self) -> u32
-        ensures { result ≡ type_number self }
+        ensures { result ≡ reference_type_number self }
     {
         match self {
             ReferenceType::Organizes => 35,
@@ -101,7 +101,8 @@ impl Layout {
         alloc: Global,
         node: Node<'a>,
     ) -> Result<Vec<Link<'a>>, AllocError>
-        ensures { IfOk result (λ links. map link_of links.items ≡ references self.now (node_of node.entry)) }
+        ensures { IfOk result
+            (λ links. map link_of links.items ≡ references self.now (node_of node.entry)) }
     {
         let mut links = self.children(alloc, node)?;
         if let Some(definition) = node.type_definition() {
@@ -115,7 +116,9 @@ impl Layout {
 
     /// The references to what hangs below a node.
     fn children<'a>(&'a self, alloc: Global, node: Node<'a>) -> Result<Vec<Link<'a>>, AllocError>
-        ensures { IfOk result (λ links. map link_of links.items ≡ map (link_to Organizes true) (children self.now (node_of node.entry))) }
+        ensures { IfOk result
+            (λ links. map link_of links.items
+            ≡ map (link_to Organizes true) (children self.now (node_of node.entry))) }
     {
         let mut links = self.objects_below(alloc, node)?;
         for variable in self.variables.as_slice() {
@@ -132,7 +135,11 @@ impl Layout {
         alloc: Global,
         node: Node<'a>,
     ) -> Result<Vec<Link<'a>>, AllocError>
-        ensures { IfOk result (λ links. map link_of links.items ≡ map (link_to Organizes true) (elim (node_of node.entry) [ Root ↦ Objects ∷ [] | Objects ↦ map OfFolder self.now.folders | _ ↦ [] ])) }
+        ensures { IfOk result
+            (λ links. map link_of links.items
+            ≡ map (link_to Organizes true)
+            (elim (node_of node.entry)
+            [ Root ↦ Objects ∷ [] | Objects ↦ map OfFolder self.now.folders | _ ↦ [] ])) }
     {
         let mut links = Vec::new(alloc);
         match node {

@@ -55,7 +55,8 @@ impl<'a> Node<'a> {
 
     /// The node of this number in namespace 0.
     pub fn standard(number: u32) -> Option<Node<'a>>
-        ensures { option_map node_of result ≡ node_in (Root ∷ Objects ∷ NamespaceArray ∷ State ∷ []) (Numeric 0 number) }
+        ensures { option_map node_of result
+            ≡ node_in (Root ∷ Objects ∷ NamespaceArray ∷ State ∷ []) (Numeric 0 number) }
     {
         match number {
             84 => Some(Node::Root),
@@ -108,7 +109,9 @@ impl<'a> Node<'a> {
     }
 
     fn namespace(self) -> u16
-        ensures { result ≡ (elim (node_of self.entry) [ OfFolder folder ↦ 1 | OfVariable variable ↦ 1 | _ ↦ 0 ]) }
+        ensures { result
+            ≡ (elim (node_of self.entry)
+            [ OfFolder folder ↦ 1 | OfVariable variable ↦ 1 | _ ↦ 0 ]) }
     {
         match self {
             Node::Folder(_) | Node::Variable(_) => NAMESPACE,

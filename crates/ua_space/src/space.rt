@@ -98,7 +98,8 @@ impl Space {
     /// What is known of a variable of the plan; none where the id is of no such variable. Such an id has at
     /// most 256 bytes. It takes no memory.
     pub fn variable(&self, node: NodeIdRef<'_>) -> Option<VariableInfo>
-        ensures known { option_map (λ info. info.value_type) result ≡ value_type_at self.now (id_of_lent node.entry) }
+        ensures known { option_map (λ info. info.value_type) result
+            ≡ value_type_at self.now (id_of_lent node.entry) }
         ensures short { IfSome result (λ _. IsShortId (id_of_lent node.entry)) }
     {
         match self.layout.find(&self.places, node) {
@@ -113,7 +114,8 @@ impl Space {
     /// gives it. `BAD_NODE_ID_UNKNOWN` where the id is of no node; then `BAD_ATTRIBUTE_ID_INVALID` where the node
     /// has no such attribute; last `BAD_OUT_OF_MEMORY`. A value can be written.
     pub fn read_attribute(&self, node: NodeIdRef<'_>, attribute: u32) -> Result<Answered, Status>
-        ensures told { IsOrStarved Status.BAD_OUT_OF_MEMORY (attribute_at self.now (id_of_lent node.entry) attribute) result }
+        ensures told { IsOrStarved Status.BAD_OUT_OF_MEMORY
+            (attribute_at self.now (id_of_lent node.entry) attribute) result }
         ensures short { IfOk result IsShortAnswered }
     {
         let Some(node) = self.layout.find(&self.places, node) else {
@@ -131,8 +133,10 @@ impl Space {
         &self,
         description: &BrowseDescription<'_>,
     ) -> Result<Listing<ReferenceDescription>, Status>
-        ensures told { IsOrStarved Status.BAD_OUT_OF_MEMORY (browse_at self.now (browse_fields description.now)) result }
-        ensures short { IfOk result (λ references. (length references < 2 ^ 31) × All IsShortReference references) }
+        ensures told { IsOrStarved Status.BAD_OUT_OF_MEMORY
+            (browse_at self.now (browse_fields description.now)) result }
+        ensures short { IfOk result
+            (λ references. (length references < 2 ^ 31) × All IsShortReference references) }
     {
         let Some(node) = self.layout.find(&self.places, description.node_id) else {
             return Err(Status::BAD_NODE_ID_UNKNOWN);

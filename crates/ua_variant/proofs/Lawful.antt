@@ -17,7 +17,7 @@ use Rattle.ua_variant.specs.declared.value.Variant.{Variant}
 use Rattle.ua_variant.specs.declared.value.Variant.TheVariants.{Null, Scalar, Array}
 use Rattle.ua_variant.proofs.Types.{IsNumber, type_of, type_of_values}
 use Rattle.ua_variant.specs.Raise.{variant_fault}
-use Rattle.ua_variant.specs.Scalar.{scalar, scalar_number, IsScalar, is_type}
+use Rattle.ua_variant.specs.Scalar.{scalar, scalar_number, IsScalar, is_type_number}
 use Rattle.ua_variant.proofs.ScalarParts.{scalar_form}
 use Rattle.ua_variant.specs.Variant.{IsVariant, variant}
 use Rattle.ua_variant.proofs.VariantParts.{variant_form, variant_number}
@@ -148,8 +148,8 @@ variant_form_lawful : (first : ℕ) → IsLawful (variant_form first)
 variant_form_lawful first =
     chosen_lawful (first == 0) (nothing_lawful Null) (
     chosen_lawful (ltb first 128)
-    (chosen_lawful (is_type first) (standing_lawful _ _ (raised_lawful variant_fault (scalar_lawful first))) (refused_lawful TypeUnsupported))
-    (chosen_lawful (is_type (first - 128)) (standing_lawful _ _ (raised_lawful variant_fault (values_lawful (first - 128)))) (refused_lawful TypeUnsupported)))
+    (chosen_lawful (is_type_number first) (standing_lawful _ _ (raised_lawful variant_fault (scalar_lawful first))) (refused_lawful TypeUnsupported))
+    (chosen_lawful (is_type_number (first - 128)) (standing_lawful _ _ (raised_lawful variant_fault (values_lawful (first - 128)))) (refused_lawful TypeUnsupported)))
 
 -- what the three tests choose
 scalar_chosen : (n : ℕ) (v : One) → IsNumber n → scalar_number v ≡ n → IsScalar v → (n < 2 ^ 8) × (variant_form n).Fits (Scalar v)

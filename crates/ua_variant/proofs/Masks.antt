@@ -11,7 +11,7 @@ use Rattle.ua_variant.specs.declared.value.Variant.{Variant}
 use Rattle.ua_variant.specs.declared.fault.VariantFault.TheVariants.{BadEncodingByte}
 use Rattle.ua_variant.specs.Raise.{variant_fault}
 use Rattle.ua_variant.specs.Variant.{variant}
-use Rattle.ua_variant.specs.DataValue.{flag, IsPicoseconds, picoseconds, has, data_mask, IsDataValue, data_value}
+use Rattle.ua_variant.specs.DataValue.{mask_bit, IsPicoseconds, picoseconds, has, data_mask, IsDataValue, data_value}
 use Rattle.ua_variant.specs.StampParts.{stamps}
 use Rattle.ua_variant.proofs.DataValueParts.{data_of, parts_of, data_fields}
 use Rattle.ua_variant.proofs.Lawful.{variant_lawful}
@@ -42,7 +42,7 @@ of_each p e true = (both_hold (p true) (p false) e).0
 of_each p e false = (both_hold (p true) (p false) e).1
 
 abbrev mask_of : Bool → Bool → Bool → Bool → Bool → Bool → ℕ
-mask_of a b c d e f = flag a 1 + flag b 2 + flag c 4 + flag d 16 + flag e 8 + flag f 32
+mask_of a b c d e f = mask_bit a 1 + mask_bit b 2 + mask_bit c 4 + mask_bit d 16 + mask_bit e 8 + mask_bit f 32
 
 -- the mask is small, and each bit is set where it is there
 tried : ℕ → Bool → Bool → Bool → Bool → Bool → Bool → Bool
@@ -98,15 +98,15 @@ canon_data v = rw (fields_canon (data_mask v) v (mask_told v).small) refl
 -- a value with its moments alone
 pub canon_timed : (value : Variant) (source server : Option Ticks)
     → data_value.canon (record { value = Some value; status = None; source_time = source; source_pico = None; server_time = server; server_pico = None })
-    ≡ byte.canon (1 + flag (is_some source) 4 + flag (is_some server) 8) ++ (variant.canon value ++ ((flagged (is_some source) ticks).canon source ++ (flagged (is_some server) ticks).canon server))
+    ≡ byte.canon (1 + mask_bit (is_some source) 4 + mask_bit (is_some server) 8) ++ (variant.canon value ++ ((flagged (is_some source) ticks).canon source ++ (flagged (is_some server) ticks).canon server))
 canon_timed value source server =
     let S = (flagged (is_some source) ticks).canon source in
     let T = (flagged (is_some server) ticks).canon server in
     let v : DataValue = record { value = Some value; status = None; source_time = source; source_pico = None; server_time = server; server_pico = None } in
-    let mask : data_mask v ≡ 1 + flag (is_some source) 4 + flag (is_some server) 8 = omega arith in
+    let mask : data_mask v ≡ 1 + mask_bit (is_some source) 4 + mask_bit (is_some server) 8 = omega arith in
     canon_data v
     ∙ (ap (λ m. byte.canon m ++ (variant.canon value ++ (S ++ (T ++ [])))) mask
-    ∙ ap (λ l. byte.canon (1 + flag (is_some source) 4 + flag (is_some server) 8) ++ (variant.canon value ++ (S ++ l))) (append-nil T))
+    ∙ ap (λ l. byte.canon (1 + mask_bit (is_some source) 4 + mask_bit (is_some server) 8) ++ (variant.canon value ++ (S ++ l))) (append-nil T))
 
 -- ---- the law
 

@@ -15,7 +15,7 @@ use Rattle.ua_variant.specs.declared.value.Variant.{Variant}
 use Rattle.ua_variant.specs.declared.value.Variant.TheVariants.{Null, Scalar, Array}
 use Rattle.ua_variant.specs.declared.data.DataValue.{DataValue}
 use Rattle.ua_variant.specs.Raise.{variant_fault}
-use Rattle.ua_variant.specs.Scalar.{scalar, IsShortScalar, is_type}
+use Rattle.ua_variant.specs.Scalar.{scalar, IsShortScalar, is_type_number}
 use Rattle.ua_variant.proofs.ScalarParts.{scalar_form}
 use Rattle.ua_variant.specs.Values.{values, IsShortValues}
 use Rattle.ua_variant.proofs.ValuesParts.{values_form, many as many_of}
@@ -98,8 +98,8 @@ variant_form_only : (first : ℕ) → SpellsOnly (variant_form first) IsShortVar
 variant_form_only first =
     chosen_only (first == 0) (nothing_only Null tt) (
     chosen_only (ltb first 128)
-    (chosen_only (is_type first) (standing_only Scalar _ (raised_only variant_fault (scalar_only first)) (λ _ h. h)) (refused_only TypeUnsupported))
-    (chosen_only (is_type (first - 128)) (standing_only Array _ (raised_only variant_fault (values_only (first - 128))) (λ _ h. h)) (refused_only TypeUnsupported)))
+    (chosen_only (is_type_number first) (standing_only Scalar _ (raised_only variant_fault (scalar_only first)) (λ _ h. h)) (refused_only TypeUnsupported))
+    (chosen_only (is_type_number (first - 128)) (standing_only Array _ (raised_only variant_fault (values_only (first - 128))) (λ _ h. h)) (refused_only TypeUnsupported)))
 
 variant_only : SpellsOnly variant IsShortVariant
 unfolding variant

@@ -3,7 +3,7 @@ use Rattle.std.proofs.Common.{◌≡◌, ℕ, true, false, ltb, ◌==◌, refl, 
 use Rattle.std.specs.List.{All, AllByRecursion}
 use Rattle.std.proofs.lemmas.List.Elements.{recursion_from_All}
 use Rattle.std.proofs.lemmas.Bool.{ltb-true}
-use Rattle.ua_variant.specs.Scalar.{scalar_number, is_type}
+use Rattle.ua_variant.specs.Scalar.{scalar_number, is_type_number}
 use Rattle.ua_variant.specs.declared.value.Scalar.{Scalar as One}
 use Rattle.ua_variant.specs.declared.value.Scalar.TheVariants.{Boolean, SByte, Byte, Int16, UInt16, Int32, UInt32, Int64, UInt64, Float, Double, String, DateTime, Guid, ByteString, NodeId, StatusCode, QualifiedName, LocalizedText}
 use Rattle.ua_variant.specs.Values.{array_number}
@@ -12,12 +12,12 @@ use Rattle.ua_variant.specs.declared.value.Array.TheVariants as many
 
 -- the three tests at once, by cases
 pub record IsNumber (n : ℕ) : Type 0 where
-  pub known : is_type n ≡ true
+  pub known : is_type_number n ≡ true
   pub some : (n == 0) ≡ false
   pub small : ltb n 128 ≡ true
 
 pub type_of : (v : One) → IsNumber (scalar_number v)
-unfolding is_type
+unfolding is_type_number
 type_of (Boolean v) = record { known = refl; some = refl; small = refl }
 type_of (SByte v) = record { known = refl; some = refl; small = refl }
 type_of (Byte v) = record { known = refl; some = refl; small = refl }
@@ -39,7 +39,7 @@ type_of (QualifiedName v) = record { known = refl; some = refl; small = refl }
 type_of (LocalizedText v) = record { known = refl; some = refl; small = refl }
 
 pub type_of_values : (v : Many) → IsNumber (array_number v)
-unfolding is_type
+unfolding is_type_number
 type_of_values (many.Boolean v) = record { known = refl; some = refl; small = refl }
 type_of_values (many.SByte v) = record { known = refl; some = refl; small = refl }
 type_of_values (many.Byte v) = record { known = refl; some = refl; small = refl }
@@ -60,13 +60,13 @@ type_of_values (many.StatusCode v) = record { known = refl; some = refl; small =
 type_of_values (many.QualifiedName v) = record { known = refl; some = refl; small = refl }
 type_of_values (many.LocalizedText v) = record { known = refl; some = refl; small = refl }
 
-pub known_values : (v : Many) → is_type (array_number v) ≡ true
+pub known_values : (v : Many) → is_type_number (array_number v) ≡ true
 known_values v = (type_of_values v).known
 
 pub small_values : (v : Many) → array_number v < 128
 small_values v = ltb-true (array_number v) 128 (type_of_values v).small
 
-pub known_type : (v : One) → is_type (scalar_number v) ≡ true
+pub known_type : (v : One) → is_type_number (scalar_number v) ≡ true
 known_type v = (type_of v).known
 
 pub some_type : (v : One) → (scalar_number v == 0) ≡ false

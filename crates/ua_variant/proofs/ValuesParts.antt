@@ -1,6 +1,6 @@
 -- Names for parts of the definitions in specs/Values, for the lemmas on these parts.
 use Rattle.std.specs.Prelude.{ℕ, List}
-use Rattle.ua_binary.specs.Format.{Format, refused, standing_for}
+use Rattle.ua_binary.specs.Format.{Format, no_format, standing_for}
 use Rattle.ua_binary.specs.Binary.{array}
 use Rattle.ua_binary.specs.declared.fault.BinaryFault.{BinaryFault}
 use Rattle.ua_binary.specs.declared.fault.BinaryFault.TheVariants.{BadEncodingByte}
@@ -13,4 +13,4 @@ many f = array (λ e. e) f
 
 -- what each type number calls for
 abbrev pub values_form : ℕ → Format BinaryFault Array
-values_form = by_type (λ _ _ _ to from f _. standing_for to from (array (λ e. e) f)) (refused BadEncodingByte)
+values_form = by_type (λ _ _ _ to from f _. standing_for to from (array (λ e. e) f)) (no_format BadEncodingByte)

@@ -1,7 +1,7 @@
 -- Names for parts of the definitions in specs/Variant, for the lemmas on these parts.
 use Rattle.std.specs.Prelude.{ℕ, ◌+◌, ◌-◌, [], false, nat_lt, ◌==◌}
-use Rattle.ua_binary.specs.Format.{Format, nothing, refused, chosen, standing_for}
-use Rattle.ua_variant.specs.Scalar.{scalar, scalar_number, is_type}
+use Rattle.ua_binary.specs.Format.{Format, nothing, no_format, chosen, standing_for}
+use Rattle.ua_variant.specs.Scalar.{scalar, scalar_number, is_type_number}
 use Rattle.ua_variant.specs.declared.fault.VariantFault.{VariantFault}
 use Rattle.ua_variant.specs.declared.fault.VariantFault.TheVariants.{TypeUnsupported}
 use Rattle.ua_variant.specs.declared.value.Scalar.TheVariants.{Boolean}
@@ -20,5 +20,5 @@ abbrev pub variant_form : ℕ → Format VariantFault Variant
 variant_form first =
     chosen (first == 0) (nothing Null) (
     chosen (nat_lt first 128)
-    (chosen (is_type first) (standing_for Scalar (λ v. elim v [ Scalar s ↦ s | _ ↦ Boolean false ]) (raise (scalar first))) (refused TypeUnsupported))
-    (chosen (is_type (first - 128)) (standing_for Array (λ v. elim v [ Array a ↦ a | _ ↦ ManyBoolean [] ]) (raise (values (first - 128)))) (refused TypeUnsupported)))
+    (chosen (is_type_number first) (standing_for Scalar (λ v. elim v [ Scalar s ↦ s | _ ↦ Boolean false ]) (raise (scalar first))) (no_format TypeUnsupported))
+    (chosen (is_type_number (first - 128)) (standing_for Array (λ v. elim v [ Array a ↦ a | _ ↦ ManyBoolean [] ]) (raise (values (first - 128)))) (no_format TypeUnsupported)))

@@ -9,18 +9,25 @@ use Rattle.ua_variant.specs.declared.fault.VariantFault.TheVariants.{Short, BadL
 
 -- a fault of the binary encoding as one of this crate
 abbrev pub variant_fault : BinaryFault → VariantFault
-variant_fault fault = elim fault [ binary.Short ↦ Short | binary.BadLength ↦ BadLength | binary.BadUtf8 ↦ BadUtf8 | binary.BadEncodingByte ↦ BadEncodingByte | binary.OutOfMemory ↦ OutOfMemory ]
+variant_fault fault =
+    elim fault [
+      | binary.Short ↦ Short
+      | binary.BadLength ↦ BadLength
+      | binary.BadUtf8 ↦ BadUtf8
+      | binary.BadEncodingByte ↦ BadEncodingByte
+      | binary.OutOfMemory ↦ OutOfMemory
+    ]
 
 -- the number that scripts and logs show
-abbrev pub number_of : VariantFault → ℕ
-number_of Short = 1
-number_of BadLength = 2
-number_of BadUtf8 = 3
-number_of BadEncodingByte = 4
-number_of OutOfMemory = 5
-number_of TypeUnsupported = 6
+abbrev pub variant_fault_number : VariantFault → ℕ
+variant_fault_number Short = 1
+variant_fault_number BadLength = 2
+variant_fault_number BadUtf8 = 3
+variant_fault_number BadEncodingByte = 4
+variant_fault_number OutOfMemory = 5
+variant_fault_number TypeUnsupported = 6
 
 -- want of memory has a code of its own
-abbrev pub status_of : VariantFault → Status
-status_of OutOfMemory = BAD_OUT_OF_MEMORY
-status_of fault = BAD_DECODING_ERROR
+abbrev pub variant_fault_status : VariantFault → Status
+variant_fault_status OutOfMemory = BAD_OUT_OF_MEMORY
+variant_fault_status fault = BAD_DECODING_ERROR

@@ -17,4 +17,6 @@ stamps_of s = (s.status, (s.source_time, (s.source_pico, (s.server_time, s.serve
 
 -- those behind the value that a mask names, in this order
 abbrev pub stamps : ℕ → Format BinaryFault StampParts
-stamps mask = flagged (has mask 2) status ▸ flagged (has mask 4) ticks ▸ flagged (has mask 16) picoseconds ▸ flagged (has mask 8) ticks ▸ flagged (has mask 32) picoseconds
+stamps mask =
+    flagged (has mask 2) status ▸ flagged (has mask 4) ticks ▸ flagged (has mask 16) picoseconds
+    ▸ flagged (has mask 8) ticks ▸ flagged (has mask 32) picoseconds

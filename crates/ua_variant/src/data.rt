@@ -6,7 +6,7 @@ ghost use Rattle.std.specs.Int.RustNames.{FitsSigned};
 ghost use Rattle.ua_binary.specs.Format.{Puts, PutsPart, Reads, ReadsPart, ReadsUnless, flagged};
 ghost use Rattle.ua_binary.specs.Binary.{ticks, status, unsigned};
 ghost use Rattle.ua_variant.specs.Variant.{variant, IsVariant, IsShortVariant};
-ghost use Rattle.ua_variant.specs.DataValue.{picoseconds, IsPicoseconds, flag, data_mask, data_value, IsDataValue, IsShortData};
+ghost use Rattle.ua_variant.specs.DataValue.{picoseconds, IsPicoseconds, mask_bit, data_mask, data_value, IsDataValue, IsShortData};
 ghost use Rattle.ua_variant.specs.StampParts.{stamps, stamps_of};
 ghost use Rattle.ua_variant.specs.declared.data.DataValue.{DataValue as Data};
 
@@ -37,7 +37,8 @@ fn read_value(
     cursor: &mut Cursor,
     there: bool,
 ) -> Result<Option<Variant>, VariantFault>
-    ensures { ReadsUnless VariantFault.OutOfMemory (λ v. v) result cursor.old cursor.new (flagged there variant).read }
+    ensures { ReadsUnless VariantFault.OutOfMemory (λ v. v) result cursor.old cursor.new
+        (flagged there variant).read }
 {
     if !there {
         return Ok(None);
@@ -85,7 +86,8 @@ struct Stamps {
 
 /// Those that the mask names, one after the other. An error leaves the cursor anywhere.
 fn read_stamps(cursor: &mut Cursor, mask: u8) -> Result<Stamps, BinaryFault>
-    ensures { ReadsPart BinaryFault.OutOfMemory stamps_of result cursor.old cursor.new (stamps mask).read }
+    ensures { ReadsPart BinaryFault.OutOfMemory stamps_of result cursor.old cursor.new
+        (stamps mask).read }
 {
     let status = read_status(cursor, mask & 2 != 0)?;
     let source_time = read_time(cursor, mask & 4 != 0)?;
@@ -107,7 +109,8 @@ fn read_stamps(cursor: &mut Cursor, mask: u8) -> Result<Stamps, BinaryFault>
 #[tactic(auto, unfolding(crate::specs::DataValue::data_value))]
 #[inline(always)]
 pub fn read_data_value(alloc: Global, cursor: &mut Cursor) -> Result<DataValue, VariantFault>
-    ensures reads { ReadsUnless VariantFault.OutOfMemory (λ v. v) result cursor.old cursor.new data_value.read }
+    ensures reads { ReadsUnless VariantFault.OutOfMemory
+        (λ v. v) result cursor.old cursor.new data_value.read }
     ensures short { IfOk result IsShortData }
 {
     let mut next = cursor.fork();
@@ -144,7 +147,8 @@ impl<'a> Decode<'a> for DataValue {
 
 fn put_value(out: &mut Vec<u8>, v: &Option<Variant>) -> Result<(), BinaryFault>
     requires { IfSome v.now IsShortVariant }
-    ensures puts { Puts BinaryFault.OutOfMemory result out.old.items out.new.items ((flagged (is_some v.now) variant).canon v.now) }
+    ensures puts { Puts BinaryFault.OutOfMemory result out.old.items out.new.items
+        ((flagged (is_some v.now) variant).canon v.now) }
     ensures spelled { IfOk result (λ _. IfSome v.now IsVariant) }
 {
     match v {
@@ -154,7 +158,8 @@ fn put_value(out: &mut Vec<u8>, v: &Option<Variant>) -> Result<(), BinaryFault>
 }
 
 fn put_some_status(out: &mut Vec<u8>, v: Option<Status>) -> Result<(), BinaryFault>
-    ensures puts { Puts BinaryFault.OutOfMemory result out.old.items out.new.items ((flagged (is_some v) status).canon v) }
+    ensures puts { Puts BinaryFault.OutOfMemory result out.old.items out.new.items
+        ((flagged (is_some v) status).canon v) }
     ensures spelled { IfOk result (λ _. IfSome v (λ c. c.0 < 2 ^ 32)) }
 {
     match v {
@@ -164,7 +169,8 @@ fn put_some_status(out: &mut Vec<u8>, v: Option<Status>) -> Result<(), BinaryFau
 }
 
 fn put_time(out: &mut Vec<u8>, v: Option<Ticks>) -> Result<(), BinaryFault>
-    ensures puts { Puts BinaryFault.OutOfMemory result out.old.items out.new.items ((flagged (is_some v) ticks).canon v) }
+    ensures puts { Puts BinaryFault.OutOfMemory result out.old.items out.new.items
+        ((flagged (is_some v) ticks).canon v) }
     ensures spelled { IfOk result (λ _. IfSome v (λ t. FitsSigned w64 t.0)) }
 {
     match v {
@@ -175,7 +181,8 @@ fn put_time(out: &mut Vec<u8>, v: Option<Ticks>) -> Result<(), BinaryFault>
 
 #[tactic(auto, unfolding(crate::specs::DataValue::picoseconds))]
 fn put_picoseconds(out: &mut Vec<u8>, v: Option<u16>) -> Result<(), BinaryFault>
-    ensures { Puts BinaryFault.OutOfMemory result out.old.items out.new.items ((flagged (is_some v) picoseconds).canon v) }
+    ensures { Puts BinaryFault.OutOfMemory result out.old.items out.new.items
+        ((flagged (is_some v) picoseconds).canon v) }
 {
     match v {
         None => Ok(()),
@@ -185,7 +192,7 @@ fn put_picoseconds(out: &mut Vec<u8>, v: Option<u16>) -> Result<(), BinaryFault>
 
 /// What a bit adds to a mask.
 fn bit_where(there: bool, bit: u8) -> u8
-    ensures same { result ≡ flag there bit }
+    ensures same { result ≡ mask_bit there bit }
     ensures at_most { result ≤ bit }
 {
     if there { bit } else { 0 }
@@ -210,7 +217,8 @@ impl DataValue {
 #[tactic(auto, using(ua_binary::proofs::Kept::kept, crate::proofs::Masks::canon_data))]
 fn put_data_value_parts(out: &mut Vec<u8>, v: &DataValue) -> Result<(), BinaryFault>
     requires { IsShortData v.now }
-    ensures puts { PutsPart BinaryFault.OutOfMemory result out.old.items out.new.items (data_value.canon v.now) }
+    ensures puts { PutsPart BinaryFault.OutOfMemory result out.old.items out.new.items
+        (data_value.canon v.now) }
     ensures spelled { IfOk result (λ _. IsDataValue v.now) }
 {
     put_u8(out, v.mask())?;
@@ -244,8 +252,27 @@ fn put_value_at_parts(
     server_time: Option<Ticks>,
 ) -> Result<(), BinaryFault>
     requires { IsShortVariant value.now }
-    ensures puts { PutsPart BinaryFault.OutOfMemory result out.old.items out.new.items (data_value.canon (record { value = Some value.now; status = None; source_time = source_time; source_pico = None; server_time = server_time; server_pico = None })) }
-    ensures spelled { IfOk result (λ _. IsDataValue (record { value = Some value.now; status = None; source_time = source_time; source_pico = None; server_time = server_time; server_pico = None })) }
+    ensures puts { PutsPart BinaryFault.OutOfMemory result out.old.items out.new.items
+        (data_value.canon
+        (record {
+          value = Some value.now;
+          status = None;
+          source_time = source_time;
+          source_pico = None;
+          server_time = server_time;
+          server_pico = None;
+        })) }
+    ensures spelled { IfOk result
+        (λ _.
+        IsDataValue
+        (record {
+          value = Some value.now;
+          status = None;
+          source_time = source_time;
+          source_pico = None;
+          server_time = server_time;
+          server_pico = None;
+        })) }
 {
     let mask = 1 + bit_where(source_time.is_some(), 4) + bit_where(server_time.is_some(), 8);
     put_u8(out, mask)?;
@@ -264,8 +291,27 @@ pub fn put_value_at(
     server_time: Option<Ticks>,
 ) -> Result<(), BinaryFault>
     requires { IsShortVariant value.now }
-    ensures puts { Puts BinaryFault.OutOfMemory result out.old.items out.new.items (data_value.canon (record { value = Some value.now; status = None; source_time = source_time; source_pico = None; server_time = server_time; server_pico = None })) }
-    ensures spelled { IfOk result (λ _. IsDataValue (record { value = Some value.now; status = None; source_time = source_time; source_pico = None; server_time = server_time; server_pico = None })) }
+    ensures puts { Puts BinaryFault.OutOfMemory result out.old.items out.new.items
+        (data_value.canon
+        (record {
+          value = Some value.now;
+          status = None;
+          source_time = source_time;
+          source_pico = None;
+          server_time = server_time;
+          server_pico = None;
+        })) }
+    ensures spelled { IfOk result
+        (λ _.
+        IsDataValue
+        (record {
+          value = Some value.now;
+          status = None;
+          source_time = source_time;
+          source_pico = None;
+          server_time = server_time;
+          server_pico = None;
+        })) }
 {
     let len = out.len();
     let put = put_value_at_parts(out, value, source_time, server_time);

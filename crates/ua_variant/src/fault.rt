@@ -31,11 +31,11 @@ pub enum VariantFault {
 }
 
 impl VariantFault {
-    ghost use Rattle.ua_variant.specs.Raise.{number_of};
+    ghost use Rattle.ua_variant.specs.Raise.{variant_fault_number};
 
     /// Its number, from 1 to 6, which scripts and logs show. A fault of the encoding keeps its own.
     pub fn number(self) -> u8
-        ensures { result ≡ number_of self }
+        ensures { result ≡ variant_fault_number self }
     {
         match self {
             VariantFault::Short => 1,
@@ -72,9 +72,9 @@ impl Fault for VariantFault {
 
 /// Want of memory stays what it is, and every other fault of the encoding is Bad_DecodingError.
 impl From<VariantFault> for Status {
-    ghost use Rattle.ua_variant.specs.Raise.{status_of};
+    ghost use Rattle.ua_variant.specs.Raise.{variant_fault_status};
 
-    ghost from_gives = { λ fault status. status ≡ status_of fault };
+    ghost from_gives = { λ fault status. status ≡ variant_fault_status fault };
 
     fn from(fault: VariantFault) -> Status {
         match fault {

@@ -17,7 +17,8 @@ use ua_binary::{
 #[tactic(auto, unfolding(crate::specs::Scalar::scalar, ua_binary::specs::Binary::boolean, ua_binary::specs::Binary::sbyte, ua_binary::specs::Binary::signed, ua_binary::specs::Binary::unsigned, ua_binary::specs::Binary::ticks, ua_binary::specs::Binary::status, ua_binary::specs::Binary::text, ua_binary::specs::Binary::byte_string, ua_binary::specs::Binary::guid, ua_binary::specs::Binary::node_id, ua_binary::specs::Binary::qualified, ua_binary::specs::Binary::localized))]
 fn put_scalar(out: &mut Vec<u8>, v: &Scalar) -> Result<(), BinaryFault>
     requires { IsShortScalar v.now }
-    ensures puts { Puts BinaryFault.OutOfMemory result out.old.items out.new.items ((scalar (scalar_number v.now)).canon v.now) }
+    ensures puts { Puts BinaryFault.OutOfMemory result out.old.items out.new.items
+        ((scalar (scalar_number v.now)).canon v.now) }
     ensures spelled { IfOk result (λ _. IsScalar v.now) }
 {
     match v {
@@ -46,7 +47,8 @@ fn put_scalar(out: &mut Vec<u8>, v: &Scalar) -> Result<(), BinaryFault>
 #[tactic(auto, using(crate::proofs::Types::many_spelled), unfolding(crate::specs::Values::values))]
 fn put_values(out: &mut Vec<u8>, v: &Array) -> Result<(), BinaryFault>
     requires { IsShortValues v.now }
-    ensures puts { Puts BinaryFault.OutOfMemory result out.old.items out.new.items ((values (array_number v.now)).canon v.now) }
+    ensures puts { Puts BinaryFault.OutOfMemory result out.old.items out.new.items
+        ((values (array_number v.now)).canon v.now) }
     ensures spelled { IfOk result (λ _. IsValues v.now) }
 {
     match v {
@@ -75,7 +77,8 @@ fn put_values(out: &mut Vec<u8>, v: &Array) -> Result<(), BinaryFault>
 #[tactic(auto, using(ua_binary::proofs::Kept::kept, crate::proofs::Types::types, crate::proofs::Canons::canons))]
 fn put_variant_parts(out: &mut Vec<u8>, v: &Variant) -> Result<(), BinaryFault>
     requires { IsShortVariant v.now }
-    ensures puts { PutsPart BinaryFault.OutOfMemory result out.old.items out.new.items (variant.canon v.now) }
+    ensures puts { PutsPart BinaryFault.OutOfMemory result out.old.items out.new.items
+        (variant.canon v.now) }
     ensures spelled { IfOk result (λ _. IsVariant v.now) }
 {
     match v {

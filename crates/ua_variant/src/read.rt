@@ -18,7 +18,8 @@ use ua_binary::{
 #[tactic(auto, unfolding(crate::specs::Scalar::scalar))]
 #[inline(always)]
 fn read_scalar(alloc: Global, cursor: &mut Cursor, number: u8) -> Result<Scalar, BinaryFault>
-    ensures { ReadsUnless BinaryFault.OutOfMemory (λ v. v) result cursor.old cursor.new (scalar number).read }
+    ensures { ReadsUnless BinaryFault.OutOfMemory (λ v. v) result cursor.old cursor.new
+        (scalar number).read }
 {
     Ok(match number {
         1 => Scalar::Boolean(cursor.boolean()?),
@@ -46,7 +47,8 @@ fn read_scalar(alloc: Global, cursor: &mut Cursor, number: u8) -> Result<Scalar,
 
 #[tactic(auto, unfolding(crate::specs::Values::values))]
 fn read_values(alloc: Global, cursor: &mut Cursor, number: u8) -> Result<Array, BinaryFault>
-    ensures { ReadsUnless BinaryFault.OutOfMemory (λ v. v) result cursor.old cursor.new (values number).read }
+    ensures { ReadsUnless BinaryFault.OutOfMemory (λ v. v) result cursor.old cursor.new
+        (values number).read }
 {
     Ok(match number {
         1 => Array::Boolean(Listing::of(read_array(alloc, cursor)?)),

@@ -19,7 +19,8 @@ impl Scalar {
     #[tactic(auto, unfolding(crate::specs::Scalar::scalar, ua_binary::specs::Binary::boolean, ua_binary::specs::Binary::sbyte, ua_binary::specs::Binary::signed, ua_binary::specs::Binary::unsigned, ua_binary::specs::Binary::ticks, ua_binary::specs::Binary::status, ua_binary::specs::Binary::text, ua_binary::specs::Binary::byte_string, ua_binary::specs::Binary::guid, ua_binary::specs::Binary::node_id, ua_binary::specs::Binary::qualified, ua_binary::specs::Binary::localized))]
     fn size(&self) -> usize
         ensures counted { result ≡ saturated (length ((scalar (scalar_number self.now)).canon self.now)) }
-        ensures short { length ((scalar (scalar_number self.now)).canon self.now) < 2 ^ 31 → IsShortScalar self.now }
+        ensures short { length ((scalar (scalar_number self.now)).canon self.now) < 2 ^ 31
+            → IsShortScalar self.now }
         ensures spelled { IsShortScalar self.now → IsScalar self.now }
     {
         match self {
@@ -51,7 +52,8 @@ impl Array {
     #[tactic(auto, using(crate::proofs::Sizes::values_fit), unfolding(crate::specs::Values::values))]
     fn size(&self) -> usize
         ensures counted { result ≡ saturated (length ((values (array_number self.now)).canon self.now)) }
-        ensures short { length ((values (array_number self.now)).canon self.now) < 2 ^ 31 → IsShortValues self.now }
+        ensures short { length ((values (array_number self.now)).canon self.now) < 2 ^ 31
+            → IsShortValues self.now }
         ensures spelled { IsShortValues self.now → IsValues self.now }
     {
         match self {
@@ -98,7 +100,8 @@ impl Variant {
 
 fn value_size(v: &Option<Variant>) -> usize
     ensures counted { result ≡ saturated (length ((flagged (is_some v.now) variant).canon v.now)) }
-    ensures short { length ((flagged (is_some v.now) variant).canon v.now) < 2 ^ 31 → IfSome v.now IsShortVariant }
+    ensures short { length ((flagged (is_some v.now) variant).canon v.now) < 2 ^ 31
+        → IfSome v.now IsShortVariant }
     ensures spelled { IfSome v.now IsShortVariant → IfSome v.now IsVariant }
 {
     match v {

@@ -1,7 +1,7 @@
 //! Values of any type.
 
 ghost use Rattle.std.specs.Prelude.{◌≡◌, ℕ, Bool};
-ghost use Rattle.ua_variant.specs.Scalar.{scalar_number, is_type as is_type_number};
+ghost use Rattle.ua_variant.specs.Scalar.{scalar_number, is_type_number};
 ghost use Rattle.ua_variant.specs.Values.{array_number};
 ghost use Rattle.ua_variant.specs.Variant.{has_type};
 
@@ -129,7 +129,7 @@ impl Array {
 }
 
 /// Whether a type has this number.
-#[tactic(auto, unfolding(crate::specs::Scalar::is_type))]
+#[tactic(auto, unfolding(crate::specs::Scalar::is_type_number))]
 pub fn is_type(number: u8) -> bool
     ensures { result ≡ is_type_number number }
 {

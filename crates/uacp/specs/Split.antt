@@ -12,7 +12,8 @@ AreFull size [] = Unit {0}
 AreFull size (last ∷ []) = (0 < length last) × (length last ≤ size)
 AreFull size (piece ∷ next ∷ pieces) = (length piece ≡ size) × AreFull size (next ∷ pieces)
 
--- these are the pieces of a body: joined they are the body, and each but the last is full; an empty body is one empty piece
+-- these are the pieces of a body: joined they are the body, and each but the last is full; an empty
+-- body is one empty piece
 abbrev pub IsSplit : ℕ → List ℕ → List (List ℕ) → Type 0
 IsSplit size [] pieces = pieces ≡ [] ∷ []
 IsSplit size (byte ∷ body) pieces = (joined pieces ≡ byte ∷ body) × AreFull size pieces
@@ -20,7 +21,9 @@ IsSplit size (byte ∷ body) pieces = (joined pieces ≡ byte ∷ body) × AreFu
 -- the pieces that are cut off the front of some bytes, at most n full ones before the last
 abbrev pub pieces_within : ℕ → ℕ → List ℕ → List (List ℕ)
 pieces_within zero size bytes = bytes ∷ []
-pieces_within (suc n) size bytes = if nat_le (length bytes) size then bytes ∷ [] else take size bytes ∷ pieces_within n size (drop size bytes)
+pieces_within (suc n) size bytes =
+    if nat_le (length bytes) size then bytes ∷ []
+    else take size bytes ∷ pieces_within n size (drop size bytes)
 
 -- the pieces of some bytes
 unfoldable pub pieces_of : ℕ → List ℕ → List (List ℕ)

@@ -82,7 +82,8 @@ pub fn answer_hello(hello: &Hello) -> Result<Ack, UacpFault>
 /// An error leaves a part.
 #[tactic(auto, using(ua_binary::proofs::Kept::kept), unfolding(crate::specs::Greeting::acknowledge))]
 fn put_ack_parts(out: &mut Vec<u8>, ack: &Ack) -> Result<(), BinaryFault>
-    ensures { PutsPart BinaryFault.OutOfMemory result out.old.items out.new.items (acknowledge.canon ack.now) }
+    ensures { PutsPart BinaryFault.OutOfMemory result out.old.items out.new.items
+        (acknowledge.canon ack.now) }
 {
     put_block(out, b"ACKF")?;
     put_u32(out, 28)?;
@@ -98,7 +99,8 @@ fn put_ack_parts(out: &mut Vec<u8>, ack: &Ack) -> Result<(), BinaryFault>
 /// allows messages of 4,194,304 bytes and 64 chunks. The one error is `OutOfMemory`, which leaves
 /// the vector as it was.
 pub fn put_ack(out: &mut Vec<u8>, ack: &Ack) -> Result<(), UacpFault>
-    ensures { Puts UacpFault.OutOfMemory result out.old.items out.new.items (acknowledge.canon ack.now) }
+    ensures { Puts UacpFault.OutOfMemory result out.old.items out.new.items
+        (acknowledge.canon ack.now) }
 {
     let len = out.len();
     let put = put_ack_parts(out, ack);

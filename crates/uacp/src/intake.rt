@@ -29,21 +29,27 @@ impl Model for Intake {
 
     ghost Value = { Held };
 
-    ghost view = { λ i. record { waiting = drop i.given i.bytes.items; greeted = i.is_greeted; limit = i.limit; failed = i.failed } };
+    ghost view = { λ i.
+        record {
+          waiting = drop i.given i.bytes.items;
+          greeted = i.is_greeted;
+          limit = i.limit;
+          failed = i.failed;
+        } };
 
     ghost invariant = { λ i. i.given ≤ vec_len i.bytes };
 }
 
 impl Intake {
-    ghost use Rattle.uacp.specs.Held.{fresh, next_of, after_next, Gives};
-    ghost use Rattle.uacp.specs.Run.{Fed, Limited, Does};
+    ghost use Rattle.uacp.specs.Held.{new_intake, next_of, after_next, Gives};
+    ghost use Rattle.uacp.specs.Run.{Fed, Limited, DoesIntakeCall};
     ghost use Rattle.uacp.specs.contracts.intake.Intake.{the_row};
     ghost use Rattle.std.specs.Borrow.{sem};
     ghost use Rattle.std.specs.Io.BufRead.{Rests};
 
     /// Nothing fed yet, and 65,536 bytes as the limit. It takes no memory.
     pub fn new(alloc: Global) -> Self
-        ensures { result ≡ fresh }
+        ensures { result ≡ new_intake }
     {
         Intake {
             bytes: Vec::new(alloc),
@@ -57,7 +63,7 @@ impl Intake {
     /// Sets the greatest size of the chunks that are judged from now on, a Hello aside: the receive
     /// size of the Acknowledge, in bytes with the header.
     pub fn set_limit(&mut self, receive_size: u32)
-        ensures { Does self.old (Limited receive_size) self.new }
+        ensures { DoesIntakeCall self.old (Limited receive_size) self.new }
     {
         self.limit = receive_size;
     }
@@ -78,7 +84,7 @@ impl Intake {
 
     /// Takes the next piece of the stream. The one error is `OutOfMemory`, which changes nothing.
     pub fn feed(&mut self, piece: &[u8]) -> Result<(), UacpFault>
-        ensures ok { OnOk result (Does self.old (Fed piece.now) self.new) }
+        ensures ok { OnOk result (DoesIntakeCall self.old (Fed piece.now) self.new) }
         ensures err { IfErr result (λ fault. (fault ≡ UacpFault.OutOfMemory) × (self.new ≡ self.old)) }
     {
         self.shed();
@@ -91,7 +97,8 @@ impl Intake {
     #[inline(always)]
     pub fn next_chunk(&mut self) -> Result<Option<Chunk<'_>>, UacpFault>
         ensures value { Gives self.old result }
-        ensures* after_borrow { sem 𝓛 (Rests the_row self.entry (λ new. new ≡ after_next self.old (next_of self.old))) }
+        ensures* after_borrow { sem 𝓛
+            (Rests the_row self.entry (λ new. new ≡ after_next self.old (next_of self.old))) }
     {
         if let Some(fault) = self.failed {
             return Err(fault);

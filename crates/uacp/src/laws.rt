@@ -7,11 +7,11 @@ ghost use Rattle.uacp.specs.declared.greeting.Hello.{Hello};
 ghost use Rattle.uacp.specs.declared.types.UacpFault.{UacpFault as Fault};
 ghost use Rattle.uacp.specs.Greeting.{hello, hello_at, acknowledge, error};
 ghost use Rattle.uacp.specs.declared.types.Header.{Header};
-ghost use Rattle.uacp.specs.Chunks.{cut};
-ghost use Rattle.uacp.specs.Stream.{Piece, piece_at, header_of, IsChunk, IsPartial, IsFault, AreChunks, Splits};
-ghost use Rattle.uacp.specs.Held.{Held, fresh};
+ghost use Rattle.uacp.specs.Chunks.{chunk_header};
+ghost use Rattle.uacp.specs.Stream.{ChunkContent, piece_at, header_of, IsChunk, IsPartial, IsFault, AreChunks, Splits};
+ghost use Rattle.uacp.specs.Held.{Held, new_intake};
 ghost use Rattle.uacp.specs.Split.{IsSplit, pieces_of};
-ghost use Rattle.uacp.specs.Run.{Event, Refused, Runs, fed_of, given_of, limits_of, ended, OnlyRefuses};
+ghost use Rattle.uacp.specs.Run.{IntakeCall, Refused, RunsIntake, fed_of, given_of, limits_of, ended, OnlyRefuses};
 
 use crate::types::UacpFault;
 
@@ -32,7 +32,8 @@ pub fn formats_are_lawful()
 #[tactic(auto, using(crate::proofs::Greetings::hello_read))]
 pub fn hello_is_what_is_spelled()
     ensures spelled { (body : List ℕ) (v : Hello) → hello.Spells body v ↔ (hello_at body ≡ Ok v) }
-    ensures invalid { (body : List ℕ) → ((v : Hello) → ¬ (hello.Spells body v)) → hello_at body ≡ Err UacpFault.HelloInvalid }
+    ensures invalid { (body : List ℕ) → ((v : Hello) → ¬ (hello.Spells body v))
+        → hello_at body ≡ Err UacpFault.HelloInvalid }
 {}
 
 /// What the calls give is what stands in the stream, by its own definition: no chunk where less
@@ -41,22 +42,24 @@ pub fn hello_is_what_is_spelled()
 #[tactic(auto, using(crate::proofs::Streams::stands))]
 pub fn next_is_what_stands_first()
     ensures none { (greeted : Bool) (limit : ℕ) (bytes : List ℕ)
-        → (cut greeted limit bytes ≡ Ok None) ↔ IsPartial greeted limit bytes }
+        → (chunk_header greeted limit bytes ≡ Ok None) ↔ IsPartial greeted limit bytes }
     ensures fault { (greeted : Bool) (limit : ℕ) (bytes : List ℕ) (fault : Fault)
-        → (cut greeted limit bytes ≡ Err fault) ↔ IsFault greeted limit bytes fault }
+        → (chunk_header greeted limit bytes ≡ Err fault) ↔ IsFault greeted limit bytes fault }
     ensures given { (greeted : Bool) (limit : ℕ) (bytes : List ℕ) (header : Header)
-        → cut greeted limit bytes ≡ Ok (Some header)
-        → (header.size ≤ length bytes) × IsChunk greeted limit (piece_at header bytes) (take header.size bytes) }
-    ensures chunk { (greeted : Bool) (limit : ℕ) (piece : Piece) (chunk more : List ℕ)
+        → chunk_header greeted limit bytes ≡ Ok (Some header)
+        → (header.size ≤ length bytes)
+        × IsChunk greeted limit (piece_at header bytes) (take header.size bytes) }
+    ensures chunk { (greeted : Bool) (limit : ℕ) (piece : ChunkContent) (chunk more : List ℕ)
         → IsChunk greeted limit piece chunk
-        → cut greeted limit (chunk ++ more) ≡ Ok (Some (header_of piece chunk)) }
+        → chunk_header greeted limit (chunk ++ more) ≡ Ok (Some (header_of piece chunk)) }
 {}
 
 /// Two readings of one stream are one, where each chunk of the first and what follows them is
 /// judged by the same limit in both.
 #[tactic(auto, using(crate::proofs::Running::stream))]
 pub fn stream_has_one_reading()
-    ensures { (limits limits' : ℕ → ℕ) (bytes : List ℕ) (pieces pieces' : List Piece) (rest rest' : List ℕ) (fault fault' : Option Fault)
+    ensures { (limits limits' : ℕ → ℕ) (bytes : List ℕ) (pieces pieces' : List ChunkContent)
+        (rest rest' : List ℕ) (fault fault' : Option Fault)
         → Splits limits bytes pieces rest fault → Splits limits' bytes pieces' rest' fault'
         → ((k : ℕ) → k ≤ length pieces → limits k ≡ limits' k)
         → (pieces ≡ pieces') × (rest ≡ rest') × (fault ≡ fault') }
@@ -66,7 +69,7 @@ pub fn stream_has_one_reading()
 /// and the bytes still held.
 #[tactic(auto, using(crate::proofs::Running::stream))]
 pub fn stream_is_kept()
-    ensures { (events : List Event) (held : Held) → Runs fresh events held
+    ensures { (events : List IntakeCall) (held : Held) → RunsIntake new_intake events held
         → AreChunks false (limits_of 65536 events) (fed_of events) (given_of events) held.waiting }
 {}
 
@@ -74,7 +77,8 @@ pub fn stream_is_kept()
 /// than a chunk, or at which that fault stands.
 #[tactic(auto, using(crate::proofs::Running::stream))]
 pub fn stream_ends_so()
-    ensures { (events : List Event) (fault : Option Fault) (held : Held) → Runs fresh (events ++ ended fault ∷ []) held
+    ensures { (events : List IntakeCall) (fault : Option Fault) (held : Held)
+        → RunsIntake new_intake (events ++ ended fault ∷ []) held
         → Splits (limits_of 65536 events) (fed_of events) (given_of events) held.waiting fault }
 {}
 
@@ -82,7 +86,8 @@ pub fn stream_ends_so()
 /// set.
 #[tactic(auto, using(crate::proofs::Running::stream))]
 pub fn fault_stays()
-    ensures { (events : List Event) (fault : Fault) (later : List Event) (held : Held) → Runs fresh (events ++ Refused fault ∷ later) held
+    ensures { (events : List IntakeCall) (fault : Fault) (later : List IntakeCall) (held : Held)
+        → RunsIntake new_intake (events ++ Refused fault ∷ later) held
         → OnlyRefuses fault later }
 {}
 
@@ -91,10 +96,12 @@ pub fn fault_stays()
 /// no chunk.
 #[tactic(auto, using(crate::proofs::Running::stream))]
 pub fn pieces_do_not_matter()
-    ensures { (events events' : List Event) (fault fault' : Option Fault) (held held' : Held)
-        → Runs fresh (events ++ ended fault ∷ []) held → Runs fresh (events' ++ ended fault' ∷ []) held'
+    ensures { (events events' : List IntakeCall) (fault fault' : Option Fault) (held held' : Held)
+        → RunsIntake new_intake (events ++ ended fault ∷ []) held
+        → RunsIntake new_intake (events' ++ ended fault' ∷ []) held'
         → fed_of events ≡ fed_of events'
-        → ((k : ℕ) → k ≤ length (given_of events) → limits_of 65536 events k ≡ limits_of 65536 events' k)
+        → ((k : ℕ) → k ≤ length (given_of events)
+        → limits_of 65536 events k ≡ limits_of 65536 events' k)
         → (given_of events ≡ given_of events') × (held.waiting ≡ held'.waiting) × (fault ≡ fault') }
 {}
 
@@ -102,5 +109,6 @@ pub fn pieces_do_not_matter()
 /// last one isn't empty; an empty body is one empty piece.
 #[tactic(auto, using(crate::proofs::Splits::pieces_one))]
 pub fn bodies_have_one_split()
-    ensures { (size : ℕ) (body : List ℕ) (pieces : List (List ℕ)) → 0 < size → IsSplit size body pieces ↔ (pieces ≡ pieces_of size body) }
+    ensures { (size : ℕ) (body : List ℕ) (pieces : List (List ℕ)) → 0 < size
+        → IsSplit size body pieces ↔ (pieces ≡ pieces_of size body) }
 {}

@@ -7,8 +7,7 @@ use Rattle.std.specs.declared.num.ParseIntError.{ParseIntError}
 use Rattle.clap.specs.Matches.{TriesOne}
 use Rattle.clap.specs.Words.{Row, Text, found_of, one_of, one_text, rows_of}
 use Rattle.clap.proofs.WalkLemmas.{first_value-rows, one_text-rows}
-use Rattle.command_line.specs.Line.{IsFlag}
-use Rattle.command_line.specs.Parts.{IsAnswer, NoLine}
+use Rattle.command_line.specs.Line.{IsFlag, IsAnswer, NoLine}
 use Rattle.command_line.proofs.Lines.{of-value}
 use Rattle.command_line.specs.declared.line.Line.TheVariants.{Answer, Serve, Dump, Sync}
 use Rattle.command_line.proofs.line.read_answer.Goals as goal

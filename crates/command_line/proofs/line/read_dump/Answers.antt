@@ -2,7 +2,7 @@ use Rattle.std.proofs.Common.{◌≡◌, List, Some, None, ◌∙◌, ap, sym, c
 use Rattle.std.specs.Prelude.{Option, option_map}
 use Rattle.clap.specs.Matches.{first_value}
 use Rattle.clap.specs.Words.{Row, first_of, found_of, rows_of}
-use Rattle.command_line.specs.Parts.{IsDump, NoLine}
+use Rattle.command_line.specs.Line.{IsDump, NoLine}
 use Rattle.command_line.specs.declared.line.Line.TheVariants.{Answer, Serve, Dump, Sync}
 use Rattle.clap.proofs.WalkLemmas.{first_value-rows}
 use Rattle.command_line.proofs.line.read_dump.Goals as goal

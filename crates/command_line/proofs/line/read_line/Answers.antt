@@ -5,8 +5,7 @@ use Rattle.clap.specs.Takes.{takes}
 use Rattle.clap.specs.Faults.{fault_of as fault_kinds}
 use Rattle.clap.specs.declared.error.ErrorKind.{ErrorKind}
 use Rattle.clap.specs.declared.error.ErrorKind.TheVariants.{DisplayHelp, DisplayVersion, OutOfMemory}
-use Rattle.command_line.specs.Line.{Asks, AsksForText, IsLine, MayAskForText, uahist}
-use Rattle.command_line.specs.Parts.{IsMistake, IsTextOf, NoLine}
+use Rattle.command_line.specs.Line.{Asks, AsksForText, IsLine, MayAskForText, uahist, IsMistake, IsTextOf, NoLine}
 use Rattle.command_line.specs.declared.line.Asked.{Asked}
 use Rattle.command_line.specs.declared.line.Asked.TheVariants.{Work, Text as Shown}
 use Rattle.command_line.specs.declared.line.LineFault.{LineFault}

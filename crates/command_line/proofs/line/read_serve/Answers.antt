@@ -6,7 +6,7 @@ use Rattle.std.specs.declared.num.ParseIntError.{ParseIntError}
 use Rattle.clap.specs.Matches.{TriesOne, first_value}
 use Rattle.clap.specs.Words.{Row, Text, first_of, found_of, one_of, one_text, rows_of}
 use Rattle.clap.proofs.WalkLemmas.{first_value-rows, one_text-rows}
-use Rattle.command_line.specs.Parts.{IsServe, NoLine}
+use Rattle.command_line.specs.Line.{IsServe, NoLine}
 use Rattle.command_line.proofs.Lines.{of-value}
 use Rattle.command_line.specs.declared.line.Line.TheVariants.{Answer, Serve, Dump, Sync}
 use Rattle.command_line.proofs.line.read_serve.Goals as goal

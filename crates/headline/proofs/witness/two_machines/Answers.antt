@@ -2,9 +2,9 @@ use Rattle.std.proofs.Common.{◌≡◌, List, ◌++◌, map, take, drop, length
 use Rattle.std.proofs.lemmas.List.{take-append-le, take_all}
 use Rattle.archive.specs.Listed.{Listed, store_of}
 use Rattle.exchange.specs.Running.{RunsWorld, event_of}
-use Rattle.exchange.specs.Worlds.{IsSound, run}
-use Rattle.headline.specs.Machines.{AreInUse, AreOf}
-use Rattle.headline.specs.Pasts.{Past}
+use Rattle.exchange.specs.Worlds.{IsConsistent, run}
+use Rattle.headline.specs.Machines.{AreInUse, Simulates}
+use Rattle.headline.specs.Executions.{Execution}
 use Rattle.headline.proofs.Witnesses.{all_mapped, ran}
 use Rattle.headline.proofs.witness.two_machines.Goals as goal
 
@@ -21,5 +21,5 @@ returns c =
     let runs : W c.in-Ok.machines.items = subst W c.deref_mut.ensures.value c.in_ok-run_world.ensures in
     let lawful = all_mapped c.args.events.now (c.if-not-are_lawful.ensures.lawful refl) in
     let told = ran store_of c.in-Ok.machines.items new events c.in-Ok.ensures runs used lawful in
-    let P : List Listed → Type 0 = λ machines. (p : Past) × (p.events ≡ events) × AreOf store_of p machines × IsSound (run p.events p.start) in
+    let P : List Listed → Type 0 = λ machines. (p : Execution) × (p.events ≡ events) × Simulates store_of p machines × IsConsistent (run p.events p.start) in
     subst P (sym same) told

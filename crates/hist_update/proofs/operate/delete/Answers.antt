@@ -1,7 +1,7 @@
 use Rattle.std.proofs.Common.{rules, ◌≡◌, Err, subst, sym}
 use Rattle.ua_binary.specs.declared.codes.TheConstants.Status.{BAD_INVALID_TIMESTAMP}
-use Rattle.archive.specs.declared.setback.Setback.TheVariants as setback
-use Rattle.hist_update.specs.declared.operate.Undone.TheVariants as undone
+use Rattle.archive.specs.declared.setback.StepError.TheVariants as setback
+use Rattle.hist_update.specs.declared.operate.OperationError.TheVariants as undone
 use Rattle.hist_update.specs.Operating.{Operates}
 use Rattle.hist_update.specs.Outcome.{DeleteAt, change_by}
 use Rattle.hist_update.proofs.OutcomeParts.{deletion}
@@ -16,19 +16,19 @@ returns-then-ticks-lt1 g c =
 
 pub returns-in_err-place : goal.returns-in_err-place
 returns-in_err-place g c =
-    let told : c.from_residual.result ≡ Err (undone.Hindered (setback.Store c.in_err-place.field-0.0)) = search rules in
-    subst (λ r. Operates (g.A.Archive.state c.args.archive.now) (g.A.Archive.state c.survey.new.archive) c.args.request.now (DeleteAt c.args.time) r) (sym told)
+    let told : c.from_residual.result ≡ Err (undone.Failed (setback.Store c.in_err-place.field-0.0)) = search rules in
+    subst (λ r. Operates (g.A.Archive.state c.args.archive.now) (g.A.Archive.state c.read_state.new.archive) c.args.request.now (DeleteAt c.args.time) r) (sym told)
     (survey-failed _ _ _ _ _ _ (c.in_err-place.ensures).asks)
 
 pub returns-in_err-candidate : goal.returns-in_err-candidate
 returns-in_err-candidate g c =
-    let told : c.from_residual-in_err-candidate.result ≡ Err (undone.Hindered setback.Starved) = search rules in
-    subst (λ r. Operates (g.A.Archive.state c.args.archive.now) (g.A.Archive.state c.survey.new.archive) c.args.request.now (DeleteAt c.args.time) r) (sym told)
+    let told : c.from_residual-in_err-candidate.result ≡ Err (undone.Failed setback.OutOfMemory) = search rules in
+    subst (λ r. Operates (g.A.Archive.state c.args.archive.now) (g.A.Archive.state c.read_state.new.archive) c.args.request.now (DeleteAt c.args.time) r) (sym told)
     (draft-starved _ _ _ _ _ _ (c.in_ok-place.ensures).asks)
 
 pub returns : goal.returns
 returns g c =
     let is = rw c.empty_value.ensures at c.in_ok-candidate.ensures in
     let asks = (c.in_ok-place.ensures).asks in
-    settled g.A.Archive.state c.args.archive.now c.survey.new.archive c.settle.new.archive c.args.request.now (DeleteAt c.args.time) (deletion c.args.time) c.in_ok-place.place c.in_ok-candidate.candidate c.settle.result
-    c.requires (deletion_timed c.args.time) (deleted_by c.args.request.now (g.A.Archive.state c.args.archive.now).own c.args.time (c.as_ref-node.ensures.spelled (short_node c.args.request.now.node c.requires.node)) c.requires (search rules)) asks is c.settle.ensures.refused c.settle.ensures.submitted
+    settled g.A.Archive.state c.args.archive.now c.read_state.new.archive c.apply.new.archive c.args.request.now (DeleteAt c.args.time) (deletion c.args.time) c.in_ok-place.place c.in_ok-candidate.candidate c.apply.result
+    c.requires (deletion_timed c.args.time) (deleted_by c.args.request.now (g.A.Archive.state c.args.archive.now).own c.args.time (c.as_ref-node.ensures.spelled (short_node c.args.request.now.node c.requires.node)) c.requires (search rules)) asks is c.apply.ensures.refused c.apply.ensures.submitted

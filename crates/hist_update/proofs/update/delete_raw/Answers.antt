@@ -1,6 +1,6 @@
 use Rattle.std.proofs.Common.{map, sym, ap, ◌∙◌}
 use Rattle.records.specs.declared.shown.Held.{Held}
-use Rattle.hist_update.specs.Updates.{refused}
+use Rattle.hist_update.specs.Updates.{refused_update}
 use Rattle.hist_update.proofs.Stretches.{stretch-refused, stretch-free, stretch-failed, stretch-listed}
 use Rattle.hist_update.proofs.update.delete_raw.Goals as goal
 
@@ -17,4 +17,4 @@ returns-in-Ok-clause-acts g c =
 pub returns-in-Err-clause-acts : goal.returns-in-Err-clause-acts
 returns-in-Err-clause-acts g c =
     stretch-free (g.A.Archive.state c.args.archive.now) (g.A.Archive.state c.list_lives.new.archive) c.args.request.now c.args.modified c.args.start c.args.end c.refused-in-Err.result (sym c.in_default.ensures.refused)
-    (stretch-failed (g.A.Archive.state c.args.archive.now) (g.A.Archive.state c.list_lives.new.archive) c.in-Err.fault _ c.args.request.now c.args.start.0 c.args.end.0 c.refused-in-Err.result c.in-Err.ensures (c.refused-in-Err.ensures ∙ ap refused c.status.ensures))
+    (stretch-failed (g.A.Archive.state c.args.archive.now) (g.A.Archive.state c.list_lives.new.archive) c.in-Err.fault _ c.args.request.now c.args.start.0 c.args.end.0 c.refused-in-Err.result c.in-Err.ensures (c.refused-in-Err.ensures ∙ ap refused_update c.status.ensures))

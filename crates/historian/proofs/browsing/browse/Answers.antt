@@ -10,7 +10,7 @@ use Rattle.historian.specs.declared.service.Service.TheVariants as service
 use Rattle.historian.specs.Browsing.{browse}
 use Rattle.historian.specs.Requests.{Browse, call_in}
 use Rattle.historian.specs.Services.{answered_call}
-use Rattle.historian.specs.Telling.{Tells, PerformsHere}
+use Rattle.historian.specs.Telling.{ReportsAnswer, PerformsHere}
 use Rattle.historian.proofs.Performing.{performs-unread, performs-outside, performs-inside}
 use Rattle.historian.proofs.browsing.browse.Goals as goal
 
@@ -30,7 +30,7 @@ pub returns-clause-performs : goal.returns-clause-performs
 returns-clause-performs c = λ site now set.
     let nodes = map browse_fields c.in_ok-asked.asked.nodes.items in
     let user = c.in_ok-user_of.field-0.now in
-    let P : Layout → Type 0 = λ space. Tells (browse space nodes) c.browse_all.result in
-    let Q : List BrowseDescription → Type 0 = λ asked. Tells (browse c.space.result.now (map browse_fields asked)) c.browse_all.result in
+    let P : Layout → Type 0 = λ space. ReportsAnswer (browse space nodes) c.browse_all.result in
+    let Q : List BrowseDescription → Type 0 = λ asked. ReportsAnswer (browse c.space.result.now (map browse_fields asked)) c.browse_all.result in
     performs-inside site now (node_of c.args.token) c.args.sessions.now service.Browse (Browse nodes) c.args.request user (λ R user. give (browse site.settings.space nodes, R)) [] (browse site.settings.space nodes) c.browse_all.result
     c.in_ok-asked.ensures (λ R marks. refl) (sym c.in_ok-user_of.ensures.value) refl (λ R. record { does = λ later. refl }) (subst P (c.space.ensures ∙ ap (λ v. v.space) (sym set)) (subst Q c.deref.ensures.value c.browse_all.ensures.told))

@@ -4,8 +4,8 @@ use Rattle.std.proofs.lemmas.List.{take_all}
 use Rattle.std.proofs.lemmas.List.Elements.{All-nil, All-cons, All-append}
 use Rattle.ua_services.specs.History.{history_read_fields, IsShortHistoryRead}
 use Rattle.ua_services.specs.declared.history.HistoryReadValueId.{HistoryReadValueId}
-use Rattle.archive.specs.Store.{Mark}
-use Rattle.archive.specs.Steps.{Acts, each}
+use Rattle.archive.specs.Store.{StepResult}
+use Rattle.archive.specs.Steps.{Refines, each}
 use Rattle.hist_update.proofs.Updating.{pushed}
 use Rattle.historian.specs.Reading.{read_history_of}
 use Rattle.historian.proofs.Items.{each-next-by}
@@ -32,5 +32,5 @@ returns-clause-acts g c =
     let b = g.A.Archive.state c.loop-item.archive in
     let read = read_history_of a.id c.args.space.now c.args.query.now c.args.release in
     let P : List HistoryReadValueId → Type 0 = λ items.
-    (used : List Mark) × Acts a b used (each read (map history_read_fields items)) c.loop-item.results.items in
+    (used : List StepResult) × Refines a b used (each read (map history_read_fields items)) c.loop-item.results.items in
     subst P (take_all _ _ (omega (arith, c.loop-item-test.false))) c.loop-item.invariant.acts

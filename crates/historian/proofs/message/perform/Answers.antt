@@ -1,6 +1,6 @@
 use Rattle.std.proofs.Common.{◌∙◌, Ok, Err, Result, refl, sym, ap, subst}
 use Rattle.ua_binary.specs.declared.codes.Status.{Status}
-use Rattle.historian.specs.declared.service.Request.{Request as Opened}
+use Rattle.historian.specs.declared.service.ServiceRequest.{ServiceRequest as Opened}
 use Rattle.historian.specs.Services.{site_of, answered_call, answered_request}
 use Rattle.historian.specs.Requests.{call_in}
 use Rattle.ua_binary.specs.Binary.{node_of}

@@ -1,11 +1,11 @@
 use Rattle.std.proofs.Common.{refl, sym, subst}
 use Rattle.ua_binary.specs.Binary.{node_of}
 use Rattle.records.specs.Contents.{Content}
-use Rattle.archive.specs.Steps.{Marked}
+use Rattle.archive.specs.Steps.{Fallible}
 use Rattle.historian.specs.declared.service.Service.{Service}
 use Rattle.historian.specs.declared.service.Service.TheVariants as service
 use Rattle.historian.specs.Requests.{call_in}
-use Rattle.historian.specs.Services.{Outcome, site_of, answered_call}
+use Rattle.historian.specs.Services.{MessageOutcome, site_of, answered_call}
 use Rattle.historian.specs.Telling.{Performs}
 use Rattle.historian.proofs.Performing.{performs-here, responds-finished}
 use Rattle.historian.proofs.message.serve.Goals as goal
@@ -18,7 +18,7 @@ returns g c =
     let site = site_of c.args.settings.now a in
     let token = node_of c.args.token in
     let S = c.args.sessions.now in
-    let does : Service → Content → Marked Outcome = λ service. answered_call site c.args.now token (call_in service c.args.request) S in
+    let does : Service → Content → Fallible MessageOutcome = λ service. answered_call site c.args.now token (call_in service c.args.request) S in
     let P : Service → Type 0 = λ s. Performs a b (does s) c.match-service.sessions c.match-service.answer in
     let performs : Performs a b (does c.args.service) c.match-service.sessions c.match-service.answer = elim c.match-service.branch [
       | in-GetEndpoints w ↦ subst P (sym w.in-GetEndpoints.is) (rw (w.archive-is, w.sessions-is, w.answer-is) (performs-here a (does service.GetEndpoints) S w.get_endpoints-answer.result (w.get_endpoints-answer.ensures.performs site c.args.now token S refl)))
@@ -29,4 +29,4 @@ returns g c =
       | in-HistoryRead w ↦ subst P (sym w.in-HistoryRead.is) (rw (w.archive-is, w.sessions-is, w.answer-is) (w.read_history-answer.ensures.performs))
       | in-HistoryUpdate w ↦ subst P (sym w.in-HistoryUpdate.is) (rw (w.archive-is, w.sessions-is, w.answer-is) (w.update_history-answer.ensures.performs))
     ] in
-    responds-finished a b (does c.args.service) c.match-service.sessions c.args.now c.args.handle c.match-service.answer c.finish.result c.finish.new.body.items performs c.finish.ensures
+    responds-finished a b (does c.args.service) c.match-service.sessions c.args.now c.args.handle c.match-service.answer c.write_response.result c.write_response.new.body.items performs c.write_response.ensures

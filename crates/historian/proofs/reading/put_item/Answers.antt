@@ -8,7 +8,7 @@ use Rattle.ua_services.specs.Attributes.{ReadFields, read_fields}
 use Rattle.ua_space.specs.Attributes.{attribute_at}
 use Rattle.ua_space.specs.declared.attributes.Answered.{Answered}
 use Rattle.ua_space.specs.declared.layout.Layout.{Layout}
-use Rattle.archive.specs.Store.{Fine}
+use Rattle.archive.specs.Store.{Done}
 use Rattle.historian.specs.Reading.{value_rules, valued, item_at, item_told}
 use Rattle.historian.proofs.ReadingParts.{item_value, value_of, telling}
 use Rattle.historian.proofs.Values.{item-refused, item-there, item-unfit, item-valued, item-archived, item-told}
@@ -40,7 +40,7 @@ returns-in-Err-judge_value g c =
     let value = item_told c.args.stamps now (Err status) in
     let judged : checked (value_rules item.1.1.0 item.1.1.1) ≡ Err status = sym c.judge_value.ensures ∙ c.in-Err-judge_value.is in
     let acts = item-unfit s now space item c.in-Ok.answered status (Err status) (there space item c.in-Ok.answered c.read_attribute-answered.result c.in-Ok.is c.read_attribute-answered.ensures.told) judged refl in
-    (Fine, value, item-told s s c.args.stamps now (telling (item_at space item)) (item_value now space item) Fine (Err status) value refl acts, c.put_refused-in-Err-judge_value.ensures.puts c.args.stamps now, c.put_refused-in-Err-judge_value.ensures.spelled c.args.stamps now)
+    (Done, value, item-told s s c.args.stamps now (telling (item_at space item)) (item_value now space item) Done (Err status) value refl acts, c.put_refused-in-Err-judge_value.ensures.puts c.args.stamps now, c.put_refused-in-Err-judge_value.ensures.spelled c.args.stamps now)
 
 pub returns-in-Value : goal.returns-in-Value
 returns-in-Value g c =

@@ -11,7 +11,7 @@ use Rattle.ua_variant.specs.DataValue.{data_value, IsDataValue}
 use Rattle.ua_variant.specs.declared.data.DataValue.{DataValue}
 use Rattle.ua_services.specs.declared.attributes.ReadValueId.{ReadValueId}
 use Rattle.ua_services.specs.Attributes.{read_fields}
-use Rattle.archive.specs.Steps.{Acts, each}
+use Rattle.archive.specs.Steps.{Refines, each}
 use Rattle.historian.specs.Reading.{read_item}
 use Rattle.historian.proofs.Items.{each-next, acts-none}
 use Rattle.historian.proofs.reading.put_items.Goals as goal
@@ -81,7 +81,7 @@ returns-clause-told g c =
     let (used, values, count, acts, shown) = c.loop-item.invariant.told in
     let all : take c.loop-item.item-index c.args.items.now ≡ c.args.items.now = take_all _ _ c.loop-item-test.false in
     let whole : c.loop-item.item-index ≡ length c.args.items.now = omega (arith, c.loop-item-test.false, c.loop-item.auto.item-index-end) in
-    (used, values, count ∙ whole, subst (λ (items : List ReadValueId). Acts a b used (each (read_item c.args.space.now c.args.now c.args.stamps) (map read_fields items)) values) all acts, shown)
+    (used, values, count ∙ whole, subst (λ (items : List ReadValueId). Refines a b used (each (read_item c.args.space.now c.args.now c.args.stamps) (map read_fields items)) values) all acts, shown)
 
 pub returns-clause-err : goal.returns-clause-err
 returns-clause-err g c = c.loop-item.invariant.err

@@ -5,7 +5,7 @@ use Rattle.std.specs.List.{AllByRecursion, flat_map}
 use Rattle.std.proofs.lemmas.List.{length-map}
 use Rattle.std.proofs.lemmas.Result.{err_from_is_err_and}
 use Rattle.ua_binary.specs.Binary.{signed, array}
-use Rattle.ua_binary.specs.Fault.{status_of}
+use Rattle.ua_binary.specs.Fault.{binary_fault_status}
 use Rattle.ua_binary.specs.declared.fault.BinaryFault.{BinaryFault}
 use Rattle.ua_binary.specs.declared.fault.BinaryFault.TheVariants.{OutOfMemory}
 use Rattle.ua_binary.specs.declared.codes.Status.{Status}
@@ -17,10 +17,10 @@ use Rattle.ua_services.specs.Attributes.{ReadFields, read_fields, read_response}
 use Rattle.ua_services.specs.declared.attributes.TimestampsToReturn.{TimestampsToReturn}
 use Rattle.ua_space.specs.declared.layout.Layout.{Layout}
 use Rattle.records.specs.Contents.{Content}
-use Rattle.archive.specs.Store.{Mark}
+use Rattle.archive.specs.Store.{StepResult}
 use Rattle.historian.specs.Answers.{Response, Values, head, response}
 use Rattle.hist_update.specs.Codes.{list_refusal}
-use Rattle.historian.specs.Reading.{unless, items, read_item, read}
+use Rattle.historian.specs.Reading.{unless_refused, answer_items, read_item, read}
 use Rattle.historian.proofs.ReadingParts.{read_by}
 use Rattle.historian.specs.Telling.{Written}
 use Rattle.historian.proofs.Items.{comes-refused, acts-wanting, acts-items, few_taken}
@@ -28,16 +28,16 @@ use Rattle.historian.proofs.reading.put_read.Goals as goal
 
 -- a Read that isn't refused asks for items
 asked_items : (space : Layout) (now : Ticks) (timestamps : Option TimestampsToReturn) (stamps : TimestampsToReturn) (nodes : List ReadFields) → list_refusal 1000 (length nodes) ≡ None → timestamps ≡ Some stamps
-    → (R : Content) (marks : List Mark) → read space now (timestamps, nodes) R marks ≡ items Values (read_item space now stamps) nodes R marks
+    → (R : Content) (marks : List StepResult) → read space now (timestamps, nodes) R marks ≡ answer_items Values (read_item space now stamps) nodes R marks
 asked_items space now timestamps stamps nodes taken is R marks =
-    ap (λ (o : Option Status). unless o R (read_by space now timestamps nodes R) marks) taken
+    ap (λ (o : Option Status). unless_refused o R (read_by space now timestamps nodes R) marks) taken
     ∙ ap (λ (o : Option TimestampsToReturn). read_by space now o nodes R marks) is
 
 -- memory for the bytes was wanting
-starved : (now : Ticks) (handle : ℕ) (told : Response) (result : Result (Unit {0}) Status) (status : Status) (fault : BinaryFault) (bytes : List ℕ) → result ≡ Err status → status ≡ status_of fault → fault ≡ OutOfMemory
+starved : (now : Ticks) (handle : ℕ) (told : Response) (result : Result (Unit {0}) Status) (status : Status) (fault : BinaryFault) (bytes : List ℕ) → result ≡ Err status → status ≡ binary_fault_status fault → fault ≡ OutOfMemory
     → Written now handle told result bytes
 starved now handle told result status fault bytes is from memory =
-    subst (λ (r : Result (Unit {0}) Status). Written now handle told r bytes) (sym is) (inr (from ∙ ap status_of memory))
+    subst (λ (r : Result (Unit {0}) Status). Written now handle told r bytes) (sym is) (inr (from ∙ ap binary_fault_status memory))
 
 -- the bytes behind the head
 spelled : (values : List DataValue) → read_response.canon values ≡ ((signed w32).canon (pos (length values)) ++ flat_map data_value.canon values) ++ (signed w32).canon (negsuc 0)
@@ -69,7 +69,7 @@ returns-in-Some g c =
     let nodes = map read_fields c.args.nodes.now in
     let refused : list_refusal 1000 (length nodes) ≡ Some c.in-Some.status = ap (list_refusal 1000) (length-map c.args.nodes.now read_fields) ∙ sym c.list_refusal.ensures ∙ c.in-Some.is in
     let comes = comes-refused s (read c.args.space.now c.args.now (c.args.timestamps, nodes)) c.in-Some.status (Err c.in-Some.status)
-    (λ R marks. ap (λ (o : Option Status). unless o R (read_by c.args.space.now c.args.now c.args.timestamps nodes R) marks) refused) refl in
+    (λ R marks. ap (λ (o : Option Status). unless_refused o R (read_by c.args.space.now c.args.now c.args.timestamps nodes R) marks) refused) refl in
     (comes.0, comes.1, comes.2, comes.3)
 
 pub returns-in_default-timestamps : goal.returns-in_default-timestamps
@@ -79,7 +79,7 @@ returns-in_default-timestamps g c =
     let taken : list_refusal 1000 (length nodes) ≡ None = ap (list_refusal 1000) (length-map c.args.nodes.now read_fields) ∙ sym c.list_refusal.ensures ∙ c.in_default.is in
     let comes = comes-refused s (read c.args.space.now c.args.now (c.args.timestamps, nodes)) BAD_TIMESTAMPS_TO_RETURN_INVALID (Err BAD_TIMESTAMPS_TO_RETURN_INVALID)
     (λ R marks.
-    ap (λ (o : Option Status). unless o R (read_by c.args.space.now c.args.now c.args.timestamps nodes R) marks) taken
+    ap (λ (o : Option Status). unless_refused o R (read_by c.args.space.now c.args.now c.args.timestamps nodes R) marks) taken
     ∙ ap (λ (o : Option TimestampsToReturn). read_by c.args.space.now c.args.now o nodes R marks) c.in_default-timestamps.is) refl in
     (comes.0, comes.1, comes.2, comes.3)
 

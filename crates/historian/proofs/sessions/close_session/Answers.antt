@@ -3,9 +3,9 @@ use Rattle.std.specs.Prelude.{Result}
 use Rattle.std.proofs.lemmas.Result.{err_from_is_err_and}
 use Rattle.ua_binary.specs.Binary.{node_of}
 use Rattle.ua_session.specs.declared.fault.SessionFault.{SessionFault}
-use Rattle.ua_session.specs.Fault.{code_of}
-use Rattle.ua_session.specs.Sessions.{State, without_session}
-use Rattle.archive.specs.Store.{Fine}
+use Rattle.ua_session.specs.Fault.{session_fault_status}
+use Rattle.ua_session.specs.Sessions.{SessionsState, without_session}
+use Rattle.archive.specs.Store.{Done}
 use Rattle.historian.specs.declared.service.Service.TheVariants as service
 use Rattle.historian.specs.declared.answer.Answer.TheVariants as made
 use Rattle.historian.specs.Answers.{Closed}
@@ -24,7 +24,7 @@ pub returns-in-Ok-clause-performs : goal.returns-in-Ok-clause-performs
 returns-in-Ok-clause-performs c = λ site now.
     let s = c.args.sessions.now in
     let token = node_of c.args.token in
-    let P : Result (Unit {0}) SessionFault → State → Type 0 = λ r n. called s (λ _. (Closed, record s { alive = without_session token s.alive })) r Fine ≡ (Ok Closed, n) in
+    let P : Result (Unit {0}) SessionFault → SessionsState → Type 0 = λ r n. called s (λ _. (Closed, record s { alive = without_session token s.alive })) r Done ≡ (Ok Closed, n) in
     performs-given site now token s c.close.new.self service.CloseSession CloseSession c.args.request (close token s) (Ok Closed) (Ok made.Closed)
     c.in_ok-closing_request.ensures (λ R marks. refl) (subst (λ r. P r c.close.new.self) c.in-Ok.ensures.answer (subst (P (Ok tt)) (sym c.in-Ok.ensures.leaves) refl)) refl
 
@@ -33,6 +33,6 @@ returns-in-Err-clause-performs c = λ site now.
     let s = c.args.sessions.now in
     let token = node_of c.args.token in
     let fault = c.in-Err.fault in
-    let P : Result (Unit {0}) SessionFault → State → Type 0 = λ r n. called s (λ _. (Closed, record s { alive = without_session token s.alive })) r Fine ≡ (Err (code_of fault), n) in
-    performs-given site now token s c.close.new.self service.CloseSession CloseSession c.args.request (close token s) (Err (code_of fault)) (Err c.code.result)
+    let P : Result (Unit {0}) SessionFault → SessionsState → Type 0 = λ r n. called s (λ _. (Closed, record s { alive = without_session token s.alive })) r Done ≡ (Err (session_fault_status fault), n) in
+    performs-given site now token s c.close.new.self service.CloseSession CloseSession c.args.request (close token s) (Err (session_fault_status fault)) (Err c.code.result)
     c.in_ok-closing_request.ensures (λ R marks. refl) (subst (λ r. P r c.close.new.self) c.in-Err.ensures.answer (subst (P (Err fault)) (sym c.in-Err.ensures.leaves) refl)) (inl (ap Err (sym c.code.ensures)))

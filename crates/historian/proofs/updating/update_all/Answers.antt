@@ -6,7 +6,7 @@ use Rattle.ua_services.specs.Updates.{details_of}
 use Rattle.historian.specs.declared.answer.Answer.TheVariants as made
 use Rattle.historian.specs.Answers.{Updated as AllUpdated}
 use Rattle.hist_update.specs.Codes.{list_refusal}
-use Rattle.historian.specs.Reading.{unless, items}
+use Rattle.historian.specs.Reading.{unless_refused, answer_items}
 use Rattle.historian.specs.Updating.{update_item, update_history}
 use Rattle.historian.proofs.Items.{comes-refused, comes-starved, comes-items}
 use Rattle.historian.proofs.updating.update_all.Goals as goal
@@ -18,7 +18,7 @@ returns-in-Some-clause-comes g c =
     let user = c.args.user.now in
     let details = map details_of c.args.details.now in
     let refused : list_refusal 100 (length details) ≡ Some c.in-Some.status = ap (list_refusal 100) (length-map c.args.details.now details_of) ∙ sym c.list_refusal.ensures ∙ c.in-Some.is in
-    comes-refused s (update_history s.own space user c.args.now details) c.in-Some.status (Err c.in-Some.status) (λ R marks. ap (λ (o : Option Status). unless o R (items AllUpdated (update_item s.own space user c.args.now) details R) marks) refused) refl
+    comes-refused s (update_history s.own space user c.args.now details) c.in-Some.status (Err c.in-Some.status) (λ R marks. ap (λ (o : Option Status). unless_refused o R (answer_items AllUpdated (update_item s.own space user c.args.now) details R) marks) refused) refl
 
 pub returns-in_default-with_capacity-clause-comes : goal.returns-in_default-with_capacity-clause-comes
 returns-in_default-with_capacity-clause-comes g c =
@@ -27,7 +27,7 @@ returns-in_default-with_capacity-clause-comes g c =
     let user = c.args.user.now in
     let details = map details_of c.args.details.now in
     let taken : list_refusal 100 (length details) ≡ None = ap (list_refusal 100) (length-map c.args.details.now details_of) ∙ sym c.list_refusal.ensures ∙ c.in_default.is in
-    comes-starved s (update_history s.own space user c.args.now details) AllUpdated (update_item s.own space user c.args.now) details (λ R marks. ap (λ (o : Option Status). unless o R (items AllUpdated (update_item s.own space user c.args.now) details R) marks) taken)
+    comes-starved s (update_history s.own space user c.args.now details) AllUpdated (update_item s.own space user c.args.now) details (λ R marks. ap (λ (o : Option Status). unless_refused o R (answer_items AllUpdated (update_item s.own space user c.args.now) details R) marks) taken)
 
 pub returns-clause-comes : goal.returns-clause-comes
 returns-clause-comes g c =
@@ -38,4 +38,4 @@ returns-clause-comes g c =
     let details = map details_of c.args.details.now in
     let taken : list_refusal 100 (length details) ≡ None = ap (list_refusal 100) (length-map c.args.details.now details_of) ∙ sym c.list_refusal.ensures ∙ c.in_default.is in
     comes-items a b (update_history a.own space user c.args.now details) AllUpdated (update_item a.own space user c.args.now) details c.update_items.new.results.items (made.Updated c.update_items.new.results)
-    (λ R marks. ap (λ (o : Option Status). unless o R (items AllUpdated (update_item a.own space user c.args.now) details R) marks) taken) c.update_items.ensures.acts refl
+    (λ R marks. ap (λ (o : Option Status). unless_refused o R (answer_items AllUpdated (update_item a.own space user c.args.now) details R) marks) taken) c.update_items.ensures.acts refl

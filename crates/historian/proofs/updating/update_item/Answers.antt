@@ -3,7 +3,7 @@ use Rattle.std.specs.Option.{option_map}
 use Rattle.ua_binary.specs.Binary.{node_of}
 use Rattle.ua_services.specs.Updates.{details_of}
 use Rattle.archive.specs.Steps.{give}
-use Rattle.archive.specs.Store.{Fine, Starved}
+use Rattle.archive.specs.Store.{Done, NoMemory}
 use Rattle.historian.specs.Updating.{node_asked, type_asked, update_of, asked_for, update_item}
 use Rattle.historian.proofs.UpdatingParts.{update_by}
 use Rattle.historian.proofs.Items.{acts-none, acts-starved, acts-past}
@@ -40,8 +40,8 @@ returns-in-Err-asked_for-clause-acts g c =
     let request = asked_for c.args.user.now c.args.now in
     let node : node_asked details ≡ Some (node_of c.in-Some.node) = sym c.node_asked.ensures ∙ ap (option_map node_of) c.in-Some.is in
     acts-starved s (update_item s.own space c.args.user.now c.args.now details) c.refused-in-Err-asked_for.result (λ R later.
-    ap (λ o. update_by s.own request details R (type_asked space o) (Starved ∷ later)) node
-    ∙ ap (λ t. update_by s.own request details R t (Starved ∷ later)) (sym c.type_of.ensures.told ∙ c.in-Ok.is)
+    ap (λ o. update_by s.own request details R (type_asked space o) (NoMemory ∷ later)) node
+    ∙ ap (λ t. update_by s.own request details R t (NoMemory ∷ later)) (sym c.type_of.ensures.told ∙ c.in-Ok.is)
     ∙ ap (λ x. give (x, R) later) (sym c.refused-in-Err-asked_for.ensures.told))
 
 pub returns-in-Ok-asked_for-clause-acts : goal.returns-in-Ok-asked_for-clause-acts
@@ -54,6 +54,6 @@ returns-in-Ok-asked_for-clause-acts g c =
     let type = c.in-Ok.value_type in
     let node : node_asked details ≡ Some (node_of c.in-Some.node) = sym c.node_asked.ensures ∙ ap (option_map node_of) c.in-Some.is in
     acts-past a b (update_item a.own space c.args.user.now c.args.now details) (update_of a.own (λ _. c.in-Ok-asked_for.request) type details) c.update_of.result c.update_of.ensures.acts (λ R marks.
-    ap (λ o. update_by a.own request details R (type_asked space o) (Fine ∷ marks)) node
-    ∙ ap (λ t. update_by a.own request details R t (Fine ∷ marks)) (sym c.type_of.ensures.told ∙ c.in-Ok.is)
+    ap (λ o. update_by a.own request details R (type_asked space o) (Done ∷ marks)) node
+    ∙ ap (λ t. update_by a.own request details R t (Done ∷ marks)) (sym c.type_of.ensures.told ∙ c.in-Ok.is)
     ∙ update-for a.own request c.in-Ok-asked_for.request type details (node_of c.in-Some.node) R marks node (sym c.in-Ok-asked_for.ensures))

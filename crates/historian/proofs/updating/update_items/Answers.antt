@@ -3,8 +3,8 @@ use Rattle.std.proofs.lemmas.List.{take_all}
 use Rattle.std.specs.Prelude.{All}
 use Rattle.std.proofs.lemmas.List.Elements.{All-nil, All-cons, All-append}
 use Rattle.ua_services.specs.Updates.{details_of, HasShortValues, IsShortUpdate}
-use Rattle.archive.specs.Store.{Mark}
-use Rattle.archive.specs.Steps.{Acts, each}
+use Rattle.archive.specs.Store.{StepResult}
+use Rattle.archive.specs.Steps.{Refines, each}
 use Rattle.ua_services.specs.declared.updates.HistoryUpdateDetails.{HistoryUpdateDetails}
 use Rattle.ua_services.specs.declared.updates.HistoryUpdateResult.{HistoryUpdateResult}
 use Rattle.hist_update.proofs.Updating.{pushed}
@@ -35,7 +35,7 @@ update_item-result-requires-clause-values g c =
 pub loop-details-init : goal.loop-details-init
 loop-details-init g c =
     let a = g.A.Archive.state c.args.archive.now in
-    let P : List HistoryUpdateResult → Type 0 = λ l. (used : List Mark) × Acts a a used (each (update_item a.own c.args.space.now c.args.user.now c.args.now) []) l in
+    let P : List HistoryUpdateResult → Type 0 = λ l. (used : List StepResult) × Refines a a used (each (update_item a.own c.args.space.now c.args.user.now c.args.now) []) l in
     record {
       acts = subst P (sym c.requires.empty) (acts-none a (each (update_item a.own c.args.space.now c.args.user.now c.args.now) []) [] (λ R marks. refl));
       short = subst (All IsShortUpdate) (sym c.requires.empty) (All-nil IsShortUpdate);
@@ -50,5 +50,5 @@ returns-clause-acts g c =
     let b = g.A.Archive.state c.loop-details.archive in
     let update = update_item a.own c.args.space.now c.args.user.now c.args.now in
     let P : List HistoryUpdateDetails → Type 0 = λ items.
-    (used : List Mark) × Acts a b used (each update (map details_of items)) c.loop-details.results.items in
+    (used : List StepResult) × Refines a b used (each update (map details_of items)) c.loop-details.results.items in
     subst P (take_all _ _ (omega (arith, c.loop-details-test.false))) c.loop-details.invariant.acts

@@ -1,8 +1,8 @@
 use Rattle.std.proofs.Common.{◌∙◌, ℤ, List, FitsSigned, sym, ap, subst, arith}
 use Rattle.std.specs.Int.{w32}
 use Rattle.std.proofs.lemmas.Int.{to_z-of_z, ints}
-use Rattle.archive.specs.Store.{Mark}
-use Rattle.archive.specs.Steps.{Acts}
+use Rattle.archive.specs.Store.{StepResult}
+use Rattle.archive.specs.Steps.{Refines}
 use Rattle.ua_services.specs.Updates.{details_of}
 use Rattle.historian.specs.Updating.{update_of}
 use Rattle.hist_update.specs.Updates.{update_data, delete_raw, delete_at}
@@ -16,7 +16,7 @@ returns-in-UpdateData-clause-acts g c =
     let b = g.A.Archive.state c.update_data.new.archive in
     let perform = c.in-UpdateData.details.perform in
     let fits : FitsSigned w32 perform = omega (arith, ints) in
-    let P : ℤ → Type 0 = λ n. (used : List Mark) × Acts a b used (update_data a.own c.args.request.now c.args.value_type n c.as_slice-values.result.now) c.update_data.result in
+    let P : ℤ → Type 0 = λ n. (used : List StepResult) × Refines a b used (update_data a.own c.args.request.now c.args.value_type n c.as_slice-values.result.now) c.update_data.result in
     acts-same a b (update_data a.own c.args.request.now c.args.value_type perform c.as_slice-values.result.now) (update_of a.own (λ _. c.args.request.now) c.args.value_type (details_of c.args.details.now)) c.update_data.result
     (λ R marks.
     ap (λ l. update_data a.own c.args.request.now c.args.value_type perform l R marks) c.as_slice-values.ensures

@@ -1,7 +1,7 @@
 use Rattle.sqlite.specs.Held.{state}
 use Rattle.sql_tables.specs.Derived.{AreKept}
 use Rattle.sql_tables.specs.Rows.{meta_cells}
-use Rattle.sql_opening.specs.Opening.{judged, IsClearedIn}
+use Rattle.sql_opening.specs.Opening.{checked_meta, IsClearedIn}
 use Rattle.sql_archive.proofs.StartLemmas.{never_comes}
 use Rattle.sql_archive.proofs.BeginLemmas.{opened_behind, left_behind, begun_behind}
 use Rattle.sql_archive.proofs.ClearLemmas.{held_behind}
@@ -20,4 +20,4 @@ pub returns-in-Ok-clause-kept : goal.returns-in-Ok-clause-kept
 returns-in-Ok-clause-kept g c = held_behind g.S.Store (state g.S.Store c.args.conn) (state g.S.Store c.open_beside.new.conn) _ AreKept c.begin.result (λ clean. (c.in-Ok.ensures.opened clean).0.same) c.begin.ensures.opened c.begin.ensures.kept
 
 pub returns-in-Ok-clause-wrong : goal.returns-in-Ok-clause-wrong
-returns-in-Ok-clause-wrong g c = never_comes g.S.Store (judged c.args.id c.args.number (meta_cells (state g.S.Store c.args.conn).now.trees)) c.begin.result c.begin.ensures.wrong
+returns-in-Ok-clause-wrong g c = never_comes g.S.Store (checked_meta c.args.id c.args.number (meta_cells (state g.S.Store c.args.conn).now.trees)) c.begin.result c.begin.ensures.wrong

@@ -4,7 +4,7 @@ use Rattle.sql_tables.specs.Rows.{content_in, meta_cells}
 use Rattle.sql_opening.specs.Latest.{Remembers}
 use Rattle.sql_schema.specs.Tables.{archive_schema}
 use Rattle.sql_tables.specs.State.{Found}
-use Rattle.sql_opening.specs.Opening.{judged}
+use Rattle.sql_opening.specs.Opening.{checked_meta}
 use Rattle.sqlite.specs.Held.{state}
 use Rattle.sqlite.specs.Effect.{Database}
 use Rattle.sql_opening.proofs.OpenLemmas.{opened_by}
@@ -17,7 +17,7 @@ walk-requires-clause-known g c clean =
 
 pub returns-in-Ok : goal.returns-in-Ok
 returns-in-Ok g c =
-    opened_by c.args.id.now c.args.number (state g.S.Store c.args.conn.now) (state g.S.Store c.judge.new.conn) (state g.S.Store c.walk.new.conn) (λ d l. Remembers (content_in d) l.numbers l.tick) c.walk.result (subst (λ t. Found (state g.S.Store c.args.conn.now) (state g.S.Store c.judge.new.conn) (Ok t) (λ told. told ≡ judged c.args.id.now c.args.number (meta_cells (state g.S.Store c.args.conn.now).now.trees))) c.in-Ok.is c.in_ok-told.ensures) c.walk.ensures (λ clean. omega (arith, c.walk.ensures.crash.clean, clean))
+    opened_by c.args.id.now c.args.number (state g.S.Store c.args.conn.now) (state g.S.Store c.judge.new.conn) (state g.S.Store c.walk.new.conn) (λ d l. Remembers (content_in d) l.numbers l.tick) c.walk.result (subst (λ t. Found (state g.S.Store c.args.conn.now) (state g.S.Store c.judge.new.conn) (Ok t) (λ told. told ≡ checked_meta c.args.id.now c.args.number (meta_cells (state g.S.Store c.args.conn.now).now.trees))) c.in-Ok.is c.in_ok-told.ensures) c.walk.ensures (λ clean. omega (arith, c.walk.ensures.crash.clean, clean))
 
 pub judge-requires-clause-known : goal.judge-requires-clause-known
 judge-requires-clause-known g c clean = archive_has_meta (state g.S.Store c.args.conn.now).now.schema (c.requires.known clean)

@@ -7,7 +7,7 @@ use Rattle.records.specs.declared.shown.Entry.{Entry}
 use Rattle.std.proofs.Common.{filter, reverse, ◌++◌}
 use Rattle.records.specs.Records.{entries_after}
 use Rattle.archive.specs.Reading.{in_direction, follows}
-use Rattle.sql_tables.specs.State.{Asked}
+use Rattle.sql_tables.specs.State.{LeavesUnchanged}
 use Rattle.sql_reading.specs.Walking.{moment_at}
 use Rattle.sql_tables.proofs.AskLemmas.{passed_ok, passed_then, passed_err, passed_fault}
 use Rattle.sql_reading.proofs.LoopLemmas.{beyond, memory_own, refused_own, moment_of_place, is_place, Told, ahead_still, walked_start, walked_on, walked_enough, walked_ends, still_filled}
@@ -45,14 +45,14 @@ returns-in_err-next g c =
     let d = state g.S.Store c.next_story.new.conn in
     let P : Vec Entry Global → Type 0 = λ x. x.items ≡ take c.args.limit (beyond (λ rs. filter (follows c.args.direction c.args.after.now) (in_direction c.args.direction (reverse (entries_after None rs)))) c.args.node.now (number_of c.args.within.now) c.args.direction (moment_at c.args.start.ticks c.args.start.pico) c.args.far a.now.trees (moment_at c.args.start.ticks c.args.start.pico)) in
     let told : c.from_residual.result ≡ Err c.in_err-next.field-0.0 = search rules in
-    subst (λ r. Asked a d r P) (sym told) (passed_err a b d c.in_err-next.field-0.0 (Told (λ rs. filter (follows c.args.direction c.args.after.now) (in_direction c.args.direction (reverse (entries_after None rs)))) c.args.node.now (number_of c.args.within.now) c.args.direction (moment_at c.args.start.ticks c.args.start.pico) c.args.far b (moment_at c.loop.place.ticks c.loop.place.pico) c.next_story.new.ahead.records.items c.next_story.new.ahead.ends) P c.loop.invariant.0.passed (subst (λ r. Asked b d r (Told (λ rs. filter (follows c.args.direction c.args.after.now) (in_direction c.args.direction (reverse (entries_after None rs)))) c.args.node.now (number_of c.args.within.now) c.args.direction (moment_at c.args.start.ticks c.args.start.pico) c.args.far b (moment_at c.loop.place.ticks c.loop.place.pico) c.next_story.new.ahead.records.items c.next_story.new.ahead.ends)) c.in_err-next.was c.next_story.ensures))
+    subst (λ r. LeavesUnchanged a d r P) (sym told) (passed_err a b d c.in_err-next.field-0.0 (Told (λ rs. filter (follows c.args.direction c.args.after.now) (in_direction c.args.direction (reverse (entries_after None rs)))) c.args.node.now (number_of c.args.within.now) c.args.direction (moment_at c.args.start.ticks c.args.start.pico) c.args.far b (moment_at c.loop.place.ticks c.loop.place.pico) c.next_story.new.ahead.records.items c.next_story.new.ahead.ends) P c.loop.invariant.0.passed (subst (λ r. LeavesUnchanged b d r (Told (λ rs. filter (follows c.args.direction c.args.after.now) (in_direction c.args.direction (reverse (entries_after None rs)))) c.args.node.now (number_of c.args.within.now) c.args.direction (moment_at c.args.start.ticks c.args.start.pico) c.args.far b (moment_at c.loop.place.ticks c.loop.place.pico) c.next_story.new.ahead.records.items c.next_story.new.ahead.ends)) c.in_err-next.was c.next_story.ensures))
 
 pub returns-in_default : goal.returns-in_default
 returns-in_default g c =
     let a = state g.S.Store c.args.conn.now in
     let b = state g.S.Store c.loop.conn in
     let d = state g.S.Store c.next_story.new.conn in
-    let e = subst (λ o. Asked b d (Ok o) (Told (λ rs. filter (follows c.args.direction c.args.after.now) (in_direction c.args.direction (reverse (entries_after None rs)))) c.args.node.now (number_of c.args.within.now) c.args.direction (moment_at c.args.start.ticks c.args.start.pico) c.args.far b (moment_at c.loop.place.ticks c.loop.place.pico) c.next_story.new.ahead.records.items c.next_story.new.ahead.ends)) c.in_default.is c.in_ok-next.ensures in
+    let e = subst (λ o. LeavesUnchanged b d (Ok o) (Told (λ rs. filter (follows c.args.direction c.args.after.now) (in_direction c.args.direction (reverse (entries_after None rs)))) c.args.node.now (number_of c.args.within.now) c.args.direction (moment_at c.args.start.ticks c.args.start.pico) c.args.far b (moment_at c.loop.place.ticks c.loop.place.pico) c.next_story.new.ahead.records.items c.next_story.new.ahead.ends)) c.in_default.is c.in_ok-next.ensures in
     walked_ends (λ rs. filter (follows c.args.direction c.args.after.now) (in_direction c.args.direction (reverse (entries_after None rs)))) c.args.node.now (number_of c.args.within.now) c.args.direction (moment_at c.args.start.ticks c.args.start.pico) c.args.far items_of a b d (moment_at c.loop.place.ticks c.loop.place.pico) c.loop.found.items c.loop.ahead.records.items c.next_story.new.ahead.records.items c.loop.ahead.ends c.next_story.new.ahead.ends c.args.limit c.truncate-in_default.new.self c.loop.invariant.0 e c.truncate-in_default.ensures.items
 
 pub returns-in_err-push_entries : goal.returns-in_err-push_entries
@@ -62,15 +62,15 @@ returns-in_err-push_entries g c =
     let d = state g.S.Store c.next_story.new.conn in
     let P : Vec Entry Global → Type 0 = λ x. x.items ≡ take c.args.limit (beyond (λ rs. filter (follows c.args.direction c.args.after.now) (in_direction c.args.direction (reverse (entries_after None rs)))) c.args.node.now (number_of c.args.within.now) c.args.direction (moment_at c.args.start.ticks c.args.start.pico) c.args.far a.now.trees (moment_at c.args.start.ticks c.args.start.pico)) in
     let told : c.from_residual-in_err-push_entries.result ≡ Err c.in_err-push_entries.field-0.0 = search rules in
-    let passed = passed_ok b d (Some c.in-Some.story) (Told (λ rs. filter (follows c.args.direction c.args.after.now) (in_direction c.args.direction (reverse (entries_after None rs)))) c.args.node.now (number_of c.args.within.now) c.args.direction (moment_at c.args.start.ticks c.args.start.pico) c.args.far b (moment_at c.loop.place.ticks c.loop.place.pico) c.next_story.new.ahead.records.items c.next_story.new.ahead.ends) (subst (λ o. Asked b d (Ok o) (Told (λ rs. filter (follows c.args.direction c.args.after.now) (in_direction c.args.direction (reverse (entries_after None rs)))) c.args.node.now (number_of c.args.within.now) c.args.direction (moment_at c.args.start.ticks c.args.start.pico) c.args.far b (moment_at c.loop.place.ticks c.loop.place.pico) c.next_story.new.ahead.records.items c.next_story.new.ahead.ends)) c.in-Some.is c.in_ok-next.ensures) in
-    subst (λ r. Asked a d r P) (sym told) (passed_fault a d c.in_err-push_entries.field-0.0 P (passed_then a b d c.loop.invariant.0.passed passed) (memory_own c.in_err-push_entries.field-0.0 c.in_err-push_entries.ensures.memory))
+    let passed = passed_ok b d (Some c.in-Some.story) (Told (λ rs. filter (follows c.args.direction c.args.after.now) (in_direction c.args.direction (reverse (entries_after None rs)))) c.args.node.now (number_of c.args.within.now) c.args.direction (moment_at c.args.start.ticks c.args.start.pico) c.args.far b (moment_at c.loop.place.ticks c.loop.place.pico) c.next_story.new.ahead.records.items c.next_story.new.ahead.ends) (subst (λ o. LeavesUnchanged b d (Ok o) (Told (λ rs. filter (follows c.args.direction c.args.after.now) (in_direction c.args.direction (reverse (entries_after None rs)))) c.args.node.now (number_of c.args.within.now) c.args.direction (moment_at c.args.start.ticks c.args.start.pico) c.args.far b (moment_at c.loop.place.ticks c.loop.place.pico) c.next_story.new.ahead.records.items c.next_story.new.ahead.ends)) c.in-Some.is c.in_ok-next.ensures) in
+    subst (λ r. LeavesUnchanged a d r P) (sym told) (passed_fault a d c.in_err-push_entries.field-0.0 P (passed_then a b d c.loop.invariant.0.passed passed) (memory_own c.in_err-push_entries.field-0.0 c.in_err-push_entries.ensures.memory))
 
 pub loop-preserved : goal.loop-preserved
 loop-preserved g c =
     let a = state g.S.Store c.args.conn.now in
     let b = state g.S.Store c.loop.conn in
     let d = state g.S.Store c.next_story.new.conn in
-    let e = subst (λ o. Asked b d (Ok o) (Told (λ rs. filter (follows c.args.direction c.args.after.now) (in_direction c.args.direction (reverse (entries_after None rs)))) c.args.node.now (number_of c.args.within.now) c.args.direction (moment_at c.args.start.ticks c.args.start.pico) c.args.far b (moment_at c.loop.place.ticks c.loop.place.pico) c.next_story.new.ahead.records.items c.next_story.new.ahead.ends)) c.in-Some.is c.in_ok-next.ensures in
+    let e = subst (λ o. LeavesUnchanged b d (Ok o) (Told (λ rs. filter (follows c.args.direction c.args.after.now) (in_direction c.args.direction (reverse (entries_after None rs)))) c.args.node.now (number_of c.args.within.now) c.args.direction (moment_at c.args.start.ticks c.args.start.pico) c.args.far b (moment_at c.loop.place.ticks c.loop.place.pico) c.next_story.new.ahead.records.items c.next_story.new.ahead.ends)) c.in-Some.is c.in_ok-next.ensures in
     let p = c.place_of-place.ensures in (
       walked_on (λ rs. filter (follows c.args.direction c.args.after.now) (in_direction c.args.direction (reverse (entries_after None rs)))) c.args.node.now (number_of c.args.within.now) c.args.direction (moment_at c.args.start.ticks c.args.start.pico) c.args.far a b d (moment_at c.loop.place.ticks c.loop.place.pico) (moment_at c.place_of-place.result.ticks c.place_of-place.result.pico) c.loop.found.items c.push_entries.new.found.items c.loop.ahead.records.items c.next_story.new.ahead.records.items c.loop.ahead.ends c.next_story.new.ahead.ends c.in-Some.story c.loop.invariant.0 e
           (moment_of_place c.in-Some.story.time c.place_of-place.result.ticks c.place_of-place.result.pico p.0 p.1) (c.in_ok-push_entries.ensures.value ∙ ap (λ rs. c.loop.found.items ++ filter (follows c.args.direction c.args.after.now) (in_direction c.args.direction (reverse (entries_after None rs)))) c.deref.ensures.value),

@@ -4,11 +4,11 @@ use Rattle.stamp.specs.Numbers.{number_of}
 use Rattle.std.proofs.Common.{filter, reverse}
 use Rattle.records.specs.Records.{entries_after}
 use Rattle.archive.specs.Reading.{in_direction, follows}
-use Rattle.sql_reading.specs.Walking.{moment_at, IsPlace}
+use Rattle.sql_reading.specs.Walking.{moment_at, IsStartPlace}
 use Rattle.sql_reading.proofs.LoopLemmas.{Walked}
 use Rattle.sql_reading.proofs.walking.entries.Given as goal
 
 abbrev pub invariant-loop : goal.invariant-loop
 invariant-loop g l =
     Walked (λ rs. filter (follows l.direction l.after) (in_direction l.direction (reverse (entries_after None rs)))) l.node (number_of l.within) l.direction (moment_at l.fn.start.ticks l.fn.start.pico) l.far (state g.S.Store l.fn.conn) (state g.S.Store l.conn) (moment_at l.place.ticks l.place.pico) l.found.items l.ahead.records.items l.ahead.ends
-    × IsPlace l.direction l.place.pico
+    × IsStartPlace l.direction l.place.pico

@@ -2,7 +2,7 @@ use Rattle.std.proofs.Common.{◌≡◌, ◌∙◌, sym, subst, Some, None, IfSo
 use Rattle.sqlite.specs.Held.{state}
 use Rattle.stamp.specs.Numbers.{number_of}
 use Rattle.records.specs.Contents.{cut}
-use Rattle.records.specs.Records.{story}
+use Rattle.records.specs.Records.{versions}
 use Rattle.archive.specs.Reading.{times}
 use Rattle.sql_tables.specs.Rows.{content_in}
 use Rattle.sql_reading.specs.Walking.{moment_at, IsNextTime, IsAhead, StandsFirst}
@@ -59,6 +59,6 @@ returns g c =
     let same = same_trees a b first before in
     let told = f.answer clean in (
       next_story_is R c.args.node.now v c.args.direction place c.args.far c.in-Some.time c.in_ok-records.records.items (subst (IsNextTime c.args.direction place (times R c.args.node.now)) c.in-Some.is (e.answer before).0) (sym c.is_past.ensures ∙ c.if-is_past.false)
-          (subst (λ t. c.in_ok-records.records.items ≡ story (cut (content_in t) v) c.args.node.now c.in-Some.time) same told.0),
+          (subst (λ t. c.in_ok-records.records.items ≡ versions (cut (content_in t) v) c.args.node.now c.in-Some.time) same told.0),
       subst (λ t. IsAhead (content_in t) c.args.node.now c.args.direction c.in-Some.time c.covered_story.new.ahead.records.items c.covered_story.new.ahead.ends) same told.1,
     ))

@@ -3,11 +3,11 @@ use Rattle.stamp.specs.Numbers.{number_of}
 use Rattle.std.proofs.Common.{[]}
 use Rattle.std.specs.List.{cons_option}
 use Rattle.records.specs.Records.{held}
-use Rattle.sql_reading.specs.Walking.{moment_at, IsPlace}
+use Rattle.sql_reading.specs.Walking.{moment_at, IsStartPlace}
 use Rattle.sql_reading.proofs.LoopLemmas.{Walked}
 use Rattle.sql_reading.proofs.walking.values.Given as goal
 
 abbrev pub invariant-loop : goal.invariant-loop
 invariant-loop g l =
     Walked (λ rs. cons_option (held rs) []) l.node (number_of l.within) l.direction (moment_at l.fn.start.ticks l.fn.start.pico) l.far (state g.S.Store l.fn.conn) (state g.S.Store l.conn) (moment_at l.place.ticks l.place.pico) l.found.items l.ahead.records.items l.ahead.ends
-    × IsPlace l.direction l.place.pico
+    × IsStartPlace l.direction l.place.pico

@@ -8,7 +8,7 @@ use Rattle.sqlite.specs.State.{State, HasCleanDisk, Shown, IsUnchanged, FailsToQ
 use Rattle.sqlite.specs.Held.{state}
 use Rattle.sqlite.proofs.StateLemmas.{survives_weaker}
 use Rattle.sqlite.proofs.Callers.{never_commits}
-use Rattle.sql_tables.specs.State.{Rests, Holds}
+use Rattle.sql_tables.specs.State.{IsOpenAndIdle, Holds}
 use Rattle.sql_tables.proofs.QueryLemmas.{leaves_all}
 use Rattle.sql_tables.proofs.WriteLemmas.{fails_query}
 use Rattle.sql_tables.proofs.statements.rows_of.Goals as goal
@@ -17,7 +17,7 @@ kept : (sql : List ℕ) (params : Row) (old new : State) (r : Result (Vec Row Gl
 kept sql params old new (Ok rows) plain h = leaves_all sql params old new rows.items plain h
 kept sql params old new (Err e) plain h = tt
 
-failed : (sql : List ℕ) (params : Row) (old new : State) (r : Result (Vec Row Global) Error) → IsPlain (understood old.now.schema sql) → Rests old → IfErr r (FailsToQuery sql params old new) → IfErr r (λ _. IsTrue new.is_open → Holds old new)
+failed : (sql : List ℕ) (params : Row) (old new : State) (r : Result (Vec Row Global) Error) → IsPlain (understood old.now.schema sql) → IsOpenAndIdle old → IfErr r (FailsToQuery sql params old new) → IfErr r (λ _. IsTrue new.is_open → Holds old new)
 failed sql params old new (Ok rows) plain was h = tt
 failed sql params old new (Err e) plain was h = λ is_open. fails_query sql params old new e plain was is_open h
 

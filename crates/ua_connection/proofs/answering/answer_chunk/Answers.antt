@@ -1,37 +1,55 @@
-use Rattle.std.proofs.Common.{Some, rules}
+use Rattle.std.proofs.Common.{refl, ◌≡◌, inl, inr}
+use Rattle.std.specs.Prelude.{◌⊎◌}
+use Rattle.uacp.specs.declared.types.Kind.{Kind}
+use Rattle.uacp.specs.declared.types.Kind.TheVariants.{Hello, Open, Close, Message}
+use Rattle.archive.specs.Store.{Done}
+use Rattle.std.proofs.Common.{◌∷◌, [], ◌∙◌}
 use Rattle.ua_channel.specs.Taking.{piece_of}
 use Rattle.historian.specs.Services.{site_of}
-use Rattle.ua_connection.specs.Given.{before}
-use Rattle.ua_connection.specs.Turns.{ending_of, behind}
+use Rattle.ua_connection.specs.Environments.{before}
+use Rattle.ua_connection.specs.Client.{Client}
+use Rattle.ua_connection.specs.Turns.{ending_of, client_after, standing_of, tried}
 use Rattle.ua_connection.proofs.Outsides.{marked}
-use Rattle.archive.specs.Store.{Fine}
-use Rattle.std.proofs.Common.{◌∷◌, []}
-use Rattle.ua_connection.proofs.Steps.{unopened, untaken, taken-answered}
+use Rattle.ua_connection.proofs.Steps.{tried-hello, tried-other, answered-client, behind-same, behind-channel}
 use Rattle.ua_connection.proofs.answering.answer_chunk.Goals as goal
 
-pub returns-in_default-clause-answered : goal.returns-in_default-clause-answered
-returns-in_default-clause-answered g c client =
+pub returns-in-Hello-clause-answered : goal.returns-in-Hello-clause-answered
+returns-in-Hello-clause-answered g c client =
     let a = g.A.Archive.state c.args.archive.now in
-    let h = unopened a (site_of c.args.settings.now a) client (behind client c.refuse.result c.args.channel.now c.args.sessions.now) c.args.sessions.now c.args.channel.now (piece_of c.args.chunk) c.code.result c.args.out.now.items c.refuse.new.out.items c.refuse.result
-    (search rules) c.code.ensures c.refuse.ensures.refuses in
-    (marked h.0, g.met.C.Clock.gave_none c.args.clock.now, h.1)
-
-pub returns-in-Ok-clause-answered : goal.returns-in-Ok-clause-answered
-returns-in-Ok-clause-answered g c client =
-    let a = g.A.Archive.state c.args.archive.now in
-    let b = g.A.Archive.state c.answer_taken.new.archive in
-    let h = c.answer_taken.ensures.answered client in
-    let next = behind client c.answer_taken.result (Some c.answer_taken.new.channel) c.answer_taken.new.sessions in (
-      before (marked (Fine ∷ [])) h.0,
-      h.1,
-      taken-answered a b (site_of c.args.settings.now a) client next c.args.sessions.now c.args.channel.now c.in-Some.channel c.take.new.self (piece_of c.args.chunk) c.in-Ok.taken h.0 c.args.out.now.items c.answer_taken.new.out.items (ending_of c.answer_taken.result)
-          c.in-Some.is c.in-Ok.ensures.takes h.2,
+    let sessions = c.args.sessions.now in
+    let outer : Client = record client { channel = c.args.channel.now } in
+    let inner : Client = record outer { sessions = sessions } in
+    let h = c.greet.ensures.answered inner in
+    let next = client_after inner c.greet.result c.greet.new.channel sessions in
+    let other = client_after client c.greet.result c.greet.new.channel sessions in (
+      before (marked (Done ∷ [])) (marked h.0),
+      g.met.C.Clock.gave_none c.args.clock.now,
+      tried-hello a (site_of c.args.settings.now a) outer next other sessions c.args.chunk.kind (piece_of c.args.chunk) c.args.chunk.body.now h.0 c.args.out.now.items c.greet.new.out.items (ending_of c.greet.result) c.in-Hello.is refl
+          (behind-same outer c.greet.new.channel sessions sessions c.greet.result ∙ behind-channel client c.args.channel.now c.greet.new.channel sessions c.greet.result) h.1,
     )
 
-pub returns-in-Err-clause-answered : goal.returns-in-Err-clause-answered
-returns-in-Err-clause-answered g c client =
+not_hello : (kind : Kind) → (kind ≡ Open) ⊎ ((kind ≡ Close) ⊎ (kind ≡ Message)) → kind ≡ Hello → ⊥
+not_hello kind (inl e) is = cc
+not_hello kind (inr (inl e)) is = cc
+not_hello kind (inr (inr e)) is = cc
+
+pub returns-in-Open-clause-answered : goal.returns-in-Open-clause-answered
+returns-in-Open-clause-answered g c client =
     let a = g.A.Archive.state c.args.archive.now in
-    let next = behind client c.refuse-in-Err.result (Some c.take.new.self) c.args.sessions.now in
-    let h = untaken a (site_of c.args.settings.now a) client next c.args.sessions.now c.args.channel.now c.in-Some.channel c.take.new.self (piece_of c.args.chunk) c.in-Err.fault c.code-in-Err.result c.args.out.now.items c.refuse-in-Err.new.out.items c.refuse-in-Err.result
-    c.in-Some.is c.in-Err.ensures.takes c.code-in-Err.ensures c.refuse-in-Err.ensures.refuses in
-    (marked h.0, g.met.C.Clock.gave_none c.args.clock.now, h.1)
+    let b = g.A.Archive.state c.answer_channel_chunk.new.archive in
+    let site = site_of c.args.settings.now a in
+    let sessions = c.args.sessions.now in
+    let left = c.answer_channel_chunk.new.sessions in
+    let outer : Client = record client { channel = c.args.channel.now } in
+    let h = c.answer_channel_chunk.ensures.answered outer in
+    let piece = piece_of c.args.chunk in
+    let out = c.args.out.now.items in
+    let after = c.answer_channel_chunk.new.out.items in
+    let end = ending_of c.answer_channel_chunk.result in
+    let inner = client_after outer c.answer_channel_chunk.result c.answer_channel_chunk.new.channel left in
+    let other = client_after client c.answer_channel_chunk.result c.answer_channel_chunk.new.channel left in (
+      h.0,
+      h.1,
+      answered-client a b (λ R. tried site (standing_of outer sessions R) piece) h.0 out after end inner other (behind-channel client c.args.channel.now c.answer_channel_chunk.new.channel left c.answer_channel_chunk.result)
+          (tried-other a b site outer inner sessions piece h.0 out after end (not_hello c.args.chunk.kind c.in-Open.is) h.2),
+    )

@@ -4,7 +4,7 @@ use Rattle.ua_connection.specs.Turns.{RefusesTurn}
 use Rattle.ua_channel.specs.Sending.{opened_chunk, number_after}
 use Rattle.archive.specs.Steps.{give}
 use Rattle.ua_connection.specs.Client.{goes}
-use Rattle.ua_connection.specs.Turns.{behind}
+use Rattle.ua_connection.specs.Turns.{client_after}
 use Rattle.ua_connection.proofs.Steps.{at, opens, here-memory}
 use Rattle.ua_connection.proofs.answering.open.Goals as goal
 
@@ -17,4 +17,4 @@ returns-in-Err-clause-answered c client =
     let state = c.args.channel.now in
     let P : List ℕ → Type 0 = λ front. RefusesTurn BAD_OUT_OF_MEMORY c.refuse.result front c.refuse.new.out.items in
     here-memory (λ R. give (goes (at client R) (opened_chunk state.next c.args.request.now c.args.now) (Some (record state { next = number_after state.next 1 })))) (at client)
-    (behind client c.refuse.result (Some c.put_opened.new.self) client.sessions) c.args.out.now.items c.refuse.new.out.items c.refuse.result (λ R. refl) (subst P c.in-Err.ensures.1 c.refuse.ensures.refuses)
+    (client_after client c.refuse.result (Some c.put_opened.new.self) client.sessions) c.args.out.now.items c.refuse.new.out.items c.refuse.result (λ R. refl) (subst P c.in-Err.ensures.1 c.refuse.ensures.refuses)

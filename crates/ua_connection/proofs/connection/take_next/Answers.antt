@@ -1,7 +1,7 @@
 use Rattle.std.proofs.Common.{[], ◌≡◌, ◌<◌, ◌==◌, true, ◌∷◌, eq-eqb, arith}
-use Rattle.archive.specs.Store.{Fine}
-use Rattle.ua_connection.specs.Turns.{link_of, behind, ending_of}
-use Rattle.ua_connection.proofs.Outsides.{marked, nothing}
+use Rattle.archive.specs.Store.{Done}
+use Rattle.ua_connection.specs.Turns.{link_of, client_after, ending_of}
+use Rattle.ua_connection.proofs.Outsides.{marked, empty_environment}
 use Rattle.ua_connection.proofs.Turning.{waits-turned, chunk-turned, many-turned, fault-turned, left-waiting, gives-one, sound-one, fault-leaves, chunk-leaves, refusal-leaves, counted-one, counted-refusal, own-turn}
 use Rattle.ua_connection.proofs.connection.take_next.Goals as goal
 
@@ -9,14 +9,14 @@ pub returns-in-Ok-None-clause-turned : goal.returns-in-Ok-None-clause-turned
 returns-in-Ok-None-clause-turned g c =
     let gives = rw c.in-Ok-None.field-0-is at c.in-Ok-None.ensures.value in
     let a = g.A.Archive.state c.args.archive.now in
-    (nothing, g.met.C.Clock.gave_none c.args.clock.now, waits-turned c.args.settings.now a c.args.intake.now c.next_chunk.follows.lender-at-none c.args.taken c.args.channel.now c.args.sessions.now c.args.out.now.items gives c.next_chunk.follows.holds-at-none)
+    (empty_environment, g.met.C.Clock.gave_none c.args.clock.now, waits-turned c.args.settings.now a c.args.intake.now c.next_chunk.follows.lender-at-none c.args.taken c.args.channel.now c.args.sessions.now c.args.out.now.items gives c.next_chunk.follows.holds-at-none)
 
 pub returns-then-taken-eq-MOST_CHUNKS-clause-turned : goal.returns-then-taken-eq-MOST_CHUNKS-clause-turned
 returns-then-taken-eq-MOST_CHUNKS-clause-turned g c =
     let gives = rw c.in-Ok-Some.field-0-is at c.in-Ok-Some.ensures.value in
     let a = g.A.Archive.state c.args.archive.now in
     let many : (c.args.taken == 1000000) ≡ true = eq-eqb c.args.taken 1000000 (omega arith) in
-    (marked (Fine ∷ []), g.met.C.Clock.gave_none c.args.clock.now, many-turned c.args.settings.now a c.args.intake.now c.args.taken c.args.channel.now c.args.sessions.now c.in-Ok-Some.chunk _ c.args.out.now.items c.requires.sound gives many)
+    (marked (Done ∷ []), g.met.C.Clock.gave_none c.args.clock.now, many-turned c.args.settings.now a c.args.intake.now c.args.taken c.args.channel.now c.args.sessions.now c.in-Ok-Some.chunk _ c.args.out.now.items c.requires.sound gives many)
 
 pub returns-then-taken-eq-MOST_CHUNKS-clause-leaves : goal.returns-then-taken-eq-MOST_CHUNKS-clause-leaves
 returns-then-taken-eq-MOST_CHUNKS-clause-leaves g c =
@@ -28,28 +28,28 @@ pub returns-else-taken-eq-MOST_CHUNKS-clause-turned : goal.returns-else-taken-eq
 returns-else-taken-eq-MOST_CHUNKS-clause-turned g c =
     let gives = rw c.in-Ok-Some.field-0-is at c.in-Ok-Some.ensures.value in
     let a = g.A.Archive.state c.args.archive.now in
-    let b = g.A.Archive.state c.answer_piece.new.archive in
+    let b = g.A.Archive.state c.answer_chunk.new.archive in
     let client = (link_of c.args.intake.now c.args.taken c.args.channel.now c.args.sessions.now).client in
-    let h = c.answer_piece.ensures.answered client in
-    let next = behind client c.answer_piece.result c.answer_piece.new.channel c.answer_piece.new.sessions in (
+    let h = c.answer_chunk.ensures.answered client in
+    let next = client_after client c.answer_chunk.result c.answer_chunk.new.channel c.answer_chunk.new.sessions in (
       h.0,
       h.1,
-      chunk-turned c.args.settings.now a b c.args.intake.now c.args.taken c.args.channel.now c.args.sessions.now c.in-Ok-Some.chunk c.next_chunk.follows.lender-at-none.waiting h.0 c.args.out.now.items c.answer_piece.new.out.items (ending_of c.answer_piece.result) next
+      chunk-turned c.args.settings.now a b c.args.intake.now c.args.taken c.args.channel.now c.args.sessions.now c.in-Ok-Some.chunk c.next_chunk.follows.lender-at-none.waiting h.0 c.args.out.now.items c.answer_chunk.new.out.items (ending_of c.answer_chunk.result) next
           c.requires.sound gives c.if-taken-eq-MOST_CHUNKS.false (left-waiting c.args.intake.now c.next_chunk.follows.lender-at-none c.in-Ok-Some.chunk gives c.next_chunk.follows.holds-at-none) h.2,
     )
 
 pub returns-else-taken-eq-MOST_CHUNKS-clause-own : goal.returns-else-taken-eq-MOST_CHUNKS-clause-own
-returns-else-taken-eq-MOST_CHUNKS-clause-own g c = own-turn _ c.answer_piece.result c.answer_piece.ensures.own
+returns-else-taken-eq-MOST_CHUNKS-clause-own g c = own-turn _ c.answer_chunk.result c.answer_chunk.ensures.own
 
 pub returns-else-taken-eq-MOST_CHUNKS-clause-few : goal.returns-else-taken-eq-MOST_CHUNKS-clause-few
 returns-else-taken-eq-MOST_CHUNKS-clause-few g c =
-    let few : c.args.taken < 1000000 = omega arith in counted-one c.args.taken c.answer_piece.result few
+    let few : c.args.taken < 1000000 = omega arith in counted-one c.args.taken c.answer_chunk.result few
 
 pub returns-else-taken-eq-MOST_CHUNKS-clause-leaves : goal.returns-else-taken-eq-MOST_CHUNKS-clause-leaves
 returns-else-taken-eq-MOST_CHUNKS-clause-leaves g c =
     let gives = rw c.in-Ok-Some.field-0-is at c.in-Ok-Some.ensures.value in
     let one = gives-one c.args.intake.now c.next_chunk.follows.lender-at-none c.in-Ok-Some.chunk gives c.next_chunk.follows.holds-at-none c.requires.limit in
-    chunk-leaves c.args.intake.now c.next_chunk.follows.lender-at-none c.answer_piece.result c.answer_piece.ensures.own one
+    chunk-leaves c.args.intake.now c.next_chunk.follows.lender-at-none c.answer_chunk.result c.answer_chunk.ensures.own one
 
 pub returns-in-Err-clause-turned : goal.returns-in-Err-clause-turned
 returns-in-Err-clause-turned g c =

@@ -1,6 +1,6 @@
 use Rattle.std.proofs.Common.{Some, None, Ok, Err, arith}
-use Rattle.ua_connection.specs.Given.{before}
-use Rattle.ua_connection.proofs.Outsides.{nothing}
+use Rattle.ua_connection.specs.Environments.{before}
+use Rattle.ua_connection.proofs.Outsides.{empty_environment}
 use Rattle.ua_connection.proofs.Flow.{into-none, into-then, no-less-then, shorter-then}
 use Rattle.ua_connection.proofs.serving.answer_some.Goals as goal
 
@@ -9,31 +9,31 @@ items-init g c = record {
   small = c.requires;
   short = omega arith;
   no_less = omega arith;
-  so_far = (nothing, g.met.C.Clock.gave_none c.args.clock.now, into-none c.args.settings.now (g.A.Archive.state c.args.archive.now) c.args.connection.now c.args.out.now.items);
+  so_far = (empty_environment, g.met.C.Clock.gave_none c.args.clock.now, into-none c.args.settings.now (g.A.Archive.state c.args.archive.now) c.args.connection.now c.args.out.now.items);
 }
 
-pub returns-in-Ok-Waits-clause-turned : goal.returns-in-Ok-Waits-clause-turned
-returns-in-Ok-Waits-clause-turned g c =
+pub returns-in-Ok-NeedsInput-clause-turned : goal.returns-in-Ok-NeedsInput-clause-turned
+returns-in-Ok-NeedsInput-clause-turned g c =
     let so = c.items.invariant.so_far in
-    let turned = rw c.in-Ok-Waits.field-0-is at c.in-Ok-Waits.ensures.turned in
+    let turned = rw c.in-Ok-NeedsInput.field-0-is at c.in-Ok-NeedsInput.ensures.turned in
     let state = g.A.Archive.state in (
       before so.0 turned.0,
       g.met.C.Clock.gave_more _ _ _ _ _ so.1 turned.1,
       into-then c.args.settings.now (state c.args.archive.now) (state c.items.archive) (state c.next_answer.new.archive) c.args.connection.now c.items.connection c.next_answer.new.self so.0 turned.0 c.args.out.now.items c.items.out.items c.next_answer.new.out.items None so.2 turned.2,
     )
 
-pub returns-in-Ok-Waits-clause-shorter : goal.returns-in-Ok-Waits-clause-shorter
-returns-in-Ok-Waits-clause-shorter g c = no-less-then c.args.connection.now c.items.connection c.next_answer.new.self c.items.invariant.no_less (rw c.in-Ok-Waits.field-0-is at c.in-Ok-Waits.ensures.shorter)
+pub returns-in-Ok-NeedsInput-clause-shorter : goal.returns-in-Ok-NeedsInput-clause-shorter
+returns-in-Ok-NeedsInput-clause-shorter g c = no-less-then c.args.connection.now c.items.connection c.next_answer.new.self c.items.invariant.no_less (rw c.in-Ok-NeedsInput.field-0-is at c.in-Ok-NeedsInput.ensures.shorter)
 
-pub returns-in-Ok-Ends-clause-turned : goal.returns-in-Ok-Ends-clause-turned
-returns-in-Ok-Ends-clause-turned g c =
+pub returns-in-Ok-Ended-clause-turned : goal.returns-in-Ok-Ended-clause-turned
+returns-in-Ok-Ended-clause-turned g c =
     let so = c.items.invariant.so_far in
-    let turned = rw c.in-Ok-Ends.field-0-is at c.in-Ok-Ends.ensures.turned in
+    let turned = rw c.in-Ok-Ended.field-0-is at c.in-Ok-Ended.ensures.turned in
     let state = g.A.Archive.state in (
       before so.0 turned.0,
       g.met.C.Clock.gave_more _ _ _ _ _ so.1 turned.1,
       into-then c.args.settings.now (state c.args.archive.now) (state c.items.archive) (state c.next_answer.new.archive) c.args.connection.now c.items.connection c.next_answer.new.self so.0 turned.0 c.args.out.now.items c.items.out.items c.next_answer.new.out.items
-          (Some (Ok c.in-Ok-Ends.served)) so.2 turned.2,
+          (Some (Ok c.in-Ok-Ended.served)) so.2 turned.2,
     )
 
 pub returns-in-Err-clause-turned : goal.returns-in-Err-clause-turned
@@ -50,7 +50,7 @@ returns-in-Err-clause-turned g c =
 pub returns-then-len-ge-PIECE-clause-turned : goal.returns-then-len-ge-PIECE-clause-turned
 returns-then-len-ge-PIECE-clause-turned g c =
     let so = c.items.invariant.so_far in
-    let turned = rw c.in-Ok-Greets.field-0-is at c.in-Ok-Greets.ensures.turned in
+    let turned = rw c.in-Ok-Acknowledged.field-0-is at c.in-Ok-Acknowledged.ensures.turned in
     let state = g.A.Archive.state in (
       before so.0 turned.0,
       g.met.C.Clock.gave_more _ _ _ _ _ so.1 turned.1,
@@ -58,12 +58,12 @@ returns-then-len-ge-PIECE-clause-turned g c =
     )
 
 pub returns-then-len-ge-PIECE-clause-shorter : goal.returns-then-len-ge-PIECE-clause-shorter
-returns-then-len-ge-PIECE-clause-shorter g c = shorter-then c.args.connection.now c.items.connection c.next_answer.new.self c.items.invariant.short c.items.invariant.no_less (rw c.in-Ok-Greets.field-0-is at c.in-Ok-Greets.ensures.shorter)
+returns-then-len-ge-PIECE-clause-shorter g c = shorter-then c.args.connection.now c.items.connection c.next_answer.new.self c.items.invariant.short c.items.invariant.no_less (rw c.in-Ok-Acknowledged.field-0-is at c.in-Ok-Acknowledged.ensures.shorter)
 
 pub returns-then-len-ge-PIECE-2-clause-turned : goal.returns-then-len-ge-PIECE-2-clause-turned
 returns-then-len-ge-PIECE-2-clause-turned g c =
     let so = c.items.invariant.so_far in
-    let turned = rw c.in-Ok-Goes.field-0-is at c.in-Ok-Goes.ensures.turned in
+    let turned = rw c.in-Ok-Continues.field-0-is at c.in-Ok-Continues.ensures.turned in
     let state = g.A.Archive.state in (
       before so.0 turned.0,
       g.met.C.Clock.gave_more _ _ _ _ _ so.1 turned.1,
@@ -71,16 +71,16 @@ returns-then-len-ge-PIECE-2-clause-turned g c =
     )
 
 pub returns-then-len-ge-PIECE-2-clause-shorter : goal.returns-then-len-ge-PIECE-2-clause-shorter
-returns-then-len-ge-PIECE-2-clause-shorter g c = shorter-then c.args.connection.now c.items.connection c.next_answer.new.self c.items.invariant.short c.items.invariant.no_less (rw c.in-Ok-Goes.field-0-is at c.in-Ok-Goes.ensures.shorter)
+returns-then-len-ge-PIECE-2-clause-shorter g c = shorter-then c.args.connection.now c.items.connection c.next_answer.new.self c.items.invariant.short c.items.invariant.no_less (rw c.in-Ok-Continues.field-0-is at c.in-Ok-Continues.ensures.shorter)
 
 pub items-preserved-else-len-ge-PIECE : goal.items-preserved-else-len-ge-PIECE
 items-preserved-else-len-ge-PIECE g c =
     let so = c.items.invariant.so_far in
-    let turned = rw c.in-Ok-Greets.field-0-is at c.in-Ok-Greets.ensures.turned in
-    let less = shorter-then c.args.connection.now c.items.connection c.next_answer.new.self c.items.invariant.short c.items.invariant.no_less (rw c.in-Ok-Greets.field-0-is at c.in-Ok-Greets.ensures.shorter) in
+    let turned = rw c.in-Ok-Acknowledged.field-0-is at c.in-Ok-Acknowledged.ensures.turned in
+    let less = shorter-then c.args.connection.now c.items.connection c.next_answer.new.self c.items.invariant.short c.items.invariant.no_less (rw c.in-Ok-Acknowledged.field-0-is at c.in-Ok-Acknowledged.ensures.shorter) in
     let state = g.A.Archive.state in
     record {
-      small = c.in-Ok-Greets.ensures.small;
+      small = c.in-Ok-Acknowledged.ensures.small;
       short = omega (arith, less.0);
       no_less = less.1;
       so_far = (
@@ -93,11 +93,11 @@ items-preserved-else-len-ge-PIECE g c =
 pub items-preserved : goal.items-preserved
 items-preserved g c =
     let so = c.items.invariant.so_far in
-    let turned = rw c.in-Ok-Goes.field-0-is at c.in-Ok-Goes.ensures.turned in
-    let less = shorter-then c.args.connection.now c.items.connection c.next_answer.new.self c.items.invariant.short c.items.invariant.no_less (rw c.in-Ok-Goes.field-0-is at c.in-Ok-Goes.ensures.shorter) in
+    let turned = rw c.in-Ok-Continues.field-0-is at c.in-Ok-Continues.ensures.turned in
+    let less = shorter-then c.args.connection.now c.items.connection c.next_answer.new.self c.items.invariant.short c.items.invariant.no_less (rw c.in-Ok-Continues.field-0-is at c.in-Ok-Continues.ensures.shorter) in
     let state = g.A.Archive.state in
     record {
-      small = c.in-Ok-Goes.ensures.small;
+      small = c.in-Ok-Continues.ensures.small;
       short = omega (arith, less.0);
       no_less = less.1;
       so_far = (

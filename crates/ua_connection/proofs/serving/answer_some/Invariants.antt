@@ -1,7 +1,7 @@
 use Rattle.std.proofs.Common.{◌≤◌, length}
-use Rattle.ua_connection.specs.Given.{Outside}
+use Rattle.ua_connection.specs.Environments.{Environment}
 use Rattle.std.proofs.Common.{None}
-use Rattle.ua_connection.specs.Turns.{IsSmall, IsNoLess, TurnedInto}
+use Rattle.ua_connection.specs.Turns.{IsSmall, IsNoLess, AdvancesInto}
 use Rattle.ua_connection.proofs.serving.answer_some.Given as goal
 
 abbrev pub invariant-items : goal.invariant-items
@@ -9,8 +9,8 @@ invariant-items g l = record {
   small : IsSmall l.connection;
   short : length l.connection.waiting ≤ length l.initial.connection.waiting;
   no_less : IsNoLess l.initial.connection l.connection;
-  so_far : (used : Outside) × g.C.Clock.gave l.initial.clock used.readings l.clock
-      × TurnedInto l.settings (g.A.Archive.state l.initial.archive) (g.A.Archive.state l.archive) l.initial.connection used l.initial.out.items l.out.items None l.connection;
+  so_far : (used : Environment) × g.C.Clock.gave l.initial.clock used.readings l.clock
+      × AdvancesInto l.settings (g.A.Archive.state l.initial.archive) (g.A.Archive.state l.archive) l.initial.connection used l.initial.out.items l.out.items None l.connection;
 }
 
 abbrev pub decreases-items : goal.decreases-items

@@ -1,10 +1,10 @@
 use Rattle.std.proofs.Common.{◌≡◌, ◌∷◌, ◌++◌, [], Err, arith, refl, ◌∙◌}
 use Rattle.std.proofs.lemmas.Result.{err_from_is_err_and}
 use Rattle.counted_io.specs.declared.fault.ServeFault.TheVariants.{Write}
-use Rattle.ua_connection.specs.Given.{before}
+use Rattle.ua_connection.specs.Environments.{before}
 use Rattle.ua_connection.specs.Passing.{Went}
 use Rattle.ua_connection.specs.Turns.{ending_of}
-use Rattle.ua_connection.proofs.Outsides.{nothing}
+use Rattle.ua_connection.proofs.Outsides.{empty_environment}
 use Rattle.ua_connection.proofs.Flow.{drains-start, drains-end, drains-more, drains-part, more-shorter, own-end, no-less-then}
 use Rattle.ua_connection.proofs.serving.answer_waiting.Goals as goal
 
@@ -14,7 +14,7 @@ parts-init g c = record {
   no_less = omega arith;
   writes = refl;
   reads = refl;
-  so_far = (nothing, g.met.C.Clock.gave_none c.args.clock.now, [], g.X.Line.passed_none c.args.line.now, drains-start c.args.settings.now (g.A.Archive.state c.args.archive.now) c.args.connection.now);
+  so_far = (empty_environment, g.met.C.Clock.gave_none c.args.clock.now, [], g.X.Line.passed_none c.args.line.now, drains-start c.args.settings.now (g.A.Archive.state c.args.archive.now) c.args.connection.now);
 }
 
 pub returns-in_err-send-clause-drained : goal.returns-in_err-send-clause-drained

@@ -1,6 +1,6 @@
 use Rattle.std.proofs.Common.{◌≡◌, length, List}
-use Rattle.ua_connection.specs.Given.{Outside}
-use Rattle.ua_connection.specs.Passing.{Event}
+use Rattle.ua_connection.specs.Environments.{Environment}
+use Rattle.ua_connection.specs.Passing.{LineEvent}
 use Rattle.ua_connection.specs.Turns.{IsSmall, IsNoLess, DrainedSoFar}
 use Rattle.ua_connection.proofs.serving.answer_waiting.Given as goal
 
@@ -10,7 +10,7 @@ invariant-parts g l = record {
   no_less : IsNoLess l.initial.connection l.connection;
   writes : g.X.Line.failed_writes l.line ≡ g.X.Line.failed_writes l.initial.line;
   reads : g.X.Line.failed_reads l.line ≡ g.X.Line.failed_reads l.initial.line;
-  so_far : (used : Outside) × g.C.Clock.gave l.initial.clock used.readings l.clock × (events : List Event) × g.X.Line.passed l.initial.line events l.line
+  so_far : (used : Environment) × g.C.Clock.gave l.initial.clock used.readings l.clock × (events : List LineEvent) × g.X.Line.passed l.initial.line events l.line
       × DrainedSoFar l.settings (g.A.Archive.state l.initial.archive) (g.A.Archive.state l.archive) l.initial.connection used events l.connection;
 }
 

@@ -1,7 +1,7 @@
 use Rattle.std.proofs.Common.{List, ℕ, ℤ, subst, sym}
-use Rattle.ua_connection.specs.Given.{before}
+use Rattle.ua_connection.specs.Environments.{before}
 use Rattle.ua_connection.specs.Serving.{ServesPromptly}
-use Rattle.ua_connection.proofs.Outsides.{nothing}
+use Rattle.ua_connection.proofs.Outsides.{empty_environment}
 use Rattle.ua_connection.proofs.Flow.{fed-short}
 use Rattle.ua_connection.proofs.Whole.{serves-unfed}
 use Rattle.ua_connection.proofs.serving.serve_behind.Goals as goal
@@ -11,7 +11,7 @@ returns-in-Err-clause-serves g c =
     let sends = c.send_starved.ensures.sends in
     let end = serves-unfed c.args.settings.now (g.A.Archive.state c.args.archive.now) c.args.first.now sends.0 c.send_starved.result c.requires.some sends.2 in
     let P : List ℤ → Type 0 = λ r. g.C.Clock.gave c.args.clock.now r c.args.clock.now in
-    (before nothing end.0, subst P (sym end.1) (g.met.C.Clock.gave_none c.args.clock.now), sends.0, sends.1, end.2)
+    (before empty_environment end.0, subst P (sym end.1) (g.met.C.Clock.gave_none c.args.clock.now), sends.0, sends.1, end.2)
 
 pub returns-clause-serves : goal.returns-clause-serves
 returns-clause-serves g c =

@@ -2,10 +2,10 @@ use Rattle.std.proofs.Common.{◌≡◌, ◌<◌, ◌∷◌, ◌++◌, [], List,
 use Rattle.std.proofs.lemmas.Result.{err_from_is_err_and}
 use Rattle.std.proofs.lemmas.List.{length-append, length-take, append-nil}
 use Rattle.counted_io.specs.declared.fault.ServeFault.TheVariants.{Read}
-use Rattle.ua_connection.specs.Given.{before}
+use Rattle.ua_connection.specs.Environments.{before}
 use Rattle.ua_connection.specs.Passing.{Came}
-use Rattle.ua_connection.specs.Turns.{Link, IsShort, IsNoLess}
-use Rattle.ua_connection.proofs.Outsides.{nothing}
+use Rattle.ua_connection.specs.Turns.{ConnectionState, NeedsBytes, IsNoLess}
+use Rattle.ua_connection.proofs.Outsides.{empty_environment}
 use Rattle.ua_connection.proofs.Flow.{fresh-small, short-length}
 use Rattle.ua_connection.proofs.Whole.{serves-start, serves-read, serves-end, serves-fed, serves-drained, serves-ended, serves-failed, serves-starved}
 use Rattle.ua_connection.proofs.serving.serve_on.Goals as goal
@@ -17,7 +17,7 @@ reads-init g c = record {
   reads = refl;
   writes = refl;
   so_far = (
-    nothing,
+    empty_environment,
     g.met.C.Clock.gave_none c.args.clock.now,
     [],
     g.X.Line.passed_none c.args.line.now,
@@ -89,7 +89,7 @@ returns-in-Ok-Some-clause-serves g c =
       after ++ drained.2,
       g.X.Line.passed_more _ _ _ _ _ (g.X.Line.passed_more _ _ _ _ _ so.3 c.in_ok-n.ensures.came) drained.3,
       serves-ended c.args.settings.now (state c.args.archive.now) (state c.reads.archive) (state c.answer_waiting.new.archive) c.args.connection.now.waiting after drained.2 so.0 drained.0 c.feed.new.self c.answer_waiting.new.connection
-          (IsShort c.answer_waiting.new.connection × IsNoLess c.feed.new.self c.answer_waiting.new.connection) c.in-Ok-Some.served fed drained.4 own,
+          (NeedsBytes c.answer_waiting.new.connection × IsNoLess c.feed.new.self c.answer_waiting.new.connection) c.in-Ok-Some.served fed drained.4 own,
     )
 
 pub returns-in-Err-answer_waiting-clause-serves : goal.returns-in-Err-answer_waiting-clause-serves
@@ -105,7 +105,7 @@ returns-in-Err-answer_waiting-clause-serves g c =
       after ++ drained.2,
       g.X.Line.passed_more _ _ _ _ _ (g.X.Line.passed_more _ _ _ _ _ so.3 c.in_ok-n.ensures.came) drained.3,
       serves-failed c.args.settings.now (state c.args.archive.now) (state c.reads.archive) (state c.answer_waiting.new.archive) c.args.connection.now.waiting after drained.2 so.0 drained.0 c.feed.new.self c.answer_waiting.new.connection
-          (IsShort c.answer_waiting.new.connection × IsNoLess c.feed.new.self c.answer_waiting.new.connection) c.in-Err-answer_waiting.fault fed drained.4 c.in-Err-answer_waiting.ensures.own,
+          (NeedsBytes c.answer_waiting.new.connection × IsNoLess c.feed.new.self c.answer_waiting.new.connection) c.in-Err-answer_waiting.fault fed drained.4 c.in-Err-answer_waiting.ensures.own,
     )
 
 pub reads-smaller : goal.reads-smaller
@@ -113,8 +113,8 @@ reads-smaller g c =
     let own = rw c.in-Ok-None.field-0-is at c.in-Ok-None.ensures.own in
     let small = c.in-Ok-None.ensures.small in
     let short : length c.answer_waiting.new.connection.waiting < 65536 = short-length c.answer_waiting.new.connection small.1 own.0 in
-    let now = ap (λ (l : Link). length l.waiting) c.in-Ok.ensures.ok in
-    let taken = ap (λ (l : Link). l.client.taken) c.in-Ok.ensures.ok in
+    let now = ap (λ (l : ConnectionState). length l.waiting) c.in-Ok.ensures.ok in
+    let taken = ap (λ (l : ConnectionState). l.client.taken) c.in-Ok.ensures.ok in
     let within = c.in_ok-n.ensures.within in
     let more = own.1 in
     let most = small.0 in
@@ -133,7 +133,7 @@ reads-preserved g c =
       small = c.in-Ok-None.ensures.small;
       short = own.0;
       reads = c.in-Ok-None.ensures.reads ∙ (c.in_ok-n.ensures.faults ∙ c.reads.invariant.reads);
-      writes = (rw c.in-Ok-None.field-0-is at c.in-Ok-None.ensures.kept) (λ e. cc) ∙ (c.in_ok-n.ensures.writes ∙ c.reads.invariant.writes);
+      writes = (rw c.in-Ok-None.field-0-is at c.in-Ok-None.ensures.writes.keeps) (λ e. cc) ∙ (c.in_ok-n.ensures.writes ∙ c.reads.invariant.writes);
       so_far = (
         before so.0 drained.0,
         g.met.C.Clock.gave_more _ _ _ _ _ so.1 drained.1,

@@ -1,16 +1,16 @@
 use Rattle.std.proofs.Common.{◌≡◌, ◌-◌, ◌*◌, ◌+◌, length, List}
-use Rattle.ua_connection.specs.Given.{Outside}
-use Rattle.ua_connection.specs.Passing.{Event}
-use Rattle.ua_connection.specs.Turns.{IsShort, IsSmall, ServesSoFar}
+use Rattle.ua_connection.specs.Environments.{Environment}
+use Rattle.ua_connection.specs.Passing.{LineEvent}
+use Rattle.ua_connection.specs.Turns.{NeedsBytes, IsSmall, ServesSoFar}
 use Rattle.ua_connection.proofs.serving.serve_on.Given as goal
 
 abbrev pub invariant-reads : goal.invariant-reads
 invariant-reads g l = record {
   small : IsSmall l.connection;
-  short : IsShort l.connection;
+  short : NeedsBytes l.connection;
   reads : g.X.Line.failed_reads l.line ≡ g.X.Line.failed_reads l.initial.line;
   writes : g.X.Line.failed_writes l.line ≡ g.X.Line.failed_writes l.initial.line;
-  so_far : (used : Outside) × g.C.Clock.gave l.initial.clock used.readings l.clock × (events : List Event) × g.X.Line.passed l.initial.line events l.line
+  so_far : (used : Environment) × g.C.Clock.gave l.initial.clock used.readings l.clock × (events : List LineEvent) × g.X.Line.passed l.initial.line events l.line
       × ServesSoFar l.settings (g.A.Archive.state l.initial.archive) (g.A.Archive.state l.archive) l.initial.connection.waiting events used l.connection;
 }
 

@@ -3,7 +3,7 @@ use Rattle.std.specs.Prelude.{Result}
 use Rattle.std.proofs.lemmas.Result.{err_from_is_err_and}
 use Rattle.counted_io.specs.declared.fault.ServeFault.{ServeFault}
 use Rattle.counted_io.specs.declared.fault.ServeFault.TheVariants.{Write}
-use Rattle.ua_peers.specs.declared.peers.Parted.{Parted}
+use Rattle.ua_peers.specs.declared.peers.PeerEnded.{PeerEnded}
 use Rattle.std.specs.Io.KnownBytes.{Appends}
 use Rattle.counted_io.specs.Bytes.{AppendsPart}
 use Rattle.ua_peers.proofs.Talking.{end-four}
@@ -16,7 +16,7 @@ returns-in_err-send-clause-tells g c =
     let fault = c.in_err-send.ensures.fault.0 in
     let is : c.from_residual.result ≡ Err Write = cc (fault, p.1, p.2) in
     let contents = g.W.Write.contents in
-    subst (λ (x : Result Parted ServeFault). TellsWant (contents c.args.writer.now.inner) (contents c.send.new.self.inner) x) (sym is)
+    subst (λ (x : Result PeerEnded ServeFault). TellsWant (contents c.args.writer.now.inner) (contents c.send.new.self.inner) x) (sym is)
     (subst (λ (b : List ℕ). AppendsPart (contents c.args.writer.now.inner) (contents c.send.new.self.inner) b) end-four c.in_err-send.ensures.part)
 
 pub returns-clause-tells : goal.returns-clause-tells

@@ -2,7 +2,7 @@ use Rattle.std.proofs.Common.{◌≡◌, ◌++◌, ℕ, max, take, string_bytes}
 use Rattle.std.specs.List.{flat_map}
 use Rattle.stamp.specs.Numbers.{number_of}
 use Rattle.records.specs.Contents.{vec}
-use Rattle.ua_server.specs.Parts.{line_of}
+use Rattle.ua_server.specs.Dumping.{line_of}
 use Rattle.ua_server.proofs.dumps.put_lines.Given as goal
 
 abbrev pub invariant-loop-r : goal.invariant-loop-r

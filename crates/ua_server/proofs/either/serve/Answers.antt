@@ -1,7 +1,7 @@
 use Rattle.std.proofs.Common.{◌≡◌, ◌∙◌, Err, take, sym, inl, inr}
 use Rattle.counted_io.specs.declared.fault.ServeFault.TheVariants.{Read}
-use Rattle.ua_server.specs.Either.{is_peers, Ending}
-use Rattle.ua_connection.proofs.Outsides.{nothing}
+use Rattle.ua_server.specs.Either.{is_peers, ConnectionEnding}
+use Rattle.ua_connection.proofs.Outsides.{empty_environment}
 use Rattle.ua_server.proofs.Firsts.{are-first, breaks-off, goes-as-peer, goes-as-client}
 use Rattle.ua_server.proofs.either.serve.Goals as goal
 
@@ -9,8 +9,8 @@ pub returns-in-Err-clause-serves : goal.returns-in-Err-clause-serves
 returns-in-Err-clause-serves g c =
     let left = g.R.Read.remaining in
     let fault = c.in-Err.ensures.fault.0 in
-    let ends : ◌≡◌ {A = Ending} (Err c.in-Err.fault) (Err Read) = cc fault in (
-      nothing,
+    let ends : ◌≡◌ {A = ConnectionEnding} (Err c.in-Err.fault) (Err Read) = cc fault in (
+      empty_environment,
       g.met.C.Clock.gave_none c.args.clock.now,
       inl (breaks-off (g.A.Archive.state c.args.replica.now.archive) (left c.args.reader.now.inner) (left c.read_first.new.reader.inner) (g.W.Write.contents c.args.writer.now.inner) (Err c.in-Err.fault) c.in-Err.ensures.broken ends),
     )
@@ -23,7 +23,7 @@ returns-then-is_peers-clause-serves g c =
     let came = c.in-Ok.ensures in
     let first = take c.in-Ok.n c.read_first.new.first in
     let three = are-first (left c.args.reader.now.inner) (left c.read_first.new.reader.inner) c.read_first.new.first c.in-Ok.n came.length came.within came.bytes came.end in (
-      nothing,
+      empty_environment,
       g.met.C.Clock.gave_none c.args.clock.now,
       inr (
         first,
@@ -31,8 +31,8 @@ returns-then-is_peers-clause-serves g c =
         three.0,
         three.1,
         three.2,
-        goes-as-peer c.args.settings.now (state c.args.replica.now.archive) (state c.meet_peer.new.replica.archive) first (left c.read_first.new.reader.inner) (left c.meet_peer.new.reader.inner)
-            (contents c.args.writer.now.inner) (contents c.meet_peer.new.writer.inner) (is_peers first) c.meet_peer.result (sym c.is_peers.ensures ∙ c.if-is_peers.true) c.meet_peer.ensures.meets,
+        goes-as-peer c.args.settings.now (state c.args.replica.now.archive) (state c.serve_a_peer.new.replica.archive) first (left c.read_first.new.reader.inner) (left c.serve_a_peer.new.reader.inner)
+            (contents c.args.writer.now.inner) (contents c.serve_a_peer.new.writer.inner) (is_peers first) c.serve_a_peer.result (sym c.is_peers.ensures ∙ c.if-is_peers.true) c.serve_a_peer.ensures.meets,
       ),
     )
 

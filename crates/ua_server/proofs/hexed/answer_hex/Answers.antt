@@ -7,13 +7,13 @@ use Rattle.archive.proofs.Acting.{moves-none}
 use Rattle.counted_io.specs.declared.fault.ServeFault.TheVariants.{Read, Write, TooLong, OutOfMemory}
 use Rattle.ua_server.specs.declared.hexed.HexFault.{HexFault}
 use Rattle.ua_server.specs.declared.hexed.HexFault.TheVariants.{BadHex, Serve}
-use Rattle.ua_connection.specs.Given.{Outside}
+use Rattle.ua_connection.specs.Environments.{Environment}
 use Rattle.ua_server.specs.Hexed.{digits_of, IsUntouched, AnswersHex, IsBadOrStarved}
-use Rattle.ua_connection.proofs.Outsides.{nothing}
+use Rattle.ua_connection.proofs.Outsides.{empty_environment}
 use Rattle.ua_server.proofs.Hexing.{given-text}
 use Rattle.ua_server.proofs.hexed.answer_hex.Goals as goal
 
-undecoded : (settings : Values) (a b : Store) (text : List ℕ) (used : Outside) (before : List ℕ) (fault : HexFault) → IsBadOrStarved fault → (fault ≡ BadHex → IsErr (decode_of (digits_of text))) → IsUntouched a b used → AnswersHex settings a b text used before before (Err fault)
+undecoded : (settings : Values) (a b : Store) (text : List ℕ) (used : Environment) (before : List ℕ) (fault : HexFault) → IsBadOrStarved fault → (fault ≡ BadHex → IsErr (decode_of (digits_of text))) → IsUntouched a b used → AnswersHex settings a b text used before before (Err fault)
 undecoded settings a b text used before BadHex told bad untouched = (bad refl, refl, untouched)
 undecoded settings a b text used before (Serve Read) told bad untouched = absurd told
 undecoded settings a b text used before (Serve Write) told bad untouched = absurd told
@@ -23,7 +23,7 @@ undecoded settings a b text used before (Serve OutOfMemory) told bad untouched =
 pub returns-in-Err : goal.returns-in-Err
 returns-in-Err g c =
     let s = g.A.Archive.state c.args.replica.now.archive in
-    (nothing, g.met.C.Clock.gave_none c.args.clock.now, undecoded c.args.settings.now s s c.args.text.now nothing c.args.out.now.items c.in-Err.fault c.in-Err.ensures.memory (λ e. c.in-Err.ensures.bad (ap Err e)) (moves-none s (λ marks R S. S ≡ R) (λ R. refl), refl))
+    (empty_environment, g.met.C.Clock.gave_none c.args.clock.now, undecoded c.args.settings.now s s c.args.text.now empty_environment c.args.out.now.items c.in-Err.fault c.in-Err.ensures.memory (λ e. c.in-Err.ensures.bad (ap Err e)) (moves-none s (λ marks R S. S ≡ R) (λ R. refl), refl))
 
 pub returns-in-Err-TooLong : goal.returns-in-Err-TooLong
 returns-in-Err-TooLong g c =

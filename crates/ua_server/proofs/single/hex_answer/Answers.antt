@@ -1,21 +1,21 @@
 use Rattle.std.proofs.Common.{ℕ, List, Err, IsUtf8, refl, ap, subst, ◌∙◌}
-use Rattle.ua_connection.proofs.Outsides.{nothing}
+use Rattle.ua_connection.proofs.Outsides.{empty_environment}
 use Rattle.ua_server.proofs.Hexing.{idle, made-digits, made-read, made-bad, made-none}
 use Rattle.ua_server.proofs.single.hex_answer.Goals as goal
 
 pub returns-in-Err-clause-digits : goal.returns-in-Err-clause-digits
 returns-in-Err-clause-digits g c =
-    (nothing, g.met.C.Clock.gave_none c.args.clock.now, made-read c.args.settings.now (g.A.Archive.state c.args.replica.now.archive) (g.R.Read.remaining c.args.input.now.inner) c.in-Err.fault (λ e. c.in-Err.ensures.no_write (ap Err e)) (λ e. c.in-Err.ensures.no_long (ap Err e)))
+    (empty_environment, g.met.C.Clock.gave_none c.args.clock.now, made-read c.args.settings.now (g.A.Archive.state c.args.replica.now.archive) (g.R.Read.remaining c.args.input.now.inner) c.in-Err.fault (λ e. c.in-Err.ensures.no_write (ap Err e)) (λ e. c.in-Err.ensures.no_long (ap Err e)))
 
 pub returns-in_default-clause-digits : goal.returns-in_default-clause-digits
 returns-in_default-clause-digits g c =
     let P : List ℕ → Type 0 = λ b. IsUtf8 b → ⊥ in (
-      nothing,
+      empty_environment,
       g.met.C.Clock.gave_none c.args.clock.now,
       (
         made-bad (g.R.Read.remaining c.args.input.now.inner) (g.R.Read.remaining c.read_all.new.input.inner) c.in-Ok.bytes.items c.in-Ok.ensures.bytes.0 c.in-Ok.ensures.bytes.1
             (subst P c.as_slice.ensures.value c.in_default.ensures.cases.0),
-        idle (g.A.Archive.state c.args.replica.now.archive) nothing refl refl,
+        idle (g.A.Archive.state c.args.replica.now.archive) empty_environment refl refl,
       ),
     )
 

@@ -3,11 +3,11 @@ use Rattle.std.specs.Prelude.{Result}
 use Rattle.ua_binary.specs.declared.fault.BinaryFault.{BinaryFault}
 use Rattle.ua_binary.specs.Binary.{byte_string}
 use Rattle.ua_services.specs.Sessions.{activate_session_response}
-use Rattle.historian.specs.Answers.{Activated, IsSpelled}
+use Rattle.historian.specs.Answers.{Activated, HasEncoding}
 use Rattle.historian.proofs.answer.Answer.put_body.Goals as goal
 
 -- nulls alone
-activated : (put : Result (Unit {0}) BinaryFault) → IfOk put (λ _. IsSpelled Activated)
+activated : (put : Result (Unit {0}) BinaryFault) → IfOk put (λ _. HasEncoding Activated)
 unfolding activate_session_response byte_string
 activated (Ok _) = (tt, (tt, tt))
 activated (Err fault) = tt

@@ -1,7 +1,7 @@
 use Rattle.std.proofs.Common.{◌≡◌, subst, sym, refl, Vec}
 use Rattle.std.specs.declared.alloc.Global.{Global}
 use Rattle.sqlite.specs.Held.{state}
-use Rattle.records.specs.Records.{story}
+use Rattle.records.specs.Records.{versions}
 use Rattle.records.specs.declared.record.Record.{Record}
 use Rattle.sql_tables.specs.Rows.{content_in}
 use Rattle.archive.specs.Store.{Asks}
@@ -18,7 +18,7 @@ pub returns-clause-asks : goal.returns-clause-asks
 returns-clause-asks g c =
     let a : Kept _ = record { conn = c.self.inside.conn; id = c.self.inside.id; number = c.self.inside.number; numbers = c.self.inside.latest.numbers; tick = c.self.inside.latest.tick; faults = c.self.inside.faults; broken = c.self.inside.broken } in
     let b : Kept _ = record { conn = c.records_at-answer.new.conn; id = c.self.inside.id; number = c.self.inside.number; numbers = c.self.inside.latest.numbers; tick = c.self.inside.latest.tick; faults = c.tell.new.faults; broken = c.tell.new.broken } in
-    let IsAnswer : Kept _ → Vec Record Global → Type 0 = λ x v. v.items ≡ story (content_in (state g.S.Store x.conn).now.trees) c.args.node.now c.args.time in
+    let IsAnswer : Kept _ → Vec Record Global → Type 0 = λ x v. v.items ≡ versions (content_in (state g.S.Store x.conn).now.trees) c.args.node.now c.args.time in
     let laws : Laws g.S.Store = record { settled = g.met.S.Store.settled; stays = g.met.S.Store.stays; survives = g.met.S.Store.survives } in
     let is : Serves g.S.Store b = serves-asked g.S.Store laws a b c.records_at-answer.result (IsAnswer a) c.self.invariant c.if-self.false refl refl refl refl c.records_at-answer.ensures c.tell.ensures.broken in
     subst (λ x. Asks (store_of g.S.Store x) (store_of g.S.Store b) c.tell.result (IsAnswer x)) c.self.view_is

@@ -2,10 +2,10 @@ use Rattle.std.proofs.Common.{◌≡◌, Option, None, IfOk, Result, Ok, Err, sy
 use Rattle.toml.specs.Data.{Members}
 use Rattle.toml.specs.Errors.{IsMemory}
 use Rattle.ua_settings.specs.declared.place.Place.{Place}
-use Rattle.ua_settings.specs.Place.{IsLine, IsPlaceOf}
+use Rattle.ua_settings.specs.Place.{IsLineNumber, IsPlaceOf}
 use Rattle.ua_settings.proofs.place.Place.of.Goals as goal
 
-told_line : {E : Type 0} (document : Option Members) (M : Type 0) (result : Result Place E) → (¬ M → document ≡ None) → IfOk result (λ place. IsLine place × ¬ M) → IfOk result (IsPlaceOf document)
+told_line : {E : Type 0} (document : Option Members) (M : Type 0) (result : Result Place E) → (¬ M → document ≡ None) → IfOk result (λ place. IsLineNumber place × ¬ M) → IfOk result (IsPlaceOf document)
 told_line document M (Ok place) refused told = subst (λ d. IsPlaceOf d place) (sym (refused told.1)) told.0
 told_line document M (Err e) refused told = tt
 
