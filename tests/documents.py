@@ -10,6 +10,7 @@ command that serves without an end is stopped. What README shows of tools/quick 
 for the lines of the build. Links between pages have to lead to a file. Exit status 1 where one differs.
 """
 import glob, importlib.machinery, importlib.util, os, re, shutil, signal, subprocess, sys, tempfile
+import usage
 
 here = os.path.dirname(os.path.abspath(__file__))
 top = os.path.dirname(here)
@@ -93,8 +94,7 @@ def dead_links():
 
 
 def main():
-    if len(sys.argv) < 2 or sys.argv[1].startswith("-"):
-        sys.exit(__doc__)
+    usage.shown(__doc__, 1)
     program, wrong, count = os.path.abspath(sys.argv[1]), 0, 0
     for page in sys.argv[2:] or PAGES:
         differ, all_ = wrong_commands(program, page)

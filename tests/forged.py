@@ -15,8 +15,10 @@ streams is tried. Needs gcc and GNU time.
 """
 import os, socket, struct, sys, tempfile, threading, time
 from concurrent.futures import ThreadPoolExecutor
-import model, reading, running
+import model, reading, running, usage
 from opcua import *
+
+usage.shown(__doc__, 1)
 
 NOW = running.NOW
 FORGED = [0, 127, 128, 255]

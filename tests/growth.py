@@ -13,8 +13,10 @@ runs ended in which way; the exit status is 1 where one is otherwise.
 """
 import collections, os, shutil, struct, subprocess, sys, tempfile
 from concurrent.futures import ThreadPoolExecutor
-import reading, running
+import reading, running, usage
 from opcua import *
+
+usage.shown(__doc__, 1)
 
 NOW = 134_168_832_000_000_000
 here = running.here

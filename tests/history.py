@@ -3,6 +3,7 @@ import datetime, struct, sys
 import opcua, reading
 
 DID = {1: "inserted", 2: "replaced", 3: "updated", 4: "deleted"}
+FORMS = {2: "b", 3: "B", 4: "h", 5: "H", 6: "i", 7: "I", 8: "q", 9: "Q", 10: "f", 11: "d"}  # of the types of numbers (Part 6, 5.1.2)
 
 
 def ticks(text):
@@ -17,16 +18,22 @@ def shown(time_, form="%Y-%m-%d %H:%M"):
     return moment.strftime(form)
 
 
-def results(chunk, read):
-    """What stands in a response with one result, read by `read`; a fault ends the program."""
+def response(chunk, service):
+    """A reader of what stands behind the header of a response; one that isn't Good ends the program."""
     if chunk[:3] == b"ERR":
-        sys.exit(f"the server ended the connection: {struct.unpack_from('<I', chunk, 8)[0]:08X}")
+        sys.exit(f"{service}: the server ended the connection, {struct.unpack_from('<I', chunk, 8)[0]:08X}")
     response = reading.Reader(chunk[24:])
     response.node(), response.i64(), response.u32()
     status = response.u32()
     if status or response.u8() or response.i32() > 0 or response.node() is None or response.u8():
-        sys.exit(f"the server answered {status:08X}")
-    return response.array(lambda: read(response))
+        sys.exit(f"{service} is refused, {status:08X}")
+    return response
+
+
+def results(chunk, read):
+    """What stands in a response with results, each read by `read`; a fault ends the program."""
+    head = response(chunk, "the request")
+    return head.array(lambda: read(head))
 
 
 def read_codes(response):
@@ -48,9 +55,9 @@ def read_values(response):
 
 
 def number(value):
-    """The number of a value of type Int32; none of a value that is none."""
-    kind, _, spelled = value["variant"] or (None, None, None)
-    return struct.unpack("<i", spelled[1:])[0] if kind == 6 else None
+    """The number of a value of a type of numbers; none of a value that is none."""
+    kind, array, spelled = value["variant"] or (None, False, None)
+    return struct.unpack("<" + FORMS[kind], spelled[1:])[0] if kind in FORMS and not array else None
 
 
 def story(changes):

@@ -11,8 +11,9 @@ that isn't each of them.
 """
 import os, shutil, subprocess, sys, tempfile
 from concurrent.futures import ThreadPoolExecutor
-import running
+import running, usage
 
+usage.shown(__doc__, 0)
 sys.path.append(os.path.join(os.path.dirname(running.here), "tools"))
 import unproved
 

@@ -14,6 +14,7 @@ does. The model keeps a list of records and knows nothing of how uahist is writt
 FIRST is the number of the first client, so that a run can be told from another one.
 """
 import random, struct, subprocess, sys
+import usage
 from opcua import *
 
 NULL = i32(-1)
@@ -272,6 +273,7 @@ class Talk:
 
 
 def main():
+    usage.shown(__doc__, 4)
     clients, requests, first, command = int(sys.argv[1]), int(sys.argv[2]), int(sys.argv[3]), sys.argv[4:]
     others = 0
     for seed in range(first, first + clients):

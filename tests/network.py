@@ -7,8 +7,10 @@ Each check prints a line, the first that fails ends the script by an error. With
 after which a client that says nothing is given up.
 """
 import os, socket, struct, subprocess, sys, tempfile, time
+import usage
 from opcua import Client, int32, node, value_at
 
+usage.shown(__doc__, 1)
 here = os.path.dirname(os.path.abspath(__file__))
 program = os.path.abspath(sys.argv[1])
 folder = tempfile.TemporaryDirectory()

@@ -12,6 +12,7 @@ import socket
 import struct
 import sys
 import opcua
+import usage
 from opcua import Client, int32, node, value_at
 
 TAG = node("boiler.temperature", 1)
@@ -67,6 +68,7 @@ def over_network(address):
             yield name, head[:4].decode(), head + answers.read(struct.unpack_from("<I", head, 4)[0] - 8)
 
 
+usage.shown(__doc__, 0)
 if len(sys.argv) == 1:
     for name, sent in requests():
         print(sent.hex().upper())

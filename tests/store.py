@@ -8,8 +8,10 @@ show each insert that was answered Good, in order, and at most one more; and Deb
 say that the database is whole, with a current value for each record, each at a time of its own, and the last number. Needs sqlite3. Prints a line a round; the first that fails ends the script by an error.
 """
 import os, random, shutil, socket, struct, subprocess, sys, tempfile, threading, time
+import usage
 from opcua import EPOCH, Client, int32, node, value_at
 
+usage.shown(__doc__, 1)
 here = os.path.dirname(os.path.abspath(__file__))
 program = os.path.abspath(sys.argv[1])
 rounds = int(sys.argv[2]) if len(sys.argv) > 2 else 20

@@ -10,9 +10,10 @@ and of a plant with a variable ns=1;s=T, an Int32: `insert` (one value more),
 are written first), `modified` (the same of modifications).
 """
 import sys
-import opcua
+import opcua, usage
 from opcua import Client, int32, node, value_at
 
+usage.shown(__doc__, 2)
 kind, count = sys.argv[1], int(sys.argv[2])
 out = sys.stdout.buffer
 client = Client()

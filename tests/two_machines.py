@@ -10,7 +10,10 @@ same reads of raw and modified values has to be equal byte for byte, and no upda
 first thing that is otherwise ends the script by an error.
 """
 import os, random, subprocess, sys, tempfile, threading
+import usage
 from opcua import EPOCH, Client, int32, node, value_at
+
+usage.shown(__doc__, 1)
 import store as one
 
 here = os.path.dirname(os.path.abspath(__file__))

@@ -10,7 +10,9 @@ its last byte: no byte is left over, none was missed. Prints how many messages o
 """
 import collections, os, struct, subprocess, sys, tempfile
 import xml.etree.ElementTree as xml
+import usage
 
+usage.shown(__doc__, 1)
 here = os.path.dirname(os.path.abspath(__file__))
 program = os.path.abspath(sys.argv[1])
 uahist = os.path.join(here, "..", "crates", "uahist")

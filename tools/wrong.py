@@ -46,4 +46,6 @@ def main():
     sys.exit(1 if let_through else 0)
 
 
+if "--help" in sys.argv[1:]:
+    sys.exit(print(__doc__.strip()))
 main()
