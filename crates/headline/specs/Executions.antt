@@ -53,7 +53,8 @@ IsReachable p s = (time place : ℕ) × IsStateAt p time place s
 
 -- ---- what was learned
 
--- the two hold records of the same names
+-- the two learned records of the same names: origins and numbers; that the records are the same is
+-- what the laws conclude
 abbrev pub HasSameRecords : ReplicaState → ReplicaState → Type 0
 HasSameRecords s t =
     (origin number : ℕ) → HasName s.content origin number ↔ HasName t.content origin number

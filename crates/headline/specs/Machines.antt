@@ -22,7 +22,7 @@ pub record RestartsAs (left later : Store) : Type 0 where
   pub content : IsLeft left later.content
   pub used : IsInUse later
 
--- another past that goes on behind this one
+-- another execution that goes on behind this one
 abbrev pub Extends : Execution → Execution → Type 0
 Extends p q = (more : List Event) × (q ≡ record p { events = p.events ++ more })
 
@@ -31,7 +31,8 @@ module _ {A : Type 0} (state : A → Store) where
   abbrev pub IsMachine : List A → ℕ → A → Type 0
   IsMachine machines place a = slice_get machines place ≡ Some a
 
-  -- all machines are in use
+  -- all machines are in use: their stores are honest and not broken, and a crash leaves what they
+  -- hold
   abbrev pub AreInUse : List A → Type 0
   AreInUse machines = AllByRecursion (λ a. IsInUse (state a)) machines
 
@@ -46,13 +47,13 @@ module _ {A : Type 0} (state : A → Store) where
     pub apart : (i j : ℕ) (a b : A) → IsMachine machines i a → IsMachine machines j b
         → (state a).own ≡ (state b).own → i ≡ j
 
-  -- they are in use, and hold what the replicas of a past do at its end
+  -- they are in use, and hold what the replicas of an execution do at its end
   pub record Simulates (p : Execution) (machines : List A) : Type 0 where
     pub past : IsExecution p
     pub used : AreInUse machines
     pub hold : AreSites state machines (run p.events p.start).replicas
 
-  -- so it is behind the past, and what happened since
+  -- so it is behind the execution, and what happened since
   abbrev pub ExtendsTo : Execution → List A → Type 0
   ExtendsTo p machines = (q : Execution) × Extends p q × Simulates q machines
 

@@ -1,4 +1,4 @@
--- Reads of a node's history in a past, page by page, and what they show of a record.
+-- Reads of a node's history in an execution, page by page, and what they show of a record.
 use Rattle.std.specs.Prelude.{◌≡◌, ℕ, ℤ, Bool, true, false, List, ◌∷◌, map, filter, slice_get, Some, None, Ok}
 use Rattle.std.specs.List.{AllByRecursion}
 use Rattle.std.specs.Ordering.{int_eq}
