@@ -137,14 +137,15 @@ answer_to finding =
     ]
 
 -- a record is learned: what it meets is answered, and the content is the old one, with the record
--- where that is added; a fault of the store leaves the content as it was
+-- where that is added; a fault of the store leaves the content as it was. Behind Ok the record is
+-- durable: by `leaves` a crash leaves the new content alone, as long as the store isn't broken
 pub record Learns (old new : Store) (r : Record) (result : Result Bool LearnFault) : Type 0 where
   pub answered : new.honest → store_fault_in result ≡ None
       → (result ≡ answer_to (finding old.content r))
       × (new.content ≡ unwrap_or (learned old.content r) old.content)
   pub kept : new.honest → new.broken ≡ false
       → IfSome (store_fault_in result) (λ _. new.content ≡ old.content)
-  -- a crash leaves what it could leave before, or the content with this one record
+  -- at any exit, a crash leaves what it could leave before, or the content with this one record
   pub crash : new.honest → (left : Content) → new.may_hold left
       → old.may_hold left
       ⊎ ((old.broken ≡ false) × (finding old.content r ≡ Adds) × (left ≡ put r old.content))
@@ -164,8 +165,8 @@ IsThere s = s.honest → ((R : Content) → IsLeft s R → ⊥) → ⊥
 abbrev pub breaks : StepResult → Bool
 breaks mark = list_any is_break (faults_in mark)
 
--- these came in the way, as an opening finds it: where a step broke a store that was used till
--- then, its record may stand
+-- the marks are those of the steps, as an opening after them may find it: of the step that first
+-- broke the store the record may stand
 abbrev pub MayBeFound : (broken : Bool) → (used marks : List StepResult) → Type 0
 MayBeFound broken [] marks = marks ≡ []
 MayBeFound broken (told ∷ used) [] = ⊥

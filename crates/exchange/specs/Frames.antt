@@ -56,7 +56,7 @@ count = passing (λ n. nat_le n most) Frame (ill (unsigned w32))
 abbrev pub length_prefixed : Format ExchangeFault (List ℕ)
 length_prefixed = headed length (ill (unsigned w32)) (λ n. ill (block n))
 
--- a record behind its length
+-- one record behind its length, as a frame has several
 unfoldable pub framed : Format ExchangeFault Record
 framed = fitting IsRecord (inside Frame length_prefixed (ill record_form))
 

@@ -72,7 +72,7 @@ abbrev pub joined_infos : List Page → List ModificationInfo
 joined_infos pages = flat_map (λ page. infos_in page.result.history_data) pages
 
 -- a content that covers another one's vector: that one after whatever was learned or updated, or
--- what another replica of a sound world holds
+-- what another replica of a consistent world holds
 pub record IsLater (R S : Content) : Type 0 where
   pub lawful : IsLawfulContent S
   pub compatible : AreCompatible R S

@@ -85,7 +85,7 @@ AddsFor may request own operations result R S =
     AddsEach may request own operations result.operation_results R S
     ⊎ ((result.operation_results ≡ []) × (S ≡ R))
 
--- what the types of a request and of an operation see to, and the conditions on values
+-- the request's node and user are such as can be spelled
 pub record IsSpelledRequest (request : Request) : Type 0 where
   pub node : IsNodeId request.node
   pub user : is_utf8 request.user ≡ true
@@ -104,5 +104,6 @@ IsInStretch start end_ time =
     (start ≤ℤ ticks_of time)
     × ((ticks_of time <ℤ end_) ⊎ ((start ≡ end_) × (ticks_of time ≡ start)))
 
+-- a live value stands at this time, and a delete of the stretch takes it
 abbrev pub IsDoomed : Content → NodeId → ℤ → ℤ → ℤ → Type 0
 IsDoomed R node start end_ time = (is_live R node time ≡ true) × IsInStretch start end_ time

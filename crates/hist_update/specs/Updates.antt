@@ -103,7 +103,8 @@ delete_at own request times R =
 
 -- ---- deletes of all values of a stretch of time (Part 11, DeleteRawModifiedDetails)
 
--- the last moment of it: its end isn't in it, but for the one time where both are equal
+-- the last moment of the stretch from start up to but without end; of one whose start and end are
+-- equal, the last one of that time
 abbrev pub last_of : ℤ → ℤ → ℤ
 last_of start end_ = moment (if int_eq start end_ then end_ else end_ -ℤ pos 1) 9999
 

@@ -82,8 +82,9 @@ pub fn codes_tell_what_stood()
 {}
 
 /// What was held before some operations is held behind them, and each operation that was answered Good has
-/// added its record, one after the other, and nothing else has, but where one broke the store and its record stands. So that record is held: a new one, above every
-/// tick that was held before; also in what an opening finds, where one of them broke the store.
+/// added its record, one after the other, and nothing else has, but where one broke the store and its
+/// record stands. So that record is held: a new one, above every tick that was held before. By `acts` of
+/// the calls this is so of what an opening finds too, where one of them broke the store.
 pub fn updates_lose_nothing()
     ensures within { (R S : Content) (own : ℕ) (q : Asker) (ops : List Operation)
         (used : List StepResult)
@@ -99,10 +100,10 @@ pub fn updates_lose_nothing()
         → HasRecordOf R S q own op }
 {}
 
-/// Every update that is answered Good stands: whichever of the three calls it was one of, what is held
-/// behind the call has its record, a new one of the call's moment or later, and so has what an opening
-/// may find then. What was held before the call is held too, and nothing is added but one record for each
-/// operation that is answered Good.
+/// Every update that is answered Good stands: whichever of the three calls it was one of, the content that
+/// the call yields has its record, a new one of the call's moment or later. What was held before the call
+/// is held too, and nothing is added but one record for each operation that is answered Good.
+/// By `acts` of the calls this is so of each content that may be held then, as an opening finds it too.
 pub fn every_good_update_stands()
     ensures writes { (R S : Content) (own : ℕ) (q : Asker) (type : Kind) (perform : ℤ)
         (values : List Data)

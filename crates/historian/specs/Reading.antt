@@ -58,7 +58,7 @@ answer_items answer item xs R =
 
 -- ---- what is refused of an item, whichever node it is of
 
--- null or empty stands for the whole value
+-- a text that is null or empty; as an index range it stands for the whole value
 abbrev pub is_whole : Option (List ℕ) → Bool
 is_whole given = elim given [ None ↦ true | Some [] ↦ true | Some (byte ∷ bytes) ↦ false ]
 

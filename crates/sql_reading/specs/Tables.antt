@@ -24,7 +24,7 @@ current_row R r =
 abbrev pub last_row : Content → Record → Row
 last_row R r = Int (pos r.origin) ∷ Int (pos (vec R r.origin)) ∷ Int (last_tick R r.origin) ∷ []
 
--- one row for each of these records, and none twice
+-- one row for each record of which IsOne holds, in any order, and none twice
 pub record HasRowsOf (IsOne : Record → Type 0) (row : Record → Row) (rows : List Row) : Type 0 where
   pub records : List Record
   pub are : IsPermutation (map row records) rows

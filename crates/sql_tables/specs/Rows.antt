@@ -26,7 +26,7 @@ use Rattle.sql_tables.specs.State.{shown_of}
 
 -- ---- records
 
--- the row of a record
+-- the row of a record in records2, its columns behind the row's own id
 abbrev pub row_of : Record → Row
 row_of r =
     cells_of (pos r.origin) (pos r.number) r.tick (node_id.canon r.node) (ticks_of r.time)
@@ -80,7 +80,7 @@ meta_columns r = column r 0 ∷ column r 2 ∷ column r 3 ∷ column r 4 ∷ []
 abbrev pub meta_cells : Trees → List Row
 meta_cells db = map meta_columns (db 0)
 
--- the rows of records are those of a content, each once
+-- the rows of records2, the second table, are those of a content, each once
 abbrev pub AreRecords : Content → Trees → Type 0
 AreRecords R db = IsPermutation (map row_of R) (cells (db 1))
 
@@ -100,6 +100,6 @@ pub record IsStored (id : List ℕ) (own : ℕ) (db : Trees) : Type 0 where
 abbrev pub IsStoreOf : List ℕ → ℕ → Trees → Type 0
 IsStoreOf id own db = Lists (db catalog_tree) archive_schema × IsStored id own db × AreKept db
 
--- records holds the rows of some lawful content
+-- records2 holds the rows of some lawful content
 abbrev pub IsFilled : Trees → Type 0
 IsFilled db = (R : Content) × IsLawfulContent R × AreRecords R db

@@ -151,8 +151,8 @@ starved_response standing state request handle now =
     (give (sent_response standing state request (service_fault now handle BAD_OUT_OF_MEMORY)))
     (give (ends standing [] (Err OutOfMemory)))
 
--- what a message comes to is told by its response, or where memory for that is wanting by a
--- ServiceFault that says so; and what was done stands
+-- what a message comes to is told by its response, or by a ServiceFault: where the response is too
+-- large for the client, or memory for it is wanting; and what was done stands. `request` is its id
 abbrev pub outcome_response : ClientState → ChannelState → ℕ → List ℕ → Ticks → MessageOutcome
     → Answering
 outcome_response standing state request message now outcome =

@@ -9,11 +9,11 @@ use Rattle.ua_session.specs.declared.fault.SessionFault.TheVariants.{TooMany, Id
 use Rattle.ua_session.specs.declared.session.Session.{Session}
 use Rattle.ua_session.specs.Users.{Allowed, Claim, judgement}
 
--- the id and the token of the k-th session of a connection, k from 1
+-- the id of the k-th session of a connection, k from 1
 abbrev pub session_id_of : ℕ → NodeId
 session_id_of k = Numeric 1 (2 * k)
 
--- the token of the session that was made k-th, from 0
+-- the token of the k-th session of a connection, k from 1
 abbrev pub token_of : ℕ → NodeId
 token_of k = Numeric 1 (2 * k + 1)
 
