@@ -9,7 +9,7 @@ use Rattle.records.specs.declared.record.Record.{Record}
 use Rattle.archive.specs.declared.fault.StoreFault.{StoreFault}
 use Rattle.archive.specs.declared.fault.StoreFault.TheVariants.{OutOfMemory, Refused, WrongReplica, WrongArchive, Broken}
 use Rattle.archive.specs.declared.fault.LearnFault.{LearnFault}
-use Rattle.archive.specs.Store.{Store, IsQuiescent, StepResult, Stands, StoreFailed, faults_in, faults_of, is_break, breaks, CountsFaults, AfterCall, KeepsContent, Learns, store_fault_in, answer_to, MayBeFound, IsLeft, IsThere}
+use Rattle.archive.specs.Store.{Store, IsQuiescent, StepResult, RecordStands, StoreFailed, faults_in, faults_of, is_break, breaks, CountsFaults, AfterCall, KeepsContent, Learns, store_fault_in, answer_to, MayBeMarksAfterRecovery, IsLeft, IsThere}
 use Rattle.archive.specs.Listed.{is_broken}
 use Rattle.archive.specs.Steps.{Fallible, give, step, and_then, each, Yields, Transitions, Refines}
 use Rattle.archive.specs.Growth.{Grows}
@@ -42,7 +42,7 @@ left-stays a b faults R s p honest (inr m) = inr (s.crash honest R m)
 
 -- ---- marks as an opening finds them
 
-pub found-same : (broken : Bool) (used : List StepResult) → MayBeFound broken used used
+pub found-same : (broken : Bool) (used : List StepResult) → MayBeMarksAfterRecovery broken used used
 found-same broken [] = refl
 found-same broken (mark ∷ used) = (inl refl, found-same (broken || breaks mark) used)
 
@@ -51,20 +51,20 @@ any-or true faults more = refl
 any-or false [] more = refl
 any-or false (f ∷ faults) more = any-or (is_break f) faults more
 
-pub found-then : (broken : Bool) (us ms vs ns : List StepResult) → MayBeFound broken us ms → MayBeFound (broken || list_any is_break (faults_of us)) vs ns → MayBeFound broken (us ++ vs) (ms ++ ns)
-found-then broken [] ms vs ns h more = subst (λ (l : List StepResult). MayBeFound broken vs (l ++ ns)) (sym h) (subst (λ (x : Bool). MayBeFound x vs ns) (or-false broken) more)
+pub found-then : (broken : Bool) (us ms vs ns : List StepResult) → MayBeMarksAfterRecovery broken us ms → MayBeMarksAfterRecovery (broken || list_any is_break (faults_of us)) vs ns → MayBeMarksAfterRecovery broken (us ++ vs) (ms ++ ns)
+found-then broken [] ms vs ns h more = subst (λ (l : List StepResult). MayBeMarksAfterRecovery broken vs (l ++ ns)) (sym h) (subst (λ (x : Bool). MayBeMarksAfterRecovery x vs ns) (or-false broken) more)
 found-then broken (u ∷ us) [] vs ns h more = absurd h
 found-then broken (u ∷ us) (m ∷ ms) vs ns h more =
-    (h.0, found-then (broken || breaks u) us ms vs ns h.1 (subst (λ (x : Bool). MayBeFound x vs ns) (any-or broken (faults_in u) (faults_of us)) more))
+    (h.0, found-then (broken || breaks u) us ms vs ns h.1 (subst (λ (x : Bool). MayBeMarksAfterRecovery x vs ns) (any-or broken (faults_in u) (faults_of us)) more))
 
 -- their faults are those that were told
-pub found-faults : (broken : Bool) (used marks : List StepResult) → MayBeFound broken used marks → faults_of marks ≡ faults_of used
+pub found-faults : (broken : Bool) (used marks : List StepResult) → MayBeMarksAfterRecovery broken used marks → faults_of marks ≡ faults_of used
 found-faults broken [] marks h = ap faults_of h
 found-faults broken (told ∷ used) [] h = absurd h
 found-faults broken (told ∷ used) (mark ∷ marks) h =
     ap (λ fs. fs ++ faults_of marks) (one h.0) ∙ ap (λ fs. faults_in told ++ fs) (found-faults (broken || breaks told) used marks h.1)
   where
-    one : (mark ≡ told) ⊎ ((broken ≡ false) × (told ≡ StoreFailed Broken) × (mark ≡ Stands)) → faults_in mark ≡ faults_in told
+    one : (mark ≡ told) ⊎ ((broken ≡ false) × (told ≡ StoreFailed Broken) × (mark ≡ RecordStands)) → faults_in mark ≡ faults_in told
     one (inl e) = ap faults_in e
     one (inr k) = ap faults_in k.2 ∙ sym (ap faults_in k.1)
 
@@ -77,7 +77,7 @@ or_right true y e = absurd (true≢false e)
 or_right false y e = e
 
 -- while the store is used they are those that were told
-pub found-used : (broken : Bool) (used marks : List StepResult) → MayBeFound broken used marks → (broken || list_any is_break (faults_of used)) ≡ false → marks ≡ used
+pub found-used : (broken : Bool) (used marks : List StepResult) → MayBeMarksAfterRecovery broken used marks → (broken || list_any is_break (faults_of used)) ≡ false → marks ≡ used
 found-used broken [] marks h e = h
 found-used broken (told ∷ used) [] h e = absurd h
 found-used broken (told ∷ used) (mark ∷ marks) h e = ap (λ m. m ∷ marks) (one h.0) ∙ ap (λ l. told ∷ l) (found-used (broken || breaks told) used marks h.1 whole)
@@ -85,16 +85,16 @@ found-used broken (told ∷ used) (mark ∷ marks) h e = ap (λ m. m ∷ marks) 
     whole : ((broken || breaks told) || list_any is_break (faults_of used)) ≡ false
     whole = sym (any-or broken (faults_in told) (faults_of used)) ∙ e
 
-    one : (mark ≡ told) ⊎ ((broken ≡ false) × (told ≡ StoreFailed Broken) × (mark ≡ Stands)) → mark ≡ told
+    one : (mark ≡ told) ⊎ ((broken ≡ false) × (told ≡ StoreFailed Broken) × (mark ≡ RecordStands)) → mark ≡ told
     one (inl same) = same
     one (inr k) = absurd (true≢false (sym (ap breaks k.1) ∙ or_right broken (breaks told) (or_left (broken || breaks told) (list_any is_break (faults_of used)) whole)))
 
 -- steps in whose way no fault of the store came, before others and behind them
-pub found-behind : (broken : Bool) (quiet us ms : List StepResult) → faults_of quiet ≡ [] → MayBeFound broken us ms → MayBeFound broken (quiet ++ us) (quiet ++ ms)
+pub found-behind : (broken : Bool) (quiet us ms : List StepResult) → faults_of quiet ≡ [] → MayBeMarksAfterRecovery broken us ms → MayBeMarksAfterRecovery broken (quiet ++ us) (quiet ++ ms)
 found-behind broken quiet us ms none h =
-    found-then broken quiet quiet us ms (found-same broken quiet) (subst (λ (x : Bool). MayBeFound x us ms) (sym (ap (λ fs. broken || list_any is_break fs) none ∙ or-false broken)) h)
+    found-then broken quiet quiet us ms (found-same broken quiet) (subst (λ (x : Bool). MayBeMarksAfterRecovery x us ms) (sym (ap (λ fs. broken || list_any is_break fs) none ∙ or-false broken)) h)
 
-pub found-before : (broken : Bool) (us ms quiet : List StepResult) → MayBeFound broken us ms → MayBeFound broken (us ++ quiet) (ms ++ quiet)
+pub found-before : (broken : Bool) (us ms quiet : List StepResult) → MayBeMarksAfterRecovery broken us ms → MayBeMarksAfterRecovery broken (us ++ quiet) (ms ++ quiet)
 found-before broken us ms quiet h = found-then broken us ms quiet quiet h (found-same (broken || list_any is_break (faults_of us)) quiet)
 
 -- ---- steps in a row
@@ -156,7 +156,7 @@ moves-then a b c us vs P Q To both p q = record {
       let (ns, found_later, S, left_between, later, grows_later) = q.acts honest T h in
       let (ms, found_first, R, left_first, first, grows_first) = p.acts (q.passes.honest honest) S left_between in (
         ms ++ ns,
-        found-then a.broken us ms vs ns found_first (subst (λ (x : Bool). MayBeFound x vs ns) p.passes.broken found_later),
+        found-then a.broken us ms vs ns found_first (subst (λ (x : Bool). MayBeMarksAfterRecovery x vs ns) p.passes.broken found_later),
         R,
         left_first,
         both ms ns R S T first later,
@@ -181,7 +181,7 @@ moves-stays a b used To passes stays there so = record {
 
 -- the same calls, told in other words and by other marks
 pub moves-told : (a b : Store) (us vs : List StepResult) (P To : List StepResult → Content → Content → Type 0) → faults_of vs ≡ faults_of us
-    → ((ms : List StepResult) → MayBeFound a.broken us ms → (ns : List StepResult) × MayBeFound a.broken vs ns × ((R S : Content) → P ms R S → To ns R S)) → Transitions a b us P → Transitions a b vs To
+    → ((ms : List StepResult) → MayBeMarksAfterRecovery a.broken us ms → (ns : List StepResult) × MayBeMarksAfterRecovery a.broken vs ns × ((R S : Content) → P ms R S → To ns R S)) → Transitions a b us P → Transitions a b vs To
 moves-told a b us vs P To same so p = record {
   passes = subst (CountsFaults a b) (sym same) p.passes;
   acts = λ honest S h.

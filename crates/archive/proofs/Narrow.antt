@@ -6,7 +6,7 @@ use Rattle.ua_binary.specs.declared.values.NodeId.{NodeId}
 use Rattle.records.specs.Lists.{IsApart, sort_by}
 use Rattle.records.specs.Contents.{Content}
 use Rattle.records.specs.Same.{same_node}
-use Rattle.records.specs.Records.{record_stamp_cmp, is_at, versions, held, current, entries_after, modifications_at}
+use Rattle.records.specs.Records.{record_stamp_cmp, is_at, versions, held, live_value, entries_after, modifications_at}
 use Rattle.records.proofs.Sorting.{pairwise-filter}
 use Rattle.archive.specs.Reading.{is_of, times, lives, log}
 use Rattle.archive.proofs.Resuming.{past_passes}
@@ -35,8 +35,8 @@ flat_maps_alike f g same (x ∷ xs) = ap (λ o. o ++ flat_map f xs) (same x) ∙
 
 pub own_lives : (R : Content) (node : NodeId) → lives (own R node) node ≡ lives R node
 own_lives R node =
-    filter_maps_alike (current (own R node) node) (current R node) (λ t. ap held (own_story R node t)) (times (own R node) node)
-    ∙ ap (λ ts. filter_map (current R node) ts) (own_times R node)
+    filter_maps_alike (live_value (own R node) node) (live_value R node) (λ t. ap held (own_story R node t)) (times (own R node) node)
+    ∙ ap (λ ts. filter_map (live_value R node) ts) (own_times R node)
 
 pub own_log : (R : Content) (node : NodeId) → log (own R node) node ≡ log R node
 own_log R node =

@@ -9,7 +9,7 @@ use Rattle.std.proofs.lemmas.Int.{ints}
 use Rattle.ua_binary.specs.declared.values.NodeId.{NodeId}
 use Rattle.records.specs.Lists.{Has, IsPairwise}
 use Rattle.records.specs.Contents.{Content}
-use Rattle.records.specs.Records.{current}
+use Rattle.records.specs.Records.{live_value}
 use Rattle.records.specs.declared.shown.Held.{Held}
 use Rattle.records.proofs.Sorting.{all-has, has-filter, has_from_filter, pairwise-filter}
 use Rattle.archive.specs.Reading.{times, lives, in_direction, is_past, is_between, range_of, outside_of}
@@ -19,15 +19,15 @@ use Rattle.archive.specs.declared.reading.Direction.TheVariants.{Forward, Backwa
 use Rattle.archive.proofs.Turning.{has-filter_map, has_from_filter_map, pairwise-filter_map, pairwise-reverse, has-in_direction}
 use Rattle.archive.proofs.Timing.{times_rise, current_time}
 
--- the live values are what `current` gives
-lives_has : (R : Content) (node : NodeId) (h : Held) → Has (lives R node) h ↔ (current R node h.time ≡ Some h)
+-- the live values are what `live_value` gives
+lives_has : (R : Content) (node : NodeId) (h : Held) → Has (lives R node) h ↔ (live_value R node h.time ≡ Some h)
 lives_has R node h = (
-  λ k. let t = has_from_filter_map (current R node) (times R node) h k in subst (λ s. current R node s ≡ Some h) (sym (current_time R node t.0 h t.2).1) t.2,
-  λ e. has-filter_map (current R node) (times R node) h.time h (current_time R node h.time h e).0 e,
+  λ k. let t = has_from_filter_map (live_value R node) (times R node) h k in subst (λ s. live_value R node s ≡ Some h) (sym (current_time R node t.0 h t.2).1) t.2,
+  λ e. has-filter_map (live_value R node) (times R node) h.time h (current_time R node h.time h e).0 e,
 )
 
 -- those of a test, in a direction
-chosen_has : (R : Content) (node : NodeId) (p : Held → Bool) (d : Direction) (h : Held) → Has (in_direction d (filter p (lives R node))) h ↔ ((current R node h.time ≡ Some h) × (p h ≡ true))
+chosen_has : (R : Content) (node : NodeId) (p : Held → Bool) (d : Direction) (h : Held) → Has (in_direction d (filter p (lives R node))) h ↔ ((live_value R node h.time ≡ Some h) × (p h ≡ true))
 chosen_has R node p d h = (
   λ k. let m = has_from_filter p (lives R node) h ((has-in_direction d _ h).0 k) in ((lives_has R node h).0 m.0, m.1),
   λ k. (has-in_direction d _ h).1 (has-filter p (lives R node) h ((lives_has R node h).1 k.0) k.1),
@@ -41,7 +41,7 @@ less_past s t u v less e k = grind (arith, nat_tests, ints)
 
 lives_rise : (R : Content) (node : NodeId) → IsPairwise (IsAhead Forward) (lives R node)
 lives_rise R node =
-    pairwise-filter_map (λ s t. int_cmp s t ≡ Less) (IsAhead Forward) (current R node)
+    pairwise-filter_map (λ s t. int_cmp s t ≡ Less) (IsAhead Forward) (live_value R node)
     (λ s t x y less e k. less_past s t x.time y.time less (current_time R node s x e).1 (current_time R node t y k).1)
     (times R node) (times_rise R node)
 
@@ -108,13 +108,13 @@ module _ (R : Content) (node : NodeId) (time : ℤ) (d : Direction) where
       let own = (has h).0 there.0 in
       record { live = own.0; past = own.1; none_before = λ other live past. there.1 other ((has other).1 (live, past)) }
 
-  none_past : outside_of R node time d ≡ None → (h : Held) → current R node h.time ≡ Some h → is_past d time h.time ≡ true → ⊥
+  none_past : outside_of R node time d ≡ None → (h : Held) → live_value R node h.time ≡ Some h → is_past d time h.time ≡ true → ⊥
   none_past e h live past = first_none _ h e ((chosen_has R node (λ x. is_past d time x.time) d h).1 (live, past))
 
   one_nearest : (h k : Held) → IsNearest R node time d h → IsNearest R node time d k → k ≡ h
   one_nearest h k one two =
       let same = neither_past d k.time h.time (one.none_before k two.live two.past) (two.none_before h one.live one.past) in
-      let told : Some k ≡ Some h = sym two.live ∙ (ap (current R node) same ∙ one.live) in
+      let told : Some k ≡ Some h = sym two.live ∙ (ap (live_value R node) same ∙ one.live) in
       cc
 
   pub outside_nearest : (h : Held) → (outside_of R node time d ≡ Some h) ↔ IsNearest R node time d h

@@ -5,7 +5,7 @@ use Rattle.ua_binary.specs.declared.values.NodeId.{NodeId}
 use Rattle.records.specs.Lists.{Has, Rises}
 use Rattle.records.proofs.SameParts.{node_code}
 use Rattle.records.specs.Contents.{Content}
-use Rattle.records.specs.Records.{is_delete, write, versions, current, entries_after, modifications_at}
+use Rattle.records.specs.Records.{is_delete, write, versions, live_value, entries_after, modifications_at}
 use Rattle.records.proofs.ContentsParts.{held_of}
 use Rattle.records.specs.declared.record.Record.{Record}
 use Rattle.records.specs.declared.shown.Held.{Held}
@@ -40,10 +40,10 @@ held_from extra (Some r) h e = go (is_delete r.asked) e
     go true k = cc
     go false k = (r, refl, cc)
 
-pub current_from : (R : Content) (node : NodeId) (t : ℤ) (h : Held) → current R node t ≡ Some h → (r : Record) × Has (versions R node t) r × (r.time ≡ h.time)
+pub current_from : (R : Content) (node : NodeId) (t : ℤ) (h : Held) → live_value R node t ≡ Some h → (r : Record) × Has (versions R node t) r × (r.time ≡ h.time)
 current_from R node t h e = let r = held_from _ _ h e in (r.0, has_from_get (versions R node t) _ r.0 r.1, r.2)
 
-pub current_time : (R : Content) (node : NodeId) (t : ℤ) (h : Held) → current R node t ≡ Some h → Has (times R node) t × (h.time ≡ t)
+pub current_time : (R : Content) (node : NodeId) (t : ℤ) (h : Held) → live_value R node t ≡ Some h → Has (times R node) t × (h.time ≡ t)
 current_time R node t h e = let r = current_from R node t h e in (has_time R node t r.0 r.1, sym r.2 ∙ ((story_has R node t r.0).0 r.1).2)
 
 pub entry_from : (before : Option Record) (rs : List Record) (e : Entry) → Has (entries_after before rs) e → (r : Record) × Has rs r × (r.time ≡ e.time)

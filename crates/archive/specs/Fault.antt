@@ -10,7 +10,7 @@ use Rattle.archive.specs.declared.fault.LearnFault.{LearnFault}
 use Rattle.archive.specs.declared.fault.LearnFault.TheVariants as learn
 use Rattle.archive.specs.declared.setback.StepError.{StepError}
 use Rattle.archive.specs.declared.setback.StepError.TheVariants as setback
-use Rattle.archive.specs.Store.{StepResult, Done, NoMemory, Stands, StoreFailed}
+use Rattle.archive.specs.Store.{StepResult, Done, NoMemory, RecordStands, StoreFailed}
 
 -- the number that the program prints for a store's fault
 abbrev pub store_number : StoreFault → ℕ
@@ -48,7 +48,7 @@ status_told mark =
     elim mark [
       | Done ↦ None
       | NoMemory ↦ Some BAD_OUT_OF_MEMORY
-      | Stands ↦ Some (store_fault_status store.Broken)
+      | RecordStands ↦ Some (store_fault_status store.Broken)
       | StoreFailed fault ↦ Some (store_fault_status fault)
     ]
 

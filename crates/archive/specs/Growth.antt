@@ -5,7 +5,7 @@ use Rattle.ua_binary.specs.declared.values.NodeId.TheVariants.{Named, Opaque}
 use Rattle.ua_variant.specs.declared.update_type.HistoryUpdateType.{HistoryUpdateType}
 use Rattle.ua_variant.specs.declared.update_type.HistoryUpdateType.TheVariants.{Insert, Update}
 use Rattle.records.specs.Contents.{Content, top, put, Adds, finding}
-use Rattle.records.specs.Records.{current, is_delete}
+use Rattle.records.specs.Records.{live_value, is_delete}
 use Rattle.records.specs.Moments.{pico_of}
 use Rattle.records.specs.declared.record.Record.{Record}
 
@@ -24,7 +24,7 @@ pub record IsUpdateOf (own : ℕ) (R : Content) (r : Record) : Type 0 where
   pub origin : r.origin ≡ own
   pub next : finding R r ≡ Adds
   pub above : top R <ℤ r.tick
-  pub possible : is_possible r.asked (is_some (current R r.node r.time)) ≡ true
+  pub possible : is_possible r.asked (is_some (live_value R r.node r.time)) ≡ true
   pub node : id_length r.node ≤ 256
   -- a value is written at the moment that its picoseconds say
   pub moment : is_delete r.asked ≡ false → pico_of r.time ≡ unwrap_or r.value.source_pico 0

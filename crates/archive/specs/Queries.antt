@@ -3,7 +3,7 @@ use Rattle.std.specs.Prelude.{◌≡◌, ℤ, ◌≤ℤ◌, true, false, Option,
 use Rattle.ua_binary.specs.declared.values.NodeId.{NodeId}
 use Rattle.records.specs.Lists.{Has}
 use Rattle.records.specs.Contents.{Content}
-use Rattle.records.specs.Records.{current, modifications_at}
+use Rattle.records.specs.Records.{live_value, modifications_at}
 use Rattle.records.specs.declared.shown.Held.{Held}
 use Rattle.records.specs.declared.shown.Entry.{Entry}
 use Rattle.archive.specs.Reading.{is_past, follows}
@@ -12,7 +12,7 @@ use Rattle.archive.specs.declared.reading.LogPlace.{LogPlace}
 
 -- the live value at its own time, which lies between the two, both ends in it
 pub record IsInRange (R : Content) (node : NodeId) (from to : ℤ) (h : Held) : Type 0 where
-  pub live : current R node h.time ≡ Some h
+  pub live : live_value R node h.time ≡ Some h
   pub low : from ≤ℤ h.time
   pub high : h.time ≤ℤ to
 
@@ -29,12 +29,12 @@ pub record IsInLog (R : Content) (node : NodeId) (from to : ℤ) (after : Option
 -- one stands before it
 pub record IsNearest (R : Content) (node : NodeId) (time : ℤ) (d : Direction)
     (h : Held) : Type 0 where
-  pub live : current R node h.time ≡ Some h
+  pub live : live_value R node h.time ≡ Some h
   pub past : is_past d time h.time ≡ true
-  pub none_before : (other : Held) → current R node other.time ≡ Some other
+  pub none_before : (other : Held) → live_value R node other.time ≡ Some other
       → is_past d time other.time ≡ true → is_past d other.time h.time ≡ false
 
 -- no live value is strictly beyond the time
 abbrev pub HasNonePast : Content → NodeId → ℤ → Direction → Type 0
 HasNonePast R node time d =
-    (h : Held) → current R node h.time ≡ Some h → is_past d time h.time ≡ false
+    (h : Held) → live_value R node h.time ≡ Some h → is_past d time h.time ≡ false

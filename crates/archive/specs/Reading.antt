@@ -7,7 +7,7 @@ use Rattle.stamp.specs.Stamp.{stamp_cmp}
 use Rattle.ua_binary.specs.declared.values.NodeId.{NodeId}
 use Rattle.records.specs.Lists.{sort_by}
 use Rattle.records.specs.Contents.{Content}
-use Rattle.records.specs.Records.{current, modifications_at}
+use Rattle.records.specs.Records.{live_value, modifications_at}
 use Rattle.records.specs.Same.{same_node}
 use Rattle.records.specs.declared.record.Record.{Record}
 use Rattle.records.specs.declared.shown.Held.{Held}
@@ -28,7 +28,7 @@ times R node = dedup int_eq (sort_by int_cmp (map (λ r. r.time) (filter (is_of 
 
 -- the node's live values, in the order of their times
 abbrev pub lives : Content → NodeId → List Held
-lives R node = filter_map (current R node) (times R node)
+lives R node = filter_map (live_value R node) (times R node)
 
 -- the node's modifications, one for each of its records, plain inserts too: times in order, within
 -- a time the newest first

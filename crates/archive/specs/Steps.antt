@@ -3,7 +3,7 @@ use Rattle.std.specs.Prelude.{◌≡◌, List, [], ◌∷◌, ◌++◌, Option, 
 use Rattle.ua_binary.specs.declared.codes.Status.{Status}
 use Rattle.ua_binary.specs.declared.codes.TheConstants.Status.{BAD_OUT_OF_MEMORY}
 use Rattle.records.specs.Contents.{Content}
-use Rattle.archive.specs.Store.{Store, StepResult, Done, NoMemory, Stands, StoreFailed, faults_of, CountsFaults, IsLeft, IsThere, MayBeFound}
+use Rattle.archive.specs.Store.{Store, StepResult, Done, NoMemory, RecordStands, StoreFailed, faults_of, CountsFaults, IsLeft, IsThere, MayBeMarksAfterRecovery}
 use Rattle.archive.specs.Growth.{Grows}
 
 -- what depends on what comes in the way of its steps: by a mark for each of them, its value, and
@@ -26,7 +26,7 @@ memory list =
     elim list [
       | NoMemory ∷ marks ↦ (Some BAD_OUT_OF_MEMORY, marks)
       | Done ∷ marks ↦ (None, marks)
-      | Stands ∷ marks ↦ (None, Stands ∷ marks)
+      | RecordStands ∷ marks ↦ (None, RecordStands ∷ marks)
       | StoreFailed fault ∷ marks ↦ (None, StoreFailed fault ∷ marks)
       | [] ↦ (None, [])
     ]
@@ -53,7 +53,8 @@ pub record Transitions (old new : Store) (used : List StepResult)
     (To : List StepResult → Content → Content → Type 0) : Type 0 where
   pub passes : CountsFaults old new (faults_of used)
   pub acts : new.honest → (S : Content) → IsLeft new S
-      → (marks : List StepResult) × MayBeFound old.broken used marks × (R : Content) × IsLeft old R
+      → (marks : List StepResult) × MayBeMarksAfterRecovery old.broken used marks × (R : Content)
+      × IsLeft old R
       × To marks R S × Grows old.own R S
   pub there : IsThere old → IsThere new
 

@@ -49,12 +49,12 @@ IsQuiescent s = s.honest → s.broken ≡ false → IsSettled s
 -- nothing came in the way of a step, or memory was wanting, or the store met a fault; or it broke,
 -- and the step's record stands
 pub data StepResult : Type 0 where
-  Done NoMemory Stands : StepResult
+  Done NoMemory RecordStands : StepResult
   StoreFailed : StoreFault → StepResult
 
 -- the faults of the store that a step's result tells
 abbrev pub faults_in : StepResult → List StoreFault
-faults_in mark = elim mark [ StoreFailed fault ↦ fault ∷ [] | Stands ↦ Broken ∷ [] | _ ↦ [] ]
+faults_in mark = elim mark [ StoreFailed fault ↦ fault ∷ [] | RecordStands ↦ Broken ∷ [] | _ ↦ [] ]
 
 -- the faults of the store among what came in the way of some steps, in order
 abbrev pub faults_of : List StepResult → List StoreFault
@@ -167,12 +167,12 @@ breaks mark = list_any is_break (faults_in mark)
 
 -- the marks are those of the steps, as an opening after them may find it: of the step that first
 -- broke the store the record may stand
-abbrev pub MayBeFound : (broken : Bool) → (used marks : List StepResult) → Type 0
-MayBeFound broken [] marks = marks ≡ []
-MayBeFound broken (told ∷ used) [] = ⊥
-MayBeFound broken (told ∷ used) (mark ∷ marks) =
-    ((mark ≡ told) ⊎ ((broken ≡ false) × (told ≡ StoreFailed Broken) × (mark ≡ Stands)))
-    × MayBeFound (broken || breaks told) used marks
+abbrev pub MayBeMarksAfterRecovery : (broken : Bool) → (used marks : List StepResult) → Type 0
+MayBeMarksAfterRecovery broken [] marks = marks ≡ []
+MayBeMarksAfterRecovery broken (told ∷ used) [] = ⊥
+MayBeMarksAfterRecovery broken (told ∷ used) (mark ∷ marks) =
+    ((mark ≡ told) ⊎ ((broken ≡ false) × (told ≡ StoreFailed Broken) × (mark ≡ RecordStands)))
+    × MayBeMarksAfterRecovery (broken || breaks told) used marks
 
 -- ---- how much is asked for
 

@@ -6,7 +6,7 @@ ghost use Rattle.stamp.specs.Numbers.{number_of};
 ghost use Rattle.records.specs.Lists.{Has, IsApart};
 ghost use Rattle.records.specs.declared.record.Record.{Record};
 ghost use Rattle.stamp.specs.Limits.{greatest};
-ghost use Rattle.records.specs.Records.{record_stamp_cmp, name_cmp, current, modifications_at, versions, missing, is_beyond};
+ghost use Rattle.records.specs.Records.{record_stamp_cmp, name_cmp, live_value, modifications_at, versions, missing, is_beyond};
 ghost use Rattle.records.specs.Contents.{Content, vec, top, last_tick, put, finding, cut};
 ghost use Rattle.records.specs.Same.{same_record, same_node};
 ghost use Rattle.archive.specs.Reading.{is_of, times, lives, log, in_direction, is_between, is_past, follows, range_of, log_of, outside_of};
@@ -229,7 +229,8 @@ fn lives_at(
     times: &[Moment],
 ) -> Result<Vec<Held>, StoreFault>
     requires { IsApart record_stamp_cmp records.now }
-    ensures value { IfOk result (λ v. v.items ≡ filter_map (current records.now node.now) times.now) }
+    ensures value {
+        IfOk result (λ v. v.items ≡ filter_map (live_value records.now node.now) times.now) }
     ensures memory { IfErr result (λ e. e ≡ store.OutOfMemory) }
 {
     let mut found = Vec::new(alloc);

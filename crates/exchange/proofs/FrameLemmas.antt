@@ -31,7 +31,7 @@ use Rattle.exchange.specs.declared.message.Title.{Title}
 use Rattle.exchange.specs.declared.message.Message.{Message}
 use Rattle.exchange.specs.declared.message.Message.TheVariants.{Asks, Carries, Ends}
 use Rattle.exchange.specs.Batches.{most, longest_frame, records_length, frame_length}
-use Rattle.exchange.specs.Frames.{ill, title, count, length_prefixed, framed, code, message_at, frame_letters, kind_of, frame_body_of, frame_of, frame_header, checked_sender, IsTitle, HasFrame}
+use Rattle.exchange.specs.Frames.{ill, title, count, length_prefixed, length_prefixed_record, code, message_at, frame_letters, kind_of, frame_body_of, frame_of, frame_header, checked_sender, IsTitle, HasFrame}
 use Rattle.exchange.proofs.FramesParts.{title_fields, title_of}
 use Rattle.exchange.specs.Meetings.{checked_title}
 use Rattle.exchange.proofs.BatchLemmas.{vector_short}
@@ -96,8 +96,8 @@ record_itself : (r : Record) → IsRecord r → record_form.Fits r
 unfolding record_form
 record_itself r is = is
 
-pub framed_lawful : IsLawful framed
-unfolding framed
+pub framed_lawful : IsLawful length_prefixed_record
+unfolding length_prefixed_record
 framed_lawful = fitting_lawful IsRecord (λ r is. (record_itself r is, sized_fits r is)) (inside_lawful Frame sized_lawful (raised_lawful (λ _. Frame) record_lawful))
 
 -- ---- a message is read of its own body
@@ -114,8 +114,8 @@ code_spelled : (n : ℕ) → n < 2 ^ 32 → code.Spells (code.canon n) n
 unfolding unsigned
 code_spelled n small = (raised_lawful (λ _. Frame) u32_lawful).written n small
 
-all_fit : (rs : List Record) → AllByRecursion IsRecord rs → AllByRecursion framed.Fits rs
-unfolding framed record_form
+all_fit : (rs : List Record) → AllByRecursion IsRecord rs → AllByRecursion length_prefixed_record.Fits rs
+unfolding length_prefixed_record record_form
 all_fit [] all = tt
 all_fit (r ∷ rs) all = (all.0, all_fit rs all.1)
 
@@ -123,9 +123,9 @@ all_fit (r ∷ rs) all = (all.0, all_fit rs all.1)
 pub read_own : (p : Party) (m : Message) → HasFrame m → checked_title p m → message_at p (kind_of m) (frame_body_of m) ≡ Ok m
 read_own p (Asks t) is check = rw (whole_only Frame title_lawful (title.canon t) t (title_fits t is), check) refl
 read_own p (Carries t rs) is check =
-    let head : (title ▸ count).read ((title ▸ count).canon (t, length rs) ++ flat_map framed.canon rs) ≡ Ok ((t, length rs), flat_map framed.canon rs) =
+    let head : (title ▸ count).read ((title ▸ count).canon (t, length rs) ++ flat_map length_prefixed_record.canon rs) ≡ Ok ((t, length rs), flat_map length_prefixed_record.canon rs) =
     (then_lawful title_lawful count_lawful).only _ (t, length rs) _ (title.canon t, count.canon (length rs), refl, title_fits t is.0, count_spelled (length rs) is.2) in
-    let rest : whole Frame (items (length rs) framed) (flat_map framed.canon rs) ≡ Ok rs = whole_only Frame (items_lawful (length rs) framed_lawful) _ rs ((items_lawful (length rs) framed_lawful).written rs (all_fit rs is.1, refl)) in
+    let rest : whole Frame (items (length rs) length_prefixed_record) (flat_map length_prefixed_record.canon rs) ≡ Ok rs = whole_only Frame (items_lawful (length rs) framed_lawful) _ rs ((items_lawful (length rs) framed_lawful).written rs (all_fit rs is.1, refl)) in
     rw (head, check, rest) refl
 read_own p (Ends n) is check = rw (whole_only Frame (raised_lawful (λ _. Frame) u32_lawful) (code.canon n) n (code_spelled n is)) refl
 
@@ -151,13 +151,13 @@ title_length t is =
     let id = is.id in
     omega (arith, more, id)
 
-framed_length : (r : Record) → length (framed.canon r) ≡ 4 + length (record_form.canon r)
-unfolding framed unsigned
+framed_length : (r : Record) → length (length_prefixed_record.canon r) ≡ 4 + length (record_form.canon r)
+unfolding length_prefixed_record unsigned
 framed_length r = omega arith
 
-records_bytes : (rs : List Record) → length (flat_map framed.canon rs) ≡ records_length rs
+records_bytes : (rs : List Record) → length (flat_map length_prefixed_record.canon rs) ≡ records_length rs
 records_bytes [] = refl
-records_bytes (r ∷ rs) = omega (arith, length-append (framed.canon r) (flat_map framed.canon rs), framed_length r, records_bytes rs)
+records_bytes (r ∷ rs) = omega (arith, length-append (length_prefixed_record.canon r) (flat_map length_prefixed_record.canon rs), framed_length r, records_bytes rs)
 
 count_length : (t : Title) (n : ℕ) → length ((title ▸ count).canon (t, n)) ≡ length (title.canon t) + 4
 unfolding unsigned
@@ -169,7 +169,7 @@ code_length n = refl
 
 pub body_short : (m : Message) → HasFrame m → length (frame_body_of m) + 8 ≤ longest_frame
 body_short (Asks t) is = omega (arith, title_length t is, vector_short t.vector is.vector)
-body_short (Carries t rs) is = omega (arith, length-append ((title ▸ count).canon (t, length rs)) (flat_map framed.canon rs), count_length t (length rs), title_length t is.0, records_bytes rs, is.3)
+body_short (Carries t rs) is = omega (arith, length-append ((title ▸ count).canon (t, length rs)) (flat_map length_prefixed_record.canon rs), count_length t (length rs), title_length t is.0, records_bytes rs, is.3)
 body_short (Ends n) is = omega (arith, code_length n)
 
 -- what the size of the whole frame is
@@ -208,7 +208,7 @@ framed_cut End body some short =
 
 body_some : (m : Message) → HasFrame m → 4 ≤ length (frame_body_of m)
 body_some (Asks t) is = omega (arith, title_length t is)
-body_some (Carries t rs) is = omega (arith, length-append ((title ▸ count).canon (t, length rs)) (flat_map framed.canon rs), count_length t (length rs), title_length t is.0)
+body_some (Carries t rs) is = omega (arith, length-append ((title ▸ count).canon (t, length rs)) (flat_map length_prefixed_record.canon rs), count_length t (length rs), title_length t is.0)
 body_some (Ends n) is = omega (arith, code_length n)
 
 pub cut_own : (m : Message) → HasFrame m → frame_header (frame_of m) ≡ Ok (Some (record { kind = kind_of m; size = 8 + length (frame_body_of m) }))

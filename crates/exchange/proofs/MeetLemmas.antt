@@ -12,7 +12,7 @@ use Rattle.exchange.specs.declared.message.FrameKind.{FrameKind}
 use Rattle.exchange.specs.declared.message.Header.{Header}
 use Rattle.exchange.specs.declared.message.Message.{Message}
 use Rattle.exchange.specs.declared.message.State.{State}
-use Rattle.exchange.specs.Frames.{kind_of, frame_body_of, frame_of, frame_header, Held, Gives, HasFrame}
+use Rattle.exchange.specs.Frames.{kind_of, frame_body_of, frame_of, frame_header, ReceivedFrames, Gives, HasFrame}
 use Rattle.exchange.specs.Dialogs.{Turn, failing, turned, Way, Clear, Unread, Stopped, Starved, Met, gone, fault_on, records_in, DialogState, received, frame_answered, standing_after, party_of, Writes, Takes}
 use Rattle.exchange.proofs.DialogsParts.{bytes_of}
 use Rattle.exchange.specs.Meetings.{IsOfOutside, Hands, IsStoreFaultAmong}
@@ -20,7 +20,7 @@ use Rattle.exchange.proofs.FrameLemmas.{cut_own, body_own}
 
 -- ---- the frame that was handed over
 
-waiting : List ℕ → Held
+waiting : List ℕ → ReceivedFrames
 waiting bytes = record { waiting = bytes; failed = false }
 
 header_of : Result (Option Header) ExchangeFault → Option Header
@@ -142,7 +142,7 @@ hand_starves a before bytes out fault e = record {
   passes = passes-none a;
 }
 
-pub hand_wrong : (a : Store) (before : DialogState) (bytes out : List ℕ) (held : Held) (answer : Result (Option Lent) ExchangeFault) (fault : ExchangeFault) → held ≡ record { waiting = [] ++ bytes; failed = false }
+pub hand_wrong : (a : Store) (before : DialogState) (bytes out : List ℕ) (held : ReceivedFrames) (answer : Result (Option Lent) ExchangeFault) (fault : ExchangeFault) → held ≡ record { waiting = [] ++ bytes; failed = false }
     → Gives held answer → IsNone answer → Hands a a before before bytes out out (Err fault)
 hand_wrong a before bytes out held answer fault e gives none = record {
   takes = λ m is same. absurd (no answer none (subst (λ h. Gives h answer) e gives) m is same);
@@ -156,7 +156,7 @@ hand_wrong a before bytes out held answer fault e gives none = record {
     no (Ok (Some frame)) none gives m is same = none
     no (Err fault) none gives m is same = fault_own m bytes fault is same gives
 
-pub hand_takes : (a c : Store) (before after : DialogState) (bytes out written : List ℕ) (held : Held) (frame : Lent) (result : Result State ExchangeFault) → held ≡ record { waiting = [] ++ bytes; failed = false }
+pub hand_takes : (a c : Store) (before after : DialogState) (bytes out written : List ℕ) (held : ReceivedFrames) (frame : Lent) (result : Result State ExchangeFault) → held ≡ record { waiting = [] ++ bytes; failed = false }
     → Gives held (Ok (Some frame)) → Takes a c before after frame.kind frame.body.now out written result → Hands a c before after bytes out written result
 hand_takes a c before after bytes out written held frame result e gives takes = record {
   takes = λ m is same.

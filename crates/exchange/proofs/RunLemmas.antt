@@ -23,7 +23,7 @@ use Rattle.archive.specs.declared.fault.StoreFault.{StoreFault}
 use Rattle.archive.specs.declared.fault.StoreFault.TheVariants as store
 use Rattle.archive.specs.declared.fault.LearnFault.{LearnFault}
 use Rattle.archive.specs.declared.fault.LearnFault.TheVariants as refused
-use Rattle.archive.specs.Store.{Store, StepResult, Done, NoMemory, Stands, StoreFailed, faults_in, faults_of, failed_by, fault_in, is_break, faults_after, CountsFaults, Asks, Learns, IsLeft, answer_to, store_fault_in}
+use Rattle.archive.specs.Store.{Store, StepResult, Done, NoMemory, RecordStands, StoreFailed, faults_in, faults_of, failed_by, fault_in, is_break, faults_after, CountsFaults, Asks, Learns, IsLeft, answer_to, store_fault_in}
 use Rattle.archive.specs.Steps.{Yields, Refines}
 use Rattle.archive.proofs.Calls.{passes-none, passes-then}
 use Rattle.archive.proofs.Acting.{acts-as, found-faults, learned-left, left-stays, unlearned-left}
@@ -86,7 +86,7 @@ any_first (f ∷ faults) more e = go (is_break f) e (any_first faults more)
     go true e rest = refl
     go false e rest = rest e
 
-fine_stands : {X : Type 0} → Done ≡ Stands → X
+fine_stands : {X : Type 0} → Done ≡ RecordStands → X
 fine_stands e = absurd (cc)
 
 -- the mark is the first of these
@@ -117,7 +117,7 @@ module _ (R S : Content) (own : ℕ) (request : Request) (op : Operation) (told 
   came (NoMemory ∷ marks) d = inl (ap told_in (sym (d.does [])), ap left_in (sym (d.does [])))
   came (Done ∷ []) d = inr (Done, record { code = ap told_in (sym (d.does [])); left = ap left_in (sym (d.does [])); counted = omega arith; broke = λ e. e })
   came (Done ∷ mark ∷ marks) d = let c = by_mark mark marks (ap told_in (sym (d.does []))) (ap left_in (sym (d.does []))) in inr (mark, record { code = c.code; left = c.left; counted = c.counted; broke = c.broke })
-  came (Stands ∷ marks) d = inr (Stands, by_mark Stands marks (ap told_in (sym (d.does []))) (ap left_in (sym (d.does []))))
+  came (RecordStands ∷ marks) d = inr (RecordStands, by_mark RecordStands marks (ap told_in (sym (d.does []))) (ap left_in (sym (d.does []))))
   came (StoreFailed fault ∷ marks) d = inr (StoreFailed fault, by_mark (StoreFailed fault) marks (ap told_in (sym (d.does []))) (ap left_in (sym (d.does []))))
 
 module _ (a b : Store) (request : Request) (op : Operation) (used : List StepResult) (told : HistoryUpdateResult) (acts : Refines a b used (begin a.own request all_good (op ∷ [])) told) where
@@ -152,7 +152,7 @@ module _ (a b : Store) (request : Request) (op : Operation) (used : List StepRes
       clear : (R S : Content) (marks : List StepResult) → faults_of marks ≡ faults_of used → (mark : StepResult) → Came R S a.own request op marks told mark → S ≡ change R
       clear R S marks same Done c = c.left
       clear R S marks same NoMemory c = absurd (is.memory c.code)
-      clear R S marks same Stands c = absurd (unmet R S marks Stands same c (omega arith) refl)
+      clear R S marks same RecordStands c = absurd (unmet R S marks RecordStands same c (omega arith) refl)
       clear R S marks same (StoreFailed store.OutOfMemory) c = absurd (is.memory c.code)
       clear R S marks same (StoreFailed store.Refused) c = absurd (unmet R S marks (StoreFailed store.Refused) same c (omega arith) refl)
       clear R S marks same (StoreFailed store.WrongReplica) c = absurd (unmet R S marks (StoreFailed store.WrongReplica) same c (omega arith) refl)
@@ -185,7 +185,7 @@ module _ (a b : Store) (request : Request) (op : Operation) (used : List StepRes
         | inr standing ↦ fine_stands standing.0
       ]
       stopped R S marks same NoMemory c = inl c.left
-      stopped R S marks same Stands c = inr (broken_then marks same (c.broke refl), c.left)
+      stopped R S marks same RecordStands c = inr (broken_then marks same (c.broke refl), c.left)
       stopped R S marks same (StoreFailed fault) c = inl c.left
 
 -- ---- a restart

@@ -9,8 +9,8 @@ use Rattle.exchange.specs.declared.fault.ExchangeFault.TheVariants.{Frame}
 use Rattle.exchange.specs.declared.message.FrameKind.{FrameKind}
 use Rattle.exchange.specs.declared.message.Header.{Header}
 use Rattle.exchange.specs.Batches.{longest_frame}
-use Rattle.exchange.specs.Frames.{frame_header, titled, kind_at, frame_size_at, Held, no_frames, next_of, after_next, IsWholeFrame}
-use Rattle.exchange.specs.Streams.{FrameContent, IsFrame, AreFrames, verdict, Splits, FramesCall, Fed, Gave, Waited, Refused, header_of, DoesFramesCall, RunsFrames, fed_of, given_of, ended}
+use Rattle.exchange.specs.Frames.{frame_header, titled, kind_at, frame_size_at, ReceivedFrames, no_frames, next_of, after_next, IsWholeFrame}
+use Rattle.exchange.specs.Streams.{FrameContent, IsFrame, AreFrames, verdict, AreFramesThenRest, FramesCall, Fed, Gave, Waited, Refused, header_of, DoesFramesCall, RunsFrames, fed_of, given_of, ended}
 
 -- ---- what stands first, whatever follows
 
@@ -102,7 +102,7 @@ given_frame bytes piece e within body =
 
 -- ---- runs
 
-pub next_sound : (held : Held) (r : Result (Option Header) ExchangeFault) → next_of held ≡ r → r ≢ Err Frame → (held.failed ≡ false) × (frame_header held.waiting ≡ r)
+pub next_sound : (held : ReceivedFrames) (r : Result (Option Header) ExchangeFault) → next_of held ≡ r → r ≢ Err Frame → (held.failed ≡ false) × (frame_header held.waiting ≡ r)
 next_sound held r e sound = go held.failed refl e
   where
     go : (x : Bool) → held.failed ≡ x → cond x (Err Frame) (frame_header held.waiting) ≡ r → (held.failed ≡ false) × (frame_header held.waiting ≡ r)
@@ -116,49 +116,49 @@ none_fine : (r : Result (Option Header) ExchangeFault) → r ≡ Ok None → r �
 none_fine r e f = cc
 
 -- the bytes that waited and those that were fed are the frames given out and the bytes that wait
-kept : (events : List FramesCall) (held held' : Held) → RunsFrames held events held' → AreFrames (held.waiting ++ fed_of events) (given_of events) held'.waiting
-kept [] held held' run = append-nil held.waiting ∙ sym (ap (λ (h : Held). h.waiting) run)
+kept : (events : List FramesCall) (held held' : ReceivedFrames) → RunsFrames held events held' → AreFrames (held.waiting ++ fed_of events) (given_of events) held'.waiting
+kept [] held held' run = append-nil held.waiting ∙ sym (ap (λ (h : ReceivedFrames). h.waiting) run)
 kept (Fed bytes ∷ events) held held' run =
-    let now : Held = record held { waiting = held.waiting ++ bytes } in
-    let later = kept events now held' (subst (λ (h : Held). RunsFrames h events held') run.1 run.2) in
+    let now : ReceivedFrames = record held { waiting = held.waiting ++ bytes } in
+    let later = kept events now held' (subst (λ (h : ReceivedFrames). RunsFrames h events held') run.1 run.2) in
     subst (λ (all : List ℕ). AreFrames all (given_of events) held'.waiting) (append_assoc held.waiting bytes (fed_of events)) later
 kept (Gave piece ∷ events) held held' run =
     let size : ℕ = 8 + length piece.body in
-    let now : Held = record held { waiting = drop (8 + length piece.body) held.waiting } in
+    let now : ReceivedFrames = record held { waiting = drop (8 + length piece.body) held.waiting } in
     let between : run.0 ≡ now = run.1.1 ∙ ap (after_next held) run.1.0.0 in
-    let later = kept events now held' (subst (λ (h : Held). RunsFrames h events held') between run.2) in
+    let later = kept events now held' (subst (λ (h : ReceivedFrames). RunsFrames h events held') between run.2) in
     let sound = next_sound held (Ok (Some (header_of piece))) run.1.0.0 (some_fine (header_of piece) (Ok (Some (header_of piece))) refl) in
     let apart : held.waiting ++ fed_of events ≡ take (8 + length piece.body) held.waiting ++ (drop (8 + length piece.body) held.waiting ++ fed_of events) =
     ap (λ (bytes : List ℕ). bytes ++ fed_of events) (sym (take-append-drop (8 + length piece.body) held.waiting)) ∙ append_assoc (take (8 + length piece.body) held.waiting) (drop (8 + length piece.body) held.waiting) (fed_of events) in
     (take (8 + length piece.body) held.waiting, drop (8 + length piece.body) held.waiting ++ fed_of events, apart, given_frame held.waiting piece sound.1 run.1.0.1 run.1.0.2, later)
 kept (Waited ∷ events) held held' run =
     let between : run.0 ≡ held = run.1.1 ∙ ap (after_next held) run.1.0 in
-    kept events held held' (subst (λ (h : Held). RunsFrames h events held') between run.2)
+    kept events held held' (subst (λ (h : ReceivedFrames). RunsFrames h events held') between run.2)
 kept (Refused ∷ events) held held' run =
-    let now : Held = record held { failed = true } in
+    let now : ReceivedFrames = record held { failed = true } in
     let between : run.0 ≡ now = run.1.1 ∙ ap (after_next held) run.1.0 in
-    kept events now held' (subst (λ (h : Held). RunsFrames h events held') between run.2)
+    kept events now held' (subst (λ (h : ReceivedFrames). RunsFrames h events held') between run.2)
 
-pub frames_kept : (events : List FramesCall) (held : Held) → RunsFrames no_frames events held → AreFrames (fed_of events) (given_of events) held.waiting
+pub frames_kept : (events : List FramesCall) (held : ReceivedFrames) → RunsFrames no_frames events held → AreFrames (fed_of events) (given_of events) held.waiting
 frames_kept events held run = kept events no_frames held run
 
 -- where it failed, the fault stands at what waits
-abbrev IsStuck : Held → Type 0
+abbrev IsStuck : ReceivedFrames → Type 0
 IsStuck held = held.failed ≡ true → frame_header held.waiting ≡ Err Frame
 
-refused_so : (held : Held) → IsStuck held → next_of held ≡ Err Frame → frame_header held.waiting ≡ Err Frame
+refused_so : (held : ReceivedFrames) → IsStuck held → next_of held ≡ Err Frame → frame_header held.waiting ≡ Err Frame
 refused_so held stuck e = go held.failed refl e
   where
     go : (x : Bool) → held.failed ≡ x → cond x (Err Frame) (frame_header held.waiting) ≡ Err Frame → frame_header held.waiting ≡ Err Frame
     go true p q = stuck p
     go false p q = q
 
-does_stuck : (held held' : Held) (event : FramesCall) → DoesFramesCall held event held' → IsStuck held → IsStuck held'
+does_stuck : (held held' : ReceivedFrames) (event : FramesCall) → DoesFramesCall held event held' → IsStuck held → IsStuck held'
 does_stuck held held' (Fed bytes) does stuck =
-    let now : Held = record held { waiting = held.waiting ++ bytes } in
+    let now : ReceivedFrames = record held { waiting = held.waiting ++ bytes } in
     subst IsStuck (sym {b = now} does) (λ f. let e = stuck f in cut_append held.waiting bytes (err_not_none (frame_header held.waiting) e) ∙ e)
 does_stuck held held' (Gave piece) does stuck =
-    let now : Held = record held { waiting = drop (8 + length piece.body) held.waiting } in
+    let now : ReceivedFrames = record held { waiting = drop (8 + length piece.body) held.waiting } in
     let between : held' ≡ now = does.1 ∙ ap (after_next held) does.0.0 in
     let sound = next_sound held (Ok (Some (header_of piece))) does.0.0 (some_fine (header_of piece) (Ok (Some (header_of piece))) refl) in
     subst IsStuck (sym between) (λ f. absurd (true≢false (sym f ∙ sound.0)))
@@ -166,38 +166,38 @@ does_stuck held held' Waited does stuck =
     let between : held' ≡ held = does.1 ∙ ap (after_next held) does.0 in
     subst IsStuck (sym between) stuck
 does_stuck held held' Refused does stuck =
-    let now : Held = record held { failed = true } in
+    let now : ReceivedFrames = record held { failed = true } in
     let between : held' ≡ now = does.1 ∙ ap (after_next held) does.0 in
     subst IsStuck (sym between) (λ f. refused_so held stuck does.0)
 
-runs_stuck : (events : List FramesCall) (held held' : Held) → RunsFrames held events held' → IsStuck held → IsStuck held'
+runs_stuck : (events : List FramesCall) (held held' : ReceivedFrames) → RunsFrames held events held' → IsStuck held → IsStuck held'
 runs_stuck [] held held' run stuck = subst IsStuck (sym run) stuck
 runs_stuck (event ∷ events) held held' run stuck = runs_stuck events run.0 held' run.2 (does_stuck held run.0 event run.1 stuck)
 
-record Last (held : Held) (events : List FramesCall) (event : FramesCall) (held' : Held) : Type 0 where
-  between : Held
+record Last (held : ReceivedFrames) (events : List FramesCall) (event : FramesCall) (held' : ReceivedFrames) : Type 0 where
+  between : ReceivedFrames
   before : RunsFrames held events between
   last : DoesFramesCall between event held'
 
-last_of : (held : Held) (events : List FramesCall) (event : FramesCall) (held' : Held) → RunsFrames held (events ++ (event ∷ [])) held' → Last held events event held'
+last_of : (held : ReceivedFrames) (events : List FramesCall) (event : FramesCall) (held' : ReceivedFrames) → RunsFrames held (events ++ (event ∷ [])) held' → Last held events event held'
 last_of held [] event held' run = record { between = held; before = refl; last = subst (DoesFramesCall held event) (sym run.2) run.1 }
 last_of held (x ∷ events) event held' run =
     let later = last_of run.0 events event held' run.2 in
     record { between = later.between; before = (run.0, run.1, later.before); last = later.last }
 
-ends_so : (held : Held) (failed : Bool) (held' : Held) → IsStuck held → DoesFramesCall held (ended failed) held' → (held'.waiting ≡ held.waiting) × (frame_header held.waiting ≡ verdict failed)
+ends_so : (held : ReceivedFrames) (failed : Bool) (held' : ReceivedFrames) → IsStuck held → DoesFramesCall held (ended failed) held' → (held'.waiting ≡ held.waiting) × (frame_header held.waiting ≡ verdict failed)
 ends_so held false held' stuck does = (
-  ap (λ (h : Held). h.waiting) (does.1 ∙ ap (after_next held) does.0),
+  ap (λ (h : ReceivedFrames). h.waiting) (does.1 ∙ ap (after_next held) does.0),
   (next_sound held (Ok None) does.0 (none_fine (Ok None) refl)).1,
 )
-ends_so held true held' stuck does = (ap (λ (h : Held). h.waiting) (does.1 ∙ ap (after_next held) does.0), refused_so held stuck does.0)
+ends_so held true held' stuck does = (ap (λ (h : ReceivedFrames). h.waiting) (does.1 ∙ ap (after_next held) does.0), refused_so held stuck does.0)
 
-pub frames_end : (events : List FramesCall) (failed : Bool) (held : Held) → RunsFrames no_frames (events ++ (ended failed ∷ [])) held → Splits (fed_of events) (given_of events) held.waiting failed
+pub frames_end : (events : List FramesCall) (failed : Bool) (held : ReceivedFrames) → RunsFrames no_frames (events ++ (ended failed ∷ [])) held → AreFramesThenRest (fed_of events) (given_of events) held.waiting failed
 frames_end events failed held run =
     let parts = last_of no_frames events (ended failed) held run in
     let stuck = runs_stuck events no_frames parts.between parts.before (λ f. absurd (true≢false (sym f))) in
     let told = ends_so parts.between failed held stuck parts.last in
-    subst (λ (rest : List ℕ). Splits (fed_of events) (given_of events) rest failed) (sym told.0) (record { frames = frames_kept events parts.between parts.before; ends = told.1 })
+    subst (λ (rest : List ℕ). AreFramesThenRest (fed_of events) (given_of events) rest failed) (sym told.0) (record { frames = frames_kept events parts.between parts.before; ends = told.1 })
 
 -- ---- one reading
 
@@ -232,7 +232,7 @@ first_one p q chunk chunk' more more' is is' e =
       rests,
     )
 
-pub readings_one : (bytes : List ℕ) (ps qs : List FrameContent) (rest rest' : List ℕ) (f g : Bool) → Splits bytes ps rest f → Splits bytes qs rest' g → (ps ≡ qs) × (rest ≡ rest') × (f ≡ g)
+pub readings_one : (bytes : List ℕ) (ps qs : List FrameContent) (rest rest' : List ℕ) (f g : Bool) → AreFramesThenRest bytes ps rest f → AreFramesThenRest bytes qs rest' g → (ps ≡ qs) × (rest ≡ rest') × (f ≡ g)
 readings_one bytes [] [] rest rest' f g s t =
     let same : rest ≡ rest' = sym s.frames ∙ t.frames in
     (refl, same, verdict_one f g (sym s.ends ∙ (ap frame_header same ∙ t.ends)))
@@ -246,8 +246,8 @@ readings_one bytes (p ∷ ps) (q ∷ qs) rest rest' f g s t =
     (record { frames = subst (λ (m : List ℕ). AreFrames m qs rest') (sym one.1) t.frames.4; ends = t.ends }) in
     (ap (λ (x : FrameContent). x ∷ ps) one.0 ∙ ap (λ (l : List FrameContent). q ∷ l) later.0, later.1, later.2)
 
-pub runs_one : (events events' : List FramesCall) (f g : Bool) (held held' : Held) → RunsFrames no_frames (events ++ (ended f ∷ [])) held → RunsFrames no_frames (events' ++ (ended g ∷ [])) held' → fed_of events ≡ fed_of events'
+pub runs_one : (events events' : List FramesCall) (f g : Bool) (held held' : ReceivedFrames) → RunsFrames no_frames (events ++ (ended f ∷ [])) held → RunsFrames no_frames (events' ++ (ended g ∷ [])) held' → fed_of events ≡ fed_of events'
     → (given_of events ≡ given_of events') × (held.waiting ≡ held'.waiting) × (f ≡ g)
 runs_one events events' f g held held' run run' same =
     readings_one (fed_of events) (given_of events) (given_of events') held.waiting held'.waiting f g (frames_end events f held run)
-    (subst (λ (bytes : List ℕ). Splits bytes (given_of events') held'.waiting g) (sym same) (frames_end events' g held' run'))
+    (subst (λ (bytes : List ℕ). AreFramesThenRest bytes (given_of events') held'.waiting g) (sym same) (frames_end events' g held' run'))

@@ -57,8 +57,8 @@ abbrev pub length_prefixed : Format ExchangeFault (List ℕ)
 length_prefixed = headed length (ill (unsigned w32)) (λ n. ill (block n))
 
 -- one record behind its length, as a frame has several
-unfoldable pub framed : Format ExchangeFault Record
-framed = fitting IsRecord (inside Frame length_prefixed (ill record_form))
+unfoldable pub length_prefixed_record : Format ExchangeFault Record
+length_prefixed_record = fitting IsRecord (inside Frame length_prefixed (ill record_form))
 
 -- the number that ends a dialog
 abbrev pub code : Format ExchangeFault ℕ
@@ -78,7 +78,7 @@ abbrev pub message_at : Party → FrameKind → List ℕ → Result Message Exch
 message_at p Vector body = whole Frame title body >>= λ t. checked_sender p t >>= λ _. Ok (Asks t)
 message_at p Records body =
     (title ▸ count).read body >>= λ ((t, n), rest). checked_sender p t
-    >>= λ _. whole Frame (items n framed) rest >>= λ rs. Ok (Carries t rs)
+    >>= λ _. whole Frame (items n length_prefixed_record) rest >>= λ rs. Ok (Carries t rs)
 message_at p End body = whole Frame code body >>= λ n. Ok (Ends n)
 
 -- ---- frames
@@ -96,7 +96,8 @@ abbrev pub frame_body_of : Message → List ℕ
 frame_body_of v =
     elim v [
       | Asks t ↦ title.canon t
-      | Carries t rs ↦ (title ▸ count).canon (t, length rs) ++ flat_map framed.canon rs
+      | Carries t rs ↦ (title ▸ count).canon (t, length rs)
+          ++ flat_map length_prefixed_record.canon rs
       | Ends n ↦ code.canon n
     ]
 
@@ -135,18 +136,18 @@ frame_header bytes =
 -- ---- what is held of a stream of frames
 
 -- the bytes that came and were not given out, and whether a fault ended it
-pub record Held : Type 0 where
+pub record ReceivedFrames : Type 0 where
   pub waiting : List ℕ
   pub failed : Bool
 
-abbrev pub no_frames : Held
+abbrev pub no_frames : ReceivedFrames
 no_frames = record { waiting = []; failed = false }
 
-abbrev pub next_of : Held → Result (Option Header) ExchangeFault
+abbrev pub next_of : ReceivedFrames → Result (Option Header) ExchangeFault
 next_of held = if held.failed then Err Frame else frame_header held.waiting
 
 -- what is held once the next frame is given out
-abbrev pub after_next : Held → Result (Option Header) ExchangeFault → Held
+abbrev pub after_next : ReceivedFrames → Result (Option Header) ExchangeFault → ReceivedFrames
 after_next held (Ok None) = held
 after_next held (Ok (Some header)) = record held { waiting = drop header.size held.waiting }
 after_next held (Err fault) = record held { failed = true }
@@ -157,7 +158,7 @@ IsWholeFrame bytes header =
     (12 ≤ header.size) × (header.size ≤ length bytes) × (header.size ≤ longest_frame)
 
 -- what is given out: the frame that stands first, none where it isn't whole, or the fault
-abbrev pub Gives : Held → Result (Option Lent) ExchangeFault → Type 0
+abbrev pub Gives : ReceivedFrames → Result (Option Lent) ExchangeFault → Type 0
 Gives held (Ok None) = next_of held ≡ Ok None
 Gives held (Ok (Some frame)) =
     let header : Header = record { kind = frame.kind; size = 8 + length frame.body.now } in

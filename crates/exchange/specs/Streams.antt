@@ -5,7 +5,7 @@ use Rattle.exchange.specs.declared.fault.ExchangeFault.{ExchangeFault}
 use Rattle.exchange.specs.declared.fault.ExchangeFault.TheVariants.{Frame}
 use Rattle.exchange.specs.declared.message.FrameKind.{FrameKind}
 use Rattle.exchange.specs.declared.message.Header.{Header}
-use Rattle.exchange.specs.Frames.{frame_header, Held, next_of, after_next, IsWholeFrame}
+use Rattle.exchange.specs.Frames.{frame_header, ReceivedFrames, next_of, after_next, IsWholeFrame}
 
 -- ---- the bytes
 
@@ -32,7 +32,7 @@ verdict false = Ok None
 verdict true = Err Frame
 
 -- the bytes are these frames, and a rest that is less than one, or at which the fault stands
-pub record Splits (bytes : List ℕ) (pieces : List FrameContent) (rest : List ℕ)
+pub record AreFramesThenRest (bytes : List ℕ) (pieces : List FrameContent) (rest : List ℕ)
     (failed : Bool) : Type 0 where
   pub frames : AreFrames bytes pieces rest
   pub ends : frame_header rest ≡ verdict failed
@@ -54,7 +54,7 @@ abbrev pub header_of : FrameContent → Header
 header_of piece = record { kind = piece.kind; size = 8 + length piece.body }
 
 -- what the calls promise
-abbrev pub DoesFramesCall : Held → FramesCall → Held → Type 0
+abbrev pub DoesFramesCall : ReceivedFrames → FramesCall → ReceivedFrames → Type 0
 DoesFramesCall old (Fed bytes) new = new ≡ record old { waiting = old.waiting ++ bytes }
 DoesFramesCall old (Gave piece) new =
     ((next_of old ≡ Ok (Some (header_of piece))) × IsWholeFrame old.waiting (header_of piece)
@@ -64,10 +64,10 @@ DoesFramesCall old Waited new = (next_of old ≡ Ok None) × (new ≡ after_next
 DoesFramesCall old Refused new = (next_of old ≡ Err Frame) × (new ≡ after_next old (next_of old))
 
 -- one call after the other
-abbrev pub RunsFrames : Held → List FramesCall → Held → Type 0
+abbrev pub RunsFrames : ReceivedFrames → List FramesCall → ReceivedFrames → Type 0
 RunsFrames old [] new = new ≡ old
 RunsFrames old (event ∷ events) new =
-    (between : Held) × DoesFramesCall old event between × RunsFrames between events new
+    (between : ReceivedFrames) × DoesFramesCall old event between × RunsFrames between events new
 
 -- all the bytes that were fed
 abbrev pub fed_of : List FramesCall → List ℕ

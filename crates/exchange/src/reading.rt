@@ -9,7 +9,7 @@ ghost use Rattle.stamp.specs.Vector.{vector};
 ghost use Rattle.records.specs.Spelling.{GivesUnless, IsRecord, record_form};
 ghost use Rattle.exchange.specs.declared.fault.ExchangeFault.TheVariants as fault;
 ghost use Rattle.exchange.specs.declared.message.Party.{Party as Reader};
-ghost use Rattle.exchange.specs.Frames.{ill, title, count, length_prefixed, framed, code, checked_sender, message_at, IsLearnable};
+ghost use Rattle.exchange.specs.Frames.{ill, title, count, length_prefixed, length_prefixed_record, code, checked_sender, message_at, IsLearnable};
 
 use crate::fault::ExchangeFault;
 use crate::message::{FrameKind, Message, Party, Title};
@@ -131,10 +131,10 @@ fn record_in(alloc: Global, bytes: &[u8]) -> Result<Record, ExchangeFault>
 }
 
 /// A record behind its length.
-#[tactic(auto, unfolding(crate::specs::Frames::framed))]
+#[tactic(auto, unfolding(crate::specs::Frames::length_prefixed_record))]
 fn read_framed(alloc: Global, cursor: &mut Cursor<'_>) -> Result<Record, ExchangeFault>
     ensures reads { ReadsUnless fault.OutOfMemory
-        (λ r. r) result cursor.old cursor.new framed.read }
+        (λ r. r) result cursor.old cursor.new length_prefixed_record.read }
     ensures lawful { IfOk result IsRecord }
 {
     let mut next = cursor.fork();
@@ -161,7 +161,7 @@ fn read_items(
     count: u32,
 ) -> Result<Vec<Record>, ExchangeFault>
     ensures reads { ReadsPart fault.OutOfMemory (λ v. v.items) result cursor.old cursor.new
-        (items_at framed.read count) }
+        (items_at length_prefixed_record.read count) }
     ensures lawful { IfOk result (λ v. AllByRecursion IsRecord v.items) }
 {
     let mut records = Vec::new(alloc);
@@ -175,9 +175,9 @@ fn read_items(
 /// So many records, and nothing behind them.
 fn read_records(alloc: Global, bytes: &[u8], count: u32) -> Result<Vec<Record>, ExchangeFault>
     ensures gives { MatchResult result
-        (λ v. whole fault.Frame (items count framed) bytes.now ≡ Ok v.items)
+        (λ v. whole fault.Frame (items count length_prefixed_record) bytes.now ≡ Ok v.items)
         (λ e. (e ≡ fault.OutOfMemory → ⊥)
-        → whole fault.Frame (items count framed) bytes.now ≡ Err e) }
+        → whole fault.Frame (items count length_prefixed_record) bytes.now ≡ Err e) }
     ensures lawful { IfOk result (λ v. AllByRecursion IsRecord v.items) }
 {
     let mut cursor = Cursor::new(bytes);

@@ -7,7 +7,7 @@ ghost use Rattle.records.specs.Spelling.{record_form};
 ghost use Rattle.ua_binary.specs.Format.{Puts, PutsPart};
 ghost use Rattle.records.specs.Spelling.{IsRecord};
 ghost use Rattle.exchange.specs.declared.fault.ExchangeFault.TheVariants as fault;
-ghost use Rattle.exchange.specs.Frames.{title, framed, frame_letters, kind_of, frame_body_of, frame_of, IsTitle, HasFrame};
+ghost use Rattle.exchange.specs.Frames.{title, length_prefixed_record, frame_letters, kind_of, frame_body_of, frame_of, IsTitle, HasFrame};
 ghost use Rattle.exchange.specs.Batches.{records_length, frame_length, longest_frame};
 
 use crate::fault::ExchangeFault;
@@ -55,11 +55,11 @@ fn size_of(v: &Record) -> u32
 }
 
 /// A record behind its length.
-#[tactic(auto, using(ua_binary::proofs::Kept::kept), unfolding(crate::specs::Frames::framed))]
+#[tactic(auto, using(ua_binary::proofs::Kept::kept), unfolding(crate::specs::Frames::length_prefixed_record))]
 fn put_framed_parts(out: &mut Vec<u8>, v: &Record) -> Result<(), BinaryFault>
     requires { IsRecord v.now }
     ensures { PutsPart BinaryFault.OutOfMemory result out.old.items out.new.items
-        (framed.canon v.now) }
+        (length_prefixed_record.canon v.now) }
 {
     put_u32(out, size_of(v))?;
     match put_record(out, v) {
@@ -70,7 +70,8 @@ fn put_framed_parts(out: &mut Vec<u8>, v: &Record) -> Result<(), BinaryFault>
 
 fn put_framed(out: &mut Vec<u8>, v: &Record) -> Result<(), BinaryFault>
     requires { IsRecord v.now }
-    ensures { Puts BinaryFault.OutOfMemory result out.old.items out.new.items (framed.canon v.now) }
+    ensures { Puts BinaryFault.OutOfMemory result out.old.items out.new.items
+        (length_prefixed_record.canon v.now) }
 {
     let len = out.len();
     let put = put_framed_parts(out, v);
@@ -81,7 +82,7 @@ fn put_framed(out: &mut Vec<u8>, v: &Record) -> Result<(), BinaryFault>
 fn put_records(out: &mut Vec<u8>, records: &[Record]) -> Result<(), BinaryFault>
     requires { All IsRecord records.now }
     ensures { PutsPart BinaryFault.OutOfMemory result out.old.items out.new.items
-        (flat_map framed.canon records.now) }
+        (flat_map length_prefixed_record.canon records.now) }
 {
     for held in records {
         put_framed(out, held)?;

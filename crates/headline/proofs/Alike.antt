@@ -11,7 +11,7 @@ use Rattle.ua_services.specs.declared.history.HistoryReadResult.{HistoryReadResu
 use Rattle.records.specs.Contents.{Content}
 use Rattle.archive.specs.declared.fault.StoreFault.{StoreFault}
 use Rattle.archive.specs.declared.fault.StoreFault.TheVariants as store
-use Rattle.archive.specs.Store.{Store, StepResult, Done, NoMemory, Stands, StoreFailed, faults_of, is_break, IsLeft}
+use Rattle.archive.specs.Store.{Store, StepResult, Done, NoMemory, RecordStands, StoreFailed, faults_of, is_break, IsLeft}
 use Rattle.archive.specs.Steps.{Yields}
 use Rattle.archive.proofs.Acting.{left-alone, found-faults}
 use Rattle.hist_read.specs.declared.query.Query.{Query}
@@ -19,7 +19,7 @@ use Rattle.hist_read.specs.Node.{Behind, checked_read, page_from, read_node}
 use Rattle.hist_read.proofs.NodeParts.{read_from, told}
 use Rattle.hist_read.specs.Chains.{Page, IsRead, Chain}
 use Rattle.exchange.specs.Worlds.{ReplicaState}
-use Rattle.headline.specs.Executions.{Execution, IsExecution, IsReachable, HasSameRecords}
+use Rattle.headline.specs.Executions.{Execution, IsExecution, IsReachable, HaveLearnedSameNames}
 use Rattle.headline.specs.Answers.{HistoryQuery, replica_answer, results_of, AreFromEither, IsReplicaOf, IsReadAnswered, ReportsNoFailure}
 use Rattle.headline.proofs.Times.{same_learned}
 
@@ -94,8 +94,8 @@ module _ (id : List ℕ) (node : NodeId) (query : Query) (R S : Content) (one : 
   by_marks (Ok behind) (NoMemory ∷ used) does free =
       let e : one ≡ told (page_from R id node query behind) NoMemory = ap first_of (sym (does.does [])) in
       absurd ((subst ReportsNoFailure e free).memory refl)
-  by_marks (Ok behind) (Stands ∷ used) does free =
-      let e : one ≡ told (page_from R id node query behind) Stands = ap first_of (sym (does.does [])) in
+  by_marks (Ok behind) (RecordStands ∷ used) does free =
+      let e : one ≡ told (page_from R id node query behind) RecordStands = ap first_of (sym (does.does [])) in
       absurd ((subst ReportsNoFailure e free).store refl)
   by_marks (Ok behind) (StoreFailed fault ∷ used) does free =
       let e : one ≡ told (page_from R id node query behind) (StoreFailed fault) = ap first_of (sym (does.does [])) in
@@ -111,8 +111,8 @@ module _ (id : List ℕ) (node : NodeId) (query : Query) (R S : Content) (one : 
   no_fault (Ok behind) (NoMemory ∷ used) does free =
       let e : one ≡ told (page_from R id node query behind) NoMemory = ap first_of (sym (does.does [])) in
       absurd ((subst ReportsNoFailure e free).memory refl)
-  no_fault (Ok behind) (Stands ∷ used) does free =
-      let e : one ≡ told (page_from R id node query behind) Stands = ap first_of (sym (does.does [])) in
+  no_fault (Ok behind) (RecordStands ∷ used) does free =
+      let e : one ≡ told (page_from R id node query behind) RecordStands = ap first_of (sym (does.does [])) in
       absurd ((subst ReportsNoFailure e free).store refl)
   no_fault (Ok behind) (StoreFailed fault ∷ used) does free =
       let e : one ≡ told (page_from R id node query behind) (StoreFailed fault) = ap first_of (sym (does.does [])) in
@@ -120,13 +120,13 @@ module _ (id : List ℕ) (node : NodeId) (query : Query) (R S : Content) (one : 
 
 -- what an archive in use is left with is what its replica holds
 in_site : (a : Store) (s : ReplicaState) (R : Content) → IsReplicaOf a s → IsLeft a R → R ≡ s.content
-in_site a s R is left = left-alone a R is.used.rests is.used.honest is.used.whole left ∙ is.content
+in_site a s R is left = left-alone a R is.used.durable is.used.honest is.used.unbroken left ∙ is.content
 
 -- an answer that reports nothing leaves the store in use
 free_in_use : (s : ReplicaState) (a c : Store) (node : NodeId) (query : Query) (point : Option (List ℕ)) (one : HistoryReadResult) → IsReplicaOf a s → c.honest → IsReadAnswered a c node query point one → ReportsNoFailure one
     → c.broken ≡ false
 free_in_use s a c node query point one is honest answered free = elim (cases_Bool c.broken) [
-  | inl broken ↦ absurd (answered.1.there (λ h none. none a.content (inl (is.used.whole, refl))) honest (λ S left. unbroken broken S left))
+  | inl broken ↦ absurd (answered.1.there (λ h none. none a.content (inl (is.used.unbroken, refl))) honest (λ S left. unbroken broken S left))
   | inr whole ↦ whole
 ]
   where
@@ -136,7 +136,7 @@ free_in_use s a c node query point one is honest answered free = elim (cases_Boo
         let none : faults_of found.0 ≡ [] = no_fault a.id node query found.2 S one (checked_read a.id node query.details point) found.0 found.4 free in
         let quiet : faults_of answered.0 ≡ [] = sym (found-faults a.broken answered.0 found.0 found.1) ∙ none in
         let used : c.broken ≡ false =
-        answered.1.passes.broken ∙ (ap (λ (fs : List StoreFault). a.broken || list_any is_break fs) quiet ∙ (or-false a.broken ∙ is.used.whole)) in
+        answered.1.passes.broken ∙ (ap (λ (fs : List StoreFault). a.broken || list_any is_break fs) quiet ∙ (or-false a.broken ∙ is.used.unbroken)) in
         true≢false (sym broken ∙ used)
 
 pub answered_so : (s : ReplicaState) (a c : Store) (node : NodeId) (query : Query) (point : Option (List ℕ)) (one : HistoryReadResult) → IsReplicaOf a s → c.honest → IsReadAnswered a c node query point one → ReportsNoFailure one
@@ -148,7 +148,7 @@ answered_so s a c node query point one is honest answered free =
     subst (λ i. Yields (read_node i node query point s.content) found.0 (one, c.content)) is.id (subst (λ R. Yields (read_node a.id node query point R) found.0 (one, c.content)) same found.4) in
     by_marks s.id node query s.content c.content one (checked_read s.id node query.details point) found.0 does free
 
-pub answered_alike : (p : Execution) (s t : ReplicaState) (a c b d : Store) (node : NodeId) (query : Query) (point : Option (List ℕ)) (one other : HistoryReadResult) → IsExecution p → IsReachable p s → IsReachable p t → HasSameRecords s t
+pub answered_alike : (p : Execution) (s t : ReplicaState) (a c b d : Store) (node : NodeId) (query : Query) (point : Option (List ℕ)) (one other : HistoryReadResult) → IsExecution p → IsReachable p s → IsReachable p t → HaveLearnedSameNames s t
     → IsReplicaOf a s → IsReplicaOf b t → c.honest → d.honest → IsReadAnswered a c node query point one → IsReadAnswered b d node query point other → ReportsNoFailure one → ReportsNoFailure other → one ≡ other
 answered_alike p s t a c b d node query point one other past was was' same is is' honest honest' answered answered' free free' =
     let e = same_learned p s t past was was' same in

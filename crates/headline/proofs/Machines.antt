@@ -26,7 +26,7 @@ use Rattle.exchange.proofs.ConverseLemmas.{IsParty}
 use Rattle.ua_peers.specs.Events.{IsExchange, AreExchanges}
 use Rattle.ua_server.proofs.Updated.{updates_made}
 use Rattle.ua_peers.proofs.Exchanged.{run_append, exchanged, ends_kept}
-use Rattle.headline.specs.Executions.{IsLawfulEvent, Execution, IsExecution, world_at, IsStateAt, IsReachable, HasSameRecords, IsBeginning}
+use Rattle.headline.specs.Executions.{IsLawfulEvent, Execution, IsExecution, world_at, IsStateAt, IsReachable, HaveLearnedSameNames, IsBeginning}
 use Rattle.headline.specs.Answers.{IsInUse, IsReplicaOf, IsReadAnswered, ReportsNoFailure}
 use Rattle.headline.specs.Machines.{RestartsAs, IsMachine, AreInUse, AreNew, Simulates, ExtendsTo, Serves, MachinesSync, Restarts}
 use Rattle.headline.proofs.Times.{sound_at, replica_at, learned_even}
@@ -83,15 +83,15 @@ exchanges_lawful i j (e ∷ es) are = (elim are.0 [ inl h ↦ exchange_lawful i 
 -- ---- one machine
 
 settled : (a : Store) → IsInUse a → IsSettled a
-settled a used = used.rests used.honest used.whole
+settled a used = used.durable used.honest used.unbroken
 
 -- it is left with what it holds
 held_by : (a : Store) (R : Content) → IsInUse a → a.content ≡ R → IsLeft a R
-held_by a R used held = inl (used.whole, held)
+held_by a R used held = inl (used.unbroken, held)
 
 -- and it holds what its replica does
 in_site : (a : Store) (s : ReplicaState) → IsInUse a → IsSiteOf a s → a.content ≡ s.content
-in_site a s used is = sym (left-alone a s.content used.rests used.honest used.whole is.content)
+in_site a s used is = sym (left-alone a s.content used.durable used.honest used.unbroken is.content)
 
 -- the end of a past is a time of it
 pub ends_at : (p : Execution) → world_at p (length p.events) ≡ run p.events p.start
@@ -166,7 +166,7 @@ module _ {A : Type 0} (state : A → Store) where
       let site = site_there state old w.replicas serves.place serves.before are.hold serves.there in
       let s = site.0 in
       let used = all_there (λ a. IsInUse (state a)) old serves.place serves.before are.used serves.there in
-      let made = updates_made serves.settings (state serves.before) (state serves.behind) serves.first serves.unread serves.left serves.written serves.after serves.given serves.ending serves.serves used.rests used.whole serves.honest
+      let made = updates_made serves.settings (state serves.before) (state serves.behind) serves.first serves.unread serves.left serves.written serves.after serves.given serves.ending serves.serves used.durable used.unbroken serves.honest
       w serves.place s (state serves.later).content serves.goes.content (lawful_later (state serves.later) serves.goes.used) site.1 (sym site.2.number) (sym (in_site (state serves.before) s used site.2)) in
       let v = run made.0 w in
       let t : ReplicaState = record s { content = (state serves.later).content } in
@@ -195,8 +195,8 @@ module _ {A : Type 0} (state : A → Store) where
         record {
           id = x.2.id ∙ (sound.one i j x.0 y.0 x.1 y.1 ∙ sym y.2.id);
           apart = λ e. other (sound.apart i j x.0 y.0 x.1 y.1 (sym x.2.number ∙ (e ∙ y.2.number)));
-          one = (used.rests, used.whole);
-          other = (used'.rests, used'.whole);
+          one = (used.durable, used.unbroken);
+          other = (used'.durable, used'.unbroken);
           compatible = λ r z h k. sound.compatible i j x.0 y.0 x.1 y.1 r z (subst (λ (S : Content). Has S r) content h) (subst (λ (S : Content). Has S z) content' k);
         },
         record { id = ap length x.2.id ∙ is.1; own = subst IsReplica (sym x.2.number) is.0 },
@@ -266,5 +266,5 @@ module _ {A : Type 0} (state : A → Store) where
       let y = replica_now p machines j b are to in
       let was : IsReachable p x.0 = (length p.events, i, x.1) in
       let was' : IsReachable p y.0 = (length p.events, j, y.1) in
-      let same : HasSameRecords x.0 y.0 = (learned_even p x.0 y.0 are.past was was').1 (λ origin. ap (λ (S : Content). vec S origin) (sym x.4) ∙ (even origin ∙ ap (λ (S : Content). vec S origin) y.4)) in
+      let same : HaveLearnedSameNames x.0 y.0 = (learned_even p x.0 y.0 are.past was was').1 (λ origin. ap (λ (S : Content). vec S origin) (sym x.4) ∙ (even origin ∙ ap (λ (S : Content). vec S origin) y.4)) in
       answered_alike p x.0 y.0 (state a) (state c) (state b) (state d) node query point one other are.past was was' same x.2 y.2 honest honest' asked asked' free free'

@@ -13,7 +13,7 @@ use Rattle.ua_space.specs.declared.layout.Layout.{Layout}
 use Rattle.records.specs.Contents.{Content}
 use Rattle.archive.specs.declared.fault.StoreFault.{StoreFault}
 use Rattle.archive.specs.declared.fault.StoreFault.TheVariants as store
-use Rattle.archive.specs.Store.{StepResult, Done, NoMemory, Stands, StoreFailed}
+use Rattle.archive.specs.Store.{StepResult, Done, NoMemory, RecordStands, StoreFailed}
 use Rattle.archive.specs.Steps.{give, memory, and_then, each}
 use Rattle.hist_read.specs.declared.query.Query.{Query}
 use Rattle.hist_read.specs.Node.{Behind, checked_read, page_from, read_node, refused_read}
@@ -47,7 +47,7 @@ module _ (id : List ℕ) (space : Layout) (query : Query) (release : Bool) (R : 
   starved answer false free = free.memory refl
   starved answer true free = free.memory refl
 
-  broke : (answer : HistoryReadResult) (only : Bool) → ReportsNoFailure (released only (told answer Stands)) → ⊥
+  broke : (answer : HistoryReadResult) (only : Bool) → ReportsNoFailure (released only (told answer RecordStands)) → ⊥
   broke answer false free = free.store refl
   broke answer true free = free.store refl
 
@@ -66,7 +66,7 @@ module _ (id : List ℕ) (space : Layout) (query : Query) (release : Bool) (R : 
   node_free node (Ok behind) [] free = refl
   node_free node (Ok behind) (Done ∷ marks) free = refl
   node_free node (Ok behind) (NoMemory ∷ marks) free = absurd (starved (page_from R id node query behind) release free)
-  node_free node (Ok behind) (Stands ∷ marks) free = absurd (broke (page_from R id node query behind) release free)
+  node_free node (Ok behind) (RecordStands ∷ marks) free = absurd (broke (page_from R id node query behind) release free)
   node_free node (Ok behind) (StoreFailed fault ∷ marks) free = absurd (reported (page_from R id node query behind) fault release free)
 
   -- an item of the list, by what its rules say
@@ -80,7 +80,7 @@ module _ (id : List ℕ) (space : Layout) (query : Query) (release : Bool) (R : 
   item_stays item (Ok u) [] = node_stays item.0 (checked_read id item.0 query.details item.1.1.1) []
   item_stays item (Ok u) (Done ∷ marks) = node_stays item.0 (checked_read id item.0 query.details item.1.1.1) marks
   item_stays item (Ok u) (NoMemory ∷ marks) = refl
-  item_stays item (Ok u) (Stands ∷ marks) = node_stays item.0 (checked_read id item.0 query.details item.1.1.1) (Stands ∷ marks)
+  item_stays item (Ok u) (RecordStands ∷ marks) = node_stays item.0 (checked_read id item.0 query.details item.1.1.1) (RecordStands ∷ marks)
   item_stays item (Ok u) (StoreFailed fault ∷ marks) = node_stays item.0 (checked_read id item.0 query.details item.1.1.1) (StoreFailed fault ∷ marks)
 
   item_free : (item : HistoryReadFields) (ruled : Result (Unit {0}) Status) (marks : List StepResult) → ReportsNoFailure (item_by item ruled marks).0.0
@@ -89,7 +89,7 @@ module _ (id : List ℕ) (space : Layout) (query : Query) (release : Bool) (R : 
   item_free item (Ok u) [] free = refl
   item_free item (Ok u) (Done ∷ marks) free = node_free item.0 (checked_read id item.0 query.details item.1.1.1) marks free
   item_free item (Ok u) (NoMemory ∷ marks) free = absurd (free.memory refl)
-  item_free item (Ok u) (Stands ∷ marks) free = node_free item.0 (checked_read id item.0 query.details item.1.1.1) (Stands ∷ marks) free
+  item_free item (Ok u) (RecordStands ∷ marks) free = node_free item.0 (checked_read id item.0 query.details item.1.1.1) (RecordStands ∷ marks) free
   item_free item (Ok u) (StoreFailed fault ∷ marks) free = node_free item.0 (checked_read id item.0 query.details item.1.1.1) (StoreFailed fault ∷ marks) free
 
   -- ---- the list
@@ -136,23 +136,23 @@ module _ (id : List ℕ) (space : Layout) (query : Query) (release : Bool) (R : 
   memory_alike xs [] [] = list_alike xs [] []
   memory_alike xs [] (Done ∷ more) = list_alike xs [] more
   memory_alike xs [] (NoMemory ∷ more) = inr (inr refl)
-  memory_alike xs [] (Stands ∷ more) = list_alike xs [] (Stands ∷ more)
+  memory_alike xs [] (RecordStands ∷ more) = list_alike xs [] (RecordStands ∷ more)
   memory_alike xs [] (StoreFailed f ∷ more) = list_alike xs [] (StoreFailed f ∷ more)
   memory_alike xs (Done ∷ marks) [] = list_alike xs marks []
   memory_alike xs (Done ∷ marks) (Done ∷ more) = list_alike xs marks more
   memory_alike xs (Done ∷ marks) (NoMemory ∷ more) = inr (inr refl)
-  memory_alike xs (Done ∷ marks) (Stands ∷ more) = list_alike xs marks (Stands ∷ more)
+  memory_alike xs (Done ∷ marks) (RecordStands ∷ more) = list_alike xs marks (RecordStands ∷ more)
   memory_alike xs (Done ∷ marks) (StoreFailed f ∷ more) = list_alike xs marks (StoreFailed f ∷ more)
   memory_alike xs (NoMemory ∷ marks) more = inr (inl refl)
-  memory_alike xs (Stands ∷ marks) [] = list_alike xs (Stands ∷ marks) []
-  memory_alike xs (Stands ∷ marks) (Done ∷ more) = list_alike xs (Stands ∷ marks) more
-  memory_alike xs (Stands ∷ marks) (NoMemory ∷ more) = inr (inr refl)
-  memory_alike xs (Stands ∷ marks) (Stands ∷ more) = list_alike xs (Stands ∷ marks) (Stands ∷ more)
-  memory_alike xs (Stands ∷ marks) (StoreFailed f ∷ more) = list_alike xs (Stands ∷ marks) (StoreFailed f ∷ more)
+  memory_alike xs (RecordStands ∷ marks) [] = list_alike xs (RecordStands ∷ marks) []
+  memory_alike xs (RecordStands ∷ marks) (Done ∷ more) = list_alike xs (RecordStands ∷ marks) more
+  memory_alike xs (RecordStands ∷ marks) (NoMemory ∷ more) = inr (inr refl)
+  memory_alike xs (RecordStands ∷ marks) (RecordStands ∷ more) = list_alike xs (RecordStands ∷ marks) (RecordStands ∷ more)
+  memory_alike xs (RecordStands ∷ marks) (StoreFailed f ∷ more) = list_alike xs (RecordStands ∷ marks) (StoreFailed f ∷ more)
   memory_alike xs (StoreFailed e ∷ marks) [] = list_alike xs (StoreFailed e ∷ marks) []
   memory_alike xs (StoreFailed e ∷ marks) (Done ∷ more) = list_alike xs (StoreFailed e ∷ marks) more
   memory_alike xs (StoreFailed e ∷ marks) (NoMemory ∷ more) = inr (inr refl)
-  memory_alike xs (StoreFailed e ∷ marks) (Stands ∷ more) = list_alike xs (StoreFailed e ∷ marks) (Stands ∷ more)
+  memory_alike xs (StoreFailed e ∷ marks) (RecordStands ∷ more) = list_alike xs (StoreFailed e ∷ marks) (RecordStands ∷ more)
   memory_alike xs (StoreFailed e ∷ marks) (StoreFailed f ∷ more) = list_alike xs (StoreFailed e ∷ marks) (StoreFailed f ∷ more)
 
 module _ (id : List ℕ) (space : Layout) (asked : HistoryAsked) (R : Content) where
@@ -189,7 +189,7 @@ module _ (server : Server) (now : Ticks) (asked : HistoryAsked) (token : NodeId)
   request_read user [] e = inl ([], session_read user [] e)
   request_read user (Done ∷ marks) e = inl (marks, session_read user marks e)
   request_read user (NoMemory ∷ marks) e = inr refl
-  request_read user (Stands ∷ marks) e = inl (marks, session_read user marks e)
+  request_read user (RecordStands ∷ marks) e = inl (marks, session_read user marks e)
   request_read user (StoreFailed fault ∷ marks) e = inl (marks, session_read user marks e)
 
   clear_read : (user : List ℕ) → user_at sessions token ≡ Ok user → by_request (Ok (token, Some (HistoryRead asked))) [] ≡ (read_history server.id server.settings.space asked R []).0.0

@@ -7,7 +7,7 @@ use Rattle.ua_services.specs.declared.attributes.TimestampsToReturn.{TimestampsT
 use Rattle.ua_services.specs.declared.history.ReadRawModifiedDetails.{ReadRawModifiedDetails as Details}
 use Rattle.ua_services.specs.declared.history.HistoryData.TheVariants.{Raw, Modified}
 use Rattle.records.specs.Lists.{Has, IsPairwise, Rises, last}
-use Rattle.records.specs.Records.{is_delete, record_stamp_cmp, versions, current, modifications_at, entries_after, entry, write}
+use Rattle.records.specs.Records.{is_delete, record_stamp_cmp, versions, live_value, modifications_at, entries_after, entry, write}
 use Rattle.records.specs.Contents.{Content, IsClosed, IsLatest}
 use Rattle.records.specs.declared.record.Record.{Record}
 use Rattle.records.specs.declared.shown.Held.{Held}
@@ -49,13 +49,13 @@ get_from_has (y ∷ ys) x h = elim h [ inl e ↦ (0, ap Some e) | inr k ↦ let 
 -- ---- members of what is read
 
 module _ (R : Content) (node : NodeId) (q : Details) where
-  body_has : (h : Held) → Has (values_inside R node q) h ↔ ((current R node h.time ≡ Some h) × (in_body q h.time ≡ true))
+  body_has : (h : Held) → Has (values_inside R node q) h ↔ ((live_value R node h.time ≡ Some h) × (in_body q h.time ≡ true))
   body_has h = (
     λ k.
         let m = has_from_filter (λ (x : Held). in_body q x.time) (lives_in R node q) h k in
-        let t = has_from_filter_map (current R node) (times R node) h ((has-in_direction (direction q) (lives R node) h).0 m.0) in
-        (subst (λ s. current R node s ≡ Some h) (sym (current_time R node t.0 h t.2).1) t.2, m.1),
-    λ k. has-filter (λ (x : Held). in_body q x.time) (lives_in R node q) h ((has-in_direction (direction q) (lives R node) h).1 (has-filter_map (current R node) (times R node) h.time h (current_time R node h.time h k.0).0 k.0)) k.1,
+        let t = has_from_filter_map (live_value R node) (times R node) h ((has-in_direction (direction q) (lives R node) h).0 m.0) in
+        (subst (λ s. live_value R node s ≡ Some h) (sym (current_time R node t.0 h t.2).1) t.2, m.1),
+    λ k. has-filter (λ (x : Held). in_body q x.time) (lives_in R node q) h ((has-in_direction (direction q) (lives R node) h).1 (has-filter_map (live_value R node) (times R node) h.time h (current_time R node h.time h k.0).0 k.0)) k.1,
   )
 
   modified_has : (e : Entry) → Has (modifications_at R node e.time) e → in_body q e.time ≡ true → Has (modified R node q None) e
@@ -186,7 +186,7 @@ module _ (R : Content) (closed : IsClosed R) (r : Record) (q : Details) (stamps 
     pub live_shown : IsOfRaw q → IsLatest R r → is_delete r.asked ≡ false → (h : Held) × (h.time ≡ r.time) × (h.value ≡ r.value) × ShowsAt stamps pages R r.node r.time (h ∷ [])
     live_shown is latest written =
         let h = latest_written R r (closed_stamps R closed) latest written in
-        let now : current R r.node h.0.time ≡ Some h.0 = ap (current R r.node) h.3 ∙ h.1 in (
+        let now : live_value R r.node h.0.time ≡ Some h.0 = ap (live_value R r.node) h.3 ∙ h.1 in (
           h.0,
           h.3,
           h.2,
@@ -203,7 +203,7 @@ module _ (R : Content) (closed : IsClosed R) (r : Record) (q : Details) (stamps 
       values_inside R r.node q,
       λ g m. ((body_has R r.node q g).0 m).0,
       shows ∙ raw_shown R r.node q stamps is reaches.0,
-      none_at r.time (values_inside R r.node q) (λ g m at. none-some _ (sym (latest_deleted R r (closed_stamps R closed) latest deleted) ∙ (sym (ap (current R r.node) at) ∙ ((body_has R r.node q g).0 m).0))),
+      none_at r.time (values_inside R r.node q) (λ g m at. none-some _ (sym (latest_deleted R r (closed_stamps R closed) latest deleted) ∙ (sym (ap (live_value R r.node) at) ∙ ((body_has R r.node q g).0 m).0))),
     )
 
 -- ---- reads that reach a record

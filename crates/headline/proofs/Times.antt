@@ -17,10 +17,10 @@ use Rattle.hist_update.specs.Laws.{IsSpelledRequest, IsOperation}
 use Rattle.hist_update.proofs.LawfulUpdates.{updated_lawful}
 use Rattle.exchange.specs.Worlds.{ReplicaState, World, Event, Operates, Sends, Delivers, Restarts, IsReplicaAt, IsConsistent, operated, delivered, after_event, run}
 use Rattle.exchange.proofs.WorldLemmas.{get-set_cases, has_from_get, with_content, run_sound, empty_sound, Grows, run_grown, times_grown}
-use Rattle.headline.specs.Executions.{IsBeginning, IsLawfulEvent, Execution, IsExecution, world_at, IsStateAt, IsReachable, HasSameRecords, HasSameVector, Covers}
+use Rattle.headline.specs.Executions.{IsBeginning, IsLawfulEvent, Execution, IsExecution, world_at, IsStateAt, IsReachable, HaveLearnedSameNames, HasSameVector, Covers}
 
 pub begins_sound : (w : World) → IsBeginning w → IsConsistent w
-begins_sound w is = empty_sound w (λ i j s t a b. (is.together i j s t a b).1) (λ i j s t a b. (is.together i j s t a b).0) (record { sites = λ i s a. (is.replicas i s a).2; pool = is.pool })
+begins_sound w is = empty_sound w (λ i j s t a b. (is.together i j s t a b).1) (λ i j s t a b. (is.together i j s t a b).0) (record { replicas = λ i s a. (is.replicas i s a).2; pool = is.pool })
 
 pub sound_at : (p : Execution) → IsExecution p → (time : ℕ) → IsConsistent (world_at p time)
 sound_at p past time = run_sound p.start (take time p.events) (begins_sound p.start past.begins)
@@ -161,13 +161,13 @@ pub even_same : (p : Execution) (s t : ReplicaState) → IsExecution p → IsRea
 even_same p s t past a b even =
     same_content s.content t.content (lawful_was p s past a).closed (lawful_was p t past b).closed (together p s t past a b).compatible even
 
-pub names_even : (s t : ReplicaState) → HasSameRecords s t → HasSameVector s t
+pub names_even : (s t : ReplicaState) → HaveLearnedSameNames s t → HasSameVector s t
 names_even s t same origin =
     let one = names_vec s.content t.content (λ o n. (same o n).0) origin in
     let other = names_vec t.content s.content (λ o n. (same o n).1) origin in
     omega (arith, one, other)
 
-pub learned_even : (p : Execution) (s t : ReplicaState) → IsExecution p → IsReachable p s → IsReachable p t → HasSameRecords s t ↔ HasSameVector s t
+pub learned_even : (p : Execution) (s t : ReplicaState) → IsExecution p → IsReachable p s → IsReachable p t → HaveLearnedSameNames s t ↔ HasSameVector s t
 learned_even p s t past a b = (
   names_even s t,
   λ even.
@@ -175,7 +175,7 @@ learned_even p s t past a b = (
       λ origin number. (subst (λ R. HasName R origin number) e, subst (λ R. HasName R origin number) (sym e)),
 )
 
-pub same_learned : (p : Execution) (s t : ReplicaState) → IsExecution p → IsReachable p s → IsReachable p t → HasSameRecords s t → (s.id ≡ t.id) × (s.content ≡ t.content)
+pub same_learned : (p : Execution) (s t : ReplicaState) → IsExecution p → IsReachable p s → IsReachable p t → HaveLearnedSameNames s t → (s.id ≡ t.id) × (s.content ≡ t.content)
 same_learned p s t past a b same = ((together p s t past a b).id, even_same p s t past a b (names_even s t same))
 
 -- a replica at a later time

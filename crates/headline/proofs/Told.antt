@@ -14,7 +14,7 @@ use Rattle.ua_session.specs.declared.fault.SessionFault.{SessionFault}
 use Rattle.ua_space.specs.declared.layout.Layout.{Layout}
 use Rattle.records.specs.Contents.{Content, IsWithin}
 use Rattle.archive.specs.Fault.{status_told}
-use Rattle.archive.specs.Store.{StepResult, Done, NoMemory, Stands, StoreFailed}
+use Rattle.archive.specs.Store.{StepResult, Done, NoMemory, RecordStands, StoreFailed}
 use Rattle.archive.specs.Steps.{Fallible, give, step, memory, and_then, each}
 use Rattle.hist_update.specs.declared.request.Request.{Request}
 use Rattle.hist_update.specs.Codes.{asked_by, list_refusal, first_other}
@@ -68,7 +68,7 @@ leaves_memory : (may : Bool) → Leaves may memory
 leaves_memory may [] allowed = tt
 leaves_memory may (Done ∷ marks) allowed = allowed.1
 leaves_memory may (NoMemory ∷ marks) allowed = allowed.1
-leaves_memory may (Stands ∷ marks) allowed = allowed
+leaves_memory may (RecordStands ∷ marks) allowed = allowed
 leaves_memory may (StoreFailed fault ∷ marks) allowed = allowed
 
 leaves_then : {A B : Type 0} (may : Bool) (first : Fallible A) (more : A → Fallible B) → Leaves may first → ((a : A) → Leaves may (more a)) → Leaves may (and_then first more)
@@ -298,5 +298,5 @@ good_held may site now message token ds sessions R marks results e =
     by [] f allowed = session_held may site now token ds sessions R [] results (user_at sessions token) refl f tt
     by (Done ∷ ms) f allowed = session_held may site now token ds sessions R ms results (user_at sessions token) refl f allowed.1
     by (NoMemory ∷ ms) f allowed = absurd (cc)
-    by (Stands ∷ ms) f allowed = session_held may site now token ds sessions R ms results (user_at sessions token) refl f allowed.1
+    by (RecordStands ∷ ms) f allowed = session_held may site now token ds sessions R ms results (user_at sessions token) refl f allowed.1
     by (StoreFailed fault ∷ ms) f allowed = session_held may site now token ds sessions R ms results (user_at sessions token) refl f allowed.1

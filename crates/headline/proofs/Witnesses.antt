@@ -24,7 +24,7 @@ module _ {A : Type 0} (state : A → Store) where
   -- archives in use are left with what they hold
   here_sites : (machines : List A) → AreInUse state machines → AreSites state machines (map here_site machines)
   here_sites [] used = tt
-  here_sites (a ∷ machines) used = (record { id = refl; number = refl; content = inl (used.0.whole, refl) }, here_sites machines used.1)
+  here_sites (a ∷ machines) used = (record { id = refl; number = refl; content = inl (used.0.unbroken, refl) }, here_sites machines used.1)
 
   all_honest : (machines : List A) → AreInUse state machines → AreHonest state machines
   all_honest [] used = tt
@@ -32,7 +32,7 @@ module _ {A : Type 0} (state : A → Store) where
 
   same_site : (a : A) (s : ReplicaState) → IsInUse (state a) → (state a).content ≡ [] → IsSiteOf (state a) s → s ≡ first_site state a
   same_site a s used empty is =
-      let content = left-alone (state a) s.content used.rests used.honest used.whole is.content ∙ empty in
+      let content = left-alone (state a) s.content used.durable used.honest used.unbroken is.content ∙ empty in
       ap (λ (i : List ℕ). record s { id = i }) (sym is.id)
       ∙ (ap (λ (n : ℕ). let t : ReplicaState = record { id = (state a).id; number = n; content = s.content } in t) (sym is.number)
       ∙ ap (λ R. let t : ReplicaState = record { id = (state a).id; number = (state a).own; content = R } in t) content)

@@ -47,8 +47,8 @@ AreFromEither s t pages =
 -- opening finds
 pub record IsInUse (a : Store) : Type 0 where
   pub honest : a.honest
-  pub whole : a.broken ≡ false
-  pub rests : IsQuiescent a
+  pub unbroken : a.broken ≡ false
+  pub durable : IsQuiescent a
 
 -- the archive is in use, and holds what a replica of a world does
 pub record IsReplicaOf (a : Store) (s : ReplicaState) : Type 0 where

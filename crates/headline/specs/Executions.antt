@@ -55,8 +55,8 @@ IsReachable p s = (time place : ℕ) × IsStateAt p time place s
 
 -- the two learned records of the same names: origins and numbers; that the records are the same is
 -- what the laws conclude
-abbrev pub HasSameRecords : ReplicaState → ReplicaState → Type 0
-HasSameRecords s t =
+abbrev pub HaveLearnedSameNames : ReplicaState → ReplicaState → Type 0
+HaveLearnedSameNames s t =
     (origin number : ℕ) → HasName s.content origin number ↔ HasName t.content origin number
 
 -- their vectors are equal

@@ -3,7 +3,7 @@
 use Rattle.std.specs.Prelude.{◌≡◌, ℕ, List, [], ◌++◌, length, slice_get, slice_set, Option, Some}
 use Rattle.std.specs.List.{AllByRecursion}
 use Rattle.stamp.specs.Limits.{IsReplica}
-use Rattle.ua_settings.specs.Settings.{Values}
+use Rattle.ua_settings.specs.Settings.{SettingsValues}
 use Rattle.archive.specs.Store.{Store, IsLeft}
 use Rattle.exchange.specs.Worlds.{Event, run}
 use Rattle.exchange.specs.Running.{AreSites}
@@ -68,7 +68,7 @@ module _ {A : Type 0} (state : A → Store) where
     pub later : A
     pub there : IsMachine old place before
     pub now : new ≡ slice_set old place later
-    pub settings : Values
+    pub settings : SettingsValues
     pub first : List ℕ
     pub unread : Option (List ℕ)
     pub left : Option (List ℕ)

@@ -6,7 +6,7 @@ use Rattle.ua_binary.specs.declared.values.NodeId.{NodeId}
 use Rattle.ua_services.specs.declared.attributes.TimestampsToReturn.{TimestampsToReturn}
 use Rattle.ua_services.specs.declared.history.ReadRawModifiedDetails.{ReadRawModifiedDetails as Details}
 use Rattle.records.specs.Lists.{Has}
-use Rattle.records.specs.Records.{current}
+use Rattle.records.specs.Records.{live_value}
 use Rattle.records.specs.Contents.{Content}
 use Rattle.records.specs.declared.shown.Held.{Held}
 use Rattle.records.specs.declared.shown.Entry.{Entry}
@@ -65,7 +65,7 @@ ShowsModification stamps pages e =
 -- this time
 abbrev pub ShowsAt : TimestampsToReturn → List Page → Content → NodeId → ℤ → List Held → Type 0
 ShowsAt stamps pages R node time held =
-    (live : List Held) × ((h : Held) → Has live h → current R node h.time ≡ Some h)
+    (live : List Held) × ((h : Held) → Has live h → live_value R node h.time ≡ Some h)
     × (joined_values pages ≡ map (shown stamps) (value_items live))
     × (filter (λ h. int_eq h.time time) live ≡ held)
 

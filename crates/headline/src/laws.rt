@@ -36,7 +36,7 @@ ghost use Rattle.hist_read.specs.Chains.{Page, Chain, IsRead, whole_read, values
 ghost use Rattle.hist_read.specs.Asking.{is_given};
 ghost use Rattle.hist_read.specs.Point.{Point, IsDetails, point_in};
 ghost use Rattle.exchange.specs.Worlds.{ReplicaState, World, IsReplicaAt, Sends, Delivers, run};
-ghost use Rattle.headline.specs.Executions.{Execution, IsExecution, IsStateAt, IsReachable, world_at, HasSameRecords, HasSameVector, Covers, WasAnswered, WasRecorded};
+ghost use Rattle.headline.specs.Executions.{Execution, IsExecution, IsStateAt, IsReachable, world_at, HaveLearnedSameNames, HasSameVector, Covers, WasAnswered, WasRecorded};
 ghost use Rattle.headline.specs.Answers.{HistoryQuery, replica_answer, results_of, bytes_of, AreFromEither, IsReplicaOf, IsReadAnswered, ReportsNoFailure};
 ghost use Rattle.headline.specs.Messages.{IsServerOf, HaveSameNodes, AsksHistory, response_of, AreAlike, AreFree};
 ghost use Rattle.headline.specs.Joins.{IsLeastAbove};
@@ -81,26 +81,26 @@ fn whole_reads(details: ReadRawModifiedDetails)
 pub fn replicas_converge()
     ensures vectors { (p : Execution) (s t : ReplicaState) → IsExecution p → IsReachable p s
         → IsReachable p t
-        → HasSameRecords s t ↔ HasSameVector s t }
+        → HaveLearnedSameNames s t ↔ HasSameVector s t }
     ensures contents { (p : Execution) (s t : ReplicaState) → IsExecution p → IsReachable p s
         → IsReachable p t
-        → HasSameRecords s t → (s.id ≡ t.id) × (s.content ≡ t.content) }
+        → HaveLearnedSameNames s t → (s.id ≡ t.id) × (s.content ≡ t.content) }
     ensures results { (p : Execution) (s t : ReplicaState) (asked : HistoryQuery) → IsExecution p
-        → IsReachable p s → IsReachable p t → HasSameRecords s t
+        → IsReachable p s → IsReachable p t → HaveLearnedSameNames s t
         → results_of asked s ≡ results_of asked t }
     ensures bytes { (p : Execution) (s t : ReplicaState) (asked : HistoryQuery) → IsExecution p
-        → IsReachable p s → IsReachable p t → HasSameRecords s t
+        → IsReachable p s → IsReachable p t → HaveLearnedSameNames s t
         → bytes_of (results_of asked s) ≡ bytes_of (results_of asked t) }
     ensures turns { (p : Execution) (s t : ReplicaState) (node : NodeId) (query : Query)
         (point : Option (List ℕ)) (pages others : List Page) → IsExecution p → IsReachable p s
-        → IsReachable p t → HasSameRecords s t
+        → IsReachable p t → HaveLearnedSameNames s t
         → AreFromEither s t pages → AreFromEither s t others → Chain s.id node query point pages
         → Chain t.id node query point others
         → map (λ page. page.result) pages ≡ map (λ page. page.result) others }
     ensures messages { (p : Execution) (s t : ReplicaState) (here there : Server) (now then : Time)
         (message other : List ℕ) (asked : HistoryAsked) (sessions others : Sessions)
         (marks more : List StepResult)
-        → IsExecution p → IsReachable p s → IsReachable p t → HasSameRecords s t → IsServerOf here s
+        → IsExecution p → IsReachable p s → IsReachable p t → HaveLearnedSameNames s t → IsServerOf here s
         → IsServerOf there t → HaveSameNodes here there
         → AsksHistory message asked sessions → AsksHistory other asked others
         → AreAlike (response_of here now message sessions s.content marks)
@@ -110,7 +110,7 @@ pub fn replicas_converge()
         → AreFree others → bytes_of results ≡ bytes_of others }
     ensures clear { (p : Execution) (s t : ReplicaState) (here there : Server) (now then : Time)
         (message other : List ℕ) (asked : HistoryAsked) (sessions others : Sessions)
-        → IsExecution p → IsReachable p s → IsReachable p t → HasSameRecords s t → IsServerOf here s
+        → IsExecution p → IsReachable p s → IsReachable p t → HaveLearnedSameNames s t → IsServerOf here s
         → IsServerOf there t → HaveSameNodes here there
         → AsksHistory message asked sessions → AsksHistory other asked others
         → response_of here now message sessions s.content [] ≡ response_of there
@@ -124,7 +124,7 @@ pub fn archives_answer_alike<A: Archive, B: Archive>()
     ensures result { (p : Execution) (s t : ReplicaState) (a c : A) (b d : B) (node : NodeId)
         (query : Query)
         (point : Option (List ℕ)) (one other : HistoryReadResult) → IsExecution p → IsReachable p s
-        → IsReachable p t → HasSameRecords s t
+        → IsReachable p t → HaveLearnedSameNames s t
         → IsReplicaOf (A.state a) s → IsReplicaOf (B.state b) t → (A.state c).honest
         → (B.state d).honest
         → IsReadAnswered (A.state a) (A.state c) node query point one

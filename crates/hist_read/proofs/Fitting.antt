@@ -28,7 +28,7 @@ use Rattle.stamp.specs.Numbers.{number_of}
 use Rattle.ua_services.specs.declared.history.ReadRawModifiedDetails.{ReadRawModifiedDetails as Details}
 use Rattle.records.specs.Lists.{Has}
 use Rattle.records.specs.Contents.{Content, numbers_of, cut}
-use Rattle.records.specs.Records.{write, value_shown, current, versions, modifications_at, entries_after, is_delete}
+use Rattle.records.specs.Records.{write, value_shown, live_value, versions, modifications_at, entries_after, is_delete}
 use Rattle.records.proofs.ContentsParts.{held_of}
 use Rattle.records.specs.Spelling.{empty, longest}
 use Rattle.records.specs.declared.record.Record.{Record}
@@ -81,11 +81,11 @@ module _ (R : Content) (node : NodeId) (lawful : IsLawfulContent R) where
   story_stored : (t : ℤ) (r : Record) → Has (versions R node t) r → IsStored r.value
   story_stored t r h = record_stored R r lawful ((story_has R node t r).0 h).0
 
-  current_stored : (t : ℤ) (h : Held) → current R node t ≡ Some h → IsStored h.value
+  current_stored : (t : ℤ) (h : Held) → live_value R node t ≡ Some h → IsStored h.value
   current_stored t h e = let r = held_value _ _ h e in subst IsStored r.2 (story_stored t r.0 (has_from_get (versions R node t) _ r.0 r.1))
 
   lives_stored : (h : Held) → Has (lives R node) h → IsStored h.value
-  lives_stored h k = let t = has_from_filter_map (current R node) (times R node) h k in current_stored t.0 h t.2
+  lives_stored h k = let t = has_from_filter_map (live_value R node) (times R node) h k in current_stored t.0 h t.2
 
   outside_stored : (t : ℤ) (d : Direction) (h : Held) → outside_of R node t d ≡ Some h → IsStored h.value
   outside_stored t d h e =
@@ -93,9 +93,9 @@ module _ (R : Content) (node : NodeId) (lawful : IsLawfulContent R) where
       lives_stored h (has_from_filter (λ (x : Held). is_past d t x.time) (lives R node) h there).0
 
   nearest_stored : (t : ℤ) (d : Direction) (h : Held) → nearest_from R node d t ≡ Some h → IsStored h.value
-  nearest_stored t d h e = go (current R node t) refl e
+  nearest_stored t d h e = go (live_value R node t) refl e
     where
-      go : (o : Option Held) → current R node t ≡ o → option_or o (outside_of R node t d) ≡ Some h → IsStored h.value
+      go : (o : Option Held) → live_value R node t ≡ o → option_or o (outside_of R node t d) ≡ Some h → IsStored h.value
       go None f e = outside_stored t d h e
       go (Some x) f e = current_stored t h (f ∙ e)
 

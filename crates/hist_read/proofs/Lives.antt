@@ -4,7 +4,7 @@ use Rattle.std.proofs.lemmas.Int.{ints}
 use Rattle.ua_binary.specs.declared.values.NodeId.{NodeId}
 use Rattle.records.specs.Lists.{Has}
 use Rattle.records.specs.Contents.{Content}
-use Rattle.records.specs.Records.{current, modifications_at, versions}
+use Rattle.records.specs.Records.{live_value, modifications_at, versions}
 use Rattle.records.specs.declared.record.Record.{Record}
 use Rattle.records.specs.declared.shown.Held.{Held}
 use Rattle.records.specs.declared.shown.Entry.{Entry}
@@ -35,7 +35,7 @@ record_time R r lawful h =
 
 pub lives_lawful : (R : Content) (node : NodeId) (h : Held) → IsLawfulContent R → Has (lives R node) h → IsTime h.time
 lives_lawful R node h lawful k =
-    let t = has_from_filter_map (current R node) (times R node) h k in
+    let t = has_from_filter_map (live_value R node) (times R node) h k in
     let r = current_from R node t.0 h t.2 in
     subst IsTime r.2 (record_time R r.0 lawful ((story_has R node t.0 r.0).0 r.1).0)
 
@@ -80,19 +80,19 @@ first_take [] = refl
 first_take (x ∷ xs) = refl
 
 -- a range of one time has the live value there, if there is one
-pub value_at_is : (R : Content) (node : NodeId) (d : Direction) (t : ℤ) → slice_get (take 1 (range_of R node t t d)) 0 ≡ current R node t
-value_at_is R node d t = first_take _ ∙ go (range_of R node t t d) refl (current R node t) refl
+pub value_at_is : (R : Content) (node : NodeId) (d : Direction) (t : ℤ) → slice_get (take 1 (range_of R node t t d)) 0 ≡ live_value R node t
+value_at_is R node d t = first_take _ ∙ go (range_of R node t t d) refl (live_value R node t) refl
   where
-    go : (xs : List Held) → range_of R node t t d ≡ xs → (o : Option Held) → current R node t ≡ o → slice_get xs 0 ≡ o
+    go : (xs : List Held) → range_of R node t t d ≡ xs → (o : Option Held) → live_value R node t ≡ o → slice_get xs 0 ≡ o
     go [] e None f = refl
     go [] e (Some h) f =
         let own : h.time ≡ t = (current_time R node t h f).1 in
-        let inside : IsInRange R node t t h = record { live = ap (current R node) own ∙ f; low = omega (arith, ints, own); high = omega (arith, ints, own) } in
+        let inside : IsInRange R node t t h = record { live = ap (live_value R node) own ∙ f; low = omega (arith, ints, own); high = omega (arith, ints, own) } in
         absurd (subst (λ xs. Has xs h) e ((range_has R node t t d h).1 inside))
     go (x ∷ xs) e o f =
         let inside = (range_has R node t t d x).0 (subst (λ xs. Has xs x) (sym e) (inl refl)) in
         let same : x.time ≡ t = omega (arith, ints, inside.low, inside.high) in
-        sym inside.live ∙ (ap (current R node) same ∙ f)
+        sym inside.live ∙ (ap (live_value R node) same ∙ f)
 
 -- ---- modifications
 

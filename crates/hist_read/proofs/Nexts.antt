@@ -9,7 +9,7 @@ use Rattle.stamp.specs.Limits.{greatest, IsReplica}
 use Rattle.ua_binary.specs.declared.values.NodeId.{NodeId}
 use Rattle.records.specs.Lists.{Has, last}
 use Rattle.records.specs.Contents.{Content}
-use Rattle.records.specs.Records.{current, versions, modifications_at, entries_after}
+use Rattle.records.specs.Records.{live_value, versions, modifications_at, entries_after}
 use Rattle.records.specs.declared.record.Record.{Record}
 use Rattle.records.specs.declared.shown.Held.{Held}
 use Rattle.records.specs.declared.shown.Entry.{Entry}
@@ -79,7 +79,7 @@ module _ (R : Content) (node : NodeId) (q : Details) (p : Option Position) (lawf
 
   -- what holds of the times of records and of the origin
   module _ (P : ℤ → Type 0) (all : (t : ℤ) → IsTime t → P t) (at_origin : P (origin_time q)) where
-    current_within : (t : ℤ) (h : Held) → current R node t ≡ Some h → P h.time
+    current_within : (t : ℤ) (h : Held) → live_value R node t ≡ Some h → P h.time
     current_within t h e = let r = current_from R node t h e in all h.time (subst IsTime r.2 (record_time R r.0 lawful ((story_has R node t r.0).0 r.1).0))
 
     outside_within : (t : ℤ) (d : Direction) (h : Held) → outside_of R node t d ≡ Some h → P h.time
@@ -88,9 +88,9 @@ module _ (R : Content) (node : NodeId) (q : Details) (p : Option Position) (lawf
         all h.time (lives_lawful R node h lawful (has_from_filter (λ (x : Held). is_past d t x.time) (lives R node) h there).0)
 
     nearest_within : (t : ℤ) (d : Direction) (h : Held) → nearest_from R node d t ≡ Some h → P h.time
-    nearest_within t d h e = go (current R node t) refl e
+    nearest_within t d h e = go (live_value R node t) refl e
       where
-        go : (o : Option Held) → current R node t ≡ o → option_or o (outside_of R node t d) ≡ Some h → P h.time
+        go : (o : Option Held) → live_value R node t ≡ o → option_or o (outside_of R node t d) ≡ Some h → P h.time
         go None f e = outside_within t d h e
         go (Some x) f e = current_within t h (f ∙ e)
 

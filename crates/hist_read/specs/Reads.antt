@@ -9,7 +9,7 @@ use Rattle.ua_binary.specs.declared.values.NodeId.{NodeId}
 use Rattle.records.specs.Moments.{moment, ticks_of}
 use Rattle.records.specs.Contents.{Content}
 use Rattle.records.specs.Lists.{last}
-use Rattle.records.specs.Records.{current}
+use Rattle.records.specs.Records.{live_value}
 use Rattle.records.specs.declared.shown.Held.{Held}
 use Rattle.records.specs.declared.shown.Entry.{Entry}
 use Rattle.archive.specs.Reading.{lives, log, in_direction, is_between, is_past, follows, place_of, outside_of}
@@ -63,7 +63,7 @@ values_inside R node q = filter (λ h. in_body q h.time) (in_direction (directio
 
 -- the value at a time, else the nearest one beyond it in the direction
 abbrev pub nearest_from : Content → NodeId → Direction → ℤ → Option Held
-nearest_from R node d time = option_or (current R node time) (outside_of R node time d)
+nearest_from R node d time = option_or (live_value R node time) (outside_of R node time d)
 
 -- a value, or that there is none at this time
 abbrev pub value_or_missing : ℤ → Option Held → Item

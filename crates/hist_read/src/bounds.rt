@@ -3,7 +3,7 @@
 ghost use Rattle.std.specs.Prelude.{◌≡◌, slice_get};
 ghost use Rattle.stamp.specs.Numbers.{number_of};
 ghost use Rattle.records.specs.Contents.{cut};
-ghost use Rattle.records.specs.Records.{current};
+ghost use Rattle.records.specs.Records.{live_value};
 ghost use Rattle.archive.specs.Store.{Asks, IsAskedWithin};
 ghost use Rattle.hist_read.specs.Asking.{end_time};
 ghost use Rattle.hist_read.specs.Reads.{near, nearest_from, far_value};
@@ -35,7 +35,7 @@ fn value_at<A: Archive>(
 ) -> Result<Option<Held>, StoreFault>
     ensures asks { Asks (A.state archive.old) (A.state archive.new) result
         (λ h. h
-        ≡ current (cut (A.state archive.old).content (number_of within.now)) node.now time) }
+        ≡ live_value (cut (A.state archive.old).content (number_of within.now)) node.now time) }
     ensures asked { IsAskedWithin 1 (A.asked archive.old) (A.asked archive.new) }
 {
     let found = archive.range(alloc, node, time, time, Direction::Forward, 1, within)?;

@@ -20,7 +20,7 @@ use Rattle.hist_update.specs.declared.request.Request.{Request}
 use Rattle.archive.specs.Fault.{store_fault_status}
 use Rattle.archive.specs.Steps.{Fallible, Yields}
 use Rattle.std.proofs.lemmas.List.{append-nil}
-use Rattle.archive.specs.Store.{StepResult, Done, NoMemory, Stands, StoreFailed}
+use Rattle.archive.specs.Store.{StepResult, Done, NoMemory, RecordStands, StoreFailed}
 use Rattle.records.specs.Moments.{ticks_of}
 use Rattle.hist_update.specs.Outcome.{Operation, Write, DeleteAt, Change, Outcome, Refused, Added, change_by, checked_size, fits_type, source_time, writing, outcome, content_after, conflict, done, is_live, checked_change}
 use Rattle.hist_update.proofs.OutcomeParts.{deletion, stamped, is_too_long, outcome_of}
@@ -128,16 +128,16 @@ record_new R own request op code r e = record { above = λ s h. new_above R own 
 
 -- the record of what was asked for stands behind a break
 abbrev pub IsStanding : Content → ℕ → Request → Operation → StepResult → Type 0
-IsStanding R own request op m = (m ≡ Stands) × (r : Record) × (left_by R (outcome R own request op) m ≡ put r R) × IsRecordOf request own op r × IsNewBehind R request r
+IsStanding R own request op m = (m ≡ RecordStands) × (r : Record) × (left_by R (outcome R own request op) m ≡ put r R) × IsRecordOf request own op r × IsNewBehind R request r
 
-standing_by : (R : Content) (own : ℕ) (request : Request) (op : Operation) (o : Outcome) → outcome R own request op ≡ o → (left_by R (outcome R own request op) Stands ≡ R) ⊎ IsStanding R own request op Stands
-standing_by R own request op (Refused c) e = inl (ap (λ o. left_by R o Stands) e)
-standing_by R own request op (Added c r) e = inr (refl, r, ap (λ o. left_by R o Stands) e, record_made R own request op c r e, record_new R own request op c r e)
+standing_by : (R : Content) (own : ℕ) (request : Request) (op : Operation) (o : Outcome) → outcome R own request op ≡ o → (left_by R (outcome R own request op) RecordStands ≡ R) ⊎ IsStanding R own request op RecordStands
+standing_by R own request op (Refused c) e = inl (ap (λ o. left_by R o RecordStands) e)
+standing_by R own request op (Added c r) e = inr (refl, r, ap (λ o. left_by R o RecordStands) e, record_made R own request op c r e, record_new R own request op c r e)
 
 pub bad_kept : (R : Content) (own : ℕ) (request : Request) (op : Operation) (m : StepResult) → IsBad (code_by (outcome R own request op) m) → (left_by R (outcome R own request op) m ≡ R) ⊎ IsStanding R own request op m
 bad_kept R own request op NoMemory h = inl refl
 bad_kept R own request op (StoreFailed f) h = inl refl
-bad_kept R own request op Stands h = standing_by R own request op (outcome R own request op) refl
+bad_kept R own request op RecordStands h = standing_by R own request op (outcome R own request op) refl
 bad_kept R own request op Done h = inl (go (outcome R own request op) refl h)
   where
     go : (o : Outcome) → outcome R own request op ≡ o → IsBad (code_by o Done) → left_by R o Done ≡ R
@@ -150,7 +150,7 @@ IsDone R own request op m o = (r : Record) × (o ≡ Added (code_by o m) r) × (
 pub good_done : (R : Content) (own : ℕ) (request : Request) (op : Operation) (m : StepResult) → IsGood (code_by (outcome R own request op) m) → IsDone R own request op m (outcome R own request op)
 good_done R own request op NoMemory h = not_both BAD_OUT_OF_MEMORY (omega arith) h
 good_done R own request op (StoreFailed f) h = not_both (store_fault_status f) (fault_bad f) h
-good_done R own request op Stands h = not_both (store_fault_status fault.Broken) (fault_bad fault.Broken) h
+good_done R own request op RecordStands h = not_both (store_fault_status fault.Broken) (fault_bad fault.Broken) h
 good_done R own request op Done h = go (outcome R own request op) refl h
   where
     go : (o : Outcome) → outcome R own request op ≡ o → IsGood (code_by o Done) → IsDone R own request op Done o
@@ -160,7 +160,7 @@ good_done R own request op Done h = go (outcome R own request op) refl h
 pub bad_or_good : (R : Content) (own : ℕ) (request : Request) (op : Operation) (m : StepResult) → IsBad (code_by (outcome R own request op) m) ⊎ IsGood (code_by (outcome R own request op) m)
 bad_or_good R own request op NoMemory = inl (omega arith)
 bad_or_good R own request op (StoreFailed f) = inl (fault_bad f)
-bad_or_good R own request op Stands = inl (fault_bad fault.Broken)
+bad_or_good R own request op RecordStands = inl (fault_bad fault.Broken)
 bad_or_good R own request op Done = go (outcome R own request op) refl
   where
     go : (o : Outcome) → outcome R own request op ≡ o → IsBad (code_by o Done) ⊎ IsGood (code_by o Done)
@@ -174,8 +174,8 @@ left_within R o NoMemory r h = h
 left_within R o (StoreFailed f) r h = h
 left_within R (Refused c) Done r h = h
 left_within R (Added c s) Done r h = has-put s R r (inr h)
-left_within R (Refused c) Stands r h = h
-left_within R (Added c s) Stands r h = has-put s R r (inr h)
+left_within R (Refused c) RecordStands r h = h
+left_within R (Added c s) RecordStands r h = has-put s R r (inr h)
 
 -- what they answer and leave, whatever marks are given
 abbrev pub came_to : ℕ → Request → List Operation → Content → List StepResult → List Status × Content
@@ -222,7 +222,7 @@ left_closed : (R : Content) (own : ℕ) (request : Request) (op : Operation) (m 
 left_closed R own request op NoMemory closed = closed
 left_closed R own request op (StoreFailed f) closed = closed
 left_closed R own request op Done closed = after_closed R own request op closed (outcome R own request op) refl
-left_closed R own request op Stands closed = after_closed R own request op closed (outcome R own request op) refl
+left_closed R own request op RecordStands closed = after_closed R own request op closed (outcome R own request op) refl
 
 all_closed : (own : ℕ) (request : Request) (ops : List Operation) (R : Content) (marks : List StepResult) → IsClosed R → IsClosed (came_to own request ops R marks).1
 all_closed own request [] R marks closed = closed
@@ -230,7 +230,7 @@ all_closed own request (op ∷ ops) R [] closed = all_closed own request ops (le
 all_closed own request (op ∷ ops) R (m ∷ marks) closed = all_closed own request ops (left_by R (outcome R own request op) m) marks (left_closed R own request op m closed)
 
 -- the first of them adds its record, where its code is Good or the record stands, and no other
-one_adds : (may : Bool) (own : ℕ) (request : Request) (op : Operation) (ops : List Operation) (R : Content) (m : StepResult) (marks : List StepResult) → (m ≡ Stands → may ≡ true)
+one_adds : (may : Bool) (own : ℕ) (request : Request) (op : Operation) (ops : List Operation) (R : Content) (m : StepResult) (marks : List StepResult) → (m ≡ RecordStands → may ≡ true)
     → ((T : Content) → AddsEach may request own ops (came_to own request ops T marks).0 T (came_to own request ops T marks).1)
     → AddsEach may request own (op ∷ ops) (code_by (outcome R own request op) m ∷ (came_to own request ops (left_by R (outcome R own request op) m) marks).0) R (came_to own request ops (left_by R (outcome R own request op) m) marks).1
 one_adds may own request op ops R m marks allowed more =
@@ -244,7 +244,7 @@ one_adds may own request op ops R m marks allowed more =
       | inr good ↦ let d = good_done R own request op m good in inr (inl good, d.0, d.3, d.4, subst behind d.2 (more T))
     ]
 
-fine_stands : {X : Type 0} → Done ≡ Stands → X
+fine_stands : {X : Type 0} → Done ≡ RecordStands → X
 fine_stands e = absurd (cc)
 
 pub all_add : (may : Bool) (own : ℕ) (request : Request) (ops : List Operation) (R : Content) (marks : List StepResult) → MayStandBehindBreak may marks

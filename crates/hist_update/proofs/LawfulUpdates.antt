@@ -26,7 +26,7 @@ use Rattle.hist_update.specs.declared.request.Request.{Request}
 use Rattle.hist_update.specs.Outcome.{Operation, Write, DeleteAt, Change, Outcome, Refused, Added, IsRequest, change_by, checked_size, fits_type, source_time, source_pico, writing, outcome, content_after, record_by}
 use Rattle.hist_update.proofs.OutcomeParts.{deletion, is_too_long}
 use Rattle.archive.specs.Steps.{Yields}
-use Rattle.archive.specs.Store.{StepResult, Done, NoMemory, Stands, StoreFailed}
+use Rattle.archive.specs.Store.{StepResult, Done, NoMemory, RecordStands, StoreFailed}
 use Rattle.hist_update.specs.Updates.{left_by, update_all}
 use Rattle.hist_update.specs.Laws.{IsSpelledRequest, IsOperation}
 use Rattle.hist_update.proofs.Deletions.{deletion_short}
@@ -126,7 +126,7 @@ left_lawful : (R : Content) (own : ℕ) (request : Request) (op : Operation) (m 
 left_lawful R own request op NoMemory replica lawful spelled is content = content
 left_lawful R own request op (StoreFailed f) replica lawful spelled is content = content
 left_lawful R own request op Done replica lawful spelled is content = after_lawful R own request op replica lawful spelled is content (outcome R own request op) refl
-left_lawful R own request op Stands replica lawful spelled is content = after_lawful R own request op replica lawful spelled is content (outcome R own request op) refl
+left_lawful R own request op RecordStands replica lawful spelled is content = after_lawful R own request op replica lawful spelled is content (outcome R own request op) refl
 
 all_lawful : (own : ℕ) (request : Request) (ops : List Operation) (R : Content) (marks : List StepResult) → IsReplica own → IsRequest request → IsSpelledRequest request → AllByRecursion IsOperation ops
     → IsLawfulContent R → IsLawfulContent (came_to own request ops R marks).1

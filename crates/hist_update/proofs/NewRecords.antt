@@ -11,7 +11,7 @@ use Rattle.stamp.specs.Limits.{greatest, lift}
 use Rattle.records.specs.declared.record.Record.{Record}
 use Rattle.records.specs.declared.shown.Held.{Held}
 use Rattle.records.specs.Lists.{Has, last}
-use Rattle.records.specs.Records.{is_delete, record_stamp_cmp, versions, current}
+use Rattle.records.specs.Records.{is_delete, record_stamp_cmp, versions, live_value}
 use Rattle.records.specs.Contents.{Content, vec, top, put, IsClosed, IsNext, IsLatest}
 use Rattle.records.proofs.PutLemmas.{has-put, has_from_put, top_bounds}
 use Rattle.records.proofs.CloseLemmas.{closed_stamps}
@@ -106,11 +106,11 @@ pub new_last : (R : Content) (own : ℕ) (request : Request) (op : Operation) (c
 new_last R own request op code r closed e = latest_last (put r R) r (closed_stamps (put r R) (apart_new R own request op code r closed e)) (latest_new R own request op code r e)
 
 pub new_written : (R : Content) (own : ℕ) (request : Request) (op : Operation) (code : Status) (r : Record) → IsClosed R → outcome R own request op ≡ Added code r → is_delete r.asked ≡ false
-    → (h : Held) × (current (put r R) r.node r.time ≡ Some h) × (h.value ≡ r.value)
+    → (h : Held) × (live_value (put r R) r.node r.time ≡ Some h) × (h.value ≡ r.value)
 new_written R own request op code r closed e w =
     let k = latest_written (put r R) r (closed_stamps (put r R) (apart_new R own request op code r closed e)) (latest_new R own request op code r e) w in
     (k.0, k.1, k.2)
 
 pub new_deleted : (R : Content) (own : ℕ) (request : Request) (op : Operation) (code : Status) (r : Record) → IsClosed R → outcome R own request op ≡ Added code r → is_delete r.asked ≡ true
-    → current (put r R) r.node r.time ≡ None
+    → live_value (put r R) r.node r.time ≡ None
 new_deleted R own request op code r closed e d = latest_deleted (put r R) r (closed_stamps (put r R) (apart_new R own request op code r closed e)) (latest_new R own request op code r e) d

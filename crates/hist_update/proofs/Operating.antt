@@ -33,7 +33,7 @@ use Rattle.archive.specs.declared.fault.LearnFault.TheVariants as refused
 use Rattle.archive.specs.declared.setback.StepError.TheVariants as setback
 use Rattle.archive.specs.Fault.{store_fault_status}
 use Rattle.archive.specs.Steps.{Yields}
-use Rattle.archive.specs.Store.{Store, StepResult, Done, NoMemory, Stands, StoreFailed, CountsFaults, Asks, Learns, store_fault_in, answer_to, MayBeFound, IsLeft}
+use Rattle.archive.specs.Store.{Store, StepResult, Done, NoMemory, RecordStands, StoreFailed, CountsFaults, Asks, Learns, store_fault_in, answer_to, MayBeMarksAfterRecovery, IsLeft}
 use Rattle.archive.proofs.Results.{err-ok}
 use Rattle.archive.proofs.Calls.{in_use, left_in_use, passes-none}
 use Rattle.archive.specs.Growth.{is_possible, IsUpdateOf, Grows}
@@ -171,7 +171,7 @@ left_by_query a b x P S p honest same h = left-alone b S p.leaves.after honest (
 
 -- one mark, and the content stays
 one_stays : (a : Store) (request : Request) (op : Operation) (mark : StepResult) (code : Status) (S : Content) → S ≡ a.content → code_by (outcome a.content a.own request op) mark ≡ code → left_by a.content (outcome a.content a.own request op) mark ≡ a.content
-    → (marks : List StepResult) × MayBeFound false (mark ∷ []) marks × Yields (update_one a.own request op a.content) marks (code, S) × Grows a.own a.content S
+    → (marks : List StepResult) × MayBeMarksAfterRecovery false (mark ∷ []) marks × Yields (update_one a.own request op a.content) marks (code, S) × Grows a.own a.content S
 one_stays a request op mark code S is told left = (
   mark ∷ [],
   found-same false (mark ∷ []),
@@ -279,9 +279,9 @@ settled-submitted a b c request op change place result lawful timed asked p e (a
     quiet x none l = subst (λ f. CountsFaults b c (option_to_list f)) none l.leaves.passes
 
     -- with its record
-    one_adds : (mark told : StepResult) (code : Status) (S : Content) → IsChangePlace a request change.time place → c.honest → b.honest → S ≡ put (candidate_of request place change) a.content → MayBeFound false (told ∷ []) (mark ∷ [])
+    one_adds : (mark told : StepResult) (code : Status) (S : Content) → IsChangePlace a request change.time place → c.honest → b.honest → S ≡ put (candidate_of request place change) a.content → MayBeMarksAfterRecovery false (told ∷ []) (mark ∷ [])
         → code_by (Added (done change.asked place.live) (candidate_of request place change)) mark ≡ code → left_by a.content (Added (done change.asked place.live) (candidate_of request place change)) mark ≡ put (candidate_of request place change) a.content
-        → (marks : List StepResult) × MayBeFound false (told ∷ []) marks × Yields (update_one a.own request op a.content) marks (code, S) × Grows a.own a.content S
+        → (marks : List StepResult) × MayBeMarksAfterRecovery false (told ∷ []) marks × Yields (update_one a.own request op a.content) marks (code, S) × Grows a.own a.content S
     one_adds mark told code S at honest before is found coded left =
         let k = known before at in (
           mark ∷ [],
@@ -299,10 +299,10 @@ settled-submitted a b c request op change place result lawful timed asked p e (a
 
     -- the store met a fault
     met : (fault : StoreFault) (S R : Content) → IsChangePlace a request change.time place → c.honest → b.honest → R ≡ a.content → IsWithOrWithout b (candidate_of request place change) fault R S
-        → (marks : List StepResult) × MayBeFound false (StoreFailed fault ∷ []) marks × Yields (update_one a.own request op a.content) marks (store_fault_status fault, S) × Grows a.own a.content S
+        → (marks : List StepResult) × MayBeMarksAfterRecovery false (StoreFailed fault ∷ []) marks × Yields (update_one a.own request op a.content) marks (store_fault_status fault, S) × Grows a.own a.content S
     met fault S R at honest before was (inl without) = one_stays a request op (StoreFailed fault) (store_fault_status fault) S (without ∙ was) refl refl
     met fault S R at honest before was (inr with) =
-        one_adds Stands (StoreFailed fault) (store_fault_status fault) S at honest before (with.3 ∙ ap (put (candidate_of request place change)) was) (inr (refl, ap StoreFailed with.1, refl), refl) (sym (ap store_fault_status with.1)) refl
+        one_adds RecordStands (StoreFailed fault) (store_fault_status fault) S at honest before (with.3 ∙ ap (put (candidate_of request place change)) was) (inr (refl, ap StoreFailed with.1, refl), refl) (sym (ap store_fault_status with.1)) refl
 
     go : (x : Result Bool LearnFault) → Learns b c (candidate_of request place change) x → Operates a c request op (told_of x (done change.asked place.live))
     go (Ok x) l = record {

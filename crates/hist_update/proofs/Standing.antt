@@ -10,7 +10,7 @@ use Rattle.ua_variant.specs.declared.value.ValueType.{ValueType}
 use Rattle.records.specs.Contents.{Content, IsWithin}
 use Rattle.archive.specs.Fault.{status_told}
 use Rattle.archive.specs.Steps.{Fallible, step, memory, Yields}
-use Rattle.archive.specs.Store.{StepResult, Done, NoMemory, Stands, StoreFailed}
+use Rattle.archive.specs.Store.{StepResult, Done, NoMemory, RecordStands, StoreFailed}
 use Rattle.hist_update.specs.declared.request.Request.{Request}
 use Rattle.hist_update.specs.Codes.{asked_by, list_refusal, first_other}
 use Rattle.hist_update.specs.Outcome.{Operation, DeleteAt}
@@ -71,7 +71,7 @@ passing_memory : (may : Bool) → Passing may memory
 passing_memory may [] allowed = tt
 passing_memory may (Done ∷ marks) allowed = allowed.1
 passing_memory may (NoMemory ∷ marks) allowed = allowed.1
-passing_memory may (Stands ∷ marks) allowed = allowed
+passing_memory may (RecordStands ∷ marks) allowed = allowed
 passing_memory may (StoreFailed fault ∷ marks) allowed = allowed
 
 passing_step : (may : Bool) → Passing may (step status_told)

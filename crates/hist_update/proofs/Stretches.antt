@@ -24,14 +24,14 @@ use Rattle.archive.specs.Fault.{store_fault_status, status_told}
 use Rattle.archive.specs.Reading.{range_of}
 use Rattle.archive.specs.Steps.{Fallible, step, Refines, Yields}
 use Rattle.archive.specs.Growth.{Grows}
-use Rattle.archive.specs.Store.{Store, StepResult, Done, StoreFailed, breaks, Asks, MayBeFound, IsLeft}
+use Rattle.archive.specs.Store.{Store, StepResult, Done, StoreFailed, breaks, Asks, MayBeMarksAfterRecovery, IsLeft}
 use Rattle.archive.proofs.Calls.{asks-then, in_use, left_in_use}
 use Rattle.archive.proofs.Acting.{left-alone, left-before, there-behind}
 use Rattle.hist_update.specs.declared.request.Request.{Request}
 use Rattle.hist_update.specs.Codes.{first_other}
 use Rattle.hist_update.specs.Outcome.{DeleteAt}
 use Rattle.hist_update.specs.Operating.{Begins, BeginsListed}
-use Rattle.hist_update.specs.Updates.{Updated, refused_update, unless, past, begin, last_of, live_times_in, stretch_refusal, listing_refusal, delete_listed, delete_raw, AreEnded, needs_of, needs_of_stretch}
+use Rattle.hist_update.specs.Updates.{Updated, refused_update, unless, past, begin, last_moment_of_range, live_times_in, stretch_refusal, listing_refusal, delete_listed, delete_raw, AreEnded, needs_of, needs_of_stretch}
 use Rattle.hist_update.proofs.Asking.{moves-behind}
 use Rattle.hist_update.proofs.Answering.{acts-refused, acts-free, acts-hindered, none-ended}
 
@@ -145,7 +145,7 @@ stretch-failed a c fault P request start end_ result p is =
 
 -- the listing was answered
 pub stretch-listed : {B : Type 0} (a b c : Store) (lives : B) (items : B → List Held) (times : List ℤ) (request : Request) (start end_ from to : ℤ) (result : HistoryUpdateResult)
-    → Asks a b (Ok lives) (λ w. items w ≡ take 1001 (range_of a.content request.node from to Forward)) → from ≡ moment start 0 → to ≡ last_of start end_ → times ≡ map (λ (h : Held). h.time) (items lives)
+    → Asks a b (Ok lives) (λ w. items w ≡ take 1001 (range_of a.content request.node from to Forward)) → from ≡ moment start 0 → to ≡ last_moment_of_range start end_ → times ≡ map (λ (h : Held). h.time) (items lives)
     → BeginsListed b c request times result → AnswersPast a c request start end_ result
 stretch-listed {B} a b c lives items times request start end_ from to result p first final is u = (
   Done ∷ u.used,
@@ -154,7 +154,7 @@ stretch-listed {B} a b c lives items times request start end_ from to result p f
       let (marks, so, R, was, does, grows) = u.acts.acts honest S h in
       let from_there : R ≡ a.content = left-alone b R p.leaves.after (u.acts.passes.honest honest) (left_in_use a b p.leaves) was ∙ same in (
         Done ∷ marks,
-        (inl refl, subst (λ (x : Bool). MayBeFound x u.used marks) (left_in_use a b p.leaves) so),
+        (inl refl, subst (λ (x : Bool). MayBeMarksAfterRecovery x u.used marks) (left_in_use a b p.leaves) so),
         step_past marks S told (subst (λ (Q : Content). Yields {A = Updated} (delete_listed b.own request times Q) marks (result, S)) from_there does),
         subst (λ (Q : Content). Grows a.own Q S) from_there (subst (λ (own : ℕ). Grows own R S) p.leaves.passes.own grows),
       )),
@@ -172,7 +172,7 @@ stretch-listed {B} a b c lives items times request start end_ from to result p f
     own = p.leaves.passes.own
 
     found : items lives ≡ take 1001 (range_of a.content request.node from to Forward) → times ≡ take 1001 (live_times_in a.content request.node start end_)
-    found told = is ∙ (ap (map (λ (h : Held). h.time)) (told ∙ (ap (λ t. take 1001 (range_of a.content request.node t to Forward)) first ∙ ap (λ t. take 1001 (range_of a.content request.node (moment start 0) t Forward)) final)) ∙ sym (take-map (λ (h : Held). h.time) 1001 (range_of a.content request.node (moment start 0) (last_of start end_) Forward)))
+    found told = is ∙ (ap (map (λ (h : Held). h.time)) (told ∙ (ap (λ t. take 1001 (range_of a.content request.node t to Forward)) first ∙ ap (λ t. take 1001 (range_of a.content request.node (moment start 0) t Forward)) final)) ∙ sym (take-map (λ (h : Held). h.time) 1001 (range_of a.content request.node (moment start 0) (last_moment_of_range start end_) Forward)))
 
     step_past : (marks : List StepResult) (S : Content) → items lives ≡ take 1001 (range_of a.content request.node from to Forward)
         → Yields {A = Updated} (delete_listed b.own request times a.content) marks (result, S)

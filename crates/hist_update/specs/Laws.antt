@@ -17,7 +17,7 @@ use Rattle.records.specs.Records.{is_delete}
 use Rattle.records.specs.declared.record.Record.{Record}
 use Rattle.archive.specs.declared.fault.StoreFault.TheVariants.{Broken}
 use Rattle.archive.specs.Fault.{store_fault_status}
-use Rattle.archive.specs.Store.{StepResult, Stands}
+use Rattle.archive.specs.Store.{StepResult, RecordStands}
 use Rattle.hist_update.specs.declared.request.Request.{Request}
 use Rattle.hist_update.specs.Outcome.{Operation, Write, DeleteAt, change_by, is_live}
 
@@ -59,7 +59,7 @@ HasRecordOf before after request own operation =
 
 -- the record of an operation stands behind a break only where this says that one may
 abbrev pub MayStandBehindBreak : (may : Bool) → List StepResult → Type 0
-MayStandBehindBreak may marks = AllByRecursion (λ mark. mark ≡ Stands → may ≡ true) marks
+MayStandBehindBreak may marks = AllByRecursion (λ mark. mark ≡ RecordStands → may ≡ true) marks
 
 -- the code is Good, or the store broke and the record stands
 abbrev pub IsDone : (may : Bool) → Status → Type 0

@@ -10,7 +10,7 @@ use Rattle.ua_variant.specs.declared.data.DataValue.{DataValue}
 use Rattle.ua_variant.specs.declared.value.Variant.{Variant}
 use Rattle.ua_variant.specs.declared.value.ValueType.{ValueType}
 use Rattle.records.specs.Contents.{Content, vec, top, put}
-use Rattle.records.specs.Records.{current, is_delete}
+use Rattle.records.specs.Records.{live_value, is_delete}
 use Rattle.records.specs.Moments.{moment, ticks_of}
 use Rattle.records.specs.Spelling.{empty, fields, longest}
 use Rattle.records.specs.declared.record.Record.{Record}
@@ -110,7 +110,7 @@ done asked live =
 
 -- a value is live at a node and time
 abbrev pub is_live : Content → NodeId → ℤ → Bool
-is_live R node time = is_some (current R node time)
+is_live R node time = is_some (live_value R node time)
 
 -- a change is made, unless it isn't possible or no tick is left: its record is its origin's next,
 -- with the tick that follows all that are held

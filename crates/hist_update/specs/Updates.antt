@@ -16,7 +16,7 @@ use Rattle.archive.specs.declared.reading.Direction.TheVariants.{Forward}
 use Rattle.archive.specs.Fault.{status_told}
 use Rattle.archive.specs.Reading.{range_of}
 use Rattle.archive.specs.Steps.{Fallible, give, step, memory, and_then, each}
-use Rattle.archive.specs.Store.{StepResult, Done, Stands, breaks}
+use Rattle.archive.specs.Store.{StepResult, Done, RecordStands, breaks}
 use Rattle.hist_update.specs.declared.request.Request.{Request}
 use Rattle.hist_update.specs.Codes.{asked_by, list_refusal, first_other}
 use Rattle.hist_update.specs.Outcome.{Operation, Write, DeleteAt, Outcome, change_by, outcome, code_in, content_after}
@@ -30,7 +30,7 @@ code_by o mark = unwrap_or (status_told mark) (code_in o)
 -- an operation that something came in the way of changes nothing, but where the store broke and its
 -- record stands
 abbrev pub left_by : Content → Outcome → StepResult → Content
-left_by R o mark = elim mark [ Done ↦ content_after R o | Stands ↦ content_after R o | _ ↦ R ]
+left_by R o mark = elim mark [ Done ↦ content_after R o | RecordStands ↦ content_after R o | _ ↦ R ]
 
 -- one operation is one step: its code, and what it leaves
 abbrev pub update_one : ℕ → Request → Operation → Content → Fallible (Status × Content)
@@ -105,13 +105,13 @@ delete_at own request times R =
 
 -- the last moment of the stretch from start up to but without end; of one whose start and end are
 -- equal, the last one of that time
-abbrev pub last_of : ℤ → ℤ → ℤ
-last_of start end_ = moment (if int_eq start end_ then end_ else end_ -ℤ pos 1) 9999
+abbrev pub last_moment_of_range : ℤ → ℤ → ℤ
+last_moment_of_range start end_ = moment (if int_eq start end_ then end_ else end_ -ℤ pos 1) 9999
 
 -- the moments of the node's live values from start up to but without end
 abbrev pub live_times_in : Content → NodeId → ℤ → ℤ → List ℤ
 live_times_in R node start end_ =
-    map (λ h. h.time) (range_of R node (moment start 0) (last_of start end_) Forward)
+    map (λ h. h.time) (range_of R node (moment start 0) (last_moment_of_range start end_) Forward)
 
 -- why it is refused by what it says itself
 abbrev pub stretch_refusal : Bool → ℤ → ℤ → Option Status

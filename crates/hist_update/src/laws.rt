@@ -12,11 +12,11 @@ ghost use Rattle.ua_variant.specs.declared.data.DataValue.{DataValue as Data};
 ghost use Rattle.ua_variant.specs.declared.value.ValueType.{ValueType as Kind};
 ghost use Rattle.records.specs.Lists.{Has, IsPairwise, last};
 ghost use Rattle.records.specs.Contents.{Content, IsClosed, IsNext, IsWithin, put};
-ghost use Rattle.records.specs.Records.{is_delete, versions, current};
+ghost use Rattle.records.specs.Records.{is_delete, versions, live_value};
 ghost use Rattle.records.specs.declared.record.Record.{Record};
 ghost use Rattle.ua_variant.specs.declared.update_type.HistoryUpdateType.TheVariants.{Insert, Replace};
 ghost use Rattle.records.specs.declared.shown.Held.{Held};
-ghost use Rattle.archive.specs.Store.{StepResult, Stands, IsLawfulContent};
+ghost use Rattle.archive.specs.Store.{StepResult, RecordStands, IsLawfulContent};
 ghost use Rattle.archive.specs.Steps.{Yields};
 ghost use Rattle.hist_update.specs.declared.request.Request.{Request as Asker};
 ghost use Rattle.hist_update.specs.Codes.{asked_by};
@@ -38,11 +38,11 @@ pub fn new_records_come_last()
     ensures written { (R : Content) (own : ℕ) (q : Asker) (op : Operation) (code : Code)
         (r : Record)
         → IsClosed R → outcome R own q op ≡ Added code r → is_delete r.asked ≡ false
-        → (h : Held) × (current (put r R) r.node r.time ≡ Some h) × (h.value ≡ r.value) }
+        → (h : Held) × (live_value (put r R) r.node r.time ≡ Some h) × (h.value ≡ r.value) }
     ensures deleted { (R : Content) (own : ℕ) (q : Asker) (op : Operation) (code : Code)
         (r : Record)
         → IsClosed R → outcome R own q op ≡ Added code r → is_delete r.asked ≡ true
-        → current (put r R) r.node r.time ≡ None }
+        → live_value (put r R) r.node r.time ≡ None }
 {}
 
 /// A code that isn't Good is Bad, and then the content is what it was, or, where the store broke and its
@@ -52,7 +52,7 @@ pub fn codes_tell_what_was_done()
         → IsBad (code_by (outcome R own q op) m)
         → (left_by R (outcome R own q op) m ≡ R)
         ⊎
-        ((m ≡ Stands) × (r : Record) × (left_by R (outcome R own q op) m ≡ put r R)
+        ((m ≡ RecordStands) × (r : Record) × (left_by R (outcome R own q op) m ≡ put r R)
         × IsRecordOf q own op r × IsNewBehind R q r) }
     ensures good { (R : Content) (own : ℕ) (q : Asker) (op : Operation) (m : StepResult)
         → IsGood (code_by (outcome R own q op) m)

@@ -2,7 +2,7 @@
 
 ghost use Rattle.std.specs.Prelude.{◌≡◌, ◌+◌, ◌≤◌, min, is_some, IfOk, IfSome, IfNone, false, Ok, Err, None};
 ghost use Rattle.stamp.specs.Limits.{greatest, lift};
-ghost use Rattle.records.specs.Records.{held, current, is_delete};
+ghost use Rattle.records.specs.Records.{held, live_value, is_delete};
 ghost use Rattle.records.specs.Spelling.{empty, IsLawfulRecord};
 ghost use Rattle.records.specs.Contents.{vec, top};
 ghost use Rattle.archive.specs.Store.{Store, Asks};

@@ -15,7 +15,7 @@ ghost use Rattle.archive.specs.Store.{StepResult, Asks, IsLeft};
 ghost use Rattle.hist_update.specs.Codes.{asked_by, list_refusal, first_other};
 ghost use Rattle.hist_update.specs.Outcome.{IsRequest, Write, DeleteAt};
 ghost use Rattle.hist_update.specs.Operating.{Operations, Begins, BeginsListed};
-ghost use Rattle.hist_update.specs.Updates.{update_data, delete_at, delete_raw, refused_update, data_refusal, writes, deletes_at, last_of, stretch_refusal, listing_refusal, AreEnded, needs_of, needs_of_stretch};
+ghost use Rattle.hist_update.specs.Updates.{update_data, delete_at, delete_raw, refused_update, data_refusal, writes, deletes_at, last_moment_of_range, stretch_refusal, listing_refusal, AreEnded, needs_of, needs_of_stretch};
 
 use crate::operate::{code_of, delete, write};
 use crate::request::Request;
@@ -343,7 +343,7 @@ fn stretch_refusal(modified: bool, start: Ticks, end: Ticks) -> Option<Status>
 fn last_of(start: Ticks, end: Ticks) -> Moment
     requires start { pos 1 ≤ℤ start.0 }
     requires end { start.0 ≤ℤ end.0 }
-    ensures { result ≡ last_of start.0 end.0 }
+    ensures { result ≡ last_moment_of_range start.0 end.0 }
 {
     let ticks = if start.0 == end.0 { end.0 } else { end.0 - 1 };
     Moment { ticks, pico: 9999 }

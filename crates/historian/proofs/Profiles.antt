@@ -4,7 +4,7 @@ use Rattle.std.specs.Prelude.{Option}
 use Rattle.std.specs.Borrow.{Bor}
 use Rattle.std.specs.List.{list_any}
 use Rattle.std.specs.Option.{option_copied}
-use Rattle.ua_settings.specs.Settings.{Values}
+use Rattle.ua_settings.specs.Settings.{SettingsValues}
 use Rattle.historian.specs.Endpoints.{endpoint_of, takes_transport}
 use Rattle.historian.proofs.EndpointsParts.{is_served_profile, endpoints_for}
 
@@ -16,8 +16,8 @@ pub takes_copied : (profiles : List (Option (Bor (List ℕ)))) → (profiles ≡
 takes_copied [] some = absurd (some refl)
 takes_copied (p ∷ ps) some = any_copied (p ∷ ps)
 
-pub endpoints-none : (settings : Values) (profiles : List (Option (List ℕ))) → takes_transport profiles ≡ false → endpoints_for settings profiles ≡ []
+pub endpoints-none : (settings : SettingsValues) (profiles : List (Option (List ℕ))) → takes_transport profiles ≡ false → endpoints_for settings profiles ≡ []
 endpoints-none settings profiles others = rw others refl
 
-pub endpoints-one : (settings : Values) (profiles : List (Option (List ℕ))) → takes_transport profiles ≡ true → endpoints_for settings profiles ≡ endpoint_of settings ∷ []
+pub endpoints-one : (settings : SettingsValues) (profiles : List (Option (List ℕ))) → takes_transport profiles ≡ true → endpoints_for settings profiles ≡ endpoint_of settings ∷ []
 endpoints-one settings profiles this = rw this refl

@@ -9,7 +9,7 @@ use Rattle.ua_services.specs.declared.endpoints.ApplicationType.TheVariants.{Ser
 use Rattle.ua_services.specs.declared.endpoints.MessageSecurityMode.TheVariants as mode
 use Rattle.ua_services.specs.declared.endpoints.UserTokenType.TheVariants.{Anonymous, UserName}
 use Rattle.ua_session.specs.Users.{Allowed}
-use Rattle.ua_settings.specs.Settings.{Values}
+use Rattle.ua_settings.specs.Settings.{SettingsValues}
 use Rattle.ua_binary.specs.declared.values.LocalizedText.{LocalizedText}
 
 -- the one transport profile that is served: UA TCP, UA Binary (Part 7)
@@ -21,11 +21,11 @@ abbrev pub application_name : LocalizedText
 application_name = record { locale = None; text = Some (codes "uahist") }
 
 -- its type, and the URL at which it is found
-abbrev pub found_at : Values → ℤ × List (Option (List ℕ))
+abbrev pub found_at : SettingsValues → ℤ × List (Option (List ℕ))
 found_at settings = (application_number Server, Some settings.url ∷ [])
 
 -- the server as an application (Part 4, 7.2)
-abbrev pub application_of : Values → ApplicationFields
+abbrev pub application_of : SettingsValues → ApplicationFields
 application_of settings =
     (Some settings.application, (Some (codes "urn:uahist"), (application_name, found_at settings)))
 
@@ -39,15 +39,15 @@ tokens_of allowed =
     else [])
 
 -- the identity tokens that users may have, the transport, and the security level
-abbrev pub carriage_of : Values → List TokenFields × (Option (List ℕ) × ℕ)
+abbrev pub carriage_of : SettingsValues → List TokenFields × (Option (List ℕ) × ℕ)
 carriage_of settings = (tokens_of settings.users, (Some transport_profile, 0))
 
 -- how the endpoint is reached: without security
-abbrev pub access_of : Values → AccessFields
+abbrev pub access_of : SettingsValues → AccessFields
 access_of settings = (mode_number mode.None, (Some policy_none, carriage_of settings))
 
 -- the one endpoint (Part 4, 7.14)
-abbrev pub endpoint_of : Values → EndpointFields
+abbrev pub endpoint_of : SettingsValues → EndpointFields
 endpoint_of settings = (Some settings.url, (application_of settings, access_of settings))
 
 -- the transport profile that is served, with no name as an empty one

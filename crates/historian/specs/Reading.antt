@@ -59,18 +59,19 @@ answer_items answer item xs R =
 -- ---- what is refused of an item, whichever node it is of
 
 -- a text that is null or empty; as an index range it stands for the whole value
-abbrev pub is_whole : Option (List ℕ) → Bool
-is_whole given = elim given [ None ↦ true | Some [] ↦ true | Some (byte ∷ bytes) ↦ false ]
+abbrev pub is_null_or_empty : Option (List ℕ) → Bool
+is_null_or_empty given = elim given [ None ↦ true | Some [] ↦ true | Some (byte ∷ bytes) ↦ false ]
 
 -- the default encoding; the namespace isn't looked at
 abbrev pub is_default : QualifiedName → Bool
 is_default name =
-    is_whole name.name || pointwise nat_eq (unwrap_or name.name []) (codes "Default Binary")
+    is_null_or_empty name.name || pointwise nat_eq (unwrap_or name.name []) (codes "Default Binary")
 
 -- no range of an index, and no encoding but the default
 abbrev pub value_rules : Option (List ℕ) → QualifiedName → List (Bool × Status)
 value_rules range encoding =
-    (is_whole range, BAD_INDEX_RANGE_INVALID) ∷ (is_default encoding, BAD_DATA_ENCODING_UNSUPPORTED)
+    (is_null_or_empty range, BAD_INDEX_RANGE_INVALID)
+        ∷ (is_default encoding, BAD_DATA_ENCODING_UNSUPPORTED)
     ∷ []
 
 -- ---- Read

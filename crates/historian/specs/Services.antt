@@ -9,7 +9,7 @@ use Rattle.ua_binary.specs.declared.values.Ticks.{Ticks}
 use Rattle.ua_session.specs.declared.fault.SessionFault.{SessionFault}
 use Rattle.ua_session.specs.Fault.{session_fault_status}
 use Rattle.ua_session.specs.Sessions.{SessionsState, create_answer, activate_answer, close_answer, user_at, with_new, with_user, without_session}
-use Rattle.ua_settings.specs.Settings.{Values}
+use Rattle.ua_settings.specs.Settings.{SettingsValues}
 use Rattle.records.specs.Contents.{Content}
 use Rattle.archive.specs.Store.{Store, StepResult, Done, NoMemory}
 use Rattle.archive.specs.Steps.{Fallible, give, step, and_then}
@@ -22,12 +22,12 @@ use Rattle.historian.specs.Updating.{update_history}
 
 -- a server: its settings, and the number and the id of its replica of the archive
 pub record ServerConfig : Type 0 where
-  pub settings : Values
+  pub settings : SettingsValues
   pub own : ℕ
   pub id : List ℕ
 
 -- the server of an archive
-abbrev pub site_of : Values → Store → ServerConfig
+abbrev pub site_of : SettingsValues → Store → ServerConfig
 site_of settings store = record { settings = settings; own = store.own; id = store.id }
 
 -- what a message comes to: its response, the sessions that it leaves, and the content
@@ -72,8 +72,9 @@ activated token sessions user =
     (Activated, record sessions { alive = with_user token user sessions.alive })
 
 -- the session is closed
-abbrev pub closed : NodeId → SessionsState → Answer × SessionsState
-closed token sessions = (Closed, record sessions { alive = without_session token sessions.alive })
+abbrev pub close_outcome : NodeId → SessionsState → Answer × SessionsState
+close_outcome token sessions =
+    (Closed, record sessions { alive = without_session token sessions.alive })
 
 -- What a service answers, and what it leaves: a session more, a session's user, a session less,
 -- which takes no memory; the last four want a session that was activated.
@@ -88,7 +89,7 @@ served site now token (ActivateSession claim) sessions R =
     let answer = activate_answer sessions token site.settings.users claim in
     step (λ mark. (called sessions (activated token sessions) answer mark, R))
 served site now token CloseSession sessions R =
-    give (called sessions (λ _. closed token sessions) (close_answer sessions token) Done, R)
+    give (called sessions (λ _. close_outcome token sessions) (close_answer sessions token) Done, R)
 served site now token (Browse nodes) sessions R =
     in_session sessions (user_at sessions token)
     (λ user. give (browse site.settings.space nodes, R)) R

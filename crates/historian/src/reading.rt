@@ -22,7 +22,7 @@ ghost use Rattle.hist_read.specs.Asking.{first_time};
 ghost use Rattle.hist_read.specs.Finding.{Finds};
 ghost use Rattle.hist_read.specs.Reads.{greatest_time};
 ghost use Rattle.historian.specs.declared.service.Service.TheVariants as service;
-ghost use Rattle.historian.specs.Reading.{is_whole, is_default, value_rules, valued, latest, item_told, value_step, read_item, read};
+ghost use Rattle.historian.specs.Reading.{is_null_or_empty, is_default, value_rules, valued, latest, item_told, value_step, read_item, read};
 ghost use Rattle.historian.specs.Requests.{call_in};
 ghost use Rattle.historian.specs.Services.{ServerConfig, site_of, answered_call};
 ghost use Rattle.historian.specs.Telling.{ComesWritten, Responds};
@@ -63,7 +63,7 @@ const LAST: Moment = Moment {
 
 /// Whether a range of an array stands for the whole.
 fn is_whole(range: Option<&str>) -> bool
-    ensures { result ≡ is_whole (option_copied range.entry) }
+    ensures { result ≡ is_null_or_empty (option_copied range.entry) }
 {
     match range {
         None => true,

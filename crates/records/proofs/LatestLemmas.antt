@@ -10,7 +10,7 @@ use Rattle.std.proofs.Common.{ℤ}
 use Rattle.records.specs.Lists.{Has, Rises, IsApart, sort_by, last}
 use Rattle.records.proofs.ContentsParts.{held_of}
 use Rattle.records.proofs.SameParts.{node_code}
-use Rattle.records.specs.Records.{record_stamp_cmp, name_cmp, is_at, is_delete, is_beyond, write, held, versions, current, entries_after, modifications_at, missing}
+use Rattle.records.specs.Records.{record_stamp_cmp, name_cmp, is_at, is_delete, is_beyond, write, held, versions, live_value, entries_after, modifications_at, missing}
 use Rattle.records.specs.Contents.{Content, IsLatest, HasOther}
 use Rattle.records.proofs.Same.{Decides-is_same}
 use Rattle.records.proofs.Sorting.{all-has, has-filter, has_from_filter, pairwise-filter, has-sort_by, has_from_sort_by, rises-sort_by, same_members, asymmetric, irreflexive}
@@ -75,12 +75,12 @@ extra_other R r apart h = (
   λ o. lt-ltb _ _ (two_or_more (versions R r.node r.time) r o.0 (in_story R r h) (to_story R r.node r.time o.0 o.1 o.2 o.3) o.4),
 )
 
-pub latest_deleted : (R : Content) (r : Record) → IsApart record_stamp_cmp R → IsLatest R r → is_delete r.asked ≡ true → current R r.node r.time ≡ None
+pub latest_deleted : (R : Content) (r : Record) → IsApart record_stamp_cmp R → IsLatest R r → is_delete r.asked ≡ true → live_value R r.node r.time ≡ None
 latest_deleted R r apart latest d =
     let extra = nat_lt 1 (length (versions R r.node r.time)) in
     ap (λ o. held_of extra (write o)) (latest_last R r apart latest) ∙ ap (λ b. held_of extra (cond b None (Some r))) d
 
-pub latest_written : (R : Content) (r : Record) → IsApart record_stamp_cmp R → IsLatest R r → is_delete r.asked ≡ false → (h : Held) × (current R r.node r.time ≡ Some h) × (h.value ≡ r.value) × (h.time ≡ r.time) × ((h.extra ≡ true) ↔ HasOther R r)
+pub latest_written : (R : Content) (r : Record) → IsApart record_stamp_cmp R → IsLatest R r → is_delete r.asked ≡ false → (h : Held) × (live_value R r.node r.time ≡ Some h) × (h.value ≡ r.value) × (h.time ≡ r.time) × ((h.extra ≡ true) ↔ HasOther R r)
 latest_written R r apart latest d =
     let extra = nat_lt 1 (length (versions R r.node r.time)) in (
       record { time = r.time; value = r.value; extra = extra },
@@ -94,7 +94,7 @@ nothing_there : (xs : List Record) → ((s : Record) → Has xs s → ⊥) → x
 nothing_there [] none = refl
 nothing_there (x ∷ xs) none = absurd (none x (inl refl))
 
-pub none_current : (R : Content) (node : NodeId) (time : ℤ) → ((s : Record) → Has R s → s.node ≡ node → s.time ≡ time → ⊥) → current R node time ≡ None
+pub none_current : (R : Content) (node : NodeId) (time : ℤ) → ((s : Record) → Has R s → s.node ≡ node → s.time ≡ time → ⊥) → live_value R node time ≡ None
 none_current R node time none =
     ap held (nothing_there (versions R node time) (λ s h. let k = from_story R node time s h in none s k.0 k.1 k.2))
 
@@ -112,7 +112,7 @@ story_free R S node time a b same =
     (λ r h. let k = from_story R node time r h in to_story S node time r ((same r).0 k.0) k.1 k.2)
     (λ r h. let k = from_story S node time r h in to_story R node time r ((same r).1 k.0) k.1 k.2)
 
-pub current_free : (R S : List Record) (node : NodeId) (time : ℤ) → IsApart record_stamp_cmp R → IsApart record_stamp_cmp S → ((r : Record) → Has R r ↔ Has S r) → current R node time ≡ current S node time
+pub current_free : (R S : List Record) (node : NodeId) (time : ℤ) → IsApart record_stamp_cmp R → IsApart record_stamp_cmp S → ((r : Record) → Has R r ↔ Has S r) → live_value R node time ≡ live_value S node time
 current_free R S node time a b same = ap held (story_free R S node time a b same)
 
 pub entries_free : (R S : List Record) (node : NodeId) (time : ℤ) → IsApart record_stamp_cmp R → IsApart record_stamp_cmp S → ((r : Record) → Has R r ↔ Has S r) → modifications_at R node time ≡ modifications_at S node time

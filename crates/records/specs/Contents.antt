@@ -8,7 +8,7 @@ use Rattle.std.specs.Int.{int_max}
 use Rattle.stamp.specs.Limits.{greatest}
 use Rattle.records.specs.Lists.{insert_sorted, sort_by, last, Has, Rises}
 use Rattle.records.specs.Same.{same_record}
-use Rattle.records.specs.Records.{name_cmp, record_stamp_cmp, is_beyond, is_delete, versions, current, modifications_at}
+use Rattle.records.specs.Records.{name_cmp, record_stamp_cmp, is_beyond, is_delete, versions, live_value, modifications_at}
 use Rattle.records.specs.declared.record.Record.{Record}
 use Rattle.ua_variant.specs.declared.update_type.HistoryUpdateType.TheVariants.{Delete}
 use Rattle.records.specs.declared.shown.Held.{Held}
@@ -134,7 +134,7 @@ pub record IsShownAt (rs : List Record) (es : List Entry) (k : ℕ) (r : Record)
 -- a write is the last of its story and the live value, or the next record's entry shows it
 abbrev pub IsWriteFound : Content → Record → Type 0
 IsWriteFound R r =
-    ((last (versions R r.node r.time) ≡ Some r) × (h : Held) × (current R r.node r.time ≡ Some h)
+    ((last (versions R r.node r.time) ≡ Some r) × (h : Held) × (live_value R r.node r.time ≡ Some h)
     × (h.value ≡ r.value) × (h.time ≡ r.time))
     ⊎ ((k : ℕ) × IsShownAt (versions R r.node r.time) (modifications_at R r.node r.time) k r)
 

@@ -50,8 +50,8 @@ held records =
     ]
 
 -- the live value at a node and source time
-abbrev pub current : List Record → NodeId → ℤ → Option Held
-current records node time = held (versions records node time)
+abbrev pub live_value : List Record → NodeId → ℤ → Option Held
+live_value records node time = held (versions records node time)
 
 -- ---- the modifications
 

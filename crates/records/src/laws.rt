@@ -6,7 +6,7 @@ ghost use Rattle.std.specs.declared.cmp.Ordering.TheVariants.{Less};
 ghost use Rattle.stamp.specs.Limits.{greatest};
 ghost use Rattle.records.specs.Lists.{Has, Rises};
 ghost use Rattle.records.specs.Contents.{Content, IsClosed, AreCompatible, IsWithin, IsNext, AreNextInTurn, IsFound, IsLatest, HasName, HasOther, Finding, Adds, Holds, Clash, Gap, TickTooFar, TickNotRising, finding, learned, put, join, cut, vec, top, last_tick, merged};
-ghost use Rattle.records.specs.Records.{name_cmp, record_stamp_cmp, missing, is_beyond, is_delete, versions, current, modifications_at};
+ghost use Rattle.records.specs.Records.{name_cmp, record_stamp_cmp, missing, is_beyond, is_delete, versions, live_value, modifications_at};
 ghost use Rattle.stamp.specs.Stamp as stamps;
 ghost use Rattle.records.specs.Lists.{IsApart};
 ghost use Rattle.records.specs.Spelling.{record_form, record_at};
@@ -83,14 +83,14 @@ pub fn vectors_cut_contents()
 #[tactic(auto, using(crate::proofs::LatestLemmas::latest))]
 pub fn current_is_the_latest()
     ensures deleted { (R : Content) (r : Record) → IsApart record_stamp_cmp R → IsLatest R r
-        → is_delete r.asked ≡ true → current R r.node r.time ≡ None }
+        → is_delete r.asked ≡ true → live_value R r.node r.time ≡ None }
     ensures written { (R : Content) (r : Record) → IsApart record_stamp_cmp R → IsLatest R r
         → is_delete r.asked ≡ false
-        → (h : Held) × (current R r.node r.time ≡ Some h) × (h.value ≡ r.value) × (h.time ≡ r.time)
+        → (h : Held) × (live_value R r.node r.time ≡ Some h) × (h.value ≡ r.value) × (h.time ≡ r.time)
         × ((h.extra ≡ true) ↔ HasOther R r) }
     ensures none { (R : Content) (node : NodeId) (time : ℤ)
         → ((s : Record) → Has R s → s.node ≡ node → s.time ≡ time → ⊥)
-        → current R node time ≡ None }
+        → live_value R node time ≡ None }
 {}
 
 /// The order of a list is free: a story rises by stamp and has exactly the records of its node and
@@ -104,7 +104,7 @@ pub fn the_order_of_records_is_free()
         → Has (versions R node time) r ↔ (Has R r × (r.node ≡ node) × (r.time ≡ time)) }
     ensures current { (R S : List Record) (node : NodeId) (time : ℤ) → IsApart record_stamp_cmp R
         → IsApart record_stamp_cmp S
-        → ((r : Record) → Has R r ↔ Has S r) → current R node time ≡ current S node time }
+        → ((r : Record) → Has R r ↔ Has S r) → live_value R node time ≡ live_value S node time }
     ensures entries { (R S : List Record) (node : NodeId) (time : ℤ) → IsApart record_stamp_cmp R
         → IsApart record_stamp_cmp S
         → ((r : Record) → Has R r ↔ Has S r)

@@ -4,7 +4,7 @@
 ghost use Rattle.std.specs.Prelude.{◌≡◌, ℕ, List, [], ◌∷◌, ◌++◌, length, filter, MatchResult, IfSome, IfOk, IsTrue, ◌↔◌};
 ghost use Rattle.stamp.specs.Numbers.{number_of};
 ghost use Rattle.records.specs.Lists.{IsApart};
-ghost use Rattle.records.specs.Records.{record_stamp_cmp, name_cmp, is_at, versions, current, held, modifications_at, entries_after, missing, is_beyond, is_delete, write, kind, entry, value_shown};
+ghost use Rattle.records.specs.Records.{record_stamp_cmp, name_cmp, is_at, versions, live_value, held, modifications_at, entries_after, missing, is_beyond, is_delete, write, kind, entry, value_shown};
 ghost use Rattle.std.specs.Prelude.{None};
 ghost use Rattle.std.specs.Option.{option_copied};
 ghost use Rattle.records.specs.Same.{same_node};
@@ -119,7 +119,7 @@ pub fn current_of(
     time: Moment,
 ) -> Result<Option<Held>, RecordFault>
     requires { IsApart record_stamp_cmp records.now }
-    ensures { MatchResult result (λ v. v ≡ current records.now node.now time)
+    ensures { MatchResult result (λ v. v ≡ live_value records.now node.now time)
         (λ e. e ≡ fault.OutOfMemory) }
 {
     let story = sorted_at(alloc, records, node, time)?;

@@ -342,7 +342,7 @@ module _ (R : Content) (l : IsLawfulContent R) where
   abbrev shown : Record → Held
   shown r = record { time = r.time; value = r.value; extra = list_any (is_other (row_of r)) (map row_of R) }
 
-  current_is : (r : Record) → Has R r → is_top r ≡ true → told.is_delete r.asked ≡ false → told.current R r.node r.time ≡ Some (shown r)
+  current_is : (r : Record) → Has R r → is_top r ≡ true → told.is_delete r.asked ≡ false → told.live_value R r.node r.time ≡ Some (shown r)
   current_is r h top live =
       let w = latest_written R r apart (latest_of r h top) live in
       let same_extra : w.0.extra ≡ list_any (is_other (row_of r)) (map row_of R) = one_answer w.0.extra (list_any (is_another r) R) w.4 (other_is r h) ∙ sym (extra_as r h) in
@@ -421,7 +421,7 @@ module _ (R : Content) (l : IsLawfulContent R) where
     stretch_here = stretch d place far (times R node)
 
     abbrev is_live : ℤ → Bool
-    is_live t = is_some (told.current R node t)
+    is_live t = is_some (told.live_value R node t)
 
     to_stretch : (t : ℤ) → Has (times R node) t → is_past d place t ≡ true → not (is_past d far t) ≡ true → Has stretch_here t
     to_stretch t h p q = has-filter (λ u. not (is_past d far u)) _ t (has-filter (is_past d place) (in_direction d (times R node)) t ((has-in_direction d (times R node) t).1 h) p) q
@@ -438,7 +438,7 @@ module _ (R : Content) (l : IsLawfulContent R) where
         forth t h =
             let r = has_from_map time_of inside t h in
             let i = has_inside r.0 r.1 in
-            let now = subst (λ n. told.current R n r.0.time ≡ Some (shown r.0)) i.own (current_is r.0 i.there i.top i.live) in
+            let now = subst (λ n. told.live_value R n r.0.time ≡ Some (shown r.0)) i.own (current_is r.0 i.there i.top i.live) in
             subst (Has (filter is_live stretch_here)) r.2
             (has-filter is_live stretch_here r.0.time (to_stretch r.0.time (time_there R node r.0 i.there ((Decides-is_same node_code r.0.node node).1 i.own)) i.past i.within) (ap is_some now))
 
@@ -447,9 +447,9 @@ module _ (R : Content) (l : IsLawfulContent R) where
             let p = has_from_filter is_live stretch_here t h in
             let q = has_from_filter (λ u. not (is_past d far u)) (filter (is_past d place) (in_direction d (times R node))) t p.0 in
             let s = has_from_filter (is_past d place) (in_direction d (times R node)) t q.0 in
-            go (told.current R node t) refl p.1 s.1 q.1
+            go (told.live_value R node t) refl p.1 s.1 q.1
           where
-            go : (o : Option Held) → told.current R node t ≡ o → is_some o ≡ true → is_past d place t ≡ true → not (is_past d far t) ≡ true → Has (map time_of inside) t
+            go : (o : Option Held) → told.live_value R node t ≡ o → is_some o ≡ true → is_past d place t ≡ true → not (is_past d far t) ≡ true → Has (map time_of inside) t
             go None e some past within = absurd (true≢false (sym some))
             go (Some x) e some past within =
                 let r = held_live _ (last (told.versions R node t)) x e in
@@ -468,14 +468,14 @@ module _ (R : Content) (l : IsLawfulContent R) where
     -- what they show is what is live in the stretch
     shown_are : map shown inside ≡ flat_map (values_at R node) stretch_here
     shown_are =
-        one_each inside (λ r h. let i = has_inside r h in subst (λ n. told.current R n r.time ≡ Some (shown r)) i.own (current_is r i.there i.top i.live))
-        ∙ (ap (flat_map (values_at R node)) times_are ∙ flat_map-filter (values_at R node) is_live stretch_here (λ t e. nothing t (told.current R node t) refl e))
+        one_each inside (λ r h. let i = has_inside r h in subst (λ n. told.live_value R n r.time ≡ Some (shown r)) i.own (current_is r i.there i.top i.live))
+        ∙ (ap (flat_map (values_at R node)) times_are ∙ flat_map-filter (values_at R node) is_live stretch_here (λ t e. nothing t (told.live_value R node t) refl e))
       where
-        one_each : (rs : List Record) → ((r : Record) → Has rs r → told.current R node r.time ≡ Some (shown r)) → map shown rs ≡ flat_map (values_at R node) (map time_of rs)
+        one_each : (rs : List Record) → ((r : Record) → Has rs r → told.live_value R node r.time ≡ Some (shown r)) → map shown rs ≡ flat_map (values_at R node) (map time_of rs)
         one_each [] each = refl
         one_each (r ∷ rs) each = rw (each r (inl refl)) (ap (λ hs. shown r ∷ hs) (one_each rs (λ z h. each z (inr h))))
 
-        nothing : (t : ℤ) (o : Option Held) → told.current R node t ≡ o → is_some o ≡ false → values_at R node t ≡ []
+        nothing : (t : ℤ) (o : Option Held) → told.live_value R node t ≡ o → is_some o ≡ false → values_at R node t ≡ []
         nothing t None e none = ap (λ x. cons_option x []) e
         nothing t (Some x) e none = absurd (true≢false none)
 

@@ -15,7 +15,7 @@ use Rattle.ua_binary.specs.declared.values.NodeId.{NodeId}
 use Rattle.records.specs.Lists.{Has}
 use Rattle.records.proofs.SameParts.{node_code}
 use Rattle.records.specs.Contents.{Content, cut}
-use Rattle.records.specs.Records.{is_beyond, held, versions, current, modifications_at, entries_after}
+use Rattle.records.specs.Records.{is_beyond, held, versions, live_value, modifications_at, entries_after}
 use Rattle.records.specs.Moments.{ticks_of, whole_again, pico_within}
 use Rattle.records.specs.declared.record.Record.{Record}
 use Rattle.records.specs.declared.shown.Held.{Held}
@@ -181,9 +181,9 @@ module _ (R : Content) (node : NodeId) (v : ℕ → ℕ) where
         ∙ (turned-flat_map d f (filter b (times R node)) ∙ ap (flat_map (λ t. in_direction d (f t))) (turned-filter d b (times R node))))
 
   values_own : (t : ℤ) (h : Held) → Has (values_at (cut R v) node t) h → h.time ≡ t
-  values_own t h k = go (current (cut R v) node t) refl k
+  values_own t h k = go (live_value (cut R v) node t) refl k
     where
-      go : (o : Option Held) → current (cut R v) node t ≡ o → Has (cons_option o []) h → h.time ≡ t
+      go : (o : Option Held) → live_value (cut R v) node t ≡ o → Has (cons_option o []) h → h.time ≡ t
       go None e k = absurd k
       go (Some x) e k = elim k [ inl same ↦ ap (λ (y : Held). y.time) (sym same) ∙ (current_time (cut R v) node t x e).1 | inr n ↦ absurd n ]
 
@@ -197,12 +197,12 @@ module _ (R : Content) (node : NodeId) (v : ℕ → ℕ) where
       one None hs = refl
       one (Some h) hs = refl
 
-      go : (ts : List ℤ) → filter_map (current (cut R v) node) ts ≡ flat_map (values_at (cut R v) node) ts
+      go : (ts : List ℤ) → filter_map (live_value (cut R v) node) ts ≡ flat_map (values_at (cut R v) node) ts
       go [] = refl
-      go (t ∷ ts) = one (current (cut R v) node t) (filter_map (current (cut R v) node) ts) ∙ ap (λ l. values_at (cut R v) node t ++ l) (go ts)
+      go (t ∷ ts) = one (live_value (cut R v) node t) (filter_map (live_value (cut R v) node) ts) ∙ ap (λ l. values_at (cut R v) node t ++ l) (go ts)
 
   turned_values : (d : Direction) (ts : List ℤ) → flat_map (λ t. in_direction d (values_at (cut R v) node t)) ts ≡ flat_map (values_at (cut R v) node) ts
-  turned_values d ts = flat_map-same _ _ ts (λ t h. one d (current (cut R v) node t))
+  turned_values d ts = flat_map-same _ _ ts (λ t h. one d (live_value (cut R v) node t))
     where
       one : (way : Direction) (o : Option Held) → in_direction way (cons_option o []) ≡ cons_option o []
       one Forward o = refl

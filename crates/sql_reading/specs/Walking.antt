@@ -10,7 +10,7 @@ use Rattle.sql_tables.specs.declared.queries.RowTime.{RowTime}
 use Rattle.sql_reading.specs.declared.lookahead.Ahead.{Ahead}
 use Rattle.sql_reading.specs.declared.reads.Story.{Story}
 use Rattle.records.specs.Contents.{Content, cut}
-use Rattle.records.specs.Records.{versions, record_stamp_cmp, current, modifications_at}
+use Rattle.records.specs.Records.{versions, record_stamp_cmp, live_value, modifications_at}
 use Rattle.records.specs.declared.record.Record.{Record}
 use Rattle.records.specs.Moments.{moment}
 use Rattle.records.specs.declared.shown.Held.{Held}
@@ -125,7 +125,7 @@ pub record AreTaken (time : ℤ) (old taken left : List Record) : Type 0 where
 -- ---- what is shown of a time
 
 abbrev pub values_at : Content → NodeId → ℤ → List Held
-values_at C node t = cons_option (current C node t) []
+values_at C node t = cons_option (live_value C node t) []
 
 abbrev pub entries_at : Content → NodeId → Option LogPlace → Direction → ℤ → List Entry
 entries_at C node after d t =

@@ -15,7 +15,7 @@ use Rattle.uacp.specs.declared.types.Kind.{Kind}
 use Rattle.uacp.specs.declared.types.Kind.TheVariants.{Hello, Open, Close, Message}
 use Rattle.uacp.specs.declared.greeting.Hello.{Hello as HelloNumbers}
 use Rattle.uacp.specs.declared.greeting.Ack.{Ack}
-use Rattle.uacp.specs.Stream.{ChunkContent, piece_at, MayStand, IsChunk, IsRest, AreChunks, Splits, greeted_by}
+use Rattle.uacp.specs.Stream.{ChunkContent, piece_at, MayStand, IsChunk, IsRest, AreChunks, AreChunksThenRest, greeted_by}
 use Rattle.uacp.specs.Chunks.{chunk_header}
 use Rattle.uacp.specs.Greeting.{hello_at, ack_of}
 use Rattle.uacp.specs.Fault.{uacp_fault_status}
@@ -28,16 +28,16 @@ use Rattle.ua_channel.specs.Placed.{Placed, Opens, Says, Closes, Heard, heard_of
 use Rattle.ua_channel.specs.Taking.{ChannelState, new_channel, taken_answer}
 use Rattle.ua_channel.proofs.Takings.{after-heard}
 use Rattle.records.specs.Contents.{Content}
-use Rattle.archive.specs.Store.{StepResult, Done, NoMemory, Stands, StoreFailed}
+use Rattle.archive.specs.Store.{StepResult, Done, NoMemory, RecordStands, StoreFailed}
 use Rattle.archive.specs.Steps.{give, and_then}
 use Rattle.historian.specs.Services.{ServerConfig, MessageOutcome, answered as performed}
 use Rattle.counted_io.specs.declared.fault.ServeFault.TheVariants.{Read, Write, TooLong, OutOfMemory}
 use Rattle.ua_connection.specs.declared.outcome.Served.TheVariants.{EndOfInput, Closed, Refused}
 use Rattle.ua_connection.specs.Environments.{Environment, before, WithEnvironment, by_marks, or_out_of_memory, clock}
 use Rattle.ua_connection.specs.Run.{Reply, stream_answered, joined, AnswersStream}
-use Rattle.ua_connection.specs.Client.{ClientState, Item, whole, ill, partial, Ending, Answering, ends, goes, refuse, acknowledged, greeted, opened, outcome_response, responded, answered_come, answered_placed, answered_on, answered_piece, answered_item, answer, found, chunks, next}
+use Rattle.ua_connection.specs.Client.{ClientState, Item, whole, ill, partial, Ending, Answering, ends, goes, refuse, acknowledged, greeted, opened, outcome_response, responded, answer_to_taken, placed_answer, channel_chunk_answer, chunk_answer, item_answer, answer, found, chunks, next}
 use Rattle.ua_connection.specs.Serving.{new_standing, IsServed}
-use Rattle.ua_connection.specs.Conversation.{limits_by, IsGranted, opening_behind, had, answered_well, answered_at, answered_next, taken_with, conversed, answered_rest, answered_chunks, Chunked, answered_stream, IsConversed}
+use Rattle.ua_connection.specs.Conversation.{limits_by, IsGranted, opening_behind, had, well_placed_answer, answer_behind, counted_chunk_answer, taken_with, channel_answer, rest_answer, chunks_answer, Chunked, stream_answer, IsConversed}
 use Rattle.ua_connection.proofs.RunParts.{joined_by}
 use Rattle.ua_connection.proofs.Cutting.{next-some}
 use Rattle.ua_connection.proofs.Steps.{tried-same}
@@ -66,7 +66,7 @@ made-leaves : (limit : ℕ) (past : List Placed) (went starved : Answering) → 
 made-leaves limit past went starved a b [] readings = a [] readings
 made-leaves limit past went starved a b (Done ∷ marks) readings = a marks readings
 made-leaves limit past went starved a b (NoMemory ∷ marks) readings = b marks readings
-made-leaves limit past went starved a b (Stands ∷ marks) readings = a marks readings
+made-leaves limit past went starved a b (RecordStands ∷ marks) readings = a marks readings
 made-leaves limit past went starved a b (StoreFailed fault ∷ marks) readings = a marks readings
 
 then-leaves : {A : Type 0} (limit : ℕ) (past : List Placed) (m : WithEnvironment A) (f : A → Answering) → ((a : A) → Leaving limit past (f a)) → Leaving limit past (and_then m f)
@@ -103,7 +103,7 @@ message-leaves site standing state past request message knows =
     (λ outcome. told-leaves standing state past request message now outcome knows))
 
 well-leaves : (site : ServerConfig) (standing : ClientState) (state : ChannelState) (past : List Placed) (placed : Placed) → state.heard ≡ heard_of (placed ∷ past)
-    → Leaving standing.client.limit (placed ∷ past) (answered_well site standing state past placed)
+    → Leaving standing.client.limit (placed ∷ past) (well_placed_answer site standing state past placed)
 well-leaves site standing state past (Opens sequence asked) knows =
     open-leaves standing state (Opens sequence asked ∷ past) (opening_behind past sequence.1 asked.handle asked.lifetime) knows
 well-leaves site standing state past (Says Final numbers body) knows =
@@ -115,7 +115,7 @@ well-leaves site standing state past (Closes numbers) knows = λ marks readings.
 -- the answer to a judged chunk, and the chunks that were taken with it
 abbrev answered_judged : ServerConfig → List Placed → ClientState → ChannelState → Result Placed ChannelFault → Answering
 answered_judged site past standing state given = elim given [
-  | Ok placed ↦ answered_well site standing (record state { heard = heard_of (placed ∷ past) }) past placed
+  | Ok placed ↦ well_placed_answer site standing (record state { heard = heard_of (placed ∷ past) }) past placed
   | Err fault ↦ refuse standing (channel.channel_fault_status fault)
 ]
 
@@ -129,7 +129,7 @@ judged-leaves site standing state past (Err fault) = refuse-leaves standing.clie
 
 -- the answer over a channel, if there is one
 abbrev answered_over : ServerConfig → List Placed → ClientState → ChunkContent → Option ChannelState → Answering
-answered_over site past standing piece given = elim given [ None ↦ refuse standing BAD_TCP_MESSAGE_TYPE_INVALID | Some state ↦ answered_at site past standing state piece ]
+answered_over site past standing piece given = elim given [ None ↦ refuse standing BAD_TCP_MESSAGE_TYPE_INVALID | Some state ↦ answer_behind site past standing state piece ]
 
 over-leaves : (site : ServerConfig) (standing : ClientState) (past : List Placed) (piece : ChunkContent) (given : Option ChannelState) → Leaving standing.client.limit (taken_with past piece) (answered_over site past standing piece given)
 over-leaves site standing past piece None = refuse-leaves standing.client.limit (taken_with past piece) standing BAD_TCP_MESSAGE_TYPE_INVALID
@@ -139,7 +139,7 @@ either-leaves : (limit : ℕ) (past : List Placed) (test : Bool) (f g : Answerin
 either-leaves limit past true f g a b = a
 either-leaves limit past false f g a b = b
 
-next-leaves : (site : ServerConfig) (standing : ClientState) (past : List Placed) (piece : ChunkContent) → Leaving standing.client.limit (taken_with past piece) (had standing (answered_next site past standing piece))
+next-leaves : (site : ServerConfig) (standing : ClientState) (past : List Placed) (piece : ChunkContent) → Leaving standing.client.limit (taken_with past piece) (had standing (counted_chunk_answer site past standing piece))
 next-leaves site standing past piece =
     let limit = standing.client.limit in
     let all = taken_with past piece in
@@ -150,7 +150,7 @@ next-leaves site standing past piece =
 -- ---- the same answers
 
 -- a well placed chunk comes to its answer
-well-same : (site : ServerConfig) (standing : ClientState) (state : ChannelState) (past : List Placed) (placed : Placed) → answered_come site standing state (taken_answer (heard_of past) placed) ≡ answered_well site standing state past placed
+well-same : (site : ServerConfig) (standing : ClientState) (state : ChannelState) (past : List Placed) (placed : Placed) → answer_to_taken site standing state (taken_answer (heard_of past) placed) ≡ well_placed_answer site standing state past placed
 well-same site standing state past (Opens sequence asked) = refl
 well-same site standing state past (Says Final numbers body) = refl
 well-same site standing state past (Says More numbers body) = refl
@@ -158,23 +158,23 @@ well-same site standing state past (Says Abort numbers body) = refl
 well-same site standing state past (Closes numbers) = refl
 
 judged-same : (site : ServerConfig) (standing : ClientState) (state : ChannelState) (past : List Placed) (given : Result Placed ChannelFault)
-    → answered_placed site standing (record state { heard = heard_of past }) given ≡ answered_judged site past standing state given
+    → placed_answer site standing (record state { heard = heard_of past }) given ≡ answered_judged site past standing state given
 judged-same site standing state past (Ok placed) =
-    ap (λ (h : Heard). answered_come site standing (record state { heard = h }) (taken_answer (heard_of past) placed)) (after-heard past placed)
+    ap (λ (h : Heard). answer_to_taken site standing (record state { heard = h }) (taken_answer (heard_of past) placed)) (after-heard past placed)
     ∙ well-same site standing (record state { heard = heard_of (placed ∷ past) }) past placed
 judged-same site standing state past (Err fault) = refl
 
 -- over a channel that knows these chunks
 over-same : (site : ServerConfig) (standing : ClientState) (past : List Placed) (piece : ChunkContent) (given : Option ChannelState) → ((state : ChannelState) → given ≡ Some state → state.heard ≡ heard_of past)
-    → answered_on site standing given piece ≡ answered_over site past standing piece given
+    → channel_chunk_answer site standing given piece ≡ answered_over site past standing piece given
 over-same site standing past piece None knows = refl
 over-same site standing past piece (Some state) knows =
-    ap (λ (h : Heard). answered_placed site standing (record state { heard = h }) (placed_chunk h piece)) (knows state refl)
+    ap (λ (h : Heard). placed_answer site standing (record state { heard = h }) (placed_chunk h piece)) (knows state refl)
     ∙ judged-same site standing state past (placed_chunk (heard_of past) piece)
 
 -- a chunk of the channel is answered by its place
 next-same : (site : ServerConfig) (standing : ClientState) (past : List Placed) (piece : ChunkContent) → Knows standing past → (piece.kind ≡ Hello → ⊥)
-    → answered_item site standing (whole piece) ≡ answered_next site past standing piece
+    → item_answer site standing (whole piece) ≡ counted_chunk_answer site past standing piece
 next-same site standing past piece knows other =
     ap (λ (f : Answering). if standing.client.taken == 1000000 then give (ends standing [] (Err TooLong)) else f)
     (tried-same site standing piece.kind piece other ∙ over-same site standing past piece standing.client.channel knows)
@@ -197,7 +197,7 @@ made-always : (went starved : Answering) → Always went → Always starved → 
 made-always went starved a b [] readings = a [] readings
 made-always went starved a b (Done ∷ marks) readings = a marks readings
 made-always went starved a b (NoMemory ∷ marks) readings = b marks readings
-made-always went starved a b (Stands ∷ marks) readings = a marks readings
+made-always went starved a b (RecordStands ∷ marks) readings = a marks readings
 made-always went starved a b (StoreFailed fault ∷ marks) readings = a marks readings
 
 refuse-always : (standing : ClientState) (code : Status) → Always (refuse standing code)
@@ -222,7 +222,7 @@ no-fault : (greeted : Bool) (limit : ℕ) (fault : UacpFault) → chunk_header g
 no-fault greeted limit fault cuts = let long = cut-fault greeted limit [] fault cuts in omega (arith, long)
 
 rest-answered : (site : ServerConfig) (standing : ClientState) (rest : List ℕ) (fault : Option UacpFault) (outside : Environment) → IsRest standing.client.greeted standing.client.limit rest fault
-    → stream_answered (chunks site) standing rest outside ≡ answered_rest fault rest standing outside
+    → stream_answered (chunks site) standing rest outside ≡ rest_answer fault rest standing outside
 rest-answered site standing [] None outside ends_so = no_item site standing [] outside refl
 rest-answered site standing (b ∷ bytes) None outside ends_so =
     item-ends site standing (b ∷ bytes) (partial, length (b ∷ bytes)) outside
@@ -253,7 +253,7 @@ may-not Message letter may is = cc
 
 -- a chunk stands first, and its answer is known; behind it the rest is answered so
 chunk-answered : (site : ServerConfig) (standing : ClientState) (piece : ChunkContent) (chunk more : List ℕ) (f : Answering) (later : ClientState → Answering) (outside : Environment) → IsChunk standing.client.greeted standing.client.limit piece chunk
-    → answered_item site standing (whole piece) ≡ f
+    → item_answer site standing (whole piece) ≡ f
     → ((had standing f outside).0.ending ≡ None → stream_answered (chunks site) (had standing f outside).0.state more (had standing f outside).1 ≡ later (had standing f outside).0.state (had standing f outside).1)
     → stream_answered (chunks site) standing (chunk ++ more) outside ≡ and_then (had standing f) (λ reply. joined (later reply.state) reply) outside
 chunk-answered site standing piece chunk more f later outside one is behind =
@@ -267,7 +267,7 @@ chunk-answered site standing piece chunk more f later outside one is behind =
 
 channel-answered : (site : ServerConfig) (granted : ℕ) (rest : List ℕ) (fault : Option UacpFault) (pieces : List ChunkContent) (past : List Placed) (standing : ClientState) (bytes : List ℕ) (outside : Environment)
     → AreChunks true (λ k. granted) bytes pieces rest → IsRest true granted rest fault → standing.client.greeted ≡ true → standing.client.limit ≡ granted → Knows standing past
-    → stream_answered (chunks site) standing bytes outside ≡ conversed site (answered_rest fault rest) past standing pieces outside
+    → stream_answered (chunks site) standing bytes outside ≡ channel_answer site (rest_answer fault rest) past standing pieces outside
 channel-answered site granted rest fault [] past standing bytes outside are ends_so greets limits knows =
     let P : Bool → Type 0 = λ g. IsRest g standing.client.limit rest fault in
     let Q : ℕ → Type 0 = λ l. IsRest true l rest fault in
@@ -276,11 +276,11 @@ channel-answered site granted rest fault (piece ∷ pieces) past standing bytes 
     let P : Bool → Type 0 = λ g. IsChunk g standing.client.limit piece chunk in
     let Q : ℕ → Type 0 = λ l. IsChunk true l piece chunk in
     let here = subst P (sym greets) (subst Q (sym limits) one) in
-    let f : Answering = answered_next site past standing piece in
+    let f : Answering = counted_chunk_answer site past standing piece in
     let r = had standing f outside in
     let leaves = next-leaves site standing past piece outside.marks outside.readings in
     ap (λ (b : List ℕ). stream_answered (chunks site) standing b outside) is
-    ∙ chunk-answered site standing piece chunk more f (λ s. conversed site (answered_rest fault rest) (taken_with past piece) s pieces) outside here
+    ∙ chunk-answered site standing piece chunk more f (λ s. channel_answer site (rest_answer fault rest) (taken_with past piece) s pieces) outside here
     (next-same site standing past piece knows (may-not piece.kind piece.letter one.heads.stands))
     (λ goes_on. channel-answered site granted rest fault pieces (taken_with past piece) r.0.state more r.1 later ends_so (leaves.greeted goes_on) (leaves.limit goes_on ∙ limits) (leaves.knows goes_on))
 
@@ -313,11 +313,11 @@ limits-on : (granted : ℕ) (pieces : List ChunkContent) (first : ChunkContent) 
 limits-on granted pieces first = refl
 
 -- the Hello is answered
-hello-same : (site : ServerConfig) (R : Content) (piece : ChunkContent) → piece.kind ≡ Hello → answered_item site (new_standing R) (whole piece) ≡ greeted (new_standing R) (hello_at piece.body)
-hello-same site R piece is = ap (λ (k : Kind). answered_piece site (new_standing R) k piece) is
+hello-same : (site : ServerConfig) (R : Content) (piece : ChunkContent) → piece.kind ≡ Hello → item_answer site (new_standing R) (whole piece) ≡ greeted (new_standing R) (hello_at piece.body)
+hello-same site R piece is = ap (λ (k : Kind). chunk_answer site (new_standing R) k piece) is
 
-connection-answered : (site : ServerConfig) (R : Content) (granted : ℕ) (bytes rest : List ℕ) (fault : Option UacpFault) (pieces : List ChunkContent) (outside : Environment) → Splits (limits_by granted) bytes pieces rest fault → IsGranted pieces granted
-    → stream_answered (chunks site) (new_standing R) bytes outside ≡ answered_chunks site (answered_rest fault rest) (new_standing R) pieces outside
+connection-answered : (site : ServerConfig) (R : Content) (granted : ℕ) (bytes rest : List ℕ) (fault : Option UacpFault) (pieces : List ChunkContent) (outside : Environment) → AreChunksThenRest (limits_by granted) bytes pieces rest fault → IsGranted pieces granted
+    → stream_answered (chunks site) (new_standing R) bytes outside ≡ chunks_answer site (rest_answer fault rest) (new_standing R) pieces outside
 connection-answered site R granted bytes rest fault [] outside splits grants =
     ap (λ (b : List ℕ). stream_answered (chunks site) (new_standing R) b outside) splits.chunks ∙ rest-answered site (new_standing R) rest fault outside splits.ends
 connection-answered site R granted bytes rest fault (piece ∷ pieces) outside splits grants =
@@ -330,11 +330,11 @@ connection-answered site R granted bytes rest fault (piece ∷ pieces) outside s
     let Q : ℕ → Type 0 = λ l. IsRest (greeted_by true pieces) l rest fault in
     let ends_so = subst P (greeted-on pieces) (subst Q (limits-on granted pieces piece) splits.ends) in
     ap (λ (b : List ℕ). stream_answered (chunks site) standing b outside) are.2
-    ∙ chunk-answered site standing piece are.0 are.1 f (λ s. conversed site (answered_rest fault rest) [] s pieces) outside are.3 (hello-same site R piece (hello-first piece.kind piece.letter are.3.heads.stands))
+    ∙ chunk-answered site standing piece are.0 are.1 f (λ s. channel_answer site (rest_answer fault rest) [] s pieces) outside are.3 (hello-same site R piece (hello-first piece.kind piece.letter are.3.heads.stands))
     (λ goes_on. channel-answered site granted rest fault pieces [] r.0.state are.1 r.1 are.4 ends_so (leaves.greeted goes_on) (leaves.limit goes_on) (leaves.knows goes_on))
 
 -- the answer to a stream is the answer to its chunks
-pub stream-answered : (site : ServerConfig) (R : Content) (bytes : List ℕ) (stream : Chunked bytes) (outside : Environment) → stream_answered (chunks site) (new_standing R) bytes outside ≡ answered_stream site R bytes stream outside
+pub stream-answered : (site : ServerConfig) (R : Content) (bytes : List ℕ) (stream : Chunked bytes) (outside : Environment) → stream_answered (chunks site) (new_standing R) bytes outside ≡ stream_answer site R bytes stream outside
 stream-answered site R bytes stream outside = connection-answered site R stream.granted bytes stream.rest stream.fault stream.pieces outside stream.splits stream.grants
 
 -- ---- each stream is split so

@@ -19,19 +19,19 @@ use Rattle.ua_channel.specs.declared.taken.Taken.{Taken}
 use Rattle.ua_channel.specs.declared.taken.Taken.TheVariants as taken
 use Rattle.ua_channel.specs.Placed.{Placed, placed_chunk}
 use Rattle.ua_channel.specs.Taking.{ChannelState, heard_after, taken_answer}
-use Rattle.archive.specs.Store.{StepResult, Done, NoMemory, Stands, StoreFailed}
+use Rattle.archive.specs.Store.{StepResult, Done, NoMemory, RecordStands, StoreFailed}
 use Rattle.historian.specs.Services.{ServerConfig, MessageOutcome, answered as performed}
 use Rattle.counted_io.specs.declared.fault.ServeFault.TheVariants.{TooLong}
 use Rattle.archive.specs.Steps.{give, and_then}
 use Rattle.ua_connection.specs.Environments.{Environment, WithEnvironment, by_marks, or_out_of_memory, clock}
 use Rattle.ua_connection.specs.Run.{Reply, stream_answered, joined, ended}
 use Rattle.ua_connection.proofs.RunParts.{stepped}
-use Rattle.ua_connection.specs.Client.{ClientState, Item, whole, ill, partial, Ending, Answering, ends, goes, refuse, acknowledged, greeted, opened, outcome_response, responded, answered_come, answered_piece, answered_item, answer, chunks, next}
-use Rattle.ua_connection.specs.Client.{answered_placed, answered_on}
+use Rattle.ua_connection.specs.Client.{ClientState, Item, whole, ill, partial, Ending, Answering, ends, goes, refuse, acknowledged, greeted, opened, outcome_response, responded, answer_to_taken, chunk_answer, item_answer, answer, chunks, next}
+use Rattle.ua_connection.specs.Client.{placed_answer, channel_chunk_answer}
 use Rattle.ua_connection.proofs.Runs.{answered-step}
 use Rattle.ua_connection.proofs.Cutting.{falls}
 
-pub one_too_many : (site : ServerConfig) (standing : ClientState) (piece : ChunkContent) (later : Environment) → standing.client.taken ≡ 1000000 → answered_item site standing (whole piece) later ≡ (ends standing [] (Err TooLong), later)
+pub one_too_many : (site : ServerConfig) (standing : ClientState) (piece : ChunkContent) (later : Environment) → standing.client.taken ≡ 1000000 → item_answer site standing (whole piece) later ≡ (ends standing [] (Err TooLong), later)
 one_too_many site standing piece later many = let test : (standing.client.taken == 1000000) ≡ true = eq-eqb standing.client.taken 1000000 many in rw test refl
 
 -- a reply that doesn't end by TooLong, and counts one where it doesn't end
@@ -47,7 +47,7 @@ made-counts : (n : ℕ) (went starved : Answering) → Counted n went → Counte
 made-counts n went starved a b [] readings = a [] readings
 made-counts n went starved a b (Done ∷ marks) readings = a marks readings
 made-counts n went starved a b (NoMemory ∷ marks) readings = b marks readings
-made-counts n went starved a b (Stands ∷ marks) readings = a marks readings
+made-counts n went starved a b (RecordStands ∷ marks) readings = a marks readings
 made-counts n went starved a b (StoreFailed fault ∷ marks) readings = a marks readings
 
 then-counts : {A : Type 0} (n : ℕ) (m : WithEnvironment A) (f : A → Answering) → ((a : A) → Counted n (f a)) → Counted n (and_then m f)
@@ -72,7 +72,7 @@ told-counts standing state request message now outcome =
     made-counts standing.client.taken _ _ (λ marks readings. record { sooner = λ e. absurd cc; each = λ e. refl })
     (made-counts standing.client.taken _ _ (λ marks readings. record { sooner = λ e. absurd cc; each = λ e. refl }) (λ marks readings. record { sooner = λ e. absurd cc; each = λ e. absurd cc }))
 
-come-counts : (site : ServerConfig) (standing : ClientState) (state : ChannelState) (come : Taken) → Counted standing.client.taken (answered_come site standing state come)
+come-counts : (site : ServerConfig) (standing : ClientState) (state : ChannelState) (come : Taken) → Counted standing.client.taken (answer_to_taken site standing state come)
 come-counts site standing state taken.Nothing = goes-counts standing [] (Some state)
 come-counts site standing state (taken.Opening request) =
     then-counts standing.client.taken clock (opened standing state request)
@@ -83,31 +83,31 @@ come-counts site standing state (taken.Message request message) =
 come-counts site standing state (taken.Aborted request) = goes-counts standing [] (Some state)
 come-counts site standing state taken.Closed = λ marks readings. record { sooner = λ e. absurd cc; each = λ e. absurd cc }
 
-placed-counts : (site : ServerConfig) (standing : ClientState) (state : ChannelState) (placed : Result Placed ChannelFault) → Counted standing.client.taken (answered_placed site standing state placed)
+placed-counts : (site : ServerConfig) (standing : ClientState) (state : ChannelState) (placed : Result Placed ChannelFault) → Counted standing.client.taken (placed_answer site standing state placed)
 placed-counts site standing state (Ok placed) = come-counts site standing (record state { heard = heard_after state.heard placed }) (taken_answer state.heard placed)
 placed-counts site standing state (Err fault) = refuse-counts standing.client.taken standing (channel.channel_fault_status fault)
 
-on-counts : (site : ServerConfig) (standing : ClientState) (channel : Option ChannelState) (piece : ChunkContent) → Counted standing.client.taken (answered_on site standing channel piece)
+on-counts : (site : ServerConfig) (standing : ClientState) (channel : Option ChannelState) (piece : ChunkContent) → Counted standing.client.taken (channel_chunk_answer site standing channel piece)
 on-counts site standing None piece = refuse-counts standing.client.taken standing BAD_TCP_MESSAGE_TYPE_INVALID
 on-counts site standing (Some state) piece = placed-counts site standing state (placed_chunk state.heard piece)
 
-piece-counts : (site : ServerConfig) (standing : ClientState) (kind : Kind) (piece : ChunkContent) → Counted standing.client.taken (answered_piece site standing kind piece)
+piece-counts : (site : ServerConfig) (standing : ClientState) (kind : Kind) (piece : ChunkContent) → Counted standing.client.taken (chunk_answer site standing kind piece)
 piece-counts site standing Hello piece = greeted-counts standing (hello_at piece.body)
 piece-counts site standing Open piece = on-counts site standing standing.client.channel piece
 piece-counts site standing Close piece = on-counts site standing standing.client.channel piece
 piece-counts site standing Message piece = on-counts site standing standing.client.channel piece
 
-tested-counts : (site : ServerConfig) (standing : ClientState) (piece : ChunkContent) (test : Bool) → (standing.client.taken == 1000000) ≡ test → Counted standing.client.taken (answered_item site standing (whole piece))
+tested-counts : (site : ServerConfig) (standing : ClientState) (piece : ChunkContent) (test : Bool) → (standing.client.taken == 1000000) ≡ test → Counted standing.client.taken (item_answer site standing (whole piece))
 tested-counts site standing piece true is marks readings = rw is (record { sooner = λ e. eqb-true standing.client.taken 1000000 is; each = λ e. absurd cc })
 tested-counts site standing piece false is marks readings = rw is (piece-counts site standing piece.kind piece marks readings)
 
-item-counts : (site : ServerConfig) (standing : ClientState) (item : Item) → Counted standing.client.taken (answered_item site standing item)
+item-counts : (site : ServerConfig) (standing : ClientState) (item : Item) → Counted standing.client.taken (item_answer site standing item)
 item-counts site standing (whole piece) = tested-counts site standing piece (standing.client.taken == 1000000) refl
 item-counts site standing (ill fault) = refuse-counts standing.client.taken standing (uacp_fault_status fault)
 item-counts site standing partial = λ marks readings. record { sooner = λ e. absurd cc; each = λ e. absurd cc }
 
 counts : (site : ServerConfig) (standing : ClientState) (item : Item) → Counted standing.client.taken (answer site standing item)
-counts site standing item = made-counts standing.client.taken (answered_item site standing item) (refuse standing BAD_OUT_OF_MEMORY) (item-counts site standing item) (refuse-counts standing.client.taken standing BAD_OUT_OF_MEMORY)
+counts site standing item = made-counts standing.client.taken (item_answer site standing item) (refuse standing BAD_OUT_OF_MEMORY) (item-counts site standing item) (refuse-counts standing.client.taken standing BAD_OUT_OF_MEMORY)
 
 pub no_sooner : (site : ServerConfig) (standing : ClientState) (item : Item) (outside : Environment) → (answer site standing item outside).0.ending ≡ Some (Err TooLong) → standing.client.taken ≡ 1000000
 no_sooner site standing item outside e = (counts site standing item outside.marks outside.readings).sooner e

@@ -1,6 +1,6 @@
 -- What stands first in some bytes stands there whatever follows.
 use Rattle.std.proofs.Common.{sym}
-use Rattle.uacp.specs.Held.{Held, next_or}
+use Rattle.uacp.specs.Held.{IntakeState, next_or}
 use Rattle.ua_connection.specs.Turns.{IsNextCurrent}
 use Rattle.std.proofs.Common.{◌≡◌, ◌≢◌, ℕ, ◌<◌, ◌≤◌, List, [], ◌∷◌, ◌++◌, length, take, drop, Some, None, Ok, Err, refl, ◌∙◌, ap, subst, arith}
 use Rattle.std.specs.Prelude.{Option, Result}
@@ -68,7 +68,7 @@ fault-stands standing bytes more fault cuts =
 -- ---- the intake
 
 -- an intake that gave a fault has that fault in front
-failed-first : (held : Held) (fault : UacpFault) → IsNextCurrent held → held.failed ≡ Some fault → chunk_header held.greeted held.limit held.waiting ≡ Err fault
+failed-first : (held : IntakeState) (fault : UacpFault) → IsNextCurrent held → held.failed ≡ Some fault → chunk_header held.greeted held.limit held.waiting ≡ Err fault
 failed-first held fault sound failed = sym sound ∙ ap (λ o. next_or o (chunk_header held.greeted held.limit held.waiting)) failed
 
 cut-more : (greeted : _) (limit : ℕ) (bytes more : List ℕ) (fault : UacpFault) → chunk_header greeted limit bytes ≡ Err fault → chunk_header greeted limit (bytes ++ more) ≡ Err fault
@@ -78,7 +78,7 @@ cut-more greeted limit bytes more fault cuts =
     cut-append greeted limit bytes more settled ∙ cuts
 
 -- more bytes came
-fed-sound : (held : Held) (piece : List ℕ) → IsNextCurrent held → IsNextCurrent (record held { waiting = held.waiting ++ piece })
+fed-sound : (held : IntakeState) (piece : List ℕ) → IsNextCurrent held → IsNextCurrent (record held { waiting = held.waiting ++ piece })
 fed-sound held piece sound = go held.failed refl
   where
     go : (o : Option UacpFault) → held.failed ≡ o → IsNextCurrent (record held { waiting = held.waiting ++ piece })
@@ -87,13 +87,13 @@ fed-sound held piece sound = go held.failed refl
         ap (λ o. next_or o (chunk_header held.greeted held.limit (held.waiting ++ piece))) e
         ∙ sym (cut-more held.greeted held.limit held.waiting piece fault (failed-first held fault sound e))
 
-pub fed-keeps : (taken : ℕ) (held new : Held) (piece : List ℕ) → (taken ≤ 1000000) × (held.limit ≤ 65536) × IsNextCurrent held → new ≡ record held { waiting = held.waiting ++ piece }
+pub fed-keeps : (taken : ℕ) (held new : IntakeState) (piece : List ℕ) → (taken ≤ 1000000) × (held.limit ≤ 65536) × IsNextCurrent held → new ≡ record held { waiting = held.waiting ++ piece }
     → (taken ≤ 1000000) × (new.limit ≤ 65536) × IsNextCurrent new
 fed-keeps taken held new piece kept is =
-    let P : Held → Type 0 = λ h. (taken ≤ 1000000) × (h.limit ≤ 65536) × IsNextCurrent h in
+    let P : IntakeState → Type 0 = λ h. (taken ≤ 1000000) × (h.limit ≤ 65536) × IsNextCurrent h in
     subst P (sym is) (kept.0, kept.1, fed-sound held piece kept.2)
 
-pub same-keeps : (taken : ℕ) (held new : Held) → (taken ≤ 1000000) × (held.limit ≤ 65536) × IsNextCurrent held → new ≡ held → (taken ≤ 1000000) × (new.limit ≤ 65536) × IsNextCurrent new
+pub same-keeps : (taken : ℕ) (held new : IntakeState) → (taken ≤ 1000000) × (held.limit ≤ 65536) × IsNextCurrent held → new ≡ held → (taken ≤ 1000000) × (new.limit ≤ 65536) × IsNextCurrent new
 same-keeps taken held new kept is =
-    let P : Held → Type 0 = λ h. (taken ≤ 1000000) × (h.limit ≤ 65536) × IsNextCurrent h in
+    let P : IntakeState → Type 0 = λ h. (taken ≤ 1000000) × (h.limit ≤ 65536) × IsNextCurrent h in
     subst P (sym is) kept

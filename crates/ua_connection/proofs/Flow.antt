@@ -11,7 +11,7 @@ use Rattle.uacp.specs.declared.types.Kind.{Kind}
 use Rattle.uacp.specs.declared.types.Kind.TheVariants.{Hello, Open, Close, Message}
 use Rattle.uacp.specs.declared.types.UacpFault.{UacpFault}
 use Rattle.uacp.proofs.Streams.{Cuts, cuts}
-use Rattle.ua_settings.specs.Settings.{Values}
+use Rattle.ua_settings.specs.Settings.{SettingsValues}
 use Rattle.records.specs.Contents.{Content}
 use Rattle.archive.specs.Store.{Store, faults_of, CountsFaults}
 use Rattle.archive.specs.Steps.{Transitions}
@@ -34,7 +34,7 @@ use Rattle.ua_connection.proofs.Turning.{turned-none}
 
 -- ---- stretches of one answer
 
-site_same : (settings : Values) (a b : Store) (faults : _) → CountsFaults a b faults → site_of settings b ≡ site_of settings a
+site_same : (settings : SettingsValues) (a b : Store) (faults : _) → CountsFaults a b faults → site_of settings b ≡ site_of settings a
 site_same settings a b faults p =
     ap (λ (n : ℕ). let s : ServerConfig = record { settings = settings; own = n; id = b.id } in s) p.own
     ∙ ap (λ (i : List ℕ). let s : ServerConfig = record { settings = settings; own = a.own; id = i } in s) p.id
@@ -59,7 +59,7 @@ reaches-then site link middle next R S T used more xs ys ending first second =
           (subst P (standing_same first.last middle.client S first.content (first.goes refl)) first.answers) second.answers;
     }
 
-pub turned-then : (settings : Values) (a b c : Store) (link middle next : ConnectionState) (used more : Environment) (xs ys : List ℕ) (ending : Option Ending) → Advances settings a b link used xs None middle → Advances settings b c middle more ys ending next
+pub turned-then : (settings : SettingsValues) (a b c : Store) (link middle next : ConnectionState) (used more : Environment) (xs ys : List ℕ) (ending : Option Ending) → Advances settings a b link used xs None middle → Advances settings b c middle more ys ending next
     → Advances settings a c link (before used more) (xs ++ ys) ending next
 turned-then settings a b c link middle next used more xs ys ending first second =
     let same = site_same settings a b (faults_of used.marks) first.passes in
@@ -70,7 +70,7 @@ turned-then settings a b c link middle next used more xs ys ending first second 
     (λ ms ns R S T p q. reaches-then (site_of settings a) link middle next R S T (record used { marks = ms }) (record more { marks = ns }) xs ys ending p q) first (subst P same second)
 
 -- the same where something is kept of the outside and of what was held before
-pub kept-then : (settings : Values) (a b c : Store) (link middle next : ConnectionState) (used more : Environment) (xs ys : List ℕ) (ending : Option Ending) (K L : Environment → Content → Type 0) → ((o m : Environment) (R : Content) → K o R → L (before o m) R)
+pub kept-then : (settings : SettingsValues) (a b c : Store) (link middle next : ConnectionState) (used more : Environment) (xs ys : List ℕ) (ending : Option Ending) (K L : Environment → Content → Type 0) → ((o m : Environment) (R : Content) → K o R → L (before o m) R)
     → Transitions a b used.marks (λ marks R S. AnswersBytes (site_of settings a) link R (record used { marks = marks }) xs None middle S × K (record used { marks = marks }) R) → Advances settings b c middle more ys ending next
     → Transitions a c (before used more).marks (λ marks R T. AnswersBytes (site_of settings a) link R (record (before used more) { marks = marks }) (xs ++ ys) ending next T × L (record (before used more) { marks = marks }) R)
 kept-then settings a b c link middle next used more xs ys ending K L keeps first second =
@@ -82,16 +82,16 @@ kept-then settings a b c link middle next used more xs ys ending K L keeps first
     (λ ms ns R S T p q. (reaches-then (site_of settings a) link middle next R S T (record used { marks = ms }) (record more { marks = ns }) xs ys ending p.0 q, keeps (record used { marks = ms }) (record more { marks = ns }) R p.1)) first
     (subst P same second)
 
-pub into-then : (settings : Values) (a b c : Store) (link middle next : ConnectionState) (used more : Environment) (old now new : List ℕ) (ending : Option Ending) → AdvancesInto settings a b link used old now None middle
+pub into-then : (settings : SettingsValues) (a b c : Store) (link middle next : ConnectionState) (used more : Environment) (old now new : List ℕ) (ending : Option Ending) → AdvancesInto settings a b link used old now None middle
     → AdvancesInto settings b c middle more now new ending next → AdvancesInto settings a c link (before used more) old new ending next
 into-then settings a b c link middle next used more old now new ending first second =
     (first.0 ++ second.0, second.1 ∙ ap (λ (front : List ℕ). front ++ second.0) first.1 ∙ append_assoc old first.0 second.0, turned-then settings a b c link middle next used more first.0 second.0 ending first.2 second.2)
 
-pub into-none : (settings : Values) (a : Store) (link : ConnectionState) (old : List ℕ) → AdvancesInto settings a a link empty_environment old old None link
+pub into-none : (settings : SettingsValues) (a : Store) (link : ConnectionState) (old : List ℕ) → AdvancesInto settings a a link empty_environment old old None link
 into-none settings a link old = ([], sym (append-nil old), turned-none settings a link)
 
 -- what goes into an empty buffer
-into-empty : (settings : Values) (a b : Store) (link next : ConnectionState) (used : Environment) (old new : List ℕ) (ending : Option Ending) → old ≡ [] → AdvancesInto settings a b link used old new ending next → Advances settings a b link used new ending next
+into-empty : (settings : SettingsValues) (a b : Store) (link next : ConnectionState) (used : Environment) (old new : List ℕ) (ending : Option Ending) → old ≡ [] → AdvancesInto settings a b link used old new ending next → Advances settings a b link used new ending next
 into-empty settings a b link next used old new ending empty into =
     let made : into.0 ≡ new = sym (into.1 ∙ ap (λ (front : List ℕ). front ++ into.0) empty) in
     let P : List ℕ → Type 0 = λ o. Advances settings a b link used o ending next in
@@ -109,27 +109,27 @@ writes-append (Went bytes ∷ xs) ys p q = writes-append xs ys p q
 pub went-more : (events : List LineEvent) (out : List ℕ) → went_of (events ++ Went out ∷ []) ≡ went_of events ++ out
 went-more events out = flat_map-append (λ (event : LineEvent). elim event [ Went bytes ↦ bytes | _ ↦ [] ]) events (Went out ∷ []) ∙ ap (λ o. went_of events ++ o) (append-nil out)
 
-pub drains-start : (settings : Values) (a : Store) (link : ConnectionState) → DrainedSoFar settings a a link empty_environment [] link
+pub drains-start : (settings : SettingsValues) (a : Store) (link : ConnectionState) → DrainedSoFar settings a a link empty_environment [] link
 drains-start settings a link = (tt, turned-none settings a link)
 
 -- what was answered so far, and then into an empty buffer
-drains-into : (settings : Values) (a b c : Store) (link middle next : ConnectionState) (used more : Environment) (events : List LineEvent) (empty out : List ℕ) (ending : Option Ending) → DrainedSoFar settings a b link used events middle → empty ≡ []
+drains-into : (settings : SettingsValues) (a b c : Store) (link middle next : ConnectionState) (used more : Environment) (events : List LineEvent) (empty out : List ℕ) (ending : Option Ending) → DrainedSoFar settings a b link used events middle → empty ≡ []
     → AdvancesInto settings b c middle more empty out ending next → Advances settings a c link (before used more) (went_of events ++ out) ending next
 drains-into settings a b c link middle next used more events empty out ending so none into =
     turned-then settings a b c link middle next used more (went_of events) out ending so.1 (into-empty settings b c middle next more empty out ending none into)
 
 -- and what was answered is written
-drains-out : (settings : Values) (a b c : Store) (link middle next : ConnectionState) (used more : Environment) (events : List LineEvent) (empty out : List ℕ) (ending : Option Ending) → DrainedSoFar settings a b link used events middle → empty ≡ []
+drains-out : (settings : SettingsValues) (a b c : Store) (link middle next : ConnectionState) (used more : Environment) (events : List LineEvent) (empty out : List ℕ) (ending : Option Ending) → DrainedSoFar settings a b link used events middle → empty ≡ []
     → AdvancesInto settings b c middle more empty out ending next → Advances settings a c link (before used more) (went_of (events ++ Went out ∷ [])) ending next
 drains-out settings a b c link middle next used more events empty out ending so none into =
     subst (λ o. Advances settings a c link (before used more) o ending next) (sym (went-more events out)) (drains-into settings a b c link middle next used more events empty out ending so none into)
 
-pub drains-goes : (settings : Values) (a b c : Store) (link middle next : ConnectionState) (used more : Environment) (events : List LineEvent) (empty out : List ℕ) → DrainedSoFar settings a b link used events middle → empty ≡ []
+pub drains-goes : (settings : SettingsValues) (a b c : Store) (link middle next : ConnectionState) (used more : Environment) (events : List LineEvent) (empty out : List ℕ) → DrainedSoFar settings a b link used events middle → empty ≡ []
     → AdvancesInto settings b c middle more empty out None next → DrainedSoFar settings a c link (before used more) (events ++ Went out ∷ []) next
 drains-goes settings a b c link middle next used more events empty out so none into =
     (writes-append events (Went out ∷ []) so.0 tt, drains-out settings a b c link middle next used more events empty out None so none into)
 
-drains-fails : (settings : Values) (a b c : Store) (link middle next : ConnectionState) (used more : Environment) (events : List LineEvent) (empty out : List ℕ) (fault : ServeFault) → DrainedSoFar settings a b link used events middle → empty ≡ []
+drains-fails : (settings : SettingsValues) (a b c : Store) (link middle next : ConnectionState) (used more : Environment) (events : List LineEvent) (empty out : List ℕ) (fault : ServeFault) → DrainedSoFar settings a b link used events middle → empty ≡ []
     → AdvancesInto settings b c middle more empty out (Some (Err fault)) next → DrainsTo settings a c link (before used more) (went_of (events ++ Went out ∷ [])) (Err fault) next
 drains-fails settings a b c link middle next used more events empty out fault so none into = go fault (drains-out settings a b c link middle next used more events empty out (Some (Err fault)) so none into)
   where
@@ -142,7 +142,7 @@ drains-fails settings a b c link middle next used more events empty out fault so
     go OutOfMemory t = t
 
 -- a write that failed
-pub drains-part : (settings : Values) (a b c : Store) (link middle next : ConnectionState) (used more : Environment) (events : List LineEvent) (empty out sent unsent : List ℕ) (ending : Option Ending) (result : Result (Option Served) ServeFault)
+pub drains-part : (settings : SettingsValues) (a b c : Store) (link middle next : ConnectionState) (used more : Environment) (events : List LineEvent) (empty out sent unsent : List ℕ) (ending : Option Ending) (result : Result (Option Served) ServeFault)
     → DrainedSoFar settings a b link used events middle → empty ≡ [] → AdvancesInto settings b c middle more empty out ending next → out ≡ sent ++ unsent → result ≡ Err Write
     → SentAll settings a c link (before used more) (events ++ Went sent ∷ []) result next
 drains-part settings a b c link middle next used more events empty out sent unsent ending result so none into cut_so is =
@@ -206,7 +206,7 @@ fed-short link fed first is more few =
 
 -- ---- the end of a stretch
 
-pub drains-end : (settings : Values) (a b c : Store) (link middle next : ConnectionState) (used more : Environment) (events : List LineEvent) (empty out : List ℕ) (result : Result Step ServeFault) (end : Result (Option Served) ServeFault)
+pub drains-end : (settings : SettingsValues) (a b c : Store) (link middle next : ConnectionState) (used more : Environment) (events : List LineEvent) (empty out : List ℕ) (result : Result Step ServeFault) (end : Result (Option Served) ServeFault)
     → Some end ≡ end_of result → DrainedSoFar settings a b link used events middle → empty ≡ [] → AdvancesInto settings b c middle more empty out (ending_of result) next
     → SentAll settings a c link (before used more) (events ++ Went out ∷ []) end next
 drains-end settings a b c link middle next used more events empty out (Ok NeedsInput) end is so none into =
@@ -224,7 +224,7 @@ drains-end settings a b c link middle next used more events empty out (Err fault
     let P : Result (Option Served) ServeFault → Type 0 = λ e. SentAll settings a c link (before used more) (events ++ Went out ∷ []) e next in
     subst P (sym same) (writes-append events (Went out ∷ []) so.0 tt, drains-fails settings a b c link middle next used more events empty out fault so none into)
 
-pub drains-more : (settings : Values) (a b c : Store) (link middle next : ConnectionState) (used more : Environment) (events : List LineEvent) (empty out : List ℕ) (result : Result Step ServeFault) → None ≡ end_of result
+pub drains-more : (settings : SettingsValues) (a b c : Store) (link middle next : ConnectionState) (used more : Environment) (events : List LineEvent) (empty out : List ℕ) (result : Result Step ServeFault) → None ≡ end_of result
     → DrainedSoFar settings a b link used events middle → empty ≡ [] → AdvancesInto settings b c middle more empty out (ending_of result) next → DrainedSoFar settings a c link (before used more) (events ++ Went out ∷ []) next
 drains-more settings a b c link middle next used more events empty out (Ok NeedsInput) is so none into = absurd cc
 drains-more settings a b c link middle next used more events empty out (Ok (Acknowledged limit)) is so none into = drains-goes settings a b c link middle next used more events empty out so none into

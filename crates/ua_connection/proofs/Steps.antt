@@ -36,9 +36,9 @@ use Rattle.ua_connection.specs.declared.turn.Step.{Step}
 use Rattle.ua_connection.specs.declared.turn.Step.TheVariants.{NeedsInput, Acknowledged, Continues, Ended}
 use Rattle.ua_connection.specs.Environments.{Environment, before, by_marks, or_out_of_memory, clock, YieldsWith}
 use Rattle.ua_connection.specs.Run.{Reply}
-use Rattle.ua_connection.specs.Client.{Client, ClientState, Ending, Answering, ends, goes, refuse, acknowledged, greeted, opened, fitted, outcome_response, responded, answered_come, answered_piece}
-use Rattle.ua_connection.specs.Client.{answered_placed, answered_on}
-use Rattle.ua_connection.specs.Turns.{tried_on, tried, Replies, Answered, AnsweredHere, RefusesTurn, SendsTurn, ending_of, went, client_after, standing_of}
+use Rattle.ua_connection.specs.Client.{Client, ClientState, Ending, Answering, ends, goes, refuse, acknowledged, greeted, opened, fitted, outcome_response, responded, answer_to_taken, chunk_answer}
+use Rattle.ua_connection.specs.Client.{placed_answer, channel_chunk_answer}
+use Rattle.ua_connection.specs.Turns.{channel_chunk_answer_or_starved, chunk_answer_or_starved, Replies, Answered, AnsweredHere, RefusesTurn, SendsTurn, ending_of, went, client_after, standing_of}
 use Rattle.ua_connection.proofs.Outsides.{marked, read, empty_environment, does-then, does-marked, does-clock, does-made, does-starved}
 
 -- ---- replies
@@ -317,61 +317,61 @@ behind-channel client old channel left (Err fault) = refl
 -- a chunk came where there is no channel
 pub unopened : (a : Store) (site : ServerConfig) (client next : Client) (sessions : session.SessionsState) (channel : Option ChannelState) (piece : ChunkContent) (code : Status) (old new : List ℕ) (result : Result Step ServeFault) → channel ≡ None
     → code ≡ BAD_TCP_MESSAGE_TYPE_INVALID → RefusesTurn code result old new
-    → (used : List StepResult) × Answered a a (λ R. tried_on site (standing_of client sessions R) channel piece) (marked used) old new (ending_of result) next
+    → (used : List StepResult) × Answered a a (λ R. channel_chunk_answer_or_starved site (standing_of client sessions R) channel piece) (marked used) old new (ending_of result) next
 unopened a site client next sessions channel piece code old new result is told refuses =
     let Q : Status → Type 0 = λ c. RefusesTurn c result old new in
-    let P : Option ChannelState → Type 0 = λ c. (used : List StepResult) × Answered a a (λ R. tried_on site (standing_of client sessions R) c piece) (marked used) old new (ending_of result) next in
+    let P : Option ChannelState → Type 0 = λ c. (used : List StepResult) × Answered a a (λ R. channel_chunk_answer_or_starved site (standing_of client sessions R) c piece) (marked used) old new (ending_of result) next in
     let h = here-refused BAD_TCP_MESSAGE_TYPE_INVALID (standing_of client sessions) next old new result (λ R. refl) (subst Q told refuses) in
     subst P (sym is) (
       Done ∷ h.0,
-      answered-here a (λ R. tried_on site (standing_of client sessions R) None piece) (Done ∷ h.0) old new (ending_of result) next
+      answered-here a (λ R. channel_chunk_answer_or_starved site (standing_of client sessions R) None piece) (Done ∷ h.0) old new (ending_of result) next
           (here-fine (λ R. refuse (standing_of client sessions R) BAD_TCP_MESSAGE_TYPE_INVALID) (λ R. refuse (standing_of client sessions R) BAD_OUT_OF_MEMORY) h.0 old new (ending_of result) next h.1),
     )
 
 -- a chunk that isn't taken
 refused-by : (a : Store) (site : ServerConfig) (client next : Client) (sessions : session.SessionsState) (state new_state : ChannelState) (piece : ChunkContent) (fault : ChannelFault) (old new : List ℕ) (result : Result Step ServeFault)
     → RefusesChunk state piece fault new_state → RefusesTurn (channel.channel_fault_status fault) result old new
-    → (used : List StepResult) × Answered a a (λ R. tried_on site (standing_of client sessions R) (Some state) piece) (marked used) old new (ending_of result) next
+    → (used : List StepResult) × Answered a a (λ R. channel_chunk_answer_or_starved site (standing_of client sessions R) (Some state) piece) (marked used) old new (ending_of result) next
 refused-by a site client next sessions state new_state piece fault.OutOfMemory old new result refuses sends =
-    let f : Content → Answering = λ R. answered_on site (standing_of client sessions R) (Some state) piece in
+    let f : Content → Answering = λ R. channel_chunk_answer site (standing_of client sessions R) (Some state) piece in
     let h = here-memory f (standing_of client sessions) next old new result (λ R. refl) sends in
-    (h.0, answered-here a (λ R. tried_on site (standing_of client sessions R) (Some state) piece) h.0 old new (ending_of result) next h.1)
+    (h.0, answered-here a (λ R. channel_chunk_answer_or_starved site (standing_of client sessions R) (Some state) piece) h.0 old new (ending_of result) next h.1)
 refused-by a site client next sessions state new_state piece fault old new result refuses sends =
     let h = here-refused (channel.channel_fault_status fault) (standing_of client sessions) next old new result (λ R. refl) sends in
-    let G : Result Placed ChannelFault → Type 0 = λ j. AnsweredHere (λ R. answered_placed site (standing_of client sessions R) state j) h.0 old new (ending_of result) next in (
+    let G : Result Placed ChannelFault → Type 0 = λ j. AnsweredHere (λ R. placed_answer site (standing_of client sessions R) state j) h.0 old new (ending_of result) next in (
       Done ∷ h.0,
-      answered-here a (λ R. tried_on site (standing_of client sessions R) (Some state) piece) (Done ∷ h.0) old new (ending_of result) next
-          (here-fine (λ R. answered_on site (standing_of client sessions R) (Some state) piece) (λ R. refuse (standing_of client sessions R) BAD_OUT_OF_MEMORY) h.0 old new (ending_of result) next (subst G (sym refuses.0) h.1)),
+      answered-here a (λ R. channel_chunk_answer_or_starved site (standing_of client sessions R) (Some state) piece) (Done ∷ h.0) old new (ending_of result) next
+          (here-fine (λ R. channel_chunk_answer site (standing_of client sessions R) (Some state) piece) (λ R. refuse (standing_of client sessions R) BAD_OUT_OF_MEMORY) h.0 old new (ending_of result) next (subst G (sym refuses.0) h.1)),
     )
 
 pub untaken : (a : Store) (site : ServerConfig) (client next : Client) (sessions : session.SessionsState) (channel_old : Option ChannelState) (state new_state : ChannelState) (piece : ChunkContent) (fault : ChannelFault) (code : Status) (old new : List ℕ) (result : Result Step ServeFault)
     → channel_old ≡ Some state → RefusesChunk state piece fault new_state → code ≡ channel.channel_fault_status fault → RefusesTurn code result old new
-    → (used : List StepResult) × Answered a a (λ R. tried_on site (standing_of client sessions R) channel_old piece) (marked used) old new (ending_of result) next
+    → (used : List StepResult) × Answered a a (λ R. channel_chunk_answer_or_starved site (standing_of client sessions R) channel_old piece) (marked used) old new (ending_of result) next
 untaken a site client next sessions channel_old state new_state piece fault code old new result is refuses told sends =
     let Q : Status → Type 0 = λ c. RefusesTurn c result old new in
-    let P : Option ChannelState → Type 0 = λ c. (used : List StepResult) × Answered a a (λ R. tried_on site (standing_of client sessions R) c piece) (marked used) old new (ending_of result) next in
+    let P : Option ChannelState → Type 0 = λ c. (used : List StepResult) × Answered a a (λ R. channel_chunk_answer_or_starved site (standing_of client sessions R) c piece) (marked used) old new (ending_of result) next in
     subst P (sym is) (refused-by a site client next sessions state new_state piece fault old new result refuses (subst Q told sends))
 
 -- a chunk that is taken
 pub taken-answered : (a b : Store) (site : ServerConfig) (client next : Client) (sessions : session.SessionsState) (channel_old : Option ChannelState) (state new_state : ChannelState) (piece : ChunkContent) (come : Taken) (used : Environment) (old new : List ℕ) (ending : Option Ending)
-    → channel_old ≡ Some state → TakesChunk state piece (Ok come) new_state → Answered a b (λ R. answered_come site (standing_of client sessions R) new_state come) used old new ending next
-    → Answered a b (λ R. tried_on site (standing_of client sessions R) channel_old piece) (before (marked (Done ∷ [])) used) old new ending next
+    → channel_old ≡ Some state → TakesChunk state piece (Ok come) new_state → Answered a b (λ R. answer_to_taken site (standing_of client sessions R) new_state come) used old new ending next
+    → Answered a b (λ R. channel_chunk_answer_or_starved site (standing_of client sessions R) channel_old piece) (before (marked (Done ∷ [])) used) old new ending next
 taken-answered a b site client next sessions channel_old state new_state piece come used old new ending is takes so =
     let placed = takes.0 in
-    let P : Option ChannelState → Type 0 = λ c. Answered a b (λ R. tried_on site (standing_of client sessions R) c piece) (before (marked (Done ∷ [])) used) old new ending next in
-    let A : ChannelState → Type 0 = λ s. Answered a b (λ R. answered_come site (standing_of client sessions R) s come) used old new ending next in
-    let B : Taken → Type 0 = λ t. Answered a b (λ R. answered_come site (standing_of client sessions R) (record state { heard = heard_after state.heard placed }) t) used old new ending next in
-    let G : Result Placed ChannelFault → Type 0 = λ j. Answered a b (λ R. answered_placed site (standing_of client sessions R) state j) used old new ending next in
+    let P : Option ChannelState → Type 0 = λ c. Answered a b (λ R. channel_chunk_answer_or_starved site (standing_of client sessions R) c piece) (before (marked (Done ∷ [])) used) old new ending next in
+    let A : ChannelState → Type 0 = λ s. Answered a b (λ R. answer_to_taken site (standing_of client sessions R) s come) used old new ending next in
+    let B : Taken → Type 0 = λ t. Answered a b (λ R. answer_to_taken site (standing_of client sessions R) (record state { heard = heard_after state.heard placed }) t) used old new ending next in
+    let G : Result Placed ChannelFault → Type 0 = λ j. Answered a b (λ R. placed_answer site (standing_of client sessions R) state j) used old new ending next in
     subst P (sym is)
-    (answered-fine a b (λ R. answered_on site (standing_of client sessions R) (Some state) piece) (λ R. refuse (standing_of client sessions R) BAD_OUT_OF_MEMORY) used old new ending next
+    (answered-fine a b (λ R. channel_chunk_answer site (standing_of client sessions R) (Some state) piece) (λ R. refuse (standing_of client sessions R) BAD_OUT_OF_MEMORY) used old new ending next
     (subst G (sym takes.1) (subst B takes.2 (subst A takes.3 so))))
 
 -- any chunk, where no answer of the greeting stands behind a channel's
 pub tried-hello : (a : Store) (site : ServerConfig) (client next other : Client) (sessions : session.SessionsState) (kind : Kind) (piece : ChunkContent) (body : List ℕ) (used : List StepResult) (old new : List ℕ) (ending : Option Ending) → piece.kind ≡ Hello
     → piece.body ≡ body → next ≡ other → AnsweredHere (λ R. greeted (standing_of client sessions R) (hello_at body)) used old new ending next
-    → Answered a a (λ R. tried site (standing_of client sessions R) piece) (before (marked (Done ∷ [])) (marked used)) old new ending other
+    → Answered a a (λ R. chunk_answer_or_starved site (standing_of client sessions R) piece) (before (marked (Done ∷ [])) (marked used)) old new ending other
 tried-hello a site client next other sessions kind piece body used old new ending is same to h =
-    let P : Kind → Type 0 = λ k. Answered a a (λ R. or_out_of_memory (answered_piece site (standing_of client sessions R) k piece) (refuse (standing_of client sessions R) BAD_OUT_OF_MEMORY)) (before (marked (Done ∷ [])) (marked used)) old new ending other in
+    let P : Kind → Type 0 = λ k. Answered a a (λ R. or_out_of_memory (chunk_answer site (standing_of client sessions R) k piece) (refuse (standing_of client sessions R) BAD_OUT_OF_MEMORY)) (before (marked (Done ∷ [])) (marked used)) old new ending other in
     let Q : List ℕ → Type 0 = λ b. AnsweredHere (λ R. greeted (standing_of client sessions R) (hello_at b)) used old new ending next in
     let f : Content → Answering = λ R. greeted (standing_of client sessions R) (hello_at piece.body) in
     let g : Content → Answering = λ R. refuse (standing_of client sessions R) BAD_OUT_OF_MEMORY in
@@ -379,17 +379,17 @@ tried-hello a site client next other sessions kind piece body used old new endin
     (answered-client a a (λ R. or_out_of_memory (f R) (g R)) (before (marked (Done ∷ [])) (marked used)) old new ending next other to
     (answered-fine a a f g (marked used) old new ending next (answered-here a f used old new ending next (subst Q (sym same) h))))
 
-pub tried-same : (site : ServerConfig) (standing : ClientState) (kind : Kind) (piece : ChunkContent) → (kind ≡ Hello → ⊥) → answered_piece site standing kind piece ≡ answered_on site standing standing.client.channel piece
+pub tried-same : (site : ServerConfig) (standing : ClientState) (kind : Kind) (piece : ChunkContent) → (kind ≡ Hello → ⊥) → chunk_answer site standing kind piece ≡ channel_chunk_answer site standing standing.client.channel piece
 tried-same site standing Hello piece other = absurd (other refl)
 tried-same site standing Open piece other = refl
 tried-same site standing Close piece other = refl
 tried-same site standing Message piece other = refl
 
 pub tried-other : (a b : Store) (site : ServerConfig) (client next : Client) (sessions : session.SessionsState) (piece : ChunkContent) (used : Environment) (old new : List ℕ) (ending : Option Ending) → (piece.kind ≡ Hello → ⊥)
-    → Answered a b (λ R. tried_on site (standing_of client sessions R) client.channel piece) used old new ending next → Answered a b (λ R. tried site (standing_of client sessions R) piece) used old new ending next
+    → Answered a b (λ R. channel_chunk_answer_or_starved site (standing_of client sessions R) client.channel piece) used old new ending next → Answered a b (λ R. chunk_answer_or_starved site (standing_of client sessions R) piece) used old new ending next
 tried-other a b site client next sessions piece used old new ending other h =
-    let f : Content → Answering = λ R. tried_on site (standing_of client sessions R) client.channel piece in
-    let g : Content → Answering = λ R. tried site (standing_of client sessions R) piece in
+    let f : Content → Answering = λ R. channel_chunk_answer_or_starved site (standing_of client sessions R) client.channel piece in
+    let g : Content → Answering = λ R. chunk_answer_or_starved site (standing_of client sessions R) piece in
     answered-by a b f g empty_environment used old new ending next refl
     (λ ms R r does.
     let D : Answering → Type 0 = λ m. YieldsWith (or_out_of_memory m (refuse (standing_of client sessions R) BAD_OUT_OF_MEMORY)) (record used { marks = ms }) r in

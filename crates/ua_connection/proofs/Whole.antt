@@ -8,7 +8,7 @@ use Rattle.std.proofs.lemmas.Grind.{flat_map-append}
 use Rattle.counted_io.proofs.Tried.{kept_consumes, kept_appends}
 use Rattle.uacp.specs.Chunks.{chunk_header}
 use Rattle.uacp.specs.Greeting.{error}
-use Rattle.ua_settings.specs.Settings.{Values}
+use Rattle.ua_settings.specs.Settings.{SettingsValues}
 use Rattle.ua_binary.specs.declared.codes.TheConstants.Status.{BAD_OUT_OF_MEMORY}
 use Rattle.records.specs.Contents.{Content}
 use Rattle.archive.specs.Store.{Store, StepResult, Done, faults_of}
@@ -37,7 +37,7 @@ use Rattle.ua_connection.proofs.Flow.{kept-then}
 abbrev pub start_of : List ℕ → ConnectionState
 start_of came = record { client = new_client; waiting = came }
 
-pub serves-start : (settings : Values) (a : Store) (link : ConnectionState) → link.client ≡ new_client → ServesSoFar settings a a link.waiting [] empty_environment link
+pub serves-start : (settings : SettingsValues) (a : Store) (link : ConnectionState) → link.client ≡ new_client → ServesSoFar settings a a link.waiting [] empty_environment link
 serves-start settings a link is =
     let P : Client → Type 0 = λ c. Advances settings a a (record { client = c; waiting = link.waiting }) empty_environment [] None link in
     let Q : List ℕ → Type 0 = λ w. Advances settings a a (start_of w) empty_environment [] None link in
@@ -177,11 +177,11 @@ went-read events piece = went-written events (Came piece ∷ []) ∙ append-nil 
 -- ---- stretches
 
 -- what was answered, and when, in other words for what came and went
-abbrev SoFar : Values → Store → Store → List ℕ → List LineEvent → (came out : List ℕ) → Environment → Option Ending → ConnectionState → Type 0
+abbrev SoFar : SettingsValues → Store → Store → List ℕ → List LineEvent → (came out : List ℕ) → Environment → Option Ending → ConnectionState → Type 0
 SoFar settings a b first events came out used ending link = Transitions a b used.marks (λ marks R S.
     AnswersBytes (site_of settings a) (start_of came) R (record used { marks = marks }) out ending link S × ArePrompt (site_of settings a) R (record used { marks = marks }) first [] events)
 
-so-as : (settings : Values) (a b : Store) (first : List ℕ) (events : List LineEvent) (came more out also : List ℕ) (used : Environment) (ending : Option Ending) (link : ConnectionState) → came ≡ more → out ≡ also → SoFar settings a b first events came out used ending link
+so-as : (settings : SettingsValues) (a b : Store) (first : List ℕ) (events : List LineEvent) (came more out also : List ℕ) (used : Environment) (ending : Option Ending) (link : ConnectionState) → came ≡ more → out ≡ also → SoFar settings a b first events came out used ending link
     → SoFar settings a b first events more also used ending link
 so-as settings a b first events came more out also used ending link e f so =
     let P : List ℕ → Type 0 = λ c. SoFar settings a b first events c also used ending link in
@@ -198,7 +198,7 @@ reaches-more site came piece out link used R S r = record {
   answers = answers-more (chunks site) (record { client = new_client; content = R }) came piece used (record { out = out; ending = None; state = r.last }) link.waiting r.answers;
 }
 
-pub serves-fed : (settings : Values) (a b : Store) (first : List ℕ) (events : List LineEvent) (used : Environment) (link fed : ConnectionState) (piece : List ℕ) → ServesSoFar settings a b first events used link → NeedsBytes link
+pub serves-fed : (settings : SettingsValues) (a b : Store) (first : List ℕ) (events : List LineEvent) (used : Environment) (link fed : ConnectionState) (piece : List ℕ) → ServesSoFar settings a b first events used link → NeedsBytes link
     → fed ≡ record link { waiting = link.waiting ++ piece } → ServesSoFar settings a b first (events ++ Came (Some piece) ∷ []) used fed
 serves-fed settings a b first events used link fed piece so short is =
     let site = site_of settings a in
@@ -214,7 +214,7 @@ serves-fed settings a b first events used link fed piece so short is =
     (λ ms R S r. (reaches-more site came piece (went_of events) link (record used { marks = ms }) R S r.0, prompts-read site R S (record used { marks = ms }) first events (Some piece) link r.0 short r.1)) so))
 
 -- what waits was answered, and this was written
-serves-then : (settings : Values) (a b c : Store) (first : List ℕ) (events writes : List LineEvent) (used more : Environment) (link next : ConnectionState) (out : List ℕ) (ending : Option Ending) → ServesSoFar settings a b first events used link → AreWrites writes
+serves-then : (settings : SettingsValues) (a b c : Store) (first : List ℕ) (events writes : List LineEvent) (used more : Environment) (link next : ConnectionState) (out : List ℕ) (ending : Option Ending) → ServesSoFar settings a b first events used link → AreWrites writes
     → Advances settings b c link more out ending next → SoFar settings a c first (events ++ writes) (first ++ came_of (events ++ writes)) (went_of events ++ out) (before used more) ending next
 serves-then settings a b c first events writes used more link next out ending so only turned =
     let site = site_of settings a in
@@ -224,7 +224,7 @@ serves-then settings a b c first events writes used more link next out ending so
     (kept-then settings a b c (start_of came) link next used more (went_of events) out ending (λ o R. ArePrompt site R o first [] events) (λ o R. ArePrompt site R o first [] (events ++ writes))
     (λ o m R p. prompts-written site R o m first events writes only p) so turned)
 
-pub serves-drained : (settings : Values) (a b c : Store) (first : List ℕ) (events writes : List LineEvent) (used more : Environment) (link next : ConnectionState) → ServesSoFar settings a b first events used link
+pub serves-drained : (settings : SettingsValues) (a b c : Store) (first : List ℕ) (events writes : List LineEvent) (used more : Environment) (link next : ConnectionState) → ServesSoFar settings a b first events used link
     → SentAll settings b c link more writes (Ok None) next → ServesSoFar settings a c first (events ++ writes) (before used more) next
 serves-drained settings a b c first events writes used more link next so drained =
     let came = first ++ came_of (events ++ writes) in
@@ -256,7 +256,7 @@ final-served site came out used (Err OutOfMemory) next R S final r = (r.last, r.
 final-over : (ending : Ending) → IsFinal ending → ending ≡ Ok EndOfInput → ⊥
 final-over ending final is = let P : Ending → Type 0 = IsFinal in subst P is final
 
-serves-final : (settings : Values) (a b c : Store) (first : List ℕ) (events writes : List LineEvent) (used more : Environment) (link next : ConnectionState) (ending : Ending) → ServesSoFar settings a b first events used link → AreWrites writes
+serves-final : (settings : SettingsValues) (a b c : Store) (first : List ℕ) (events writes : List LineEvent) (used more : Environment) (link next : ConnectionState) (ending : Ending) → ServesSoFar settings a b first events used link → AreWrites writes
     → Advances settings b c link more (went_of writes) (Some ending) next → IsFinal ending → ServesPromptly settings a c first (events ++ writes) (before used more) ending
 serves-final settings a b c first events writes used more link next ending so only turned final =
     let site = site_of settings a in
@@ -275,7 +275,7 @@ serves-final settings a b c first events writes used more link next ending so on
     }
 
 -- a fault of the writer
-serves-part : (settings : Values) (a b c : Store) (first : List ℕ) (events writes : List LineEvent) (used more : Environment) (link next : ConnectionState) (unsent : List ℕ) (ending : Option Ending) → ServesSoFar settings a b first events used link → AreWrites writes
+serves-part : (settings : SettingsValues) (a b c : Store) (first : List ℕ) (events writes : List LineEvent) (used more : Environment) (link next : ConnectionState) (unsent : List ℕ) (ending : Option Ending) → ServesSoFar settings a b first events used link → AreWrites writes
     → Advances settings b c link more (went_of writes ++ unsent) ending next → ServesPromptly settings a c first (events ++ writes) (before used more) (Err Write)
 serves-part settings a b c first events writes used more link next unsent ending so only turned =
     let site = site_of settings a in
@@ -293,13 +293,13 @@ serves-part settings a b c first events writes used more link next unsent ending
           (serves-then settings a b c first events writes used more link next (went_of writes ++ unsent) ending so only turned));
     }
 
-pub serves-ended : (settings : Values) (a b c : Store) (first : List ℕ) (events writes : List LineEvent) (used more : Environment) (link next : ConnectionState) (waits : Type 0) (served : Served) → ServesSoFar settings a b first events used link
+pub serves-ended : (settings : SettingsValues) (a b c : Store) (first : List ℕ) (events writes : List LineEvent) (used more : Environment) (link next : ConnectionState) (waits : Type 0) (served : Served) → ServesSoFar settings a b first events used link
     → SentAll settings b c link more writes (Ok (Some served)) next → IsOwnEnd waits (Ok (Some served)) → ServesPromptly settings a c first (events ++ writes) (before used more) (Ok served)
 serves-ended settings a b c first events writes used more link next waits EndOfInput so drained own = absurd own
 serves-ended settings a b c first events writes used more link next waits Closed so drained own = serves-final settings a b c first events writes used more link next (Ok Closed) so drained.0 drained.1 tt
 serves-ended settings a b c first events writes used more link next waits (Refused code) so drained own = serves-final settings a b c first events writes used more link next (Ok (Refused code)) so drained.0 drained.1 tt
 
-pub serves-failed : (settings : Values) (a b c : Store) (first : List ℕ) (events writes : List LineEvent) (used more : Environment) (link next : ConnectionState) (waits : Type 0) (fault : ServeFault) → ServesSoFar settings a b first events used link
+pub serves-failed : (settings : SettingsValues) (a b c : Store) (first : List ℕ) (events writes : List LineEvent) (used more : Environment) (link next : ConnectionState) (waits : Type 0) (fault : ServeFault) → ServesSoFar settings a b first events used link
     → SentAll settings b c link more writes (Err fault) next → IsOwnEnd waits (Err fault) → ServesPromptly settings a c first (events ++ writes) (before used more) (Err fault)
 serves-failed settings a b c first events writes used more link next waits Read so drained own = absurd own
 serves-failed settings a b c first events writes used more link next waits Write so drained own = serves-part settings a b c first events writes used more link next drained.1.0 drained.1.1 so drained.0 drained.1.2
@@ -309,7 +309,7 @@ serves-failed settings a b c first events writes used more link next waits OutOf
 -- ---- the end of the input
 
 -- less than a chunk waits, and nothing more was read
-serves-over : (settings : Values) (a b : Store) (first : List ℕ) (events : List LineEvent) (piece : Option (List ℕ)) (used : Environment) (link : ConnectionState) (ending : Ending) → ServesSoFar settings a b first events used link → came_in (Came piece) ≡ []
+serves-over : (settings : SettingsValues) (a b : Store) (first : List ℕ) (events : List LineEvent) (piece : Option (List ℕ)) (used : Environment) (link : ConnectionState) (ending : Ending) → ServesSoFar settings a b first events used link → came_in (Came piece) ≡ []
     → (ending ≡ Ok EndOfInput → piece ≡ Some []) → NeedsBytes link
     → ((R : Content) (came out : List ℕ) (all : Environment) (last : ClientState) → IsWhole (chunks (site_of settings a)) (record { client = new_client; content = R }) came all out (Ok EndOfInput) last
     → IsServed (chunks (site_of settings a)) (record { client = new_client; content = R }) came all out ending last)
@@ -346,19 +346,19 @@ serves-over settings a b first events piece used link ending so none over short 
     )
 
 -- the input is at its end
-pub serves-end : (settings : Values) (a b : Store) (first : List ℕ) (events : List LineEvent) (used : Environment) (link : ConnectionState) (bytes : List ℕ) → ServesSoFar settings a b first events used link → bytes ≡ [] → NeedsBytes link
+pub serves-end : (settings : SettingsValues) (a b : Store) (first : List ℕ) (events : List LineEvent) (used : Environment) (link : ConnectionState) (bytes : List ℕ) → ServesSoFar settings a b first events used link → bytes ≡ [] → NeedsBytes link
     → (more : Environment) × (more.readings ≡ []) × ServesPromptly settings a b first (events ++ Came (Some bytes) ∷ []) (before used more) (Ok EndOfInput)
 serves-end settings a b first events used link bytes so empty short = serves-over settings a b first events (Some bytes) used link (Ok EndOfInput) so empty (λ e. ap (λ (b : List ℕ). Some b) empty) short (λ R came out all last w. w)
 
 -- a fault of the reader
-pub serves-read : (settings : Values) (a b : Store) (first : List ℕ) (events : List LineEvent) (used : Environment) (link : ConnectionState) → ServesSoFar settings a b first events used link → NeedsBytes link
+pub serves-read : (settings : SettingsValues) (a b : Store) (first : List ℕ) (events : List LineEvent) (used : Environment) (link : ConnectionState) → ServesSoFar settings a b first events used link → NeedsBytes link
     → (more : Environment) × (more.readings ≡ []) × ServesPromptly settings a b first (events ++ Came None ∷ []) (before used more) (Err Read)
 serves-read settings a b first events used link so short = serves-over settings a b first events None used link (Err Read) so refl (λ e. absurd cc) short (λ R came out all last w. w)
 
 -- ---- memory for bytes that came is wanting
 
 -- an ERR says so, for bytes that wait
-serves-want : (settings : Values) (a b : Store) (first : List ℕ) (events writes : List LineEvent) (used : Environment) (fed : ConnectionState) (result : Ending) → ServesSoFar settings a b first events used fed
+serves-want : (settings : SettingsValues) (a b : Store) (first : List ℕ) (events writes : List LineEvent) (used : Environment) (fed : ConnectionState) (result : Ending) → ServesSoFar settings a b first events used fed
     → 0 < length fed.waiting → SendsRefusal BAD_OUT_OF_MEMORY writes result → (more : Environment) × (more.readings ≡ []) × ServesPromptly settings a b first (events ++ writes) (before used more) result
 serves-want settings a b first events writes used fed result now some sends = go result sends
   where
@@ -393,7 +393,7 @@ serves-want settings a b first events writes used fed result now some sends = go
         let P : List LineEvent → Type 0 = λ w. ServesPromptly settings a b first (events ++ w) (before used (marked t.0)) (Err OutOfMemory) in
         (marked t.0, refl, subst P (sym s) (serves-final settings a b b first events [] used (marked t.0) fed fed (Err OutOfMemory) now tt (subst T (sym t.1.1) t.1.2) tt))
 
-pub serves-starved : (settings : Values) (a b : Store) (first : List ℕ) (events writes : List LineEvent) (used : Environment) (link : ConnectionState) (bytes : List ℕ) (result : Ending) → ServesSoFar settings a b first events used link → NeedsBytes link
+pub serves-starved : (settings : SettingsValues) (a b : Store) (first : List ℕ) (events writes : List LineEvent) (used : Environment) (link : ConnectionState) (bytes : List ℕ) (result : Ending) → ServesSoFar settings a b first events used link → NeedsBytes link
     → 0 < length bytes → SendsRefusal BAD_OUT_OF_MEMORY writes result
     → (more : Environment) × (more.readings ≡ []) × ServesPromptly settings a b first ((events ++ Came (Some bytes) ∷ []) ++ writes) (before used more) result
 serves-starved settings a b first events writes used link bytes result so short some sends =
@@ -401,7 +401,7 @@ serves-starved settings a b first events writes used link bytes result so short 
     serves-want settings a b first (events ++ Came (Some bytes) ∷ []) writes used fed result (serves-fed settings a b first events used link fed bytes so short refl) (omega (arith, some, length-append link.waiting bytes)) sends
 
 -- memory for bytes that were read before was wanting
-pub serves-unfed : (settings : Values) (a : Store) (first : List ℕ) (writes : List LineEvent) (result : Ending) → 0 < length first → SendsRefusal BAD_OUT_OF_MEMORY writes result
+pub serves-unfed : (settings : SettingsValues) (a : Store) (first : List ℕ) (writes : List LineEvent) (result : Ending) → 0 < length first → SendsRefusal BAD_OUT_OF_MEMORY writes result
     → (more : Environment) × (more.readings ≡ []) × ServesPromptly settings a a first writes (before empty_environment more) result
 serves-unfed settings a first writes result some sends = serves-want settings a a first [] writes empty_environment (start_of first) result (serves-start settings a (start_of first) refl) some sends
 
@@ -426,7 +426,7 @@ passed-over : (a b : Ways) (front : List LineEvent) → Passes a (front ++ Came 
 passed-over a b [] p = let P : Ways → Type 0 = λ w. IsAtEnd w.unread in subst P p.2 (p.1.1 refl)
 passed-over a b (event ∷ front) p = passed-over p.0 b front p.2
 
-pub behind_known : (settings : Values) (a b : Store) (first : List ℕ) (events : List LineEvent) (old new : Ways) (used : Environment) (ending : Ending) → ServesPromptly settings a b first events used ending → Passes old events new
+pub behind_known : (settings : SettingsValues) (a b : Store) (first : List ℕ) (events : List LineEvent) (old new : Ways) (used : Environment) (ending : Ending) → ServesPromptly settings a b first events used ending → Passes old events new
     → ServesBehind settings a b first old.unread new.unread old.written new.written used ending
 behind_known settings a b first events old new used ending serves passes =
     let known = passed-known old new events passes in

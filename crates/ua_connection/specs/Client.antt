@@ -170,43 +170,44 @@ responded site standing state request message now =
 
 -- what a chunk came to is answered, by one reading of the clock for each opening and each whole
 -- message
-abbrev pub answered_come : ServerConfig → ClientState → ChannelState → Taken → Answering
-answered_come site standing state taken.Nothing = give (goes standing [] (Some state))
-answered_come site standing state (taken.Opening request) =
+abbrev pub answer_to_taken : ServerConfig → ClientState → ChannelState → Taken → Answering
+answer_to_taken site standing state taken.Nothing = give (goes standing [] (Some state))
+answer_to_taken site standing state (taken.Opening request) =
     and_then clock (opened standing state request)
-answered_come site standing state (taken.Message request message) =
+answer_to_taken site standing state (taken.Message request message) =
     and_then clock (responded site standing state request message)
-answered_come site standing state (taken.Aborted request) = give (goes standing [] (Some state))
-answered_come site standing state taken.Closed = give (ends standing [] (Ok Closed))
+answer_to_taken site standing state (taken.Aborted request) = give (goes standing [] (Some state))
+answer_to_taken site standing state taken.Closed = give (ends standing [] (Ok Closed))
 
 -- a channel that took a well placed chunk
 abbrev pub with_chunk : ChannelState → Placed → ChannelState
 with_chunk state placed = record state { heard = heard_after state.heard placed }
 
 -- by its place among the chunks before it: a well placed one is answered, and another one refused
-abbrev pub answered_placed : ServerConfig → ClientState → ChannelState → Result Placed ChannelFault
+abbrev pub placed_answer : ServerConfig → ClientState → ChannelState → Result Placed ChannelFault
     → Answering
-answered_placed site standing state given =
+placed_answer site standing state given =
     elim given [
-      | Ok placed ↦ answered_come site standing (with_chunk state placed)
+      | Ok placed ↦ answer_to_taken site standing (with_chunk state placed)
           (taken_answer state.heard placed)
       | Err fault ↦ refuse standing (channel.channel_fault_status fault)
     ]
 
 -- a chunk that is no Hello: its channel takes it; without an Acknowledge before it, it is refused
-abbrev pub answered_on : ServerConfig → ClientState → Option ChannelState → ChunkContent → Answering
-answered_on site standing given piece =
+abbrev pub channel_chunk_answer : ServerConfig → ClientState → Option ChannelState → ChunkContent
+    → Answering
+channel_chunk_answer site standing given piece =
     elim given [
       | None ↦ refuse standing BAD_TCP_MESSAGE_TYPE_INVALID
-      | Some state ↦ answered_placed site standing state (placed_chunk state.heard piece)
+      | Some state ↦ placed_answer site standing state (placed_chunk state.heard piece)
     ]
 
 -- a whole chunk is answered, by its kind; a second Hello is ill (`chunk_header`)
-abbrev pub answered_piece : ServerConfig → ClientState → Kind → ChunkContent → Answering
-answered_piece site standing kind piece =
+abbrev pub chunk_answer : ServerConfig → ClientState → Kind → ChunkContent → Answering
+chunk_answer site standing kind piece =
     elim kind [
       | Hello ↦ greeted standing (hello_at piece.body)
-      | _ ↦ answered_on site standing standing.client.channel piece
+      | _ ↦ channel_chunk_answer site standing standing.client.channel piece
     ]
 
 -- ---- connections
@@ -219,17 +220,17 @@ pub data Item : Type 0 where
 
 -- a chunk is answered, but the 1,000,001st ends it unanswered; a fault is refused; a part of one at
 -- the end of the input ends it
-abbrev pub answered_item : ServerConfig → ClientState → Item → Answering
-answered_item site standing (whole piece) =
+abbrev pub item_answer : ServerConfig → ClientState → Item → Answering
+item_answer site standing (whole piece) =
     if standing.client.taken == 1000000 then give (ends standing [] (Err TooLong))
-    else answered_piece site standing piece.kind piece
-answered_item site standing (ill fault) = refuse standing (uacp_fault_status fault)
-answered_item site standing partial = give (ends standing [] (Ok EndOfInput))
+    else chunk_answer site standing piece.kind piece
+item_answer site standing (ill fault) = refuse standing (uacp_fault_status fault)
+item_answer site standing partial = give (ends standing [] (Ok EndOfInput))
 
 -- memory for what stands first is had, and it is answered; or it is wanting
 abbrev pub answer : ServerConfig → ClientState → Item → Answering
 answer site standing item =
-    or_out_of_memory (answered_item site standing item) (refuse standing BAD_OUT_OF_MEMORY)
+    or_out_of_memory (item_answer site standing item) (refuse standing BAD_OUT_OF_MEMORY)
 
 -- the item that this header, or its want, makes of some bytes, and how many of them it has
 abbrev pub found : List ℕ → Result (Option Header) UacpFault → Item × ℕ

@@ -6,7 +6,7 @@ use Rattle.uacp.specs.declared.types.Letter.TheVariants.{Final}
 use Rattle.uacp.specs.declared.types.UacpFault.{UacpFault}
 use Rattle.uacp.specs.declared.greeting.Hello.{Hello}
 use Rattle.uacp.specs.declared.greeting.Ack.{Ack}
-use Rattle.uacp.specs.Stream.{ChunkContent, Splits}
+use Rattle.uacp.specs.Stream.{ChunkContent, AreChunksThenRest}
 use Rattle.uacp.specs.Greeting.{hello_at, ack_of}
 use Rattle.uacp.specs.Fault.{uacp_fault_status}
 use Rattle.ua_channel.specs.Fault as channel
@@ -43,7 +43,7 @@ pub record Chunked (bytes : List ℕ) : Type 0 where
   pub pieces : List ChunkContent
   pub rest : List ℕ
   pub fault : Option UacpFault
-  pub splits : Splits (limits_by granted) bytes pieces rest fault
+  pub splits : AreChunksThenRest (limits_by granted) bytes pieces rest fault
   pub grants : IsGranted pieces granted
 
 -- ---- a chunk of the channel
@@ -58,33 +58,35 @@ opening_behind past request handle lifetime =
 -- by its opening. The last chunk of a message is answered by the message's service, over all its
 -- bodies joined. A chunk within a message, or one that gives it up, is answered by nothing. CLO is
 -- the end.
-abbrev pub answered_well : ServerConfig → ClientState → ChannelState → List Placed → Placed
+abbrev pub well_placed_answer : ServerConfig → ClientState → ChannelState → List Placed → Placed
     → Answering
-answered_well site standing state past (Opens sequence asked) = and_then clock
+well_placed_answer site standing state past (Opens sequence asked) = and_then clock
     (opened standing state (opening_behind past sequence.1 asked.handle asked.lifetime))
-answered_well site standing state past (Says Final numbers body) = and_then clock
+well_placed_answer site standing state past (Says Final numbers body) = and_then clock
     (responded site standing state numbers.request_id (bodies_of (open_run past) ++ body))
-answered_well site standing state past (Says letter numbers body) =
+well_placed_answer site standing state past (Says letter numbers body) =
     give (goes standing [] (Some state))
-answered_well site standing state past (Closes numbers) = give (ends standing [] (Ok Closed))
+well_placed_answer site standing state past (Closes numbers) = give (ends standing [] (Ok Closed))
 
 -- Any chunk is answered by its place behind `past`, which is what the channel has heard; one that
 -- isn't well placed is refused.
-abbrev pub answered_at : ServerConfig → List Placed → ClientState → ChannelState → ChunkContent
+abbrev pub answer_behind : ServerConfig → List Placed → ClientState → ChannelState → ChunkContent
     → Answering
-answered_at site past standing state piece = elim (placed_chunk (heard_of past) piece) [
+answer_behind site past standing state piece = elim (placed_chunk (heard_of past) piece) [
   | Ok placed ↦
-      answered_well site standing (record state { heard = heard_of (placed ∷ past) }) past placed
+      let with_placed : ChannelState = record state { heard = heard_of (placed ∷ past) } in
+      well_placed_answer site standing with_placed past placed
   | Err fault ↦ refuse standing (channel.channel_fault_status fault)
 ]
 
 -- 1,000,000 chunks are answered and no more
-abbrev pub answered_next : ServerConfig → List Placed → ClientState → ChunkContent → Answering
-answered_next site past standing piece =
+abbrev pub counted_chunk_answer : ServerConfig → List Placed → ClientState → ChunkContent
+    → Answering
+counted_chunk_answer site past standing piece =
     if standing.client.taken == 1000000 then give (ends standing [] (Err TooLong))
     else elim standing.client.channel [
       | None ↦ refuse standing BAD_TCP_MESSAGE_TYPE_INVALID
-      | Some state ↦ answered_at site past standing state piece
+      | Some state ↦ answer_behind site past standing state piece
     ]
 
 -- ---- the connection
@@ -99,32 +101,32 @@ taken_with past piece =
     elim (placed_chunk (heard_of past) piece) [ Ok placed ↦ placed ∷ past | Err fault ↦ past ]
 
 -- the chunks of the channel behind these are answered one after the other, and then the end
-abbrev pub conversed
+abbrev pub channel_answer
     : ServerConfig → (ClientState → Answering) → List Placed → ClientState → List ChunkContent
     → Answering
-conversed site end past standing [] = end standing
-conversed site end past standing (piece ∷ pieces) =
-    and_then (had standing (answered_next site past standing piece))
-    (λ reply. joined (conversed site end (taken_with past piece) reply.state pieces) reply)
+channel_answer site end past standing [] = end standing
+channel_answer site end past standing (piece ∷ pieces) =
+    and_then (had standing (counted_chunk_answer site past standing piece))
+    (λ reply. joined (channel_answer site end (taken_with past piece) reply.state pieces) reply)
 
 -- the end of the stream: a fault is refused; less than a chunk, or nothing, is the input's end
-abbrev pub answered_rest : Option UacpFault → List ℕ → ClientState → Answering
-answered_rest (Some fault) rest standing = had standing (refuse standing (uacp_fault_status fault))
-answered_rest None [] standing = give (ends standing [] (Ok EndOfInput))
-answered_rest None (byte ∷ rest) standing = had standing (give (ends standing [] (Ok EndOfInput)))
+abbrev pub rest_answer : Option UacpFault → List ℕ → ClientState → Answering
+rest_answer (Some fault) rest standing = had standing (refuse standing (uacp_fault_status fault))
+rest_answer None [] standing = give (ends standing [] (Ok EndOfInput))
+rest_answer None (byte ∷ rest) standing = had standing (give (ends standing [] (Ok EndOfInput)))
 
 -- a whole connection: its Hello is answered, then the chunks of the channel, then the end
-abbrev pub answered_chunks : ServerConfig → (ClientState → Answering) → ClientState
+abbrev pub chunks_answer : ServerConfig → (ClientState → Answering) → ClientState
     → List ChunkContent → Answering
-answered_chunks site end standing [] = end standing
-answered_chunks site end standing (first ∷ pieces) =
+chunks_answer site end standing [] = end standing
+chunks_answer site end standing (first ∷ pieces) =
     and_then (had standing (greeted standing (hello_at first.body)))
-    (λ reply. joined (conversed site end [] reply.state pieces) reply)
+    (λ reply. joined (channel_answer site end [] reply.state pieces) reply)
 
 -- the same of a stream, of a client of whom nothing was answered, over what the archive holds
-abbrev pub answered_stream : ServerConfig → Content → (bytes : List ℕ) → Chunked bytes → Answering
-answered_stream site R bytes stream =
-    answered_chunks site (answered_rest stream.fault stream.rest) (new_standing R) stream.pieces
+abbrev pub stream_answer : ServerConfig → Content → (bytes : List ℕ) → Chunked bytes → Answering
+stream_answer site R bytes stream =
+    chunks_answer site (rest_answer stream.fault stream.rest) (new_standing R) stream.pieces
 
 -- The bytes that came are such chunks and a rest. Their answer, which uses just what `used` has of
 -- the outside, is `out`; it ended so, and left `last`.
@@ -132,5 +134,5 @@ pub record IsConversed (site : ServerConfig) (R : Content) (came : List ℕ) (us
     (out : List ℕ) (ending : Ending) (last : ClientState) : Type 0 where
   pub stream : Chunked came
   pub answers : (later : Environment)
-      → answered_stream site R came stream (before used later)
+      → stream_answer site R came stream (before used later)
       ≡ (record { out = out; ending = Some ending; state = last }, later)

@@ -4,7 +4,7 @@ use Rattle.std.specs.Io.KnownBytes.{Appends, Consumes, IsAtEnd}
 use Rattle.records.specs.Contents.{Content}
 use Rattle.archive.specs.Store.{Store}
 use Rattle.archive.specs.Steps.{Transitions}
-use Rattle.ua_settings.specs.Settings.{Values}
+use Rattle.ua_settings.specs.Settings.{SettingsValues}
 use Rattle.historian.specs.Services.{ServerConfig, site_of}
 use Rattle.ua_connection.specs.declared.outcome.Served.TheVariants.{EndOfInput}
 use Rattle.counted_io.specs.declared.fault.ServeFault.TheVariants.{Read, Write}
@@ -45,7 +45,7 @@ IsServed p start came used out ending last =
 
 -- a client was served, of whom these first bytes were read before: by what was read and what the
 -- outside gave, this was written, and what the archive holds is what the answer left
-pub record ServesBehind (settings : Values) (old new : Store) (first : List ℕ)
+pub record ServesBehind (settings : SettingsValues) (old new : Store) (first : List ℕ)
     (unread left : Option (List ℕ)) (before after : Option (List ℕ)) (used : Environment)
     (ending : Ending) : Type 0 where
   pub came : List ℕ
@@ -84,7 +84,7 @@ ArePrompt site R used came out (Went bytes ∷ events) =
 
 -- A client was served, of whom these first bytes were read before, and no answer waited for more to
 -- come: by what passed and what the outside gave, the archive holds what the answer left.
-pub record ServesPromptly (settings : Values) (old new : Store) (first : List ℕ)
+pub record ServesPromptly (settings : SettingsValues) (old new : Store) (first : List ℕ)
     (events : List LineEvent) (used : Environment) (ending : Ending) : Type 0 where
   pub over : ending ≡ Ok EndOfInput
       → (front : List LineEvent) × (events ≡ front ++ Came (Some []) ∷ [])

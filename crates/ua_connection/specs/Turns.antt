@@ -3,13 +3,13 @@ use Rattle.std.specs.Prelude.{◌≡◌, ◌≤◌, ◌<◌, ◌+◌, ◌*◌, �
 use Rattle.ua_binary.specs.declared.codes.Status.{Status}
 use Rattle.ua_binary.specs.declared.codes.TheConstants.Status.{BAD_OUT_OF_MEMORY}
 use Rattle.uacp.specs.Stream.{ChunkContent}
-use Rattle.uacp.specs.Held.{Held, next_of}
+use Rattle.uacp.specs.Held.{IntakeState, next_of}
 use Rattle.uacp.specs.Chunks.{chunk_header}
 use Rattle.uacp.specs.Greeting.{error}
 use Rattle.ua_channel.specs.Taking.{ChannelState}
 use Rattle.ua_channel.specs.Sending.{message_bytes, chunk_count, number_after}
 use Rattle.ua_session.specs.Sessions as session
-use Rattle.ua_settings.specs.Settings.{Values}
+use Rattle.ua_settings.specs.Settings.{SettingsValues}
 use Rattle.records.specs.Contents.{Content}
 use Rattle.archive.specs.Store.{Store, StepResult, faults_of}
 use Rattle.archive.specs.Steps.{Transitions}
@@ -24,7 +24,7 @@ use Rattle.ua_connection.specs.Environments.{Environment, or_out_of_memory, Yiel
 use Rattle.ua_connection.specs.Passing.{LineEvent, Went, AreWrites, came_of, went_of}
 use Rattle.ua_connection.specs.Run.{AnswersStream}
 use Rattle.ua_connection.specs.Serving.{ArePrompt}
-use Rattle.ua_connection.specs.Client.{Client, new_client, ClientState, Ending, Answering, refuse, answered_on, answered_piece, chunks}
+use Rattle.ua_connection.specs.Client.{Client, new_client, ClientState, Ending, Answering, refuse, channel_chunk_answer, chunk_answer, chunks}
 
 -- what a connection keeps: what is known of its client, and the bytes that came and weren't
 -- answered yet
@@ -42,7 +42,7 @@ IsSmall link = (link.client.taken ≤ 1000000) × (link.client.limit ≤ 65536)
 
 -- what a connection keeps, by its intake, the number of chunks that were taken, its channel and its
 -- sessions
-abbrev pub link_of : Held → ℕ → Option ChannelState → session.SessionsState → ConnectionState
+abbrev pub link_of : IntakeState → ℕ → Option ChannelState → session.SessionsState → ConnectionState
 link_of held taken channel sessions = record {
   client =
       record {
@@ -142,14 +142,16 @@ pub record AnsweredHere (given : Content → Answering) (used : List StepResult)
       → Replies (given R) (record { marks = used; readings = [] }) made ending client R
 
 -- memory for a chunk of the channel is had, and it is answered; or it is wanting
-abbrev pub tried_on : ServerConfig → ClientState → Option ChannelState → ChunkContent → Answering
-tried_on site standing channel piece =
-    or_out_of_memory (answered_on site standing channel piece) (refuse standing BAD_OUT_OF_MEMORY)
+abbrev pub channel_chunk_answer_or_starved : ServerConfig → ClientState → Option ChannelState
+    → ChunkContent → Answering
+channel_chunk_answer_or_starved site standing channel piece =
+    or_out_of_memory (channel_chunk_answer site standing channel piece)
+    (refuse standing BAD_OUT_OF_MEMORY)
 
 -- the same of any chunk
-abbrev pub tried : ServerConfig → ClientState → ChunkContent → Answering
-tried site standing piece =
-    or_out_of_memory (answered_piece site standing piece.kind piece)
+abbrev pub chunk_answer_or_starved : ServerConfig → ClientState → ChunkContent → Answering
+chunk_answer_or_starved site standing piece =
+    or_out_of_memory (chunk_answer site standing piece.kind piece)
     (refuse standing BAD_OUT_OF_MEMORY)
 
 -- ---- stretches of the answer
@@ -168,7 +170,7 @@ pub record AnswersBytes (site : ServerConfig) (link : ConnectionState) (R : Cont
       (record { out = made; ending = ending; state = last }) next.waiting
 
 -- a stretch of the answer over an archive
-abbrev pub Advances : Values → Store → Store → ConnectionState → Environment → List ℕ
+abbrev pub Advances : SettingsValues → Store → Store → ConnectionState → Environment → List ℕ
     → Option Ending → ConnectionState → Type 0
 Advances settings old new link used made ending next =
     Transitions old new used.marks
@@ -177,8 +179,8 @@ Advances settings old new link used made ending next =
     (record used { marks = marks }) made ending next S)
 
 -- the same, where the bytes were appended
-abbrev pub AdvancesInto : Values → Store → Store → ConnectionState → Environment → List ℕ → List ℕ
-    → Option Ending → ConnectionState → Type 0
+abbrev pub AdvancesInto : SettingsValues → Store → Store → ConnectionState → Environment → List ℕ
+    → List ℕ → Option Ending → ConnectionState → Type 0
 AdvancesInto settings old new link used before after ending next =
     (made : List ℕ) × (after ≡ before ++ made)
     × Advances settings old new link used made ending next
@@ -207,7 +209,7 @@ SendsTurn old request body (Err fault) before after new = (fault ≡ OutOfMemory
 -- ---- what is left
 
 -- what an intake would give next is what stands first in the bytes that wait
-abbrev pub IsNextCurrent : Held → Type 0
+abbrev pub IsNextCurrent : IntakeState → Type 0
 IsNextCurrent held = next_of held ≡ chunk_header held.greeted held.limit held.waiting
 
 -- fewer bytes wait, by one chunk, which has at most 65,536
@@ -215,14 +217,14 @@ abbrev pub IsChunkLess : List ℕ → List ℕ → Type 0
 IsChunkLess old new = (length new < length old) × (length old ≤ length new + 65536)
 
 -- a chunk was given out of the intake
-pub record GivesOne (old new : Held) : Type 0 where
+pub record GivesOne (old new : IntakeState) : Type 0 where
   pub greeted : new.greeted ≡ true
   pub limit : new.limit ≡ old.limit
   pub failed : new.failed ≡ None
   pub less : IsChunkLess old.waiting new.waiting
 
 -- what a turn leaves in the intake
-abbrev pub LeavesIntake : Result Step ServeFault → Held → Held → Type 0
+abbrev pub LeavesIntake : Result Step ServeFault → IntakeState → IntakeState → Type 0
 LeavesIntake (Ok NeedsInput) old new = new ≡ old
 LeavesIntake (Ok (Acknowledged limit)) old new = GivesOne old new
 LeavesIntake (Ok Continues) old new = GivesOne old new
@@ -254,7 +256,7 @@ IsCounted taken (Err fault) = Unit {0}
 -- ---- what was written
 
 -- this is the answer to the chunks at hand; where the writer failed, a first part of that
-abbrev pub DrainsTo : Values → Store → Store → ConnectionState → Environment → List ℕ
+abbrev pub DrainsTo : SettingsValues → Store → Store → ConnectionState → Environment → List ℕ
     → Result (Option Served) ServeFault → ConnectionState → Type 0
 DrainsTo settings old new link used out (Ok None) next =
     Advances settings old new link used out None next
@@ -267,14 +269,14 @@ DrainsTo settings old new link used out (Err fault) next =
     Advances settings old new link used out (Some (Err fault)) next
 
 -- the chunks at hand were answered, and the answer was written
-abbrev pub SentAll : Values → Store → Store → ConnectionState → Environment → List LineEvent
+abbrev pub SentAll : SettingsValues → Store → Store → ConnectionState → Environment → List LineEvent
     → Result (Option Served) ServeFault → ConnectionState → Type 0
 SentAll settings old new link used events result next =
     AreWrites events × DrainsTo settings old new link used (went_of events) result next
 
 -- the answer so far, and what went out of it
-abbrev pub DrainedSoFar : Values → Store → Store → ConnectionState → Environment → List LineEvent
-    → ConnectionState → Type 0
+abbrev pub DrainedSoFar : SettingsValues → Store → Store → ConnectionState → Environment
+    → List LineEvent → ConnectionState → Type 0
 DrainedSoFar settings old new link used events next =
     AreWrites events × Advances settings old new link used (went_of events) None next
 
@@ -294,8 +296,8 @@ new_link = record { client = new_client; waiting = [] }
 
 -- by what passed so far the connection stands like this, and whenever more was read, all that had
 -- come till then was answered
-abbrev pub ServesSoFar : Values → Store → Store → (first : List ℕ) → List LineEvent → Environment
-    → ConnectionState → Type 0
+abbrev pub ServesSoFar : SettingsValues → Store → Store → (first : List ℕ) → List LineEvent
+    → Environment → ConnectionState → Type 0
 ServesSoFar settings old new first events used link = Transitions old new used.marks (λ marks R S.
     AnswersBytes (site_of settings old)
     (record { client = new_client; waiting = first ++ came_of events }) R

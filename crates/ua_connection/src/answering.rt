@@ -5,8 +5,8 @@ ghost use Rattle.archive.specs.Store.{StepResult};
 ghost use Rattle.ua_channel.specs.Taking.{LeavesReady, piece_of};
 ghost use Rattle.historian.specs.Services.{site_of};
 ghost use Rattle.ua_connection.specs.Environments.{Environment};
-ghost use Rattle.ua_connection.specs.Client.{Client, opened, answered_come};
-ghost use Rattle.ua_connection.specs.Turns.{IsOwn, AnsweredHere, Answered, ending_of, client_after, standing_of, tried_on, tried};
+ghost use Rattle.ua_connection.specs.Client.{Client, opened, answer_to_taken};
+ghost use Rattle.ua_connection.specs.Turns.{IsOwn, AnsweredHere, Answered, ending_of, client_after, standing_of, channel_chunk_answer_or_starved, chunk_answer_or_starved};
 
 use crate::clock::Clock;
 use crate::greeting::greet;
@@ -60,7 +60,7 @@ fn answer_item<A: Archive, C: Clock>(
         → (used : Environment) × C.gave clock.old used.readings clock.new
         × Answered (A.state archive.old) (A.state archive.new)
         (λ R.
-        answered_come (site_of settings.now (A.state archive.old))
+        answer_to_taken (site_of settings.now (A.state archive.old))
         (standing_of client sessions.old R) channel.old taken.entry) used out.old.items
         out.new.items (ending_of result)
         (client_after client result (Some channel.new) sessions.new) }
@@ -105,7 +105,7 @@ fn answer_channel_chunk<A: Archive, C: Clock>(
         → (used : Environment) × C.gave clock.old used.readings clock.new
         × Answered (A.state archive.old) (A.state archive.new)
         (λ R.
-        tried_on (site_of settings.now (A.state archive.old))
+        channel_chunk_answer_or_starved (site_of settings.now (A.state archive.old))
         (standing_of client sessions.old R) channel.old (piece_of chunk.entry)) used out.old.items
         out.new.items (ending_of result) (client_after client result channel.new sessions.new) }
     ensures own { IsOwn ⊥ 65536 result }
@@ -137,7 +137,7 @@ pub(crate) fn answer_chunk<A: Archive, C: Clock>(
         → (used : Environment) × C.gave clock.old used.readings clock.new
         × Answered (A.state archive.old) (A.state archive.new)
         (λ R.
-        tried (site_of settings.now (A.state archive.old))
+        chunk_answer_or_starved (site_of settings.now (A.state archive.old))
         (standing_of (record client { channel = channel.old }) sessions.old R)
         (piece_of chunk.entry)) used out.old.items out.new.items (ending_of result)
         (client_after client result channel.new sessions.new) }

@@ -7,9 +7,9 @@ ghost use Rattle.historian.specs.Services.{ServerConfig};
 ghost use Rattle.ua_connection.specs.Environments.{Environment};
 ghost use Rattle.archive.specs.Steps.{and_then};
 ghost use Rattle.ua_connection.specs.Run.{stream_answered, joined, ended};
-ghost use Rattle.ua_connection.specs.Client.{ClientState, Ending, Item, whole, ends, answered_item, answer, chunks, next};
+ghost use Rattle.ua_connection.specs.Client.{ClientState, Ending, Item, whole, ends, item_answer, answer, chunks, next};
 ghost use Rattle.ua_connection.specs.Serving.{new_standing, IsServed};
-ghost use Rattle.ua_connection.specs.Conversation.{Chunked, answered_stream, IsConversed};
+ghost use Rattle.ua_connection.specs.Conversation.{Chunked, stream_answer, IsConversed};
 
 use counted_io::ServeFault;
 
@@ -19,7 +19,7 @@ use counted_io::ServeFault;
 pub fn chunks_are_counted()
     ensures one_too_many { (site : ServerConfig) (standing : ClientState) (piece : ChunkContent)
         (later : Environment) → standing.client.taken ≡ 1000000
-        → answered_item site standing (whole piece) later
+        → item_answer site standing (whole piece) later
         ≡ (ends standing [] (Err ServeFault.TooLong), later) }
     ensures no_sooner { (site : ServerConfig) (standing : ClientState) (item : Item)
         (outside : Environment)
@@ -56,7 +56,7 @@ pub fn connections_are_answered_chunk_by_chunk()
     ensures answers { (site : ServerConfig) (R : Content) (bytes : List ℕ) (stream : Chunked bytes)
         (outside : Environment)
         → stream_answered (chunks site) (new_standing R) bytes outside
-        ≡ answered_stream site R bytes stream outside }
+        ≡ stream_answer site R bytes stream outside }
     ensures served { (site : ServerConfig) (R : Content) (came out : List ℕ) (used : Environment)
         (ending : Ending) (last : ClientState)
         → IsServed (chunks site) (new_standing R) came used out ending last

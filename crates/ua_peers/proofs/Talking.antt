@@ -15,7 +15,7 @@ use Rattle.exchange.specs.declared.message.State.{State}
 use Rattle.exchange.specs.declared.message.State.TheVariants.{Pulling, Pushing, Serving, Done, Failed}
 use Rattle.exchange.specs.Batches.{longest_frame}
 use Rattle.exchange.specs.Named.{Header, end_frame}
-use Rattle.exchange.specs.Frames.{frame_header, titled, kind_at, frame_size_at, no_frames, Held, Gives, next_of, after_next}
+use Rattle.exchange.specs.Frames.{frame_header, titled, kind_at, frame_size_at, no_frames, ReceivedFrames, Gives, next_of, after_next}
 use Rattle.exchange.specs.Streams.{FrameContent, header_of}
 use Rattle.exchange.specs.Dialogs.{DialogState, is_over, is_due, unfit, Takes, TellsFault}
 use Rattle.exchange.proofs.DialogsParts.{taken_after}
@@ -90,33 +90,33 @@ few-cut bytes few = let low : nat_lt (length bytes) 8 ≡ true = lt-ltb _ _ few 
 
 -- ---- the first frame
 
-next-cut : (held : Held) → held.failed ≡ false → next_of held ≡ frame_header held.waiting
+next-cut : (held : ReceivedFrames) → held.failed ≡ false → next_of held ≡ frame_header held.waiting
 next-cut held sound = go held.failed sound
   where
     go : (x : Bool) → x ≡ false → cond x (Err exchange.Frame) (frame_header held.waiting) ≡ frame_header held.waiting
     go false p = refl
     go true p = absurd (true≢false p)
 
-pub first-none : (a : Store) (s : DialogState) (held left : Held) (out : List ℕ) → held.failed ≡ false → next_of held ≡ Ok None → left ≡ after_next held (next_of held) → out ≡ []
+pub first-none : (a : Store) (s : DialogState) (held left : ReceivedFrames) (out : List ℕ) → held.failed ≡ false → next_of held ≡ Ok None → left ≡ after_next held (next_of held) → out ≡ []
     → Talks s a a held.waiting out left.waiting None s
 first-none a s held left out sound e is none =
     let same : left ≡ held = is ∙ ap (after_next held) e in
     subst (λ (o : List ℕ). Talks s a a held.waiting o left.waiting None s) (sym none)
-    (subst (λ (h : Held). Talks s a a held.waiting [] h.waiting None s) (sym same) (talks-start s a held.waiting))
+    (subst (λ (h : ReceivedFrames). Talks s a a held.waiting [] h.waiting None s) (sym same) (talks-start s a held.waiting))
 
-pub leaves-none : (s : DialogState) (held left : Held) → held.failed ≡ false → next_of held ≡ Ok None → left ≡ after_next held (next_of held) → LeavesOne held left s s None
+pub leaves-none : (s : DialogState) (held left : ReceivedFrames) → held.failed ≡ false → next_of held ≡ Ok None → left ≡ after_next held (next_of held) → LeavesOne held left s s None
 leaves-none s held left sound e is = (sym (next-cut held sound) ∙ e, is ∙ ap (after_next held) e, refl)
 
 piece_of : Lent → FrameContent
 piece_of frame = record { kind = frame.kind; body = frame.body.now }
 
-pub first-some : (a b : Store) (before next : DialogState) (held left : Held) (frame : Lent) (empty out : List ℕ) (result : Result State ExchangeFault) → held.failed ≡ false → Gives held (Ok (Some frame))
+pub first-some : (a b : Store) (before next : DialogState) (held left : ReceivedFrames) (frame : Lent) (empty out : List ℕ) (result : Result State ExchangeFault) → held.failed ≡ false → Gives held (Ok (Some frame))
     → left ≡ after_next held (next_of held) → empty ≡ [] → Takes a b before next frame.kind frame.body.now empty out result
     → Talks before a b held.waiting out left.waiting (ended_as next.code (is_silent out) result) next
 first-some a b before next held left frame empty out result sound gives is none takes =
     let piece : FrameContent = record { kind = frame.kind; body = frame.body.now } in
     let stands : frame_header held.waiting ≡ Ok (Some (header_of (record { kind = frame.kind; body = frame.body.now }))) = sym (next-cut held sound) ∙ gives.0 in
-    let rest : left.waiting ≡ drop (8 + length frame.body.now) held.waiting = ap (λ (h : Held). h.waiting) (is ∙ ap (after_next held) gives.0) in
+    let rest : left.waiting ≡ drop (8 + length frame.body.now) held.waiting = ap (λ (h : ReceivedFrames). h.waiting) (is ∙ ap (after_next held) gives.0) in
     let taken : Takes a b before next frame.kind frame.body.now [] out result = subst (λ (o : List ℕ). Takes a b before next frame.kind frame.body.now o out result) none takes in
     subst (λ (w : List ℕ). Talks before a b held.waiting out w (ended_as next.code (is_silent out) result) next) (sym rest)
     (talks-frame a b before next (record { kind = frame.kind; body = frame.body.now }) held.waiting out result stands gives.1 gives.2 taken)
@@ -132,30 +132,30 @@ few-so s kind e = ltb-so (few-if (is_over s.state) (is_due s.state kind) (nat_le
     ltb-so : nat_le 1000000 s.taken ≡ false → s.taken < 1000000
     ltb-so e = grind (arith, e)
 
-pub leaves-some : (a b : Store) (before next : DialogState) (held left : Held) (frame : Lent) (empty out : List ℕ) (result : Result State ExchangeFault) → held.failed ≡ false → Gives held (Ok (Some frame))
+pub leaves-some : (a b : Store) (before next : DialogState) (held left : ReceivedFrames) (frame : Lent) (empty out : List ℕ) (result : Result State ExchangeFault) → held.failed ≡ false → Gives held (Ok (Some frame))
     → left ≡ after_next held (next_of held) → Takes a b before next frame.kind frame.body.now empty out result → LeavesOne held left before next (Some result)
 leaves-some a b before next held left frame empty out (Err fault) sound gives is takes = tt
 leaves-some a b before next held left frame empty out (Ok state) sound gives is takes =
     let same = is ∙ ap (after_next held) gives.0 in
-    let rest : left.waiting ≡ drop (8 + length frame.body.now) held.waiting = ap (λ (h : Held). h.waiting) same in
+    let rest : left.waiting ≡ drop (8 + length frame.body.now) held.waiting = ap (λ (h : ReceivedFrames). h.waiting) same in
     let count : length left.waiting ≡ length (drop (8 + length frame.body.now) held.waiting) = ap length rest in
     let low = gives.1.0 in
     let whole = gives.1.1 in
     let most = gives.1.2 in
     record {
-      sound = ap (λ (h : Held). h.failed) same ∙ sound;
+      sound = ap (λ (h : ReceivedFrames). h.failed) same ∙ sound;
       less = omega (arith, count, length-drop (8 + length frame.body.now) held.waiting, low, whole);
       most = omega (arith, count, length-drop (8 + length frame.body.now) held.waiting, most, whole);
       counted = takes.counted ∙ ap (λ (o : Option ExchangeFault). taken_after o before.taken) takes.fit;
       few = few-so before frame.kind takes.fit;
     }
 
-pub first-ill : (a : Store) (s : DialogState) (held left : Held) (fault told : ExchangeFault) (out : List ℕ) → held.failed ≡ false → next_of held ≡ Err fault → left ≡ after_next held (next_of held)
+pub first-ill : (a : Store) (s : DialogState) (held left : ReceivedFrames) (fault told : ExchangeFault) (out : List ℕ) → held.failed ≡ false → next_of held ≡ Err fault → left ≡ after_next held (next_of held)
     → TellsFault exchange.Frame (Err told) [] out → Talks s a a held.waiting out left.waiting (ended_as s.code (is_silent out) (Err told)) s
 first-ill a s held left fault told out sound e is tells =
     let cuts : frame_header held.waiting ≡ Err fault = sym (next-cut held sound) ∙ e in
     let ill : frame_header held.waiting ≡ Err exchange.Frame = cuts ∙ ap (λ (f : ExchangeFault). let r : Result (Option Header) ExchangeFault = Err f in r) (ill-cut held.waiting fault cuts) in
-    let rest : left.waiting ≡ held.waiting = ap (λ (h : Held). h.waiting) (is ∙ ap (after_next held) e) in
+    let rest : left.waiting ≡ held.waiting = ap (λ (h : ReceivedFrames). h.waiting) (is ∙ ap (after_next held) e) in
     subst (λ (w : List ℕ). Talks s a a held.waiting out w (Some (failed_as (is_silent out) told)) s) (sym rest) (talks-ill a s held.waiting out told ill tells)
 
 -- ---- a stretch
@@ -246,7 +246,7 @@ drains-part start mid last a b c old written sent came rest left said ending res
 
 -- ---- what is left
 
-pub ready-more : (mid last : DialogState) (frames left : Held) (code : Option ℕ) (silent : Bool) (first : Option (Result State ExchangeFault)) → None ≡ stop_of code silent first → last.started ≡ true → LeavesOne frames left mid last first
+pub ready-more : (mid last : DialogState) (frames left : ReceivedFrames) (code : Option ℕ) (silent : Bool) (first : Option (Result State ExchangeFault)) → None ≡ stop_of code silent first → last.started ≡ true → LeavesOne frames left mid last first
     → IsReady last × TakesOne frames left mid last
 ready-more mid last frames left code silent first e started leaves =
     let goes = goes-so code silent first e in
@@ -255,13 +255,13 @@ ready-more mid last frames left code silent first e started leaves =
     let few = one.few in
     (record { started = started; few = omega (arith, counted, few) }, one)
 
-pub no-less-more : (start mid last : DialogState) (frames held left : Held) → IsNoLess frames held start mid → TakesOne held left mid last → IsNoLess frames left start last
+pub no-less-more : (start mid last : DialogState) (frames held left : ReceivedFrames) → IsNoLess frames held start mid → TakesOne held left mid last → IsNoLess frames left start last
 no-less-more start mid last frames held left less one =
     let counted = one.counted in
     let most = one.most in
     omega (arith, less, counted, most)
 
-pub leaves-end : (start mid last : DialogState) (frames held left : Held) (code : Option ℕ) (silent : Bool) (first : Option (Result State ExchangeFault)) (end : Result (Option PeerEnded) ServeFault) → Some end ≡ stop_of code silent first
+pub leaves-end : (start mid last : DialogState) (frames held left : ReceivedFrames) (code : Option ℕ) (silent : Bool) (first : Option (Result State ExchangeFault)) (end : Result (Option PeerEnded) ServeFault) → Some end ≡ stop_of code silent first
     → LeavesOne held left mid last first → IsReady mid → held.failed ≡ false → IsNoLess frames held start mid → LeavesAll frames left start last end
 leaves-end start mid last frames held left code silent first end e leaves ready sound less = go end (stops-so code silent first end e)
   where
@@ -269,7 +269,7 @@ leaves-end start mid last frames held left code silent first end e leaves ready 
     go (Ok None) s =
         let none : LeavesOne held left mid last None = subst (λ (f : Option (Result State ExchangeFault)). LeavesOne held left mid last f) (s.none refl) leaves in
         let drained : IsDrained frames held start mid = record { sound = sound; short = none.0; no_less = less; ready = ready } in
-        subst (λ (h : Held). IsDrained frames h start last) (sym none.1) (subst (λ (t : DialogState). IsDrained frames held start t) (sym none.2) drained)
+        subst (λ (h : ReceivedFrames). IsDrained frames h start last) (sym none.1) (subst (λ (t : DialogState). IsDrained frames held start t) (sym none.2) drained)
     go (Ok (Some parted.EndOfInput)) s = absurd s.stop
     go (Ok (Some parted.Done)) s = tt
     go (Ok (Some (parted.Refused n))) s = tt
@@ -290,16 +290,16 @@ meets-first start a unread written first = record {
   talks = subst (λ (c : List ℕ). Talks start a a c [] first None start) (sym (append-nil first)) (talks-start start a first);
 }
 
-pub meets-start : (start : DialogState) (a : Store) (unread written : Option (List ℕ)) (first : List ℕ) (frames fed : Held) → frames ≡ no_frames → fed ≡ record frames { waiting = frames.waiting ++ first }
+pub meets-start : (start : DialogState) (a : Store) (unread written : Option (List ℕ)) (first : List ℕ) (frames fed : ReceivedFrames) → frames ≡ no_frames → fed ≡ record frames { waiting = frames.waiting ++ first }
     → MeetsSoFar start a a first unread unread written written fed.waiting start
 meets-start start a unread written first frames fed is more =
-    let waits : fed.waiting ≡ first = ap (λ (h : Held). h.waiting) more ∙ ap (λ (h : Held). h.waiting ++ first) is in
+    let waits : fed.waiting ≡ first = ap (λ (h : ReceivedFrames). h.waiting) more ∙ ap (λ (h : ReceivedFrames). h.waiting ++ first) is in
     subst (λ (w : List ℕ). MeetsSoFar start a a first unread unread written written w start) (sym waits) (meets-first start a unread written first)
 
-pub starts-short : (frames fed : Held) (first : List ℕ) → frames ≡ no_frames → fed ≡ record frames { waiting = frames.waiting ++ first } → length first < 8 → (fed.failed ≡ false) × (frame_header fed.waiting ≡ Ok None)
+pub starts-short : (frames fed : ReceivedFrames) (first : List ℕ) → frames ≡ no_frames → fed ≡ record frames { waiting = frames.waiting ++ first } → length first < 8 → (fed.failed ≡ false) × (frame_header fed.waiting ≡ Ok None)
 starts-short frames fed first is more few =
-    let waits : fed.waiting ≡ first = ap (λ (h : Held). h.waiting) more ∙ ap (λ (h : Held). h.waiting ++ first) is in
-    (ap (λ (h : Held). h.failed) more ∙ ap (λ (h : Held). h.failed) is, subst (λ (w : List ℕ). frame_header w ≡ Ok None) (sym waits) (few-cut first few))
+    let waits : fed.waiting ≡ first = ap (λ (h : ReceivedFrames). h.waiting) more ∙ ap (λ (h : ReceivedFrames). h.waiting ++ first) is in
+    (ap (λ (h : ReceivedFrames). h.failed) more ∙ ap (λ (h : ReceivedFrames). h.failed) is, subst (λ (w : List ℕ). frame_header w ≡ Ok None) (sym waits) (few-cut first few))
 
 -- more bytes came
 meets-more : (start last : DialogState) (a b : Store) (first : List ℕ) (unread left rest old written : Option (List ℕ)) (frames piece : List ℕ) → MeetsSoFar start a b first unread left old written frames last → Consumes left rest piece
@@ -312,10 +312,10 @@ meets-more start last a b first unread left rest old written frames piece so rea
   talks = subst (λ (c : List ℕ). Talks start a b c so.out (frames ++ piece) None last) (append_assoc first so.came piece) (talks-more start last a b (first ++ so.came) so.out frames piece so.talks);
 }
 
-pub meets-fed : (start last : DialogState) (a b : Store) (first : List ℕ) (unread left rest old written : Option (List ℕ)) (frames fed : Held) (piece : List ℕ) → MeetsSoFar start a b first unread left old written frames.waiting last → Consumes left rest piece
+pub meets-fed : (start last : DialogState) (a b : Store) (first : List ℕ) (unread left rest old written : Option (List ℕ)) (frames fed : ReceivedFrames) (piece : List ℕ) → MeetsSoFar start a b first unread left old written frames.waiting last → Consumes left rest piece
     → fed ≡ record frames { waiting = frames.waiting ++ piece } → MeetsSoFar start a b first unread rest old written fed.waiting last
 meets-fed start last a b first unread left rest old written frames fed piece so read is =
-    subst (λ (w : List ℕ). MeetsSoFar start a b first unread rest old written w last) (sym (ap (λ (h : Held). h.waiting) is)) (meets-more start last a b first unread left rest old written frames.waiting piece so read)
+    subst (λ (w : List ℕ). MeetsSoFar start a b first unread rest old written w last) (sym (ap (λ (h : ReceivedFrames). h.waiting) is)) (meets-more start last a b first unread left rest old written frames.waiting piece so read)
 
 pub meets-drained : (start mid last : DialogState) (a b c : Store) (first : List ℕ) (unread left old written sent : Option (List ℕ)) (frames next : List ℕ) → MeetsSoFar start a b first unread left old written frames mid → SentAllReplies mid b c written sent frames next (Ok None) last
     → MeetsSoFar start a c first unread left old sent next last
@@ -389,7 +389,7 @@ pub meets-unfed : (start : DialogState) (a : Store) (unread written sent : Optio
 meets-unfed start a unread written sent first result tells = meets-want start start a a first unread unread written written sent first result (meets-first start a unread written first) tells
 
 -- the dialog ended
-pub meets-stop : (start mid last : DialogState) (a b c : Store) (first : List ℕ) (unread left old written sent : Option (List ℕ)) (held next : Held) (p : PeerEnded) → MeetsSoFar start a b first unread left old written held.waiting mid
+pub meets-stop : (start mid last : DialogState) (a b c : Store) (first : List ℕ) (unread left old written sent : Option (List ℕ)) (held next : ReceivedFrames) (p : PeerEnded) → MeetsSoFar start a b first unread left old written held.waiting mid
     → SentAllReplies mid b c written sent held.waiting next.waiting (Ok (Some p)) last → LeavesAll held next mid last (Ok (Some p)) → MeetsTo start a c first unread left old sent (Ok p) last
 meets-stop start mid last a b c first unread left old written sent held next p so drained leaves = record {
   came = so.came;
@@ -413,7 +413,7 @@ meets-stop start mid last a b c first unread left old written sent held next p s
     speaks (parted.Failed fault) leaves talks = (next.waiting, talks)
 
 -- a fault ended it
-pub meets-fault : (start mid last : DialogState) (a b c : Store) (first : List ℕ) (unread left old written sent : Option (List ℕ)) (held next : Held) (fault : ServeFault) → MeetsSoFar start a b first unread left old written held.waiting mid
+pub meets-fault : (start mid last : DialogState) (a b c : Store) (first : List ℕ) (unread left old written sent : Option (List ℕ)) (held next : ReceivedFrames) (fault : ServeFault) → MeetsSoFar start a b first unread left old written held.waiting mid
     → SentAllReplies mid b c written sent held.waiting next.waiting (Err fault) last → LeavesAll held next mid last (Err fault) → MeetsTo start a c first unread left old sent (Err fault) last
 meets-fault start mid last a b c first unread left old written sent held next fault so drained leaves = record {
   came = so.came;

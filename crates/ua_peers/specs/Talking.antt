@@ -6,7 +6,7 @@ use Rattle.exchange.specs.declared.fault.ExchangeFault.{ExchangeFault}
 use Rattle.exchange.specs.declared.fault.ExchangeFault.TheVariants as exchange
 use Rattle.exchange.specs.declared.message.State.{State}
 use Rattle.exchange.specs.Named.{end_frame}
-use Rattle.exchange.specs.Frames.{frame_header, Held}
+use Rattle.exchange.specs.Frames.{frame_header, ReceivedFrames}
 use Rattle.exchange.specs.Dialogs.{DialogState}
 use Rattle.counted_io.specs.declared.fault.ServeFault.{ServeFault}
 use Rattle.counted_io.specs.declared.fault.ServeFault.TheVariants.{Read, Write}
@@ -47,7 +47,7 @@ pub record IsReady (standing : DialogState) : Type 0 where
   pub few : standing.taken ≤ 1000000
 
 -- a frame was taken
-pub record TakesOne (frames left : Held) (before after : DialogState) : Type 0 where
+pub record TakesOne (frames left : ReceivedFrames) (before after : DialogState) : Type 0 where
   pub sound : left.failed ≡ false
   pub less : length left.waiting < length frames.waiting
   pub most : length frames.waiting ≤ length left.waiting + 2097152
@@ -55,27 +55,27 @@ pub record TakesOne (frames left : Held) (before after : DialogState) : Type 0 w
   pub few : before.taken < 1000000
 
 -- what is left behind the first frame, if one was there
-abbrev pub LeavesOne : Held → Held → DialogState → DialogState → Option (Result State ExchangeFault)
-    → Type 0
+abbrev pub LeavesOne : ReceivedFrames → ReceivedFrames → DialogState → DialogState
+    → Option (Result State ExchangeFault) → Type 0
 LeavesOne frames left before after None =
     (frame_header frames.waiting ≡ Ok None) × (left ≡ frames) × (after ≡ before)
 LeavesOne frames left before after (Some (Ok state)) = TakesOne frames left before after
 LeavesOne frames left before after (Some (Err fault)) = ⊤
 
 -- what was taken and what waits came to no less than before
-abbrev pub IsNoLess : Held → Held → DialogState → DialogState → Type 0
+abbrev pub IsNoLess : ReceivedFrames → ReceivedFrames → DialogState → DialogState → Type 0
 IsNoLess frames left before after =
     2097152 * before.taken + length frames.waiting ≤ 2097152 * after.taken + length left.waiting
 
 -- nothing whole waits
-pub record IsDrained (frames left : Held) (before after : DialogState) : Type 0 where
+pub record IsDrained (frames left : ReceivedFrames) (before after : DialogState) : Type 0 where
   pub sound : left.failed ≡ false
   pub short : frame_header left.waiting ≡ Ok None
   pub no_less : IsNoLess frames left before after
   pub ready : IsReady after
 
 -- what a stretch leaves
-abbrev pub LeavesAll : Held → Held → DialogState → DialogState
+abbrev pub LeavesAll : ReceivedFrames → ReceivedFrames → DialogState → DialogState
     → Result (Option PeerEnded) ServeFault → Type 0
 LeavesAll frames left before after (Ok None) = IsDrained frames left before after
 LeavesAll frames left before after (Ok (Some parted.EndOfInput)) = ⊥

@@ -7,7 +7,7 @@ use Rattle.std.proofs.lemmas.List.{length-take-le}
 use Rattle.std.proofs.Math.Seq.{take-append-add}
 use Rattle.archive.specs.Store.{Store, KeepsContent, CountsFaults}
 use Rattle.archive.proofs.Calls.{passes-none}
-use Rattle.ua_settings.specs.Settings.{Values}
+use Rattle.ua_settings.specs.Settings.{SettingsValues}
 use Rattle.counted_io.specs.declared.fault.ServeFault.{ServeFault}
 use Rattle.counted_io.specs.declared.fault.ServeFault.TheVariants.{Read}
 use Rattle.ua_peers.specs.declared.peers.PeerEnded.{PeerEnded}
@@ -30,11 +30,11 @@ pub breaks-off : (a : Store) (unread left old : Option (List ℕ)) (ending : Con
 breaks-off a unread left old ending (came, few, read) is = (came, few, read, refl, record { content = λ h b. refl; crash = λ h l m. m }, passes-none a, refl, is)
 
 -- a peer's, and a client's
-pub goes-as-peer : (settings : Values) (a b : Store) (first : List ℕ) (rest left old new : Option (List ℕ)) (peers : Bool) (ending : ConnectionEnding) → peers ≡ true
+pub goes-as-peer : (settings : SettingsValues) (a b : Store) (first : List ℕ) (rest left old new : Option (List ℕ)) (peers : Bool) (ending : ConnectionEnding) → peers ≡ true
     → ((parted : Result PeerEnded ServeFault) × (ending ≡ result_map_both end_of_peer (λ fault. fault) parted) × MeetsBehind responding a b first rest left old new parted) → GoesAs peers settings a b first rest left old new empty_environment ending
 goes-as-peer settings a b first rest left old new peers ending is (parted, ends, meets) = inl (is, (parted, ends, refl, meets))
 
-pub goes-as-client : (settings : Values) (a b : Store) (first : List ℕ) (rest left old new : Option (List ℕ)) (used : Environment) (peers : Bool) (ending : ConnectionEnding) → peers ≡ false
+pub goes-as-client : (settings : SettingsValues) (a b : Store) (first : List ℕ) (rest left old new : Option (List ℕ)) (used : Environment) (peers : Bool) (ending : ConnectionEnding) → peers ≡ false
     → ((served : ClientEnding) × (ending ≡ result_map_both end_of_client (λ fault. fault) served) × ServesBehind settings a b first rest left old new used served) → GoesAs peers settings a b first rest left old new used ending
 goes-as-client settings a b first rest left old new used peers ending is met = inr (is, met)
 

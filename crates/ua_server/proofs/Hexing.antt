@@ -4,7 +4,7 @@ use Rattle.std.proofs.lemmas.List.{append-nil}
 use Rattle.std.specs.Prelude.{Option, Result}
 use Rattle.std.specs.Io.KnownBytes.{Consumes, IsAtEnd}
 use Rattle.hex.specs.Hex.{decode_of, encode_upper}
-use Rattle.ua_settings.specs.Settings.{Values}
+use Rattle.ua_settings.specs.Settings.{SettingsValues}
 use Rattle.archive.specs.Store.{Store}
 use Rattle.archive.proofs.Acting.{moves-none}
 use Rattle.counted_io.specs.declared.fault.ServeFault.{ServeFault}
@@ -20,7 +20,7 @@ use Rattle.ua_server.proofs.SingleParts.{IsBadText}
 use Rattle.ua_connection.proofs.Outsides.{empty_environment}
 
 -- who sent the bytes of a text was served, and what was written is all that stands behind it
-pub given-text : (settings : Values) (a b : Store) (text input shown before after : List ℕ) (left : Option (List ℕ))
+pub given-text : (settings : SettingsValues) (a b : Store) (text input shown before after : List ℕ) (left : Option (List ℕ))
     (used : Environment) (ended ending : ConnectionEnding) → decode_of (digits_of text) ≡ Ok input → shown ≡ input → before ≡ [] → ended ≡ ending
     → ServesEither settings a b (Some shown) left (Some before) (Some after) used ended
     → AnswersText settings a b text used after ending
@@ -36,7 +36,7 @@ given-text settings a b text input shown before after left used ended ending dec
 pub idle : (s : Store) (used : Environment) → used.marks ≡ [] → used.readings ≡ [] → IsUntouched s s used
 idle s used marks readings = (moves-none s (λ marks R S. S ≡ R) (λ R. refl), readings)
 
-pub made-read : (settings : Values) (s : Store) (known : Option (List ℕ)) (fault : ServeFault) → (fault ≡ Write → ⊥) → (fault ≡ TooLong → ⊥) → IsUnmade settings s s known empty_environment (hexed.Serve fault)
+pub made-read : (settings : SettingsValues) (s : Store) (known : Option (List ℕ)) (fault : ServeFault) → (fault ≡ Write → ⊥) → (fault ≡ TooLong → ⊥) → IsUnmade settings s s known empty_environment (hexed.Serve fault)
 made-read settings s known Read write long = idle s empty_environment refl refl
 made-read settings s known Write write long = absurd (write refl)
 made-read settings s known TooLong write long = absurd (long refl)
@@ -57,7 +57,7 @@ made-bad known left bytes read over bad = (bytes, was-text known left bytes read
 unspelled : (known left : Option (List ℕ)) (bytes : List ℕ) → Consumes known left bytes → IsAtEnd left → IsErr (decode_of (digits_of bytes)) → IsBadText known
 unspelled known left bytes read over bad = (bytes, was-text known left bytes read over, inr bad)
 
-module _ (settings : Values) (first last : Store) where
+module _ (settings : SettingsValues) (first last : Store) where
   -- what was answered to the bytes that were read was answered to the input
   answered-known : (known left : Option (List ℕ)) (bytes : List ℕ) (used : Environment) (out : List ℕ) (ending : ConnectionEnding) (P : ConnectionEnding → Type 0) → Consumes known left bytes → IsAtEnd left → AnswersText settings first last bytes used out ending → P ending
       → IsConnectionAnswered settings first last known used P

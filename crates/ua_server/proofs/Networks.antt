@@ -2,7 +2,7 @@
 use Rattle.std.proofs.Common.{◌≡◌, ℕ, ℤ, zero, suc, List, refl, subst, ◌∙◌, ap}
 use Rattle.std.specs.Prelude.{Option, Some, Err}
 use Rattle.archive.specs.Store.{Store}
-use Rattle.ua_settings.specs.Settings.{Values}
+use Rattle.ua_settings.specs.Settings.{SettingsValues}
 use Rattle.counted_io.specs.Bytes.{counted}
 use Rattle.counted_io.specs.declared.fault.ServeFault.TheVariants.{Read, Write}
 use Rattle.ua_server.specs.Either.{ConnectionEnding, ServesEither}
@@ -15,7 +15,7 @@ pub has-counted : {T failed : Type 0} (first last : Tally T) (inner : T) → fir
 has-counted {T} first last inner begins one none = (λ f. one f ∙ ap (λ (t : Tally T). counted t.faults) begins, λ f. none f ∙ ap (λ (t : Tally T). t.faults) begins)
 
 -- a connection that came was served
-pub connected : {L R W A C : Type 0} (wires : NetworkCalls L R W) (gave : C → List ℤ → C → Type 0) (holds : A → Store) (settings : Values) (came : Option (R × W)) (reader : R) (writer : W) (first-read last-read : Tally R) (first-wrote last-wrote : Tally W)
+pub connected : {L R W A C : Type 0} (wires : NetworkCalls L R W) (gave : C → List ℤ → C → Type 0) (holds : A → Store) (settings : SettingsValues) (came : Option (R × W)) (reader : R) (writer : W) (first-read last-read : Tally R) (first-wrote last-wrote : Tally W)
     (source between after : L) (archive held : A) (clock later : C) (ending : ConnectionEnding)
     → wires.comes source came between → came ≡ Some (reader, writer) → first-read ≡ record { inner = reader; faults = 0 } → first-wrote ≡ record { inner = writer; faults = 0 }
     → ((used : Environment) × gave clock used.readings later
@@ -45,7 +45,7 @@ connected {L} {R} {W} wires gave holds settings came reader writer first-read la
     )
 
 -- one connection more
-pub each-more : {L R W A C E : Type 0} (wires : NetworkCalls L R W) (gave : C → List ℤ → C → Type 0) (holds : A → Store) (told : E → Option (List ℕ)) (settings : Values) (count : ℕ) (old middle new : Surroundings L A C) (before meanwhile after : Tally E) (ending : ConnectionEnding)
+pub each-more : {L R W A C E : Type 0} (wires : NetworkCalls L R W) (gave : C → List ℤ → C → Type 0) (holds : A → Store) (told : E → Option (List ℕ)) (settings : SettingsValues) (count : ℕ) (old middle new : Surroundings L A C) (before meanwhile after : Tally E) (ending : ConnectionEnding)
     → ServesEach wires gave holds told settings count old before middle meanwhile → Connects wires gave holds settings middle new ending → LogsEnd told ending meanwhile after → ServesEach wires gave holds told settings (suc count) old before new after
 each-more {L} {R} {W} {A} {C} {E} wires gave holds told settings zero old middle new before meanwhile after ending so connects tells =
     let P : Surroundings L A C → Type 0 = λ m. Connects wires gave holds settings m new ending in

@@ -18,7 +18,7 @@ use Rattle.command_line.specs.declared.line.LineFault.{LineFault}
 use Rattle.command_line.specs.declared.line.LineFault.TheVariants.{Words, OutOfMemory as NoMemory}
 use Rattle.command_line.specs.Line.{IsLine, MayAskForText}
 use Rattle.clap.specs.declared.error.ErrorKind.{ErrorKind}
-use Rattle.ua_settings.specs.Settings.{Values}
+use Rattle.ua_settings.specs.Settings.{SettingsValues}
 use Rattle.archive.specs.Store.{Store}
 use Rattle.ua_server.specs.Program.{SettingsAt, Machine, WithSettings, CallsPeer, Host, PrintsSynced, Shows, IsMistaken, DoesLine, Runs, AnswersBy, ServesBy, DumpsBy, SyncsBy}
 use Rattle.ua_server.specs.Telling.{dump_fault, fault_of}
@@ -36,8 +36,8 @@ unset reads unasked (Some path) fault (Some text, read, (Ok settings, place, sta
 unset reads unasked (Some path) fault (Some text, read, (Err cause, place, starved, told, same)) = absurd cc
 
 -- a command that ends as a refused line: its settings were refused so, and nothing was done
-by-line : {K : Type 0} (machine : Machine K) (path : Option (List ℕ)) (does : Values → K → Type 0) (refused : ProgramFault → Type 0) (line : LineFault) (Q : Type 0)
-    → ((settings : Values) (first : K) → does settings first → ⊥) → ((fault : ProgramFault) → refused fault → (fault ≡ Line line) × Q) → WithSettings machine path does refused → IsUnbegun line × Q × machine.unasked × machine.untouched
+by-line : {K : Type 0} (machine : Machine K) (path : Option (List ℕ)) (does : SettingsValues → K → Type 0) (refused : ProgramFault → Type 0) (line : LineFault) (Q : Type 0)
+    → ((settings : SettingsValues) (first : K) → does settings first → ⊥) → ((fault : ProgramFault) → refused fault → (fault ≡ Line line) × Q) → WithSettings machine path does refused → IsUnbegun line × Q × machine.unasked × machine.untouched
 by-line machine path does refused line Q never told (Ok settings, set, (Ok first, opened, so)) = absurd (never settings first so)
 by-line machine path does refused line Q never told (Ok settings, set, (Err fault, opened, so)) = let t = told (program.Store fault) so in absurd cc
 by-line machine path does refused line Q never told (Err fault, set, so) =
@@ -78,7 +78,7 @@ called-line calls held text first last network after old written line (inr (addr
 
 -- none of them ends as a refused line
 never-line : {K N L R W C E P Q : Type 0} (machine : Machine K) (calls : SocketAddr → NetworkCalls N P Q) (wires : NetworkCalls L R W) (gave : C → List ℤ → C → Type 0) (listened : N → SocketAddr → Option L → N → Type 0) (told : E → Option (List ℕ))
-    (line : CommandLine) (old new : Host N C E) (fault : LineFault) (settings : Values) (first : K) → Done machine calls wires gave listened told line old new (Err (Line fault)) settings first → ⊥
+    (line : CommandLine) (old new : Host N C E) (fault : LineFault) (settings : SettingsValues) (first : K) → Done machine calls wires gave listened told line old new (Err (Line fault)) settings first → ⊥
 never-line machine calls wires gave listened told (Answer path hex now) old new fault settings first (last, (same, (used, answered, given, answers, is))) = answered-line answered fault is
 never-line machine calls wires gave listened told (Serve path count) old new fault settings first (last, (same, so)) = so
 never-line machine calls wires gave listened told (Dump path) old new fault settings first (last, (same, (dumped, dumps, is))) = dumped-line dumped fault is

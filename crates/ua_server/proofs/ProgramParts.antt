@@ -8,7 +8,7 @@ use Rattle.command_line.specs.declared.line.Line.{Line as CommandLine}
 use Rattle.command_line.specs.declared.line.Line.TheVariants.{Answer, Serve, Dump, Sync}
 use Rattle.command_line.specs.declared.line.LineFault.{LineFault}
 use Rattle.command_line.specs.declared.line.LineFault.TheVariants.{Words, OutOfMemory as NoMemory}
-use Rattle.ua_settings.specs.Settings.{Values}
+use Rattle.ua_settings.specs.Settings.{SettingsValues}
 use Rattle.ua_server.specs.declared.hexed.HexFault.{HexFault}
 use Rattle.ua_server.specs.declared.hexed.HexFault.TheVariants as hexed
 use Rattle.ua_connection.specs.Environments.{Environment}
@@ -42,7 +42,7 @@ abbrev pub path_of : CommandLine → Option (List ℕ)
 path_of line = elim line [ Answer path hex now ↦ option_copied path | Serve path count ↦ Some path.now | Dump path ↦ Some path.now | Sync path peer ↦ Some path.now ]
 
 -- what a line's command does over the archive of its settings
-abbrev pub Done : {K N L R W C E P Q : Type 0} → Machine K → (SocketAddr → NetworkCalls N P Q) → NetworkCalls L R W → (C → List ℤ → C → Type 0) → (N → SocketAddr → Option L → N → Type 0) → (E → Option (List ℕ)) → CommandLine → Host N C E → Host N C E → Result (Unit {0}) ProgramFault → Values → K → Type 0
+abbrev pub Done : {K N L R W C E P Q : Type 0} → Machine K → (SocketAddr → NetworkCalls N P Q) → NetworkCalls L R W → (C → List ℤ → C → Type 0) → (N → SocketAddr → Option L → N → Type 0) → (E → Option (List ℕ)) → CommandLine → Host N C E → Host N C E → Result (Unit {0}) ProgramFault → SettingsValues → K → Type 0
 Done {K} machine calls wires gave listened told line old new result settings first = (last : K) × elim line [
   | Answer path hex now ↦ (new ≡ record old { unread = new.unread; written = new.written; clock = new.clock })
       × ((used : Environment) × (answered : Result (Unit {0}) HexFault) × gave old.clock used.readings new.clock

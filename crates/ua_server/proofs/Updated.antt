@@ -9,12 +9,12 @@ use Rattle.archive.specs.Store.{Store, IsQuiescent, IsLeft}
 use Rattle.archive.proofs.Acting.{left-alone}
 use Rattle.exchange.specs.Worlds.{ReplicaState as Replica, World, Event, IsReplicaAt, IsUpdated, AreUpdates, run}
 use Rattle.exchange.proofs.Growths.{updates_happen}
-use Rattle.ua_settings.specs.Settings.{Values}
+use Rattle.ua_settings.specs.Settings.{SettingsValues}
 use Rattle.ua_connection.specs.Environments.{Environment}
 use Rattle.ua_connection.specs.Client.{Ending}
 use Rattle.ua_connection.specs.Serving.{ServesBehind}
 
-module _ (settings : Values) (a b : Store) (first : List ℕ) (unread left before after : Option (List ℕ)) (used : Environment) (ending : Ending) (serves : ServesBehind settings a b first unread left before after used ending)
+module _ (settings : SettingsValues) (a b : Store) (first : List ℕ) (unread left before after : Option (List ℕ)) (used : Environment) (ending : Ending) (serves : ServesBehind settings a b first unread left before after used ending)
     (rests : IsQuiescent a) (whole : a.broken ≡ false) (honest : b.honest) where
   -- what the archive is left with came of what it held
   grown : (R : Content) → IsLeft b R → Grows a.own a.content R

@@ -4,7 +4,7 @@ use Rattle.std.specs.Result.{result_map_both}
 use Rattle.std.specs.Io.KnownBytes.{Consumes, IsAtEnd}
 use Rattle.archive.specs.Store.{Store, KeepsContent, CountsFaults}
 use Rattle.exchange.specs.Frames.{begins}
-use Rattle.ua_settings.specs.Settings.{Values}
+use Rattle.ua_settings.specs.Settings.{SettingsValues}
 use Rattle.counted_io.specs.declared.fault.ServeFault.{ServeFault}
 use Rattle.counted_io.specs.declared.fault.ServeFault.TheVariants.{Read}
 use Rattle.ua_peers.specs.declared.peers.PeerEnded.{PeerEnded}
@@ -67,14 +67,14 @@ ServesPeer old new first unread left before after used ending =
     × MeetsBehind responding old new first unread left before after parted
 
 -- a client was served, of whom these first bytes were read before
-abbrev pub ServesClient : Values → (old new : Store) → List ℕ
+abbrev pub ServesClient : SettingsValues → (old new : Store) → List ℕ
     → (unread left before after : Option (List ℕ)) → Environment → ConnectionEnding → Type 0
 ServesClient settings old new first unread left before after used ending =
     (served : ClientEnding) × (ending ≡ result_map_both end_of_client (λ fault. fault) served)
     × ServesBehind settings old new first unread left before after used served
 
 -- as its first letters say, a peer or a client was served
-abbrev pub GoesAs : Values → (old new : Store) → List ℕ
+abbrev pub GoesAs : SettingsValues → (old new : Store) → List ℕ
     → (unread left before after : Option (List ℕ)) → Environment → ConnectionEnding → Type 0
 GoesAs settings old new first unread left before after used ending =
     ((is_peers first ≡ true) × ServesPeer old new first unread left before after used ending)
@@ -83,8 +83,8 @@ GoesAs settings old new first unread left before after used ending =
 
 -- A connection broke off; or three bytes were read, or all where there are fewer, and it went as
 -- they say.
-abbrev pub ServesEither : Values → (old new : Store) → (unread left before after : Option (List ℕ))
-    → Environment → ConnectionEnding → Type 0
+abbrev pub ServesEither : SettingsValues → (old new : Store)
+    → (unread left before after : Option (List ℕ)) → Environment → ConnectionEnding → Type 0
 ServesEither settings old new unread left before after used ending =
     BreaksOff old new unread left before after used ending
     ⊎ ((first : List ℕ) × (between : Option (List ℕ)) × Consumes unread between first

@@ -5,7 +5,7 @@ use Rattle.ua_server.specs.declared.either.Served.{Served}
 use Rattle.counted_io.specs.declared.fault.ServeFault.TheVariants.{Read, Write, TooLong, OutOfMemory}
 use Rattle.ua_server.specs.declared.hexed.HexFault.{HexFault}
 use Rattle.ua_server.specs.declared.hexed.HexFault.TheVariants.{BadHex, Serve}
-use Rattle.ua_settings.specs.Settings.{Values}
+use Rattle.ua_settings.specs.Settings.{SettingsValues}
 use Rattle.archive.specs.Store.{Store}
 use Rattle.archive.specs.Steps.{Transitions}
 use Rattle.ua_connection.specs.Environments.{Environment}
@@ -17,8 +17,8 @@ abbrev pub digits_of : List ℕ → List ℕ
 digits_of text = filter (λ byte. not (byte == 32) && (not (byte == 10) && not (byte == 13))) text
 
 -- the text spells bytes, a client or a peer that sends these was served, and this was written
-abbrev pub AnswersText : Values → Store → Store → List ℕ → Environment → List ℕ → ConnectionEnding
-    → Type 0
+abbrev pub AnswersText : SettingsValues → Store → Store → List ℕ → Environment → List ℕ
+    → ConnectionEnding → Type 0
 AnswersText settings old new text used out ending =
     (input : List ℕ) × (left : Option (List ℕ)) × (decode_of (digits_of text) ≡ Ok input)
     × ServesEither settings old new (Some input) left (Some []) (Some out) used ending
@@ -29,7 +29,7 @@ IsUntouched old new used = Transitions old new [] (λ marks R S. S ≡ R) × (us
 
 -- The digits of what was written are appended; behind a fault nothing is. Where memory is wanting,
 -- nothing was done, or the client or peer was served.
-abbrev pub AnswersHex : Values → Store → Store → List ℕ → Environment → List ℕ → List ℕ
+abbrev pub AnswersHex : SettingsValues → Store → Store → List ℕ → Environment → List ℕ → List ℕ
     → Result Served HexFault → Type 0
 AnswersHex settings old new text used before after (Ok served) =
     (out : List ℕ) × AnswersText settings old new text used out (Ok served)

@@ -3,7 +3,7 @@ use Rattle.std.specs.Prelude.{◌≡◌, ◌⊎◌, ℕ, ℤ, zero, suc, List, O
 use Rattle.std.specs.Net.Grammar.{IsSocketText}
 use Rattle.std.specs.declared.net.socket_addr.SocketAddr.{SocketAddr}
 use Rattle.archive.specs.Store.{Store}
-use Rattle.ua_settings.specs.Settings.{Values}
+use Rattle.ua_settings.specs.Settings.{SettingsValues}
 use Rattle.counted_io.specs.declared.fault.ServeFault.{ServeFault}
 use Rattle.counted_io.specs.declared.fault.ServeFault.TheVariants.{Read, Write}
 use Rattle.ua_server.specs.declared.program.ProgramFault.{ProgramFault}
@@ -61,7 +61,7 @@ Counts {R} {W} ended_by done =
 
 -- a connection that came was served, a client's or a peer's, and given back
 abbrev pub ServesOne : {L R W A C : Type 0} → NetworkCalls L R W → Readings C
-    → (A → Store) → Values → R → W → L → Surroundings L A C → Surroundings L A C
+    → (A → Store) → SettingsValues → R → W → L → Surroundings L A C → Surroundings L A C
     → ConnectionEnding → Type 0
 ServesOne wires gave held settings reader writer between old new ending =
     (used : Environment) × gave old.clock used.readings new.clock
@@ -72,7 +72,8 @@ ServesOne wires gave held settings reader writer between old new ending =
 -- the next connection was waited for, and served over what the archive held; that none came is a
 -- fault of reading
 abbrev pub Connects : {L R W A C : Type 0} → NetworkCalls L R W → Readings C
-    → (A → Store) → Values → Surroundings L A C → Surroundings L A C → ConnectionEnding → Type 0
+    → (A → Store) → SettingsValues → Surroundings L A C → Surroundings L A C → ConnectionEnding
+    → Type 0
 Connects {L} {R} {W} wires gave held settings old new ending =
     (came : Option (R × W)) × (between : L) × wires.comes old.source came between × elim came [
       | None ↦ (ending ≡ Err Read) × (new ≡ record old { source = between })
@@ -90,7 +91,7 @@ LogsEnd told v old new =
 -- So many connections were served, each over what the one before it left, and of each end it was
 -- told: nothing, or of a fault its line, or a first part of that where it can't be written.
 abbrev pub ServesEach : {L R W A C E : Type 0} → NetworkCalls L R W → Readings C → (A → Store)
-    → Known E → Values → ℕ → (old : Surroundings L A C) → (before : Tally E)
+    → Known E → SettingsValues → ℕ → (old : Surroundings L A C) → (before : Tally E)
     → (new : Surroundings L A C) → (after : Tally E) → Type 0
 ServesEach wires gave held told settings zero old before new after = (new ≡ old) × (after ≡ before)
 ServesEach {L} {R} {W} {A} {C} {E} wires gave held told settings (suc more) old before new after =
@@ -112,7 +113,7 @@ from_listener listener around =
 
 -- so many connections were served that came to the address of the settings
 abbrev pub ListensAt : {N L R W A C E : Type 0} → NetworkCalls L R W → Readings C → (A → Store)
-    → Listening N L → Known E → Values → ℕ → (old : Surroundings N A C) → (before : Tally E)
+    → Listening N L → Known E → SettingsValues → ℕ → (old : Surroundings N A C) → (before : Tally E)
     → (new : Surroundings N A C) → (after : Tally E) → Type 0
 ListensAt {N} {L} wires gave held listened told settings count old before new after =
     (address : SocketAddr) × IsSocketText settings.listen address
@@ -121,7 +122,7 @@ ListensAt {N} {L} wires gave held listened told settings count old before new af
     (from_listener last new) after)
 
 -- nothing is had at the address; the archive, the clock and standard error stay
-abbrev pub CannotListen : {N L A C E : Type 0} → Listening N L → Values
+abbrev pub CannotListen : {N L A C E : Type 0} → Listening N L → SettingsValues
     → (old : Surroundings N A C) → (before : Tally E) → (new : Surroundings N A C)
     → (after : Tally E) → Type 0
 CannotListen listened settings old before new after =
@@ -131,7 +132,7 @@ CannotListen listened settings old before new after =
 -- so many connections were served that came to the address of the settings; or the address is
 -- refused; no other fault ends it
 abbrev pub Listens : {N L R W A C E : Type 0} → NetworkCalls L R W → Readings C → (A → Store)
-    → Listening N L → Known E → Values → ℕ → (old : Surroundings N A C) → (before : Tally E)
+    → Listening N L → Known E → SettingsValues → ℕ → (old : Surroundings N A C) → (before : Tally E)
     → (new : Surroundings N A C) → (after : Tally E) → Result (Unit {0}) ProgramFault → Type 0
 Listens wires gave held listened told settings count old before new after (Ok done) =
     ListensAt wires gave held listened told settings count old before new after

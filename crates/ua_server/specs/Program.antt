@@ -18,7 +18,7 @@ use Rattle.counted_io.specs.Bytes.{AppendsPart}
 use Rattle.counted_io.specs.Tally.{Tally}
 use Rattle.ua_settings.specs.declared.fault.SettingsFault.{SettingsFault}
 use Rattle.ua_settings.specs.declared.fault.SettingsFault.TheVariants as refused
-use Rattle.ua_settings.specs.Settings.{Values, bare}
+use Rattle.ua_settings.specs.Settings.{SettingsValues, bare}
 use Rattle.ua_settings.specs.declared.place.Place.{Place}
 use Rattle.ua_settings.specs.Place.{IsPlaceOf, place_text}
 use Rattle.ua_settings.specs.Reading.{IsReadOrStarved}
@@ -49,7 +49,7 @@ use Rattle.command_line.specs.declared.line.LineFault.{LineFault}
 -- holds nothing, and then no file was opened
 abbrev pub OpensArchive : {K : Type 0}
     → (opened : List ℕ → List ℕ → ℕ → Result K StoreFault → Type 0) → (untouched : Type 0)
-    → (K → Store) → Values → Option (List ℕ) → Result K StoreFault → Type 0
+    → (K → Store) → SettingsValues → Option (List ℕ) → Result K StoreFault → Type 0
 OpensArchive opened untouched held settings None opening =
     untouched × IfOk opening (λ first. HoldsNothing settings.archive settings.replica (held first))
 OpensArchive opened untouched held settings (Some path) opening =
@@ -64,9 +64,9 @@ TellsPlace document told =
 
 -- the settings that a text gives, or want of memory; a refusal may tell its place, want of memory
 -- not
-abbrev pub IsSetIn : List ℕ → Result Values ProgramFault → Type 0
+abbrev pub IsSetIn : List ℕ → Result SettingsValues ProgramFault → Type 0
 IsSetIn text result =
-    (read : Result Values SettingsFault) × (place : Option (List ℕ))
+    (read : Result SettingsValues SettingsFault) × (place : Option (List ℕ))
     × IsReadOrStarved (parse_document text) read
     × IfSome place
     (λ told. TellsPlace (parse_document text) told × (read ≡ Err refused.OutOfMemory → ⊥))
@@ -78,14 +78,14 @@ IsFaultPlace text fault place =
     IfSome place (λ told. TellsPlace (parse_document text) told × (fault ≡ refused.OutOfMemory → ⊥))
 
 -- the settings of a run without a file, or memory for them was wanting
-abbrev pub IsBare : Result Values ProgramFault → Type 0
+abbrev pub IsBare : Result SettingsValues ProgramFault → Type 0
 IsBare result =
     elim result [ Ok settings ↦ settings ≡ bare | Err (Line NoMemory) ↦ Unit {0} | Err fault ↦ ⊥ ]
 
 -- The settings of a server that is given this path, by what was read at it. Without a path they are
 -- those without a file, and no file was asked for. A file that can't be read is the fault File.
 abbrev pub SettingsAt : (List ℕ → Option (List ℕ) → Type 0) → (unasked : Type 0) → Option (List ℕ)
-    → Result Values ProgramFault → Type 0
+    → Result SettingsValues ProgramFault → Type 0
 SettingsAt reads unasked None result = IsBare result × unasked
 SettingsAt reads unasked (Some path) result =
     (text : Option (List ℕ)) × reads path text
@@ -127,11 +127,10 @@ peers_of called parted unread written address = record {
 
 -- what is done by the settings of the file at a path, over their archive; or nothing else is, where
 -- they or their archive are refused
-abbrev pub WithSettings : {K : Type 0} → Machine K → Option (List ℕ) → (Values → K → Type 0)
+abbrev pub WithSettings : {K : Type 0} → Machine K → Option (List ℕ) → (SettingsValues → K → Type 0)
     → (ProgramFault → Type 0) → Type 0
-WithSettings {K} machine path does refused =
-    (settings : Result Values ProgramFault) × SettingsAt machine.reads machine.unasked path settings
-    × elim settings [
+WithSettings {K} machine path does refused = (settings : Result SettingsValues ProgramFault)
+    × SettingsAt machine.reads machine.unasked path settings × elim settings [
       | Ok known ↦ (opening : Result K StoreFault)
           × OpensArchive machine.opened machine.untouched machine.held known known.store opening
           × MatchResult opening (does known) (λ fault. refused (program.Store fault))
@@ -211,15 +210,15 @@ around host archive = record { source = host.network; archive = archive; clock =
 -- was
 
 -- the input was answered on the output
-abbrev pub AnswersInput : {N C E : Type 0} → Values → (first last : Store) → Bool → Option ℤ
+abbrev pub AnswersInput : {N C E : Type 0} → SettingsValues → (first last : Store) → Bool → Option ℤ
     → (old new : Host N C E) → Environment → Result (Unit {0}) HexFault → Type 0
 AnswersInput settings first last hex now old new used answered =
     AnswersAt settings first last hex now old.unread new.unread old.written new.written used
     answered
 
 -- `answer`: the input is answered on the output
-abbrev pub DoesAnswering : {K N C E : Type 0} → Machine K → Readings C → Values → Bool → Option ℤ
-    → (first last : K) → (old new : Host N C E) → Result (Unit {0}) ProgramFault → Type 0
+abbrev pub DoesAnswering : {K N C E : Type 0} → Machine K → Readings C → SettingsValues → Bool
+    → Option ℤ → (first last : K) → (old new : Host N C E) → Result (Unit {0}) ProgramFault → Type 0
 DoesAnswering machine gave settings hex now first last old new result =
     (new ≡ record old { unread = new.unread; written = new.written; clock = new.clock })
     × ((used : Environment) × (answered : Result (Unit {0}) HexFault)
@@ -229,7 +228,7 @@ DoesAnswering machine gave settings hex now first last old new result =
 
 -- `serve`: connections are served that come to the address of the settings
 abbrev pub DoesServing : {K N L R W C E : Type 0} → Machine K → NetworkCalls L R W → Readings C
-    → Listening N L → Known E → Values → ℕ → (first last : K) → (old new : Host N C E)
+    → Listening N L → Known E → SettingsValues → ℕ → (first last : K) → (old new : Host N C E)
     → Result (Unit {0}) ProgramFault → Type 0
 DoesServing machine wires gave listened told settings count first last old new result =
     (new ≡ record old { network = new.network; clock = new.clock; errors = new.errors })
@@ -265,7 +264,7 @@ settings_path line =
 -- a command is done over the archive of its settings
 abbrev pub DoesCommand : {K N L R W C E P Q : Type 0} → Machine K
     → (SocketAddr → NetworkCalls N P Q)
-    → NetworkCalls L R W → Readings C → Listening N L → Known E → CommandLine → Values
+    → NetworkCalls L R W → Readings C → Listening N L → Known E → CommandLine → SettingsValues
     → (first last : K) → (old new : Host N C E) → Result (Unit {0}) ProgramFault → Type 0
 DoesCommand machine calls wires gave listened told line settings first last old new result =
     elim line [

@@ -7,7 +7,7 @@ ghost use Rattle.records.specs.Spelling.{IsLawfulRecord};
 ghost use Rattle.records.specs.declared.record.Record.{Record};
 ghost use Rattle.archive.specs.Store.{IsQuiescent, IsLeft};
 ghost use Rattle.exchange.specs.Worlds.{World, ReplicaState as Replica, Event, IsReplicaAt, IsUpdated, AreUpdates, run};
-ghost use Rattle.ua_settings.specs.Settings.{Values};
+ghost use Rattle.ua_settings.specs.Settings.{SettingsValues};
 ghost use Rattle.ua_connection.specs.Environments.{Environment};
 ghost use Rattle.ua_connection.specs.Serving.{ServesBehind};
 ghost use Rattle.ua_connection.specs.Client.{Ending};
@@ -19,7 +19,7 @@ use archive::Archive;
 /// archive in use is left with what it holds; of one whose store broke in the midst, or that was stopped there, it is whatever an opening may find. Each record
 /// that it is left with has to be lawful, as in each archive in use.
 pub fn connections_are_updates<A: Archive>()
-    ensures { (settings : Values) (a b : A) (first : List ℕ)
+    ensures { (settings : SettingsValues) (a b : A) (first : List ℕ)
         (unread left before after : Option (List ℕ)) (used : Environment) (ending : Ending)
         (w : World) (i : ℕ) (s : Replica) (R : Content)
         → ServesBehind settings (A.state a) (A.state b) first unread left before after used ending

@@ -26,7 +26,7 @@ use Rattle.ua_settings.specs.File.{tables, text_at, is_name, names_in}
 use Rattle.ua_settings.specs.Judging.{is_short}
 use Rattle.ua_settings.specs.Reading.{folder_in, variable_in, table_at, truth_at, values_of_tables, space_fault, space_in, IsSpaceOrStarved, IsAcceptedOrStarved}
 use Rattle.ua_settings.proofs.ReadingParts.{user_in, users_in}
-use Rattle.ua_settings.specs.Settings.{Values}
+use Rattle.ua_settings.specs.Settings.{SettingsValues}
 use Rattle.ua_settings.specs.Sound.{IsSound, IsSoundFolder, IsSoundVariable}
 use Rattle.ua_settings.proofs.Mapped.{any_of_mapped}
 
@@ -157,7 +157,7 @@ values_same : (document archive server : Members) (users : Allowed) (space : Lay
     → (record (values_of_tables archive server [] space) { users = users }) ≡ values_of_tables (table_at (codes "archive") document) (table_at (codes "server") document) (tables document User) space
 values_same document archive server users space a s u = λ i. record (values_of_tables (a i) (s i) [] space) { users = u i }
 
-given : (values : Layout → Values) (space : Layout) (made : Result Layout BuildFault) → Ok space ≡ result_map_both (λ space. space) Space made → Ok (values space) ≡ result_map_both values Space made
+given : (values : Layout → SettingsValues) (space : Layout) (made : Result Layout BuildFault) → Ok space ≡ result_map_both (λ space. space) Space made → Ok (values space) ≡ result_map_both values Space made
 given values space (Ok other) is = ap (result_map_both values (λ fault. fault)) is
 given values space (Err fault) is = absurd (false≢true (sym (ap is_ok is)))
 
@@ -165,7 +165,7 @@ has_space : (document : Members) (space : Layout) → IsSpaceOrStarved document 
 has_space document space (inl starved) = absurd (false≢true (sym (ap is_ok starved)))
 has_space document space (inr is) = is
 
-pub accepted : (document archive server : Members) (users : Allowed) (space : Layout) (result : Result Values SettingsFault)
+pub accepted : (document archive server : Members) (users : Allowed) (space : Layout) (result : Result SettingsValues SettingsFault)
     → archive ≡ table_at (codes "archive") document → server ≡ table_at (codes "server") document → users ≡ users_in document
     → IsSpaceOrStarved document (Ok space)
     → IfOk result (λ settings. settings ≡ record (values_of_tables archive server [] space) { users = users }) → IfErr result (λ fault. fault ≡ OutOfMemory)

@@ -13,7 +13,7 @@ use Rattle.ua_settings.specs.Keys.{refusal_of}
 use Rattle.ua_settings.specs.Judging.{Spot, first_some, first_wrong, is_bad, is_key, is_missing, wrong_at, wrong_from, wrong_key}
 use Rattle.ua_settings.specs.declared.fault.SettingsFault.{SettingsFault}
 use Rattle.ua_settings.specs.declared.fault.SettingsFault.TheVariants.{BadValue, MissingKey, UnknownKey}
-use Rattle.ua_settings.specs.Settings.{Values}
+use Rattle.ua_settings.specs.Settings.{SettingsValues}
 use Rattle.ua_settings.specs.Reading.{settings_in, IsAcceptedOrStarved, IsReadOrStarved}
 use Rattle.ua_settings.proofs.FileParts.{name_of, wrong_in}
 
@@ -73,7 +73,7 @@ kind_of document None same = refused_so document ∙ ap (option_map (λ (p : Wro
 kind_of document (Some (wrong, spot)) same = refused_so document ∙ ap (option_map (λ (p : Wrong × Spot). p.0)) (sym same)
 
 -- what a document gives, by how it is wrong
-abbrev given : Members → Option Wrong → Result Values SettingsFault
+abbrev given : Members → Option Wrong → Result SettingsValues SettingsFault
 given document found = elim found [ None ↦ settings_in document | Some Unknown ↦ Err UnknownKey | Some Missing ↦ Err MissingKey | Some Bad ↦ Err BadValue ]
 
 fault_given : (document : Members) (wrong : Wrong) → Err (elim wrong [ Unknown ↦ UnknownKey | Missing ↦ MissingKey | Bad ↦ BadValue ]) ≡ given document (Some wrong)
@@ -85,6 +85,6 @@ pub refused_told : (document : Members) (wrong : Wrong) (fault : SettingsFault) 
     → IsReadOrStarved (Some document) (Err fault)
 refused_told document wrong fault is same = inr (ap Err same ∙ fault_given document wrong ∙ sym (ap (given document) is))
 
-pub accepted_told : (document : Members) (result : Result Values SettingsFault) → first_refusal document ≡ None → IsAcceptedOrStarved document result → IsReadOrStarved (Some document) result
+pub accepted_told : (document : Members) (result : Result SettingsValues SettingsFault) → first_refusal document ≡ None → IsAcceptedOrStarved document result → IsReadOrStarved (Some document) result
 accepted_told document result none (inl starved) = inl starved
 accepted_told document result none (inr is) = inr (is ∙ sym (ap (given document) none))

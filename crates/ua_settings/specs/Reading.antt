@@ -13,7 +13,7 @@ use Rattle.ua_settings.specs.declared.fault.SettingsFault.TheVariants.{NotToml, 
 use Rattle.ua_settings.specs.declared.keys.Section.TheVariants.{User, Folder, Variable}
 use Rattle.ua_settings.specs.declared.keys.Wrong.TheVariants.{Unknown, Missing, Bad}
 use Rattle.ua_settings.specs.File.{tables, text_at, first_refusal}
-use Rattle.ua_settings.specs.Settings.{Values}
+use Rattle.ua_settings.specs.Settings.{SettingsValues}
 use Rattle.ua_session.specs.Users.{Allowed}
 use Rattle.ua_session.specs.declared.identity.User.{User as NamedUser}
 
@@ -59,7 +59,7 @@ users_in server users =
     record { anonymous = truth_at (codes "anonymous") server; named = map user_in users }
 
 -- what the tables `archive`, `server` and those of users give, with these nodes
-abbrev pub values_of_tables : Members → Members → List Members → Layout → Values
+abbrev pub values_of_tables : Members → Members → List Members → Layout → SettingsValues
 values_of_tables archive server users space = record {
   archive = unwrap_or (parsed (text_at (codes "id") archive)) [];
   replica = number_at (codes "replica") archive;
@@ -80,14 +80,14 @@ space_in document =
     (map folder_in (tables document Folder)) (map variable_in (tables document Variable))
 
 -- the settings of a document in which nothing is wrong
-abbrev pub settings_in : Members → Result Values SettingsFault
+abbrev pub settings_in : Members → Result SettingsValues SettingsFault
 settings_in document =
     result_map_both
     (values_of_tables (table_at (codes "archive") document) (table_at (codes "server") document)
     (tables document User)) Space (space_in document)
 
 -- the settings that a text gives, by the document that it is, or the first fault
-abbrev pub read_in : Option Members → Result Values SettingsFault
+abbrev pub read_in : Option Members → Result SettingsValues SettingsFault
 read_in None = Err NotToml
 read_in (Some document) =
     elim (first_refusal document) [
@@ -98,7 +98,7 @@ read_in (Some document) =
     ]
 
 -- that, or memory ran out
-abbrev pub IsReadOrStarved : Option Members → Result Values SettingsFault → Type 0
+abbrev pub IsReadOrStarved : Option Members → Result SettingsValues SettingsFault → Type 0
 IsReadOrStarved document result = (result ≡ Err OutOfMemory) ⊎ (result ≡ read_in document)
 
 -- ---- the steps
@@ -112,5 +112,5 @@ IsSpaceOrStarved document result =
     (result ≡ Err OutOfMemory)
     ⊎ (result ≡ result_map_both (λ space. space) Space (space_in document))
 
-abbrev pub IsAcceptedOrStarved : Members → Result Values SettingsFault → Type 0
+abbrev pub IsAcceptedOrStarved : Members → Result SettingsValues SettingsFault → Type 0
 IsAcceptedOrStarved document result = (result ≡ Err OutOfMemory) ⊎ (result ≡ settings_in document)

@@ -5,12 +5,12 @@ use Rattle.ua_settings.specs.declared.settings.Parts.{Parts}
 -- the archive's id, the number of this replica of it, and the file of its store, none for memory;
 -- where the server listens, the URL of its endpoint, the URI of the application; who may use it;
 -- and its nodes
-abbrev pub Values : Type 0
-Values = Parts
+abbrev pub SettingsValues : Type 0
+SettingsValues = Parts
 
 -- without settings: replica 1 of the archive whose id is all zeros, in memory; any user without a
 -- name; no variables
-unfoldable pub bare : Values
+unfoldable pub bare : SettingsValues
 bare = record {
   archive = replicate 16 0;
   replica = 1;

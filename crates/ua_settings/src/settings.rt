@@ -55,9 +55,9 @@ pub struct Settings {
 }
 
 impl Model for Settings {
-    ghost use Rattle.ua_settings.specs.Settings.{Values, IsSettingsText};
+    ghost use Rattle.ua_settings.specs.Settings.{SettingsValues, IsSettingsText};
 
-    ghost Value = { Values };
+    ghost Value = { SettingsValues };
 
     ghost view = { λ s.
         record {

@@ -2,7 +2,7 @@
 use Rattle.std.specs.Prelude.{◌≡◌, ◌++◌, ℕ, zero, suc, List, [], ◌∷◌, Option, None, Some, Ok, Err}
 use Rattle.uacp.specs.declared.types.UacpFault.{UacpFault}
 use Rattle.uacp.specs.Stream.{ChunkContent}
-use Rattle.uacp.specs.Held.{Held, next_of, after_next, GivesChunk}
+use Rattle.uacp.specs.Held.{IntakeState, next_of, after_next, GivesChunk}
 
 -- what a call did; a feed that ran out of memory did nothing, and is none
 pub data IntakeCall : Type 0 where
@@ -18,7 +18,7 @@ pub data IntakeCall : Type 0 where
   Refused : UacpFault → IntakeCall
 
 -- what the calls promise
-abbrev pub DoesIntakeCall : Held → IntakeCall → Held → Type 0
+abbrev pub DoesIntakeCall : IntakeState → IntakeCall → IntakeState → Type 0
 DoesIntakeCall old (Fed piece) new = new ≡ record old { waiting = old.waiting ++ piece }
 DoesIntakeCall old (Limited receive_size) new = new ≡ record old { limit = receive_size }
 DoesIntakeCall old (Gave piece) new =
@@ -28,10 +28,10 @@ DoesIntakeCall old (Refused fault) new =
     GivesChunk old (Err fault) × (new ≡ after_next old (next_of old))
 
 -- one call after the other
-abbrev pub RunsIntake : Held → List IntakeCall → Held → Type 0
+abbrev pub RunsIntake : IntakeState → List IntakeCall → IntakeState → Type 0
 RunsIntake old [] new = new ≡ old
 RunsIntake old (event ∷ events) new =
-    (between : Held) × DoesIntakeCall old event between × RunsIntake between events new
+    (between : IntakeState) × DoesIntakeCall old event between × RunsIntake between events new
 
 -- all the bytes that were fed
 abbrev pub fed_of : List IntakeCall → List ℕ

@@ -25,9 +25,9 @@ pub struct Intake {
 
 impl Model for Intake {
     ghost use Rattle.std.specs.Prelude.{◌≤◌, drop, vec_len};
-    ghost use Rattle.uacp.specs.Held.{Held};
+    ghost use Rattle.uacp.specs.Held.{IntakeState};
 
-    ghost Value = { Held };
+    ghost Value = { IntakeState };
 
     ghost view = { λ i.
         record {

@@ -8,8 +8,8 @@ ghost use Rattle.uacp.specs.declared.types.UacpFault.{UacpFault as Fault};
 ghost use Rattle.uacp.specs.Greeting.{hello, hello_at, acknowledge, error};
 ghost use Rattle.uacp.specs.declared.types.Header.{Header};
 ghost use Rattle.uacp.specs.Chunks.{chunk_header};
-ghost use Rattle.uacp.specs.Stream.{ChunkContent, piece_at, header_of, IsChunk, IsPartial, IsFault, AreChunks, Splits};
-ghost use Rattle.uacp.specs.Held.{Held, new_intake};
+ghost use Rattle.uacp.specs.Stream.{ChunkContent, piece_at, header_of, IsChunk, IsPartial, IsFault, AreChunks, AreChunksThenRest};
+ghost use Rattle.uacp.specs.Held.{IntakeState, new_intake};
 ghost use Rattle.uacp.specs.Split.{IsSplit, pieces_of};
 ghost use Rattle.uacp.specs.Run.{IntakeCall, Refused, RunsIntake, fed_of, given_of, limits_of, ended, OnlyRefuses};
 
@@ -60,7 +60,8 @@ pub fn next_is_what_stands_first()
 pub fn stream_has_one_reading()
     ensures { (limits limits' : ℕ → ℕ) (bytes : List ℕ) (pieces pieces' : List ChunkContent)
         (rest rest' : List ℕ) (fault fault' : Option Fault)
-        → Splits limits bytes pieces rest fault → Splits limits' bytes pieces' rest' fault'
+        → AreChunksThenRest limits bytes pieces rest fault
+        → AreChunksThenRest limits' bytes pieces' rest' fault'
         → ((k : ℕ) → k ≤ length pieces → limits k ≡ limits' k)
         → (pieces ≡ pieces') × (rest ≡ rest') × (fault ≡ fault') }
 {}
@@ -69,7 +70,7 @@ pub fn stream_has_one_reading()
 /// and the bytes still held.
 #[tactic(auto, using(crate::proofs::Running::stream))]
 pub fn stream_is_kept()
-    ensures { (events : List IntakeCall) (held : Held) → RunsIntake new_intake events held
+    ensures { (events : List IntakeCall) (held : IntakeState) → RunsIntake new_intake events held
         → AreChunks false (limits_of 65536 events) (fed_of events) (given_of events) held.waiting }
 {}
 
@@ -77,16 +78,16 @@ pub fn stream_is_kept()
 /// than a chunk, or at which that fault stands.
 #[tactic(auto, using(crate::proofs::Running::stream))]
 pub fn stream_ends_so()
-    ensures { (events : List IntakeCall) (fault : Option Fault) (held : Held)
+    ensures { (events : List IntakeCall) (fault : Option Fault) (held : IntakeState)
         → RunsIntake new_intake (events ++ ended fault ∷ []) held
-        → Splits (limits_of 65536 events) (fed_of events) (given_of events) held.waiting fault }
+        → AreChunksThenRest (limits_of 65536 events) (fed_of events) (given_of events) held.waiting fault }
 {}
 
 /// After a fault `next_chunk` gives nothing but that fault, whatever is fed and whatever limits are
 /// set.
 #[tactic(auto, using(crate::proofs::Running::stream))]
 pub fn fault_stays()
-    ensures { (events : List IntakeCall) (fault : Fault) (later : List IntakeCall) (held : Held)
+    ensures { (events : List IntakeCall) (fault : Fault) (later : List IntakeCall) (held : IntakeState)
         → RunsIntake new_intake (events ++ Refused fault ∷ later) held
         → OnlyRefuses fault later }
 {}
@@ -96,7 +97,7 @@ pub fn fault_stays()
 /// no chunk.
 #[tactic(auto, using(crate::proofs::Running::stream))]
 pub fn pieces_do_not_matter()
-    ensures { (events events' : List IntakeCall) (fault fault' : Option Fault) (held held' : Held)
+    ensures { (events events' : List IntakeCall) (fault fault' : Option Fault) (held held' : IntakeState)
         → RunsIntake new_intake (events ++ ended fault ∷ []) held
         → RunsIntake new_intake (events' ++ ended fault' ∷ []) held'
         → fed_of events ≡ fed_of events'

@@ -8,7 +8,7 @@ use Rattle.ua_channel.specs.Taking.{piece_of}
 use Rattle.historian.specs.Services.{site_of}
 use Rattle.ua_connection.specs.Environments.{before}
 use Rattle.ua_connection.specs.Client.{Client}
-use Rattle.ua_connection.specs.Turns.{ending_of, client_after, standing_of, tried}
+use Rattle.ua_connection.specs.Turns.{ending_of, client_after, standing_of, chunk_answer_or_starved}
 use Rattle.ua_connection.proofs.Outsides.{marked}
 use Rattle.ua_connection.proofs.Steps.{tried-hello, tried-other, answered-client, behind-same, behind-channel}
 use Rattle.ua_connection.proofs.answering.answer_chunk.Goals as goal
@@ -50,6 +50,6 @@ returns-in-Open-clause-answered g c client =
     let other = client_after client c.answer_channel_chunk.result c.answer_channel_chunk.new.channel left in (
       h.0,
       h.1,
-      answered-client a b (λ R. tried site (standing_of outer sessions R) piece) h.0 out after end inner other (behind-channel client c.args.channel.now c.answer_channel_chunk.new.channel left c.answer_channel_chunk.result)
+      answered-client a b (λ R. chunk_answer_or_starved site (standing_of outer sessions R) piece) h.0 out after end inner other (behind-channel client c.args.channel.now c.answer_channel_chunk.new.channel left c.answer_channel_chunk.result)
           (tried-other a b site outer inner sessions piece h.0 out after end (not_hello c.args.chunk.kind c.in-Open.is) h.2),
     )

@@ -1,6 +1,6 @@
 use Rattle.std.proofs.Common.{◌∙◌, arith, take, refl, ap, length}
 use Rattle.std.proofs.lemmas.List.{length-append, length-take}
-use Rattle.exchange.specs.Frames.{Held}
+use Rattle.exchange.specs.Frames.{ReceivedFrames}
 use Rattle.ua_peers.proofs.Talking.{starts-short, short-cut, meets-start, meets-unfed, meets-fed, meets-drained, meets-starved, meets-stop, meets-fault}
 use Rattle.ua_peers.proofs.peers.run_dialog.Goals as goal
 
@@ -56,7 +56,7 @@ pub reads-smaller : goal.reads-smaller
 reads-smaller g c =
     let drained = rw c.in-Ok-None.field-0-is at c.in-Ok-None.ensures.leaves in
     let short = short-cut c.take_waiting.new.frames.waiting drained.short in
-    let now = ap (λ (h : Held). length h.waiting) c.in-Ok-feed.ensures.ok in
+    let now = ap (λ (h : ReceivedFrames). length h.waiting) c.in-Ok-feed.ensures.ok in
     let within = c.in_ok-n.ensures.within in
     let more = drained.no_less in
     let most = drained.ready.few in

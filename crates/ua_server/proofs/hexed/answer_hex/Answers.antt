@@ -1,7 +1,7 @@
 use Rattle.std.proofs.Common.{rules, ◌≡◌, ◌++◌, List, [], ℕ, Err, refl, ap, inl, inr}
 use Rattle.std.specs.Prelude.{IsErr}
 use Rattle.hex.specs.Hex.{decode_of, encode_upper}
-use Rattle.ua_settings.specs.Settings.{Values}
+use Rattle.ua_settings.specs.Settings.{SettingsValues}
 use Rattle.archive.specs.Store.{Store}
 use Rattle.archive.proofs.Acting.{moves-none}
 use Rattle.counted_io.specs.declared.fault.ServeFault.TheVariants.{Read, Write, TooLong, OutOfMemory}
@@ -13,7 +13,7 @@ use Rattle.ua_connection.proofs.Outsides.{empty_environment}
 use Rattle.ua_server.proofs.Hexing.{given-text}
 use Rattle.ua_server.proofs.hexed.answer_hex.Goals as goal
 
-undecoded : (settings : Values) (a b : Store) (text : List ℕ) (used : Environment) (before : List ℕ) (fault : HexFault) → IsBadOrStarved fault → (fault ≡ BadHex → IsErr (decode_of (digits_of text))) → IsUntouched a b used → AnswersHex settings a b text used before before (Err fault)
+undecoded : (settings : SettingsValues) (a b : Store) (text : List ℕ) (used : Environment) (before : List ℕ) (fault : HexFault) → IsBadOrStarved fault → (fault ≡ BadHex → IsErr (decode_of (digits_of text))) → IsUntouched a b used → AnswersHex settings a b text used before before (Err fault)
 undecoded settings a b text used before BadHex told bad untouched = (bad refl, refl, untouched)
 undecoded settings a b text used before (Serve Read) told bad untouched = absurd told
 undecoded settings a b text used before (Serve Write) told bad untouched = absurd told
