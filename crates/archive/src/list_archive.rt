@@ -229,8 +229,7 @@ fn lives_at(
     times: &[Moment],
 ) -> Result<Vec<Held>, StoreFault>
     requires { IsApart record_stamp_cmp records.now }
-    ensures value {
-        IfOk result (λ v. v.items ≡ filter_map (live_value records.now node.now) times.now) }
+    ensures value { IfOk result (λ v. v.items ≡ filter_map (live_value records.now node.now) times.now) }
     ensures memory { IfErr result (λ e. e ≡ store.OutOfMemory) }
 {
     let mut found = Vec::new(alloc);

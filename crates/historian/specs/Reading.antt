@@ -71,7 +71,7 @@ is_default name =
 abbrev pub value_rules : Option (List ℕ) → QualifiedName → List (Bool × Status)
 value_rules range encoding =
     (is_null_or_empty range, BAD_INDEX_RANGE_INVALID)
-        ∷ (is_default encoding, BAD_DATA_ENCODING_UNSUPPORTED)
+    ∷ (is_default encoding, BAD_DATA_ENCODING_UNSUPPORTED)
     ∷ []
 
 -- ---- Read
