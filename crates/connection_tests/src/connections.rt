@@ -3,7 +3,6 @@
 use crate::clients::CLIENTS;
 use crate::rows::{ROWS, SESSION};
 use archive::Archive;
-use exchange::Replica;
 use records::read_record;
 use server_rows::ends::{Narrow, Slow};
 use server_rows::plant::{archive_of, clock, plant};
@@ -17,8 +16,8 @@ use std::io;
 use std::io::{Read, Write};
 use std::test::Fail;
 use ua_server::{
-    Clock, Counted, HexFault, ServeFault, Served, SystemClock, answer_hex, answers_go_item_by_item,
-    chunks_are_counted, dump, serve,
+    Clock, Counted, HexFault, ServeFault, Served, Server, SystemClock, answer_hex,
+    answers_go_item_by_item, chunks_are_counted, dump, serve,
 };
 use ua_settings::Settings;
 use uuid::Uuid;
@@ -72,8 +71,9 @@ fn answer(alloc: Global, text: &str, out: &mut Vec<u8>) -> Result<Served, HexFau
     let Ok(settings) = Settings::bare(alloc) else {
         return Err(HexFault::Serve(ServeFault::OutOfMemory));
     };
-    let mut replica = Replica::new(archive_of(alloc, &settings));
-    answer_hex(alloc, &settings, &mut replica, text, out, &mut clock())
+    let archive = archive_of(alloc, &settings);
+    let mut server = Server::new(alloc, settings, archive);
+    answer_hex(&mut server, text, out, &mut clock())
 }
 
 /// Such a server serves a client.
@@ -85,8 +85,9 @@ fn serve_bare<R: Read, W: Write>(
     let Ok(settings) = Settings::bare(alloc) else {
         return Err(ServeFault::OutOfMemory);
     };
-    let mut replica = Replica::new(archive_of(alloc, &settings));
-    serve(alloc, &settings, &mut replica, reader, writer, &mut clock())
+    let archive = archive_of(alloc, &settings);
+    let mut server = Server::new(alloc, settings, archive);
+    serve(reader, writer, &mut server, &mut clock())
 }
 
 /// A connection in hex digits is answered so.
@@ -108,11 +109,10 @@ fn answers_in_hex(rt: HostRuntime) -> Result<(), Fail> {
     Ok(())
 }
 
-/// What a plant writes over this replica to a client that begins a session and asks this.
+/// What a plant writes to a client that begins a session and asks this.
 fn served_to<A: Archive>(
     alloc: Global,
-    settings: &Settings,
-    replica: &mut Replica<A>,
+    server: &mut Server<A>,
     rows: &[(&str, &str, &str)],
 ) -> Result<Vec<u8>, Fail> {
     let mut input = bytes_of(alloc, &[HELLO, OPEN, BEGIN[0], BEGIN[1]])?;
@@ -122,14 +122,7 @@ fn served_to<A: Archive>(
     }
     let mut reader = Counted::new(input.as_slice());
     let mut writer = Counted::new(Vec::new(alloc));
-    serve(
-        alloc,
-        settings,
-        replica,
-        &mut reader,
-        &mut writer,
-        &mut clock(),
-    )?;
+    serve(&mut reader, &mut writer, server, &mut clock())?;
     Ok(writer.into_inner())
 }
 
@@ -157,10 +150,11 @@ fn first_other<'a>(
 
 #[test]
 fn serves_clients_of_a_plant(rt: HostRuntime) -> Result<(), Fail> {
-    let settings = plant(rt.alloc())?;
     for (client, rows) in CLIENTS {
-        let mut replica = Replica::new(archive_of(rt.alloc(), &settings));
-        let written = served_to(rt.alloc(), &settings, &mut replica, rows)?;
+        let settings = plant(rt.alloc())?;
+        let archive = archive_of(rt.alloc(), &settings);
+        let mut server = Server::new(rt.alloc(), settings, archive);
+        let written = served_to(rt.alloc(), &mut server, rows)?;
         assert_eq!(rt;
             first_other(rt.alloc(), written.as_slice(), rows)?,
             None,
@@ -173,15 +167,15 @@ fn serves_clients_of_a_plant(rt: HostRuntime) -> Result<(), Fail> {
 /// The same over an archive in SQLite.
 #[test]
 fn serves_clients_over_a_store(rt: HostRuntime) -> Result<(), Fail> {
-    let settings = plant(rt.alloc())?;
     for (client, rows) in CLIENTS {
+        let settings = plant(rt.alloc())?;
         let archive = SqlArchive::open_in_memory(
             rt.alloc(),
             settings.archive(),
             settings.replica(),
         )?;
-        let mut replica = Replica::new(archive);
-        let written = served_to(rt.alloc(), &settings, &mut replica, rows)?;
+        let mut server = Server::new(rt.alloc(), settings, archive);
+        let written = served_to(rt.alloc(), &mut server, rows)?;
         assert_eq!(rt;
             first_other(rt.alloc(), written.as_slice(), rows)?,
             None,

@@ -3,8 +3,7 @@
 #![tactic(auto)]
 
 use archive::ListArchive;
-use exchange::Replica;
-use ua_server::{ConstantClock, answer_hex};
+use ua_server::{ConstantClock, Server, answer_hex};
 use ua_settings::Settings;
 
 /// A Hello: version 0, both buffers of 65,536 bytes, no limits, and `opc.tcp://localhost:4840`.
@@ -14,17 +13,10 @@ const HELLO: &str = "48454C46 38000000 00000000 00000100 00000100 00000000 00000
 fn main(rt: HostRuntime) -> anyhow::Result<()> {
     let settings = Settings::bare(rt.alloc())?;
     let archive = ListArchive::new(rt.alloc(), settings.archive(), settings.replica());
-    let mut replica = Replica::new(archive);
+    let mut server = Server::new(rt.alloc(), settings, archive);
     let mut answer = Vec::new(rt.alloc());
     let mut clock = ConstantClock(134_168_832_000_000_000);
-    let ending = answer_hex(
-        rt.alloc(),
-        &settings,
-        &mut replica,
-        HELLO,
-        &mut answer,
-        &mut clock,
-    )?;
+    let ending = answer_hex(&mut server, HELLO, &mut answer, &mut clock)?;
     for piece in answer.chunks(8) {
         println!(&rt; "{}", std::str::from_utf8(piece)?)?;
     }

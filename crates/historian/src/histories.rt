@@ -18,15 +18,16 @@ use crate::answer::Answer;
 use crate::browsing::list_refusal;
 use crate::reading::judge_value;
 use crate::requests::history_read_request;
+use crate::server::Server;
+use crate::service::ServiceRequest;
 use archive::Archive;
 use hist_read::{Query, read_node};
 use std::alloc::Global;
-use ua_binary::{Cursor, NodeIdRef, Status, Ticks};
+use ua_binary::{Status, Ticks};
 use ua_services::{
     HistoryData, HistoryReadDetails, HistoryReadResult, HistoryReadValueId, TimestampsToReturn,
 };
 use ua_session::Sessions;
-use ua_settings::Settings;
 use ua_space::Space;
 
 /// The most nodes of a HistoryRead.
@@ -143,17 +144,17 @@ fn query_of(
 
 /// What a HistoryRead of these nodes is answered.
 fn read_all<A: Archive>(
-    alloc: Global,
-    settings: &Settings,
-    archive: &mut A,
+    server: &mut Server<A>,
     details: HistoryReadDetails,
     timestamps: Option<TimestampsToReturn>,
     release: bool,
     nodes: &[HistoryReadValueId<'_>],
 ) -> Result<Answer, Status>
-    ensures comes { Comes (A.state archive.old) (A.state archive.new)
-        (read_history (A.state archive.old).id settings.now.space
+    ensures comes { Comes (A.state server.old.replica.archive)
+        (A.state server.new.replica.archive)
+        (read_history (A.state server.old.replica.archive).id server.old.settings.space
         (details, (timestamps, (release, map history_read_fields nodes.now)))) result }
+    ensures settings { server.new.settings ≡ server.old.settings }
     ensures short { IfOk result IsEncodable }
 {
     if let Some(status) = list_refusal(MOST_HISTORIES, nodes.len()) {
@@ -163,13 +164,13 @@ fn read_all<A: Archive>(
         Ok(query) => query,
         Err(status) => return Err(status),
     };
-    let Ok(mut results) = Vec::with_capacity(alloc, nodes.len()) else {
+    let Ok(mut results) = Vec::with_capacity(server.alloc, nodes.len()) else {
         return Err(Status::BAD_OUT_OF_MEMORY);
     };
     read_histories(
-        alloc,
-        settings.space(),
-        archive,
+        server.alloc,
+        server.settings.space(),
+        &mut server.replica.archive,
         &query,
         release,
         nodes,
@@ -185,25 +186,23 @@ fn read_all<A: Archive>(
 /// `BAD_DATA_ENCODING_UNSUPPORTED`, and then those of `read_node`. Where continuation points are only given back, a node
 /// is read as ever, and nothing of it is shown.
 pub(crate) fn read_history<A: Archive>(
-    alloc: Global,
-    settings: &Settings,
-    archive: &mut A,
+    server: &mut Server<A>,
     sessions: &Sessions,
     now: Ticks,
-    token: NodeIdRef<'_>,
-    request: Cursor<'_>,
+    request: ServiceRequest<'_>,
 ) -> Result<Answer, Status>
-    ensures performs { Performs (A.state archive.old) (A.state archive.new)
-        (answered_call (site_of settings.now (A.state archive.old)) now (node_of token.entry)
-        (call_in service.HistoryRead request.entry) sessions.now) sessions.now result }
+    ensures performs { Performs (A.state server.old.replica.archive)
+        (A.state server.new.replica.archive)
+        (answered_call (site_of server.old.settings (A.state server.old.replica.archive)) now
+        (node_of request.entry.token) (call_in service.HistoryRead request.entry.body)
+        sessions.now) sessions.now result }
+    ensures settings { server.new.settings ≡ server.old.settings }
     ensures short { IfOk result IsEncodable }
 {
-    let asked = history_read_request(alloc, request)?;
-    sessions.user_of(token)?;
+    let asked = history_read_request(server.alloc, request.body)?;
+    sessions.user_of(request.token)?;
     read_all(
-        alloc,
-        settings,
-        archive,
+        server,
         asked.details,
         asked.timestamps,
         asked.release_continuation_points,

@@ -10,10 +10,12 @@ mod message;
 mod reading;
 mod requests;
 mod responses;
+mod server;
 mod service;
 mod sessions;
 mod updating;
 
 pub use message::answer_message;
 pub use responses::put_service_fault;
+pub use server::Server;
 pub use service::ClientMessage;

@@ -14,14 +14,14 @@ use crate::browsing::browse;
 use crate::histories::read_history;
 use crate::reading::read;
 use crate::responses::put_service_fault;
-use crate::service::{ClientMessage, Service};
+use crate::server::Server;
+use crate::service::{ClientMessage, Service, ServiceRequest};
 use crate::sessions::{activate_session, close_session, create_session, get_endpoints};
 use crate::updating::update_history;
 use archive::Archive;
-use std::alloc::{AllocError, Global};
-use ua_binary::{Cursor, NodeIdRef, Status, Ticks};
+use std::alloc::AllocError;
+use ua_binary::{Status, Ticks};
 use ua_session::Sessions;
-use ua_settings::Settings;
 
 /// Writes the response that tells an answer; or tells why there is none, or that memory was wanting.
 fn write_response(
@@ -39,76 +39,65 @@ fn write_response(
     Ok(())
 }
 
-/// Performs a service, by the token of the request's header and what stands behind that, and writes its response.
+/// Performs a service, and writes its response.
 fn serve<A: Archive>(
-    alloc: Global,
-    settings: &Settings,
-    archive: &mut A,
+    server: &mut Server<A>,
     sessions: &mut Sessions,
     now: Ticks,
     handle: u32,
-    service: Service,
-    token: NodeIdRef<'_>,
-    request: Cursor<'_>,
+    request: ServiceRequest<'_>,
     body: &mut Vec<u8>,
 ) -> Result<(), Status>
     requires { body.old.items ≡ [] }
-    ensures { Responds (A.state archive.old) (A.state archive.new)
-        (answered_call (site_of settings.now (A.state archive.old)) now (node_of token.entry)
-        (call_in service request.entry) sessions.old) sessions.new now handle result
-        body.new.items }
+    ensures responds { Responds (A.state server.old.replica.archive)
+        (A.state server.new.replica.archive)
+        (answered_call (site_of server.old.settings (A.state server.old.replica.archive)) now
+        (node_of request.entry.token) (call_in request.entry.service request.entry.body)
+        sessions.old) sessions.new now handle result body.new.items }
+    ensures settings { server.new.settings ≡ server.old.settings }
 {
-    let answer = match service {
-        Service::GetEndpoints => get_endpoints(alloc, settings, request),
-        Service::CreateSession => create_session(alloc, settings, sessions, request),
-        Service::ActivateSession => activate_session(settings, sessions, token, request),
-        Service::CloseSession => close_session(sessions, token, request),
-        Service::Browse => browse(alloc, settings, sessions, token, request),
-        Service::Read => {
-            return read(
-                alloc, settings, archive, sessions, now, handle, token, request, body,
-            );
+    let answer = match request.service {
+        Service::GetEndpoints => get_endpoints(server.alloc, &server.settings, request.body),
+        Service::CreateSession => {
+            create_session(server.alloc, &server.settings, sessions, request.body)
         }
-        Service::HistoryRead => read_history(
-            alloc, settings, archive, sessions, now, token, request,
+        Service::ActivateSession => {
+            activate_session(&server.settings, sessions, request.token, request.body)
+        }
+        Service::CloseSession => close_session(sessions, request.token, request.body),
+        Service::Browse => browse(
+            server.alloc,
+            &server.settings,
+            sessions,
+            request.token,
+            request.body,
         ),
-        Service::HistoryUpdate => update_history(
-            alloc, settings, archive, sessions, now, token, request,
-        ),
+        Service::Read => return read(server, sessions, now, handle, request, body),
+        Service::HistoryRead => read_history(server, sessions, now, request),
+        Service::HistoryUpdate => update_history(server, sessions, now, request),
     };
     write_response(answer, now, handle, body)
 }
 
 /// Performs what a message asks, and writes its response.
 fn perform<A: Archive>(
-    alloc: Global,
-    settings: &Settings,
-    archive: &mut A,
+    server: &mut Server<A>,
     sessions: &mut Sessions,
     now: Ticks,
     message: ClientMessage<'_>,
     body: &mut Vec<u8>,
 ) -> Result<(), Status>
     requires { body.old.items ≡ [] }
-    ensures { Responds (A.state archive.old) (A.state archive.new)
-        (answered_request (site_of settings.now (A.state archive.old)) now
+    ensures responds { Responds (A.state server.old.replica.archive)
+        (A.state server.new.replica.archive)
+        (answered_request (site_of server.old.settings (A.state server.old.replica.archive)) now
         (asked_of message.entry.request) sessions.old) sessions.new now message.entry.handle result
         body.new.items }
+    ensures settings { server.new.settings ≡ server.old.settings }
 {
     let handle = message.handle();
     match message.request {
-        Ok(request) => serve(
-            alloc,
-            settings,
-            archive,
-            sessions,
-            now,
-            handle,
-            request.service,
-            request.token,
-            request.body,
-            body,
-        ),
+        Ok(request) => serve(server, sessions, now, handle, request, body),
         Err(status) => Err(status),
     }
 }
@@ -131,24 +120,23 @@ fn refuse(body: &mut Vec<u8>, now: Ticks, handle: u32, status: Status) -> Result
 /// that says so. What is written has a spelling, so it is read again. The one error is want of memory for the response; what
 /// the service did stands then.
 pub fn answer_message<A: Archive>(
-    alloc: Global,
-    settings: &Settings,
-    archive: &mut A,
+    server: &mut Server<A>,
     sessions: &mut Sessions,
     now: Ticks,
     message: ClientMessage<'_>,
     body: &mut Vec<u8>,
 ) -> Result<(), AllocError>
     requires { body.old.items ≡ [] }
-    ensures { (used : List StepResult) × (told : Response)
-        × Refines (A.state archive.old) (A.state archive.new) used
-        (answered_request (site_of settings.now (A.state archive.old)) now
+    ensures answers { (used : List StepResult) × (told : Response)
+        × Refines (A.state server.old.replica.archive) (A.state server.new.replica.archive) used
+        (answered_request (site_of server.old.settings (A.state server.old.replica.archive)) now
         (asked_of message.entry.request) sessions.old) (told, sessions.new)
         × OnOk result
         ((body.new.items ≡ response now message.entry.handle told) × IfOk told HasEncoding) }
+    ensures settings { server.new.settings ≡ server.old.settings }
 {
     let handle = message.handle();
-    match perform(alloc, settings, archive, sessions, now, message, body) {
+    match perform(server, sessions, now, message, body) {
         Ok(()) => Ok(()),
         Err(Status::BAD_OUT_OF_MEMORY) => Err(AllocError),
         Err(status) => refuse(body, now, handle, status),

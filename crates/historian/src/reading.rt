@@ -30,16 +30,15 @@ ghost use Rattle.historian.specs.Telling.{ComesWritten, Responds};
 use crate::browsing::list_refusal;
 use crate::requests::read_request;
 use crate::responses::put_head;
+use crate::server::Server;
+use crate::service::ServiceRequest;
 use archive::{Archive, Direction, StepError, StoreFault};
 use hist_read::{is_short_value, with_stamps};
 use records::{Held, Moment};
 use std::alloc::Global;
-use ua_binary::{
-    BinaryFault, Cursor, NodeId, NodeIdRef, QualifiedRef, Status, Ticks, put_count, put_i32,
-};
+use ua_binary::{BinaryFault, NodeId, NodeIdRef, QualifiedRef, Status, Ticks, put_count, put_i32};
 use ua_services::{ReadValueId, TimestampsToReturn};
 use ua_session::Sessions;
-use ua_settings::Settings;
 use ua_space::{Answered, Space};
 use ua_variant::{DataValue, Variant, put_data_value, put_value_at};
 
@@ -323,9 +322,7 @@ fn put_items<A: Archive>(
 
 /// Writes the response of a Read of these items, or tells why it is refused as a whole, or that memory was wanting.
 fn put_read<A: Archive>(
-    alloc: Global,
-    space: &Space,
-    archive: &mut A,
+    server: &mut Server<A>,
     now: Ticks,
     handle: u32,
     timestamps: Option<TimestampsToReturn>,
@@ -333,9 +330,11 @@ fn put_read<A: Archive>(
     body: &mut Vec<u8>,
 ) -> Result<(), Status>
     requires { body.old.items ≡ [] }
-    ensures { ComesWritten (A.state archive.old) (A.state archive.new)
-        (read space.now now (timestamps, map read_fields nodes.now)) now handle result
-        body.new.items }
+    ensures comes { ComesWritten (A.state server.old.replica.archive)
+        (A.state server.new.replica.archive)
+        (read server.old.settings.space now (timestamps, map read_fields nodes.now)) now handle
+        result body.new.items }
+    ensures settings { server.new.settings ≡ server.old.settings }
 {
     if let Some(status) = list_refusal(MOST_READ, nodes.len()) {
         return Err(status);
@@ -345,7 +344,15 @@ fn put_read<A: Archive>(
     };
     put_head(body, READ_RESPONSE, now, handle, Status::GOOD)?;
     put_count(body, nodes.len())?;
-    put_items(alloc, space, archive, stamps, now, nodes, body)?;
+    put_items(
+        server.alloc,
+        server.settings.space(),
+        &mut server.replica.archive,
+        stamps,
+        now,
+        nodes,
+        body,
+    )?;
     put_i32(body, -1)?;
     Ok(())
 }
@@ -356,32 +363,22 @@ fn put_read<A: Archive>(
 /// variable has no value; those of memory and of the store. The moment of the server is that of the request, and so is the
 /// source time of a value that no archive keeps. Each value is written into the response as it is read.
 pub(crate) fn read<A: Archive>(
-    alloc: Global,
-    settings: &Settings,
-    archive: &mut A,
+    server: &mut Server<A>,
     sessions: &Sessions,
     now: Ticks,
     handle: u32,
-    token: NodeIdRef<'_>,
-    request: Cursor<'_>,
+    request: ServiceRequest<'_>,
     body: &mut Vec<u8>,
 ) -> Result<(), Status>
     requires { body.old.items ≡ [] }
-    ensures { Responds (A.state archive.old) (A.state archive.new)
-        (answered_call (site_of settings.now (A.state archive.old)) now (node_of token.entry)
-        (call_in service.Read request.entry) sessions.now) sessions.now now handle result
-        body.new.items }
+    ensures responds { Responds (A.state server.old.replica.archive)
+        (A.state server.new.replica.archive)
+        (answered_call (site_of server.old.settings (A.state server.old.replica.archive)) now
+        (node_of request.entry.token) (call_in service.Read request.entry.body) sessions.now)
+        sessions.now now handle result body.new.items }
+    ensures settings { server.new.settings ≡ server.old.settings }
 {
-    let asked = read_request(alloc, request)?;
-    sessions.user_of(token)?;
-    put_read(
-        alloc,
-        settings.space(),
-        archive,
-        now,
-        handle,
-        asked.timestamps,
-        &asked.nodes,
-        body,
-    )
+    let asked = read_request(server.alloc, request.body)?;
+    sessions.user_of(request.token)?;
+    put_read(server, now, handle, asked.timestamps, &asked.nodes, body)
 }

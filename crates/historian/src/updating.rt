@@ -19,13 +19,14 @@ ghost use Rattle.historian.specs.Telling.{IsEncodable, Comes, Performs};
 use crate::answer::Answer;
 use crate::browsing::list_refusal;
 use crate::requests::history_update_request;
+use crate::server::Server;
+use crate::service::ServiceRequest;
 use archive::Archive;
 use hist_update::{Request, delete_at, delete_raw, update_data};
 use std::alloc::{AllocError, Global};
-use ua_binary::{Cursor, Listing, NodeIdRef, Status, Text, Ticks};
+use ua_binary::{Listing, NodeIdRef, Status, Text, Ticks};
 use ua_services::{HistoryUpdateDetails, HistoryUpdateResult};
 use ua_session::Sessions;
-use ua_settings::Settings;
 use ua_space::Space;
 use ua_variant::ValueType;
 
@@ -188,27 +189,35 @@ fn update_items<A: Archive>(
 
 /// What a HistoryUpdate of these details is answered.
 fn update_all<A: Archive>(
-    alloc: Global,
-    space: &Space,
-    archive: &mut A,
+    server: &mut Server<A>,
     user: &str,
     now: Ticks,
     details: &[HistoryUpdateDetails<'_>],
 ) -> Result<Answer, Status>
     requires user { IsUserName user.now }
     requires values { AllByRecursion HasShortValues (map details_of details.now) }
-    ensures comes { Comes (A.state archive.old) (A.state archive.new)
-        (update_history (A.state archive.old).own space.now user.now now
-        (map details_of details.now)) result }
+    ensures comes { Comes (A.state server.old.replica.archive)
+        (A.state server.new.replica.archive)
+        (update_history (A.state server.old.replica.archive).own server.old.settings.space
+        user.now now (map details_of details.now)) result }
+    ensures settings { server.new.settings ≡ server.old.settings }
     ensures short { IfOk result IsEncodable }
 {
     if let Some(status) = list_refusal(MOST_UPDATES, details.len()) {
         return Err(status);
     }
-    let Ok(mut results) = Vec::with_capacity(alloc, details.len()) else {
+    let Ok(mut results) = Vec::with_capacity(server.alloc, details.len()) else {
         return Err(Status::BAD_OUT_OF_MEMORY);
     };
-    update_items(alloc, space, archive, user, now, details, &mut results);
+    update_items(
+        server.alloc,
+        server.settings.space(),
+        &mut server.replica.archive,
+        user,
+        now,
+        details,
+        &mut results,
+    );
     Ok(Answer::Updated(results))
 }
 
@@ -218,20 +227,20 @@ fn update_all<A: Archive>(
 /// `BAD_HISTORY_OPERATION_UNSUPPORTED` where the node isn't archived, `BAD_OUT_OF_MEMORY`, and then those of `update_data`,
 /// `delete_raw` and `delete_at`.
 pub(crate) fn update_history<A: Archive>(
-    alloc: Global,
-    settings: &Settings,
-    archive: &mut A,
+    server: &mut Server<A>,
     sessions: &Sessions,
     now: Ticks,
-    token: NodeIdRef<'_>,
-    request: Cursor<'_>,
+    request: ServiceRequest<'_>,
 ) -> Result<Answer, Status>
-    ensures performs { Performs (A.state archive.old) (A.state archive.new)
-        (answered_call (site_of settings.now (A.state archive.old)) now (node_of token.entry)
-        (call_in service.HistoryUpdate request.entry) sessions.now) sessions.now result }
+    ensures performs { Performs (A.state server.old.replica.archive)
+        (A.state server.new.replica.archive)
+        (answered_call (site_of server.old.settings (A.state server.old.replica.archive)) now
+        (node_of request.entry.token) (call_in service.HistoryUpdate request.entry.body)
+        sessions.now) sessions.now result }
+    ensures settings { server.new.settings ≡ server.old.settings }
     ensures short { IfOk result IsEncodable }
 {
-    let asked = history_update_request(alloc, request)?;
-    let user = sessions.user_of(token)?;
-    update_all(alloc, settings.space(), archive, user, now, &asked.details)
+    let asked = history_update_request(server.alloc, request.body)?;
+    let user = sessions.user_of(request.token)?;
+    update_all(server, user, now, &asked.details)
 }

@@ -4,7 +4,7 @@
 use archive::{Archive, Failure, LearnFault, ScriptedArchive, StoreFault};
 use exchange::{Batch, ExchangeFault, Replica, converse};
 use hist_update::{Request, delete_at, update_data};
-use historian::{ClientMessage, answer_message};
+use historian::{ClientMessage, Server, answer_message};
 use history_rows::exchanges::merge;
 use history_rows::updates::{INT32, are_short, code_of, int, is_request, value};
 use records::{HistoryUpdateType, Moment, Record, put_record, read_record};
@@ -13,7 +13,6 @@ use stamp::{ReplicaNo, Vector};
 use std::alloc::Global;
 use ua_binary::{Listing, NodeId, NodeIdRef, Status, Text, Ticks};
 use ua_session::{SessionFault, Sessions};
-use ua_settings::Settings;
 use uuid::Uuid;
 
 /// An insert of replica 2 at source time 20: origin, number, tick, and the value.
@@ -54,8 +53,7 @@ pub(crate) enum Step {
 /// A machine between two requests of one client.
 #[derive(Drop)]
 pub(crate) struct Machine {
-    settings: Settings,
-    replica: Replica<ScriptedArchive>,
+    server: Server<ScriptedArchive>,
     sessions: Sessions,
 }
 
@@ -67,9 +65,13 @@ pub(crate) fn replica_of(alloc: Global, number: u8, call: u64) -> Option<Replica
 }
 
 fn make_machine(alloc: Global, number: u8, call: u64) -> Option<Machine> {
-    Some(Machine {
+    let server = Server {
+        alloc,
         settings: plant_of(alloc, number)?,
         replica: replica_of(alloc, number, call)?,
+    };
+    Some(Machine {
+        server,
         sessions: Sessions::new(alloc),
     })
 }
@@ -99,8 +101,8 @@ pub(crate) fn held(replica: &mut Replica<ScriptedArchive>) -> Option<([u64; 2], 
 
 /// How many records of its own the machine holds.
 fn own(machine: &mut Machine) -> Option<u64> {
-    let number = machine.replica.archive.number();
-    let vector = vector(&mut machine.replica)?;
+    let number = machine.server.replica.archive.number();
+    let vector = vector(&mut machine.server.replica)?;
     Some(vector.get(number))
 }
 
@@ -110,9 +112,7 @@ fn own(machine: &mut Machine) -> Option<u64> {
 fn told(alloc: Global, machine: &mut Machine, now: i64, message: &[u8]) -> Option<Vec<u8>> {
     let mut body = Vec::new(alloc);
     let answered = answer_message(
-        alloc,
-        &machine.settings,
-        &mut machine.replica.archive,
+        &mut machine.server,
         &mut machine.sessions,
         Ticks(now),
         ClientMessage::read(message),
@@ -215,7 +215,7 @@ fn operate(
     if !is_request(request) || !are_short(&values) {
         return None;
     }
-    let archive = &mut machine.replica.archive;
+    let archive = &mut machine.server.replica.archive;
     let told = if perform == 4 {
         delete_at(alloc, archive, request, &[Ticks(time)])
     } else {
@@ -234,13 +234,13 @@ fn is_operated(
     written: i32,
     code: Status,
 ) -> bool {
-    let before = held(&mut machine.replica);
+    let before = held(&mut machine.server.replica);
     let first = operate(alloc, machine, request, perform, time, written);
     if first == Some(code) {
         return true;
     }
     first == Some(Status::BAD_OUT_OF_MEMORY)
-        && held(&mut machine.replica) == before
+        && held(&mut machine.server.replica) == before
         && operate(alloc, machine, request, perform, time, written) == Some(code)
 }
 
@@ -320,41 +320,48 @@ fn answer(alloc: Global, there: &mut Replica<ScriptedArchive>, theirs: &Vector) 
 }
 
 fn is_pulled(alloc: Global, here: &mut Machine, there: &mut Machine, count: u32) -> bool {
-    let Some(theirs) = vector(&mut here.replica) else {
+    let Some(theirs) = vector(&mut here.server.replica) else {
         return false;
     };
-    match answer(alloc, &mut there.replica, &theirs) {
-        Some(batch) => is_merged(&mut here.replica, &batch, Ok(count)),
+    match answer(alloc, &mut there.server.replica, &theirs) {
+        Some(batch) => is_merged(&mut here.server.replica, &batch, Ok(count)),
         None => false,
     }
 }
 
 /// A dialog has so many frames; where memory was wanting it has them then, in case neither end learned anything.
 fn is_conversed(alloc: Global, here: &mut Machine, there: &mut Machine, frames: u32) -> bool {
-    let before = (held(&mut here.replica), held(&mut there.replica));
-    let first = converse(alloc, &mut here.replica, &mut there.replica);
+    let before = (
+        held(&mut here.server.replica),
+        held(&mut there.server.replica),
+    );
+    let first = converse(alloc, &mut here.server.replica, &mut there.server.replica);
     if first == Ok(frames) {
         return true;
     }
     if !is_wanting(first) {
         return false;
     }
-    let unchanged = (held(&mut here.replica), held(&mut there.replica)) == before;
-    let second = converse(alloc, &mut here.replica, &mut there.replica);
+    let unchanged = (
+        held(&mut here.server.replica),
+        held(&mut there.server.replica),
+    ) == before;
+    let second = converse(alloc, &mut here.server.replica, &mut there.server.replica);
     second == Ok(frames) || (!unchanged && second.is_ok())
 }
 
 // ---- what is held
 
 fn is_reloaded(machine: &mut Machine) -> bool {
-    let before = held(&mut machine.replica);
-    let archive = &mut machine.replica.archive;
-    (archive.reload().is_ok() || archive.reload().is_ok()) && held(&mut machine.replica) == before
+    let before = held(&mut machine.server.replica);
+    let archive = &mut machine.server.replica.archive;
+    (archive.reload().is_ok() || archive.reload().is_ok())
+        && held(&mut machine.server.replica) == before
 }
 
 /// The first record of all, asked for again where memory was wanting.
 fn first_record(alloc: Global, machine: &mut Machine) -> Option<Record> {
-    let archive = &mut machine.replica.archive;
+    let archive = &mut machine.server.replica.archive;
     let none = Vector::new();
     let mut records = match archive.since(alloc, &none, 1) {
         Ok(records) => records,
@@ -395,12 +402,12 @@ fn is_taken(alloc: Global, here: &mut Machine, there: &mut Machine, step: &Step)
         }
         Step::Merge(rows, want) => {
             let batch = batch_of(alloc, rows)?;
-            is_merged(&mut here.replica, &batch, *want)
+            is_merged(&mut here.server.replica, &batch, *want)
         }
         Step::Pull(count) => is_pulled(alloc, here, there, *count),
         Step::Converse(frames) => is_conversed(alloc, here, there, *frames),
         Step::Reload => is_reloaded(here),
-        Step::Holds(numbers, tick) => held(&mut here.replica) == Some((*numbers, *tick)),
+        Step::Holds(numbers, tick) => held(&mut here.server.replica) == Some((*numbers, *tick)),
         Step::First(digits) => {
             let bytes = hex::decode(alloc, digits.as_bytes()).ok()?;
             is_first(alloc, here, bytes.as_slice())?
@@ -441,6 +448,9 @@ pub(crate) fn is_script(
             return Some((false, 0));
         }
     }
-    let faults = one.replica.archive.faults();
-    Some((true, faults.saturating_add(two.replica.archive.faults())))
+    let faults = one.server.replica.archive.faults();
+    Some((
+        true,
+        faults.saturating_add(two.server.replica.archive.faults()),
+    ))
 }

@@ -2,25 +2,19 @@
 
 use crate::machines::{held, replica_of};
 use archive::{Archive, ScriptedArchive};
-use exchange::Replica;
 use server_rows::plant::clock;
 use server_rows::streams::is_joined;
 use std::alloc::Global;
-use ua_server::{HexFault, ServeFault, Served, answer_hex};
+use ua_server::{HexFault, ServeFault, Served, Server, answer_hex};
 use ua_settings::Settings;
 
 /// What is written, and how the connection ends.
 type Told = (Vec<u8>, Result<Served, HexFault>);
 
 /// A server without settings answers a connection.
-fn told(
-    alloc: Global,
-    settings: &Settings,
-    replica: &mut Replica<ScriptedArchive>,
-    text: &str,
-) -> Told {
-    let mut out = Vec::new(alloc);
-    let ending = answer_hex(alloc, settings, replica, text, &mut out, &mut clock());
+fn told(server: &mut Server<ScriptedArchive>, text: &str) -> Told {
+    let mut out = Vec::new(server.alloc);
+    let ending = answer_hex(server, text, &mut out, &mut clock());
     (out, ending)
 }
 
@@ -76,14 +70,17 @@ pub(crate) fn is_stream(
     call: u64,
 ) -> Option<(bool, u64)> {
     let text = joined(alloc, input)?;
-    let settings = Settings::bare(alloc).ok()?;
-    let mut replica = replica_of(alloc, 1, call)?;
-    let before = held(&mut replica);
-    let first = told(alloc, &settings, &mut replica, text.as_str());
+    let mut server = Server {
+        alloc,
+        settings: Settings::bare(alloc).ok()?,
+        replica: replica_of(alloc, 1, call)?,
+    };
+    let before = held(&mut server.replica);
+    let first = told(&mut server, text.as_str());
     let mut same = is_told(&first, want, ending);
-    if !same && wants(&first, want, ends) && held(&mut replica) == before {
-        let second = told(alloc, &settings, &mut replica, text.as_str());
+    if !same && wants(&first, want, ends) && held(&mut server.replica) == before {
+        let second = told(&mut server, text.as_str());
         same = is_told(&second, want, ending);
     }
-    Some((same, replica.archive.faults()))
+    Some((same, server.replica.archive.faults()))
 }

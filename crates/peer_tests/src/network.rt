@@ -1,13 +1,12 @@
 //! Connections one after the other, of clients and of peers.
 
 use crate::peers::{answered, called, filled_replica, replica};
-use exchange::Replica;
 use server_rows::network::{Client, Clients};
 use server_rows::plant::{archive_of, clock, plant};
 use server_rows::streams::{ACK, ANSWER, BEGIN, BEGUN, HELLO, OPEN, OPENED, REQUEST, bytes_of};
 use std::alloc::Global;
 use std::test::Fail;
-use ua_server::{Counted, serve_connections};
+use ua_server::{Counted, Server, serve_connections};
 
 /// A Read of the value as the fourth message of a connection, and its answer.
 const READ: &str =
@@ -25,13 +24,12 @@ fn is_served(
     told: &str,
 ) -> Result<bool, Fail> {
     let settings = plant(alloc)?;
-    let mut replica = Replica::new(archive_of(alloc, &settings));
+    let archive = archive_of(alloc, &settings);
+    let mut server = Server::new(alloc, settings, archive);
     let mut listener = Clients::new(alloc, clients);
     let mut errors = Counted::new(Vec::new(alloc));
     serve_connections(
-        alloc,
-        &settings,
-        &mut replica,
+        &mut server,
         &mut listener,
         connections,
         &mut clock(),

@@ -1,13 +1,12 @@
 //! Requests to the services, one after the other, each with its response.
 
 use archive::ListArchive;
-use historian::{ClientMessage, answer_message};
+use historian::{ClientMessage, Server, answer_message};
 use server_rows::plant::{archive_of, plant};
 use std::alloc::{AllocError, Global};
 use std::test::Fail;
 use ua_binary::Ticks;
 use ua_session::Sessions;
-use ua_settings::Settings;
 
 /// 1970-01-01, the moment of every request here.
 const NOW: i64 = 116_444_736_000_000_000;
@@ -15,21 +14,19 @@ const NOW: i64 = 116_444_736_000_000_000;
 /// What stands behind the token of a request: timestamp 0, handle 2, and nothing else.
 const HEADER: &str = "0000000000000000 02000000 00000000 FFFFFFFF 00000000 000000";
 
-/// A server between requests.
+/// A client between requests, and the server that it asks.
 #[derive(Drop)]
-struct Server {
-    settings: Settings,
-    archive: ListArchive,
+struct Client {
+    server: Server<ListArchive>,
     sessions: Sessions,
 }
 
-impl Server {
-    fn new(alloc: Global) -> Result<Server, Fail> {
+impl Client {
+    fn new(alloc: Global) -> Result<Client, Fail> {
         let settings = plant(alloc)?;
         let archive = archive_of(alloc, &settings);
-        Ok(Server {
-            settings,
-            archive,
+        Ok(Client {
+            server: Server::new(alloc, settings, archive),
             sessions: Sessions::new(alloc),
         })
     }
@@ -46,9 +43,7 @@ impl Server {
         let message = hex::decode(alloc, digits.as_slice())?;
         let mut out = Vec::new(alloc);
         answer_message(
-            alloc,
-            &self.settings,
-            &mut self.archive,
+            &mut self.server,
             &mut self.sessions,
             Ticks(NOW),
             ClientMessage::read(message.as_slice()),
@@ -100,9 +95,9 @@ type Row = (
 );
 
 /// Whether a row is answered so.
-fn is_answered(alloc: Global, server: &mut Server, row: &Row) -> Result<bool, Fail> {
+fn is_answered(alloc: Global, client: &mut Client, row: &Row) -> Result<bool, Fail> {
     let (type_id, token, body, told, status, rest) = *row;
-    let found = server.ask(alloc, type_id, token, body)?;
+    let found = client.ask(alloc, type_id, token, body)?;
     Ok(is_response(alloc, &found, told, status, rest)?)
 }
 
@@ -114,8 +109,8 @@ const CREATE: &str =
 const ACTIVATE: &str = "FFFFFFFF FFFFFFFF FFFFFFFF FFFFFFFF 000000 FFFFFFFF FFFFFFFF";
 
 /// Makes a session, whose token is `ns=1;i=3`.
-fn create_session(alloc: Global, server: &mut Server) -> Result<bool, Fail> {
-    let created = server.ask(alloc, "0100CD01", "0000", CREATE)?;
+fn create_session(alloc: Global, client: &mut Client) -> Result<bool, Fail> {
+    let created = client.ask(alloc, "0100CD01", "0000", CREATE)?;
     Ok(
         created.as_bytes().starts_with(
             b"0100D00100803ED5DEB19D01020000000000000000FFFFFFFF000000010102000101030000",
@@ -124,8 +119,8 @@ fn create_session(alloc: Global, server: &mut Server) -> Result<bool, Fail> {
 }
 
 /// Whether one more session is made.
-fn is_session_made(alloc: Global, server: &mut Server) -> Result<bool, Fail> {
-    let told = server.ask(alloc, "0100CD01", "0000", CREATE)?;
+fn is_session_made(alloc: Global, client: &mut Client) -> Result<bool, Fail> {
+    let told = client.ask(alloc, "0100CD01", "0000", CREATE)?;
     Ok(told.as_bytes().starts_with(b"0100D001"))
 }
 
@@ -133,15 +128,15 @@ fn is_session_made(alloc: Global, server: &mut Server) -> Result<bool, Fail> {
 #[test]
 fn sixteen_sessions_and_no_more(rt: HostRuntime) -> Result<(), Fail> {
     let alloc = rt.alloc();
-    let mut server = Server::new(alloc)?;
+    let mut client = Client::new(alloc)?;
     for number in 0..16 {
-        assert!(rt; is_session_made(alloc, &mut server)?, "{number}");
+        assert!(rt; is_session_made(alloc, &mut client)?, "{number}");
     }
-    let refused = server.ask(alloc, "0100CD01", "0000", CREATE)?;
+    let refused = client.ask(alloc, "0100CD01", "0000", CREATE)?;
     assert!(rt; is_response(alloc, &refused, "01008D01", "00005680", "")?);
-    let closed = server.ask(alloc, "0100D901", TOKEN, "00")?;
+    let closed = client.ask(alloc, "0100D901", TOKEN, "00")?;
     assert!(rt; is_response(alloc, &closed, "0100DC01", "00000000", "")?);
-    assert!(rt; is_session_made(alloc, &mut server)?);
+    assert!(rt; is_session_made(alloc, &mut client)?);
     Ok(())
 }
 
@@ -201,14 +196,14 @@ static LISTINGS: [Listing; 4] = [
 /// Whether a list of so many items is answered by a response of this type, and with this status.
 fn is_list_told(
     alloc: Global,
-    server: &mut Server,
+    client: &mut Client,
     listing: &Listing,
     count: u32,
     response: &str,
     status: &str,
 ) -> Result<bool, Fail> {
     let body = listing.body(alloc, count)?;
-    let told = server.ask(alloc, listing.type_id, TOKEN, body.as_str())?;
+    let told = client.ask(alloc, listing.type_id, TOKEN, body.as_str())?;
     let head = digits_of(alloc, &[response, "00803ED5DEB19D01 02000000", status])?;
     Ok(told.as_bytes().starts_with(head.as_slice()))
 }
@@ -217,9 +212,9 @@ fn is_list_told(
 #[test]
 fn lists_have_a_greatest_count(rt: HostRuntime) -> Result<(), Fail> {
     let alloc = rt.alloc();
-    let mut server = Server::new(alloc)?;
-    assert!(rt; create_session(alloc, &mut server)?);
-    let _ = server.ask(alloc, "0100D301", TOKEN, ACTIVATE)?;
+    let mut client = Client::new(alloc)?;
+    assert!(rt; create_session(alloc, &mut client)?);
+    let _ = client.ask(alloc, "0100D301", TOKEN, ACTIVATE)?;
     for listing in &LISTINGS {
         for (count, response, status) in [
             (0, "01008D01", "00000F80"),
@@ -228,7 +223,7 @@ fn lists_have_a_greatest_count(rt: HostRuntime) -> Result<(), Fail> {
             (listing.most.saturating_add(1), "01008D01", "00001080"),
         ] {
             assert!(rt;
-                is_list_told(alloc, &mut server, listing, count, response, status)?,
+                is_list_told(alloc, &mut client, listing, count, response, status)?,
                 "{count} of {}",
                 listing.type_id
             );
@@ -276,10 +271,10 @@ static VALUES: &[Row] = &[
 
 #[test]
 fn values_are_kept_or_refused_whole(rt: HostRuntime) -> Result<(), Fail> {
-    let mut server = Server::new(rt.alloc())?;
-    assert!(rt; create_session(rt.alloc(), &mut server)?);
+    let mut client = Client::new(rt.alloc())?;
+    assert!(rt; create_session(rt.alloc(), &mut client)?);
     for row in VALUES {
-        assert!(rt; is_answered(rt.alloc(), &mut server, row)?, "{}", row.2);
+        assert!(rt; is_answered(rt.alloc(), &mut client, row)?, "{}", row.2);
     }
     Ok(())
 }

@@ -1,7 +1,7 @@
 //! A client's connection: what it is answered over an archive, from the first byte read to the last one written.
 #![tactic(auto)]
 
-mod answering;
+mod client;
 mod clock;
 mod connection;
 mod greeting;
@@ -13,10 +13,11 @@ mod serving;
 mod turn;
 
 pub use clock::{Clock, ConstantClock, SystemClock};
-pub use connection::MOST_CHUNKS;
+pub use connection::{Connection, MOST_CHUNKS};
 pub use laws::{
     answers_go_item_by_item, chunks_are_counted, connections_are_answered_chunk_by_chunk,
 };
 pub use line::{Line, Wires};
 pub use outcome::Served;
 pub use serving::serve;
+pub use turn::Step;

@@ -13,12 +13,21 @@ ghost use Rattle.ua_connection.specs.Turns.{IsOwn, Answered, SendsTurn, ending_o
 use crate::turn::Step;
 use archive::Archive;
 use counted_io::ServeFault;
-use historian::{ClientMessage, answer_message, put_service_fault};
-use std::alloc::Global;
+use historian::{ClientMessage, Server, answer_message, put_service_fault};
 use ua_binary::{Status, Ticks};
 use ua_channel::{Channel, ChannelFault};
 use ua_session::Sessions;
-use ua_settings::Settings;
+
+/// A whole message of a channel.
+#[derive(Drop)]
+pub(crate) struct Message<'a> {
+    /// By which its response is told from others (Part 6, 6.7.2.4).
+    pub request_id: u32,
+    /// When it is answered.
+    pub now: Ticks,
+    /// Its bytes.
+    pub bytes: &'a [u8],
+}
 
 /// Makes a ServiceFault (Part 4, 7.35) in place of what stands in `body`. The one error is `OutOfMemory`.
 #[inline(never)]
@@ -107,31 +116,30 @@ fn send_starved(
 /// stands.
 #[inline(always)]
 pub(crate) fn respond<A: Archive>(
-    alloc: Global,
-    settings: &Settings,
-    archive: &mut A,
+    server: &mut Server<A>,
     channel: &mut Channel,
     sessions: &mut Sessions,
-    request_id: u32,
-    message: &[u8],
-    now: Ticks,
+    message: Message<'_>,
     body: &mut Vec<u8>,
     out: &mut Vec<u8>,
 ) -> Result<Step, ServeFault>
     requires { IsReady channel.old }
     ensures answered { (client : Client) → (used : List StepResult)
-        × Answered (A.state archive.old) (A.state archive.new)
+        × Answered (A.state server.old.replica.archive) (A.state server.new.replica.archive)
         (λ R.
-        responded (site_of settings.now (A.state archive.old))
-        (standing_of client sessions.old R) channel.old request_id message.now now)
+        responded (site_of server.old.settings (A.state server.old.replica.archive))
+        (standing_of client sessions.old R) channel.old message.entry.request_id
+        message.entry.bytes.now message.entry.now)
         (record { marks = used; readings = [] }) out.old.items out.new.items (ending_of result)
         (client_after client result (Some channel.new) sessions.new) }
+    ensures settings { server.new.settings ≡ server.old.settings }
     ensures own { IsOwn ⊥ 65536 result }
 {
     body.clear();
-    let request = ClientMessage::read(message);
+    let (request_id, now) = (message.request_id, message.now);
+    let request = ClientMessage::read(message.bytes);
     let handle = request.handle();
-    match answer_message(alloc, settings, archive, sessions, now, request, body) {
+    match answer_message(server, sessions, now, request, body) {
         Ok(()) => match send_fitting(channel, request_id, now, handle, body, out) {
             Ok(()) => Ok(Step::Continues),
             Err(_) => send_starved(channel, request_id, now, handle, body, out),

@@ -16,33 +16,31 @@ use crate::outcome::Served;
 use crate::turn::{Step, end_of, put_refusal};
 use archive::Archive;
 use counted_io::ServeFault;
-use std::alloc::Global;
+use historian::Server;
 use ua_binary::Status;
-use ua_settings::Settings;
 
 /// The bytes that one read asks for, and the bytes of answers that are written at once.
 const PIECE: usize = 65536;
 
 /// Answers items until none waits, or there are bytes enough to write, or the connection ends.
 fn answer_some<A: Archive, C: Clock>(
-    alloc: Global,
-    settings: &Settings,
-    archive: &mut A,
+    server: &mut Server<A>,
     connection: &mut Connection,
     clock: &mut C,
     out: &mut Vec<u8>,
 ) -> Result<Step, ServeFault>
     requires { IsSmall connection.old }
     ensures turned { (used : Environment) × C.gave clock.old used.readings clock.new
-        × AdvancesInto settings.now (A.state archive.old)
-        (A.state archive.new) connection.old used out.old.items out.new.items
+        × AdvancesInto server.old.settings (A.state server.old.replica.archive)
+        (A.state server.new.replica.archive) connection.old used out.old.items out.new.items
         (ending_of result) connection.new }
+    ensures settings { server.new.settings ≡ server.old.settings }
     ensures own { IsOwn (NeedsBytes connection.new) 65536 result }
     ensures small { IsSmall connection.new }
     ensures shorter { Shortens result connection.old connection.new }
 {
     'items: loop {
-        match connection.next_answer(alloc, settings, archive, clock, out) {
+        match connection.advance(server, clock, out) {
             Ok(Step::NeedsInput) => return Ok(Step::NeedsInput),
             Ok(Step::Ended(served)) => return Ok(Step::Ended(served)),
             Err(fault) => return Err(fault),
@@ -62,9 +60,7 @@ fn answer_some<A: Archive, C: Clock>(
 
 /// Answers the items that wait, and sends the answers.
 fn answer_waiting<A: Archive, X: Line, C: Clock>(
-    alloc: Global,
-    settings: &Settings,
-    archive: &mut A,
+    server: &mut Server<A>,
     connection: &mut Connection,
     line: &mut X,
     clock: &mut C,
@@ -73,8 +69,9 @@ fn answer_waiting<A: Archive, X: Line, C: Clock>(
     requires { IsSmall connection.old }
     ensures drained { (used : Environment) × C.gave clock.old used.readings clock.new
         × (events : List LineEvent) × X.passed line.old events line.new
-        × SentAll settings.now (A.state archive.old)
-        (A.state archive.new) connection.old used events result connection.new }
+        × SentAll server.old.settings (A.state server.old.replica.archive)
+        (A.state server.new.replica.archive) connection.old used events result connection.new }
+    ensures settings { server.new.settings ≡ server.old.settings }
     ensures own { IsOwnEnd
         (NeedsBytes connection.new × IsNoLess connection.old connection.new) result }
     ensures small { IsSmall connection.new }
@@ -84,7 +81,7 @@ fn answer_waiting<A: Archive, X: Line, C: Clock>(
 {
     'parts: loop {
         out.clear();
-        let turn = answer_some(alloc, settings, archive, connection, clock, out);
+        let turn = answer_some(server, connection, clock, out);
         line.send(out.as_slice())?;
         match end_of(turn) {
             Some(end) => return end,
@@ -109,9 +106,7 @@ fn send_starved<X: Line>(line: &mut X, out: &mut Vec<u8>) -> Result<Served, Serv
 
 /// Answers a connection on, of which nothing was answered yet.
 fn serve_on<X: Line, C: Clock, A: Archive>(
-    alloc: Global,
-    settings: &Settings,
-    archive: &mut A,
+    server: &mut Server<A>,
     connection: &mut Connection,
     line: &mut X,
     clock: &mut C,
@@ -120,14 +115,15 @@ fn serve_on<X: Line, C: Clock, A: Archive>(
     requires short { NeedsBytes connection.old }
     ensures serves { (used : Environment) × C.gave clock.old used.readings clock.new
         × (events : List LineEvent) × X.passed line.old events line.new
-        × ServesPromptly settings.now (A.state archive.old)
-        (A.state archive.new) connection.old.waiting events used result }
+        × ServesPromptly server.old.settings (A.state server.old.replica.archive)
+        (A.state server.new.replica.archive) connection.old.waiting events used result }
+    ensures settings { server.new.settings ≡ server.old.settings }
     ensures reads { CountsWhere (IsErrOf result ServeFault.Read) (X.failed_reads line.old)
         (X.failed_reads line.new) }
     ensures writes { CountsWhere (IsErrOf result ServeFault.Write) (X.failed_writes line.old)
         (X.failed_writes line.new) }
 {
-    let mut out = Vec::new(alloc);
+    let mut out = Vec::new(server.alloc);
     let mut piece = [0u8; PIECE];
     'reads: loop {
         let n = line.receive(&mut piece)?;
@@ -138,7 +134,7 @@ fn serve_on<X: Line, C: Clock, A: Archive>(
             Ok(()) => {}
             Err(_) => return send_starved(line, &mut out),
         }
-        match answer_waiting(alloc, settings, archive, connection, line, clock, &mut out) {
+        match answer_waiting(server, connection, line, clock, &mut out) {
             Ok(None) => {}
             Ok(Some(served)) => return Ok(served),
             Err(fault) => return Err(fault),
@@ -148,30 +144,27 @@ fn serve_on<X: Line, C: Clock, A: Archive>(
 
 /// Answers the connection of one client of which nothing was read before.
 fn serve_first<X: Line, C: Clock, A: Archive>(
-    alloc: Global,
-    settings: &Settings,
-    archive: &mut A,
+    server: &mut Server<A>,
     line: &mut X,
     clock: &mut C,
 ) -> Result<Served, ServeFault>
     ensures serves { (used : Environment) × C.gave clock.old used.readings clock.new
         × (events : List LineEvent) × X.passed line.old events line.new
-        × ServesPromptly settings.now (A.state archive.old) (A.state archive.new)
-        [] events used result }
+        × ServesPromptly server.old.settings (A.state server.old.replica.archive)
+        (A.state server.new.replica.archive) [] events used result }
+    ensures settings { server.new.settings ≡ server.old.settings }
     ensures reads { CountsWhere (IsErrOf result ServeFault.Read) (X.failed_reads line.old)
         (X.failed_reads line.new) }
     ensures writes { CountsWhere (IsErrOf result ServeFault.Write) (X.failed_writes line.old)
         (X.failed_writes line.new) }
 {
-    let mut connection = Connection::new(alloc);
-    serve_on(alloc, settings, archive, &mut connection, line, clock)
+    let mut connection = Connection::new(server.alloc);
+    serve_on(server, &mut connection, line, clock)
 }
 
 /// Answers the connection of one client of which these first bytes were read before.
 fn serve_behind<X: Line, C: Clock, A: Archive>(
-    alloc: Global,
-    settings: &Settings,
-    archive: &mut A,
+    server: &mut Server<A>,
     first: &[u8],
     line: &mut X,
     clock: &mut C,
@@ -180,19 +173,20 @@ fn serve_behind<X: Line, C: Clock, A: Archive>(
     requires few { length first.now < 8 }
     ensures serves { (used : Environment) × C.gave clock.old used.readings clock.new
         × (events : List LineEvent) × X.passed line.old events line.new
-        × ServesPromptly settings.now (A.state archive.old)
-        (A.state archive.new) first.now events used result }
+        × ServesPromptly server.old.settings (A.state server.old.replica.archive)
+        (A.state server.new.replica.archive) first.now events used result }
+    ensures settings { server.new.settings ≡ server.old.settings }
     ensures reads { CountsWhere (IsErrOf result ServeFault.Read) (X.failed_reads line.old)
         (X.failed_reads line.new) }
     ensures writes { CountsWhere (IsErrOf result ServeFault.Write) (X.failed_writes line.old)
         (X.failed_writes line.new) }
 {
-    let mut connection = Connection::new(alloc);
+    let mut connection = Connection::new(server.alloc);
     match connection.feed(first) {
         Ok(()) => {}
-        Err(_) => return send_starved(line, &mut Vec::new(alloc)),
+        Err(_) => return send_starved(line, &mut Vec::new(server.alloc)),
     }
-    serve_on(alloc, settings, archive, &mut connection, line, clock)
+    serve_on(server, &mut connection, line, clock)
 }
 
 /// Answers the connection of one client over an archive, of which these first bytes, if any, were read before.
@@ -204,9 +198,7 @@ fn serve_behind<X: Line, C: Clock, A: Archive>(
 /// Errors: `Read` and `Write` where a read or a write failed, `TooLong` where a chunk comes after 1,000,000 of them,
 /// `OutOfMemory` where memory was wanting and the Error message that tells it could not be made either.
 pub fn serve<X: Line, C: Clock, A: Archive>(
-    alloc: Global,
-    settings: &Settings,
-    archive: &mut A,
+    server: &mut Server<A>,
     first: &[u8],
     line: &mut X,
     clock: &mut C,
@@ -214,16 +206,17 @@ pub fn serve<X: Line, C: Clock, A: Archive>(
     requires { length first.now < 8 }
     ensures serves { (used : Environment) × C.gave clock.old used.readings clock.new
         × (events : List LineEvent) × X.passed line.old events line.new
-        × ServesPromptly settings.now (A.state archive.old)
-        (A.state archive.new) first.now events used result }
+        × ServesPromptly server.old.settings (A.state server.old.replica.archive)
+        (A.state server.new.replica.archive) first.now events used result }
+    ensures settings { server.new.settings ≡ server.old.settings }
     ensures reads { CountsWhere (IsErrOf result ServeFault.Read) (X.failed_reads line.old)
         (X.failed_reads line.new) }
     ensures writes { CountsWhere (IsErrOf result ServeFault.Write) (X.failed_writes line.old)
         (X.failed_writes line.new) }
 {
     if first.is_empty() {
-        serve_first(alloc, settings, archive, line, clock)
+        serve_first(server, line, clock)
     } else {
-        serve_behind(alloc, settings, archive, first, line, clock)
+        serve_behind(server, first, line, clock)
     }
 }

@@ -8,9 +8,9 @@ use counted_io::ServeFault;
 use ua_binary::Status;
 use uacp::put_error;
 
-/// What one turn comes to.
+/// What a turn of a connection comes to.
 #[derive(Clone, Copy)]
-pub(crate) enum Step {
+pub enum Step {
     /// No whole chunk is there.
     NeedsInput,
     /// A Hello was acknowledged; later chunks may have so many bytes.

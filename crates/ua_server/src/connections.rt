@@ -10,34 +10,31 @@ use crate::network::{Listener, Network};
 use crate::program::{ProgramFault, report};
 use archive::Archive;
 use counted_io::{Counted, ServeFault};
-use exchange::Replica;
-use std::alloc::Global;
+use historian::Server;
 use std::io::Write;
 use std::net::SocketAddr;
 use ua_connection::Clock;
-use ua_settings::Settings;
 
 /// Serves the next connection. That none can be had is a fault of reading.
 fn serve_next<A: Archive, L: Listener, C: Clock>(
-    alloc: Global,
-    settings: &Settings,
-    replica: &mut Replica<A>,
+    server: &mut Server<A>,
     listener: &mut L,
     clock: &mut C,
 ) -> Result<Served, ServeFault>
-    ensures { Connects
+    ensures connects { Connects
         (calls_of L.accepted L.closed L.Reader.remaining L.Writer.contents) C.gave A.state
-        settings.now
-        (surroundings_of listener.old replica.old.archive clock.old)
+        server.old.settings
+        (surroundings_of listener.old server.old.replica.archive clock.old)
         (record
-        { source = listener.new; archive = replica.new.archive; clock = clock.new }) result }
+        { source = listener.new; archive = server.new.replica.archive; clock = clock.new }) result }
+    ensures settings { server.new.settings ≡ server.old.settings }
 {
     let Some((reader, writer)) = listener.accept() else {
         return Err(ServeFault::Read);
     };
     let mut reader = Counted::new(reader);
     let mut writer = Counted::new(writer);
-    let ending = serve(alloc, settings, replica, &mut reader, &mut writer, clock);
+    let ending = serve(&mut reader, &mut writer, server, clock);
     listener.close(reader, writer);
     ending
 }
@@ -53,30 +50,31 @@ fn tell_ending<W: Write>(ending: Result<Served, ServeFault>, errors: &mut Counte
     let _ = report(ending, errors);
 }
 
-/// Serves so many connections, one after the other, over one replica: clients and peers, as `serve` tells them apart.
+/// Serves so many connections, one after the other, over one server: clients and peers, as `serve` tells them apart.
 ///
-/// Each begins with what the one before it left in the replica's archive, whatever that one's end was. Of each that ended by
+/// Each begins with what the one before it left in the server's archive, whatever that one's end was. Of each that ended by
 /// a fault a line tells on `errors`, and nothing of a peer's dialog that failed, since the peer was told; where one can't be
 /// had, that is a fault of reading, and counts as one of them.
 pub fn serve_connections<A: Archive, L: Listener, C: Clock, W: Write>(
-    alloc: Global,
-    settings: &Settings,
-    replica: &mut Replica<A>,
+    server: &mut Server<A>,
     listener: &mut L,
     connections: u32,
     clock: &mut C,
     errors: &mut Counted<W>,
 )
-    ensures { ServesEach
+    ensures serves { ServesEach
         (calls_of L.accepted L.closed L.Reader.remaining L.Writer.contents) C.gave A.state
-        W.contents settings.now connections
+        W.contents server.old.settings connections
         (record
-        { source = listener.old; archive = replica.old.archive; clock = clock.old }) errors.old
+        { source = listener.old; archive = server.old.replica.archive; clock = clock.old })
+        errors.old
         (record
-        { source = listener.new; archive = replica.new.archive; clock = clock.new }) errors.new }
+        { source = listener.new; archive = server.new.replica.archive; clock = clock.new })
+        errors.new }
+    ensures settings { server.new.settings ≡ server.old.settings }
 {
     for _ in 0..connections {
-        let ending = serve_next(alloc, settings, replica, listener, clock);
+        let ending = serve_next(server, listener, clock);
         tell_ending(ending, errors);
     }
 }
@@ -99,11 +97,9 @@ fn listen_at<N: Network>(text: &str, network: &mut N) -> Result<N::Listener, Pro
     }
 }
 
-/// Serves so many connections at the address of the settings, over a replica.
+/// Serves so many connections at the address of the settings.
 pub(crate) fn serve_at<A: Archive, N: Network, C: Clock, W: Write>(
-    alloc: Global,
-    settings: &Settings,
-    replica: &mut Replica<A>,
+    server: &mut Server<A>,
     connections: u32,
     network: &mut N,
     clock: &mut C,
@@ -112,24 +108,17 @@ pub(crate) fn serve_at<A: Archive, N: Network, C: Clock, W: Write>(
     ensures listens { Listens
         (calls_of N.Listener.accepted N.Listener.closed N.Listener.Reader.remaining
         N.Listener.Writer.contents) C.gave A.state
-        N.listened W.contents settings.now connections
+        N.listened W.contents server.old.settings connections
         (record
-        { source = network.old; archive = replica.old.archive; clock = clock.old }) errors.old
-        (surroundings_of network.new replica.new.archive clock.new) errors.new result }
+        { source = network.old; archive = server.old.replica.archive; clock = clock.old })
+        errors.old
+        (surroundings_of network.new server.new.replica.archive clock.new) errors.new result }
     ensures address { IfErr result (λ fault. fault ≡ ProgramFault.Address) }
 {
-    let mut listener = match listen_at(settings.listen(), network) {
+    let mut listener = match listen_at(server.settings.listen(), network) {
         Ok(listener) => listener,
         Err(fault) => return Err(fault),
     };
-    serve_connections(
-        alloc,
-        settings,
-        replica,
-        &mut listener,
-        connections,
-        clock,
-        errors,
-    );
+    serve_connections(server, &mut listener, connections, clock, errors);
     Ok(())
 }

@@ -13,11 +13,11 @@ ghost use Rattle.ua_server.specs.Either.{is_peers, end_of_client, end_of_peer, S
 use archive::Archive;
 use counted_io::{Counted, ServeFault};
 use exchange::Replica;
+use historian::Server;
 use std::alloc::Global;
 use std::io::{Read, Write};
 use ua_connection::{Clock, Wires};
 use ua_peers::{PeerEnded, serve_peer_from};
-use ua_settings::Settings;
 
 /// How a connection ended that met no fault.
 #[derive(Clone, Copy, Debug, PartialEq, Eq)]
@@ -117,12 +117,10 @@ fn serve_a_peer<R: Read, W: Write, A: Archive>(
 
 /// Serves a client of whom these first bytes, if any, were read before, over a reader and a writer.
 fn serve_wires<R: Read, W: Write, C: Clock, A: Archive>(
-    alloc: Global,
-    settings: &Settings,
-    archive: &mut A,
-    first: &[u8],
     reader: &mut Counted<R>,
     writer: &mut Counted<W>,
+    first: &[u8],
+    server: &mut Server<A>,
     clock: &mut C,
 ) -> Result<ua_connection::Served, ServeFault>
     requires { length first.now < 8 }
@@ -132,46 +130,47 @@ fn serve_wires<R: Read, W: Write, C: Clock, A: Archive>(
         (record
         { unread = R.remaining reader.old.inner; written = W.contents writer.old.inner }) events
         (record { unread = R.remaining reader.new.inner; written = W.contents writer.new.inner })
-        × ServesPromptly settings.now (A.state archive.old)
-        (A.state archive.new) first.now events used result }
+        × ServesPromptly server.old.settings (A.state server.old.replica.archive)
+        (A.state server.new.replica.archive) first.now events used result }
+    ensures settings { server.new.settings ≡ server.old.settings }
     ensures reads { CountsWhere (IsErrOf result ServeFault.Read)
         reader.old.faults reader.new.faults }
     ensures writes { CountsWhere (IsErrOf result ServeFault.Write)
         writer.old.faults writer.new.faults }
 {
     let mut wires = Wires { reader, writer };
-    ua_connection::serve(alloc, settings, archive, first, &mut wires, clock)
+    ua_connection::serve(server, first, &mut wires, clock)
 }
 
 /// Serves a client of whom these first bytes, if any, were read before, and says that it was a client's connection.
 fn serve_client<R: Read, W: Write, C: Clock, A: Archive>(
-    alloc: Global,
-    settings: &Settings,
-    archive: &mut A,
-    first: &[u8],
     reader: &mut Counted<R>,
     writer: &mut Counted<W>,
+    first: &[u8],
+    server: &mut Server<A>,
     clock: &mut C,
 ) -> Result<Served, ServeFault>
     requires { length first.now < 8 }
     ensures serves { (used : Environment) × C.gave clock.old used.readings clock.new × (served : _)
         × (result ≡ result_map_both end_of_client (λ fault. fault) served)
-        × ServesBehind settings.now (A.state archive.old) (A.state archive.new) first.now
-        (R.remaining reader.old.inner) (R.remaining reader.new.inner) (W.contents writer.old.inner)
+        × ServesBehind server.old.settings (A.state server.old.replica.archive)
+        (A.state server.new.replica.archive) first.now (R.remaining reader.old.inner)
+        (R.remaining reader.new.inner) (W.contents writer.old.inner)
         (W.contents writer.new.inner) used served }
+    ensures settings { server.new.settings ≡ server.old.settings }
     ensures reads { CountsWhere (IsErrOf result ServeFault.Read)
         reader.old.faults reader.new.faults }
     ensures writes { CountsWhere (IsErrOf result ServeFault.Write)
         writer.old.faults writer.new.faults }
 {
-    match serve_wires(alloc, settings, archive, first, reader, writer, clock) {
+    match serve_wires(reader, writer, first, server, clock) {
         Ok(served) => Ok(end_of_client(served)),
         Err(fault) => Err(fault),
     }
 }
 
-/// Answers a connection: a peer's dialog over the replica, as `serve_peer` does, where its first three letters are `RXV` or
-/// `RXD`; any other as a client's, over the replica's archive.
+/// Answers a connection: a peer's dialog over the server's replica, as `serve_peer` does, where its first three letters are
+/// `RXV` or `RXD`; any other as a client's, over the replica's archive.
 ///
 /// It waits for three bytes, or the end of the input. Where a read fails before, nothing is written and the archive is as it
 /// was. The clock is read for a client alone.
@@ -180,17 +179,17 @@ fn serve_client<R: Read, W: Write, C: Clock, A: Archive>(
 /// rose, and it rises nowhere else), `TooLong` of a client alone, `OutOfMemory` where memory was wanting and the message that
 /// tells it could not be made either.
 pub fn serve<R: Read, W: Write, C: Clock, A: Archive>(
-    alloc: Global,
-    settings: &Settings,
-    replica: &mut Replica<A>,
     reader: &mut Counted<R>,
     writer: &mut Counted<W>,
+    server: &mut Server<A>,
     clock: &mut C,
 ) -> Result<Served, ServeFault>
     ensures serves { (used : Environment) × C.gave clock.old used.readings clock.new
-        × ServesEither settings.now (A.state replica.old.archive) (A.state replica.new.archive)
-        (R.remaining reader.old.inner) (R.remaining reader.new.inner) (W.contents writer.old.inner)
+        × ServesEither server.old.settings (A.state server.old.replica.archive)
+        (A.state server.new.replica.archive) (R.remaining reader.old.inner)
+        (R.remaining reader.new.inner) (W.contents writer.old.inner)
         (W.contents writer.new.inner) used result }
+    ensures settings { server.new.settings ≡ server.old.settings }
     ensures reads { CountsWhere (IsErrOf result ServeFault.Read)
         reader.old.faults reader.new.faults }
     ensures writes { CountsWhere (IsErrOf result ServeFault.Write)
@@ -203,16 +202,8 @@ pub fn serve<R: Read, W: Write, C: Clock, A: Archive>(
     };
     let first = &letters[..n];
     if is_peers(first) {
-        serve_a_peer(alloc, replica, first, reader, writer)
+        serve_a_peer(server.alloc, &mut server.replica, first, reader, writer)
     } else {
-        serve_client(
-            alloc,
-            settings,
-            &mut replica.archive,
-            first,
-            reader,
-            writer,
-            clock,
-        )
+        serve_client(reader, writer, first, server, clock)
     }
 }

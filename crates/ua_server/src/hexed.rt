@@ -8,12 +8,11 @@ ghost use Rattle.ua_server.specs.Hexed.{digits_of, AnswersHex, IsBadOrStarved};
 use crate::either::{Served, serve};
 use archive::Archive;
 use counted_io::{Counted, ServeFault};
-use exchange::Replica;
 use hex::FromHexError;
+use historian::Server;
 use std::alloc::{AllocError, Global};
 use thiserror::Error;
 use ua_connection::Clock;
-use ua_settings::Settings;
 
 /// Why a connection in hex digits has no answer.
 #[derive(Clone, Copy, Debug, PartialEq, Eq, Error)]
@@ -59,31 +58,30 @@ fn decoded(alloc: Global, text: &str) -> Result<Vec<u8>, HexFault>
 /// Errors: `BadHex` where the text without spaces and line ends isn't hex, `Serve(TooLong)` as `serve` has it, and
 /// `Serve(OutOfMemory)` where memory ran out.
 pub fn answer_hex<C: Clock, A: Archive>(
-    alloc: Global,
-    settings: &Settings,
-    replica: &mut Replica<A>,
+    server: &mut Server<A>,
     text: &str,
     out: &mut Vec<u8>,
     clock: &mut C,
 ) -> Result<Served, HexFault>
-    ensures { (used : Environment) × C.gave clock.old used.readings clock.new
-        × AnswersHex settings.now (A.state replica.old.archive)
-        (A.state replica.new.archive) text.now used out.old.items out.new.items result }
+    ensures answers { (used : Environment) × C.gave clock.old used.readings clock.new
+        × AnswersHex server.old.settings (A.state server.old.replica.archive)
+        (A.state server.new.replica.archive) text.now used out.old.items out.new.items result }
+    ensures settings { server.new.settings ≡ server.old.settings }
 {
-    let input = match decoded(alloc, text) {
+    let input = match decoded(server.alloc, text) {
         Ok(input) => input,
         Err(fault) => return Err(fault),
     };
     let mut reader = Counted::new(input.as_slice());
-    let mut writer = Counted::new(Vec::new(alloc));
-    let served = match serve(alloc, settings, replica, &mut reader, &mut writer, clock) {
+    let mut writer = Counted::new(Vec::new(server.alloc));
+    let served = match serve(&mut reader, &mut writer, server, clock) {
         Ok(served) => served,
         Err(ServeFault::TooLong) => return Err(HexFault::Serve(ServeFault::TooLong)),
         // memory's reader and writer fail for want of memory alone
         Err(_) => return Err(HexFault::Serve(ServeFault::OutOfMemory)),
     };
     let written = writer.into_inner();
-    let Ok(answer) = hex::encode_upper(alloc, written.as_slice()) else {
+    let Ok(answer) = hex::encode_upper(server.alloc, written.as_slice()) else {
         return Err(HexFault::Serve(ServeFault::OutOfMemory));
     };
     match out.extend_from_slice(answer.as_bytes()) {

@@ -19,6 +19,7 @@ pub use dumps::{DumpFault, dump};
 pub use either::{Served, serve};
 pub use files::SettingsFiles;
 pub use hexed::{HexFault, answer_hex};
+pub use historian::Server;
 pub use laws::connections_are_updates;
 pub use network::{Listener, Network};
 pub use program::{ProgramFault, report, run};

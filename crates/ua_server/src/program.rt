@@ -27,6 +27,7 @@ use archive::{Archive, StoreFault};
 use command_line::{Asked, Line, LineFault, read_line};
 use counted_io::{Counted, ServeFault};
 use exchange::{ExchangeFault, Replica};
+use historian::Server;
 use itoa::Buffer;
 use std::alloc::{AllocError, Global};
 use std::convert::AsStr;
@@ -164,11 +165,9 @@ fn open_archive<D: Stores>(settings: &Settings, stores: &mut D) -> Result<D::Kep
     }
 }
 
-/// Answers one connection over a replica, as the program tells it.
+/// Answers one connection, as the program tells it.
 fn answer_over<A: Archive, R: Read, W: Write, C: Clock>(
-    alloc: Global,
-    settings: &Settings,
-    replica: &mut Replica<A>,
+    server: &mut Server<A>,
     hex: bool,
     now: Option<i64>,
     input: &mut Counted<R>,
@@ -180,12 +179,12 @@ fn answer_over<A: Archive, R: Read, W: Write, C: Clock>(
     ensures write { IsErrOf result (ProgramFault.Connection ServeFault.Write)
         → output.new.faults ≡ counted output.old.faults }
     ensures does { (used : Environment) × C.gave clock.old used.readings clock.new × (answered : _)
-        × AnswersAt settings.now (A.state replica.old.archive) (A.state replica.new.archive) hex now
-        (R.remaining input.old.inner) (R.remaining input.new.inner) (W.contents output.old.inner)
+        × AnswersAt server.old.settings (A.state server.old.replica.archive)
+        (A.state server.new.replica.archive) hex now (R.remaining input.old.inner) (R.remaining input.new.inner) (W.contents output.old.inner)
         (W.contents output.new.inner) used answered
         × (result ≡ result_map_both (λ done. done) fault_of answered) }
 {
-    match answer_at(alloc, settings, replica, hex, now, input, output, clock) {
+    match answer_at(server, hex, now, input, output, clock) {
         Ok(()) => Ok(()),
         Err(fault) => Err(fault_of(fault)),
     }
@@ -218,16 +217,10 @@ fn answer_by<F: SettingsFiles, D: Stores, R: Read, W: Write, C: Clock>(
         Err(fault) => return Err(fault),
     };
     match open_archive(&settings, stores) {
-        Ok(archive) => answer_over(
-            alloc,
-            &settings,
-            &mut Replica { archive },
-            hex,
-            now,
-            input,
-            output,
-            clock,
-        ),
+        Ok(archive) => {
+            let mut server = Server::new(alloc, settings, archive);
+            answer_over(&mut server, hex, now, input, output, clock)
+        }
         Err(fault) => Err(ProgramFault::Store(fault)),
     }
 }
@@ -256,15 +249,10 @@ fn serve_by<F: SettingsFiles, D: Stores, N: Network, C: Clock, E: Write>(
         Err(fault) => return Err(fault),
     };
     match open_archive(&settings, stores) {
-        Ok(archive) => serve_at(
-            alloc,
-            &settings,
-            &mut Replica { archive },
-            connections,
-            network,
-            clock,
-            errors,
-        ),
+        Ok(archive) => {
+            let mut server = Server::new(alloc, settings, archive);
+            serve_at(&mut server, connections, network, clock, errors)
+        }
         Err(fault) => Err(ProgramFault::Store(fault)),
     }
 }

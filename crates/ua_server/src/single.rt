@@ -11,11 +11,10 @@ use crate::either::serve;
 use crate::hexed::{HexFault, answer_hex};
 use archive::Archive;
 use counted_io::{Counted, ServeFault};
-use exchange::Replica;
+use historian::Server;
 use std::alloc::Global;
 use std::io::{Read, Write};
 use ua_connection::{Clock, ConstantClock};
-use ua_settings::Settings;
 
 /// The bytes that one read of a text asks for.
 const PIECE: usize = 4096;
@@ -44,9 +43,7 @@ fn read_all<R: Read>(alloc: Global, input: &mut Counted<R>) -> Result<Vec<u8>, S
 
 /// Answers one connection over a replica.
 fn answer<A: Archive, R: Read, W: Write, C: Clock>(
-    alloc: Global,
-    settings: &Settings,
-    replica: &mut Replica<A>,
+    server: &mut Server<A>,
     input: &mut Counted<R>,
     output: &mut Counted<W>,
     clock: &mut C,
@@ -58,11 +55,12 @@ fn answer<A: Archive, R: Read, W: Write, C: Clock>(
     ensures ends { (used : Environment) × C.gave clock.old used.readings clock.new
         × EndsAs
         (λ ending.
-        ServesEither settings.now (A.state replica.old.archive) (A.state replica.new.archive)
-        (R.remaining input.old.inner) (R.remaining input.new.inner) (W.contents output.old.inner)
+        ServesEither server.old.settings (A.state server.old.replica.archive)
+        (A.state server.new.replica.archive) (R.remaining input.old.inner) (R.remaining input.new.inner) (W.contents output.old.inner)
         (W.contents output.new.inner) used ending) result }
+    ensures settings { server.new.settings ≡ server.old.settings }
 {
-    match serve(alloc, settings, replica, input, output, clock) {
+    match serve(input, output, server, clock) {
         Ok(_) => Ok(()),
         Err(fault) => Err(HexFault::Serve(fault)),
     }
@@ -70,27 +68,26 @@ fn answer<A: Archive, R: Read, W: Write, C: Clock>(
 
 /// The answer in hex digits to the connection in hex digits that the reader has.
 fn hex_answer<A: Archive, R: Read, C: Clock>(
-    alloc: Global,
-    settings: &Settings,
-    replica: &mut Replica<A>,
+    server: &mut Server<A>,
     input: &mut Counted<R>,
     clock: &mut C,
 ) -> Result<Vec<u8>, HexFault>
     ensures digits { (used : Environment) × C.gave clock.old used.readings clock.new
-        × MakesDigits settings.now (A.state replica.old.archive) (A.state replica.new.archive)
-        (λ digits. digits.items) (R.remaining input.old.inner) used result }
+        × MakesDigits server.old.settings (A.state server.old.replica.archive)
+        (A.state server.new.replica.archive) (λ digits. digits.items) (R.remaining input.old.inner) used result }
     ensures read { IsErrOf result (HexFault.Serve ServeFault.Read)
         → input.new.faults ≡ counted input.old.faults }
+    ensures settings { server.new.settings ≡ server.old.settings }
 {
-    let bytes = match read_all(alloc, input) {
+    let bytes = match read_all(server.alloc, input) {
         Ok(bytes) => bytes,
         Err(fault) => return Err(HexFault::Serve(fault)),
     };
     let Ok(text) = std::str::from_utf8(bytes.as_slice()) else {
         return Err(HexFault::BadHex);
     };
-    let mut digits = Vec::new(alloc);
-    match answer_hex(alloc, settings, replica, text, &mut digits, clock) {
+    let mut digits = Vec::new(server.alloc);
+    match answer_hex(server, text, &mut digits, clock) {
         Ok(_) => Ok(digits),
         Err(fault) => Err(fault),
     }
@@ -98,9 +95,7 @@ fn hex_answer<A: Archive, R: Read, C: Clock>(
 
 /// Answers one connection in hex digits, and ends the line.
 fn answer_in_hex<A: Archive, R: Read, W: Write, C: Clock>(
-    alloc: Global,
-    settings: &Settings,
-    replica: &mut Replica<A>,
+    server: &mut Server<A>,
     input: &mut Counted<R>,
     output: &mut Counted<W>,
     clock: &mut C,
@@ -110,11 +105,12 @@ fn answer_in_hex<A: Archive, R: Read, W: Write, C: Clock>(
     ensures write { IsErrOf result (HexFault.Serve ServeFault.Write)
         → output.new.faults ≡ counted output.old.faults }
     ensures prints { (used : Environment) × C.gave clock.old used.readings clock.new
-        × PrintsHex settings.now (A.state replica.old.archive) (A.state replica.new.archive)
-        (R.remaining input.old.inner) (W.contents output.old.inner)
+        × PrintsHex server.old.settings (A.state server.old.replica.archive)
+        (A.state server.new.replica.archive) (R.remaining input.old.inner) (W.contents output.old.inner)
         (W.contents output.new.inner) used result }
+    ensures settings { server.new.settings ≡ server.old.settings }
 {
-    let digits = hex_answer(alloc, settings, replica, input, clock)?;
+    let digits = hex_answer(server, input, clock)?;
     match output.send_line(digits.as_slice()) {
         Ok(()) => Ok(()),
         Err(fault) => Err(HexFault::Serve(fault)),
@@ -123,9 +119,7 @@ fn answer_in_hex<A: Archive, R: Read, W: Write, C: Clock>(
 
 /// Answers one connection, in hex digits or in bytes.
 fn answer_either<A: Archive, R: Read, W: Write, C: Clock>(
-    alloc: Global,
-    settings: &Settings,
-    replica: &mut Replica<A>,
+    server: &mut Server<A>,
     hex: bool,
     input: &mut Counted<R>,
     output: &mut Counted<W>,
@@ -136,26 +130,26 @@ fn answer_either<A: Archive, R: Read, W: Write, C: Clock>(
     ensures write { IsErrOf result (HexFault.Serve ServeFault.Write)
         → output.new.faults ≡ counted output.old.faults }
     ensures does { (used : Environment) × C.gave clock.old used.readings clock.new
-        × DoesAnswer settings.now (A.state replica.old.archive) (A.state replica.new.archive) hex
-        (R.remaining input.old.inner) (R.remaining input.new.inner) (W.contents output.old.inner)
+        × DoesAnswer server.old.settings (A.state server.old.replica.archive)
+        (A.state server.new.replica.archive) hex (R.remaining input.old.inner) (R.remaining input.new.inner) (W.contents output.old.inner)
         (W.contents output.new.inner) used result }
+    ensures settings { server.new.settings ≡ server.old.settings }
 {
     if hex {
-        answer_in_hex(alloc, settings, replica, input, output, clock)
+        answer_in_hex(server, input, output, clock)
     } else {
-        answer(alloc, settings, replica, input, output, clock)
+        answer(server, input, output, clock)
     }
 }
 
-/// Answers one connection over a replica: what the reader has, as `serve` does, or where `hex` is set what it has in hex digits, as `answer_hex` does, with the digits of the
-/// answer and a line end. Where a moment is given the clock isn't read, and stands at that.
+/// Answers one connection: what the reader has, as `serve` does, or where `hex` is set what it has in hex digits, as
+/// `answer_hex` does, with the digits of the answer and a line end. Where a moment is given the clock isn't read, and
+/// stands at that.
 ///
 /// Errors: `BadHex` where hex is asked for and the input isn't UTF-8 or isn't hex, and `Serve` as `serve` has it, or where memory for the digits was wanting; of hex nothing is written
 /// then, or a first part where a write failed.
 pub fn answer_at<A: Archive, R: Read, W: Write, C: Clock>(
-    alloc: Global,
-    settings: &Settings,
-    replica: &mut Replica<A>,
+    server: &mut Server<A>,
     hex: bool,
     now: Option<i64>,
     input: &mut Counted<R>,
@@ -167,20 +161,13 @@ pub fn answer_at<A: Archive, R: Read, W: Write, C: Clock>(
     ensures write { IsErrOf result (HexFault.Serve ServeFault.Write)
         → output.new.faults ≡ counted output.old.faults }
     ensures does { (used : Environment) × C.gave clock.old used.readings clock.new
-        × AnswersAt settings.now (A.state replica.old.archive) (A.state replica.new.archive) hex now
-        (R.remaining input.old.inner) (R.remaining input.new.inner) (W.contents output.old.inner)
+        × AnswersAt server.old.settings (A.state server.old.replica.archive)
+        (A.state server.new.replica.archive) hex now (R.remaining input.old.inner) (R.remaining input.new.inner) (W.contents output.old.inner)
         (W.contents output.new.inner) used result }
+    ensures settings { server.new.settings ≡ server.old.settings }
 {
     match now {
-        None => answer_either(alloc, settings, replica, hex, input, output, clock),
-        Some(now) => answer_either(
-            alloc,
-            settings,
-            replica,
-            hex,
-            input,
-            output,
-            &mut ConstantClock(now),
-        ),
+        None => answer_either(server, hex, input, output, clock),
+        Some(now) => answer_either(server, hex, input, output, &mut ConstantClock(now)),
     }
 }

@@ -17,8 +17,8 @@ use Rattle.historian.proofs.histories.read_all.Goals as goal
 
 pub returns-in-Some-clause-comes : goal.returns-in-Some-clause-comes
 returns-in-Some-clause-comes g c =
-    let s = g.A.Archive.state c.args.archive.now in
-    let space = c.args.settings.now.space in
+    let s = g.A.Archive.state c.args.server.now.replica.archive in
+    let space = c.args.server.now.settings.space in
     let nodes = map history_read_fields c.args.nodes.now in
     let asked : HistoryAsked = (c.args.details, (c.args.timestamps, (c.args.release, nodes))) in
     let refused : list_refusal 100 (length nodes) ≡ Some c.in-Some.status = ap (list_refusal 100) (length-map c.args.nodes.now history_read_fields) ∙ sym c.list_refusal.ensures ∙ c.in-Some.is in
@@ -26,8 +26,8 @@ returns-in-Some-clause-comes g c =
 
 pub returns-in-Err-clause-comes : goal.returns-in-Err-clause-comes
 returns-in-Err-clause-comes g c =
-    let s = g.A.Archive.state c.args.archive.now in
-    let space = c.args.settings.now.space in
+    let s = g.A.Archive.state c.args.server.now.replica.archive in
+    let space = c.args.server.now.settings.space in
     let nodes = map history_read_fields c.args.nodes.now in
     let asked : HistoryAsked = (c.args.details, (c.args.timestamps, (c.args.release, nodes))) in
     let taken : list_refusal 100 (length nodes) ≡ None = ap (list_refusal 100) (length-map c.args.nodes.now history_read_fields) ∙ sym c.list_refusal.ensures ∙ c.in_default.is in
@@ -35,8 +35,8 @@ returns-in-Err-clause-comes g c =
 
 pub returns-in_default-with_capacity-clause-comes : goal.returns-in_default-with_capacity-clause-comes
 returns-in_default-with_capacity-clause-comes g c =
-    let s = g.A.Archive.state c.args.archive.now in
-    let space = c.args.settings.now.space in
+    let s = g.A.Archive.state c.args.server.now.replica.archive in
+    let space = c.args.server.now.settings.space in
     let nodes = map history_read_fields c.args.nodes.now in
     let asked : HistoryAsked = (c.args.details, (c.args.timestamps, (c.args.release, nodes))) in
     let taken : list_refusal 100 (length nodes) ≡ None = ap (list_refusal 100) (length-map c.args.nodes.now history_read_fields) ∙ sym c.list_refusal.ensures ∙ c.in_default.is in
@@ -44,9 +44,9 @@ returns-in_default-with_capacity-clause-comes g c =
 
 pub returns-clause-comes : goal.returns-clause-comes
 returns-clause-comes g c =
-    let a = g.A.Archive.state c.args.archive.now in
+    let a = g.A.Archive.state c.args.server.now.replica.archive in
     let b = g.A.Archive.state c.read_histories.new.archive in
-    let space = c.args.settings.now.space in
+    let space = c.args.server.now.settings.space in
     let nodes = map history_read_fields c.args.nodes.now in
     let asked : HistoryAsked = (c.args.details, (c.args.timestamps, (c.args.release, nodes))) in
     let taken : list_refusal 100 (length nodes) ≡ None = ap (list_refusal 100) (length-map c.args.nodes.now history_read_fields) ∙ sym c.list_refusal.ensures ∙ c.in_default.is in

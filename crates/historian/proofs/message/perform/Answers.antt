@@ -1,4 +1,4 @@
-use Rattle.std.proofs.Common.{◌∙◌, Ok, Err, Result, refl, sym, ap, subst}
+use Rattle.std.proofs.Common.{Ok, Err, Result, refl, sym, subst}
 use Rattle.ua_binary.specs.declared.codes.Status.{Status}
 use Rattle.historian.specs.declared.service.ServiceRequest.{ServiceRequest as Opened}
 use Rattle.historian.specs.Services.{site_of, answered_call, answered_request}
@@ -8,19 +8,19 @@ use Rattle.historian.specs.Telling.{Performs, Responds, asked_of}
 use Rattle.historian.proofs.Performing.{performs-none}
 use Rattle.historian.proofs.message.perform.Goals as goal
 
-pub returns-in-Err : goal.returns-in-Err
-returns-in-Err g c =
-    let s = g.A.Archive.state c.args.archive.now in
-    let site = site_of c.args.settings.now s in
+pub returns-in-Err-clause-responds : goal.returns-in-Err-clause-responds
+returns-in-Err-clause-responds g c =
+    let s = g.A.Archive.state c.args.server.now.replica.archive in
+    let site = site_of c.args.server.now.settings s in
     let P : Result Opened Status → Type 0 = λ request. Performs s s (answered_request site c.args.now (asked_of request) c.args.sessions.now) c.args.sessions.now (Err c.in-Err.status) in
     let (used, told, acts, tells) = subst P (sym c.in-Err.is) (performs-none s site c.args.now c.args.sessions.now c.in-Err.status (Err c.in-Err.status) refl) in
     (used, told, acts, tells)
 
-pub returns-in-Ok : goal.returns-in-Ok
-returns-in-Ok g c =
-    let a = g.A.Archive.state c.args.archive.now in
-    let b = g.A.Archive.state c.serve.new.archive in
-    let site = site_of c.args.settings.now a in
+pub returns-in-Ok-clause-responds : goal.returns-in-Ok-clause-responds
+returns-in-Ok-clause-responds g c =
+    let a = g.A.Archive.state c.args.server.now.replica.archive in
+    let b = g.A.Archive.state c.serve.new.server.replica.archive in
+    let site = site_of c.args.server.now.settings a in
     let P : Result Opened Status → Type 0 = λ request.
     Responds a b (answered_request site c.args.now (asked_of request) c.args.sessions.now) c.serve.new.sessions c.args.now
     c.args.message.handle c.serve.result c.serve.new.body.items in
@@ -30,5 +30,5 @@ returns-in-Ok g c =
     let R : Opened → Type 0 = λ request.
     Responds a b (answered_call site c.args.now (node_of request.token) (call_in request.service request.body) c.args.sessions.now)
     c.serve.new.sessions c.args.now c.handle-handle.result c.serve.result c.serve.new.body.items in
-    let (used, told, acts, tells) = subst P (sym c.in-Ok.is) (subst Q c.handle-handle.ensures (subst R c.in-Ok.request-is c.serve.ensures)) in
+    let (used, told, acts, tells) = subst P (sym c.in-Ok.is) (subst Q c.handle-handle.ensures (subst R c.in-Ok.request-is c.serve.ensures.responds)) in
     (used, told, acts, tells)

@@ -18,6 +18,7 @@ use Rattle.ua_services.specs.declared.attributes.TimestampsToReturn.{TimestampsT
 use Rattle.ua_space.specs.declared.layout.Layout.{Layout}
 use Rattle.records.specs.Contents.{Content}
 use Rattle.archive.specs.Store.{StepResult}
+use Rattle.archive.specs.Steps.{Refines}
 use Rattle.historian.specs.Answers.{Response, Values, head, response}
 use Rattle.hist_update.specs.Codes.{list_refusal}
 use Rattle.historian.specs.Reading.{unless_refused, answer_items, read_item, read}
@@ -63,84 +64,96 @@ few_spelled : (nodes : List ReadFields) (values : List DataValue) → list_refus
 unfolding read_response data_value
 few_spelled nodes values taken count spelled = let few = few_taken 1000 (length nodes) taken in (omega (arith, few, count), spelled)
 
-pub returns-in-Some : goal.returns-in-Some
-returns-in-Some g c =
-    let s = g.A.Archive.state c.args.archive.now in
+pub returns-in-Some-clause-comes : goal.returns-in-Some-clause-comes
+returns-in-Some-clause-comes g c =
+    let s = g.A.Archive.state c.args.server.now.replica.archive in
     let nodes = map read_fields c.args.nodes.now in
     let refused : list_refusal 1000 (length nodes) ≡ Some c.in-Some.status = ap (list_refusal 1000) (length-map c.args.nodes.now read_fields) ∙ sym c.list_refusal.ensures ∙ c.in-Some.is in
-    let comes = comes-refused s (read c.args.space.now c.args.now (c.args.timestamps, nodes)) c.in-Some.status (Err c.in-Some.status)
-    (λ R marks. ap (λ (o : Option Status). unless_refused o R (read_by c.args.space.now c.args.now c.args.timestamps nodes R) marks) refused) refl in
+    let comes = comes-refused s (read c.args.server.now.settings.space c.args.now (c.args.timestamps, nodes)) c.in-Some.status (Err c.in-Some.status)
+    (λ R marks. ap (λ (o : Option Status). unless_refused o R (read_by c.args.server.now.settings.space c.args.now c.args.timestamps nodes R) marks) refused) refl in
     (comes.0, comes.1, comes.2, comes.3)
 
-pub returns-in_default-timestamps : goal.returns-in_default-timestamps
-returns-in_default-timestamps g c =
-    let s = g.A.Archive.state c.args.archive.now in
+pub returns-in_default-timestamps-clause-comes : goal.returns-in_default-timestamps-clause-comes
+returns-in_default-timestamps-clause-comes g c =
+    let s = g.A.Archive.state c.args.server.now.replica.archive in
     let nodes = map read_fields c.args.nodes.now in
     let taken : list_refusal 1000 (length nodes) ≡ None = ap (list_refusal 1000) (length-map c.args.nodes.now read_fields) ∙ sym c.list_refusal.ensures ∙ c.in_default.is in
-    let comes = comes-refused s (read c.args.space.now c.args.now (c.args.timestamps, nodes)) BAD_TIMESTAMPS_TO_RETURN_INVALID (Err BAD_TIMESTAMPS_TO_RETURN_INVALID)
+    let comes = comes-refused s (read c.args.server.now.settings.space c.args.now (c.args.timestamps, nodes)) BAD_TIMESTAMPS_TO_RETURN_INVALID (Err BAD_TIMESTAMPS_TO_RETURN_INVALID)
     (λ R marks.
-    ap (λ (o : Option Status). unless_refused o R (read_by c.args.space.now c.args.now c.args.timestamps nodes R) marks) taken
-    ∙ ap (λ (o : Option TimestampsToReturn). read_by c.args.space.now c.args.now o nodes R marks) c.in_default-timestamps.is) refl in
+    ap (λ (o : Option Status). unless_refused o R (read_by c.args.server.now.settings.space c.args.now c.args.timestamps nodes R) marks) taken
+    ∙ ap (λ (o : Option TimestampsToReturn). read_by c.args.server.now.settings.space c.args.now o nodes R marks) c.in_default-timestamps.is) refl in
     (comes.0, comes.1, comes.2, comes.3)
 
-pub returns-in_err-put_head : goal.returns-in_err-put_head
-returns-in_err-put_head g c =
-    let s = g.A.Archive.state c.args.archive.now in
+pub returns-in_err-put_head-clause-comes : goal.returns-in_err-put_head-clause-comes
+returns-in_err-put_head-clause-comes g c =
+    let s = g.A.Archive.state c.args.server.now.replica.archive in
     let nodes = map read_fields c.args.nodes.now in
     let stamps = c.in-Some-timestamps.stamps in
     let taken : list_refusal 1000 (length nodes) ≡ None = ap (list_refusal 1000) (length-map c.args.nodes.now read_fields) ∙ sym c.list_refusal.ensures ∙ c.in_default.is in
-    let acts = acts-wanting s (read c.args.space.now c.args.now (c.args.timestamps, nodes)) Values (read_item c.args.space.now c.args.now stamps) nodes
-    (asked_items c.args.space.now c.args.now c.args.timestamps stamps nodes taken c.in-Some-timestamps.is) in
+    let acts = acts-wanting s (read c.args.server.now.settings.space c.args.now (c.args.timestamps, nodes)) Values (read_item c.args.server.now.settings.space c.args.now stamps) nodes
+    (asked_items c.args.server.now.settings.space c.args.now c.args.timestamps stamps nodes taken c.in-Some-timestamps.is) in
     let p = err_from_is_err_and c.from_residual.result c.from_residual.ensures.1 in
     (acts.0, Err BAD_OUT_OF_MEMORY, acts.1, starved c.args.now c.args.handle (Err BAD_OUT_OF_MEMORY) c.from_residual.result p.0 c.in_err-put_head.field-0.0 c.put_head.new.out.items p.1 p.2 c.in_err-put_head.ensures.err)
 
-pub returns-in_err-put_count : goal.returns-in_err-put_count
-returns-in_err-put_count g c =
-    let s = g.A.Archive.state c.args.archive.now in
+pub returns-in_err-put_count-clause-comes : goal.returns-in_err-put_count-clause-comes
+returns-in_err-put_count-clause-comes g c =
+    let s = g.A.Archive.state c.args.server.now.replica.archive in
     let nodes = map read_fields c.args.nodes.now in
     let stamps = c.in-Some-timestamps.stamps in
     let taken : list_refusal 1000 (length nodes) ≡ None = ap (list_refusal 1000) (length-map c.args.nodes.now read_fields) ∙ sym c.list_refusal.ensures ∙ c.in_default.is in
-    let acts = acts-wanting s (read c.args.space.now c.args.now (c.args.timestamps, nodes)) Values (read_item c.args.space.now c.args.now stamps) nodes
-    (asked_items c.args.space.now c.args.now c.args.timestamps stamps nodes taken c.in-Some-timestamps.is) in
+    let acts = acts-wanting s (read c.args.server.now.settings.space c.args.now (c.args.timestamps, nodes)) Values (read_item c.args.server.now.settings.space c.args.now stamps) nodes
+    (asked_items c.args.server.now.settings.space c.args.now c.args.timestamps stamps nodes taken c.in-Some-timestamps.is) in
     let p = err_from_is_err_and c.from_residual-in_err-put_count.result c.from_residual-in_err-put_count.ensures.1 in
     (acts.0, Err BAD_OUT_OF_MEMORY, acts.1, starved c.args.now c.args.handle (Err BAD_OUT_OF_MEMORY) c.from_residual-in_err-put_count.result p.0 c.in_err-put_count.field-0.0 c.put_count.new.out.items p.1 p.2 c.in_err-put_count.ensures.0)
 
-pub returns-in_err-put_items : goal.returns-in_err-put_items
-returns-in_err-put_items g c =
-    let a = g.A.Archive.state c.args.archive.now in
+pub returns-in_err-put_items-clause-comes : goal.returns-in_err-put_items-clause-comes
+returns-in_err-put_items-clause-comes g c =
+    let a = g.A.Archive.state c.args.server.now.replica.archive in
     let b = g.A.Archive.state c.put_items.new.archive in
     let nodes = map read_fields c.args.nodes.now in
     let stamps = c.in-Some-timestamps.stamps in
     let taken : list_refusal 1000 (length nodes) ≡ None = ap (list_refusal 1000) (length-map c.args.nodes.now read_fields) ∙ sym c.list_refusal.ensures ∙ c.in_default.is in
     let (used, values, count, all, shown) = c.put_items.ensures.told in
-    let acts = acts-items a b (read c.args.space.now c.args.now (c.args.timestamps, nodes)) Values (read_item c.args.space.now c.args.now stamps) nodes values
-    (asked_items c.args.space.now c.args.now c.args.timestamps stamps nodes taken c.in-Some-timestamps.is) (used, all) in
+    let space = c.space.result.now in
+    let P : Layout → Type 0 = λ space.
+    (used : List StepResult) × Refines a b used (read space c.args.now (c.args.timestamps, nodes)) (Ok (Values values)) in
+    let acts = subst P c.space.ensures
+    (acts-items a b (read space c.args.now (c.args.timestamps, nodes)) Values (read_item space c.args.now stamps) nodes values
+    (asked_items space c.args.now c.args.timestamps stamps nodes taken c.in-Some-timestamps.is) (used, all)) in
     let p = err_from_is_err_and c.from_residual-in_err-put_items.result c.from_residual-in_err-put_items.ensures.1 in
     (acts.0, Ok (Values values), acts.1, starved c.args.now c.args.handle (Ok (Values values)) c.from_residual-in_err-put_items.result p.0 c.in_err-put_items.field-0.0 c.put_items.new.out.items p.1 p.2 c.in_err-put_items.ensures.err)
 
-pub returns-in_err-put_i32 : goal.returns-in_err-put_i32
-returns-in_err-put_i32 g c =
-    let a = g.A.Archive.state c.args.archive.now in
+pub returns-in_err-put_i32-clause-comes : goal.returns-in_err-put_i32-clause-comes
+returns-in_err-put_i32-clause-comes g c =
+    let a = g.A.Archive.state c.args.server.now.replica.archive in
     let b = g.A.Archive.state c.put_items.new.archive in
     let nodes = map read_fields c.args.nodes.now in
     let stamps = c.in-Some-timestamps.stamps in
     let taken : list_refusal 1000 (length nodes) ≡ None = ap (list_refusal 1000) (length-map c.args.nodes.now read_fields) ∙ sym c.list_refusal.ensures ∙ c.in_default.is in
     let (used, values, count, all, shown) = c.put_items.ensures.told in
-    let acts = acts-items a b (read c.args.space.now c.args.now (c.args.timestamps, nodes)) Values (read_item c.args.space.now c.args.now stamps) nodes values
-    (asked_items c.args.space.now c.args.now c.args.timestamps stamps nodes taken c.in-Some-timestamps.is) (used, all) in
+    let space = c.space.result.now in
+    let P : Layout → Type 0 = λ space.
+    (used : List StepResult) × Refines a b used (read space c.args.now (c.args.timestamps, nodes)) (Ok (Values values)) in
+    let acts = subst P c.space.ensures
+    (acts-items a b (read space c.args.now (c.args.timestamps, nodes)) Values (read_item space c.args.now stamps) nodes values
+    (asked_items space c.args.now c.args.timestamps stamps nodes taken c.in-Some-timestamps.is) (used, all)) in
     let p = err_from_is_err_and c.from_residual-in_err-put_i32.result c.from_residual-in_err-put_i32.ensures.1 in
     (acts.0, Ok (Values values), acts.1, starved c.args.now c.args.handle (Ok (Values values)) c.from_residual-in_err-put_i32.result p.0 c.in_err-put_i32.field-0.0 c.put_i32.new.out.items p.1 p.2 c.in_err-put_i32.ensures.0)
 
-pub returns : goal.returns
-returns g c =
-    let a = g.A.Archive.state c.args.archive.now in
+pub returns-clause-comes : goal.returns-clause-comes
+returns-clause-comes g c =
+    let a = g.A.Archive.state c.args.server.now.replica.archive in
     let b = g.A.Archive.state c.put_items.new.archive in
     let nodes = map read_fields c.args.nodes.now in
     let stamps = c.in-Some-timestamps.stamps in
     let taken : list_refusal 1000 (length nodes) ≡ None = ap (list_refusal 1000) (length-map c.args.nodes.now read_fields) ∙ sym c.list_refusal.ensures ∙ c.in_default.is in
     let (used, values, count, all, shown) = c.in_ok-put_items.ensures.told in
-    let acts = acts-items a b (read c.args.space.now c.args.now (c.args.timestamps, nodes)) Values (read_item c.args.space.now c.args.now stamps) nodes values
-    (asked_items c.args.space.now c.args.now c.args.timestamps stamps nodes taken c.in-Some-timestamps.is) (used, all) in (
+    let space = c.space.result.now in
+    let P : Layout → Type 0 = λ space.
+    (used : List StepResult) × Refines a b used (read space c.args.now (c.args.timestamps, nodes)) (Ok (Values values)) in
+    let acts = subst P c.space.ensures
+    (acts-items a b (read space c.args.now (c.args.timestamps, nodes)) Values (read_item space c.args.now stamps) nodes values
+    (asked_items space c.args.now c.args.timestamps stamps nodes taken c.in-Some-timestamps.is) (used, all)) in (
       acts.0,
       Ok (Values values),
       acts.1,

@@ -4,51 +4,49 @@ use Rattle.ua_binary.specs.Binary.{node_of}
 use Rattle.ua_services.specs.declared.attributes.ReadRequest.{ReadRequest}
 use Rattle.ua_services.specs.declared.attributes.ReadValueId.{ReadValueId}
 use Rattle.ua_services.specs.Attributes.{read_fields, read_asked}
-use Rattle.ua_space.specs.declared.layout.Layout.{Layout}
 use Rattle.historian.specs.declared.service.Service.TheVariants as service
 use Rattle.historian.specs.Answers.{Response}
 use Rattle.historian.specs.Reading.{read}
 use Rattle.historian.specs.Requests.{Read, call_in}
 use Rattle.historian.specs.Services.{site_of, answered_call}
-use Rattle.historian.specs.Telling.{ComesWritten, Responds, Written}
+use Rattle.historian.specs.Telling.{ComesWritten, Written}
 use Rattle.historian.proofs.Performing.{performs-unread, performs-outside, performs-here, performs-with, responds-refused}
 use Rattle.historian.proofs.reading.read.Goals as goal
 
-pub returns-in_err-asked : goal.returns-in_err-asked
-returns-in_err-asked g c =
-    let s = g.A.Archive.state c.args.archive.now in
-    let site = site_of c.args.settings.now s in
-    let token = node_of c.args.token in
+pub returns-in_err-asked-clause-responds : goal.returns-in_err-asked-clause-responds
+returns-in_err-asked-clause-responds g c =
+    let s = g.A.Archive.state c.args.server.now.replica.archive in
+    let site = site_of c.args.server.now.settings s in
+    let token = node_of c.args.request.token in
     let sessions = c.args.sessions.now in
     let p = err_from_is_err_and c.from_residual.result c.from_residual.ensures.1 in
-    let does = answered_call site c.args.now token (call_in service.Read c.args.request) sessions in
+    let does = answered_call site c.args.now token (call_in service.Read c.args.request.body) sessions in
     responds-refused s s does sessions c.args.now c.args.handle p.0 c.from_residual.result c.args.body.now.items
     (performs-here s does sessions (Err p.0)
-    (performs-unread site c.args.now token sessions service.Read (λ (asked : ReadRequest). Read (read_asked asked)) c.args.request c.in_err-asked.field-0.0 (Err p.0) c.in_err-asked.ensures (ap Err p.2))) p.1
+    (performs-unread site c.args.now token sessions service.Read (λ (asked : ReadRequest). Read (read_asked asked)) c.args.request.body c.in_err-asked.field-0.0 (Err p.0) c.in_err-asked.ensures (ap Err p.2))) p.1
 
-pub returns-in_err-user_of : goal.returns-in_err-user_of
-returns-in_err-user_of g c =
-    let s = g.A.Archive.state c.args.archive.now in
-    let site = site_of c.args.settings.now s in
-    let token = node_of c.args.token in
+pub returns-in_err-user_of-clause-responds : goal.returns-in_err-user_of-clause-responds
+returns-in_err-user_of-clause-responds g c =
+    let s = g.A.Archive.state c.args.server.now.replica.archive in
+    let site = site_of c.args.server.now.settings s in
+    let token = node_of c.args.request.token in
     let sessions = c.args.sessions.now in
     let asked = read_asked c.in_ok-asked.asked in
     let p = err_from_is_err_and c.from_residual-in_err-user_of.result c.from_residual-in_err-user_of.ensures.1 in
-    let does = answered_call site c.args.now token (call_in service.Read c.args.request) sessions in
+    let does = answered_call site c.args.now token (call_in service.Read c.args.request.body) sessions in
     responds-refused s s does sessions c.args.now c.args.handle p.0 c.from_residual-in_err-user_of.result c.args.body.now.items
     (performs-here s does sessions (Err p.0)
-    (performs-outside site c.args.now token sessions service.Read (Read asked) c.args.request (λ R user. read site.settings.space c.args.now asked R) c.in_err-user_of.field-0.0 p.0 (Err p.0)
+    (performs-outside site c.args.now token sessions service.Read (Read asked) c.args.request.body (λ R user. read site.settings.space c.args.now asked R) c.in_err-user_of.field-0.0 p.0 (Err p.0)
     c.in_ok-asked.ensures (λ R marks. refl) (sym c.in_err-user_of.ensures.value) p.2 refl)) p.1
 
-pub returns : goal.returns
-returns g c =
-    let a = g.A.Archive.state c.args.archive.now in
-    let b = g.A.Archive.state c.put_read.new.archive in
-    let site = site_of c.args.settings.now a in
+pub returns-clause-responds : goal.returns-clause-responds
+returns-clause-responds g c =
+    let a = g.A.Archive.state c.args.server.now.replica.archive in
+    let b = g.A.Archive.state c.put_read.new.server.replica.archive in
+    let site = site_of c.args.server.now.settings a in
     let asked = read_asked c.in_ok-asked.asked in
     let bytes = c.put_read.new.body.items in
-    let P : Layout → Type 0 = λ space. ComesWritten a b (read space c.args.now asked) c.args.now c.args.handle c.put_read.result bytes in
-    let Q : List ReadValueId → Type 0 = λ nodes. ComesWritten a b (read c.space.result.now c.args.now (c.in_ok-asked.asked.timestamps, map read_fields nodes)) c.args.now c.args.handle c.put_read.result bytes in
+    let Q : List ReadValueId → Type 0 = λ nodes. ComesWritten a b (read site.settings.space c.args.now (c.in_ok-asked.asked.timestamps, map read_fields nodes)) c.args.now c.args.handle c.put_read.result bytes in
     let user = c.in_ok-user_of.field-0.now in
-    performs-with (λ (told : Response). Written c.args.now c.args.handle told c.put_read.result bytes) a b site c.args.now (node_of c.args.token) c.args.sessions.now service.Read (Read asked) c.args.request user
-    (λ R user. read site.settings.space c.args.now asked R) c.in_ok-asked.ensures (λ R marks. refl) (sym c.in_ok-user_of.ensures.value) (subst P c.space.ensures (subst Q c.deref.ensures.value c.put_read.ensures))
+    performs-with (λ (told : Response). Written c.args.now c.args.handle told c.put_read.result bytes) a b site c.args.now (node_of c.args.request.token) c.args.sessions.now service.Read (Read asked) c.args.request.body user
+    (λ R user. read site.settings.space c.args.now asked R) c.in_ok-asked.ensures (λ R marks. refl) (sym c.in_ok-user_of.ensures.value) (subst Q c.deref.ensures.value c.put_read.ensures.comes)

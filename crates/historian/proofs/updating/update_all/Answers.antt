@@ -1,8 +1,11 @@
-use Rattle.std.proofs.Common.{◌≡◌, ◌∙◌, map, length, Err, Some, None, refl, sym, ap}
+use Rattle.std.proofs.Common.{◌≡◌, ◌∙◌, List, map, length, Err, Some, None, refl, sym, ap, subst}
 use Rattle.std.specs.Prelude.{Option}
 use Rattle.std.proofs.lemmas.List.{length-map}
 use Rattle.ua_binary.specs.declared.codes.Status.{Status}
 use Rattle.ua_services.specs.Updates.{details_of}
+use Rattle.ua_space.specs.declared.layout.Layout.{Layout}
+use Rattle.archive.specs.Store.{StepResult}
+use Rattle.archive.specs.Steps.{Refines, each}
 use Rattle.historian.specs.declared.answer.Answer.TheVariants as made
 use Rattle.historian.specs.Answers.{Updated as AllUpdated}
 use Rattle.hist_update.specs.Codes.{list_refusal}
@@ -13,8 +16,8 @@ use Rattle.historian.proofs.updating.update_all.Goals as goal
 
 pub returns-in-Some-clause-comes : goal.returns-in-Some-clause-comes
 returns-in-Some-clause-comes g c =
-    let s = g.A.Archive.state c.args.archive.now in
-    let space = c.args.space.now in
+    let s = g.A.Archive.state c.args.server.now.replica.archive in
+    let space = c.args.server.now.settings.space in
     let user = c.args.user.now in
     let details = map details_of c.args.details.now in
     let refused : list_refusal 100 (length details) ≡ Some c.in-Some.status = ap (list_refusal 100) (length-map c.args.details.now details_of) ∙ sym c.list_refusal.ensures ∙ c.in-Some.is in
@@ -22,8 +25,8 @@ returns-in-Some-clause-comes g c =
 
 pub returns-in_default-with_capacity-clause-comes : goal.returns-in_default-with_capacity-clause-comes
 returns-in_default-with_capacity-clause-comes g c =
-    let s = g.A.Archive.state c.args.archive.now in
-    let space = c.args.space.now in
+    let s = g.A.Archive.state c.args.server.now.replica.archive in
+    let space = c.args.server.now.settings.space in
     let user = c.args.user.now in
     let details = map details_of c.args.details.now in
     let taken : list_refusal 100 (length details) ≡ None = ap (list_refusal 100) (length-map c.args.details.now details_of) ∙ sym c.list_refusal.ensures ∙ c.in_default.is in
@@ -31,11 +34,14 @@ returns-in_default-with_capacity-clause-comes g c =
 
 pub returns-clause-comes : goal.returns-clause-comes
 returns-clause-comes g c =
-    let a = g.A.Archive.state c.args.archive.now in
+    let a = g.A.Archive.state c.args.server.now.replica.archive in
     let b = g.A.Archive.state c.update_items.new.archive in
-    let space = c.args.space.now in
+    let space = c.args.server.now.settings.space in
     let user = c.args.user.now in
     let details = map details_of c.args.details.now in
     let taken : list_refusal 100 (length details) ≡ None = ap (list_refusal 100) (length-map c.args.details.now details_of) ∙ sym c.list_refusal.ensures ∙ c.in_default.is in
+    let P : Layout → Type 0 = λ space.
+    (used : List StepResult)
+    × Refines a b used (each (update_item a.own space user c.args.now) details) c.update_items.new.results.items in
     comes-items a b (update_history a.own space user c.args.now details) AllUpdated (update_item a.own space user c.args.now) details c.update_items.new.results.items (made.Updated c.update_items.new.results)
-    (λ R marks. ap (λ (o : Option Status). unless_refused o R (answer_items AllUpdated (update_item a.own space user c.args.now) details R) marks) taken) c.update_items.ensures.acts refl
+    (λ R marks. ap (λ (o : Option Status). unless_refused o R (answer_items AllUpdated (update_item a.own space user c.args.now) details R) marks) taken) (subst P c.space.ensures c.update_items.ensures.acts) refl

@@ -7,11 +7,12 @@ use Rattle.ua_connection.proofs.serving.answer_waiting.Given as goal
 abbrev pub invariant-parts : goal.invariant-parts
 invariant-parts g l = record {
   small : IsSmall l.connection;
+  settings : l.server.settings ≡ l.initial.server.settings;
   no_less : IsNoLess l.initial.connection l.connection;
   writes : g.X.Line.failed_writes l.line ≡ g.X.Line.failed_writes l.initial.line;
   reads : g.X.Line.failed_reads l.line ≡ g.X.Line.failed_reads l.initial.line;
   so_far : (used : Environment) × g.C.Clock.gave l.initial.clock used.readings l.clock × (events : List LineEvent) × g.X.Line.passed l.initial.line events l.line
-      × DrainedSoFar l.settings (g.A.Archive.state l.initial.archive) (g.A.Archive.state l.archive) l.initial.connection used events l.connection;
+      × DrainedSoFar l.initial.server.settings (g.A.Archive.state l.initial.server.replica.archive) (g.A.Archive.state l.server.replica.archive) l.initial.connection used events l.connection;
 }
 
 abbrev pub decreases-parts : goal.decreases-parts

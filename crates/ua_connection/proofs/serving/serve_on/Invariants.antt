@@ -7,11 +7,12 @@ use Rattle.ua_connection.proofs.serving.serve_on.Given as goal
 abbrev pub invariant-reads : goal.invariant-reads
 invariant-reads g l = record {
   small : IsSmall l.connection;
+  settings : l.server.settings ≡ l.initial.server.settings;
   short : NeedsBytes l.connection;
   reads : g.X.Line.failed_reads l.line ≡ g.X.Line.failed_reads l.initial.line;
   writes : g.X.Line.failed_writes l.line ≡ g.X.Line.failed_writes l.initial.line;
   so_far : (used : Environment) × g.C.Clock.gave l.initial.clock used.readings l.clock × (events : List LineEvent) × g.X.Line.passed l.initial.line events l.line
-      × ServesSoFar l.settings (g.A.Archive.state l.initial.archive) (g.A.Archive.state l.archive) l.initial.connection.waiting events used l.connection;
+      × ServesSoFar l.initial.server.settings (g.A.Archive.state l.initial.server.replica.archive) (g.A.Archive.state l.server.replica.archive) l.initial.connection.waiting events used l.connection;
 }
 
 -- a chunk has at most 65,536 bytes, and less than one waits

@@ -20,42 +20,42 @@ undecoded settings a b text used before (Serve Write) told bad untouched = absur
 undecoded settings a b text used before (Serve TooLong) told bad untouched = absurd told
 undecoded settings a b text used before (Serve OutOfMemory) told bad untouched = (refl, inl untouched)
 
-pub returns-in-Err : goal.returns-in-Err
-returns-in-Err g c =
-    let s = g.A.Archive.state c.args.replica.now.archive in
-    (empty_environment, g.met.C.Clock.gave_none c.args.clock.now, undecoded c.args.settings.now s s c.args.text.now empty_environment c.args.out.now.items c.in-Err.fault c.in-Err.ensures.memory (λ e. c.in-Err.ensures.bad (ap Err e)) (moves-none s (λ marks R S. S ≡ R) (λ R. refl), refl))
+pub returns-in-Err-clause-answers : goal.returns-in-Err-clause-answers
+returns-in-Err-clause-answers g c =
+    let s = g.A.Archive.state c.args.server.now.replica.archive in
+    (empty_environment, g.met.C.Clock.gave_none c.args.clock.now, undecoded c.args.server.now.settings s s c.args.text.now empty_environment c.args.out.now.items c.in-Err.fault c.in-Err.ensures.memory (λ e. c.in-Err.ensures.bad (ap Err e)) (moves-none s (λ marks R S. S ≡ R) (λ R. refl), refl))
 
-pub returns-in-Err-TooLong : goal.returns-in-Err-TooLong
-returns-in-Err-TooLong g c =
+pub returns-in-Err-TooLong-clause-answers : goal.returns-in-Err-TooLong-clause-answers
+returns-in-Err-TooLong-clause-answers g c =
     let told = c.in-Err-TooLong.ensures.serves in
     let read : c.new-reader.result.inner.now ≡ c.in-Ok.input.items = search rules in
     let none : c.new-writer.result.inner.items ≡ [] = search rules in
     (told.0, told.1, ((_, given-text _ _ _ c.args.text.now _ _ _ _ _ _ _ _ c.in-Ok.ensures.ok read none (ap Err c.in-Err-TooLong.field-0-is) told.2), refl))
 
-pub returns-in-Err-serve : goal.returns-in-Err-serve
-returns-in-Err-serve g c =
+pub returns-in-Err-serve-clause-answers : goal.returns-in-Err-serve-clause-answers
+returns-in-Err-serve-clause-answers g c =
     let told = c.serve.ensures.serves in
     let read : c.new-reader.result.inner.now ≡ c.in-Ok.input.items = search rules in
     let none : c.new-writer.result.inner.items ≡ [] = search rules in
     (told.0, told.1, (refl, inr (_, _, given-text _ _ _ c.args.text.now _ _ _ _ _ _ _ _ c.in-Ok.ensures.ok read none refl told.2)))
 
-pub returns-in_default : goal.returns-in_default
-returns-in_default g c =
+pub returns-in_default-clause-answers : goal.returns-in_default-clause-answers
+returns-in_default-clause-answers g c =
     let told = c.serve.ensures.serves in
     let read : c.new-reader.result.inner.now ≡ c.in-Ok.input.items = search rules in
     let none : c.new-writer.result.inner.items ≡ [] = search rules in
     (told.0, told.1, (refl, inr (_, _, given-text _ _ _ c.args.text.now _ _ _ _ _ _ _ _ c.in-Ok.ensures.ok read none refl told.2)))
 
-pub returns-in-Ok-extend_from_slice : goal.returns-in-Ok-extend_from_slice
-returns-in-Ok-extend_from_slice g c =
+pub returns-in-Ok-extend_from_slice-clause-answers : goal.returns-in-Ok-extend_from_slice-clause-answers
+returns-in-Ok-extend_from_slice-clause-answers g c =
     let told = c.in-Ok-serve.ensures.serves in
     let read : c.new-reader.result.inner.now ≡ c.in-Ok.input.items = search rules in
     let none : c.new-writer.result.inner.items ≡ [] = search rules in
     let more : c.extend_from_slice.new.self.items ≡ c.args.out.now.items ++ encode_upper c.serve.new.writer.inner.items = search rules in
     (told.0, told.1, (_, given-text _ _ _ c.args.text.now _ _ _ _ _ _ _ _ c.in-Ok.ensures.ok read none refl told.2, more))
 
-pub returns : goal.returns
-returns g c =
+pub returns-clause-answers : goal.returns-clause-answers
+returns-clause-answers g c =
     let told = c.serve.ensures.serves in
     let read : c.new-reader.result.inner.now ≡ c.in-Ok.input.items = search rules in
     let none : c.new-writer.result.inner.items ≡ [] = search rules in

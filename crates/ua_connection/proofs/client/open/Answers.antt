@@ -6,7 +6,7 @@ use Rattle.archive.specs.Steps.{give}
 use Rattle.ua_connection.specs.Client.{goes}
 use Rattle.ua_connection.specs.Turns.{client_after}
 use Rattle.ua_connection.proofs.Steps.{at, opens, here-memory}
-use Rattle.ua_connection.proofs.answering.open.Goals as goal
+use Rattle.ua_connection.proofs.client.open.Goals as goal
 
 pub returns-in-Ok-clause-answered : goal.returns-in-Ok-clause-answered
 returns-in-Ok-clause-answered c client =
