@@ -7,4 +7,4 @@ mod peers;
 
 pub use calling::{SyncFault, Synced, sync};
 pub use laws::{a_call_that_ends_joins, calls_are_exchanges, dialogs_are_deliveries};
-pub use peers::{PeerEnded, serve_peer, serve_peer_from};
+pub use peers::{PeerEnded, serve_peer, serve_peer_from, take_first};

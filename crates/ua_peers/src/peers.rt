@@ -41,8 +41,10 @@ fn refuse_bytes(out: &mut Vec<u8>) -> ExchangeFault
     }
 }
 
-/// Takes the frame that stands first, if it is whole, or tells that none can: what answers it is appended to `out`.
-fn take_first<A: Archive>(
+/// Answers the frame that stands first in the bytes that wait, if it is whole: what answers it is appended to `out`, which is
+/// empty. None where no whole frame stands first. `Done` and `Failed` end the dialog, and so does a fault: an `RXE` with its
+/// number is in `out` then, or nothing where memory for it was wanting.
+pub fn take_first<A: Archive>(
     alloc: Global,
     replica: &mut Replica<A>,
     dialog: &mut Dialog,
