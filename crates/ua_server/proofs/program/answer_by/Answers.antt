@@ -10,5 +10,5 @@ returns-in-Ok-open_archive-clause-does g c =
     let d = rw new.archive at (rw new.settings at c.answer_over.ensures.does) in
     (Ok c.in-Ok.settings, c.in-Ok.ensures, (Ok c.in-Ok-open_archive.archive, c.in-Ok-open_archive.ensures, (c.answer_over.new.server.replica.archive, (d.0, d.2, d.1, d.3, d.4))))
 
-pub returns-clause-does : goal.returns-clause-does
-returns-clause-does g c = (Ok c.in-Ok.settings, c.in-Ok.ensures, (Err c.in-Err-open_archive.fault, c.in-Err-open_archive.ensures, (refl, refl, refl, refl)))
+pub returns-in-Err-open_archive-clause-does : goal.returns-in-Err-open_archive-clause-does
+returns-in-Err-open_archive-clause-does g c = (Ok c.in-Ok.settings, c.in-Ok.ensures, (Err c.in-Err-open_archive.fault, c.in-Err-open_archive.ensures, (refl, refl, refl, refl)))
