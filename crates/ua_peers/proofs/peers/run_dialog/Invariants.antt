@@ -10,8 +10,11 @@ invariant-reads g l = record {
   short : frame_header l.frames.waiting ≡ Ok None;
   read_faults : l.reader.faults ≡ l.initial.reader.faults;
   write_faults : l.writer.faults ≡ l.initial.writer.faults;
-  so_far : MeetsSoFar l.initial.dialog (g.A.Archive.state l.initial.replica.archive) (g.A.Archive.state l.replica.archive) l.first (g.R.Read.remaining l.initial.reader.inner) (g.R.Read.remaining l.reader.inner)
-      (g.W.Write.contents l.initial.writer.inner) (g.W.Write.contents l.writer.inner) l.frames.waiting l.dialog;
+  so_far : MeetsSoFar l.initial.dialog (g.A.Archive.state l.initial.replica.archive)
+      (g.A.Archive.state l.replica.archive) l.first (g.R.Read.remaining l.initial.reader.inner)
+      (g.R.Read.remaining l.reader.inner)
+      (g.W.Write.contents l.initial.writer.inner)
+      (g.W.Write.contents l.writer.inner) l.frames.waiting l.dialog;
 }
 
 -- a frame has at most 2,097,152 bytes, and less than one waits

@@ -16,10 +16,15 @@ returns-in_err-send-clause-tells g c =
     let fault = c.in_err-send.ensures.fault.0 in
     let is : c.from_residual.result ≡ Err Write = cc (fault, p.1, p.2) in
     let contents = g.W.Write.contents in
-    subst (λ (x : Result PeerEnded ServeFault). TellsWant (contents c.args.writer.now.inner) (contents c.send.new.self.inner) x) (sym is)
-    (subst (λ (b : List ℕ). AppendsPart (contents c.args.writer.now.inner) (contents c.send.new.self.inner) b) end-four c.in_err-send.ensures.part)
+    subst (λ (x : Result PeerEnded ServeFault).
+    TellsWant (contents c.args.writer.now.inner) (contents c.send.new.self.inner) x) (sym is)
+    (subst (λ (b : List ℕ). AppendsPart (contents c.args.writer.now.inner)
+    (contents c.send.new.self.inner) b) end-four c.in_err-send.ensures.part)
 
 pub returns-clause-tells : goal.returns-clause-tells
 returns-clause-tells g c =
-    let contents = g.W.Write.contents in
-    (refl, subst (λ (b : List ℕ). Appends (contents c.args.writer.now.inner) (contents c.send.new.self.inner) b) end-four c.in_ok-send.ensures.ok)
+    let contents = g.W.Write.contents in (
+      refl,
+      subst (λ (b : List ℕ). Appends (contents c.args.writer.now.inner)
+          (contents c.send.new.self.inner) b) end-four c.in_ok-send.ensures.ok,
+    )

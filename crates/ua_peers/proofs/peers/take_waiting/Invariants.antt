@@ -8,7 +8,9 @@ invariant-turns g l = record {
   sound : l.frames.failed ≡ false;
   no_less : IsNoLess l.initial.frames l.frames l.initial.dialog l.dialog;
   faults : l.writer.faults ≡ l.initial.writer.faults;
-  so_far : DrainedSoFar l.initial.dialog (g.A.Archive.state l.initial.replica.archive) (g.A.Archive.state l.replica.archive) (g.W.Write.contents l.initial.writer.inner) (g.W.Write.contents l.writer.inner) l.initial.frames.waiting l.frames.waiting l.dialog;
+  so_far : DrainedSoFar l.initial.dialog (g.A.Archive.state l.initial.replica.archive)
+      (g.A.Archive.state l.replica.archive) (g.W.Write.contents l.initial.writer.inner)
+      (g.W.Write.contents l.writer.inner) l.initial.frames.waiting l.frames.waiting l.dialog;
 }
 
 abbrev pub decreases-turns : goal.decreases-turns
