@@ -47,9 +47,11 @@ use Rattle.ua_connection.proofs.Counting.{first_item, no_item}
 
 -- the channel knows just these chunks
 abbrev Knows : ClientState → List Placed → Type 0
-Knows standing past = (state : ChannelState) → standing.client.channel ≡ Some state → state.heard ≡ heard_of past
+Knows standing past = (state : ChannelState) → standing.client.channel ≡ Some state
+    → state.heard ≡ heard_of past
 
--- where a reply doesn't end the connection, later chunks are judged by this limit, and the channel knows these
+-- where a reply doesn't end the connection, later chunks are judged by this limit, and the channel
+-- knows these
 record Leaves (size : ℕ) (past : List Placed) (reply : Reply ClientState Ending) : Type 0 where
   greeted : reply.ending ≡ None → reply.state.client.greeted ≡ true
   limit : reply.ending ≡ None → reply.state.client.limit ≡ size
@@ -57,143 +59,219 @@ record Leaves (size : ℕ) (past : List Placed) (reply : Reply ClientState Endin
 
 -- whatever the outside gives
 abbrev Leaving : ℕ → List Placed → Answering → Type 0
-Leaving limit past f = (marks : List StepResult) (readings : List ℤ) → Leaves limit past (f (record { marks = marks; readings = readings })).0
+Leaving limit past f = (marks : List StepResult) (readings : List ℤ)
+    → Leaves limit past (f (record { marks = marks; readings = readings })).0
 
-leaves-end : (limit : ℕ) (past : List Placed) (standing : ClientState) (out : List ℕ) (ending : Ending) → Leaves limit past (ends standing out ending)
-leaves-end limit past standing out ending = record { greeted = λ e. absurd cc; limit = λ e. absurd cc; knows = λ e. absurd cc }
+leaves-end : (limit : ℕ) (past : List Placed) (standing : ClientState) (out : List ℕ)
+    (ending : Ending) → Leaves limit past (ends standing out ending)
+leaves-end limit past standing out ending =
+    record { greeted = λ e. absurd cc; limit = λ e. absurd cc; knows = λ e. absurd cc }
 
-made-leaves : (limit : ℕ) (past : List Placed) (went starved : Answering) → Leaving limit past went → Leaving limit past starved → Leaving limit past (or_out_of_memory went starved)
+made-leaves : (limit : ℕ) (past : List Placed) (went starved : Answering) → Leaving limit past went
+    → Leaving limit past starved → Leaving limit past (or_out_of_memory went starved)
 made-leaves limit past went starved a b [] readings = a [] readings
 made-leaves limit past went starved a b (Done ∷ marks) readings = a marks readings
 made-leaves limit past went starved a b (NoMemory ∷ marks) readings = b marks readings
 made-leaves limit past went starved a b (RecordStands ∷ marks) readings = a marks readings
 made-leaves limit past went starved a b (StoreFailed fault ∷ marks) readings = a marks readings
 
-then-leaves : {A : Type 0} (limit : ℕ) (past : List Placed) (m : WithEnvironment A) (f : A → Answering) → ((a : A) → Leaving limit past (f a)) → Leaving limit past (and_then m f)
-then-leaves limit past m f leaves marks readings = let r = m (record { marks = marks; readings = readings }) in leaves r.0 r.1.marks r.1.readings
+then-leaves : {A : Type 0} (limit : ℕ) (past : List Placed) (m : WithEnvironment A)
+    (f : A → Answering) → ((a : A) → Leaving limit past (f a)) → Leaving limit past (and_then m f)
+then-leaves limit past m f leaves marks readings = let r =
+    m (record { marks = marks; readings = readings }) in leaves r.0 r.1.marks r.1.readings
 
 -- the channel that goes on knows the chunks
-leaves-goes : (standing : ClientState) (out : List ℕ) (state : ChannelState) (past : List Placed) → state.heard ≡ heard_of past → Leaves standing.client.limit past (goes standing out (Some state))
+leaves-goes : (standing : ClientState) (out : List ℕ) (state : ChannelState) (past : List Placed)
+    → state.heard ≡ heard_of past → Leaves standing.client.limit past
+    (goes standing out (Some state))
 leaves-goes standing out state past knows = record {
   greeted = λ e. refl;
   limit = λ e. refl;
-  knows = λ e other is. let same : state ≡ other = cc in ap (λ (s : ChannelState). s.heard) (sym same) ∙ knows;
+  knows = λ e other is. let same : state ≡ other = cc in
+      ap (λ (s : ChannelState). s.heard) (sym same) ∙ knows;
 }
 
-refuse-leaves : (limit : ℕ) (past : List Placed) (standing : ClientState) (code : Status) → Leaving limit past (refuse standing code)
-refuse-leaves limit past standing code = made-leaves limit past _ _ (λ marks readings. leaves-end limit past standing _ _) (λ marks readings. leaves-end limit past standing _ _)
+refuse-leaves : (limit : ℕ) (past : List Placed) (standing : ClientState) (code : Status)
+    → Leaving limit past (refuse standing code)
+refuse-leaves limit past standing code =
+    made-leaves limit past _ _ (λ marks readings. leaves-end limit past standing _ _)
+    (λ marks readings. leaves-end limit past standing _ _)
 
-told-leaves : (standing : ClientState) (state : ChannelState) (past : List Placed) (request : ℕ) (message : List ℕ) (now : Ticks) (outcome : MessageOutcome) → state.heard ≡ heard_of past
-    → Leaving standing.client.limit past (outcome_response standing state request message now outcome)
+told-leaves : (standing : ClientState) (state : ChannelState) (past : List Placed) (request : ℕ)
+    (message : List ℕ) (now : Ticks) (outcome : MessageOutcome) → state.heard ≡ heard_of past
+    → Leaving standing.client.limit past
+    (outcome_response standing state request message now outcome)
 told-leaves standing state past request message now outcome knows =
-    let new : ClientState = record { client = record standing.client { sessions = outcome.0.1 }; content = outcome.1 } in
+    let new : ClientState = record {
+      client =
+          record standing.client { sessions = outcome.0.1 };
+      content = outcome.1;
+    } in
     made-leaves standing.client.limit past _ _ (λ marks readings. leaves-goes new _ _ past knows)
-    (made-leaves standing.client.limit past _ _ (λ marks readings. leaves-goes new _ _ past knows) (λ marks readings. leaves-end standing.client.limit past new _ _))
+    (made-leaves standing.client.limit past _ _ (λ marks readings. leaves-goes new _ _ past knows)
+    (λ marks readings. leaves-end standing.client.limit past new _ _))
 
-open-leaves : (standing : ClientState) (state : ChannelState) (past : List Placed) (request : OpenRequest) → state.heard ≡ heard_of past → Leaving standing.client.limit past (and_then clock (opened standing state request))
+open-leaves : (standing : ClientState) (state : ChannelState) (past : List Placed)
+    (request : OpenRequest) → state.heard ≡ heard_of past
+    → Leaving standing.client.limit past (and_then clock (opened standing state request))
 open-leaves standing state past request knows =
     then-leaves standing.client.limit past clock (opened standing state request)
-    (λ now. made-leaves standing.client.limit past _ _ (λ marks readings. leaves-goes standing _ _ past knows) (refuse-leaves standing.client.limit past standing BAD_OUT_OF_MEMORY))
+    (λ now. made-leaves standing.client.limit past _ _
+    (λ marks readings. leaves-goes standing _ _ past knows)
+    (refuse-leaves standing.client.limit past standing BAD_OUT_OF_MEMORY))
 
-message-leaves : (site : ServerConfig) (standing : ClientState) (state : ChannelState) (past : List Placed) (request : ℕ) (message : List ℕ) → state.heard ≡ heard_of past
-    → Leaving standing.client.limit past (and_then clock (responded site standing state request message))
+message-leaves : (site : ServerConfig) (standing : ClientState) (state : ChannelState)
+    (past : List Placed) (request : ℕ) (message : List ℕ) → state.heard ≡ heard_of past
+    → Leaving standing.client.limit past (and_then clock
+    (responded site standing state request message))
 message-leaves site standing state past request message knows =
     then-leaves standing.client.limit past clock (responded site standing state request message)
-    (λ now. then-leaves standing.client.limit past (by_marks (performed site now message standing.client.sessions standing.content)) (outcome_response standing state request message now)
+    (λ now. then-leaves standing.client.limit past
+    (by_marks (performed site now message standing.client.sessions standing.content))
+    (outcome_response standing state request message now)
     (λ outcome. told-leaves standing state past request message now outcome knows))
 
-well-leaves : (site : ServerConfig) (standing : ClientState) (state : ChannelState) (past : List Placed) (placed : Placed) → state.heard ≡ heard_of (placed ∷ past)
-    → Leaving standing.client.limit (placed ∷ past) (well_placed_answer site standing state past placed)
+well-leaves : (site : ServerConfig) (standing : ClientState) (state : ChannelState)
+    (past : List Placed) (placed : Placed) → state.heard ≡ heard_of (placed ∷ past)
+    → Leaving standing.client.limit (placed ∷ past)
+    (well_placed_answer site standing state past placed)
 well-leaves site standing state past (Opens sequence asked) knows =
-    open-leaves standing state (Opens sequence asked ∷ past) (opening_behind past sequence.1 asked.handle asked.lifetime) knows
+    open-leaves standing state (Opens sequence asked ∷ past)
+    (opening_behind past sequence.1 asked.handle asked.lifetime) knows
 well-leaves site standing state past (Says Final numbers body) knows =
-    message-leaves site standing state (Says Final numbers body ∷ past) numbers.request_id (bodies_of (open_run past) ++ body) knows
-well-leaves site standing state past (Says More numbers body) knows = λ marks readings. leaves-goes standing [] state (Says More numbers body ∷ past) knows
-well-leaves site standing state past (Says Abort numbers body) knows = λ marks readings. leaves-goes standing [] state (Says Abort numbers body ∷ past) knows
-well-leaves site standing state past (Closes numbers) knows = λ marks readings. leaves-end standing.client.limit (Closes numbers ∷ past) standing [] _
+    message-leaves site standing state (Says Final numbers body ∷ past) numbers.request_id
+    (bodies_of (open_run past) ++ body) knows
+well-leaves site standing state past (Says More numbers body) knows =
+    λ marks readings. leaves-goes standing [] state (Says More numbers body ∷ past) knows
+well-leaves site standing state past (Says Abort numbers body) knows =
+    λ marks readings. leaves-goes standing [] state (Says Abort numbers body ∷ past) knows
+well-leaves site standing state past (Closes numbers) knows =
+    λ marks readings. leaves-end standing.client.limit (Closes numbers ∷ past) standing [] _
 
 -- the answer to a judged chunk, and the chunks that were taken with it
-abbrev answered_judged : ServerConfig → List Placed → ClientState → ChannelState → Result Placed ChannelFault → Answering
+abbrev answered_judged : ServerConfig → List Placed → ClientState → ChannelState
+    → Result Placed ChannelFault → Answering
 answered_judged site past standing state given = elim given [
-  | Ok placed ↦ well_placed_answer site standing (record state { heard = heard_of (placed ∷ past) }) past placed
+  | Ok placed ↦ well_placed_answer site standing
+      (record state { heard = heard_of (placed ∷ past) }) past placed
   | Err fault ↦ refuse standing (channel.channel_fault_status fault)
 ]
 
 abbrev with_placed : List Placed → Result Placed ChannelFault → List Placed
 with_placed past given = elim given [ Ok placed ↦ placed ∷ past | Err fault ↦ past ]
 
-judged-leaves : (site : ServerConfig) (standing : ClientState) (state : ChannelState) (past : List Placed) (given : Result Placed ChannelFault)
-    → Leaving standing.client.limit (with_placed past given) (answered_judged site past standing state given)
-judged-leaves site standing state past (Ok placed) = well-leaves site standing (record state { heard = heard_of (placed ∷ past) }) past placed refl
-judged-leaves site standing state past (Err fault) = refuse-leaves standing.client.limit past standing (channel.channel_fault_status fault)
+judged-leaves : (site : ServerConfig) (standing : ClientState) (state : ChannelState)
+    (past : List Placed) (given : Result Placed ChannelFault)
+    → Leaving standing.client.limit (with_placed past given)
+    (answered_judged site past standing state given)
+judged-leaves site standing state past (Ok placed) =
+    well-leaves site standing (record state { heard = heard_of (placed ∷ past) }) past placed refl
+judged-leaves site standing state past (Err fault) =
+    refuse-leaves standing.client.limit past standing (channel.channel_fault_status fault)
 
 -- the answer over a channel, if there is one
-abbrev answered_over : ServerConfig → List Placed → ClientState → ChunkContent → Option ChannelState → Answering
-answered_over site past standing piece given = elim given [ None ↦ refuse standing BAD_TCP_MESSAGE_TYPE_INVALID | Some state ↦ answer_behind site past standing state piece ]
+abbrev answered_over : ServerConfig → List Placed → ClientState → ChunkContent → Option ChannelState
+    → Answering
+answered_over site past standing piece given =
+    elim given [
+      | None ↦ refuse standing BAD_TCP_MESSAGE_TYPE_INVALID
+      | Some state ↦
+          answer_behind site past standing state piece
+    ]
 
-over-leaves : (site : ServerConfig) (standing : ClientState) (past : List Placed) (piece : ChunkContent) (given : Option ChannelState) → Leaving standing.client.limit (taken_with past piece) (answered_over site past standing piece given)
-over-leaves site standing past piece None = refuse-leaves standing.client.limit (taken_with past piece) standing BAD_TCP_MESSAGE_TYPE_INVALID
-over-leaves site standing past piece (Some state) = judged-leaves site standing state past (placed_chunk (heard_of past) piece)
+over-leaves : (site : ServerConfig) (standing : ClientState) (past : List Placed)
+    (piece : ChunkContent) (given : Option ChannelState)
+    → Leaving standing.client.limit (taken_with past piece)
+    (answered_over site past standing piece given)
+over-leaves site standing past piece None =
+    refuse-leaves standing.client.limit
+    (taken_with past piece) standing BAD_TCP_MESSAGE_TYPE_INVALID
+over-leaves site standing past piece (Some state) =
+    judged-leaves site standing state past (placed_chunk (heard_of past) piece)
 
-either-leaves : (limit : ℕ) (past : List Placed) (test : Bool) (f g : Answering) → Leaving limit past f → Leaving limit past g → Leaving limit past (if test then f else g)
+either-leaves : (limit : ℕ) (past : List Placed) (test : Bool) (f g : Answering)
+    → Leaving limit past f → Leaving limit past g → Leaving limit past (if test then f else g)
 either-leaves limit past true f g a b = a
 either-leaves limit past false f g a b = b
 
-next-leaves : (site : ServerConfig) (standing : ClientState) (past : List Placed) (piece : ChunkContent) → Leaving standing.client.limit (taken_with past piece) (had standing (counted_chunk_answer site past standing piece))
+next-leaves : (site : ServerConfig) (standing : ClientState) (past : List Placed)
+    (piece : ChunkContent) → Leaving standing.client.limit (taken_with past piece)
+    (had standing (counted_chunk_answer site past standing piece))
 next-leaves site standing past piece =
     let limit = standing.client.limit in
     let all = taken_with past piece in
     made-leaves limit all _ _
-    (either-leaves limit all (standing.client.taken == 1000000) _ _ (λ marks readings. leaves-end limit all standing [] (Err TooLong)) (over-leaves site standing past piece standing.client.channel))
+    (either-leaves limit all (standing.client.taken == 1000000) _ _
+    (λ marks readings. leaves-end limit all standing [] (Err TooLong))
+    (over-leaves site standing past piece standing.client.channel))
     (refuse-leaves limit all standing BAD_OUT_OF_MEMORY)
 
 -- ---- the same answers
 
 -- a well placed chunk comes to its answer
-well-same : (site : ServerConfig) (standing : ClientState) (state : ChannelState) (past : List Placed) (placed : Placed) → answer_to_taken site standing state (taken_answer (heard_of past) placed) ≡ well_placed_answer site standing state past placed
+well-same : (site : ServerConfig) (standing : ClientState) (state : ChannelState)
+    (past : List Placed) (placed : Placed)
+    → answer_to_taken site standing state (taken_answer (heard_of past) placed)
+    ≡ well_placed_answer site standing state past placed
 well-same site standing state past (Opens sequence asked) = refl
 well-same site standing state past (Says Final numbers body) = refl
 well-same site standing state past (Says More numbers body) = refl
 well-same site standing state past (Says Abort numbers body) = refl
 well-same site standing state past (Closes numbers) = refl
 
-judged-same : (site : ServerConfig) (standing : ClientState) (state : ChannelState) (past : List Placed) (given : Result Placed ChannelFault)
-    → placed_answer site standing (record state { heard = heard_of past }) given ≡ answered_judged site past standing state given
+judged-same : (site : ServerConfig) (standing : ClientState) (state : ChannelState)
+    (past : List Placed) (given : Result Placed ChannelFault)
+    → placed_answer site standing (record state { heard = heard_of past }) given
+    ≡ answered_judged site past standing state given
 judged-same site standing state past (Ok placed) =
-    ap (λ (h : Heard). answer_to_taken site standing (record state { heard = h }) (taken_answer (heard_of past) placed)) (after-heard past placed)
+    ap (λ (h : Heard). answer_to_taken site standing (record state { heard = h })
+    (taken_answer (heard_of past) placed)) (after-heard past placed)
     ∙ well-same site standing (record state { heard = heard_of (placed ∷ past) }) past placed
 judged-same site standing state past (Err fault) = refl
 
 -- over a channel that knows these chunks
-over-same : (site : ServerConfig) (standing : ClientState) (past : List Placed) (piece : ChunkContent) (given : Option ChannelState) → ((state : ChannelState) → given ≡ Some state → state.heard ≡ heard_of past)
+over-same : (site : ServerConfig) (standing : ClientState) (past : List Placed)
+    (piece : ChunkContent) (given : Option ChannelState)
+    → ((state : ChannelState) → given ≡ Some state → state.heard ≡ heard_of past)
     → channel_chunk_answer site standing given piece ≡ answered_over site past standing piece given
 over-same site standing past piece None knows = refl
 over-same site standing past piece (Some state) knows =
-    ap (λ (h : Heard). placed_answer site standing (record state { heard = h }) (placed_chunk h piece)) (knows state refl)
+    ap (λ (h : Heard). placed_answer site standing (record state { heard = h })
+    (placed_chunk h piece)) (knows state refl)
     ∙ judged-same site standing state past (placed_chunk (heard_of past) piece)
 
 -- a chunk of the channel is answered by its place
-next-same : (site : ServerConfig) (standing : ClientState) (past : List Placed) (piece : ChunkContent) → Knows standing past → (piece.kind ≡ Hello → ⊥)
+next-same : (site : ServerConfig) (standing : ClientState) (past : List Placed)
+    (piece : ChunkContent) → Knows standing past → (piece.kind ≡ Hello → ⊥)
     → item_answer site standing (whole piece) ≡ counted_chunk_answer site past standing piece
 next-same site standing past piece knows other =
-    ap (λ (f : Answering). if standing.client.taken == 1000000 then give (ends standing [] (Err TooLong)) else f)
-    (tried-same site standing piece.kind piece other ∙ over-same site standing past piece standing.client.channel knows)
+    ap (λ (f : Answering). if standing.client.taken == 1000000 then give
+    (ends standing [] (Err TooLong)) else f)
+    (tried-same site standing piece.kind piece other
+    ∙ over-same site standing past piece standing.client.channel knows)
 
 -- ---- what goes on
 
 -- replies that are one where the connection goes on
-joined-on : (reply : Reply ClientState Ending) (a b : Answering) (left : Environment) → (reply.ending ≡ None → a left ≡ b left) → joined a reply left ≡ joined b reply left
+joined-on : (reply : Reply ClientState Ending) (a b : Answering) (left : Environment)
+    → (reply.ending ≡ None → a left ≡ b left) → joined a reply left ≡ joined b reply left
 joined-on reply a b left same = go reply.ending refl
   where
-    go : (o : Option Ending) → reply.ending ≡ o → joined_by a reply o left ≡ joined_by b reply o left
+    go : (o : Option Ending) → reply.ending ≡ o
+        → joined_by a reply o left ≡ joined_by b reply o left
     go (Some e) is = refl
-    go None is = ap (λ (r : Reply ClientState Ending × Environment). let z : Reply ClientState Ending × Environment = (record r.0 { out = reply.out ++ r.0.out }, r.1) in z) (same is)
+    go None is = ap (λ (r : Reply ClientState Ending × Environment). let z :
+        Reply ClientState Ending × Environment = (record r.0 { out = reply.out ++ r.0.out }, r.1) in
+        z) (same is)
 
 -- an answer that always ends the connection is followed by nothing
 abbrev Always : Answering → Type 0
-Always f = (marks : List StepResult) (readings : List ℤ) → (ending : Ending) × ((f (record { marks = marks; readings = readings })).0.ending ≡ Some ending)
+Always f = (marks : List StepResult) (readings : List ℤ)
+    → (ending : Ending) × ((f (record { marks = marks; readings = readings })).0.ending
+    ≡ Some ending)
 
-made-always : (went starved : Answering) → Always went → Always starved → Always (or_out_of_memory went starved)
+made-always : (went starved : Answering) → Always went → Always starved
+    → Always (or_out_of_memory went starved)
 made-always went starved a b [] readings = a [] readings
 made-always went starved a b (Done ∷ marks) readings = a marks readings
 made-always went starved a b (NoMemory ∷ marks) readings = b marks readings
@@ -201,49 +279,72 @@ made-always went starved a b (RecordStands ∷ marks) readings = a marks reading
 made-always went starved a b (StoreFailed fault ∷ marks) readings = a marks readings
 
 refuse-always : (standing : ClientState) (code : Status) → Always (refuse standing code)
-refuse-always standing code = made-always _ _ (λ marks readings. (_, refl)) (λ marks readings. (_, refl))
+refuse-always standing code = made-always _ _ (λ marks readings. (_, refl))
+    (λ marks readings. (_, refl))
 
-always-alone : (f : Answering) (later : Reply ClientState Ending → Answering) (outside : Environment) → Always f → and_then f (λ reply. joined (later reply) reply) outside ≡ f outside
+always-alone : (f : Answering) (later : Reply ClientState Ending → Answering)
+    (outside : Environment) → Always f
+    → and_then f (λ reply. joined (later reply) reply) outside ≡ f outside
 always-alone f later outside always = go (f outside).0.ending refl
   where
-    go : (o : Option Ending) → (f outside).0.ending ≡ o → joined_by (later (f outside).0) (f outside).0 o (f outside).1 ≡ f outside
-    go None is = let all = always outside.marks outside.readings in let wrong = sym is ∙ all.1 in absurd cc
+    go : (o : Option Ending) → (f outside).0.ending ≡ o
+        → joined_by (later (f outside).0) (f outside).0 o (f outside).1 ≡ f outside
+    go None is = let all = always outside.marks outside.readings in let wrong = sym is ∙ all.1 in
+        absurd cc
     go (Some e) is = refl
 
 -- ---- the rest
 
 -- what stands first always ends the connection
-item-ends : (site : ServerConfig) (standing : ClientState) (bytes : List ℕ) (item : Item × ℕ) (outside : Environment) → next standing bytes ≡ Some item → Always (answer site standing item.0)
+item-ends : (site : ServerConfig) (standing : ClientState) (bytes : List ℕ) (item : Item × ℕ)
+    (outside : Environment) → next standing bytes ≡ Some item → Always (answer site standing item.0)
     → stream_answered (chunks site) standing bytes outside ≡ answer site standing item.0 outside
 item-ends site standing bytes item outside stands always =
-    first_item site standing bytes item outside stands ∙ always-alone (answer site standing item.0) (λ reply. stream_answered (chunks site) reply.state (drop item.1 bytes)) outside always
+    first_item site standing bytes item outside stands
+    ∙ always-alone (answer site standing item.0)
+    (λ reply. stream_answered (chunks site) reply.state (drop item.1 bytes)) outside always
 
-no-fault : (greeted : Bool) (limit : ℕ) (fault : UacpFault) → chunk_header greeted limit [] ≡ Err fault → ⊥
-no-fault greeted limit fault cuts = let long = cut-fault greeted limit [] fault cuts in omega (arith, long)
+no-fault : (greeted : Bool) (limit : ℕ) (fault : UacpFault)
+    → chunk_header greeted limit [] ≡ Err fault → ⊥
+no-fault greeted limit fault cuts = let long = cut-fault greeted limit [] fault cuts in
+    omega (arith, long)
 
-rest-answered : (site : ServerConfig) (standing : ClientState) (rest : List ℕ) (fault : Option UacpFault) (outside : Environment) → IsRest standing.client.greeted standing.client.limit rest fault
+rest-answered : (site : ServerConfig) (standing : ClientState) (rest : List ℕ)
+    (fault : Option UacpFault) (outside : Environment)
+    → IsRest standing.client.greeted standing.client.limit rest fault
     → stream_answered (chunks site) standing rest outside ≡ rest_answer fault rest standing outside
 rest-answered site standing [] None outside ends_so = no_item site standing [] outside refl
 rest-answered site standing (b ∷ bytes) None outside ends_so =
     item-ends site standing (b ∷ bytes) (partial, length (b ∷ bytes)) outside
-    (next-some standing (b ∷ bytes) (omega arith) ∙ ap (λ o. Some (found (b ∷ bytes) o)) (rest-cut standing.client.greeted standing.client.limit (b ∷ bytes) None ends_so))
+    (next-some standing (b ∷ bytes) (omega arith)
+    ∙ ap (λ o. Some (found (b ∷ bytes) o))
+    (rest-cut standing.client.greeted standing.client.limit (b ∷ bytes) None ends_so))
     (made-always _ _ (λ marks readings. (_, refl)) (refuse-always standing BAD_OUT_OF_MEMORY))
-rest-answered site standing [] (Some fault) outside ends_so = absurd (no-fault standing.client.greeted standing.client.limit fault (rest-cut standing.client.greeted standing.client.limit [] (Some fault) ends_so))
+rest-answered site standing [] (Some fault) outside ends_so =
+    absurd (no-fault standing.client.greeted standing.client.limit fault
+    (rest-cut standing.client.greeted standing.client.limit [] (Some fault) ends_so))
 rest-answered site standing (b ∷ bytes) (Some fault) outside ends_so =
     item-ends site standing (b ∷ bytes) (ill fault, length (b ∷ bytes)) outside
-    (next-some standing (b ∷ bytes) (omega arith) ∙ ap (λ o. Some (found (b ∷ bytes) o)) (rest-cut standing.client.greeted standing.client.limit (b ∷ bytes) (Some fault) ends_so))
-    (made-always _ _ (refuse-always standing (uacp_fault_status fault)) (refuse-always standing BAD_OUT_OF_MEMORY))
+    (next-some standing (b ∷ bytes) (omega arith)
+    ∙ ap (λ o. Some (found (b ∷ bytes) o))
+    (rest-cut standing.client.greeted standing.client.limit (b ∷ bytes) (Some fault) ends_so))
+    (made-always _ _ (refuse-always standing (uacp_fault_status fault))
+    (refuse-always standing BAD_OUT_OF_MEMORY))
 
 -- ---- one chunk
 
 -- a chunk stands first
-stands-first : (standing : ClientState) (piece : ChunkContent) (chunk more : List ℕ) → IsChunk standing.client.greeted standing.client.limit piece chunk
+stands-first : (standing : ClientState) (piece : ChunkContent) (chunk more : List ℕ)
+    → IsChunk standing.client.greeted standing.client.limit piece chunk
     → next standing (chunk ++ more) ≡ Some (whole piece, length chunk)
 stands-first standing piece chunk more is =
     let long = is.heads.long in
     next-some standing (chunk ++ more) (omega (arith, long, length-append chunk more))
-    ∙ ap (λ o. Some (found (chunk ++ more) o)) (chunk-cut standing.client.greeted standing.client.limit piece chunk more is)
-    ∙ ap (λ (b : List ℕ). let p : ChunkContent = record { kind = piece.kind; letter = piece.letter; body = b } in Some (whole p, length chunk)) (ap (drop 8) (take-append_seam chunk more) ∙ is.body)
+    ∙ ap (λ o. Some (found (chunk ++ more) o))
+    (chunk-cut standing.client.greeted standing.client.limit piece chunk more is)
+    ∙ ap (λ (b : List ℕ). let p : ChunkContent =
+    record { kind = piece.kind; letter = piece.letter; body = b } in Some (whole p, length chunk))
+    (ap (drop 8) (take-append_seam chunk more) ∙ is.body)
 
 may-not : (kind : Kind) (letter : Letter) → MayStand true kind letter → kind ≡ Hello → ⊥
 may-not Hello letter may is = absurd may
@@ -252,27 +353,44 @@ may-not Close letter may is = cc
 may-not Message letter may is = cc
 
 -- a chunk stands first, and its answer is known; behind it the rest is answered so
-chunk-answered : (site : ServerConfig) (standing : ClientState) (piece : ChunkContent) (chunk more : List ℕ) (f : Answering) (later : ClientState → Answering) (outside : Environment) → IsChunk standing.client.greeted standing.client.limit piece chunk
+chunk-answered : (site : ServerConfig) (standing : ClientState) (piece : ChunkContent)
+    (chunk more : List ℕ) (f : Answering) (later : ClientState → Answering) (outside : Environment)
+    → IsChunk standing.client.greeted standing.client.limit piece chunk
     → item_answer site standing (whole piece) ≡ f
-    → ((had standing f outside).0.ending ≡ None → stream_answered (chunks site) (had standing f outside).0.state more (had standing f outside).1 ≡ later (had standing f outside).0.state (had standing f outside).1)
-    → stream_answered (chunks site) standing (chunk ++ more) outside ≡ and_then (had standing f) (λ reply. joined (later reply.state) reply) outside
+    → ((had standing f outside).0.ending ≡ None
+    → stream_answered (chunks site) (had standing f outside).0.state more (had standing f outside).1
+    ≡ later (had standing f outside).0.state (had standing f outside).1)
+    → stream_answered (chunks site) standing (chunk ++ more) outside
+    ≡ and_then (had standing f) (λ reply. joined (later reply.state) reply) outside
 chunk-answered site standing piece chunk more f later outside one is behind =
     let r = had standing f outside in
-    first_item site standing (chunk ++ more) (whole piece, length chunk) outside (stands-first standing piece chunk more one)
-    ∙ ap (λ (g : Answering). and_then (had standing g) (λ reply. joined (stream_answered (chunks site) reply.state (drop (length chunk) (chunk ++ more))) reply) outside) is
-    ∙ ap (λ (b : List ℕ). joined (stream_answered (chunks site) r.0.state b) r.0 r.1) (drop-append_seam chunk more)
+    first_item site standing (chunk ++ more) (whole piece, length chunk) outside
+    (stands-first standing piece chunk more one)
+    ∙ ap (λ (g : Answering). and_then (had standing g)
+    (λ reply. joined (stream_answered (chunks site) reply.state
+    (drop (length chunk) (chunk ++ more))) reply) outside) is
+    ∙ ap (λ (b : List ℕ). joined (stream_answered (chunks site) r.0.state b) r.0 r.1)
+    (drop-append_seam chunk more)
     ∙ joined-on r.0 (stream_answered (chunks site) r.0.state more) (later r.0.state) r.1 behind
 
 -- ---- the chunks of the channel
 
-channel-answered : (site : ServerConfig) (granted : ℕ) (rest : List ℕ) (fault : Option UacpFault) (pieces : List ChunkContent) (past : List Placed) (standing : ClientState) (bytes : List ℕ) (outside : Environment)
-    → AreChunks true (λ k. granted) bytes pieces rest → IsRest true granted rest fault → standing.client.greeted ≡ true → standing.client.limit ≡ granted → Knows standing past
-    → stream_answered (chunks site) standing bytes outside ≡ channel_answer site (rest_answer fault rest) past standing pieces outside
-channel-answered site granted rest fault [] past standing bytes outside are ends_so greets limits knows =
+channel-answered : (site : ServerConfig) (granted : ℕ) (rest : List ℕ) (fault : Option UacpFault)
+    (pieces : List ChunkContent) (past : List Placed) (standing : ClientState) (bytes : List ℕ)
+    (outside : Environment)
+    → AreChunks true (λ k. granted) bytes pieces rest → IsRest true granted rest fault
+    → standing.client.greeted ≡ true → standing.client.limit ≡ granted → Knows standing past
+    → stream_answered (chunks site) standing bytes outside
+    ≡ channel_answer site (rest_answer fault rest) past standing pieces outside
+channel-answered site granted rest fault [] past standing bytes outside are ends_so greets limits
+    knows =
     let P : Bool → Type 0 = λ g. IsRest g standing.client.limit rest fault in
     let Q : ℕ → Type 0 = λ l. IsRest true l rest fault in
-    ap (λ (b : List ℕ). stream_answered (chunks site) standing b outside) are ∙ rest-answered site standing rest fault outside (subst P (sym greets) (subst Q (sym limits) ends_so))
-channel-answered site granted rest fault (piece ∷ pieces) past standing bytes outside (chunk, more, is, one, later) ends_so greets limits knows =
+    ap (λ (b : List ℕ). stream_answered (chunks site) standing b outside) are
+    ∙ rest-answered site standing rest fault outside
+    (subst P (sym greets) (subst Q (sym limits) ends_so))
+channel-answered site granted rest fault (piece ∷ pieces) past standing bytes outside
+    (chunk, more, is, one, later) ends_so greets limits knows =
     let P : Bool → Type 0 = λ g. IsChunk g standing.client.limit piece chunk in
     let Q : ℕ → Type 0 = λ l. IsChunk true l piece chunk in
     let here = subst P (sym greets) (subst Q (sym limits) one) in
@@ -280,24 +398,35 @@ channel-answered site granted rest fault (piece ∷ pieces) past standing bytes 
     let r = had standing f outside in
     let leaves = next-leaves site standing past piece outside.marks outside.readings in
     ap (λ (b : List ℕ). stream_answered (chunks site) standing b outside) is
-    ∙ chunk-answered site standing piece chunk more f (λ s. channel_answer site (rest_answer fault rest) (taken_with past piece) s pieces) outside here
+    ∙ chunk-answered site standing piece chunk more f
+    (λ s. channel_answer site (rest_answer fault rest) (taken_with past piece) s pieces) outside
+    here
     (next-same site standing past piece knows (may-not piece.kind piece.letter one.heads.stands))
-    (λ goes_on. channel-answered site granted rest fault pieces (taken_with past piece) r.0.state more r.1 later ends_so (leaves.greeted goes_on) (leaves.limit goes_on ∙ limits) (leaves.knows goes_on))
+    (λ goes_on. channel-answered site granted rest fault pieces
+    (taken_with past piece) r.0.state more r.1 later ends_so (leaves.greeted goes_on)
+    (leaves.limit goes_on ∙ limits) (leaves.knows goes_on))
 
 -- ---- the whole connection
 
-greeted-leaves : (standing : ClientState) (granted : ℕ) (result : Result HelloNumbers UacpFault) → ((hello : HelloNumbers) (ack : Ack) → result ≡ Ok hello → ack_of hello ≡ Ok ack → granted ≡ ack.receive_size)
+greeted-leaves : (standing : ClientState) (granted : ℕ) (result : Result HelloNumbers UacpFault)
+    → ((hello : HelloNumbers) (ack : Ack) → result ≡ Ok hello → ack_of hello ≡ Ok ack
+    → granted ≡ ack.receive_size)
     → Leaving granted [] (greeted standing result)
-greeted-leaves standing granted (Err fault) grants = refuse-leaves granted [] standing (uacp_fault_status fault)
+greeted-leaves standing granted (Err fault) grants =
+    refuse-leaves granted [] standing (uacp_fault_status fault)
 greeted-leaves standing granted (Ok hello) grants = go (ack_of hello) refl
   where
-    go : (a : Result Ack UacpFault) → ack_of hello ≡ a → Leaving granted [] (acknowledged standing hello a)
+    go : (a : Result Ack UacpFault) → ack_of hello ≡ a
+        → Leaving granted [] (acknowledged standing hello a)
     go (Err fault) is = refuse-leaves granted [] standing (uacp_fault_status fault)
     go (Ok ack) is =
-        let limited : ClientState = record standing { client = record standing.client { limit = ack.receive_size } } in
+        let limited : ClientState =
+        record standing { client = record standing.client { limit = ack.receive_size } } in
         let P : ℕ → Type 0 = λ l. Leaving l [] (acknowledged standing hello (Ok ack)) in
         subst P (sym (grants hello ack refl is))
-        (made-leaves ack.receive_size [] _ _ (λ marks readings. leaves-goes limited _ (new_channel hello ack) [] refl) (refuse-leaves ack.receive_size [] standing BAD_OUT_OF_MEMORY))
+        (made-leaves ack.receive_size [] _ _ (λ marks readings.
+        leaves-goes limited _ (new_channel hello ack) [] refl)
+        (refuse-leaves ack.receive_size [] standing BAD_OUT_OF_MEMORY))
 
 hello-first : (kind : Kind) (letter : Letter) → MayStand false kind letter → kind ≡ Hello
 hello-first Hello letter may = refl
@@ -309,61 +438,104 @@ greeted-on : (pieces : List ChunkContent) → greeted_by true pieces ≡ true
 greeted-on [] = refl
 greeted-on (piece ∷ pieces) = greeted-on pieces
 
-limits-on : (granted : ℕ) (pieces : List ChunkContent) (first : ChunkContent) → limits_by granted (length (first ∷ pieces)) ≡ granted
+limits-on : (granted : ℕ) (pieces : List ChunkContent) (first : ChunkContent)
+    → limits_by granted (length (first ∷ pieces)) ≡ granted
 limits-on granted pieces first = refl
 
 -- the Hello is answered
-hello-same : (site : ServerConfig) (R : Content) (piece : ChunkContent) → piece.kind ≡ Hello → item_answer site (new_standing R) (whole piece) ≡ greeted (new_standing R) (hello_at piece.body)
+hello-same : (site : ServerConfig) (R : Content) (piece : ChunkContent) → piece.kind ≡ Hello
+    → item_answer site (new_standing R) (whole piece)
+    ≡ greeted (new_standing R) (hello_at piece.body)
 hello-same site R piece is = ap (λ (k : Kind). chunk_answer site (new_standing R) k piece) is
 
-connection-answered : (site : ServerConfig) (R : Content) (granted : ℕ) (bytes rest : List ℕ) (fault : Option UacpFault) (pieces : List ChunkContent) (outside : Environment) → AreChunksThenRest (limits_by granted) bytes pieces rest fault → IsGranted pieces granted
-    → stream_answered (chunks site) (new_standing R) bytes outside ≡ chunks_answer site (rest_answer fault rest) (new_standing R) pieces outside
+connection-answered : (site : ServerConfig) (R : Content) (granted : ℕ) (bytes rest : List ℕ)
+    (fault : Option UacpFault) (pieces : List ChunkContent) (outside : Environment)
+    → AreChunksThenRest (limits_by granted) bytes pieces rest fault → IsGranted pieces granted
+    → stream_answered (chunks site) (new_standing R) bytes outside
+    ≡ chunks_answer site (rest_answer fault rest) (new_standing R) pieces outside
 connection-answered site R granted bytes rest fault [] outside splits grants =
-    ap (λ (b : List ℕ). stream_answered (chunks site) (new_standing R) b outside) splits.chunks ∙ rest-answered site (new_standing R) rest fault outside splits.ends
+    ap (λ (b : List ℕ). stream_answered (chunks site) (new_standing R) b outside) splits.chunks
+    ∙ rest-answered site (new_standing R) rest fault outside splits.ends
 connection-answered site R granted bytes rest fault (piece ∷ pieces) outside splits grants =
     let are = splits.chunks in
     let standing = new_standing R in
     let f : Answering = greeted standing (hello_at piece.body) in
     let r = had standing f outside in
-    let leaves = made-leaves granted [] f (refuse standing BAD_OUT_OF_MEMORY) (greeted-leaves standing granted (hello_at piece.body) grants) (refuse-leaves granted [] standing BAD_OUT_OF_MEMORY) outside.marks outside.readings in
+    let leaves = made-leaves granted [] f (refuse standing BAD_OUT_OF_MEMORY)
+    (greeted-leaves standing granted (hello_at piece.body) grants)
+    (refuse-leaves granted [] standing BAD_OUT_OF_MEMORY) outside.marks outside.readings in
     let P : Bool → Type 0 = λ g. IsRest g granted rest fault in
     let Q : ℕ → Type 0 = λ l. IsRest (greeted_by true pieces) l rest fault in
-    let ends_so = subst P (greeted-on pieces) (subst Q (limits-on granted pieces piece) splits.ends) in
+    let ends_so = subst P (greeted-on pieces)
+    (subst Q (limits-on granted pieces piece) splits.ends) in
     ap (λ (b : List ℕ). stream_answered (chunks site) standing b outside) are.2
-    ∙ chunk-answered site standing piece are.0 are.1 f (λ s. channel_answer site (rest_answer fault rest) [] s pieces) outside are.3 (hello-same site R piece (hello-first piece.kind piece.letter are.3.heads.stands))
-    (λ goes_on. channel-answered site granted rest fault pieces [] r.0.state are.1 r.1 are.4 ends_so (leaves.greeted goes_on) (leaves.limit goes_on) (leaves.knows goes_on))
+    ∙ chunk-answered site standing piece are.0 are.1 f
+    (λ s. channel_answer site (rest_answer fault rest) [] s pieces) outside are.3
+    (hello-same site R piece (hello-first piece.kind piece.letter are.3.heads.stands))
+    (λ goes_on. channel-answered site granted rest fault pieces [] r.0.state are.1 r.1 are.4 ends_so
+    (leaves.greeted goes_on) (leaves.limit goes_on) (leaves.knows goes_on))
 
 -- the answer to a stream is the answer to its chunks
-pub stream-answered : (site : ServerConfig) (R : Content) (bytes : List ℕ) (stream : Chunked bytes) (outside : Environment) → stream_answered (chunks site) (new_standing R) bytes outside ≡ stream_answer site R bytes stream outside
-stream-answered site R bytes stream outside = connection-answered site R stream.granted bytes stream.rest stream.fault stream.pieces outside stream.splits stream.grants
+pub stream-answered : (site : ServerConfig) (R : Content) (bytes : List ℕ) (stream : Chunked bytes)
+    (outside : Environment) → stream_answered (chunks site) (new_standing R) bytes outside
+    ≡ stream_answer site R bytes stream outside
+stream-answered site R bytes stream outside =
+    connection-answered site R stream.granted bytes stream.rest stream.fault stream.pieces outside
+    stream.splits stream.grants
 
 -- ---- each stream is split so
 
 -- whole chunks and a rest stand there
 abbrev Found : Bool → (ℕ → ℕ) → List ℕ → Type 0
 Found greeted limits bytes =
-    (pieces : List ChunkContent) × (rest : List ℕ) × (fault : Option UacpFault) × AreChunks greeted limits bytes pieces rest × IsRest (greeted_by greeted pieces) (limits (length pieces)) rest fault
+    (pieces : List ChunkContent) × (rest : List ℕ) × (fault : Option UacpFault)
+    × AreChunks greeted limits bytes pieces rest
+    × IsRest (greeted_by greeted pieces) (limits (length pieces)) rest fault
 
 -- a chunk is cut off, and fewer bytes are left
-cut-off : (greeted : Bool) (limit : ℕ) (bytes : List ℕ) (header : Header) → chunk_header greeted limit bytes ≡ Ok (Some header)
-    → (length (drop header.size bytes) < length bytes) × (bytes ≡ take header.size bytes ++ drop header.size bytes) × IsChunk greeted limit (piece_at header bytes) (take header.size bytes)
+cut-off : (greeted : Bool) (limit : ℕ) (bytes : List ℕ) (header : Header)
+    → chunk_header greeted limit bytes ≡ Ok (Some header)
+    → (length (drop header.size bytes) < length bytes)
+    × (bytes ≡ take header.size bytes ++ drop header.size bytes)
+    × IsChunk greeted limit (piece_at header bytes) (take header.size bytes)
 cut-off greeted limit bytes header is =
-    let within = cut-within greeted limit bytes header is in
-    (omega (arith, within.0, within.1, length-drop header.size bytes), sym (take-append-drop header.size bytes), (chunk-stands greeted limit bytes header is).1)
+    let within = cut-within greeted limit bytes header is in (
+      omega (arith, within.0, within.1, length-drop header.size bytes),
+      sym (take-append-drop header.size bytes),
+      (chunk-stands greeted limit bytes header is).1,
+    )
 
-found-as : (greeted : Bool) (limits : ℕ → ℕ) (bytes : List ℕ) → ((next : ℕ → ℕ) (more : List ℕ) → length more < length bytes → Found true next more) → (o : Result (Option Header) UacpFault) → chunk_header greeted (limits 0) bytes ≡ o
+found-as : (greeted : Bool) (limits : ℕ → ℕ) (bytes : List ℕ)
+    → ((next : ℕ → ℕ) (more : List ℕ) → length more < length bytes → Found true next more)
+    → (o : Result (Option Header) UacpFault) → chunk_header greeted (limits 0) bytes ≡ o
     → Found greeted limits bytes
-found-as greeted limits bytes later (Ok None) is = ([], bytes, None, refl, (none-stands greeted (limits 0) bytes).0 is)
-found-as greeted limits bytes later (Err fault) is = ([], bytes, Some fault, refl, (fault-stands greeted (limits 0) bytes fault).0 is)
+found-as greeted limits bytes later (Ok None) is =
+    ([], bytes, None, refl, (none-stands greeted (limits 0) bytes).0 is)
+found-as greeted limits bytes later (Err fault) is =
+    ([], bytes, Some fault, refl, (fault-stands greeted (limits 0) bytes fault).0 is)
 found-as greeted limits bytes later (Ok (Some header)) is =
     let off = cut-off greeted (limits 0) bytes header is in
-    let l = later (λ k. limits (suc k)) (drop header.size bytes) off.0 in
-    (piece_at header bytes ∷ l.0, l.1, l.2, (take header.size bytes, drop header.size bytes, off.1, off.2, l.3), l.4)
+    let l = later (λ k. limits (suc k)) (drop header.size bytes) off.0 in (
+      piece_at header bytes ∷ l.0,
+      l.1,
+      l.2,
+      (
+        take header.size bytes,
+        drop header.size bytes,
+        off.1,
+        off.2,
+        l.3,
+      ),
+      l.4,
+    )
 
-found-by : (n : ℕ) (greeted : Bool) (limits : ℕ → ℕ) (bytes : List ℕ) → length bytes < n → Found greeted limits bytes
+found-by : (n : ℕ) (greeted : Bool) (limits : ℕ → ℕ) (bytes : List ℕ) → length bytes < n
+    → Found greeted limits bytes
 found-by zero greeted limits bytes few = absurd (omega (arith, few))
 found-by (suc n) greeted limits bytes few =
-    found-as greeted limits bytes (λ next more less. found-by n true next more (omega (arith, few, less))) (chunk_header greeted (limits 0) bytes) refl
+    found-as greeted limits bytes (λ next more less.
+    found-by n true next more (omega (arith, few, less)))
+    (chunk_header greeted (limits 0) bytes) refl
 
 -- what a Hello's body is granted, 0 where that is nothing
 abbrev granted_ack : Result Ack UacpFault → ℕ
@@ -372,11 +544,28 @@ granted_ack given = elim given [ Ok ack ↦ ack.receive_size | Err fault ↦ 0 ]
 abbrev granted_hello : Result HelloNumbers UacpFault → ℕ
 granted_hello given = elim given [ Ok hello ↦ granted_ack (ack_of hello) | Err fault ↦ 0 ]
 
-splits-as : (bytes : List ℕ) (o : Result (Option Header) UacpFault) → chunk_header false 65536 bytes ≡ o → Chunked bytes
+splits-as : (bytes : List ℕ) (o : Result (Option Header) UacpFault)
+    → chunk_header false 65536 bytes ≡ o → Chunked bytes
 splits-as bytes (Ok None) is =
-    record { granted = 0; pieces = []; rest = bytes; fault = None; splits = record { chunks = refl; ends = (none-stands false 65536 bytes).0 is }; grants = tt }
+    record {
+      granted = 0;
+      pieces = [];
+      rest = bytes;
+      fault = None;
+      splits =
+          record { chunks = refl; ends = (none-stands false 65536 bytes).0 is };
+      grants = tt;
+    }
 splits-as bytes (Err fault) is =
-    record { granted = 0; pieces = []; rest = bytes; fault = Some fault; splits = record { chunks = refl; ends = (fault-stands false 65536 bytes fault).0 is }; grants = tt }
+    record {
+      granted = 0;
+      pieces = [];
+      rest = bytes;
+      fault = Some fault;
+      splits =
+          record { chunks = refl; ends = (fault-stands false 65536 bytes fault).0 is };
+      grants = tt;
+    }
 splits-as bytes (Ok (Some header)) is =
     let off = cut-off false 65536 bytes header is in
     let more = drop header.size bytes in
@@ -396,27 +585,46 @@ stream-chunked bytes = splits-as bytes (chunk_header false 65536 bytes) refl
 
 -- ---- what serving a client comes to
 
-conversed-by : (site : ServerConfig) (R : Content) (came out : List ℕ) (used : Environment) (ending : Ending) (last : ClientState)
-    → ((later : Environment) → stream_answered (chunks site) (new_standing R) came (before used later) ≡ (record { out = out; ending = Some ending; state = last }, later)) → IsConversed site R came used out ending last
+conversed-by : (site : ServerConfig) (R : Content) (came out : List ℕ) (used : Environment)
+    (ending : Ending) (last : ClientState)
+    → ((later : Environment) → stream_answered (chunks site) (new_standing R) came
+    (before used later) ≡ (record { out = out; ending = Some ending; state = last }, later))
+    → IsConversed site R came used out ending last
 conversed-by site R came out used ending last is =
     let stream = stream-chunked came in
-    record { stream = stream; answers = λ later. sym (stream-answered site R came stream (before used later)) ∙ is later }
+    record {
+      stream = stream;
+      answers =
+          λ later. sym (stream-answered site R came stream (before used later)) ∙ is later;
+    }
 
 -- an end of the answer's own
-conversed-end : (site : ServerConfig) (R : Content) (came out : List ℕ) (used : Environment) (ending : Ending) (last : ClientState)
-    → (rest : List ℕ) × AnswersStream (chunks site) (new_standing R) came used (record { out = out; ending = Some ending; state = last }) rest → IsConversed site R came used out ending last
+conversed-end : (site : ServerConfig) (R : Content) (came out : List ℕ) (used : Environment)
+    (ending : Ending) (last : ClientState)
+    → (rest : List ℕ) × AnswersStream (chunks site) (new_standing R) came used
+    (record { out = out; ending = Some ending; state = last }) rest
+    → IsConversed site R came used out ending last
 conversed-end site R came out used ending last ends_so =
     conversed-by site R came out used ending last
-    (λ later. ap (λ (b : List ℕ). stream_answered (chunks site) (new_standing R) b (before used later)) (sym (append-nil came)) ∙ ends_so.1.goes [] later)
+    (λ later. ap (λ (b : List ℕ). stream_answered (chunks site) (new_standing R) b
+    (before used later)) (sym (append-nil came)) ∙ ends_so.1.goes [] later)
 
-pub served-conversed : (site : ServerConfig) (R : Content) (came out : List ℕ) (used : Environment) (ending : Ending) (last : ClientState) → IsServed (chunks site) (new_standing R) came used out ending last
-    → (ending ≡ Err Read → ⊥) → (ending ≡ Err Write → ⊥) → IsConversed site R came used out ending last
-served-conversed site R came out used (Ok EndOfInput) last served read write = conversed-by site R came out used (Ok EndOfInput) last served
-served-conversed site R came out used (Ok Closed) last served read write = conversed-end site R came out used (Ok Closed) last served
-served-conversed site R came out used (Ok (Refused code)) last served read write = conversed-end site R came out used (Ok (Refused code)) last served
+pub served-conversed : (site : ServerConfig) (R : Content) (came out : List ℕ) (used : Environment)
+    (ending : Ending) (last : ClientState)
+    → IsServed (chunks site) (new_standing R) came used out ending last
+    → (ending ≡ Err Read → ⊥) → (ending ≡ Err Write → ⊥)
+    → IsConversed site R came used out ending last
+served-conversed site R came out used (Ok EndOfInput) last served read write =
+    conversed-by site R came out used (Ok EndOfInput) last served
+served-conversed site R came out used (Ok Closed) last served read write =
+    conversed-end site R came out used (Ok Closed) last served
+served-conversed site R came out used (Ok (Refused code)) last served read write =
+    conversed-end site R came out used (Ok (Refused code)) last served
 served-conversed site R came out used (Err Read) last served read write = absurd (read refl)
 served-conversed site R came out used (Err Write) last served read write = absurd (write refl)
-served-conversed site R came out used (Err TooLong) last served read write = conversed-end site R came out used (Err TooLong) last served
-served-conversed site R came out used (Err OutOfMemory) last served read write = conversed-end site R came out used (Err OutOfMemory) last served
+served-conversed site R came out used (Err TooLong) last served read write =
+    conversed-end site R came out used (Err TooLong) last served
+served-conversed site R came out used (Err OutOfMemory) last served read write =
+    conversed-end site R came out used (Err OutOfMemory) last served
 
 pub ruleset conversing = (stream-chunked, stream-answered)

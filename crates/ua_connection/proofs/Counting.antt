@@ -31,8 +31,11 @@ use Rattle.ua_connection.specs.Client.{placed_answer, channel_chunk_answer}
 use Rattle.ua_connection.proofs.Runs.{answered-step}
 use Rattle.ua_connection.proofs.Cutting.{falls}
 
-pub one_too_many : (site : ServerConfig) (standing : ClientState) (piece : ChunkContent) (later : Environment) → standing.client.taken ≡ 1000000 → item_answer site standing (whole piece) later ≡ (ends standing [] (Err TooLong), later)
-one_too_many site standing piece later many = let test : (standing.client.taken == 1000000) ≡ true = eq-eqb standing.client.taken 1000000 many in rw test refl
+pub one_too_many : (site : ServerConfig) (standing : ClientState) (piece : ChunkContent)
+    (later : Environment) → standing.client.taken ≡ 1000000
+    → item_answer site standing (whole piece) later ≡ (ends standing [] (Err TooLong), later)
+one_too_many site standing piece later many = let test : (standing.client.taken == 1000000) ≡ true =
+    eq-eqb standing.client.taken 1000000 many in rw test refl
 
 -- a reply that doesn't end by TooLong, and counts one where it doesn't end
 record Counts (n : ℕ) (reply : Reply ClientState Ending) : Type 0 where
@@ -41,88 +44,154 @@ record Counts (n : ℕ) (reply : Reply ClientState Ending) : Type 0 where
 
 -- whatever the outside gives
 abbrev Counted : ℕ → Answering → Type 0
-Counted n f = (marks : List StepResult) (readings : List ℤ) → Counts n (f (record { marks = marks; readings = readings })).0
+Counted n f = (marks : List StepResult) (readings : List ℤ)
+    → Counts n (f (record { marks = marks; readings = readings })).0
 
-made-counts : (n : ℕ) (went starved : Answering) → Counted n went → Counted n starved → Counted n (or_out_of_memory went starved)
+made-counts : (n : ℕ) (went starved : Answering) → Counted n went → Counted n starved
+    → Counted n (or_out_of_memory went starved)
 made-counts n went starved a b [] readings = a [] readings
 made-counts n went starved a b (Done ∷ marks) readings = a marks readings
 made-counts n went starved a b (NoMemory ∷ marks) readings = b marks readings
 made-counts n went starved a b (RecordStands ∷ marks) readings = a marks readings
 made-counts n went starved a b (StoreFailed fault ∷ marks) readings = a marks readings
 
-then-counts : {A : Type 0} (n : ℕ) (m : WithEnvironment A) (f : A → Answering) → ((a : A) → Counted n (f a)) → Counted n (and_then m f)
-then-counts n m f counts marks readings = let r = m (record { marks = marks; readings = readings }) in counts r.0 r.1.marks r.1.readings
+then-counts : {A : Type 0} (n : ℕ) (m : WithEnvironment A) (f : A → Answering)
+    → ((a : A) → Counted n (f a)) → Counted n (and_then m f)
+then-counts n m f counts marks readings = let r =
+    m (record { marks = marks; readings = readings }) in counts r.0 r.1.marks r.1.readings
 
-goes-counts : (standing : ClientState) (out : List ℕ) (channel : Option ChannelState) → Counted standing.client.taken (give (goes standing out channel))
-goes-counts standing out channel marks readings = record { sooner = λ e. absurd cc; each = λ e. refl }
+goes-counts : (standing : ClientState) (out : List ℕ) (channel : Option ChannelState)
+    → Counted standing.client.taken (give (goes standing out channel))
+goes-counts standing out channel marks readings =
+    record { sooner = λ e. absurd cc; each = λ e. refl }
 
 refuse-counts : (n : ℕ) (standing : ClientState) (code : Status) → Counted n (refuse standing code)
-refuse-counts n standing code = made-counts n _ _ (λ marks readings. record { sooner = λ e. absurd cc; each = λ e. absurd cc }) (λ marks readings. record { sooner = λ e. absurd cc; each = λ e. absurd cc })
+refuse-counts n standing code = made-counts n _ _ (λ marks readings.
+    record { sooner = λ e. absurd cc; each = λ e. absurd cc })
+    (λ marks readings. record { sooner = λ e. absurd cc; each = λ e. absurd cc })
 
-acknowledged-counts : (standing : ClientState) (hello : HelloNumbers) (ack : Result Ack UacpFault) → Counted standing.client.taken (acknowledged standing hello ack)
-acknowledged-counts standing hello (Err fault) = refuse-counts standing.client.taken standing (uacp_fault_status fault)
-acknowledged-counts standing hello (Ok ack) = made-counts standing.client.taken _ _ (λ marks readings. record { sooner = λ e. absurd cc; each = λ e. refl }) (refuse-counts standing.client.taken standing BAD_OUT_OF_MEMORY)
+acknowledged-counts : (standing : ClientState) (hello : HelloNumbers) (ack : Result Ack UacpFault)
+    → Counted standing.client.taken (acknowledged standing hello ack)
+acknowledged-counts standing hello (Err fault) =
+    refuse-counts standing.client.taken standing (uacp_fault_status fault)
+acknowledged-counts standing hello (Ok ack) =
+    made-counts standing.client.taken _ _ (λ marks readings.
+    record { sooner = λ e. absurd cc; each = λ e. refl })
+    (refuse-counts standing.client.taken standing BAD_OUT_OF_MEMORY)
 
-greeted-counts : (standing : ClientState) (hello : Result HelloNumbers UacpFault) → Counted standing.client.taken (greeted standing hello)
-greeted-counts standing (Err fault) = refuse-counts standing.client.taken standing (uacp_fault_status fault)
+greeted-counts : (standing : ClientState) (hello : Result HelloNumbers UacpFault)
+    → Counted standing.client.taken (greeted standing hello)
+greeted-counts standing (Err fault) =
+    refuse-counts standing.client.taken standing (uacp_fault_status fault)
 greeted-counts standing (Ok hello) = acknowledged-counts standing hello (ack_of hello)
 
-told-counts : (standing : ClientState) (state : ChannelState) (request : ℕ) (message : List ℕ) (now : Ticks) (outcome : MessageOutcome) → Counted standing.client.taken (outcome_response standing state request message now outcome)
+told-counts : (standing : ClientState) (state : ChannelState) (request : ℕ) (message : List ℕ)
+    (now : Ticks) (outcome : MessageOutcome)
+    → Counted standing.client.taken (outcome_response standing state request message now outcome)
 told-counts standing state request message now outcome =
-    made-counts standing.client.taken _ _ (λ marks readings. record { sooner = λ e. absurd cc; each = λ e. refl })
-    (made-counts standing.client.taken _ _ (λ marks readings. record { sooner = λ e. absurd cc; each = λ e. refl }) (λ marks readings. record { sooner = λ e. absurd cc; each = λ e. absurd cc }))
+    made-counts standing.client.taken _ _ (λ marks readings.
+    record { sooner = λ e. absurd cc; each = λ e. refl })
+    (made-counts standing.client.taken _ _ (λ marks readings.
+    record { sooner = λ e. absurd cc; each = λ e. refl })
+    (λ marks readings. record { sooner = λ e. absurd cc; each = λ e. absurd cc }))
 
-come-counts : (site : ServerConfig) (standing : ClientState) (state : ChannelState) (come : Taken) → Counted standing.client.taken (answer_to_taken site standing state come)
+come-counts : (site : ServerConfig) (standing : ClientState) (state : ChannelState) (come : Taken)
+    → Counted standing.client.taken (answer_to_taken site standing state come)
 come-counts site standing state taken.Nothing = goes-counts standing [] (Some state)
 come-counts site standing state (taken.Opening request) =
     then-counts standing.client.taken clock (opened standing state request)
-    (λ now. made-counts standing.client.taken _ _ (λ marks readings. record { sooner = λ e. absurd cc; each = λ e. refl }) (refuse-counts standing.client.taken standing BAD_OUT_OF_MEMORY))
+    (λ now. made-counts standing.client.taken _ _ (λ marks readings.
+    record { sooner = λ e. absurd cc; each = λ e. refl })
+    (refuse-counts standing.client.taken standing BAD_OUT_OF_MEMORY))
 come-counts site standing state (taken.Message request message) =
     then-counts standing.client.taken clock (responded site standing state request message)
-    (λ now. then-counts standing.client.taken (by_marks (performed site now message standing.client.sessions standing.content)) (outcome_response standing state request message now) (λ outcome. told-counts standing state request message now outcome))
+    (λ now. then-counts standing.client.taken (by_marks
+    (performed site now message standing.client.sessions standing.content))
+    (outcome_response standing state request message now)
+    (λ outcome. told-counts standing state request message now outcome))
 come-counts site standing state (taken.Aborted request) = goes-counts standing [] (Some state)
-come-counts site standing state taken.Closed = λ marks readings. record { sooner = λ e. absurd cc; each = λ e. absurd cc }
+come-counts site standing state taken.Closed =
+    λ marks readings. record { sooner = λ e. absurd cc; each = λ e. absurd cc }
 
-placed-counts : (site : ServerConfig) (standing : ClientState) (state : ChannelState) (placed : Result Placed ChannelFault) → Counted standing.client.taken (placed_answer site standing state placed)
-placed-counts site standing state (Ok placed) = come-counts site standing (record state { heard = heard_after state.heard placed }) (taken_answer state.heard placed)
-placed-counts site standing state (Err fault) = refuse-counts standing.client.taken standing (channel.channel_fault_status fault)
+placed-counts : (site : ServerConfig) (standing : ClientState) (state : ChannelState)
+    (placed : Result Placed ChannelFault)
+    → Counted standing.client.taken (placed_answer site standing state placed)
+placed-counts site standing state (Ok placed) =
+    come-counts site standing (record state { heard = heard_after state.heard placed })
+    (taken_answer state.heard placed)
+placed-counts site standing state (Err fault) =
+    refuse-counts standing.client.taken standing (channel.channel_fault_status fault)
 
-on-counts : (site : ServerConfig) (standing : ClientState) (channel : Option ChannelState) (piece : ChunkContent) → Counted standing.client.taken (channel_chunk_answer site standing channel piece)
-on-counts site standing None piece = refuse-counts standing.client.taken standing BAD_TCP_MESSAGE_TYPE_INVALID
-on-counts site standing (Some state) piece = placed-counts site standing state (placed_chunk state.heard piece)
+on-counts : (site : ServerConfig) (standing : ClientState) (channel : Option ChannelState)
+    (piece : ChunkContent) → Counted standing.client.taken
+    (channel_chunk_answer site standing channel piece)
+on-counts site standing None piece =
+    refuse-counts standing.client.taken standing BAD_TCP_MESSAGE_TYPE_INVALID
+on-counts site standing (Some state) piece =
+    placed-counts site standing state (placed_chunk state.heard piece)
 
-piece-counts : (site : ServerConfig) (standing : ClientState) (kind : Kind) (piece : ChunkContent) → Counted standing.client.taken (chunk_answer site standing kind piece)
+piece-counts : (site : ServerConfig) (standing : ClientState) (kind : Kind) (piece : ChunkContent)
+    → Counted standing.client.taken (chunk_answer site standing kind piece)
 piece-counts site standing Hello piece = greeted-counts standing (hello_at piece.body)
 piece-counts site standing Open piece = on-counts site standing standing.client.channel piece
 piece-counts site standing Close piece = on-counts site standing standing.client.channel piece
 piece-counts site standing Message piece = on-counts site standing standing.client.channel piece
 
-tested-counts : (site : ServerConfig) (standing : ClientState) (piece : ChunkContent) (test : Bool) → (standing.client.taken == 1000000) ≡ test → Counted standing.client.taken (item_answer site standing (whole piece))
-tested-counts site standing piece true is marks readings = rw is (record { sooner = λ e. eqb-true standing.client.taken 1000000 is; each = λ e. absurd cc })
-tested-counts site standing piece false is marks readings = rw is (piece-counts site standing piece.kind piece marks readings)
+tested-counts : (site : ServerConfig) (standing : ClientState) (piece : ChunkContent) (test : Bool)
+    → (standing.client.taken == 1000000) ≡ test
+    → Counted standing.client.taken (item_answer site standing (whole piece))
+tested-counts site standing piece true is marks readings =
+    rw is (record {
+      sooner = λ e. eqb-true standing.client.taken 1000000 is;
+      each =
+          λ e. absurd cc;
+    })
+tested-counts site standing piece false is marks readings =
+    rw is (piece-counts site standing piece.kind piece marks readings)
 
-item-counts : (site : ServerConfig) (standing : ClientState) (item : Item) → Counted standing.client.taken (item_answer site standing item)
-item-counts site standing (whole piece) = tested-counts site standing piece (standing.client.taken == 1000000) refl
-item-counts site standing (ill fault) = refuse-counts standing.client.taken standing (uacp_fault_status fault)
-item-counts site standing partial = λ marks readings. record { sooner = λ e. absurd cc; each = λ e. absurd cc }
+item-counts : (site : ServerConfig) (standing : ClientState) (item : Item)
+    → Counted standing.client.taken (item_answer site standing item)
+item-counts site standing (whole piece) =
+    tested-counts site standing piece (standing.client.taken == 1000000) refl
+item-counts site standing (ill fault) =
+    refuse-counts standing.client.taken standing (uacp_fault_status fault)
+item-counts site standing partial =
+    λ marks readings. record { sooner = λ e. absurd cc; each = λ e. absurd cc }
 
-counts : (site : ServerConfig) (standing : ClientState) (item : Item) → Counted standing.client.taken (answer site standing item)
-counts site standing item = made-counts standing.client.taken (item_answer site standing item) (refuse standing BAD_OUT_OF_MEMORY) (item-counts site standing item) (refuse-counts standing.client.taken standing BAD_OUT_OF_MEMORY)
+counts : (site : ServerConfig) (standing : ClientState) (item : Item)
+    → Counted standing.client.taken (answer site standing item)
+counts site standing item = made-counts standing.client.taken (item_answer site standing item)
+    (refuse standing BAD_OUT_OF_MEMORY) (item-counts site standing item)
+    (refuse-counts standing.client.taken standing BAD_OUT_OF_MEMORY)
 
-pub no_sooner : (site : ServerConfig) (standing : ClientState) (item : Item) (outside : Environment) → (answer site standing item outside).0.ending ≡ Some (Err TooLong) → standing.client.taken ≡ 1000000
-no_sooner site standing item outside e = (counts site standing item outside.marks outside.readings).sooner e
+pub no_sooner : (site : ServerConfig) (standing : ClientState) (item : Item) (outside : Environment)
+    → (answer site standing item outside).0.ending ≡ Some (Err TooLong)
+    → standing.client.taken ≡ 1000000
+no_sooner site standing item outside e =
+    (counts site standing item outside.marks outside.readings).sooner e
 
-pub each : (site : ServerConfig) (standing : ClientState) (item : Item) (outside : Environment) → (answer site standing item outside).0.ending ≡ None
+pub each : (site : ServerConfig) (standing : ClientState) (item : Item) (outside : Environment)
+    → (answer site standing item outside).0.ending ≡ None
     → (answer site standing item outside).0.state.client.taken ≡ standing.client.taken + 1
-each site standing item outside e = (counts site standing item outside.marks outside.readings).each e
+each site standing item outside e =
+    (counts site standing item outside.marks outside.readings).each e
 
-pub first_item : (site : ServerConfig) (standing : ClientState) (bytes : List ℕ) (item : Item × ℕ) (outside : Environment) → next standing bytes ≡ Some item
-    → stream_answered (chunks site) standing bytes outside ≡ and_then (answer site standing item.0) (λ reply. joined (stream_answered (chunks site) reply.state (drop item.1 bytes)) reply) outside
+pub first_item : (site : ServerConfig) (standing : ClientState) (bytes : List ℕ) (item : Item × ℕ)
+    (outside : Environment) → next standing bytes ≡ Some item
+    → stream_answered (chunks site) standing bytes outside
+    ≡ and_then (answer site standing item.0) (λ reply.
+    joined (stream_answered (chunks site) reply.state (drop item.1 bytes)) reply) outside
 first_item site standing bytes item outside stands =
-    answered-step (chunks site) (falls site) standing bytes outside ∙ ap (λ (o : Option (Item × ℕ)). stepped (stream_answered (chunks site)) (chunks site) standing bytes o outside) stands
+    answered-step (chunks site) (falls site) standing bytes outside
+    ∙ ap (λ (o : Option (Item × ℕ)).
+    stepped (stream_answered (chunks site)) (chunks site) standing bytes o outside) stands
 
-pub no_item : (site : ServerConfig) (standing : ClientState) (bytes : List ℕ) (outside : Environment) → next standing bytes ≡ None → stream_answered (chunks site) standing bytes outside ≡ ended (chunks site) standing outside
+pub no_item : (site : ServerConfig) (standing : ClientState) (bytes : List ℕ)
+    (outside : Environment) → next standing bytes ≡ None
+    → stream_answered (chunks site) standing bytes outside ≡ ended (chunks site) standing outside
 no_item site standing bytes outside none =
-    answered-step (chunks site) (falls site) standing bytes outside ∙ ap (λ (o : Option (Item × ℕ)). stepped (stream_answered (chunks site)) (chunks site) standing bytes o outside) none
+    answered-step (chunks site) (falls site) standing bytes outside
+    ∙ ap (λ (o : Option (Item × ℕ)).
+    stepped (stream_answered (chunks site)) (chunks site) standing bytes o outside) none
 
 pub ruleset counting = (one_too_many, no_sooner, each, first_item, no_item)

@@ -15,33 +15,68 @@ returns-in-Ok-send_fitting-clause-answered g c client =
     let done = c.in-Ok.ensures.answers in
     let state = g.A.Archive.state in
     let site = site_of c.args.server.now.settings (state c.args.server.now.replica.archive) in
-    let P : Result Request Status → Type 0 = λ r. Refines (state c.args.server.now.replica.archive) (state c.answer_message.new.server.replica.archive) done.0 (answered_request site c.args.message.now r c.args.sessions.now) (done.1, c.answer_message.new.sessions) in
-    let handle : c.handle-handle.result ≡ handle_of c.args.message.bytes.now = c.handle-handle.ensures ∙ c.read-request.ensures.handle in
-    sends-response (state c.args.server.now.replica.archive) (state c.answer_message.new.server.replica.archive) site client c.args.sessions.now c.args.channel.now c.send_fitting.new.channel c.args.message.request_id c.args.message.bytes.now c.args.message.now c.handle-handle.result
-    done.0 done.1 c.answer_message.new.sessions c.args.out.now.items c.send_fitting.new.out.items c.answer_message.new.body.items handle (done.3.0 ∙ ap (λ (h : ℕ). response c.args.message.now h done.1) c.read-request.ensures.handle)
-    (subst P c.read-request.ensures.request done.2) c.in-Ok-send_fitting.ensures.0 c.in-Ok-send_fitting.ensures.1
+    let P : Result Request Status → Type 0 =
+    λ r. Refines (state c.args.server.now.replica.archive)
+    (state c.answer_message.new.server.replica.archive) done.0
+    (answered_request site c.args.message.now r c.args.sessions.now)
+    (done.1, c.answer_message.new.sessions) in
+    let handle : c.handle-handle.result ≡ handle_of c.args.message.bytes.now =
+    c.handle-handle.ensures ∙ c.read-request.ensures.handle in
+    sends-response (state c.args.server.now.replica.archive)
+    (state c.answer_message.new.server.replica.archive) site client c.args.sessions.now
+    c.args.channel.now c.send_fitting.new.channel c.args.message.request_id
+    c.args.message.bytes.now c.args.message.now c.handle-handle.result
+    done.0 done.1 c.answer_message.new.sessions c.args.out.now.items c.send_fitting.new.out.items
+    c.answer_message.new.body.items handle (done.3.0
+    ∙ ap (λ (h : ℕ). response c.args.message.now h done.1) c.read-request.ensures.handle)
+    (subst P c.read-request.ensures.request done.2) c.in-Ok-send_fitting.ensures.0
+    c.in-Ok-send_fitting.ensures.1
 
 pub returns-in-Err-send_fitting-clause-answered : goal.returns-in-Err-send_fitting-clause-answered
 returns-in-Err-send_fitting-clause-answered g c client =
     let done = c.answer_message.ensures.answers in
     let state = g.A.Archive.state in
     let site = site_of c.args.server.now.settings (state c.args.server.now.replica.archive) in
-    let R : Result Request Status → Type 0 = λ r. Refines (state c.args.server.now.replica.archive) (state c.answer_message.new.server.replica.archive) done.0 (answered_request site c.args.message.now r c.args.sessions.now) (done.1, c.answer_message.new.sessions) in
-    let is : c.handle-handle.result ≡ handle_of c.args.message.bytes.now = c.handle-handle.ensures ∙ c.read-request.ensures.handle in
+    let R : Result Request Status → Type 0 =
+    λ r. Refines (state c.args.server.now.replica.archive)
+    (state c.answer_message.new.server.replica.archive) done.0
+    (answered_request site c.args.message.now r c.args.sessions.now)
+    (done.1, c.answer_message.new.sessions) in
+    let is : c.handle-handle.result ≡ handle_of c.args.message.bytes.now =
+    c.handle-handle.ensures ∙ c.read-request.ensures.handle in
     let handle = c.handle-handle.result in
     let body = service_fault c.args.message.now handle BAD_OUT_OF_MEMORY in
     let unsent = c.in-Err-send_fitting.ensures in
-    let P : List ℕ → Type 0 = λ front. SendsTurn c.args.channel.now c.args.message.request_id body c.send_starved.result front c.send_starved.new.out.items c.send_starved.new.channel in
-    let Q : ChannelState → Type 0 = λ s. SendsTurn s c.args.message.request_id body c.send_starved.result c.send_fitting.new.out.items c.send_starved.new.out.items c.send_starved.new.channel in
-    sends-starved (state c.args.server.now.replica.archive) (state c.answer_message.new.server.replica.archive) site client c.args.sessions.now c.args.channel.now c.send_starved.new.channel c.args.message.request_id c.args.message.bytes.now c.args.message.now handle
-    done.0 (done.1, c.answer_message.new.sessions) c.args.out.now.items c.send_starved.new.out.items c.send_starved.result is (subst R c.read-request.ensures.request done.2) (subst P unsent.1 (subst Q unsent.2 c.send_starved.ensures.sends))
+    let P : List ℕ → Type 0 = λ front.
+    SendsTurn c.args.channel.now c.args.message.request_id body c.send_starved.result front
+    c.send_starved.new.out.items c.send_starved.new.channel in
+    let Q : ChannelState → Type 0 =
+    λ s. SendsTurn s c.args.message.request_id body c.send_starved.result
+    c.send_fitting.new.out.items c.send_starved.new.out.items c.send_starved.new.channel in
+    sends-starved (state c.args.server.now.replica.archive)
+    (state c.answer_message.new.server.replica.archive) site client c.args.sessions.now
+    c.args.channel.now c.send_starved.new.channel c.args.message.request_id
+    c.args.message.bytes.now c.args.message.now handle
+    done.0 (done.1, c.answer_message.new.sessions) c.args.out.now.items c.send_starved.new.out.items
+    c.send_starved.result is (subst R c.read-request.ensures.request done.2)
+    (subst P unsent.1 (subst Q unsent.2 c.send_starved.ensures.sends))
 
 pub returns-in-Err-clause-answered : goal.returns-in-Err-clause-answered
 returns-in-Err-clause-answered g c client =
     let done = c.answer_message.ensures.answers in
     let state = g.A.Archive.state in
     let site = site_of c.args.server.now.settings (state c.args.server.now.replica.archive) in
-    let R : Result Request Status → Type 0 = λ r. Refines (state c.args.server.now.replica.archive) (state c.answer_message.new.server.replica.archive) done.0 (answered_request site c.args.message.now r c.args.sessions.now) (done.1, c.answer_message.new.sessions) in
-    let is : c.handle-handle.result ≡ handle_of c.args.message.bytes.now = c.handle-handle.ensures ∙ c.read-request.ensures.handle in
-    sends-starved (state c.args.server.now.replica.archive) (state c.answer_message.new.server.replica.archive) site client c.args.sessions.now c.args.channel.now c.send_starved-in-Err.new.channel c.args.message.request_id c.args.message.bytes.now c.args.message.now c.handle-handle.result
-    done.0 (done.1, c.answer_message.new.sessions) c.args.out.now.items c.send_starved-in-Err.new.out.items c.send_starved-in-Err.result is (subst R c.read-request.ensures.request done.2) c.send_starved-in-Err.ensures.sends
+    let R : Result Request Status → Type 0 =
+    λ r. Refines (state c.args.server.now.replica.archive)
+    (state c.answer_message.new.server.replica.archive) done.0
+    (answered_request site c.args.message.now r c.args.sessions.now)
+    (done.1, c.answer_message.new.sessions) in
+    let is : c.handle-handle.result ≡ handle_of c.args.message.bytes.now =
+    c.handle-handle.ensures ∙ c.read-request.ensures.handle in
+    sends-starved (state c.args.server.now.replica.archive)
+    (state c.answer_message.new.server.replica.archive) site client c.args.sessions.now
+    c.args.channel.now c.send_starved-in-Err.new.channel c.args.message.request_id
+    c.args.message.bytes.now c.args.message.now c.handle-handle.result
+    done.0 (done.1, c.answer_message.new.sessions) c.args.out.now.items
+    c.send_starved-in-Err.new.out.items c.send_starved-in-Err.result is
+    (subst R c.read-request.ensures.request done.2) c.send_starved-in-Err.ensures.sends

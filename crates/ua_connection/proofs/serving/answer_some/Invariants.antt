@@ -11,7 +11,9 @@ invariant-items g l = record {
   short : length l.connection.waiting ≤ length l.initial.connection.waiting;
   no_less : IsNoLess l.initial.connection l.connection;
   so_far : (used : Environment) × g.C.Clock.gave l.initial.clock used.readings l.clock
-      × AdvancesInto l.initial.server.settings (g.A.Archive.state l.initial.server.replica.archive) (g.A.Archive.state l.server.replica.archive) l.initial.connection used l.initial.out.items l.out.items None l.connection;
+      × AdvancesInto l.initial.server.settings (g.A.Archive.state l.initial.server.replica.archive)
+      (g.A.Archive.state l.server.replica.archive) l.initial.connection used l.initial.out.items
+      l.out.items None l.connection;
 }
 
 abbrev pub decreases-items : goal.decreases-items

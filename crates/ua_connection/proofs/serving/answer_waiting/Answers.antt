@@ -15,7 +15,14 @@ parts-init g c = record {
   no_less = omega arith;
   writes = refl;
   reads = refl;
-  so_far = (empty_environment, g.met.C.Clock.gave_none c.args.clock.now, [], g.X.Line.passed_none c.args.line.now, drains-start c.args.server.now.settings (g.A.Archive.state c.args.server.now.replica.archive) c.args.connection.now);
+  so_far = (
+    empty_environment,
+    g.met.C.Clock.gave_none c.args.clock.now,
+    [],
+    g.X.Line.passed_none c.args.line.now,
+    drains-start c.args.server.now.settings
+        (g.A.Archive.state c.args.server.now.replica.archive) c.args.connection.now,
+  );
 }
 
 pub returns-in_err-send-clause-drained : goal.returns-in_err-send-clause-drained
@@ -31,8 +38,13 @@ returns-in_err-send-clause-drained g c =
       g.met.C.Clock.gave_more _ _ _ _ _ so.1 turned.1,
       so.2 ++ Went part.0 ∷ [],
       g.X.Line.passed_more _ _ _ _ _ so.3 part.3,
-      drains-part c.args.server.now.settings (state c.args.server.now.replica.archive) (state c.parts.server.replica.archive) (state c.answer_some-turn.new.server.replica.archive) c.args.connection.now c.parts.connection c.answer_some-turn.new.connection so.0 turned.0 so.2
-          c.clear.new.self.items c.answer_some-turn.new.out.items part.0 part.1 (ending_of c.answer_some-turn.result) c.from_residual.result so.4 c.clear.ensures.items turned.2 part.2 is,
+      drains-part c.args.server.now.settings (state c.args.server.now.replica.archive)
+          (state c.parts.server.replica.archive)
+          (state c.answer_some-turn.new.server.replica.archive) c.args.connection.now
+          c.parts.connection c.answer_some-turn.new.connection so.0 turned.0 so.2
+          c.clear.new.self.items c.answer_some-turn.new.out.items part.0 part.1
+          (ending_of c.answer_some-turn.result) c.from_residual.result so.4
+          c.clear.ensures.items turned.2 part.2 is,
     )
 
 pub returns-in-Some-clause-drained : goal.returns-in-Some-clause-drained
@@ -46,13 +58,19 @@ returns-in-Some-clause-drained g c =
       g.met.C.Clock.gave_more _ _ _ _ _ so.1 turned.1,
       so.2 ++ Went out ∷ [],
       g.X.Line.passed_more _ _ _ _ _ so.3 all,
-      drains-end c.args.server.now.settings (state c.args.server.now.replica.archive) (state c.parts.server.replica.archive) (state c.answer_some-turn.new.server.replica.archive) c.args.connection.now c.parts.connection c.answer_some-turn.new.connection so.0 turned.0 so.2
-          c.clear.new.self.items out c.answer_some-turn.result c.in-Some.end c.in-Some.ensures so.4 c.clear.ensures.items turned.2,
+      drains-end c.args.server.now.settings (state c.args.server.now.replica.archive)
+          (state c.parts.server.replica.archive)
+          (state c.answer_some-turn.new.server.replica.archive) c.args.connection.now
+          c.parts.connection c.answer_some-turn.new.connection so.0 turned.0 so.2
+          c.clear.new.self.items out c.answer_some-turn.result c.in-Some.end c.in-Some.ensures so.4
+          c.clear.ensures.items turned.2,
     )
 
 pub returns-in-Some-clause-own : goal.returns-in-Some-clause-own
 returns-in-Some-clause-own g c =
-    own-end _ c.args.connection.now c.parts.connection c.answer_some-turn.new.connection c.answer_some-turn.result c.in-Some.end c.in-Some.ensures c.answer_some-turn.ensures.own c.parts.invariant.no_less c.answer_some-turn.ensures.shorter
+    own-end _ c.args.connection.now c.parts.connection c.answer_some-turn.new.connection
+    c.answer_some-turn.result c.in-Some.end c.in-Some.ensures c.answer_some-turn.ensures.own
+    c.parts.invariant.no_less c.answer_some-turn.ensures.shorter
 
 pub parts-preserved : goal.parts-preserved
 parts-preserved g c =
@@ -61,11 +79,13 @@ parts-preserved g c =
     let state = g.A.Archive.state in
     let out = c.answer_some-turn.new.out.items in
     let all = rw c.as_slice.ensures.value at c.in_ok-send.ensures.went in
-    let less = more-shorter c.parts.connection c.answer_some-turn.new.connection c.answer_some-turn.result c.in-None.ensures c.answer_some-turn.ensures.shorter in
+    let less = more-shorter c.parts.connection c.answer_some-turn.new.connection
+    c.answer_some-turn.result c.in-None.ensures c.answer_some-turn.ensures.shorter in
     record {
       small = c.answer_some-turn.ensures.small;
       settings = c.answer_some-turn.ensures.settings ∙ c.parts.invariant.settings;
-      no_less = no-less-then c.args.connection.now c.parts.connection c.answer_some-turn.new.connection c.parts.invariant.no_less less.1;
+      no_less = no-less-then c.args.connection.now c.parts.connection
+          c.answer_some-turn.new.connection c.parts.invariant.no_less less.1;
       writes = c.in_ok-send.ensures.faults ∙ c.parts.invariant.writes;
       reads = c.in_ok-send.ensures.reads ∙ c.parts.invariant.reads;
       so_far = (
@@ -73,10 +93,15 @@ parts-preserved g c =
         g.met.C.Clock.gave_more _ _ _ _ _ so.1 turned.1,
         so.2 ++ Went out ∷ [],
         g.X.Line.passed_more _ _ _ _ _ so.3 all,
-        drains-more c.args.server.now.settings (state c.args.server.now.replica.archive) (state c.parts.server.replica.archive) (state c.answer_some-turn.new.server.replica.archive) c.args.connection.now c.parts.connection c.answer_some-turn.new.connection so.0 turned.0 so.2
-            c.clear.new.self.items out c.answer_some-turn.result c.in-None.ensures so.4 c.clear.ensures.items turned.2,
+        drains-more c.args.server.now.settings (state c.args.server.now.replica.archive)
+            (state c.parts.server.replica.archive)
+            (state c.answer_some-turn.new.server.replica.archive) c.args.connection.now
+            c.parts.connection c.answer_some-turn.new.connection so.0 turned.0 so.2
+            c.clear.new.self.items out c.answer_some-turn.result c.in-None.ensures so.4
+            c.clear.ensures.items turned.2,
       );
     }
 
 pub parts-smaller : goal.parts-smaller
-parts-smaller g c = (more-shorter c.parts.connection c.answer_some-turn.new.connection c.answer_some-turn.result c.in-None.ensures c.answer_some-turn.ensures.shorter).0
+parts-smaller g c = (more-shorter c.parts.connection c.answer_some-turn.new.connection
+    c.answer_some-turn.result c.in-None.ensures c.answer_some-turn.ensures.shorter).0

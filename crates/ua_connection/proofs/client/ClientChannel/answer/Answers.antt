@@ -24,8 +24,12 @@ returns-in-Hello-clause-answered g c client =
     let other = client_after client c.greet.result c.greet.new.channel sessions in (
       before (marked (Done ∷ [])) (marked h.0),
       g.met.C.Clock.gave_none c.args.clock.now,
-      tried-hello a (site_of c.args.server.now.settings a) outer next other sessions c.args.chunk.kind (piece_of c.args.chunk) c.args.chunk.body.now h.0 c.args.out.now.items c.greet.new.out.items (ending_of c.greet.result) c.in-Hello.is refl
-          (behind-same outer c.greet.new.channel sessions sessions c.greet.result ∙ behind-channel client c.args.self.now.channel c.greet.new.channel sessions c.greet.result) h.1,
+      tried-hello a (site_of c.args.server.now.settings a) outer next other sessions
+          c.args.chunk.kind (piece_of c.args.chunk) c.args.chunk.body.now h.0 c.args.out.now.items
+          c.greet.new.out.items (ending_of c.greet.result) c.in-Hello.is refl
+          (behind-same outer c.greet.new.channel sessions sessions c.greet.result
+          ∙ behind-channel client c.args.self.now.channel c.greet.new.channel sessions
+          c.greet.result) h.1,
     )
 
 not_hello : (kind : Kind) → (kind ≡ Open) ⊎ ((kind ≡ Close) ⊎ (kind ≡ Message)) → kind ≡ Hello → ⊥
@@ -46,10 +50,16 @@ returns-in-Open-clause-answered g c client =
     let out = c.args.out.now.items in
     let after = c.answer_on_channel.new.out.items in
     let end = ending_of c.answer_on_channel.result in
-    let inner = client_after outer c.answer_on_channel.result c.answer_on_channel.new.self.channel left in
-    let other = client_after client c.answer_on_channel.result c.answer_on_channel.new.self.channel left in (
+    let inner = client_after outer c.answer_on_channel.result c.answer_on_channel.new.self.channel
+    left in
+    let other = client_after client c.answer_on_channel.result c.answer_on_channel.new.self.channel
+    left in (
       h.0,
       h.1,
-      answered-client a b (λ R. chunk_answer_or_starved site (standing_of outer sessions R) piece) h.0 out after end inner other (behind-channel client c.args.self.now.channel c.answer_on_channel.new.self.channel left c.answer_on_channel.result)
-          (tried-other a b site outer inner sessions piece h.0 out after end (not_hello c.args.chunk.kind c.in-Open.is) h.2),
+      answered-client a b (λ R. chunk_answer_or_starved site (standing_of outer sessions R) piece)
+          h.0 out after end inner other
+          (behind-channel client c.args.self.now.channel c.answer_on_channel.new.self.channel left
+          c.answer_on_channel.result)
+          (tried-other a b site outer inner sessions piece h.0 out after end
+          (not_hello c.args.chunk.kind c.in-Open.is) h.2),
     )
