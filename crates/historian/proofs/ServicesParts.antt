@@ -7,4 +7,6 @@ use Rattle.historian.specs.Services.{called}
 
 -- the token's session is gone; this takes no memory
 abbrev pub close : NodeId → SessionsState → Response × SessionsState
-close token sessions = called sessions (λ _. (Closed, record sessions { alive = without_session token sessions.alive })) (close_answer sessions token) Done
+close token sessions = called sessions (λ _.
+    (Closed, record sessions { alive = without_session token sessions.alive }))
+    (close_answer sessions token) Done

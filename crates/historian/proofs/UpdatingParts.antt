@@ -10,9 +10,25 @@ use Rattle.hist_update.specs.declared.request.Request.{Request}
 use Rattle.hist_update.specs.Updates.{Updated, refused_update}
 use Rattle.historian.specs.Updating.{update_of}
 
-abbrev pub updated_unless : ℕ → (NodeId → Request) → ValueType → Details → Content → Option Status → Fallible Updated
-updated_unless own request type details R given = elim given [ Some status ↦ give (refused_update status, R) | None ↦ update_of own request type details R ]
+abbrev pub updated_unless : ℕ → (NodeId → Request) → ValueType → Details → Content → Option Status
+    → Fallible Updated
+updated_unless own request type details R given =
+    elim given [
+      | Some status ↦ give (refused_update status, R)
+      | None ↦
+          update_of own request type details R
+    ]
 
 -- one step for the memory of the request, and then the update
-abbrev pub update_by : ℕ → (NodeId → Request) → Details → Content → Result ValueType Status → Fallible Updated
-update_by own request details R result = elim result [ Err status ↦ give (refused_update status, R) | Ok type ↦ and_then memory (λ given. elim given [ Some status ↦ give (refused_update status, R) | None ↦ update_of own request type details R ]) ]
+abbrev pub update_by : ℕ → (NodeId → Request) → Details → Content → Result ValueType Status
+    → Fallible Updated
+update_by own request details R result =
+    elim result [
+      | Err status ↦ give (refused_update status, R)
+      | Ok type ↦
+          and_then memory (λ given. elim given [
+            | Some status ↦ give (refused_update status, R)
+            | None ↦
+                update_of own request type details R
+          ])
+    ]

@@ -25,14 +25,19 @@ other_id m n BaseDataVariableType = refl
 
 none_found : (m : ℕ) (n : List ℕ) (some : List Node) → node_in some (Opaque m n) ≡ None
 none_found m n [] = refl
-none_found m n (node ∷ some) = ap (λ b. cond b (Some node) (node_in some (Opaque m n))) (other_id m n node) ∙ none_found m n some
+none_found m n (node ∷ some) = ap (λ b. cond b (Some node) (node_in some (Opaque m n)))
+    (other_id m n node) ∙ none_found m n some
 
 -- the id of a variable that is there has at most 256 bytes
-pub archived_length : (space : Layout) (id : NodeId) (info : VariableInfo) → option_map (λ info. info.value_type) (Some info) ≡ value_type_at space id → IsShortId id → id_length id ≤ 256
+pub archived_length : (space : Layout) (id : NodeId) (info : VariableInfo)
+    → option_map (λ info. info.value_type) (Some info) ≡ value_type_at space id → IsShortId id
+    → id_length id ≤ 256
 archived_length space (Numeric m n) info is short = omega arith
 archived_length space (Named m n) info is short = short
 archived_length space (Global m n) info is short = omega arith
-archived_length space (Opaque m n) info is short = absurd (none-some info.value_type (sym (ap type_of_node (none_found m n (nodes space))) ∙ sym is))
+archived_length space (Opaque m n) info is short =
+    absurd (none-some info.value_type (sym (ap type_of_node (none_found m n (nodes space)))
+    ∙ sym is))
 
 short_by_length : (id : NodeId) → id_length id ≤ 256 → IsShortNode id
 short_by_length (Numeric m n) few = tt
@@ -41,5 +46,7 @@ short_by_length (Global m n) few = tt
 short_by_length (Opaque m n) few = omega arith
 
 -- and so it can be written
-pub archived_short : (space : Layout) (id : NodeId) (info : VariableInfo) → option_map (λ info. info.value_type) (Some info) ≡ value_type_at space id → IsShortId id → IsShortNode id
+pub archived_short : (space : Layout) (id : NodeId) (info : VariableInfo)
+    → option_map (λ info. info.value_type) (Some info) ≡ value_type_at space id → IsShortId id
+    → IsShortNode id
 archived_short space id info is short = short_by_length id (archived_length space id info is short)

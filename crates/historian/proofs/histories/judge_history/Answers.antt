@@ -12,7 +12,9 @@ pub returns-clause-short : goal.returns-clause-short
 returns-clause-short c =
     let id = node_of c.args.item.node_id in
     let P : Option VariableInfo → Type 0 = λ o. IfSome o (λ _. IsShortId id) in
-    let short = archived_short c.args.space.now id c.in-Some._variable (ap (option_map (λ info. info.value_type)) (sym c.in-Some.is) ∙ c.variable.ensures.known) (subst P c.in-Some.is c.variable.ensures.short) in
+    let short = archived_short c.args.space.now id c.in-Some._variable
+    (ap (option_map (λ info. info.value_type)) (sym c.in-Some.is) ∙ c.variable.ensures.known)
+    (subst P c.in-Some.is c.variable.ensures.short) in
     by c.judge_value.result short
   where
     by : {P : Type 0} (r : Result (Unit {0}) Status) → P → IfOk r (λ _. P)

@@ -8,7 +8,10 @@ use Rattle.historian.proofs.histories.read_histories.Given as goal
 
 abbrev pub invariant-loop-item : goal.invariant-loop-item
 invariant-loop-item g l = record {
-  acts : (used : List StepResult) × Refines (g.A.Archive.state l.fn.archive) (g.A.Archive.state l.archive) used (each (read_history_of (g.A.Archive.state l.fn.archive).id l.space l.query l.release) (map history_read_fields (take l.item-index l.items))) l.results.items;
+  acts : (used : List StepResult) × Refines (g.A.Archive.state l.fn.archive)
+      (g.A.Archive.state l.archive) used (each
+      (read_history_of (g.A.Archive.state l.fn.archive).id l.space l.query l.release)
+      (map history_read_fields (take l.item-index l.items))) l.results.items;
   short : All IsShortHistoryRead l.results.items;
   count : vec_len l.results ≡ l.item-index;
   id : (g.A.Archive.state l.archive).id ≡ (g.A.Archive.state l.fn.archive).id;

@@ -19,8 +19,11 @@ returns-in_err-asked-clause-performs g c =
     let token = node_of c.args.request.token in
     let sessions = c.args.sessions.now in
     let p = err_from_is_err_and c.from_residual.result c.from_residual.ensures.1 in
-    performs-here s (answered_call site c.args.now token (call_in service.HistoryRead c.args.request.body) sessions) sessions c.from_residual.result
-    (performs-unread site c.args.now token sessions service.HistoryRead (λ (asked : HistoryReadRequest). HistoryRead (history_asked asked)) c.args.request.body c.in_err-asked.field-0.0 c.from_residual.result c.in_err-asked.ensures (p.1 ∙ ap Err p.2))
+    performs-here s (answered_call site c.args.now token
+    (call_in service.HistoryRead c.args.request.body) sessions) sessions c.from_residual.result
+    (performs-unread site c.args.now token sessions service.HistoryRead
+    (λ (asked : HistoryReadRequest). HistoryRead (history_asked asked)) c.args.request.body
+    c.in_err-asked.field-0.0 c.from_residual.result c.in_err-asked.ensures (p.1 ∙ ap Err p.2))
 
 pub returns-in_err-user_of-clause-performs : goal.returns-in_err-user_of-clause-performs
 returns-in_err-user_of-clause-performs g c =
@@ -29,9 +32,15 @@ returns-in_err-user_of-clause-performs g c =
     let token = node_of c.args.request.token in
     let sessions = c.args.sessions.now in
     let asked = history_asked c.in_ok-asked.asked in
-    let p = err_from_is_err_and c.from_residual-in_err-user_of.result c.from_residual-in_err-user_of.ensures.1 in
-    performs-here s (answered_call site c.args.now token (call_in service.HistoryRead c.args.request.body) sessions) sessions c.from_residual-in_err-user_of.result
-    (performs-outside site c.args.now token sessions service.HistoryRead (HistoryRead asked) c.args.request.body (λ R user. read_history site.id site.settings.space asked R) c.in_err-user_of.field-0.0 p.0 c.from_residual-in_err-user_of.result
+    let p = err_from_is_err_and c.from_residual-in_err-user_of.result
+    c.from_residual-in_err-user_of.ensures.1 in
+    performs-here s (answered_call site c.args.now token
+    (call_in service.HistoryRead c.args.request.body) sessions) sessions
+    c.from_residual-in_err-user_of.result
+    (performs-outside site c.args.now token sessions service.HistoryRead
+    (HistoryRead asked) c.args.request.body (λ R user.
+    read_history site.id site.settings.space asked R) c.in_err-user_of.field-0.0 p.0
+    c.from_residual-in_err-user_of.result
     c.in_ok-asked.ensures (λ R marks. refl) (sym c.in_err-user_of.ensures.value) p.2 p.1)
 
 pub returns-clause-performs : goal.returns-clause-performs
@@ -42,6 +51,13 @@ returns-clause-performs g c =
     let asked = history_asked c.in_ok-asked.asked in
     let d = c.in_ok-asked.asked in
     let user = c.in_ok-user_of.field-0.now in
-    let Q : List HistoryReadValueId → Type 0 = λ nodes. Comes a b (read_history a.id c.args.server.now.settings.space (d.details, (d.timestamps, (d.release_continuation_points, map history_read_fields nodes)))) c.read_all.result in
-    performs-comes a b site c.args.now (node_of c.args.request.token) c.args.sessions.now service.HistoryRead (HistoryRead asked) c.args.request.body user (λ R user. read_history site.id site.settings.space asked R) c.read_all.result
-    c.in_ok-asked.ensures (λ R marks. refl) (sym c.in_ok-user_of.ensures.value) (subst Q c.deref.ensures.value c.read_all.ensures.comes)
+    let Q : List HistoryReadValueId → Type 0 =
+    λ nodes. Comes a b (read_history a.id c.args.server.now.settings.space
+    (d.details, (d.timestamps, (d.release_continuation_points, map history_read_fields nodes))))
+    c.read_all.result in
+    performs-comes a b site c.args.now
+    (node_of c.args.request.token) c.args.sessions.now service.HistoryRead
+    (HistoryRead asked) c.args.request.body user
+    (λ R user. read_history site.id site.settings.space asked R) c.read_all.result
+    c.in_ok-asked.ensures (λ R marks. refl) (sym c.in_ok-user_of.ensures.value)
+    (subst Q c.deref.ensures.value c.read_all.ensures.comes)

@@ -12,8 +12,12 @@ pub returns-in-Err-clause-responds : goal.returns-in-Err-clause-responds
 returns-in-Err-clause-responds g c =
     let s = g.A.Archive.state c.args.server.now.replica.archive in
     let site = site_of c.args.server.now.settings s in
-    let P : Result Opened Status → Type 0 = λ request. Performs s s (answered_request site c.args.now (asked_of request) c.args.sessions.now) c.args.sessions.now (Err c.in-Err.status) in
-    let (used, told, acts, tells) = subst P (sym c.in-Err.is) (performs-none s site c.args.now c.args.sessions.now c.in-Err.status (Err c.in-Err.status) refl) in
+    let P : Result Opened Status → Type 0 =
+    λ request. Performs s s (answered_request site c.args.now
+    (asked_of request) c.args.sessions.now) c.args.sessions.now (Err c.in-Err.status) in
+    let (used, told, acts, tells) =
+    subst P (sym c.in-Err.is) (performs-none s site c.args.now c.args.sessions.now
+    c.in-Err.status (Err c.in-Err.status) refl) in
     (used, told, acts, tells)
 
 pub returns-in-Ok-clause-responds : goal.returns-in-Ok-clause-responds
@@ -22,13 +26,18 @@ returns-in-Ok-clause-responds g c =
     let b = g.A.Archive.state c.serve.new.server.replica.archive in
     let site = site_of c.args.server.now.settings a in
     let P : Result Opened Status → Type 0 = λ request.
-    Responds a b (answered_request site c.args.now (asked_of request) c.args.sessions.now) c.serve.new.sessions c.args.now
+    Responds a b (answered_request site c.args.now (asked_of request) c.args.sessions.now)
+    c.serve.new.sessions c.args.now
     c.args.message.handle c.serve.result c.serve.new.body.items in
     let Q : _ → Type 0 = λ handle.
-    Responds a b (answered_request site c.args.now (asked_of (Ok c.in-Ok.request)) c.args.sessions.now) c.serve.new.sessions
+    Responds a b (answered_request site c.args.now
+    (asked_of (Ok c.in-Ok.request)) c.args.sessions.now) c.serve.new.sessions
     c.args.now handle c.serve.result c.serve.new.body.items in
     let R : Opened → Type 0 = λ request.
-    Responds a b (answered_call site c.args.now (node_of request.token) (call_in request.service request.body) c.args.sessions.now)
+    Responds a b (answered_call site c.args.now (node_of request.token)
+    (call_in request.service request.body) c.args.sessions.now)
     c.serve.new.sessions c.args.now c.handle-handle.result c.serve.result c.serve.new.body.items in
-    let (used, told, acts, tells) = subst P (sym c.in-Ok.is) (subst Q c.handle-handle.ensures (subst R c.in-Ok.request-is c.serve.ensures.responds)) in
+    let (used, told, acts, tells) =
+    subst P (sym c.in-Ok.is) (subst Q c.handle-handle.ensures
+    (subst R c.in-Ok.request-is c.serve.ensures.responds)) in
     (used, told, acts, tells)

@@ -15,8 +15,13 @@ use Rattle.historian.proofs.Values.{item-refused, item-there, item-unfit, item-v
 use Rattle.historian.proofs.reading.put_item.Goals as goal
 
 -- the attribute is there
-there : (space : Layout) (item : ReadFields) (answered : Answered) (read : Result Answered Status) → read ≡ Ok answered → IsOrStarved BAD_OUT_OF_MEMORY (attribute_at space item.0 item.1.0) read → attribute_at space item.0 item.1.0 ≡ Ok answered
-there space item answered read is told = item-there space item answered (subst (λ (r : Result Answered Status). IsOrStarved BAD_OUT_OF_MEMORY (attribute_at space item.0 item.1.0) r) is told)
+there : (space : Layout) (item : ReadFields) (answered : Answered) (read : Result Answered Status)
+    → read ≡ Ok answered → IsOrStarved BAD_OUT_OF_MEMORY (attribute_at space item.0 item.1.0) read
+    → attribute_at space item.0 item.1.0 ≡ Ok answered
+there space item answered read is told =
+    item-there space item answered (subst
+    (λ (r : Result Answered Status).
+    IsOrStarved BAD_OUT_OF_MEMORY (attribute_at space item.0 item.1.0) r) is told)
 
 pub returns-in-Err : goal.returns-in-Err
 returns-in-Err g c =
@@ -26,9 +31,17 @@ returns-in-Err g c =
     let item = read_fields c.args.item.now in
     let status = c.in-Err.status in
     let value = item_told c.args.stamps now (Err status) in
-    let told = subst (λ (r : Result Answered Status). IsOrStarved BAD_OUT_OF_MEMORY (attribute_at space item.0 item.1.0) r) c.in-Err.is c.read_attribute-answered.ensures.told in
-    let acts = item-refused s now space item status (Err status) told refl in
-    (acts.0, value, item-told s s c.args.stamps now (telling (item_at space item)) (item_value now space item) acts.0 (Err status) value refl acts.1, c.put_refused.ensures.puts c.args.stamps now, c.put_refused.ensures.spelled c.args.stamps now)
+    let told = subst (λ (r : Result Answered Status).
+    IsOrStarved BAD_OUT_OF_MEMORY (attribute_at space item.0 item.1.0) r) c.in-Err.is
+    c.read_attribute-answered.ensures.told in
+    let acts = item-refused s now space item status (Err status) told refl in (
+      acts.0,
+      value,
+      item-told s s c.args.stamps now (telling (item_at space item))
+          (item_value now space item) acts.0 (Err status) value refl acts.1,
+      c.put_refused.ensures.puts c.args.stamps now,
+      c.put_refused.ensures.spelled c.args.stamps now,
+    )
 
 pub returns-in-Err-judge_value : goal.returns-in-Err-judge_value
 returns-in-Err-judge_value g c =
@@ -38,9 +51,18 @@ returns-in-Err-judge_value g c =
     let item = read_fields c.args.item.now in
     let status = c.in-Err-judge_value.status in
     let value = item_told c.args.stamps now (Err status) in
-    let judged : checked (value_rules item.1.1.0 item.1.1.1) ≡ Err status = sym c.judge_value.ensures ∙ c.in-Err-judge_value.is in
-    let acts = item-unfit s now space item c.in-Ok.answered status (Err status) (there space item c.in-Ok.answered c.read_attribute-answered.result c.in-Ok.is c.read_attribute-answered.ensures.told) judged refl in
-    (Done, value, item-told s s c.args.stamps now (telling (item_at space item)) (item_value now space item) Done (Err status) value refl acts, c.put_refused-in-Err-judge_value.ensures.puts c.args.stamps now, c.put_refused-in-Err-judge_value.ensures.spelled c.args.stamps now)
+    let judged : checked (value_rules item.1.1.0 item.1.1.1) ≡ Err status =
+    sym c.judge_value.ensures ∙ c.in-Err-judge_value.is in
+    let acts = item-unfit s now space item c.in-Ok.answered status (Err status)
+    (there space item c.in-Ok.answered c.read_attribute-answered.result c.in-Ok.is
+    c.read_attribute-answered.ensures.told) judged refl in (
+      Done,
+      value,
+      item-told s s c.args.stamps now (telling (item_at space item))
+          (item_value now space item) Done (Err status) value refl acts,
+      c.put_refused-in-Err-judge_value.ensures.puts c.args.stamps now,
+      c.put_refused-in-Err-judge_value.ensures.spelled c.args.stamps now,
+    )
 
 pub returns-in-Value : goal.returns-in-Value
 returns-in-Value g c =
@@ -50,9 +72,19 @@ returns-in-Value g c =
     let item = read_fields c.args.item.now in
     let given = Ok (valued now item.1.0 c.in-Value.value) in
     let value = item_told c.args.stamps now given in
-    let judged : checked (value_rules item.1.1.0 item.1.1.1) ≡ Ok tt = sym c.judge_value.ensures ∙ c.in-Ok-judge_value.is in
-    let acts = item-valued s now space item c.in-Ok.answered given (there space item c.in-Ok.answered c.read_attribute-answered.result c.in-Ok.is c.read_attribute-answered.ensures.told) judged (λ R. sym (ap (value_of now item R) c.in-Value.is)) in
-    (acts.0, value, item-told s s c.args.stamps now (telling (item_at space item)) (item_value now space item) acts.0 given value refl acts.1, c.put_valued.ensures.puts, c.put_valued.ensures.spelled)
+    let judged : checked (value_rules item.1.1.0 item.1.1.1) ≡ Ok tt =
+    sym c.judge_value.ensures ∙ c.in-Ok-judge_value.is in
+    let acts = item-valued s now space item c.in-Ok.answered given
+    (there space item c.in-Ok.answered c.read_attribute-answered.result c.in-Ok.is
+    c.read_attribute-answered.ensures.told) judged
+    (λ R. sym (ap (value_of now item R) c.in-Value.is)) in (
+      acts.0,
+      value,
+      item-told s s c.args.stamps now (telling (item_at space item))
+          (item_value now space item) acts.0 given value refl acts.1,
+      c.put_valued.ensures.puts,
+      c.put_valued.ensures.spelled,
+    )
 
 pub returns : goal.returns
 returns g c =
@@ -63,6 +95,15 @@ returns g c =
     let item = read_fields c.args.item.now in
     let (mark, given, acts, puts, spelled) = c.put_archived.ensures in
     let value = item_told c.args.stamps now given in
-    let judged : checked (value_rules item.1.1.0 item.1.1.1) ≡ Ok tt = sym c.judge_value.ensures ∙ c.in-Ok-judge_value.is in
-    let at = there space item c.in-Ok.answered c.read_attribute-answered.result c.in-Ok.is c.read_attribute-answered.ensures.told ∙ ap Ok c.in-Archived.is in
-    (mark, value, item-told a b c.args.stamps now (telling (item_at space item)) (item_value now space item) mark given value refl (item-archived a b now space item mark given at judged acts), puts, spelled)
+    let judged : checked (value_rules item.1.1.0 item.1.1.1) ≡ Ok tt =
+    sym c.judge_value.ensures ∙ c.in-Ok-judge_value.is in
+    let at = there space item c.in-Ok.answered c.read_attribute-answered.result c.in-Ok.is
+    c.read_attribute-answered.ensures.told ∙ ap Ok c.in-Archived.is in (
+      mark,
+      value,
+      item-told a b c.args.stamps now (telling (item_at space item))
+          (item_value now space item) mark given value refl
+          (item-archived a b now space item mark given at judged acts),
+      puts,
+      spelled,
+    )

@@ -13,7 +13,9 @@ use Rattle.historian.proofs.reading.put_items.Given as goal
 abbrev pub invariant-loop-item : goal.invariant-loop-item
 invariant-loop-item g l = record {
   told : (used : List StepResult) × (values : List DataValue) × (length values ≡ l.item-index)
-      × Refines (g.A.Archive.state l.fn.archive) (g.A.Archive.state l.archive) used (each (read_item l.space l.now l.stamps) (map read_fields (take l.item-index l.items))) values
-      × OnOk l.put ((l.out.items ≡ l.fn.out.items ++ flat_map data_value.canon values) × AllByRecursion IsDataValue values);
+      × Refines (g.A.Archive.state l.fn.archive) (g.A.Archive.state l.archive) used
+      (each (read_item l.space l.now l.stamps) (map read_fields (take l.item-index l.items))) values
+      × OnOk l.put ((l.out.items ≡ l.fn.out.items ++ flat_map data_value.canon values)
+      × AllByRecursion IsDataValue values);
   err : IfErr l.put (λ fault. fault ≡ OutOfMemory);
 }

@@ -20,10 +20,14 @@ returns-in_err-asked-clause-responds g c =
     let token = node_of c.args.request.token in
     let sessions = c.args.sessions.now in
     let p = err_from_is_err_and c.from_residual.result c.from_residual.ensures.1 in
-    let does = answered_call site c.args.now token (call_in service.Read c.args.request.body) sessions in
-    responds-refused s s does sessions c.args.now c.args.handle p.0 c.from_residual.result c.args.body.now.items
+    let does = answered_call site c.args.now token
+    (call_in service.Read c.args.request.body) sessions in
+    responds-refused s s does sessions c.args.now c.args.handle p.0 c.from_residual.result
+    c.args.body.now.items
     (performs-here s does sessions (Err p.0)
-    (performs-unread site c.args.now token sessions service.Read (λ (asked : ReadRequest). Read (read_asked asked)) c.args.request.body c.in_err-asked.field-0.0 (Err p.0) c.in_err-asked.ensures (ap Err p.2))) p.1
+    (performs-unread site c.args.now token sessions service.Read
+    (λ (asked : ReadRequest). Read (read_asked asked)) c.args.request.body
+    c.in_err-asked.field-0.0 (Err p.0) c.in_err-asked.ensures (ap Err p.2))) p.1
 
 pub returns-in_err-user_of-clause-responds : goal.returns-in_err-user_of-clause-responds
 returns-in_err-user_of-clause-responds g c =
@@ -32,11 +36,16 @@ returns-in_err-user_of-clause-responds g c =
     let token = node_of c.args.request.token in
     let sessions = c.args.sessions.now in
     let asked = read_asked c.in_ok-asked.asked in
-    let p = err_from_is_err_and c.from_residual-in_err-user_of.result c.from_residual-in_err-user_of.ensures.1 in
-    let does = answered_call site c.args.now token (call_in service.Read c.args.request.body) sessions in
-    responds-refused s s does sessions c.args.now c.args.handle p.0 c.from_residual-in_err-user_of.result c.args.body.now.items
+    let p = err_from_is_err_and c.from_residual-in_err-user_of.result
+    c.from_residual-in_err-user_of.ensures.1 in
+    let does = answered_call site c.args.now token
+    (call_in service.Read c.args.request.body) sessions in
+    responds-refused s s does sessions c.args.now c.args.handle p.0
+    c.from_residual-in_err-user_of.result c.args.body.now.items
     (performs-here s does sessions (Err p.0)
-    (performs-outside site c.args.now token sessions service.Read (Read asked) c.args.request.body (λ R user. read site.settings.space c.args.now asked R) c.in_err-user_of.field-0.0 p.0 (Err p.0)
+    (performs-outside site c.args.now token sessions service.Read (Read asked) c.args.request.body
+    (λ R user. read site.settings.space c.args.now asked R) c.in_err-user_of.field-0.0 p.0
+    (Err p.0)
     c.in_ok-asked.ensures (λ R marks. refl) (sym c.in_err-user_of.ensures.value) p.2 refl)) p.1
 
 pub returns-clause-responds : goal.returns-clause-responds
@@ -46,7 +55,14 @@ returns-clause-responds g c =
     let site = site_of c.args.server.now.settings a in
     let asked = read_asked c.in_ok-asked.asked in
     let bytes = c.put_read.new.body.items in
-    let Q : List ReadValueId → Type 0 = λ nodes. ComesWritten a b (read site.settings.space c.args.now (c.in_ok-asked.asked.timestamps, map read_fields nodes)) c.args.now c.args.handle c.put_read.result bytes in
+    let Q : List ReadValueId → Type 0 =
+    λ nodes. ComesWritten a b (read site.settings.space c.args.now
+    (c.in_ok-asked.asked.timestamps, map read_fields nodes)) c.args.now c.args.handle
+    c.put_read.result bytes in
     let user = c.in_ok-user_of.field-0.now in
-    performs-with (λ (told : Response). Written c.args.now c.args.handle told c.put_read.result bytes) a b site c.args.now (node_of c.args.request.token) c.args.sessions.now service.Read (Read asked) c.args.request.body user
-    (λ R user. read site.settings.space c.args.now asked R) c.in_ok-asked.ensures (λ R marks. refl) (sym c.in_ok-user_of.ensures.value) (subst Q c.deref.ensures.value c.put_read.ensures.comes)
+    performs-with (λ (told : Response).
+    Written c.args.now c.args.handle told c.put_read.result bytes) a b site c.args.now
+    (node_of c.args.request.token) c.args.sessions.now service.Read
+    (Read asked) c.args.request.body user
+    (λ R user. read site.settings.space c.args.now asked R) c.in_ok-asked.ensures (λ R marks. refl)
+    (sym c.in_ok-user_of.ensures.value) (subst Q c.deref.ensures.value c.put_read.ensures.comes)

@@ -20,17 +20,30 @@ returns-in-Some-clause-comes g c =
     let space = c.args.server.now.settings.space in
     let user = c.args.user.now in
     let details = map details_of c.args.details.now in
-    let refused : list_refusal 100 (length details) ≡ Some c.in-Some.status = ap (list_refusal 100) (length-map c.args.details.now details_of) ∙ sym c.list_refusal.ensures ∙ c.in-Some.is in
-    comes-refused s (update_history s.own space user c.args.now details) c.in-Some.status (Err c.in-Some.status) (λ R marks. ap (λ (o : Option Status). unless_refused o R (answer_items AllUpdated (update_item s.own space user c.args.now) details R) marks) refused) refl
+    let refused : list_refusal 100 (length details) ≡ Some c.in-Some.status =
+    ap (list_refusal 100) (length-map c.args.details.now details_of)
+    ∙ sym c.list_refusal.ensures ∙ c.in-Some.is in
+    comes-refused s (update_history s.own space user c.args.now details) c.in-Some.status
+    (Err c.in-Some.status) (λ R marks.
+    ap (λ (o : Option Status).
+    unless_refused o R (answer_items AllUpdated
+    (update_item s.own space user c.args.now) details R) marks) refused) refl
 
-pub returns-in_default-with_capacity-clause-comes : goal.returns-in_default-with_capacity-clause-comes
+pub returns-in_default-with_capacity-clause-comes :
+    goal.returns-in_default-with_capacity-clause-comes
 returns-in_default-with_capacity-clause-comes g c =
     let s = g.A.Archive.state c.args.server.now.replica.archive in
     let space = c.args.server.now.settings.space in
     let user = c.args.user.now in
     let details = map details_of c.args.details.now in
-    let taken : list_refusal 100 (length details) ≡ None = ap (list_refusal 100) (length-map c.args.details.now details_of) ∙ sym c.list_refusal.ensures ∙ c.in_default.is in
-    comes-starved s (update_history s.own space user c.args.now details) AllUpdated (update_item s.own space user c.args.now) details (λ R marks. ap (λ (o : Option Status). unless_refused o R (answer_items AllUpdated (update_item s.own space user c.args.now) details R) marks) taken)
+    let taken : list_refusal 100 (length details) ≡ None =
+    ap (list_refusal 100) (length-map c.args.details.now details_of)
+    ∙ sym c.list_refusal.ensures ∙ c.in_default.is in
+    comes-starved s (update_history s.own space user c.args.now details) AllUpdated
+    (update_item s.own space user c.args.now) details
+    (λ R marks. ap (λ (o : Option Status).
+    unless_refused o R (answer_items AllUpdated
+    (update_item s.own space user c.args.now) details R) marks) taken)
 
 pub returns-clause-comes : goal.returns-clause-comes
 returns-clause-comes g c =
@@ -39,9 +52,17 @@ returns-clause-comes g c =
     let space = c.args.server.now.settings.space in
     let user = c.args.user.now in
     let details = map details_of c.args.details.now in
-    let taken : list_refusal 100 (length details) ≡ None = ap (list_refusal 100) (length-map c.args.details.now details_of) ∙ sym c.list_refusal.ensures ∙ c.in_default.is in
+    let taken : list_refusal 100 (length details) ≡ None =
+    ap (list_refusal 100) (length-map c.args.details.now details_of)
+    ∙ sym c.list_refusal.ensures ∙ c.in_default.is in
     let P : Layout → Type 0 = λ space.
     (used : List StepResult)
-    × Refines a b used (each (update_item a.own space user c.args.now) details) c.update_items.new.results.items in
-    comes-items a b (update_history a.own space user c.args.now details) AllUpdated (update_item a.own space user c.args.now) details c.update_items.new.results.items (made.Updated c.update_items.new.results)
-    (λ R marks. ap (λ (o : Option Status). unless_refused o R (answer_items AllUpdated (update_item a.own space user c.args.now) details R) marks) taken) (subst P c.space.ensures c.update_items.ensures.acts) refl
+    × Refines a b used (each (update_item a.own space user c.args.now) details)
+    c.update_items.new.results.items in
+    comes-items a b (update_history a.own space user c.args.now details) AllUpdated
+    (update_item a.own space user c.args.now) details c.update_items.new.results.items
+    (made.Updated c.update_items.new.results)
+    (λ R marks. ap (λ (o : Option Status).
+    unless_refused o R (answer_items AllUpdated
+    (update_item a.own space user c.args.now) details R) marks) taken)
+    (subst P c.space.ensures c.update_items.ensures.acts) refl

@@ -16,9 +16,12 @@ returns-in_default-clause-acts g c =
     let space = c.args.space.now in
     let details = details_of c.args.details.now in
     let request = asked_for c.args.user.now c.args.now in
-    let node : node_asked details ≡ None = sym c.node_asked.ensures ∙ ap (option_map node_of) c.in_default.is in
-    acts-none s (update_item s.own space c.args.user.now c.args.now details) c.refused.result (λ R marks.
-    ap (λ o. update_by s.own request details R (type_asked space o) marks) node ∙ ap (λ x. give (x, R) marks) (sym c.refused.ensures.told))
+    let node : node_asked details ≡ None =
+    sym c.node_asked.ensures ∙ ap (option_map node_of) c.in_default.is in
+    acts-none s (update_item s.own space c.args.user.now c.args.now details) c.refused.result
+    (λ R marks.
+    ap (λ o. update_by s.own request details R (type_asked space o) marks) node
+    ∙ ap (λ x. give (x, R) marks) (sym c.refused.ensures.told))
 
 pub returns-in-Err-clause-acts : goal.returns-in-Err-clause-acts
 returns-in-Err-clause-acts g c =
@@ -26,8 +29,10 @@ returns-in-Err-clause-acts g c =
     let space = c.args.space.now in
     let details = details_of c.args.details.now in
     let request = asked_for c.args.user.now c.args.now in
-    let node : node_asked details ≡ Some (node_of c.in-Some.node) = sym c.node_asked.ensures ∙ ap (option_map node_of) c.in-Some.is in
-    acts-none s (update_item s.own space c.args.user.now c.args.now details) c.refused-in-Err.result (λ R marks.
+    let node : node_asked details ≡ Some (node_of c.in-Some.node) =
+    sym c.node_asked.ensures ∙ ap (option_map node_of) c.in-Some.is in
+    acts-none s (update_item s.own space c.args.user.now c.args.now details) c.refused-in-Err.result
+    (λ R marks.
     ap (λ o. update_by s.own request details R (type_asked space o) marks) node
     ∙ ap (λ t. update_by s.own request details R t marks) (sym c.type_of.ensures.told ∙ c.in-Err.is)
     ∙ ap (λ x. give (x, R) marks) (sym c.refused-in-Err.ensures.told))
@@ -38,10 +43,13 @@ returns-in-Err-asked_for-clause-acts g c =
     let space = c.args.space.now in
     let details = details_of c.args.details.now in
     let request = asked_for c.args.user.now c.args.now in
-    let node : node_asked details ≡ Some (node_of c.in-Some.node) = sym c.node_asked.ensures ∙ ap (option_map node_of) c.in-Some.is in
-    acts-starved s (update_item s.own space c.args.user.now c.args.now details) c.refused-in-Err-asked_for.result (λ R later.
+    let node : node_asked details ≡ Some (node_of c.in-Some.node) =
+    sym c.node_asked.ensures ∙ ap (option_map node_of) c.in-Some.is in
+    acts-starved s (update_item s.own space c.args.user.now c.args.now details)
+    c.refused-in-Err-asked_for.result (λ R later.
     ap (λ o. update_by s.own request details R (type_asked space o) (NoMemory ∷ later)) node
-    ∙ ap (λ t. update_by s.own request details R t (NoMemory ∷ later)) (sym c.type_of.ensures.told ∙ c.in-Ok.is)
+    ∙ ap (λ t. update_by s.own request details R t (NoMemory ∷ later))
+    (sym c.type_of.ensures.told ∙ c.in-Ok.is)
     ∙ ap (λ x. give (x, R) later) (sym c.refused-in-Err-asked_for.ensures.told))
 
 pub returns-in-Ok-asked_for-clause-acts : goal.returns-in-Ok-asked_for-clause-acts
@@ -52,8 +60,13 @@ returns-in-Ok-asked_for-clause-acts g c =
     let details = details_of c.args.details.now in
     let request = asked_for c.args.user.now c.args.now in
     let type = c.in-Ok.value_type in
-    let node : node_asked details ≡ Some (node_of c.in-Some.node) = sym c.node_asked.ensures ∙ ap (option_map node_of) c.in-Some.is in
-    acts-past a b (update_item a.own space c.args.user.now c.args.now details) (update_of a.own (λ _. c.in-Ok-asked_for.request) type details) c.update_of.result c.update_of.ensures.acts (λ R marks.
+    let node : node_asked details ≡ Some (node_of c.in-Some.node) =
+    sym c.node_asked.ensures ∙ ap (option_map node_of) c.in-Some.is in
+    acts-past a b (update_item a.own space c.args.user.now c.args.now details)
+    (update_of a.own (λ _. c.in-Ok-asked_for.request) type details) c.update_of.result
+    c.update_of.ensures.acts (λ R marks.
     ap (λ o. update_by a.own request details R (type_asked space o) (Done ∷ marks)) node
-    ∙ ap (λ t. update_by a.own request details R t (Done ∷ marks)) (sym c.type_of.ensures.told ∙ c.in-Ok.is)
-    ∙ update-for a.own request c.in-Ok-asked_for.request type details (node_of c.in-Some.node) R marks node (sym c.in-Ok-asked_for.ensures))
+    ∙ ap (λ t. update_by a.own request details R t (Done ∷ marks))
+    (sym c.type_of.ensures.told ∙ c.in-Ok.is)
+    ∙ update-for a.own request c.in-Ok-asked_for.request type details
+    (node_of c.in-Some.node) R marks node (sym c.in-Ok-asked_for.ensures))

@@ -8,7 +8,10 @@ use Rattle.historian.proofs.updating.update_items.Given as goal
 
 abbrev pub invariant-loop-details : goal.invariant-loop-details
 invariant-loop-details g l = record {
-  acts : (used : List StepResult) × Refines (g.A.Archive.state l.fn.archive) (g.A.Archive.state l.archive) used (each (update_item (g.A.Archive.state l.fn.archive).own l.space l.user l.now) (map details_of (take l.details-index l.items))) l.results.items;
+  acts : (used : List StepResult) × Refines (g.A.Archive.state l.fn.archive)
+      (g.A.Archive.state l.archive) used (each
+      (update_item (g.A.Archive.state l.fn.archive).own l.space l.user l.now)
+      (map details_of (take l.details-index l.items))) l.results.items;
   short : All IsShortUpdate l.results.items;
   count : vec_len l.results ≡ l.details-index;
   own : (g.A.Archive.state l.archive).own ≡ (g.A.Archive.state l.fn.archive).own;

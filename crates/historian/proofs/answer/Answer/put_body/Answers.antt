@@ -13,4 +13,5 @@ activated (Ok _) = (tt, (tt, tt))
 activated (Err fault) = tt
 
 pub returns-in-Activated-clause-spelled : goal.returns-in-Activated-clause-spelled
-returns-in-Activated-clause-spelled c = rw c.in-Activated.is (activated c.put_activate_session_response.result)
+returns-in-Activated-clause-spelled c =
+    rw c.in-Activated.is (activated c.put_activate_session_response.result)
