@@ -1,0 +1,5 @@
+pub mod Stepping
+pub mod Places
+pub mod Turning
+pub mod Counts
+pub mod OwnSteps

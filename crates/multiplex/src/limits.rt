@@ -1,0 +1,25 @@
+//! What a server takes at most.
+
+ghost use Rattle.std.specs.Prelude.{◌≡◌};
+
+/// What a server takes at most.
+#[derive(Clone, Copy, Debug, PartialEq, Eq)]
+pub struct Limits {
+    /// So many connections are accepted, and then no more; none: no number ends it.
+    pub connections: Option<u64>,
+    /// The first so many slots are for connections that are accepted, the others for calls.
+    pub accept_slots: usize,
+    /// No connection is answered while so many bytes wait to be written at all of them together.
+    pub waiting_bytes: usize,
+    /// So many rounds are served, and then no more.
+    pub rounds: u64,
+}
+
+impl Limits {
+    /// How many rounds are served.
+    pub(crate) fn rounds(self) -> u64
+        ensures { result ≡ self.rounds }
+    {
+        self.rounds
+    }
+}

@@ -1,0 +1,214 @@
+//! The event loop.
+
+ghost use Rattle.std.specs.Prelude.{◌≡◌, ◌+◌, ◌<◌, ◌≤◌, ◌↔◌, ℕ, List, length, IsTrue, true, false, Some, None, IfSome, min};
+ghost use Rattle.multiplex.specs.Turns.{TakesTurns, state};
+ghost use Rattle.multiplex.specs.Serving.{AreAllFree, HasCalled, HasServed};
+
+use crate::handler::Handler;
+use crate::limits::Limits;
+use crate::slot::Slot;
+use crate::source::{Arrival, Source};
+use crate::turns::round;
+use std::alloc::Global;
+
+/// The bytes that one read asks for.
+const PIECE: usize = 4096;
+
+/// Whether each of the slots is free.
+fn are_all_free<X>(slots: &[Option<X>]) -> bool
+    ensures { IsTrue result → AreAllFree slots.now }
+{
+    slots.iter().all(|slot| slot.is_none())
+}
+
+/// The first free slot from one on to another.
+fn free_slot<X>(slots: &[Option<X>], from: usize, to: usize) -> Option<usize>
+    ensures { IfSome result (λ place. (from ≤ place) × (place < to) × (place < length slots.now)) }
+{
+    for place in from..to.min(slots.len()) {
+        if slots[place].is_none() {
+            return Some(place);
+        }
+    }
+    None
+}
+
+/// Whether so many connections are all that are to be accepted.
+fn is_all(accepted: u64, limits: Limits) -> bool
+    ensures { IsTrue result ↔ (limits.connections ≡ Some accepted) }
+{
+    limits.connections == Some(accepted)
+}
+
+/// Whether all connections were accepted and closed, and all calls ended.
+fn is_done<X>(slots: &[Option<X>], accepted: u64, limits: Limits) -> bool
+    ensures { IsTrue result → (limits.connections ≡ Some accepted) × AreAllFree slots.now }
+{
+    is_all(accepted, limits) && are_all_free(slots)
+}
+
+/// Gives a connection that comes to a listener this slot, where it is free. How many came, one or none.
+fn accept_at<S: Source, H: Handler>(
+    alloc: Global,
+    source: &mut S,
+    slots: &mut [Option<Slot<H, S::Reader, S::Writer, H::End>>],
+    place: usize,
+    limits: Limits,
+    now: u64,
+) -> u64
+    requires within { place < length slots.old }
+    requires accepts { place < limits.accept_slots }
+    ensures turns { (world : H.World)
+        → TakesTurns S.effects S.Reader.input S.Writer.output H.behavior limits 0 result
+        (state source.old slots.old world now) (state source.new slots.new world now) }
+    ensures one { result ≤ 1 }
+{
+    match &slots[place] {
+        Some(_) => 0,
+        None => match source.accept(place) {
+            Arrival::Connection {
+                listener,
+                reader,
+                writer,
+            } => {
+                let first = H::begin(alloc, listener);
+                slots[place] = Some(Slot::new(first, reader, writer, Vec::new(alloc), now));
+                1
+            }
+            Arrival::Failed => 1,
+            Arrival::Nobody => 0,
+        },
+    }
+}
+
+/// Takes a connection that comes, where a slot is free and more are to be accepted. How many came, one or none.
+fn accept_next<S: Source, H: Handler>(
+    alloc: Global,
+    source: &mut S,
+    slots: &mut [Option<Slot<H, S::Reader, S::Writer, H::End>>],
+    accepted: u64,
+    limits: Limits,
+    now: u64,
+) -> u64
+    ensures turns { (world : H.World)
+        → TakesTurns S.effects S.Reader.input S.Writer.output H.behavior limits 0 result
+        (state source.old slots.old world now) (state source.new slots.new world now) }
+    ensures one { result ≤ 1 }
+    ensures most { IfSome limits.connections (λ most. accepted ≤ most → accepted + result ≤ most) }
+{
+    if is_all(accepted, limits) {
+        return 0;
+    }
+    match free_slot(slots, 0, limits.accept_slots) {
+        Some(place) => accept_at::<S, H>(alloc, source, slots, place, limits, now),
+        None => 0,
+    }
+}
+
+/// Begins a call, where one is due.
+fn begin_call<S: Source, H: Handler>(
+    alloc: Global,
+    source: &mut S,
+    world: &mut H::World,
+    place: usize,
+    limits: Limits,
+    now: u64,
+) -> Option<Slot<H, S::Reader, S::Writer, H::End>>
+    ensures { HasCalled S.effects S.Reader.input S.Writer.output H.behavior limits now
+        source.old world.old result source.new world.new }
+{
+    let (reader, writer) = source.call(place, now)?;
+    let mut out = Vec::new(alloc);
+    match H::call(alloc, world, &mut out) {
+        Some(first) => Some(Slot::new(first, reader, writer, out, now)),
+        None => {
+            source.close(place, reader, writer);
+            None
+        }
+    }
+}
+
+/// Begins a call from this slot, where it is free and a call is due.
+fn call_at<S: Source, H: Handler>(
+    alloc: Global,
+    source: &mut S,
+    world: &mut H::World,
+    slots: &mut [Option<Slot<H, S::Reader, S::Writer, H::End>>],
+    place: usize,
+    limits: Limits,
+    now: u64,
+)
+    requires within { place < length slots.old }
+    requires calls { limits.accept_slots ≤ place }
+    ensures { TakesTurns S.effects S.Reader.input S.Writer.output H.behavior limits 0 0
+        (state source.old slots.old world.old now) (state source.new slots.new world.new now) }
+{
+    match &slots[place] {
+        Some(_) => {}
+        None => {
+            if let Some(slot) = begin_call::<S, H>(alloc, source, world, place, limits, now) {
+                slots[place] = Some(slot);
+            }
+        }
+    }
+}
+
+/// Whether connections are still to be accepted, or one that was is open.
+fn is_open<X>(slots: &[Option<X>], accepted: u64, limits: Limits) -> bool {
+    let end = limits.accept_slots.min(slots.len());
+    !is_all(accepted, limits) || !are_all_free(&slots[..end])
+}
+
+/// Begins a call that is due, where a slot behind those for accepted connections is free. None begins once all are
+/// accepted and closed.
+fn call_next<S: Source, H: Handler>(
+    alloc: Global,
+    source: &mut S,
+    world: &mut H::World,
+    slots: &mut [Option<Slot<H, S::Reader, S::Writer, H::End>>],
+    accepted: u64,
+    limits: Limits,
+    now: u64,
+)
+    ensures { TakesTurns S.effects S.Reader.input S.Writer.output H.behavior limits 0 0
+        (state source.old slots.old world.old now) (state source.new slots.new world.new now) }
+{
+    if !is_open(slots, accepted, limits) {
+        return;
+    }
+    if let Some(place) = free_slot(slots, limits.accept_slots, slots.len()) {
+        call_at::<S, H>(alloc, source, world, slots, place, limits, now);
+    }
+}
+
+/// Serves connections over a world, each in its turn, in one thread. It accepts no more than `limits` say, and ends when
+/// the last of them is closed and each slot is free, or when its rounds are over. Whether it is done: it isn't where
+/// rounds were wanting.
+///
+/// A connection that a slot holds already is served too. Bytes that wait when the rounds are over stay with its slot.
+pub fn serve<S: Source, H: Handler>(
+    alloc: Global,
+    source: &mut S,
+    world: &mut H::World,
+    slots: &mut [Option<Slot<H, S::Reader, S::Writer, H::End>>],
+    limits: Limits,
+) -> bool
+    ensures { (first : ℕ) → (last : ℕ)
+        × HasServed S.effects S.Reader.input S.Writer.output H.behavior limits
+        (state source.old slots.old world.old first) (state source.new slots.new world.new last)
+        result }
+{
+    let mut piece = [0u8; PIECE];
+    let mut busy = true;
+    let mut accepted = 0;
+    for _ in 0..limits.rounds() {
+        if is_done(slots, accepted, limits) {
+            return true;
+        }
+        let now = source.wait(busy);
+        accepted += accept_next::<S, H>(alloc, source, slots, accepted, limits, now);
+        call_next::<S, H>(alloc, source, world, slots, accepted, limits, now);
+        busy = round::<S, H>(source, world, slots, limits, &mut piece, now);
+    }
+    false
+}

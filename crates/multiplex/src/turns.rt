@@ -1,0 +1,156 @@
+//! One turn of each connection.
+
+ghost use Rattle.std.specs.Prelude.{◌≡◌, ◌≢◌, ◌<◌, ◌≤◌, ℕ, length, IsTrue, true, false, slice_get, Some, None};
+ghost use Rattle.multiplex.specs.Slots.{MayClose, has_room, IsAtRestAt, waiting_in, all_waiting};
+ghost use Rattle.multiplex.specs.Turns.{TakesTurns, state};
+
+use crate::handler::Handler;
+use crate::limits::Limits;
+use crate::slot::{Slot, either};
+use crate::source::Source;
+
+/// How many bytes wait to be written in a slot.
+fn waiting_in<H, R, W, E>(slot: &Option<Slot<H, R, W, E>>) -> usize
+    ensures { result ≡ waiting_in slot.now }
+{
+    match slot {
+        Some(slot) => slot.waiting(),
+        None => 0,
+    }
+}
+
+/// Whether fewer bytes than `most` wait to be written at all connections together.
+fn has_room<H, R, W, E>(slots: &[Option<Slot<H, R, W, E>>], most: usize) -> bool
+    ensures { result ≡ has_room most slots.now }
+{
+    let mut left = most;
+    for slot in slots {
+        let waiting = waiting_in(slot);
+        if left <= waiting {
+            return false;
+        }
+        left -= waiting;
+    }
+    0 < left
+}
+
+/// The turn of the connection in a slot, if one is there. Whether more may be done there at once; else it is at rest.
+fn visit_at<S: Source, H: Handler>(
+    ready: bool,
+    world: &mut H::World,
+    slots: &mut [Option<Slot<H, S::Reader, S::Writer, H::End>>],
+    place: usize,
+    limits: Limits,
+    piece: &mut [u8],
+    now: u64,
+) -> bool
+    requires within { place < length slots.old }
+    requires piece { 0 < length piece.old }
+    ensures turns { (source : S)
+        → TakesTurns S.effects S.Reader.input S.Writer.output H.behavior limits 0 0
+        (state source slots.old world.old now) (state source slots.new world.new now) }
+    ensures length { length slots.new ≡ length slots.old }
+    ensures others { (k : ℕ) → k ≢ place → slice_get slots.new k ≡ slice_get slots.old k }
+    ensures same { result ≡ false → all_waiting slots.new ≡ all_waiting slots.old }
+    ensures rest { result ≡ false
+        → IsAtRestAt H.behavior (has_room limits.waiting_bytes slots.new) slots.new place }
+    ensures piece { length piece.new ≡ length piece.old }
+{
+    let room = has_room(slots, limits.waiting_bytes);
+    match &mut slots[place] {
+        Some(slot) => slot.visit(ready, room, world, piece, now),
+        None => false,
+    }
+}
+
+/// Whether the connection in a slot may be closed.
+fn may_close_at<H, R, W, E>(slots: &[Option<Slot<H, R, W, E>>], place: usize) -> bool
+    requires { place < length slots.now }
+    ensures { IsTrue result
+        → (slot : _) × (slice_get slots.now place ≡ Some (Some slot)) × MayClose slot }
+{
+    match &slots[place] {
+        Some(slot) => slot.may_close(),
+        None => false,
+    }
+}
+
+/// Gives back the connection in a slot, where it is over and all was written that can be. Whether it was.
+fn close_at<S: Source, H: Handler>(
+    source: &mut S,
+    slots: &mut [Option<Slot<H, S::Reader, S::Writer, H::End>>],
+    place: usize,
+    limits: Limits,
+) -> bool
+    requires { place < length slots.old }
+    ensures turns { (world : H.World) (now : ℕ)
+        → TakesTurns S.effects S.Reader.input S.Writer.output H.behavior limits 0 0
+        (state source.old slots.old world now) (state source.new slots.new world now) }
+    ensures length { length slots.new ≡ length slots.old }
+    ensures others { (k : ℕ) → k ≢ place → slice_get slots.new k ≡ slice_get slots.old k }
+    ensures same { result ≡ false → slots.new ≡ slots.old }
+{
+    if !may_close_at(slots, place) {
+        return false;
+    }
+    match slots[place].take() {
+        Some(slot) => {
+            let (reader, writer) = slot.into_ends();
+            source.close(place, reader, writer);
+            true
+        }
+        None => true,
+    }
+}
+
+/// The turn of a slot. Whether more may be done at once; else the connection there, if one is, is at rest.
+fn turn_at<S: Source, H: Handler>(
+    source: &mut S,
+    world: &mut H::World,
+    slots: &mut [Option<Slot<H, S::Reader, S::Writer, H::End>>],
+    place: usize,
+    limits: Limits,
+    piece: &mut [u8],
+    now: u64,
+) -> bool
+    requires within { place < length slots.old }
+    requires piece { 0 < length piece.old }
+    ensures turns { TakesTurns S.effects S.Reader.input S.Writer.output H.behavior limits 0 0
+        (state source.old slots.old world.old now) (state source.new slots.new world.new now) }
+    ensures length { length slots.new ≡ length slots.old }
+    ensures others { (k : ℕ) → k ≢ place → slice_get slots.new k ≡ slice_get slots.old k }
+    ensures same { result ≡ false → all_waiting slots.new ≡ all_waiting slots.old }
+    ensures rest { result ≡ false
+        → IsAtRestAt H.behavior (has_room limits.waiting_bytes slots.new) slots.new place }
+    ensures piece { length piece.new ≡ length piece.old }
+{
+    let ready = source.is_ready(place);
+    let busy = visit_at::<S, H>(ready, world, slots, place, limits, piece, now);
+    let closed = close_at::<S, H>(source, slots, place, limits);
+    either(busy, closed)
+}
+
+/// A turn of each slot. Whether more may be done at once; else each connection is at rest.
+pub(crate) fn round<S: Source, H: Handler>(
+    source: &mut S,
+    world: &mut H::World,
+    slots: &mut [Option<Slot<H, S::Reader, S::Writer, H::End>>],
+    limits: Limits,
+    piece: &mut [u8],
+    now: u64,
+) -> bool
+    requires { 0 < length piece.old }
+    ensures turns { TakesTurns S.effects S.Reader.input S.Writer.output H.behavior limits 0 0
+        (state source.old slots.old world.old now) (state source.new slots.new world.new now) }
+    ensures length { length slots.new ≡ length slots.old }
+    ensures rest { result ≡ false → (k : ℕ)
+        → IsAtRestAt H.behavior (has_room limits.waiting_bytes slots.new) slots.new k }
+    ensures piece { length piece.new ≡ length piece.old }
+{
+    let mut busy = false;
+    for place in 0..slots.len() {
+        let here = turn_at::<S, H>(source, world, slots, place, limits, piece, now);
+        busy = either(busy, here);
+    }
+    busy
+}
