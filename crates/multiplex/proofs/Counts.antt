@@ -1,5 +1,5 @@
 -- What is known of a number that may be none, which the contract of `serve` needs.
-use Rattle.std.proofs.Common.{◌≡◌, ℕ, ◌+◌, ◌≤◌, arith}
+use Rattle.std.proofs.Common.{ℕ, ◌+◌, ◌≤◌, arith}
 use Rattle.std.specs.Prelude.{Option, None, Some, IfSome}
 
 -- none is at most any number

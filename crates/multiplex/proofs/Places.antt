@@ -9,48 +9,61 @@ use Rattle.multiplex.specs.Behavior.{Behavior}
 use Rattle.multiplex.specs.Slots.{Slot, IsAtRest, IsAtRestAt, waiting_in, all_waiting, has_room}
 
 -- what an index found is there
-pub there : {X : Type 0} (xs : List X) (i : ℕ) (x y : X) → i < length xs → get_or xs i x ≡ y → slice_get xs i ≡ Some y
+pub there : {X : Type 0} (xs : List X) (i : ℕ) (x y : X) → i < length xs → get_or xs i x ≡ y
+    → slice_get xs i ≡ Some y
 there xs i x y within is = slice_get-get_or xs i x within ∙ ap (λ z. Some z) is
 
 -- what is there, written again, changes nothing
-pub set_same : {X : Type 0} (xs : List X) (i : ℕ) (x : X) → slice_get xs i ≡ Some x → slice_set xs i x ≡ xs
-set_same xs i x got = ap (λ y. slice_set xs i y) (sym (get_or_from_slice_get xs i x x got)) ∙ set-get_or xs i x
+pub set_same : {X : Type 0} (xs : List X) (i : ℕ) (x : X) → slice_get xs i ≡ Some x
+    → slice_set xs i x ≡ xs
+set_same xs i x got = ap (λ y. slice_set xs i y) (sym (get_or_from_slice_get xs i x x got))
+    ∙ set-get_or xs i x
 
-pub get-set_same : {X : Type 0} (xs : List X) (i : ℕ) (v x : X) → slice_get xs i ≡ Some x → slice_get (slice_set xs i v) i ≡ Some v
+pub get-set_same : {X : Type 0} (xs : List X) (i : ℕ) (v x : X) → slice_get xs i ≡ Some x
+    → slice_get (slice_set xs i v) i ≡ Some v
 get-set_same [] i v x e = absurd (none-some _ e)
 get-set_same (y ∷ ys) zero v x e = refl
 get-set_same (y ∷ ys) (suc i) v x e = get-set_same ys i v x e
 
-pub get-set_other : {X : Type 0} (xs : List X) (i j : ℕ) (v : X) → (j ≡ i → ⊥) → slice_get (slice_set xs i v) j ≡ slice_get xs j
+pub get-set_other : {X : Type 0} (xs : List X) (i j : ℕ) (v : X) → (j ≡ i → ⊥)
+    → slice_get (slice_set xs i v) j ≡ slice_get xs j
 get-set_other [] i j v other = refl
 get-set_other (y ∷ ys) zero zero v other = absurd (other refl)
 get-set_other (y ∷ ys) zero (suc j) v other = refl
 get-set_other (y ∷ ys) (suc i) zero v other = refl
 get-set_other (y ∷ ys) (suc i) (suc j) v other = get-set_other ys i j v (λ p. other (ap suc p))
 
-pub set-set : {X : Type 0} (xs : List X) (i : ℕ) (v w : X) → slice_set (slice_set xs i v) i w ≡ slice_set xs i w
+pub set-set : {X : Type 0} (xs : List X) (i : ℕ) (v w : X) → slice_set (slice_set xs i v) i w ≡
+    slice_set xs i w
 set-set [] i v w = refl
 set-set (y ∷ ys) zero v w = refl
 set-set (y ∷ ys) (suc i) v w = ap (λ l. y ∷ l) (set-set ys i v w)
 
 -- the sum of what waits, once another connection is in a slot
-pub all-set : {H R W E : Type 0} (slots : List (Option (Slot H R W E))) (i : ℕ) (old new : Option (Slot H R W E))
-    → slice_get slots i ≡ Some old → all_waiting (slice_set slots i new) + waiting_in old ≡ all_waiting slots + waiting_in new
+pub all-set : {H R W E : Type 0} (slots : List (Option (Slot H R W E))) (i : ℕ)
+    (old new : Option (Slot H R W E))
+    → slice_get slots i ≡ Some old → all_waiting (slice_set slots i new) + waiting_in old ≡
+    all_waiting slots + waiting_in new
 all-set [] i old new got = absurd (none-some _ got)
 all-set (y ∷ ys) zero old new got =
     let same : waiting_in y ≡ waiting_in old = ap waiting_in (same_Some y old got) in
-    let before : all_waiting (y ∷ ys) ≡ waiting_in y + all_waiting ys = sum_by-cons waiting_in y ys in
-    let behind : all_waiting (new ∷ ys) ≡ waiting_in new + all_waiting ys = sum_by-cons waiting_in new ys in
+    let before : all_waiting (y ∷ ys) ≡ waiting_in y + all_waiting ys = sum_by-cons waiting_in y ys
+    in
+    let behind : all_waiting (new ∷ ys) ≡ waiting_in new + all_waiting ys = sum_by-cons waiting_in
+    new ys in
     omega (arith, same, before, behind)
 all-set (y ∷ ys) (suc i) old new got =
     let rest = all-set ys i old new got in
-    let before : all_waiting (y ∷ ys) ≡ waiting_in y + all_waiting ys = sum_by-cons waiting_in y ys in
-    let behind : all_waiting (y ∷ slice_set ys i new) ≡ waiting_in y + all_waiting (slice_set ys i new) =
+    let before : all_waiting (y ∷ ys) ≡ waiting_in y + all_waiting ys = sum_by-cons waiting_in y ys
+    in
+    let behind : all_waiting (y ∷ slice_set ys i new) ≡ waiting_in y + all_waiting
+    (slice_set ys i new) =
     sum_by-cons waiting_in y (slice_set ys i new) in
     omega (arith, rest, before, behind)
 
 -- the first slots already have all that there is room for
-pub no_room : {H R W E : Type 0} (slots : List (Option (Slot H R W E))) (most left i w : ℕ) (slot : Option (Slot H R W E))
+pub no_room : {H R W E : Type 0} (slots : List (Option (Slot H R W E))) (most left i w : ℕ)
+    (slot : Option (Slot H R W E))
     → sum_by waiting_in (take i slots) + left ≡ most → i < length slots → slot ≡ get_or slots i slot
     → w ≡ waiting_in slot → left ≤ w → false ≡ has_room most slots
 no_room slots most left i w slot so_far within is waits full =
@@ -59,7 +72,8 @@ no_room slots most left i w slot so_far within is waits full =
     let above : most ≤ all_waiting slots = omega (arith, so_far, same, all, waits, full) in
     sym (le-ltb (all_waiting slots) most above)
 
-pub room_more : {H R W E : Type 0} (slots : List (Option (Slot H R W E))) (most left i w : ℕ) (slot : Option (Slot H R W E))
+pub room_more : {H R W E : Type 0} (slots : List (Option (Slot H R W E))) (most left i w : ℕ)
+    (slot : Option (Slot H R W E))
     → sum_by waiting_in (take i slots) + left ≡ most → i < length slots → slot ≡ get_or slots i slot
     → w ≡ waiting_in slot → w < left → sum_by waiting_in (take (i + 1) slots) + (left - w) ≡ most
 room_more slots most left i w slot so_far within is waits room =
@@ -68,16 +82,21 @@ room_more slots most left i w slot so_far within is waits room =
     omega (arith, so_far, same, more, waits, room)
 
 pub room_end : {H R W E : Type 0} (slots : List (Option (Slot H R W E))) (most left i : ℕ)
-    → sum_by waiting_in (take i slots) + left ≡ most → length slots ≤ i → nat_lt 0 left ≡ has_room most slots
+    → sum_by waiting_in (take i slots) + left ≡ most → length slots ≤ i
+    → nat_lt 0 left ≡ has_room most slots
 room_end slots most zero i so_far end =
-    let all : sum_by waiting_in (take i slots) ≡ all_waiting slots = ap (λ l. sum_by waiting_in l) (take_all i slots end) in
+    let all : sum_by waiting_in (take i slots) ≡ all_waiting slots = ap (λ l. sum_by waiting_in l)
+    (take_all i slots end) in
     sym (le-ltb (all_waiting slots) most (omega (arith, so_far, all)))
 room_end slots most (suc left) i so_far end =
-    let all : sum_by waiting_in (take i slots) ≡ all_waiting slots = ap (λ l. sum_by waiting_in l) (take_all i slots end) in
-    lt-ltb 0 (suc left) (omega arith) ∙ sym (lt-ltb (all_waiting slots) most (omega (arith, so_far, all)))
+    let all : sum_by waiting_in (take i slots) ≡ all_waiting slots = ap (λ l. sum_by waiting_in l)
+    (take_all i slots end) in
+    lt-ltb 0 (suc left) (omega arith) ∙ sym (lt-ltb (all_waiting slots) most
+    (omega (arith, so_far, all)))
 
 -- what waits where all was written of the connection of a slot
-pub less-empty : {H R W E : Type 0} (slots : List (Option (Slot H R W E))) (most i : ℕ) (old new : Slot H R W E)
+pub less-empty : {H R W E : Type 0} (slots : List (Option (Slot H R W E))) (most i : ℕ)
+    (old new : Slot H R W E)
     → slice_get slots i ≡ Some (Some old) → new.waiting ≡ [] → has_room most slots ≡ true
     → has_room most (slice_set slots i (Some new)) ≡ true
 less-empty slots most i old new got none room =
@@ -87,7 +106,8 @@ less-empty slots most i old new got none room =
     lt-ltb (all_waiting (slice_set slots i (Some new))) most (omega (arith, sums, nothing, below))
 
 -- what waits is the same where it is the same in a slot that changed
-pub all-kept : {H R W E : Type 0} (slots : List (Option (Slot H R W E))) (i : ℕ) (old new : Slot H R W E)
+pub all-kept : {H R W E : Type 0} (slots : List (Option (Slot H R W E))) (i : ℕ)
+    (old new : Slot H R W E)
     → slice_get slots i ≡ Some (Some old) → new.waiting ≡ old.waiting
     → all_waiting (slice_set slots i (Some new)) ≡ all_waiting slots
 all-kept slots i old new got same =
@@ -96,22 +116,28 @@ all-kept slots i old new got same =
     omega (arith, sums, waits)
 
 -- what is at rest in a slot that changed
-pub rests-set : {H R W V E : Type 0} (handler : Behavior H V E) (room : Bool) (slots : List (Option (Slot H R W E))) (k : ℕ)
+pub rests-set : {H R W V E : Type 0} (handler : Behavior H V E) (room : Bool)
+    (slots : List (Option (Slot H R W E))) (k : ℕ)
     (old new : Slot H R W E) → slice_get slots k ≡ Some (Some old) → IsAtRest handler room new
     → IsAtRestAt handler room (slice_set slots k (Some new)) k
 rests-set {H} {R} {W} {V} {E} handler room slots k old new got rest slot found =
     subst (λ (s : Slot H R W E). IsAtRest handler room s)
-    (same_Some new slot (same_Some (Some new) (Some slot) (sym (get-set_same slots k (Some new) (Some old) got) ∙ found))) rest
+    (same_Some new slot (same_Some (Some new) (Some slot) (sym
+    (get-set_same slots k (Some new) (Some old) got) ∙ found))) rest
 
 -- nothing is to be done in a slot that is free
-pub rests-free : {H R W V E : Type 0} (handler : Behavior H V E) (room : Bool) (slots : List (Option (Slot H R W E))) (k : ℕ)
+pub rests-free : {H R W V E : Type 0} (handler : Behavior H V E) (room : Bool)
+    (slots : List (Option (Slot H R W E))) (k : ℕ)
     (old left : Option (Slot H R W E)) → slice_get slots k ≡ Some old → left ≡ None
     → IsAtRestAt handler room (slice_set slots k left) k
 rests-free handler room slots k old left got none slot found =
-    absurd (none-some slot (sym none ∙ same_Some left (Some slot) (sym (get-set_same slots k left old got) ∙ found)))
+    absurd (none-some slot (sym none ∙ same_Some left (Some slot)
+    (sym (get-set_same slots k left old got) ∙ found)))
 
 -- what is at rest in a slot stays so where nothing changed there
-pub rests-kept : {H R W V E : Type 0} (handler : Behavior H V E) (room room' : Bool) (old new : List (Option (Slot H R W E))) (k : ℕ)
-    → slice_get new k ≡ slice_get old k → room ≡ room' → IsAtRestAt handler room old k → IsAtRestAt handler room' new k
+pub rests-kept : {H R W V E : Type 0} (handler : Behavior H V E) (room room' : Bool)
+    (old new : List (Option (Slot H R W E))) (k : ℕ)
+    → slice_get new k ≡ slice_get old k → room ≡ room' → IsAtRestAt handler room old k
+    → IsAtRestAt handler room' new k
 rests-kept handler room room' old new k same judged rest slot found =
     subst (λ b. IsAtRest handler b slot) judged (rest slot (sym same ∙ found))

@@ -1,5 +1,5 @@
 -- One connection among the others.
-use Rattle.std.specs.Prelude.{◌≡◌, ◌≢◌, ℕ, ◌==◌, if◌then◌else◌, ⊤, List, [], ◌∷◌, ◌++◌, Option, Some, slice_get}
+use Rattle.std.specs.Prelude.{◌≡◌, ◌≢◌, ℕ, ◌==◌, if◌then◌else◌, List, [], ◌∷◌, ◌++◌, Some, slice_get}
 use Rattle.std.specs.List.{AllByRecursion, flat_map}
 use Rattle.std.specs.Io.KnownBytes.{Appends, Consumes}
 use Rattle.multiplex.specs.declared.limits.Limits.{Limits}
@@ -13,7 +13,10 @@ use Rattle.multiplex.specs.Turns.{Loop, LoopTurn, Steps, Closes, AreTurns}
 
 -- the steps of the connection in one slot, in some turns
 abbrev pub steps_at : {E : Type 0} → ℕ → List (LoopTurn E) → List (Step E)
-steps_at k turns = flat_map (λ t. elim t [ Steps j step ↦ if j == k then step ∷ [] else [] | _ ↦ [] ]) turns
+steps_at k turns = flat_map (λ turn. elim turn [
+  | Steps j step ↦ if j == k then step ∷ [] else []
+  | _ ↦ []
+]) turns
 
 -- the connection in this slot isn't closed in these turns
 abbrev pub StaysOpen : {E : Type 0} → ℕ → List (LoopTurn E) → Type 0
@@ -25,8 +28,11 @@ bytes_received steps = flat_map (λ s. elim s [ Receives bytes made end ↦ byte
 
 -- the bytes that were made in some steps, to be written
 abbrev pub bytes_made : {E : Type 0} → List (Step E) → List ℕ
-bytes_made steps =
-    flat_map (λ s. elim s [ Receives bytes made end ↦ made | Answers made end ↦ made | _ ↦ [] ]) steps
+bytes_made steps = flat_map (λ step. elim step [
+  | Receives bytes made end ↦ made
+  | Answers made end ↦ made
+  | _ ↦ []
+]) steps
 
 -- the bytes that were written in some steps
 abbrev pub bytes_written : {E : Type 0} → List (Step E) → List ℕ
@@ -41,22 +47,26 @@ module _ {H R W V E : Type 0} (input : Input R) (output : Output W) (handler : B
       × IsStep input output handler now before old step behind middle
       × AreOwnSteps behind middle steps w new
 
-  -- what was written, and waits, is what waited before and what was made since of the bytes that came
+  -- what was written, and waits, is what waited before and what was made of the bytes that came
   pub record HasOwnBytes (old new : Slot H R W E) (steps : List (Step E)) : Type 0 where
-    pub received : Consumes (input.unread old.reader) (input.unread new.reader) (bytes_received steps)
-    pub written : Appends (output.written old.writer) (output.written new.writer) (bytes_written steps)
+    pub received :
+        Consumes (input.unread old.reader) (input.unread new.reader) (bytes_received steps)
+    pub written :
+        Appends (output.written old.writer) (output.written new.writer) (bytes_written steps)
     pub waits : old.waiting ++ bytes_made steps ≡ bytes_written steps ++ new.waiting
 
   -- at the connection of a slot these steps came about as if it were alone, over a world that moves
-  pub record IsAlone {S : Type 0} (old new : Loop S H R W V E) (k : ℕ) (slot : Slot H R W E) (steps : List (Step E)) : Type 0 where
+  pub record IsAlone {S : Type 0} (old new : Loop S H R W V E) (k : ℕ) (slot : Slot H R W E)
+      (steps : List (Step E)) : Type 0 where
     pub last : Slot H R W E
     pub there : slice_get new.slots k ≡ Some (Some last)
     pub own : AreOwnSteps old.world slot steps new.world last
     pub bytes : HasOwnBytes slot last steps
 
--- in any execution each connection, as long as it isn't closed, is served as if it were alone, over a
--- world that moves
-abbrev pub EachIsAlone : {S H R W V E : Type 0} → Effects S R W → Input R → Output W → Behavior H V E → Type 0
+-- in any execution each connection, as long as it isn't closed, is served as if it were alone, over
+-- a world that moves
+abbrev pub EachIsAlone : {S H R W V E : Type 0} → Effects S R W → Input R → Output W
+    → Behavior H V E → Type 0
 EachIsAlone {S} {H} {R} {W} {V} {E} source input output handler =
     (limits : Limits) (old new : Loop S H R W V E) (k : ℕ) (slot : Slot H R W E)
     (turns : List (LoopTurn E)) → AreTurns source input output handler limits old turns new

@@ -23,4 +23,5 @@ pub record MovesAddUp {H V E : Type 0} (handler : Behavior H V E) : Type 0 where
   pub more : (u v w : V) → handler.moves u v → handler.moves v w → handler.moves u w
   pub answers : (v w : V) (h h' : H) (made : List ℕ) (end : Option E)
       → handler.answers v h made end w h' → handler.moves v w
-  pub calls : (v w : V) (made : List ℕ) (h : Option H) → handler.calls v made h w → handler.moves v w
+  pub calls : (v w : V) (made : List ℕ) (h : Option H) → handler.calls v made h w
+      → handler.moves v w

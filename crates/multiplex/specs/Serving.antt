@@ -12,9 +12,10 @@ use Rattle.multiplex.specs.Turns.{Loop, state, TakesTurns}
 abbrev pub AreAllFree : {X : Type 0} → List (Option X) → Type 0
 AreAllFree slots = All (λ slot. slot ≡ None) slots
 
-module _ {S H R W V E : Type 0} (source : Effects S R W) (input : Input R) (output : Output W) (handler : Behavior H V E) (limits : Limits) where
-  -- a server took its turns; where it is done it accepted all that it was to, and each slot is free, and
-  -- else it was waited as often as it was to be
+module _ {S H R W V E : Type 0} (source : Effects S R W) (input : Input R) (output : Output W)
+    (handler : Behavior H V E) (limits : Limits) where
+  -- a server took its turns; where it is done it accepted all that it was to, and each slot is
+  -- free, and else it was waited as often as it was to be
   pub record HasServed (old new : Loop S H R W V E) (done : Bool) : Type 0 where
     pub waits : ℕ
     pub accepted : ℕ
@@ -31,4 +32,5 @@ module _ {S H R W V E : Type 0} (source : Effects S R W) (input : Input R) (outp
       × (slot ≡ first_slot first reader writer made now)
   HasCalled now old v None new w =
       (slots : List (Option (Slot H R W E)))
-      → TakesTurns source input output handler limits 0 0 (state old slots v now) (state new slots w now)
+      → TakesTurns source input output handler limits 0 0 (state old slots v now)
+      (state new slots w now)

@@ -3,7 +3,7 @@
 use Rattle.std.specs.Prelude.{◌≡◌, ◌⊎◌, ℕ, ◌<◌, Bool, true, false, nat_lt, List, [], length, sum_by, slice_get, Option, None, Some}
 use Rattle.std.specs.Option.{option_map_or}
 use Rattle.multiplex.specs.declared.handler.SlotEnd.{SlotEnd}
-use Rattle.multiplex.specs.declared.handler.SlotEnd.TheVariants.{Finished, EndOfInput, Broken, IdleTimeout}
+use Rattle.multiplex.specs.declared.handler.SlotEnd.TheVariants.{Finished, EndOfInput}
 use Rattle.multiplex.specs.Behavior.{Behavior}
 
 -- a connection, the bytes that wait to be written, its end, once it has one, and whether something
@@ -66,10 +66,11 @@ abbrev pub IsAtRest : {H R W V E : Type 0} → Behavior H V E → Bool → Slot 
 IsAtRest handler room slot =
     (slot.ending ≡ None → IsReadAtRest handler room slot) × IsWriteAtRest slot
 
--- how many bytes wait to be written in a slot, which may be free, and in all of them
+-- how many bytes wait to be written in a slot, which may be free
 abbrev pub waiting_in : {H R W E : Type 0} → Option (Slot H R W E) → ℕ
 waiting_in slot = option_map_or (λ s. length s.waiting) slot 0
 
+-- how many bytes wait to be written in all slots
 abbrev pub all_waiting : {H R W E : Type 0} → List (Option (Slot H R W E)) → ℕ
 all_waiting slots = sum_by waiting_in slots
 
@@ -78,6 +79,7 @@ abbrev pub has_room : {H R W E : Type 0} → (most : ℕ) → List (Option (Slot
 has_room most slots = nat_lt (all_waiting slots) most
 
 -- nothing can be done now at the connection of a slot, if one is there
-abbrev pub IsAtRestAt : {H R W V E : Type 0} → Behavior H V E → Bool → List (Option (Slot H R W E)) → ℕ → Type 0
+abbrev pub IsAtRestAt : {H R W V E : Type 0} → Behavior H V E → (room : Bool)
+    → List (Option (Slot H R W E)) → ℕ → Type 0
 IsAtRestAt {H} {R} {W} {V} {E} handler room slots k =
     (slot : Slot H R W E) → slice_get slots k ≡ Some (Some slot) → IsAtRest handler room slot

@@ -33,8 +33,9 @@ abbrev pub IsAllowed : {E : Type 0} → (room : Bool) → Step E → Type 0
 IsAllowed room step = elim step [ Answers made end ↦ room ≡ true | _ ↦ Unit {0} ]
 
 module _ {H R W V E : Type 0} (input : Input R) (output : Output W) (handler : Behavior H V E) where
-  -- these bytes came, where nothing waited and nothing whole stood first; what is made of them waits
-  pub record IsReceipt (now : ℕ) (old : Slot H R W E) (bytes made : List ℕ) (end : Option E) (new : Slot H R W E) : Type 0 where
+  -- these bytes came, where nothing waited and nothing whole stood first; what they make waits
+  pub record IsReceipt (now : ℕ) (old : Slot H R W E) (bytes made : List ℕ) (end : Option E)
+      (new : Slot H R W E) : Type 0 where
     pub responsive : IsResponsive old
     pub lacks : handler.needs_more old.handler
     pub consumes : Consumes (input.unread old.reader) (input.unread new.reader) bytes
@@ -48,7 +49,8 @@ module _ {H R W V E : Type 0} (input : Input R) (output : Output W) (handler : B
     }
 
   -- what stood first was answered, where nothing waited; the answer waits
-  pub record IsAnswer (now : ℕ) (v : V) (old : Slot H R W E) (made : List ℕ) (end : Option E) (w : V) (new : Slot H R W E) : Type 0 where
+  pub record IsAnswer (now : ℕ) (v : V) (old : Slot H R W E) (made : List ℕ) (end : Option E)
+      (w : V) (new : Slot H R W E) : Type 0 where
     pub responsive : IsResponsive old
     pub answers : handler.answers v old.handler made end w new.handler
     pub others : new ≡ record old {
@@ -65,7 +67,8 @@ module _ {H R W V E : Type 0} (input : Input R) (output : Output W) (handler : B
     pub others : new ≡ record old { handler = new.handler }
 
   -- these bytes were written, which waited first
-  pub record IsWrite (now : ℕ) (old : Slot H R W E) (bytes : List ℕ) (new : Slot H R W E) : Type 0 where
+  pub record IsWrite (now : ℕ) (old : Slot H R W E) (bytes : List ℕ)
+      (new : Slot H R W E) : Type 0 where
     pub first : old.waiting ≡ bytes ++ new.waiting
     pub appends : Appends (output.written old.writer) (output.written new.writer) bytes
     pub others : new ≡ record old { writer = new.writer; waiting = new.waiting; active = now }
@@ -80,7 +83,8 @@ module _ {H R W V E : Type 0} (input : Input R) (output : Output W) (handler : B
   ]
 
   -- it ended without a message
-  pub record IsStop (now : ℕ) (old : Slot H R W E) (ending : SlotEnd E) (new : Slot H R W E) : Type 0 where
+  pub record IsStop (now : ℕ) (old : Slot H R W E) (ending : SlotEnd E)
+      (new : Slot H R W E) : Type 0 where
     pub unread : Keeps (input.unread old.reader) (input.unread new.reader)
     pub written : Keeps (output.written old.writer) (output.written new.writer)
     pub may : MayStop now old ending new
@@ -110,7 +114,8 @@ module _ {H R W V E : Type 0} (input : Input R) (output : Output W) (handler : B
   IsStep now v old Wakes w new = (w ≡ v) × (new ≡ record old { readable = true; writable = true })
 
   -- one step after the other, all at this time, and none is answered where there is no room
-  abbrev pub AreSteps : (room : Bool) → ℕ → V → Slot H R W E → List (Step E) → V → Slot H R W E → Type 0
+  abbrev pub AreSteps : (room : Bool) → ℕ → V → Slot H R W E → List (Step E) → V → Slot H R W E
+      → Type 0
   AreSteps room now v old [] w new = (w ≡ v) × (new ≡ old)
   AreSteps room now v old (step ∷ steps) w new =
       (u : V) × (middle : Slot H R W E) × IsAllowed room step × IsStep now v old step u middle

@@ -1,6 +1,5 @@
 -- The event loop: what one turn of it is, and an execution of turns.
 use Rattle.std.specs.Prelude.{◌≡◌, ℕ, ◌≤◌, ◌<◌, Bool, true, false, List, [], ◌∷◌, count_by, slice_get, slice_set, Option, None, Some}
-use Rattle.multiplex.specs.declared.source.Arrival.{Arrival}
 use Rattle.multiplex.specs.declared.source.Arrival.TheVariants.{Nobody, Failed, Connection}
 use Rattle.multiplex.specs.declared.limits.Limits.{Limits}
 use Rattle.multiplex.specs.Effects.{Effects}
@@ -17,8 +16,11 @@ pub record Loop (S H R W V E : Type 0) : Type 0 where
   pub world : V
   pub now : ℕ
 
-abbrev pub state : {S H R W V E : Type 0} → S → List (Option (Slot H R W E)) → V → ℕ → Loop S H R W V E
-state source slots world now = record { source = source; slots = slots; world = world; now = now }
+-- the loop in this state
+abbrev pub state : {S H R W V E : Type 0} → S → List (Option (Slot H R W E)) → V → ℕ
+    → Loop S H R W V E
+state source slots world now =
+    record { source = source; slots = slots; world = world; now = now }
 
 -- what may happen in one turn
 pub data LoopTurn (E : Type 0) : Type 0 where
@@ -43,18 +45,25 @@ count_waits turns = count_by (λ turn. elim turn [ Waits busy now ↦ true | _ �
 
 -- how many connections were accepted, those that failed too
 abbrev pub count_accepted : {E : Type 0} → List (LoopTurn E) → ℕ
-count_accepted turns =
-    count_by (λ turn. elim turn [ Accepts slot listener ↦ true | AcceptFails ↦ true | _ ↦ false ]) turns
+count_accepted turns = count_by (λ turn. elim turn [
+  | Accepts slot listener ↦ true
+  | AcceptFails ↦ true
+  | _ ↦ false
+]) turns
 
-module _ {S H R W V E : Type 0} (source : Effects S R W) (input : Input R) (output : Output W) (handler : Behavior H V E) (limits : Limits) where
+module _ {S H R W V E : Type 0} (source : Effects S R W) (input : Input R) (output : Output W)
+    (handler : Behavior H V E) (limits : Limits) where
   -- it was waited; where nothing was to be done at once, each connection was at rest
-  pub record IsWait (old : Loop S H R W V E) (busy : Bool) (now : ℕ) (new : Loop S H R W V E) : Type 0 where
-    pub rest : busy ≡ false → (k : ℕ) → IsAtRestAt handler (has_room limits.waiting_bytes old.slots) old.slots k
+  pub record IsWait (old : Loop S H R W V E) (busy : Bool) (now : ℕ)
+      (new : Loop S H R W V E) : Type 0 where
+    pub rest : busy ≡ false → (k : ℕ)
+        → IsAtRestAt handler (has_room limits.waiting_bytes old.slots) old.slots k
     pub waited : source.waited old.source busy now new.source
     pub others : new ≡ record old { source = new.source; now = now }
 
   -- a connection came, and got a free slot of those for accepted ones
-  pub record IsAccept (old : Loop S H R W V E) (k listener : ℕ) (new : Loop S H R W V E) : Type 0 where
+  pub record IsAccept (old : Loop S H R W V E) (k listener : ℕ)
+      (new : Loop S H R W V E) : Type 0 where
     pub reader : R
     pub writer : W
     pub first : H
@@ -68,7 +77,8 @@ module _ {S H R W V E : Type 0} (source : Effects S R W) (input : Input R) (outp
     }
 
   -- a call began, and got a free slot behind those for accepted ones
-  pub record IsCall (old : Loop S H R W V E) (k : ℕ) (made : List ℕ) (new : Loop S H R W V E) : Type 0 where
+  pub record IsCall (old : Loop S H R W V E) (k : ℕ) (made : List ℕ)
+      (new : Loop S H R W V E) : Type 0 where
     pub reader : R
     pub writer : W
     pub first : H
@@ -94,7 +104,8 @@ module _ {S H R W V E : Type 0} (source : Effects S R W) (input : Input R) (outp
     pub others : new ≡ record old { source = new.source; world = new.world }
 
   -- this happened at the connection of a slot, and none is answered where there is no room
-  pub record IsStepAt (old : Loop S H R W V E) (k : ℕ) (step : Step E) (new : Loop S H R W V E) : Type 0 where
+  pub record IsStepAt (old : Loop S H R W V E) (k : ℕ) (step : Step E)
+      (new : Loop S H R W V E) : Type 0 where
     pub before : Slot H R W E
     pub behind : Slot H R W E
     pub there : slice_get old.slots k ≡ Some (Some before)
@@ -131,7 +142,7 @@ module _ {S H R W V E : Type 0} (source : Effects S R W) (input : Input R) (outp
   AreTurns old (turn ∷ turns) new =
       (middle : Loop S H R W V E) × IsLoopTurn old turn middle × AreTurns middle turns new
 
-  -- some turns, or none, in which it was waited so many times and so many connections were accepted
+  -- some turns, or none, with so many waits, in which so many connections were accepted
   abbrev pub TakesTurns : (waits accepted : ℕ) → Loop S H R W V E → Loop S H R W V E → Type 0
   TakesTurns waits accepted old new =
       (turns : List (LoopTurn E)) × AreTurns old turns new × (count_waits turns ≡ waits)

@@ -23,3 +23,11 @@ impl Limits {
         self.rounds
     }
 }
+
+/// What one round of turns goes by.
+#[derive(Clone, Copy)]
+pub(crate) struct Round {
+    pub(crate) limits: Limits,
+    /// The time at its begin, in milliseconds.
+    pub(crate) now: u64,
+}

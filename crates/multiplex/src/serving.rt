@@ -5,14 +5,11 @@ ghost use Rattle.multiplex.specs.Turns.{TakesTurns, state};
 ghost use Rattle.multiplex.specs.Serving.{AreAllFree, HasCalled, HasServed};
 
 use crate::handler::Handler;
-use crate::limits::Limits;
+use crate::limits::{Limits, Round};
 use crate::slot::Slot;
 use crate::source::{Arrival, Source};
-use crate::turns::round;
+use crate::turns::serve_round;
 use std::alloc::Global;
-
-/// The bytes that one read asks for.
-const PIECE: usize = 4096;
 
 /// Whether each of the slots is free.
 fn are_all_free<X>(slots: &[Option<X>]) -> bool
@@ -53,14 +50,13 @@ fn accept_at<S: Source, H: Handler>(
     source: &mut S,
     slots: &mut [Option<Slot<H, S::Reader, S::Writer, H::End>>],
     place: usize,
-    limits: Limits,
-    now: u64,
+    round: Round,
 ) -> u64
     requires within { place < length slots.old }
-    requires accepts { place < limits.accept_slots }
+    requires accepts { place < round.limits.accept_slots }
     ensures turns { (world : H.World)
-        → TakesTurns S.effects S.Reader.input S.Writer.output H.behavior limits 0 result
-        (state source.old slots.old world now) (state source.new slots.new world now) }
+        → TakesTurns S.effects S.Reader.input S.Writer.output H.behavior round.limits 0 result
+        (state source.old slots.old world round.now) (state source.new slots.new world round.now) }
     ensures one { result ≤ 1 }
 {
     match &slots[place] {
@@ -72,7 +68,7 @@ fn accept_at<S: Source, H: Handler>(
                 writer,
             } => {
                 let first = H::begin(alloc, listener);
-                slots[place] = Some(Slot::new(first, reader, writer, Vec::new(alloc), now));
+                slots[place] = Some(Slot::new(first, reader, writer, Vec::new(alloc), round.now));
                 1
             }
             Arrival::Failed => 1,
@@ -87,20 +83,20 @@ fn accept_next<S: Source, H: Handler>(
     source: &mut S,
     slots: &mut [Option<Slot<H, S::Reader, S::Writer, H::End>>],
     accepted: u64,
-    limits: Limits,
-    now: u64,
+    round: Round,
 ) -> u64
     ensures turns { (world : H.World)
-        → TakesTurns S.effects S.Reader.input S.Writer.output H.behavior limits 0 result
-        (state source.old slots.old world now) (state source.new slots.new world now) }
+        → TakesTurns S.effects S.Reader.input S.Writer.output H.behavior round.limits 0 result
+        (state source.old slots.old world round.now) (state source.new slots.new world round.now) }
     ensures one { result ≤ 1 }
-    ensures most { IfSome limits.connections (λ most. accepted ≤ most → accepted + result ≤ most) }
+    ensures most { IfSome round.limits.connections
+        (λ most. accepted ≤ most → accepted + result ≤ most) }
 {
-    if is_all(accepted, limits) {
+    if is_all(accepted, round.limits) {
         return 0;
     }
-    match free_slot(slots, 0, limits.accept_slots) {
-        Some(place) => accept_at::<S, H>(alloc, source, slots, place, limits, now),
+    match free_slot(slots, 0, round.limits.accept_slots) {
+        Some(place) => accept_at::<S, H>(alloc, source, slots, place, round),
         None => 0,
     }
 }
@@ -111,16 +107,15 @@ fn begin_call<S: Source, H: Handler>(
     source: &mut S,
     world: &mut H::World,
     place: usize,
-    limits: Limits,
-    now: u64,
+    round: Round,
 ) -> Option<Slot<H, S::Reader, S::Writer, H::End>>
-    ensures { HasCalled S.effects S.Reader.input S.Writer.output H.behavior limits now
+    ensures { HasCalled S.effects S.Reader.input S.Writer.output H.behavior round.limits round.now
         source.old world.old result source.new world.new }
 {
-    let (reader, writer) = source.call(place, now)?;
+    let (reader, writer) = source.call(place, round.now)?;
     let mut out = Vec::new(alloc);
     match H::call(alloc, world, &mut out) {
-        Some(first) => Some(Slot::new(first, reader, writer, out, now)),
+        Some(first) => Some(Slot::new(first, reader, writer, out, round.now)),
         None => {
             source.close(place, reader, writer);
             None
@@ -135,18 +130,18 @@ fn call_at<S: Source, H: Handler>(
     world: &mut H::World,
     slots: &mut [Option<Slot<H, S::Reader, S::Writer, H::End>>],
     place: usize,
-    limits: Limits,
-    now: u64,
+    round: Round,
 )
     requires within { place < length slots.old }
-    requires calls { limits.accept_slots ≤ place }
-    ensures { TakesTurns S.effects S.Reader.input S.Writer.output H.behavior limits 0 0
-        (state source.old slots.old world.old now) (state source.new slots.new world.new now) }
+    requires calls { round.limits.accept_slots ≤ place }
+    ensures { TakesTurns S.effects S.Reader.input S.Writer.output H.behavior round.limits 0 0
+        (state source.old slots.old world.old round.now)
+        (state source.new slots.new world.new round.now) }
 {
     match &slots[place] {
         Some(_) => {}
         None => {
-            if let Some(slot) = begin_call::<S, H>(alloc, source, world, place, limits, now) {
+            if let Some(slot) = begin_call::<S, H>(alloc, source, world, place, round) {
                 slots[place] = Some(slot);
             }
         }
@@ -167,17 +162,17 @@ fn call_next<S: Source, H: Handler>(
     world: &mut H::World,
     slots: &mut [Option<Slot<H, S::Reader, S::Writer, H::End>>],
     accepted: u64,
-    limits: Limits,
-    now: u64,
+    round: Round,
 )
-    ensures { TakesTurns S.effects S.Reader.input S.Writer.output H.behavior limits 0 0
-        (state source.old slots.old world.old now) (state source.new slots.new world.new now) }
+    ensures { TakesTurns S.effects S.Reader.input S.Writer.output H.behavior round.limits 0 0
+        (state source.old slots.old world.old round.now)
+        (state source.new slots.new world.new round.now) }
 {
-    if !is_open(slots, accepted, limits) {
+    if !is_open(slots, accepted, round.limits) {
         return;
     }
-    if let Some(place) = free_slot(slots, limits.accept_slots, slots.len()) {
-        call_at::<S, H>(alloc, source, world, slots, place, limits, now);
+    if let Some(place) = free_slot(slots, round.limits.accept_slots, slots.len()) {
+        call_at::<S, H>(alloc, source, world, slots, place, round);
     }
 }
 
@@ -198,7 +193,6 @@ pub fn serve<S: Source, H: Handler>(
         (state source.old slots.old world.old first) (state source.new slots.new world.new last)
         result }
 {
-    let mut piece = [0u8; PIECE];
     let mut busy = true;
     let mut accepted = 0;
     for _ in 0..limits.rounds() {
@@ -206,9 +200,10 @@ pub fn serve<S: Source, H: Handler>(
             return true;
         }
         let now = source.wait(busy);
-        accepted += accept_next::<S, H>(alloc, source, slots, accepted, limits, now);
-        call_next::<S, H>(alloc, source, world, slots, accepted, limits, now);
-        busy = round::<S, H>(source, world, slots, limits, &mut piece, now);
+        let round = Round { limits, now };
+        accepted += accept_next::<S, H>(alloc, source, slots, accepted, round);
+        call_next::<S, H>(alloc, source, world, slots, accepted, round);
+        busy = serve_round::<S, H>(source, world, slots, round);
     }
     false
 }

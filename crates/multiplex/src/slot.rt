@@ -11,6 +11,9 @@ use crate::transfer::{NonBlockingRead, NonBlockingWrite, ReadAttempt, WriteAttem
 use std::alloc::Global;
 use std::marker::Model;
 
+/// The bytes that one read asks for.
+const PIECE: usize = 4096;
+
 /// So long, in milliseconds, may no byte come or go.
 const IDLE_LIMIT: u64 = 120_000;
 
@@ -148,23 +151,15 @@ impl<H: Handler, R: NonBlockingRead, W: NonBlockingWrite> Slot<H, R, W, H::End> 
     /// Its turn: some bytes are written, what stands first is answered, or else some bytes are read. It is answered and
     /// read only where nothing of it waits to be written, and where there is `room` for answers. Whether more may be
     /// done at once; else it is at rest.
-    pub(crate) fn visit(
-        &mut self,
-        ready: bool,
-        room: bool,
-        world: &mut H::World,
-        piece: &mut [u8],
-        now: u64,
-    ) -> bool
-        requires { 0 < length piece.old }
-        ensures steps { TakesSteps R.input W.output H.behavior room now world.old self.old world.new self.new }
+    pub(crate) fn visit(&mut self, ready: bool, room: bool, world: &mut H::World, now: u64) -> bool
+        ensures steps { TakesSteps R.input W.output H.behavior room now
+            world.old self.old world.new self.new }
         ensures same { result ≡ false → self.new.waiting ≡ self.old.waiting }
         ensures rest { result ≡ false → IsAtRest H.behavior room self.new }
-        ensures piece { length piece.new ≡ length piece.old }
     {
         self.wake_if(ready);
         let wrote = self.write_next(now);
-        let advanced = self.advance(room, world, piece, now);
+        let advanced = self.advance(room, world, now);
         self.stop_if_idle(now);
         either(wrote, advanced)
     }
@@ -224,16 +219,15 @@ impl<H: Handler, R: NonBlockingRead, W: NonBlockingWrite> Slot<H, R, W, H::End> 
 
     /// Answers what stands first, if it is whole, or else reads more; neither where an answer waits, or there is no room
     /// for one. Whether something was answered or came.
-    fn advance(&mut self, room: bool, world: &mut H::World, piece: &mut [u8], now: u64) -> bool
-        requires { 0 < length piece.old }
-        ensures steps { TakesSteps R.input W.output H.behavior room now world.old self.old world.new self.new }
+    fn advance(&mut self, room: bool, world: &mut H::World, now: u64) -> bool
+        ensures steps { TakesSteps R.input W.output H.behavior room now
+            world.old self.old world.new self.new }
         ensures same { result ≡ false → self.new.waiting ≡ self.old.waiting }
         ensures rest { result ≡ false → IsWriteAtRest self.old → IsAtRest H.behavior room self.new }
-        ensures piece { length piece.new ≡ length piece.old }
     {
         if self.is_responsive() {
             if room {
-                self.answer_or_read(world, piece, now)
+                self.answer_or_read(world, now)
             } else {
                 false
             }
@@ -243,25 +237,25 @@ impl<H: Handler, R: NonBlockingRead, W: NonBlockingWrite> Slot<H, R, W, H::End> 
     }
 
     /// Answers what stands first, if it is whole, or else reads more. Whether something was answered or came.
-    fn answer_or_read(&mut self, world: &mut H::World, piece: &mut [u8], now: u64) -> bool
-        requires piece { 0 < length piece.old }
+    fn answer_or_read(&mut self, world: &mut H::World, now: u64) -> bool
         requires responsive { IsResponsive self.old }
-        ensures steps { TakesSteps R.input W.output H.behavior true now world.old self.old world.new self.new }
+        ensures steps { TakesSteps R.input W.output H.behavior true now
+            world.old self.old world.new self.new }
         ensures same { result ≡ false → self.new.waiting ≡ self.old.waiting }
         ensures rest { result ≡ false → IsAtRest H.behavior true self.new }
-        ensures piece { length piece.new ≡ length piece.old }
     {
         if self.answer_first(world, now) {
             true
         } else {
-            self.read_more(piece, now)
+            self.read_more(now)
         }
     }
 
     /// Answers what stands first, if it is whole. Whether it was.
     fn answer_first(&mut self, world: &mut H::World, now: u64) -> bool
         requires { IsResponsive self.old }
-        ensures steps { TakesSteps R.input W.output H.behavior true now world.old self.old world.new self.new }
+        ensures steps { TakesSteps R.input W.output H.behavior true now
+            world.old self.old world.new self.new }
         ensures lacks { result ≡ false
             → IsResponsive self.new × H.behavior.needs_more self.new.handler }
     {
@@ -280,20 +274,19 @@ impl<H: Handler, R: NonBlockingRead, W: NonBlockingWrite> Slot<H, R, W, H::End> 
     }
 
     /// Reads some of what comes, if something may be there. Whether something came.
-    fn read_more(&mut self, piece: &mut [u8], now: u64) -> bool
-        requires piece { 0 < length piece.old }
+    fn read_more(&mut self, now: u64) -> bool
         requires responsive { IsResponsive self.old }
         requires lacks { H.behavior.needs_more self.old.handler }
         ensures steps { (v : H.World) (room : Bool)
             → TakesSteps R.input W.output H.behavior room now v self.old v self.new }
         ensures same { result ≡ false → self.new.waiting ≡ self.old.waiting }
         ensures rest { result ≡ false → IsAtRest H.behavior true self.new }
-        ensures piece { length piece.new ≡ length piece.old }
     {
         if !self.readable {
             return false;
         }
-        match self.reader.try_read(piece) {
+        let mut piece = [0u8; PIECE];
+        match self.reader.try_read(&mut piece) {
             ReadAttempt::Read(n) => {
                 let end = self.handler.receive(&piece[..n], &mut self.out);
                 self.active = now;

@@ -5,7 +5,7 @@ ghost use Rattle.multiplex.specs.Slots.{MayClose, has_room, IsAtRestAt, waiting_
 ghost use Rattle.multiplex.specs.Turns.{TakesTurns, state};
 
 use crate::handler::Handler;
-use crate::limits::Limits;
+use crate::limits::Round;
 use crate::slot::{Slot, either};
 use crate::source::Source;
 
@@ -40,25 +40,21 @@ fn visit_at<S: Source, H: Handler>(
     world: &mut H::World,
     slots: &mut [Option<Slot<H, S::Reader, S::Writer, H::End>>],
     place: usize,
-    limits: Limits,
-    piece: &mut [u8],
-    now: u64,
+    round: Round,
 ) -> bool
-    requires within { place < length slots.old }
-    requires piece { 0 < length piece.old }
+    requires { place < length slots.old }
     ensures turns { (source : S)
-        → TakesTurns S.effects S.Reader.input S.Writer.output H.behavior limits 0 0
-        (state source slots.old world.old now) (state source slots.new world.new now) }
+        → TakesTurns S.effects S.Reader.input S.Writer.output H.behavior round.limits 0 0
+        (state source slots.old world.old round.now) (state source slots.new world.new round.now) }
     ensures length { length slots.new ≡ length slots.old }
     ensures others { (k : ℕ) → k ≢ place → slice_get slots.new k ≡ slice_get slots.old k }
     ensures same { result ≡ false → all_waiting slots.new ≡ all_waiting slots.old }
     ensures rest { result ≡ false
-        → IsAtRestAt H.behavior (has_room limits.waiting_bytes slots.new) slots.new place }
-    ensures piece { length piece.new ≡ length piece.old }
+        → IsAtRestAt H.behavior (has_room round.limits.waiting_bytes slots.new) slots.new place }
 {
-    let room = has_room(slots, limits.waiting_bytes);
+    let room = has_room(slots, round.limits.waiting_bytes);
     match &mut slots[place] {
-        Some(slot) => slot.visit(ready, room, world, piece, now),
+        Some(slot) => slot.visit(ready, room, world, round.now),
         None => false,
     }
 }
@@ -80,12 +76,12 @@ fn close_at<S: Source, H: Handler>(
     source: &mut S,
     slots: &mut [Option<Slot<H, S::Reader, S::Writer, H::End>>],
     place: usize,
-    limits: Limits,
+    round: Round,
 ) -> bool
     requires { place < length slots.old }
-    ensures turns { (world : H.World) (now : ℕ)
-        → TakesTurns S.effects S.Reader.input S.Writer.output H.behavior limits 0 0
-        (state source.old slots.old world now) (state source.new slots.new world now) }
+    ensures turns { (world : H.World)
+        → TakesTurns S.effects S.Reader.input S.Writer.output H.behavior round.limits 0 0
+        (state source.old slots.old world round.now) (state source.new slots.new world round.now) }
     ensures length { length slots.new ≡ length slots.old }
     ensures others { (k : ℕ) → k ≢ place → slice_get slots.new k ≡ slice_get slots.old k }
     ensures same { result ≡ false → slots.new ≡ slots.old }
@@ -109,47 +105,41 @@ fn turn_at<S: Source, H: Handler>(
     world: &mut H::World,
     slots: &mut [Option<Slot<H, S::Reader, S::Writer, H::End>>],
     place: usize,
-    limits: Limits,
-    piece: &mut [u8],
-    now: u64,
+    round: Round,
 ) -> bool
-    requires within { place < length slots.old }
-    requires piece { 0 < length piece.old }
-    ensures turns { TakesTurns S.effects S.Reader.input S.Writer.output H.behavior limits 0 0
-        (state source.old slots.old world.old now) (state source.new slots.new world.new now) }
+    requires { place < length slots.old }
+    ensures turns { TakesTurns S.effects S.Reader.input S.Writer.output H.behavior round.limits 0 0
+        (state source.old slots.old world.old round.now)
+        (state source.new slots.new world.new round.now) }
     ensures length { length slots.new ≡ length slots.old }
     ensures others { (k : ℕ) → k ≢ place → slice_get slots.new k ≡ slice_get slots.old k }
     ensures same { result ≡ false → all_waiting slots.new ≡ all_waiting slots.old }
     ensures rest { result ≡ false
-        → IsAtRestAt H.behavior (has_room limits.waiting_bytes slots.new) slots.new place }
-    ensures piece { length piece.new ≡ length piece.old }
+        → IsAtRestAt H.behavior (has_room round.limits.waiting_bytes slots.new) slots.new place }
 {
     let ready = source.is_ready(place);
-    let busy = visit_at::<S, H>(ready, world, slots, place, limits, piece, now);
-    let closed = close_at::<S, H>(source, slots, place, limits);
+    let busy = visit_at::<S, H>(ready, world, slots, place, round);
+    let closed = close_at::<S, H>(source, slots, place, round);
     either(busy, closed)
 }
 
 /// A turn of each slot. Whether more may be done at once; else each connection is at rest.
-pub(crate) fn round<S: Source, H: Handler>(
+pub(crate) fn serve_round<S: Source, H: Handler>(
     source: &mut S,
     world: &mut H::World,
     slots: &mut [Option<Slot<H, S::Reader, S::Writer, H::End>>],
-    limits: Limits,
-    piece: &mut [u8],
-    now: u64,
+    round: Round,
 ) -> bool
-    requires { 0 < length piece.old }
-    ensures turns { TakesTurns S.effects S.Reader.input S.Writer.output H.behavior limits 0 0
-        (state source.old slots.old world.old now) (state source.new slots.new world.new now) }
+    ensures turns { TakesTurns S.effects S.Reader.input S.Writer.output H.behavior round.limits 0 0
+        (state source.old slots.old world.old round.now)
+        (state source.new slots.new world.new round.now) }
     ensures length { length slots.new ≡ length slots.old }
     ensures rest { result ≡ false → (k : ℕ)
-        → IsAtRestAt H.behavior (has_room limits.waiting_bytes slots.new) slots.new k }
-    ensures piece { length piece.new ≡ length piece.old }
+        → IsAtRestAt H.behavior (has_room round.limits.waiting_bytes slots.new) slots.new k }
 {
     let mut busy = false;
     for place in 0..slots.len() {
-        let here = turn_at::<S, H>(source, world, slots, place, limits, piece, now);
+        let here = turn_at::<S, H>(source, world, slots, place, round);
         busy = either(busy, here);
     }
     busy

@@ -7,11 +7,14 @@ returns-clause-steps g c =
     let w = c.advance-advanced.new.world in
     let room = c.args.room in
     let now = c.args.now in
-    more g.R.NonBlockingRead.input g.W.NonBlockingWrite.output g.H.Handler.behavior room now v v w _ _ _
+    more g.R.NonBlockingRead.input g.W.NonBlockingWrite.output g.H.Handler.behavior room now v v w _
+    _ _
     (c.wake_if.ensures.steps v room now)
-    (more g.R.NonBlockingRead.input g.W.NonBlockingWrite.output g.H.Handler.behavior room now v v w _ _ _
+    (more g.R.NonBlockingRead.input g.W.NonBlockingWrite.output g.H.Handler.behavior room now v v w
+    _ _ _
     (c.write_next-wrote.ensures.steps v room)
-    (more g.R.NonBlockingRead.input g.W.NonBlockingWrite.output g.H.Handler.behavior room now v w w _ _ _
+    (more g.R.NonBlockingRead.input g.W.NonBlockingWrite.output g.H.Handler.behavior room now v w w
+    _ _ _
     c.advance-advanced.ensures.steps (c.stop_if_idle.ensures.steps w room)))
 
 pub returns-clause-rest : goal.returns-clause-rest
