@@ -12,3 +12,8 @@ pub with_more : (most : Option ℕ) (count others : ℕ) → IfSome most (λ n. 
     → IfSome most (λ n. count ≤ n → count + others ≤ n) → IfSome most (λ n. count + others ≤ n)
 with_more None count others so_far step = tt
 with_more (Some n) count others so_far step = step so_far
+
+-- none more
+pub none_more : (most : Option ℕ) (count : ℕ) → IfSome most (λ n. count ≤ n → count + 0 ≤ n)
+none_more None count = tt
+none_more (Some n) count = λ below. omega (arith, below)

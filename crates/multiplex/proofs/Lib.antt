@@ -3,3 +3,4 @@ pub mod Places
 pub mod Turning
 pub mod Counts
 pub mod OwnSteps
+pub mod Finding

@@ -40,7 +40,7 @@ module _ {H R W V E : Type 0} (input : Input R) (output : Output W) (handler : B
   Takes room now v old w new = TakesSteps input output handler room now v old w new
 
   one : (room : Bool) (now : ℕ) (v w : V) (old new : Slot H R W E) (step : Step E)
-      → IsAllowed room step
+      → IsAllowed room ⊥ step
       → IsStep input output handler now v old step w new → Takes room now v old w new
   one room now v w old new step allowed is = (step ∷ [], (w, new, allowed, is, (refl, refl)))
 
@@ -205,11 +205,12 @@ module _ {H R W V E : Type 0} (input : Input R) (output : Output W) (handler : B
       (ending : SlotEnd E)
       → old ≡ slot → Keeps (input.unread old.reader) (input.unread r)
       → Keeps (output.written old.writer) (output.written w)
+      → IsAllowed room ⊥ (Stops ending)
       → MayStop input output handler now old ending (record old
       { reader = r; writer = w; ending = Some ending })
       → Takes room now v slot v (record old { reader = r; writer = w; ending = Some ending })
-  stopped room now v old slot r w ending is unread written may =
+  stopped room now v old slot r w ending is unread written allowed may =
       let new : Slot H R W E = record old { reader = r; writer = w; ending = Some ending } in
       subst (λ s. Takes room now v s v new) is
-      (one room now v v old new (Stops ending) tt
+      (one room now v v old new (Stops ending) allowed
       (refl, record { unread = unread; written = written; may = may; others = refl }))

@@ -1,8 +1,10 @@
 -- Executions of turns, which the contracts of `turns` and `serving` need.
 use Rattle.std.proofs.Common.{◌≡◌, ℕ, ◌+◌, ◌<◌, ◌≤◌, Bool, false, List, [], ◌∷◌, ◌++◌, refl, sym, ◌∙◌, subst, ap, arith}
 use Rattle.std.specs.Prelude.{Option, None, Some, slice_get, slice_set}
+use Rattle.std.proofs.KnownBytes.{Keeps-refl}
 use Rattle.std.proofs.lemmas.Option.{same_Some}
 use Rattle.std.proofs.lemmas.List.Sums.{sum_by-append}
+use Rattle.multiplex.specs.declared.handler.SlotEnd.TheVariants.{Finished, EndOfInput, Broken, IdleTimeout, Displaced}
 use Rattle.multiplex.specs.declared.source.Arrival.{Arrival}
 use Rattle.multiplex.specs.declared.source.Arrival.TheVariants.{Nobody, Failed, Connection}
 use Rattle.multiplex.specs.declared.limits.Limits.{Limits}
@@ -10,7 +12,7 @@ use Rattle.multiplex.specs.Effects.{Effects}
 use Rattle.multiplex.specs.Input.{Input}
 use Rattle.multiplex.specs.Output.{Output}
 use Rattle.multiplex.specs.Behavior.{Behavior}
-use Rattle.multiplex.specs.Slots.{Slot, first_slot, has_room, IsAtRestAt, MayClose}
+use Rattle.multiplex.specs.Slots.{Slot, first_slot, has_room, IsAtRestAt, IsLongestUnheard, MayClose}
 use Rattle.multiplex.specs.Steps.{Step, Receives, Answers, Lacks, Writes, Stops, FindsEmpty, FindsFull, Wakes, IsAllowed, IsStep, AreSteps}
 use Rattle.multiplex.specs.Turns.{Loop, state, LoopTurn, Waits, Accepts, AcceptFails, AcceptsNobody, Calls, CallFails, CallsNobody, Steps, Closes, count_waits, count_accepted, IsLoopTurn, AreTurns, TakesTurns}
 use Rattle.multiplex.specs.Serving.{HasCalled}
@@ -75,19 +77,26 @@ module _ {S H R W V E : Type 0} (source : Effects S R W) (input : Input R) (outp
 
   -- a step is allowed where it is allowed in the same slots with less to be written
   still_allowed : (slots : List (Option (Slot H R W E))) (k now : ℕ) (v w : V)
-      (first old new : Slot H R W E) (step : Step E)
-      → slice_get slots k ≡ Some (Some first) → IsAllowed (has_room limits.waiting_bytes slots) step
+      (first old new : Slot H R W E)
+      (step : Step E) (has_to : Type 0)
+      → slice_get slots k ≡ Some (Some first) → IsAllowed (has_room limits.waiting_bytes slots) ⊥
+      step
       → IsStep input output handler now v old step w new
-      → IsAllowed (has_room limits.waiting_bytes (slice_set slots k (Some old))) step
-  still_allowed slots k now v w first old new (Receives bytes made end) got allowed is = tt
-  still_allowed slots k now v w first old new (Answers made end) got allowed is =
+      → IsAllowed (has_room limits.waiting_bytes (slice_set slots k (Some old))) has_to step
+  still_allowed slots k now v w first old new (Receives bytes made end) has_to got allowed is = tt
+  still_allowed slots k now v w first old new (Answers made end) has_to got allowed is =
       less-empty slots limits.waiting_bytes k first old got is.responsive.1 allowed
-  still_allowed slots k now v w first old new Lacks got allowed is = tt
-  still_allowed slots k now v w first old new (Writes bytes) got allowed is = tt
-  still_allowed slots k now v w first old new (Stops ending) got allowed is = tt
-  still_allowed slots k now v w first old new FindsEmpty got allowed is = tt
-  still_allowed slots k now v w first old new FindsFull got allowed is = tt
-  still_allowed slots k now v w first old new Wakes got allowed is = tt
+  still_allowed slots k now v w first old new Lacks has_to got allowed is = tt
+  still_allowed slots k now v w first old new (Writes bytes) has_to got allowed is = tt
+  still_allowed slots k now v w first old new (Stops (Finished end)) has_to got allowed is = tt
+  still_allowed slots k now v w first old new (Stops EndOfInput) has_to got allowed is = tt
+  still_allowed slots k now v w first old new (Stops Broken) has_to got allowed is = tt
+  still_allowed slots k now v w first old new (Stops IdleTimeout) has_to got allowed is = tt
+  still_allowed slots k now v w first old new (Stops Displaced) has_to got allowed is = absurd
+      allowed
+  still_allowed slots k now v w first old new FindsEmpty has_to got allowed is = tt
+  still_allowed slots k now v w first old new FindsFull has_to got allowed is = tt
+  still_allowed slots k now v w first old new Wakes has_to got allowed is = tt
 
   -- some steps at the connection of a slot, from another state of it than the slots that judge the room
   steps_from : (source' : S) (slots : List (Option (Slot H R W E))) (v w : V) (now k : ℕ)
@@ -114,7 +123,7 @@ module _ {S H R W V E : Type 0} (source : Effects S R W) (input : Input R) (outp
         before = old;
         behind = middle;
         there = there;
-        allowed = still_allowed slots k now v u first old middle step got allowed is;
+        allowed = still_allowed slots k now v u first old middle step _ got allowed is;
         step_is = is;
         others = refl;
       }) in
@@ -293,3 +302,39 @@ module _ {S H R W V E : Type 0} (source : Effects S R W) (input : Input R) (outp
       let count : accepted + (0 + (more_accepted + (0 + 0))) ≡ accepted + more_accepted = omega
       arith in
       subst (λ n. Goes (waits + 1) n (state s0 l0 v0 first) (state s4 l4 v4 now)) count all
+
+  -- a connection makes place for the next one
+  pub displaced : (source' : S) (slots : List (Option (Slot H R W E))) (v : V) (now k : ℕ)
+      (old slot new : Slot H R W E)
+      → slice_get slots k ≡ Some (Some old) → slice_get slots k ≡ Some (Some slot)
+      → IsLongestUnheard handler now limits.accept_slots slots k slot
+      → new ≡ record old { ending = Some Displaced }
+      → Goes 0 0 (state source' slots v now) (state source' (slice_set slots k (Some new)) v now)
+  displaced source' slots v now k old slot new got found longest ended =
+      let same : slot ≡ old = same_Some slot old (same_Some (Some slot) (Some old)
+      (sym found ∙ got)) in
+      let last : IsLongestUnheard handler now limits.accept_slots slots k old =
+      subst (λ (s : Slot H R W E). IsLongestUnheard handler now limits.accept_slots slots k s) same
+      longest in
+      let end : Slot H R W E = record old { ending = Some Displaced } in
+      subst (λ (s : Slot H R W E). Goes 0 0 (state source' slots v now)
+      (state source' (slice_set slots k (Some s)) v now))
+      (sym ended)
+      (one (Steps k (Stops Displaced)) (state source' slots v now)
+      (state source' (slice_set slots k (Some end)) v now)
+      (record {
+        before = old;
+        behind = end;
+        there = got;
+        allowed = last;
+        step_is = (
+          refl,
+          record {
+            unread = Keeps-refl (input.unread old.reader);
+            written = Keeps-refl (output.written old.writer);
+            may = last.unheard;
+            others = refl;
+          },
+        );
+        others = refl;
+      }))

@@ -1,5 +1,5 @@
 -- What a handler's calls do to it, and to the world that it shares with others.
-use Rattle.std.specs.Prelude.{ℕ, List, Option}
+use Rattle.std.specs.Prelude.{ℕ, Bool, List, Option}
 
 -- how a handler begins, takes bytes and answers; `made` is what is to be written for it, and the
 -- end is there where the connection ends so
@@ -14,6 +14,8 @@ pub record Behavior (H V E : Type 0) : Type 1 where
   pub answers : V → H → (made : List ℕ) → (end : Option E) → V → H → Type 0
   -- nothing whole stands first in what came
   pub needs_more : H → Type 0
+  -- it needn't make place for the next connection
+  pub is_established : H → Bool
   -- what calls and answers may do to the world, one after the other
   pub moves : V → V → Type 0
 

@@ -1,6 +1,6 @@
 -- Connections in their slots: what waits to be written there, when one is at rest, and when it may
 -- be closed.
-use Rattle.std.specs.Prelude.{◌≡◌, ◌⊎◌, ℕ, ◌<◌, Bool, true, false, nat_lt, List, [], length, sum_by, slice_get, Option, None, Some}
+use Rattle.std.specs.Prelude.{◌≡◌, ◌≢◌, ◌⊎◌, ℕ, ◌+◌, ◌<◌, ◌≤◌, Bool, true, false, nat_lt, List, [], length, sum_by, slice_get, Option, None, Some}
 use Rattle.std.specs.Option.{option_map_or}
 use Rattle.multiplex.specs.declared.handler.SlotEnd.{SlotEnd}
 use Rattle.multiplex.specs.declared.handler.SlotEnd.TheVariants.{Finished, EndOfInput}
@@ -34,6 +34,25 @@ first_slot handler reader writer made now = record {
   readable = true;
   writable = true;
 }
+
+-- so long, in milliseconds, a connection that isn't established keeps its slot without bringing a
+-- whole message
+abbrev pub unheard_limit : ℕ
+unheard_limit = 10000
+
+-- it isn't established, and brought no whole message for so long
+abbrev pub IsUnheard : {H R W V E : Type 0} → Behavior H V E → (now : ℕ) → Slot H R W E → Type 0
+IsUnheard handler now slot =
+    (handler.is_established slot.handler ≡ false) × (slot.heard + unheard_limit ≤ now)
+
+-- of the first slots each is taken, and the connection in this one is unheard for longest
+pub record IsLongestUnheard {H R W V E : Type 0} (handler : Behavior H V E) (now first : ℕ)
+    (slots : List (Option (Slot H R W E))) (k : ℕ) (slot : Slot H R W E) : Type 0 where
+  pub within : k < first
+  pub taken : (j : ℕ) → j < first → slice_get slots j ≢ Some None
+  pub unheard : IsUnheard handler now slot
+  pub longest : (j : ℕ) (other : Slot H R W E) → j < first → slice_get slots j ≡ Some (Some other)
+      → IsUnheard handler now other → slot.heard ≤ other.heard
 
 -- it goes on, and nothing waits to be written: what it brings may be answered, or more be read
 abbrev pub IsResponsive : {H R W E : Type 0} → Slot H R W E → Type 0

@@ -3,11 +3,11 @@ use Rattle.std.specs.Prelude.{◌≡◌, ◌⊎◌, ℕ, ◌+◌, ◌≤◌, Boo
 use Rattle.std.specs.Option.{option_map}
 use Rattle.std.specs.Io.KnownBytes.{Appends, Consumes, IsAtEnd, Keeps}
 use Rattle.multiplex.specs.declared.handler.SlotEnd.{SlotEnd}
-use Rattle.multiplex.specs.declared.handler.SlotEnd.TheVariants.{Finished, EndOfInput, Broken, IdleTimeout}
+use Rattle.multiplex.specs.declared.handler.SlotEnd.TheVariants.{Finished, EndOfInput, Broken, IdleTimeout, Displaced}
 use Rattle.multiplex.specs.Input.{Input}
 use Rattle.multiplex.specs.Output.{Output}
 use Rattle.multiplex.specs.Behavior.{Behavior}
-use Rattle.multiplex.specs.Slots.{Slot, IsResponsive}
+use Rattle.multiplex.specs.Slots.{Slot, IsResponsive, IsUnheard}
 
 -- what may happen at a connection
 pub data Step (E : Type 0) : Type 0 where
@@ -28,9 +28,13 @@ pub data Step (E : Type 0) : Type 0 where
 abbrev pub idle_limit : ℕ
 idle_limit = 120000
 
--- answers need room
-abbrev pub IsAllowed : {E : Type 0} → (room : Bool) → Step E → Type 0
-IsAllowed room step = elim step [ Answers made end ↦ room ≡ true | _ ↦ Unit {0} ]
+-- answers need room, and a connection makes place only where it has to
+abbrev pub IsAllowed : {E : Type 0} → (room : Bool) → (has_to : Type 0) → Step E → Type 0
+IsAllowed room has_to step = elim step [
+  | Answers made end ↦ room ≡ true
+  | Stops ending ↦ elim ending [ Displaced ↦ has_to | _ ↦ Unit {0} ]
+  | _ ↦ Unit {0}
+]
 
 module _ {H R W V E : Type 0} (input : Input R) (output : Output W) (handler : Behavior H V E) where
   -- these bytes came, where nothing waited and nothing whole stood first; what they make waits
@@ -80,6 +84,7 @@ module _ {H R W V E : Type 0} (input : Input R) (output : Output W) (handler : B
     | EndOfInput ↦ IsAtEnd (input.unread new.reader)
     | Broken ↦ input.has_failed new.reader ⊎ output.has_failed new.writer
     | IdleTimeout ↦ old.active + idle_limit ≤ now
+    | Displaced ↦ IsUnheard handler now old
   ]
 
   -- it ended without a message
@@ -113,12 +118,13 @@ module _ {H R W V E : Type 0} (input : Input R) (output : Output W) (handler : B
   IsStep now v old FindsFull w new = (w ≡ v) × HasFoundFull old new
   IsStep now v old Wakes w new = (w ≡ v) × (new ≡ record old { readable = true; writable = true })
 
-  -- one step after the other, all at this time, and none is answered where there is no room
+  -- one step after the other, all at this time; none is answered where there is no room, and none
+  -- makes place
   abbrev pub AreSteps : (room : Bool) → ℕ → V → Slot H R W E → List (Step E) → V → Slot H R W E
       → Type 0
   AreSteps room now v old [] w new = (w ≡ v) × (new ≡ old)
   AreSteps room now v old (step ∷ steps) w new =
-      (u : V) × (middle : Slot H R W E) × IsAllowed room step × IsStep now v old step u middle
+      (u : V) × (middle : Slot H R W E) × IsAllowed room ⊥ step × IsStep now v old step u middle
       × AreSteps room now u middle steps w new
 
   -- some steps, or none

@@ -6,7 +6,7 @@ use Rattle.multiplex.specs.Effects.{Effects}
 use Rattle.multiplex.specs.Input.{Input}
 use Rattle.multiplex.specs.Output.{Output}
 use Rattle.multiplex.specs.Behavior.{Behavior}
-use Rattle.multiplex.specs.Slots.{Slot, first_slot, has_room, IsAtRestAt, MayClose}
+use Rattle.multiplex.specs.Slots.{Slot, first_slot, has_room, IsAtRestAt, IsLongestUnheard, MayClose}
 use Rattle.multiplex.specs.Steps.{Step, IsAllowed, IsStep}
 
 -- what connections come from, their slots, of which some are free, the world, and the time
@@ -103,13 +103,15 @@ module _ {S H R W V E : Type 0} (source : Effects S R W) (input : Input R) (outp
     pub closed : source.closed between reader writer new.source
     pub others : new ≡ record old { source = new.source; world = new.world }
 
-  -- this happened at the connection of a slot, and none is answered where there is no room
+  -- this happened at the connection of a slot; it is answered only where there is room, and makes
+  -- place only where all slots for accepted ones are taken and it is unheard for longest
   pub record IsStepAt (old : Loop S H R W V E) (k : ℕ) (step : Step E)
       (new : Loop S H R W V E) : Type 0 where
     pub before : Slot H R W E
     pub behind : Slot H R W E
     pub there : slice_get old.slots k ≡ Some (Some before)
-    pub allowed : IsAllowed (has_room limits.waiting_bytes old.slots) step
+    pub allowed : IsAllowed (has_room limits.waiting_bytes old.slots)
+        (IsLongestUnheard handler old.now limits.accept_slots old.slots k before) step
     pub step_is : IsStep input output handler old.now old.world before step new.world behind
     pub others : new ≡ record old { slots = slice_set old.slots k (Some behind); world = new.world }
 

@@ -18,6 +18,8 @@ pub enum SlotEnd<E> {
     Broken,
     /// No byte came or went for too long.
     IdleTimeout,
+    /// It made place for the next connection.
+    Displaced,
 }
 
 /// What an answer comes to.
@@ -64,6 +66,11 @@ pub trait Handler: Drop {
             × behavior.answers world.old self.old made (end_in result) world.new self.new }
         ensures needs_more { result ≡ NeedsMore
             → (out.new.items ≡ out.old.items) × behavior.needs_more self.new };
+
+    /// Whether it is established. One that isn't, and brings no whole message for too long, has to make place for the
+    /// next connection where every slot is taken.
+    fn is_established(&self) -> bool
+        ensures { result ≡ behavior.is_established self.now };
 
     /// What answers and calls do are moves of the world.
     ghost moves_add_up: { MovesAddUp behavior };

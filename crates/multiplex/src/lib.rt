@@ -2,6 +2,7 @@
 //! another.
 #![tactic(auto)]
 
+mod displacing;
 mod handler;
 mod laws;
 mod limits;

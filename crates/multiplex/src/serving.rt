@@ -1,9 +1,10 @@
 //! The event loop.
 
-ghost use Rattle.std.specs.Prelude.{◌≡◌, ◌+◌, ◌<◌, ◌≤◌, ◌↔◌, ℕ, List, length, IsTrue, true, false, Some, None, IfSome, min};
+ghost use Rattle.std.specs.Prelude.{◌≡◌, ◌≢◌, ◌+◌, ◌<◌, ◌≤◌, ◌↔◌, ℕ, List, length, IsTrue, true, false, Some, None, IfSome, IfNone, slice_get, min};
 ghost use Rattle.multiplex.specs.Turns.{TakesTurns, state};
 ghost use Rattle.multiplex.specs.Serving.{AreAllFree, HasCalled, HasServed};
 
+use crate::displacing::make_place;
 use crate::handler::Handler;
 use crate::limits::{Limits, Round};
 use crate::slot::Slot;
@@ -20,7 +21,10 @@ fn are_all_free<X>(slots: &[Option<X>]) -> bool
 
 /// The first free slot from one on to another.
 fn free_slot<X>(slots: &[Option<X>], from: usize, to: usize) -> Option<usize>
-    ensures { IfSome result (λ place. (from ≤ place) × (place < to) × (place < length slots.now)) }
+    ensures some { IfSome result
+        (λ place. (from ≤ place) × (place < to) × (place < length slots.now)) }
+    ensures none { IfNone result
+        ((k : ℕ) → from ≤ k → k < to → slice_get slots.now k ≢ Some None) }
 {
     for place in from..to.min(slots.len()) {
         if slots[place].is_none() {
@@ -77,7 +81,8 @@ fn accept_at<S: Source, H: Handler>(
     }
 }
 
-/// Takes a connection that comes, where a slot is free and more are to be accepted. How many came, one or none.
+/// Takes a connection that comes, where a slot is free and more are to be accepted; where none is, another connection
+/// may have to make place for it. How many came, one or none.
 fn accept_next<S: Source, H: Handler>(
     alloc: Global,
     source: &mut S,
@@ -97,7 +102,12 @@ fn accept_next<S: Source, H: Handler>(
     }
     match free_slot(slots, 0, round.limits.accept_slots) {
         Some(place) => accept_at::<S, H>(alloc, source, slots, place, round),
-        None => 0,
+        None => {
+            if source.is_coming() {
+                make_place::<S, H>(slots, round);
+            }
+            0
+        }
     }
 }
 

@@ -1,9 +1,9 @@
 //! One connection among many.
 
-ghost use Rattle.std.specs.Prelude.{◌≡◌, ◌<◌, ◌⊎◌, ◌↔◌, Bool, IsTrue, false, true, ℕ, length, []};
+ghost use Rattle.std.specs.Prelude.{◌≡◌, ◌<◌, ◌⊎◌, ◌↔◌, Bool, IsTrue, false, true, ℕ, length, [], Some};
 ghost use Rattle.std.specs.Option.{option_map};
-ghost use Rattle.multiplex.specs.declared.handler.SlotEnd.TheVariants.{Finished};
-ghost use Rattle.multiplex.specs.Slots.{first_slot, IsResponsive, IsAtRest, IsWriteAtRest, MayClose};
+ghost use Rattle.multiplex.specs.declared.handler.SlotEnd.TheVariants.{Finished, Displaced};
+ghost use Rattle.multiplex.specs.Slots.{first_slot, IsResponsive, IsUnheard, IsAtRest, IsWriteAtRest, MayClose};
 ghost use Rattle.multiplex.specs.Steps.{TakesSteps};
 
 use crate::handler::{Handler, Progress, SlotEnd};
@@ -16,6 +16,9 @@ const PIECE: usize = 4096;
 
 /// So long, in milliseconds, may no byte come or go.
 const IDLE_LIMIT: u64 = 120_000;
+
+/// So long, in milliseconds, may a connection bring no whole message and keep its slot, where it isn't established.
+const UNHEARD_LIMIT: u64 = 10_000;
 
 /// One connection: its handler, its reader and writer, and what is to be written.
 #[derive(Drop)]
@@ -105,7 +108,7 @@ impl<H, R, W, E> Slot<H, R, W, E> {
         match &self.ending {
             None => false,
             Some(SlotEnd::Finished(_) | SlotEnd::EndOfInput) => self.sent >= self.out.len(),
-            Some(SlotEnd::Broken | SlotEnd::IdleTimeout) => true,
+            Some(SlotEnd::Broken | SlotEnd::IdleTimeout | SlotEnd::Displaced) => true,
         }
     }
 
@@ -117,6 +120,13 @@ impl<H, R, W, E> Slot<H, R, W, E> {
         ensures { result ≡ (self.reader, self.writer) }
     {
         (self.reader, self.writer)
+    }
+
+    /// When it began, or last brought a whole message.
+    pub(crate) fn heard(&self) -> u64
+        ensures { result ≡ self.now.heard }
+    {
+        self.heard
     }
 
     /// Makes room in memory where all was written.
@@ -148,6 +158,21 @@ pub(crate) fn either(one: bool, other: bool) -> bool
 }
 
 impl<H: Handler, R: NonBlockingRead, W: NonBlockingWrite> Slot<H, R, W, H::End> {
+    /// Whether it isn't established, and brought no whole message for too long.
+    pub(crate) fn is_unheard(&self, now: u64) -> bool
+        ensures { IsTrue result ↔ IsUnheard H.behavior now self.now }
+    {
+        let too_long = now.saturating_sub(self.heard) >= UNHEARD_LIMIT;
+        !self.handler.is_established() && too_long
+    }
+
+    /// Ends it: it makes place for the next connection.
+    pub(crate) fn displace(&mut self)
+        ensures { self.new ≡ record self.old { ending = Some Displaced } }
+    {
+        self.ending = Some(SlotEnd::Displaced);
+    }
+
     /// Its turn: some bytes are written, what stands first is answered, or else some bytes are read. It is answered and
     /// read only where nothing of it waits to be written, and where there is `room` for answers. Whether more may be
     /// done at once; else it is at rest.

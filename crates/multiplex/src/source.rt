@@ -51,6 +51,9 @@ pub trait Source {
     /// promise rests on it.
     fn is_ready(&self, slot: usize) -> bool;
 
+    /// Whether somebody may wait at a listener, as the last wait found. It is a hint: no promise rests on it.
+    fn is_coming(&self) -> bool;
+
     /// Takes back the connection of this slot.
     fn close(&mut self, slot: usize, reader: Self::Reader, writer: Self::Writer)
         ensures { effects.closed self.old reader writer self.new };

@@ -23,7 +23,7 @@ returns-in-EndOfInput-clause-steps g c v room =
     let did = rw c.in-EndOfInput.is at c.try_read.ensures in
     stopped g.R.NonBlockingRead.input g.W.NonBlockingWrite.output g.H.Handler.behavior room
     c.args.now v _ _
-    c.try_read.new.self c.self.inside.writer EndOfInput c.self.view_is did.0 (Keeps-refl _) did.1
+    c.try_read.new.self c.self.inside.writer EndOfInput c.self.view_is did.0 (Keeps-refl _) tt did.1
 
 pub returns-in-WouldBlock-clause-steps : goal.returns-in-WouldBlock-clause-steps
 returns-in-WouldBlock-clause-steps g c v room =
@@ -37,4 +37,5 @@ returns-in-Failed-clause-steps g c v room =
     let did = rw c.in-Failed.is at c.try_read.ensures in
     stopped g.R.NonBlockingRead.input g.W.NonBlockingWrite.output g.H.Handler.behavior room
     c.args.now v _ _
-    c.try_read.new.self c.self.inside.writer Broken c.self.view_is did.0 (Keeps-refl _) (inl did.1)
+    c.try_read.new.self c.self.inside.writer Broken c.self.view_is did.0 (Keeps-refl _) tt
+    (inl did.1)

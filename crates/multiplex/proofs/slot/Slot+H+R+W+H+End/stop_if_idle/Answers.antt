@@ -14,4 +14,4 @@ returns-then-saturating_sub-ge-IDLE_LIMIT-clause-steps g c v room =
     ) in
     stopped g.R.NonBlockingRead.input g.W.NonBlockingWrite.output g.H.Handler.behavior room
     c.args.now v _ _
-    i.reader i.writer IdleTimeout c.self.view_is (Keeps-refl _) (Keeps-refl _) long
+    i.reader i.writer IdleTimeout c.self.view_is (Keeps-refl _) (Keeps-refl _) tt long

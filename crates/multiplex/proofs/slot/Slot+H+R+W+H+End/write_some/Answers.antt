@@ -27,4 +27,5 @@ returns-in-Failed-clause-steps g c v room =
     let did = rw c.in-Failed.is at c.try_write.ensures in
     stopped g.R.NonBlockingRead.input g.W.NonBlockingWrite.output g.H.Handler.behavior room
     c.args.now v _ _
-    c.self.inside.reader c.try_write.new.self Broken c.self.view_is (Keeps-refl _) did.0 (inr did.1)
+    c.self.inside.reader c.try_write.new.self Broken c.self.view_is (Keeps-refl _) did.0 tt
+    (inr did.1)
