@@ -14,7 +14,7 @@ mod turns;
 
 pub use handler::{Handler, Progress, SlotEnd};
 pub use laws::each_connection_is_alone;
-pub use limits::Limits;
+pub use limits::{Limits, ServeReport};
 pub use serving::serve;
 pub use slot::Slot;
 pub use source::{Arrival, Source};

@@ -1,4 +1,4 @@
-//! What a server takes at most.
+//! What a server takes at most, and what came of it.
 
 ghost use Rattle.std.specs.Prelude.{◌≡◌};
 
@@ -13,6 +13,15 @@ pub struct Limits {
     pub waiting_bytes: usize,
     /// So many rounds are served, and then no more.
     pub rounds: u64,
+}
+
+/// What came of serving.
+#[derive(Clone, Copy, Debug, PartialEq, Eq)]
+pub struct ServeReport {
+    /// Whether all connections were accepted and closed; else the rounds were over before.
+    pub is_done: bool,
+    /// The longest time that one turn of a connection took, in milliseconds, by the source's clock.
+    pub longest_turn: u64,
 }
 
 impl Limits {

@@ -6,7 +6,7 @@ ghost use Rattle.multiplex.specs.Serving.{AreAllFree, HasCalled, HasServed};
 
 use crate::displacing::make_place;
 use crate::handler::Handler;
-use crate::limits::{Limits, Round};
+use crate::limits::{Limits, Round, ServeReport};
 use crate::slot::Slot;
 use crate::source::{Arrival, Source};
 use crate::turns::serve_round;
@@ -187,8 +187,7 @@ fn call_next<S: Source, H: Handler>(
 }
 
 /// Serves connections over a world, each in its turn, in one thread. It accepts no more than `limits` say, and ends when
-/// the last of them is closed and each slot is free, or when its rounds are over. Whether it is done: it isn't where
-/// rounds were wanting.
+/// the last of them is closed and each slot is free, or when its rounds are over.
 ///
 /// A connection that a slot holds already is served too. Bytes that wait when the rounds are over stay with its slot.
 pub fn serve<S: Source, H: Handler>(
@@ -197,23 +196,30 @@ pub fn serve<S: Source, H: Handler>(
     world: &mut H::World,
     slots: &mut [Option<Slot<H, S::Reader, S::Writer, H::End>>],
     limits: Limits,
-) -> bool
+) -> ServeReport
     ensures { (first : ℕ) → (last : ℕ)
         × HasServed S.effects S.Reader.input S.Writer.output H.behavior limits
         (state source.old slots.old world.old first) (state source.new slots.new world.new last)
-        result }
+        result.is_done }
 {
     let mut busy = true;
     let mut accepted = 0;
+    let mut longest_turn = 0;
     for _ in 0..limits.rounds() {
         if is_done(slots, accepted, limits) {
-            return true;
+            return ServeReport {
+                is_done: true,
+                longest_turn,
+            };
         }
         let now = source.wait(busy);
         let round = Round { limits, now };
         accepted += accept_next::<S, H>(alloc, source, slots, accepted, round);
         call_next::<S, H>(alloc, source, world, slots, accepted, round);
-        busy = serve_round::<S, H>(source, world, slots, round);
+        busy = serve_round::<S, H>(source, world, slots, round, &mut longest_turn);
     }
-    false
+    ServeReport {
+        is_done: false,
+        longest_turn,
+    }
 }

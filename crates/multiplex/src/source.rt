@@ -38,6 +38,9 @@ pub trait Source {
     fn wait(&mut self, busy: bool) -> u64
         ensures { effects.waited self.old busy result self.new };
 
+    /// The time now, in milliseconds, by which turns are measured.
+    fn clock(&self) -> u64;
+
     /// Who came next to a listener; a connection gets this slot.
     fn accept(&mut self, slot: usize) -> Arrival<Self::Reader, Self::Writer>
         ensures { effects.accepted self.old result self.new };

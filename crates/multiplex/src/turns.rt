@@ -123,12 +123,14 @@ fn turn_at<S: Source, H: Handler>(
     either(busy, closed)
 }
 
-/// A turn of each slot. Whether more may be done at once; else each connection is at rest.
+/// A turn of each slot; the longest time that one took is kept in `longest_turn`. Whether more may be done at once; else
+/// each connection is at rest.
 pub(crate) fn serve_round<S: Source, H: Handler>(
     source: &mut S,
     world: &mut H::World,
     slots: &mut [Option<Slot<H, S::Reader, S::Writer, H::End>>],
     round: Round,
+    longest_turn: &mut u64,
 ) -> bool
     ensures turns { TakesTurns S.effects S.Reader.input S.Writer.output H.behavior round.limits 0 0
         (state source.old slots.old world.old round.now)
@@ -139,7 +141,9 @@ pub(crate) fn serve_round<S: Source, H: Handler>(
 {
     let mut busy = false;
     for place in 0..slots.len() {
+        let begun = source.clock();
         let here = turn_at::<S, H>(source, world, slots, place, round);
+        *longest_turn = source.clock().saturating_sub(begun).max(*longest_turn);
         busy = either(busy, here);
     }
     busy
