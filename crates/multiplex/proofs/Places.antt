@@ -6,7 +6,7 @@ use Rattle.std.proofs.lemmas.List.{set-get_or, take_all}
 use Rattle.std.proofs.lemmas.List.Sums.{sum_by-cons, sum_by_more, sum_by_more_le}
 use Rattle.std.proofs.lemmas.Bool.{le-ltb, lt-ltb, ltb-true}
 use Rattle.multiplex.specs.Behavior.{Behavior}
-use Rattle.multiplex.specs.Slots.{Slot, IsAtRest, IsAtRestAt, waiting_in, all_waiting, has_room}
+use Rattle.multiplex.specs.Slots.{Slot, IsQuiet, IsQuietAt, IsAtRest, IsAtRestAt, MayClose, waiting_in, all_waiting, has_room}
 
 -- what an index found is there
 pub there : {X : Type 0} (xs : List X) (i : ℕ) (x y : X) → i < length xs → get_or xs i x ≡ y
@@ -115,13 +115,13 @@ all-kept slots i old new got same =
     let waits : waiting_in (Some new) ≡ waiting_in (Some old) = ap (λ l. length l) same in
     omega (arith, sums, waits)
 
--- what is at rest in a slot that changed
+-- what is quiet in a slot that changed
 pub rests-set : {H R W V E : Type 0} (handler : Behavior H V E) (room : Bool)
     (slots : List (Option (Slot H R W E))) (k : ℕ)
-    (old new : Slot H R W E) → slice_get slots k ≡ Some (Some old) → IsAtRest handler room new
-    → IsAtRestAt handler room (slice_set slots k (Some new)) k
+    (old new : Slot H R W E) → slice_get slots k ≡ Some (Some old) → IsQuiet handler room new
+    → IsQuietAt handler room (slice_set slots k (Some new)) k
 rests-set {H} {R} {W} {V} {E} handler room slots k old new got rest slot found =
-    subst (λ (s : Slot H R W E). IsAtRest handler room s)
+    subst (λ (s : Slot H R W E). IsQuiet handler room s)
     (same_Some new slot (same_Some (Some new) (Some slot) (sym
     (get-set_same slots k (Some new) (Some old) got) ∙ found))) rest
 
@@ -129,7 +129,7 @@ rests-set {H} {R} {W} {V} {E} handler room slots k old new got rest slot found =
 pub rests-free : {H R W V E : Type 0} (handler : Behavior H V E) (room : Bool)
     (slots : List (Option (Slot H R W E))) (k : ℕ)
     (old left : Option (Slot H R W E)) → slice_get slots k ≡ Some old → left ≡ None
-    → IsAtRestAt handler room (slice_set slots k left) k
+    → IsQuietAt handler room (slice_set slots k left) k
 rests-free handler room slots k old left got none slot found =
     absurd (none-some slot (sym none ∙ same_Some left (Some slot)
     (sym (get-set_same slots k left old got) ∙ found)))
@@ -141,3 +141,11 @@ pub rests-kept : {H R W V E : Type 0} (handler : Behavior H V E) (room room' : B
     → IsAtRestAt handler room' new k
 rests-kept handler room room' old new k same judged rest slot found =
     subst (λ b. IsAtRest handler b slot) judged (rest slot (sym same ∙ found))
+
+-- a quiet connection that may not be closed is at rest
+pub rests-open : {H R W V E : Type 0} (handler : Behavior H V E) (room : Bool)
+    (slots : List (Option (Slot H R W E))) (k : ℕ)
+    → IsQuietAt handler room slots k
+    → ((slot : Slot H R W E) → slice_get slots k ≡ Some (Some slot) → MayClose slot → ⊥)
+    → IsAtRestAt handler room slots k
+rests-open handler room slots k quiet still slot found = (quiet slot found, still slot found)

@@ -1,9 +1,11 @@
 -- The steps of one connection, which the contracts of `slot` need.
-use Rattle.std.proofs.Common.{◌≡◌, ℕ, ◌+◌, ◌-◌, ◌≤◌, List, [], ◌∷◌, ◌++◌, length, take, drop, refl, sym, ◌∙◌, subst, ap, Bool, true, false}
+use Rattle.std.proofs.Common.{nat_eq, arith, ◌≡◌, ℕ, ◌+◌, ◌-◌, ◌≤◌, List, [], ◌∷◌, ◌++◌, length, take, drop, refl, sym, ◌∙◌, subst, ap, Bool, true, false}
 use Rattle.std.specs.Prelude.{Option, None, Some}
 use Rattle.std.specs.Option.{option_map}
 use Rattle.std.proofs.lemmas.List.{append_cancel_left, append-nil, drop-append-le, take-append-drop, drop-drop, length-drop}
 use Rattle.std.proofs.Math.Seq.{take-length}
+use Rattle.std.proofs.Math.ListN.{drop_of_length-le}
+use Rattle.std.proofs.lemmas.Bool.{eqb-true, eq-eqb}
 use Rattle.std.specs.Io.KnownBytes.{Appends, Consumes, Keeps}
 use Rattle.multiplex.specs.declared.handler.SlotEnd.{SlotEnd}
 use Rattle.multiplex.specs.declared.handler.SlotEnd.TheVariants.{Finished}
@@ -214,3 +216,14 @@ module _ {H R W V E : Type 0} (input : Input R) (output : Output W) (handler : B
       subst (λ s. Takes room now v s v new) is
       (one room now v v old new (Stops ending) allowed
       (refl, record { unread = unread; written = written; may = may; others = refl }))
+
+-- all was written just where nothing is left
+pub written_all : (sent long : ℕ) (out waiting : List ℕ) → drop sent out ≡ waiting
+    → sent ≤ length out → long ≡ length out
+    → (nat_eq sent long ≡ true → waiting ≡ []) × (waiting ≡ [] → nat_eq sent long ≡ true)
+written_all sent long out waiting is within all = (
+  λ same. sym is ∙ drop_of_length-le out (omega (arith, all, eqb-true sent long same)),
+  λ none.
+      let left : length out - sent ≡ 0 = sym (length-drop sent out) ∙ ap length (is ∙ none) in
+      eq-eqb sent long (omega (arith, left, within, all)),
+)

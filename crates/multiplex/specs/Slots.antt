@@ -80,10 +80,14 @@ IsReadAtRest handler room slot =
     (handler.needs_more slot.handler × (slot.readable ≡ false))
     ⊎ ((0 < length slot.waiting) ⊎ (room ≡ false))
 
--- nothing can be done at it now
-abbrev pub IsAtRest : {H R W V E : Type 0} → Behavior H V E → Bool → Slot H R W E → Type 0
-IsAtRest handler room slot =
+-- nothing can be read, answered or written there now
+abbrev pub IsQuiet : {H R W V E : Type 0} → Behavior H V E → Bool → Slot H R W E → Type 0
+IsQuiet handler room slot =
     (slot.ending ≡ None → IsReadAtRest handler room slot) × IsWriteAtRest slot
+
+-- nothing can be done at it now, nor may it be closed
+abbrev pub IsAtRest : {H R W V E : Type 0} → Behavior H V E → Bool → Slot H R W E → Type 0
+IsAtRest handler room slot = IsQuiet handler room slot × (MayClose slot → ⊥)
 
 -- how many bytes wait to be written in a slot, which may be free
 abbrev pub waiting_in : {H R W E : Type 0} → Option (Slot H R W E) → ℕ
@@ -96,6 +100,12 @@ all_waiting slots = sum_by waiting_in slots
 -- there is room for answers: fewer bytes wait than this
 abbrev pub has_room : {H R W E : Type 0} → (most : ℕ) → List (Option (Slot H R W E)) → Bool
 has_room most slots = nat_lt (all_waiting slots) most
+
+-- nothing can be read, answered or written now at the connection of a slot, if one is there
+abbrev pub IsQuietAt : {H R W V E : Type 0} → Behavior H V E → (room : Bool)
+    → List (Option (Slot H R W E)) → ℕ → Type 0
+IsQuietAt {H} {R} {W} {V} {E} handler room slots k =
+    (slot : Slot H R W E) → slice_get slots k ≡ Some (Some slot) → IsQuiet handler room slot
 
 -- nothing can be done now at the connection of a slot, if one is there
 abbrev pub IsAtRestAt : {H R W V E : Type 0} → Behavior H V E → (room : Bool)

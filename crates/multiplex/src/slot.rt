@@ -3,7 +3,7 @@
 ghost use Rattle.std.specs.Prelude.{◌≡◌, ◌<◌, ◌⊎◌, ◌↔◌, Bool, IsTrue, false, true, ℕ, length, [], Some};
 ghost use Rattle.std.specs.Option.{option_map};
 ghost use Rattle.multiplex.specs.declared.handler.SlotEnd.TheVariants.{Finished, Displaced};
-ghost use Rattle.multiplex.specs.Slots.{first_slot, IsResponsive, IsUnheard, IsAtRest, IsWriteAtRest, MayClose};
+ghost use Rattle.multiplex.specs.Slots.{first_slot, IsResponsive, IsUnheard, IsQuiet, IsWriteAtRest, MayClose};
 ghost use Rattle.multiplex.specs.Steps.{TakesSteps};
 
 use crate::handler::{Handler, Progress, SlotEnd};
@@ -85,6 +85,13 @@ impl<H, R, W, E> Slot<H, R, W, E> {
         self.out.len() - self.sent
     }
 
+    /// Whether nothing waits to be written.
+    fn is_written(&self) -> bool
+        ensures { IsTrue result ↔ (self.now.waiting ≡ []) }
+    {
+        self.sent == self.out.len()
+    }
+
     /// Whether it goes on and nothing waits to be written.
     fn is_responsive(&self) -> bool
         ensures responsive { IsTrue result → IsResponsive self.now }
@@ -103,11 +110,11 @@ impl<H, R, W, E> Slot<H, R, W, E> {
 
     /// Whether it is over, and all was written that can be.
     pub(crate) fn may_close(&self) -> bool
-        ensures { IsTrue result → MayClose self.now }
+        ensures { IsTrue result ↔ MayClose self.now }
     {
         match &self.ending {
             None => false,
-            Some(SlotEnd::Finished(_) | SlotEnd::EndOfInput) => self.sent >= self.out.len(),
+            Some(SlotEnd::Finished(_) | SlotEnd::EndOfInput) => self.is_written(),
             Some(SlotEnd::Broken | SlotEnd::IdleTimeout | SlotEnd::Displaced) => true,
         }
     }
@@ -180,7 +187,7 @@ impl<H: Handler, R: NonBlockingRead, W: NonBlockingWrite> Slot<H, R, W, H::End> 
         ensures steps { TakesSteps R.input W.output H.behavior room now
             world.old self.old world.new self.new }
         ensures same { result ≡ false → self.new.waiting ≡ self.old.waiting }
-        ensures rest { result ≡ false → IsAtRest H.behavior room self.new }
+        ensures rest { result ≡ false → IsQuiet H.behavior room self.new }
     {
         self.wake_if(ready);
         let wrote = self.write_next(now);
@@ -248,7 +255,7 @@ impl<H: Handler, R: NonBlockingRead, W: NonBlockingWrite> Slot<H, R, W, H::End> 
         ensures steps { TakesSteps R.input W.output H.behavior room now
             world.old self.old world.new self.new }
         ensures same { result ≡ false → self.new.waiting ≡ self.old.waiting }
-        ensures rest { result ≡ false → IsWriteAtRest self.old → IsAtRest H.behavior room self.new }
+        ensures rest { result ≡ false → IsWriteAtRest self.old → IsQuiet H.behavior room self.new }
     {
         if self.is_responsive() {
             if room {
@@ -267,7 +274,7 @@ impl<H: Handler, R: NonBlockingRead, W: NonBlockingWrite> Slot<H, R, W, H::End> 
         ensures steps { TakesSteps R.input W.output H.behavior true now
             world.old self.old world.new self.new }
         ensures same { result ≡ false → self.new.waiting ≡ self.old.waiting }
-        ensures rest { result ≡ false → IsAtRest H.behavior true self.new }
+        ensures rest { result ≡ false → IsQuiet H.behavior true self.new }
     {
         if self.answer_first(world, now) {
             true
@@ -305,7 +312,7 @@ impl<H: Handler, R: NonBlockingRead, W: NonBlockingWrite> Slot<H, R, W, H::End> 
         ensures steps { (v : H.World) (room : Bool)
             → TakesSteps R.input W.output H.behavior room now v self.old v self.new }
         ensures same { result ≡ false → self.new.waiting ≡ self.old.waiting }
-        ensures rest { result ≡ false → IsAtRest H.behavior true self.new }
+        ensures rest { result ≡ false → IsQuiet H.behavior true self.new }
     {
         if !self.readable {
             return false;
@@ -339,7 +346,7 @@ impl<H: Handler, R: NonBlockingRead, W: NonBlockingWrite> Slot<H, R, W, H::End> 
             → TakesSteps R.input W.output H.behavior room now v self.old v self.new }
         ensures same { self.new.waiting ≡ self.old.waiting }
         ensures rest { (room : Bool)
-            → IsAtRest H.behavior room self.old → IsAtRest H.behavior room self.new }
+            → IsQuiet H.behavior room self.old → IsQuiet H.behavior room self.new }
     {
         if now.saturating_sub(self.active) >= IDLE_LIMIT {
             self.ending = Some(SlotEnd::IdleTimeout);

@@ -1,7 +1,7 @@
 //! One turn of each connection.
 
 ghost use Rattle.std.specs.Prelude.{◌≡◌, ◌≢◌, ◌<◌, ◌≤◌, ℕ, length, IsTrue, true, false, slice_get, Some, None};
-ghost use Rattle.multiplex.specs.Slots.{MayClose, has_room, IsAtRestAt, waiting_in, all_waiting};
+ghost use Rattle.multiplex.specs.Slots.{MayClose, has_room, IsQuietAt, IsAtRestAt, waiting_in, all_waiting};
 ghost use Rattle.multiplex.specs.Turns.{TakesTurns, state};
 
 use crate::handler::Handler;
@@ -50,7 +50,7 @@ fn visit_at<S: Source, H: Handler>(
     ensures others { (k : ℕ) → k ≢ place → slice_get slots.new k ≡ slice_get slots.old k }
     ensures same { result ≡ false → all_waiting slots.new ≡ all_waiting slots.old }
     ensures rest { result ≡ false
-        → IsAtRestAt H.behavior (has_room round.limits.waiting_bytes slots.new) slots.new place }
+        → IsQuietAt H.behavior (has_room round.limits.waiting_bytes slots.new) slots.new place }
 {
     let room = has_room(slots, round.limits.waiting_bytes);
     match &mut slots[place] {
@@ -62,8 +62,10 @@ fn visit_at<S: Source, H: Handler>(
 /// Whether the connection in a slot may be closed.
 fn may_close_at<H, R, W, E>(slots: &[Option<Slot<H, R, W, E>>], place: usize) -> bool
     requires { place < length slots.now }
-    ensures { IsTrue result
+    ensures may { IsTrue result
         → (slot : _) × (slice_get slots.now place ≡ Some (Some slot)) × MayClose slot }
+    ensures other { result ≡ false → (slot : _)
+        → slice_get slots.now place ≡ Some (Some slot) → MayClose slot → ⊥ }
 {
     match &slots[place] {
         Some(slot) => slot.may_close(),
@@ -85,6 +87,8 @@ fn close_at<S: Source, H: Handler>(
     ensures length { length slots.new ≡ length slots.old }
     ensures others { (k : ℕ) → k ≢ place → slice_get slots.new k ≡ slice_get slots.old k }
     ensures same { result ≡ false → slots.new ≡ slots.old }
+    ensures other { result ≡ false → (slot : _)
+        → slice_get slots.old place ≡ Some (Some slot) → MayClose slot → ⊥ }
 {
     if !may_close_at(slots, place) {
         return false;

@@ -12,7 +12,8 @@ returns-in-Some-clause-turns g c world =
     c.take.new.self c.into_ends-reader.result
     (there c.args.slots.now c.args.place c.index-slots-place.result (Some c.in-Some.slot) c.requires
     (sym c.take.ensures.value ∙ c.in-Some.is))
-    (c.may_close_at.ensures c.if-not-may_close_at.false) c.into_ends-reader.ensures c.close.ensures
+    (c.may_close_at.ensures.may c.if-not-may_close_at.false) c.into_ends-reader.ensures
+    c.close.ensures
     c.take.ensures.after
 
 pub returns-in-Some-clause-others : goal.returns-in-Some-clause-others

@@ -1,6 +1,7 @@
 use Rattle.std.proofs.Common.{◌∙◌, sym, ap, subst}
 use Rattle.multiplex.specs.Slots.{all_waiting, has_room, IsAtRestAt}
 use Rattle.multiplex.specs.Turns.{state}
+use Rattle.multiplex.proofs.Places.{rests-open}
 use Rattle.multiplex.proofs.Turning.{more}
 use Rattle.multiplex.proofs.turns.turn_at.Goals as goal
 
@@ -27,6 +28,9 @@ returns-clause-same g c none =
 pub returns-clause-rest : goal.returns-clause-rest
 returns-clause-rest g c none =
     let both = c.either.ensures none in
-    subst (λ slots. IsAtRestAt g.H.Handler.behavior (has_room c.args.round.limits.waiting_bytes
-    slots) slots c.args.place)
-    (sym (c.close_at-closed.ensures.same both.1)) (c.visit_at-busy.ensures.rest both.0)
+    let most = c.args.round.limits.waiting_bytes in
+    subst (λ slots. IsAtRestAt g.H.Handler.behavior (has_room most slots) slots c.args.place)
+    (sym (c.close_at-closed.ensures.same both.1))
+    (rests-open g.H.Handler.behavior (has_room most c.visit_at-busy.new.slots)
+    c.visit_at-busy.new.slots c.args.place
+    (c.visit_at-busy.ensures.rest both.0) (c.close_at-closed.ensures.other both.1))

@@ -1,7 +1,7 @@
 use Rattle.std.specs.Prelude.{Some, slice_set}
 use Rattle.std.proofs.Common.{get_or, sym, subst, ◌≡◌, Bool, nat_lt}
 use Rattle.std.proofs.lemmas.Option.{slice_get-get_or}
-use Rattle.multiplex.specs.Slots.{IsAtRest, has_room}
+use Rattle.multiplex.specs.Slots.{IsQuiet, has_room}
 use Rattle.multiplex.proofs.Places.{there, get-set_other, rests-set, rests-free, all-kept}
 use Rattle.multiplex.proofs.Turning.{unchanged, steps_at}
 use Rattle.multiplex.proofs.turns.visit_at.Goals as goal
@@ -39,7 +39,7 @@ returns-in-Some-clause-rest g c none =
     c.has_room-room.ensures in
     rests-set g.H.Handler.behavior _ c.args.slots.now c.args.place c.in-Some.slot c.visit.new.self
     found
-    (subst (λ (b : Bool). IsAtRest g.H.Handler.behavior b c.visit.new.self) judged
+    (subst (λ (b : Bool). IsQuiet g.H.Handler.behavior b c.visit.new.self) judged
     (c.visit.ensures.rest none))
 
 pub returns-in-None-clause-turns : goal.returns-in-None-clause-turns
