@@ -4,3 +4,4 @@ pub mod Turning
 pub mod Counts
 pub mod OwnSteps
 pub mod Finding
+pub mod Asking

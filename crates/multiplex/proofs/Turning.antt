@@ -1,9 +1,9 @@
 -- Executions of turns, which the contracts of `turns` and `serving` need.
-use Rattle.std.proofs.Common.{◌≡◌, ℕ, ◌+◌, ◌<◌, ◌≤◌, Bool, false, List, [], ◌∷◌, ◌++◌, refl, sym, ◌∙◌, subst, ap, arith}
-use Rattle.std.specs.Prelude.{Option, None, Some, slice_get, slice_set}
+use Rattle.std.proofs.Common.{◌≡◌, ℕ, ◌+◌, ◌<◌, ◌≤◌, Bool, false, List, [], ◌∷◌, ◌++◌, refl, sym, ◌∙◌, subst, ap, arith, inl, inr, cond}
+use Rattle.std.specs.Prelude.{Option, None, Some, slice_get, slice_set, count_by}
 use Rattle.std.proofs.KnownBytes.{Keeps-refl}
 use Rattle.std.proofs.lemmas.Option.{same_Some}
-use Rattle.std.proofs.lemmas.List.Sums.{sum_by-append}
+use Rattle.std.proofs.lemmas.List.Sums.{sum_by-append, sum_by-cons}
 use Rattle.multiplex.specs.declared.handler.SlotEnd.TheVariants.{Finished, EndOfInput, Broken, IdleTimeout, Displaced}
 use Rattle.multiplex.specs.declared.source.Arrival.{Arrival}
 use Rattle.multiplex.specs.declared.source.Arrival.TheVariants.{Nobody, Failed, Connection}
@@ -14,8 +14,8 @@ use Rattle.multiplex.specs.Output.{Output}
 use Rattle.multiplex.specs.Behavior.{Behavior}
 use Rattle.multiplex.specs.Slots.{Slot, first_slot, has_room, IsAtRestAt, IsLongestUnheard, MayClose}
 use Rattle.multiplex.specs.Steps.{Step, Receives, Answers, Lacks, Writes, Stops, FindsEmpty, FindsFull, Wakes, IsAllowed, IsStep, AreSteps}
-use Rattle.multiplex.specs.Turns.{Loop, state, LoopTurn, Waits, Accepts, AcceptFails, AcceptsNobody, Calls, CallFails, CallsNobody, Steps, Closes, count_waits, count_accepted, IsLoopTurn, AreTurns, TakesTurns}
-use Rattle.multiplex.specs.Serving.{HasCalled}
+use Rattle.multiplex.specs.Turns.{Loop, state, LoopTurn, Waits, Accepts, AcceptFails, AcceptsNobody, HasNoSlot, Calls, CallFails, CallsNobody, Steps, Closes, is_wait, is_accepted, count_waits, count_accepted, IsLoopTurn, AreTurns, TakesTurns}
+use Rattle.multiplex.specs.Serving.{has_asked, HasAsked, HasCalled}
 use Rattle.multiplex.proofs.Places.{set_same, get-set_same, set-set, less-empty}
 
 module _ {S H R W V E : Type 0} (source : Effects S R W) (input : Input R) (output : Output W)
@@ -169,50 +169,108 @@ module _ {S H R W V E : Type 0} (source : Effects S R W) (input : Input R) (outp
         others = refl;
       }))
 
+  abbrev Asked : ℕ → ℕ → Loop S H R W V E → Loop S H R W V E → Type 0
+  Asked before accepted old new = HasAsked source input output handler limits before accepted old
+      new
+
   -- a connection came to a listener
-  pub accepted : (old new : S) (slots : List (Option (Slot H R W E))) (v : V) (now k listener : ℕ)
-      (came : Arrival R W)
+  pub accepted : (old new : S) (slots : List (Option (Slot H R W E))) (v : V)
+      (now k listener before : ℕ) (came : Arrival R W)
       (reader : R) (writer : W) (first : H) (out : List ℕ) (slot : Slot H R W E)
       → slice_get slots k ≡ Some None → k < limits.accept_slots
       → came ≡ Connection listener reader writer
       → source.accepted old came new → handler.begins listener first → out ≡ []
       → slot ≡ first_slot first reader writer out now
-      → Goes 0 1 (state old slots v now) (state new (slice_set slots k (Some slot)) v now)
-  accepted old new slots v now k listener came reader writer first out slot free within is accepts
-      begins empty made =
+      → Asked before 1 (state old slots v now) (state new (slice_set slots k (Some slot)) v now)
+  accepted old new slots v now k listener before came reader writer first out slot free within is
+      accepts begins empty made =
       let begun : slot ≡ first_slot first reader writer [] now = made
       ∙ ap (λ l. first_slot first reader writer l now) empty in
-      subst (λ (s : Slot H R W E). Goes 0 1 (state old slots v now)
-      (state new (slice_set slots k (Some s)) v now)) (sym begun)
-      (one (Accepts k listener) (state old slots v now)
-      (state new (slice_set slots k (Some (first_slot first reader writer [] now))) v now) (record {
-        reader = reader;
-        writer = writer;
-        first = first;
-        within = within;
-        free = free;
-        accepted = subst (λ (a : Arrival R W). source.accepted old a new) is accepts;
-        begins = begins;
-        others = refl;
-      }))
+      let start : Slot H R W E = first_slot first reader writer [] now in
+      subst (λ (s : Slot H R W E). Asked before 1 (state old slots v now)
+      (state new (slice_set slots k (Some s)) v now)) (sym begun) (
+        Accepts k listener ∷ [],
+        (
+          state new (slice_set slots k (Some start)) v now,
+          record {
+            reader = reader;
+            writer = writer;
+            first = first;
+            within = within;
+            free = free;
+            accepted = subst (λ (a : Arrival R W). source.accepted old a new) is accepts;
+            begins = begins;
+            others = refl;
+          },
+          refl,
+        ),
+        refl,
+        refl,
+        inr (omega arith),
+      )
 
   -- one came and failed
-  pub accept_failed : (old new : S) (slots : List (Option (Slot H R W E))) (v : V) (now : ℕ)
+  pub accept_failed : (old new : S) (slots : List (Option (Slot H R W E))) (v : V) (now before : ℕ)
       (came : Arrival R W)
-      → came ≡ Failed → source.accepted old came new → Goes 0 1 (state old slots v now)
+      → came ≡ Failed → source.accepted old came new → Asked before 1 (state old slots v now)
       (state new slots v now)
-  accept_failed old new slots v now came is accepts =
-      one AcceptFails (state old slots v now) (state new slots v now)
-      (subst (λ (a : Arrival R W). source.accepted old a new) is accepts, refl)
+  accept_failed old new slots v now before came is accepts = (
+    AcceptFails ∷ [],
+    (
+      state new slots v now,
+      (
+        subst (λ (a : Arrival R W). source.accepted old a new) is accepts,
+        refl,
+      ),
+      refl,
+    ),
+    refl,
+    refl,
+    inr (omega arith),
+  )
 
   -- nobody came
-  pub nobody_came : (old new : S) (slots : List (Option (Slot H R W E))) (v : V) (now : ℕ)
+  pub nobody_came : (old new : S) (slots : List (Option (Slot H R W E))) (v : V) (now before : ℕ)
       (came : Arrival R W)
-      → came ≡ Nobody → source.accepted old came new → Goes 0 0 (state old slots v now)
+      → came ≡ Nobody → source.accepted old came new → Asked before 0 (state old slots v now)
       (state new slots v now)
-  nobody_came old new slots v now came is accepts =
-      one AcceptsNobody (state old slots v now) (state new slots v now)
-      (subst (λ (a : Arrival R W). source.accepted old a new) is accepts, refl)
+  nobody_came old new slots v now before came is accepts = (
+    AcceptsNobody ∷ [],
+    (
+      state new slots v now,
+      (
+        subst (λ (a : Arrival R W). source.accepted old a new) is accepts,
+        refl,
+      ),
+      refl,
+    ),
+    refl,
+    refl,
+    inr (omega arith),
+  )
+
+  -- all had come
+  pub all_came : (before : ℕ) (here : Loop S H R W V E) → limits.connections ≡ Some before
+      → Asked before 0 here here
+  all_came before here all = ([], refl, refl, refl, inl all)
+
+  -- no slot is free, and one may have been displaced
+  pub no_slot : (before : ℕ) (old new : Loop S H R W V E)
+      → ((k : ℕ) → k < limits.accept_slots → slice_get old.slots k ≡ Some None → ⊥)
+      → Goes 0 0 old new → Asked before 0 old new
+  no_slot before old new taken (turns, are, waits, accepts) =
+      let asks : count_by has_asked (HasNoSlot ∷ turns) ≡ 1 + count_by has_asked turns = sum_by-cons
+      (λ t. cond (has_asked t) 1 0) HasNoSlot turns in
+      let all_waits : count_waits (HasNoSlot ∷ turns) ≡ 0 + count_waits turns =
+      sum_by-cons (λ t. cond (is_wait t) 1 0) HasNoSlot turns in
+      let all_accepts : count_accepted (HasNoSlot ∷ turns) ≡ 0 + count_accepted turns =
+      sum_by-cons (λ t. cond (is_accepted t) 1 0) HasNoSlot turns in (
+        HasNoSlot ∷ turns,
+        (old, (taken, refl), are),
+        omega (arith, waits, all_waits),
+        omega (arith, accepts, all_accepts),
+        inr (omega (arith, asks)),
+      )
 
   -- no call was due
   pub none_due : (old new : S) (slots : List (Option (Slot H R W E))) (v : V) (now : ℕ)
@@ -272,36 +330,6 @@ module _ {S H R W V E : Type 0} (source : Effects S R W) (input : Input R) (outp
   waited old new slots v busy first now rest waits =
       one (Waits busy now) (state old slots v first) (state new slots v now)
       (record { rest = rest; waited = waits; others = refl })
-
-  -- one round of a server: it was waited, somebody may have come, a call may have begun, and each had its turn
-  pub round_more : (waits accepted more_accepted : ℕ) (s s1 s2 s3 s4 : S)
-      (l l2 l3 l4 l0 : List (Option (Slot H R W E))) (v0 v v3 v4 : V)
-      (s0 : S) (first last now : ℕ)
-      → Goes waits accepted (state s0 l0 v0 first) (state s l v last)
-      → Goes 1 0 (state s l v last) (state s1 l v now)
-      → Goes 0 more_accepted (state s1 l v now) (state s2 l2 v now)
-      → Goes 0 0 (state s2 l2 v now) (state s3 l3 v3 now)
-      → Goes 0 0 (state s3 l3 v3 now) (state s4 l4 v4 now)
-      → Goes (waits + 1) (accepted + more_accepted) (state s0 l0 v0 first) (state s4 l4 v4 now)
-  round_more waits accepted more_accepted s s1 s2 s3 s4 l l2 l3 l4 l0 v0 v v3 v4 s0 first last now
-      before wait accept call round =
-      let calls_and_turns : Goes (0 + 0) (0 + 0) (state s2 l2 v now) (state s4 l4 v4 now) =
-      more 0 0 0 0 (state s2 l2 v now) (state s3 l3 v3 now) (state s4 l4 v4 now) call round in
-      let from_accept : Goes (0 + (0 + 0)) (more_accepted + (0 + 0)) (state s1 l v now)
-      (state s4 l4 v4 now) =
-      more 0 more_accepted (0 + 0) (0 + 0) (state s1 l v now) (state s2 l2 v now)
-      (state s4 l4 v4 now) accept calls_and_turns in
-      let from_wait : Goes (1 + (0 + (0 + 0))) (0 + (more_accepted + (0 + 0))) (state s l v last)
-      (state s4 l4 v4 now) =
-      more 1 0 (0 + (0 + 0)) (more_accepted + (0 + 0)) (state s l v last) (state s1 l v now)
-      (state s4 l4 v4 now) wait from_accept in
-      let all : Goes (waits + 1) (accepted + (0 + (more_accepted + (0 + 0)))) (state s0 l0 v0 first)
-      (state s4 l4 v4 now) =
-      more waits accepted (1 + (0 + (0 + 0))) (0 + (more_accepted + (0 + 0))) (state s0 l0 v0 first)
-      (state s l v last) (state s4 l4 v4 now) before from_wait in
-      let count : accepted + (0 + (more_accepted + (0 + 0))) ≡ accepted + more_accepted = omega
-      arith in
-      subst (λ n. Goes (waits + 1) n (state s0 l0 v0 first) (state s4 l4 v4 now)) count all
 
   -- a connection makes place for the next one
   pub displaced : (source' : S) (slots : List (Option (Slot H R W E))) (v : V) (now k : ℕ)

@@ -45,11 +45,15 @@ abbrev pub IsUnheard : {H R W V E : Type 0} → Behavior H V E → (now : ℕ) �
 IsUnheard handler now slot =
     (handler.is_established slot.handler ≡ false) × (slot.heard + unheard_limit ≤ now)
 
+-- each of the first slots is taken
+abbrev pub AreTaken : {X : Type 0} → (first : ℕ) → List (Option X) → Type 0
+AreTaken first slots = (k : ℕ) → k < first → slice_get slots k ≢ Some None
+
 -- of the first slots each is taken, and the connection in this one is unheard for longest
 pub record IsLongestUnheard {H R W V E : Type 0} (handler : Behavior H V E) (now first : ℕ)
     (slots : List (Option (Slot H R W E))) (k : ℕ) (slot : Slot H R W E) : Type 0 where
   pub within : k < first
-  pub taken : (j : ℕ) → j < first → slice_get slots j ≢ Some None
+  pub taken : AreTaken first slots
   pub unheard : IsUnheard handler now slot
   pub longest : (j : ℕ) (other : Slot H R W E) → j < first → slice_get slots j ≡ Some (Some other)
       → IsUnheard handler now other → slot.heard ≤ other.heard

@@ -6,7 +6,7 @@ use Rattle.multiplex.specs.Effects.{Effects}
 use Rattle.multiplex.specs.Input.{Input}
 use Rattle.multiplex.specs.Output.{Output}
 use Rattle.multiplex.specs.Behavior.{Behavior}
-use Rattle.multiplex.specs.Slots.{Slot, first_slot, has_room, IsAtRestAt, IsLongestUnheard, MayClose}
+use Rattle.multiplex.specs.Slots.{Slot, first_slot, has_room, AreTaken, IsAtRestAt, IsLongestUnheard, MayClose}
 use Rattle.multiplex.specs.Steps.{Step, IsAllowed, IsStep}
 
 -- what connections come from, their slots, of which some are free, the world, and the time
@@ -28,8 +28,8 @@ pub data LoopTurn (E : Type 0) : Type 0 where
   Waits : (busy : Bool) → (now : ℕ) → LoopTurn E
   -- a connection came to this listener, and got this slot
   Accepts : (slot listener : ℕ) → LoopTurn E
-  -- a connection came and failed; nobody came
-  AcceptFails AcceptsNobody : LoopTurn E
+  -- a connection came and failed; nobody came; no slot is free for one that comes
+  AcceptFails AcceptsNobody HasNoSlot : LoopTurn E
   -- a call began, and got this slot
   Calls : (slot : ℕ) → (made : List ℕ) → LoopTurn E
   -- a call was due, and couldn't begin; none was due
@@ -39,17 +39,21 @@ pub data LoopTurn (E : Type 0) : Type 0 where
   -- the connection of a slot was closed
   Closes : (slot : ℕ) → LoopTurn E
 
+-- it was waited
+abbrev pub is_wait : {E : Type 0} → LoopTurn E → Bool
+is_wait turn = elim turn [ Waits busy now ↦ true | _ ↦ false ]
+
+-- a connection was accepted, also one that failed
+abbrev pub is_accepted : {E : Type 0} → LoopTurn E → Bool
+is_accepted turn = elim turn [ Accepts slot listener ↦ true | AcceptFails ↦ true | _ ↦ false ]
+
 -- how many times it was waited
 abbrev pub count_waits : {E : Type 0} → List (LoopTurn E) → ℕ
-count_waits turns = count_by (λ turn. elim turn [ Waits busy now ↦ true | _ ↦ false ]) turns
+count_waits turns = count_by is_wait turns
 
--- how many connections were accepted, those that failed too
+-- how many connections were accepted
 abbrev pub count_accepted : {E : Type 0} → List (LoopTurn E) → ℕ
-count_accepted turns = count_by (λ turn. elim turn [
-  | Accepts slot listener ↦ true
-  | AcceptFails ↦ true
-  | _ ↦ false
-]) turns
+count_accepted turns = count_by is_accepted turns
 
 module _ {S H R W V E : Type 0} (source : Effects S R W) (input : Input R) (output : Output W)
     (handler : Behavior H V E) (limits : Limits) where
@@ -123,18 +127,20 @@ module _ {S H R W V E : Type 0} (source : Effects S R W) (input : Input R) (outp
     pub closed : source.closed old.source slot.reader slot.writer new.source
     pub others : new ≡ record old { source = new.source; slots = slice_set old.slots k None }
 
+  -- a call changed the source so, and nothing else
+  abbrev pub ChangesSource : (S → Type 0) → Loop S H R W V E → Loop S H R W V E → Type 0
+  ChangesSource so old new = so new.source × (new ≡ record old { source = new.source })
+
   -- what happened in one turn
   abbrev pub IsLoopTurn : Loop S H R W V E → LoopTurn E → Loop S H R W V E → Type 0
   IsLoopTurn old (Waits busy now) new = IsWait old busy now new
   IsLoopTurn old (Accepts k listener) new = IsAccept old k listener new
-  IsLoopTurn old AcceptFails new =
-      source.accepted old.source Failed new.source × (new ≡ record old { source = new.source })
-  IsLoopTurn old AcceptsNobody new =
-      source.accepted old.source Nobody new.source × (new ≡ record old { source = new.source })
+  IsLoopTurn old AcceptFails new = ChangesSource (source.accepted old.source Failed) old new
+  IsLoopTurn old AcceptsNobody new = ChangesSource (source.accepted old.source Nobody) old new
+  IsLoopTurn old HasNoSlot new = AreTaken limits.accept_slots old.slots × (new ≡ old)
   IsLoopTurn old (Calls k made) new = IsCall old k made new
   IsLoopTurn old CallFails new = IsFailedCall old new
-  IsLoopTurn old CallsNobody new =
-      source.called old.source None new.source × (new ≡ record old { source = new.source })
+  IsLoopTurn old CallsNobody new = ChangesSource (source.called old.source None) old new
   IsLoopTurn old (Steps k step) new = IsStepAt old k step new
   IsLoopTurn old (Closes k) new = IsClose old k new
 

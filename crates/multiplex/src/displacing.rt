@@ -1,7 +1,7 @@
 //! Which connection makes place for the next one.
 
 ghost use Rattle.std.specs.Prelude.{◌≡◌, ◌≢◌, ◌<◌, ◌≤◌, ℕ, length, Some, None, IfSome, IfNone, slice_get};
-ghost use Rattle.multiplex.specs.Slots.{IsUnheard, IsLongestUnheard};
+ghost use Rattle.multiplex.specs.Slots.{AreTaken, IsUnheard, IsLongestUnheard};
 ghost use Rattle.multiplex.specs.Turns.{TakesTurns, state};
 
 use crate::handler::Handler;
@@ -40,7 +40,7 @@ fn longest_unheard<S: Source, H: Handler>(
     slots: &[Option<Slot<H, S::Reader, S::Writer, H::End>>],
     round: Round,
 ) -> Option<usize>
-    requires { (k : ℕ) → k < round.limits.accept_slots → slice_get slots.now k ≢ Some None }
+    requires { AreTaken round.limits.accept_slots slots.now }
     ensures within { IfSome result (λ k. k < length slots.now) }
     ensures longest { IfSome result
         (λ k. (slot : _) × (slice_get slots.now k ≡ Some (Some slot))
@@ -65,7 +65,7 @@ pub(crate) fn make_place<S: Source, H: Handler>(
     slots: &mut [Option<Slot<H, S::Reader, S::Writer, H::End>>],
     round: Round,
 )
-    requires { (k : ℕ) → k < round.limits.accept_slots → slice_get slots.old k ≢ Some None }
+    requires { AreTaken round.limits.accept_slots slots.old }
     ensures { (source : S) (world : H.World)
         → TakesTurns S.effects S.Reader.input S.Writer.output H.behavior round.limits 0 0
         (state source slots.old world round.now) (state source slots.new world round.now) }

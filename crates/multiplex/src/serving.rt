@@ -2,7 +2,7 @@
 
 ghost use Rattle.std.specs.Prelude.{◌≡◌, ◌≢◌, ◌+◌, ◌<◌, ◌≤◌, ◌↔◌, ℕ, List, length, IsTrue, true, false, Some, None, IfSome, IfNone, slice_get, min};
 ghost use Rattle.multiplex.specs.Turns.{TakesTurns, state};
-ghost use Rattle.multiplex.specs.Serving.{AreAllFree, HasCalled, HasServed};
+ghost use Rattle.multiplex.specs.Serving.{AreAllFree, HasAsked, HasCalled, HasServed};
 
 use crate::displacing::make_place;
 use crate::handler::Handler;
@@ -22,7 +22,8 @@ fn are_all_free<X>(slots: &[Option<X>]) -> bool
 /// The first free slot from one on to another.
 fn free_slot<X>(slots: &[Option<X>], from: usize, to: usize) -> Option<usize>
     ensures some { IfSome result
-        (λ place. (from ≤ place) × (place < to) × (place < length slots.now)) }
+        (λ place. (from ≤ place) × (place < to) × (place < length slots.now)
+        × (slice_get slots.now place ≡ Some None)) }
     ensures none { IfNone result
         ((k : ℕ) → from ≤ k → k < to → slice_get slots.now k ≢ Some None) }
 {
@@ -48,7 +49,7 @@ fn is_done<X>(slots: &[Option<X>], accepted: u64, limits: Limits) -> bool
     is_all(accepted, limits) && are_all_free(slots)
 }
 
-/// Gives a connection that comes to a listener this slot, where it is free. How many came, one or none.
+/// Asks who comes; a connection gets this slot, which is free. How many came, one or none.
 fn accept_at<S: Source, H: Handler>(
     alloc: Global,
     source: &mut S,
@@ -58,31 +59,30 @@ fn accept_at<S: Source, H: Handler>(
 ) -> u64
     requires within { place < length slots.old }
     requires accepts { place < round.limits.accept_slots }
-    ensures turns { (world : H.World)
-        → TakesTurns S.effects S.Reader.input S.Writer.output H.behavior round.limits 0 result
+    requires free { slice_get slots.old place ≡ Some None }
+    ensures turns { (world : H.World) (before : ℕ)
+        → HasAsked S.effects S.Reader.input S.Writer.output H.behavior round.limits before result
         (state source.old slots.old world round.now) (state source.new slots.new world round.now) }
     ensures one { result ≤ 1 }
 {
-    match &slots[place] {
-        Some(_) => 0,
-        None => match source.accept(place) {
-            Arrival::Connection {
-                listener,
-                reader,
-                writer,
-            } => {
-                let first = H::begin(alloc, listener);
-                slots[place] = Some(Slot::new(first, reader, writer, Vec::new(alloc), round.now));
-                1
-            }
-            Arrival::Failed => 1,
-            Arrival::Nobody => 0,
-        },
+    match source.accept(place) {
+        Arrival::Connection {
+            listener,
+            reader,
+            writer,
+        } => {
+            let first = H::begin(alloc, listener);
+            let slot = Slot::new(first, reader, writer, Vec::new(alloc), round.now);
+            slots[place] = Some(slot);
+            1
+        }
+        Arrival::Failed => 1,
+        Arrival::Nobody => 0,
     }
 }
 
-/// Takes a connection that comes, where a slot is free and more are to be accepted; where none is, another connection
-/// may have to make place for it. How many came, one or none.
+/// Asks who comes, where a slot is free and more are to be accepted; where none is, another connection may have to make
+/// place for the next one. How many came, one or none.
 fn accept_next<S: Source, H: Handler>(
     alloc: Global,
     source: &mut S,
@@ -91,7 +91,7 @@ fn accept_next<S: Source, H: Handler>(
     round: Round,
 ) -> u64
     ensures turns { (world : H.World)
-        → TakesTurns S.effects S.Reader.input S.Writer.output H.behavior round.limits 0 result
+        → HasAsked S.effects S.Reader.input S.Writer.output H.behavior round.limits accepted result
         (state source.old slots.old world round.now) (state source.new slots.new world round.now) }
     ensures one { result ≤ 1 }
     ensures most { IfSome round.limits.connections

@@ -1,4 +1,4 @@
-use Rattle.std.proofs.Common.{arith, ◌+◌, ◌≤◌, ◌<◌}
+use Rattle.std.proofs.Common.{arith, ◌+◌}
 use Rattle.multiplex.proofs.Finding.{found_none, found_same, found_later, found_longer, found_as, found_all, found_within}
 use Rattle.multiplex.proofs.displacing.longest_unheard.Goals.{in-Some+then-heard-since, in-Some+else-heard-since, in_default}
 use Rattle.multiplex.proofs.displacing.longest_unheard.Goals as goal
