@@ -37,6 +37,8 @@ impl Limits {
 #[derive(Clone, Copy)]
 pub(crate) struct Round {
     pub(crate) limits: Limits,
+    /// Whether calls may begin: not once all connections are accepted and closed.
+    pub(crate) may_call: bool,
     /// The time at its begin, in milliseconds.
     pub(crate) now: u64,
 }

@@ -133,56 +133,31 @@ fn begin_call<S: Source, H: Handler>(
     }
 }
 
-/// Begins a call from this slot, where it is free and a call is due.
-fn call_at<S: Source, H: Handler>(
-    alloc: Global,
-    source: &mut S,
-    world: &mut H::World,
-    slots: &mut [Option<Slot<H, S::Reader, S::Writer, H::End>>],
-    place: usize,
-    round: Round,
-)
-    requires within { place < length slots.old }
-    requires calls { round.limits.accept_slots ≤ place }
-    ensures { TakesTurns S.effects S.Reader.input S.Writer.output H.behavior round.limits 0 0
-        (state source.old slots.old world.old round.now)
-        (state source.new slots.new world.new round.now) }
-{
-    match &slots[place] {
-        Some(_) => {}
-        None => {
-            if let Some(slot) = begin_call::<S, H>(alloc, source, world, place, round) {
-                slots[place] = Some(slot);
-            }
-        }
-    }
-}
-
 /// Whether connections are still to be accepted, or one that was is open.
 fn is_open<X>(slots: &[Option<X>], accepted: u64, limits: Limits) -> bool {
     let end = limits.accept_slots.min(slots.len());
     !is_all(accepted, limits) || !are_all_free(&slots[..end])
 }
 
-/// Begins a call that is due, where a slot behind those for accepted connections is free. None begins once all are
-/// accepted and closed.
+/// Begins a call that is due, where a slot behind those for accepted connections is free.
 fn call_next<S: Source, H: Handler>(
     alloc: Global,
     source: &mut S,
     world: &mut H::World,
     slots: &mut [Option<Slot<H, S::Reader, S::Writer, H::End>>],
-    accepted: u64,
     round: Round,
 )
     ensures { TakesTurns S.effects S.Reader.input S.Writer.output H.behavior round.limits 0 0
         (state source.old slots.old world.old round.now)
         (state source.new slots.new world.new round.now) }
 {
-    if !is_open(slots, accepted, round.limits) {
+    if !round.may_call {
         return;
     }
     if let Some(place) = free_slot(slots, round.limits.accept_slots, slots.len()) {
-        call_at::<S, H>(alloc, source, world, slots, place, round);
+        if let Some(slot) = begin_call::<S, H>(alloc, source, world, place, round) {
+            slots[place] = Some(slot);
+        }
     }
 }
 
@@ -213,9 +188,14 @@ pub fn serve<S: Source, H: Handler>(
             };
         }
         let now = source.wait(busy);
-        let round = Round { limits, now };
+        let may_call = is_open(slots, accepted, limits);
+        let round = Round {
+            limits,
+            may_call,
+            now,
+        };
         accepted += accept_next::<S, H>(alloc, source, slots, accepted, round);
-        call_next::<S, H>(alloc, source, world, slots, accepted, round);
+        call_next::<S, H>(alloc, source, world, slots, round);
         busy = serve_round::<S, H>(source, world, slots, round, &mut longest_turn);
     }
     ServeReport {
