@@ -1,0 +1,234 @@
+-- Before each long wait it was asked who comes: the contract of `serve`.
+use Rattle.std.proofs.Common.{◌≡◌, ◌⊎◌, ℕ, ◌+◌, ◌<◌, ◌≤◌, Bool, true, false, List, [], ◌∷◌, ◌++◌, refl, sym, ◌∙◌, subst, ap, arith, inl, inr, cond}
+use Rattle.std.specs.Prelude.{Option, None, Some, IfSome, count_by, not, if◌then◌else◌}
+use Rattle.std.proofs.lemmas.Bool.{true≢false}
+use Rattle.std.proofs.lemmas.Option.{none-some, same_Some}
+use Rattle.std.proofs.lemmas.List.Sums.{sum_by-append, sum_by-cons}
+use Rattle.multiplex.specs.declared.limits.Limits.{Limits}
+use Rattle.multiplex.specs.Effects.{Effects}
+use Rattle.multiplex.specs.Input.{Input}
+use Rattle.multiplex.specs.Output.{Output}
+use Rattle.multiplex.specs.Behavior.{Behavior}
+use Rattle.multiplex.specs.Turns.{Loop, LoopTurn, Waits, Accepts, AcceptFails, AcceptsNobody, HasNoSlot, Calls, CallFails, CallsNobody, Steps, Closes, is_wait, count_waits, count_accepted, IsWait, AreTurns, TakesTurns}
+use Rattle.multiplex.specs.Serving.{is_long_wait, has_asked, asked_since, AsksWhoComes, HasAsked}
+
+-- what was asked stays asked without a wait
+still_asked : (w a : Bool) → w ≡ false → (if w then false else (if a then true else true)) ≡ true
+still_asked true a none = absurd (true≢false none)
+still_asked false true none = refl
+still_asked false false none = refl
+
+-- no first one is counted where none is
+no_first : (b : Bool) (n : ℕ) → cond b 1 0 + n ≡ 0 → b ≡ false
+no_first true n e = absurd (omega (arith, e))
+no_first false n e = refl
+
+module _ {E : Type 0} where
+  -- whether it was asked since the last wait, once some turns are over
+  abbrev pub asked_after : Bool → List (LoopTurn E) → Bool
+  asked_after asked [] = asked
+  asked_after asked (turn ∷ turns) = asked_after (asked_since asked turn) turns
+
+  -- how many were accepted, once some turns are over
+  abbrev accepted_after : ℕ → List (LoopTurn E) → ℕ
+  accepted_after accepted [] = accepted
+  accepted_after accepted (turn ∷ turns) = accepted_after (accepted + count_accepted (turn ∷ []))
+      turns
+
+  accepted-count : (accepted : ℕ) (turns : List (LoopTurn E))
+      → accepted_after accepted turns ≡ accepted + count_accepted turns
+  accepted-count accepted [] = omega arith
+  accepted-count accepted (turn ∷ turns) =
+      let rest = accepted-count (accepted + count_accepted (turn ∷ [])) turns in
+      let all : count_accepted (turn ∷ turns) ≡ count_accepted (turn ∷ []) + count_accepted turns =
+      sum_by-append _ (turn ∷ []) turns in
+      omega (arith, rest, all)
+
+  asked-join : (asked : Bool) (turns more : List (LoopTurn E))
+      → asked_after asked (turns ++ more) ≡ asked_after (asked_after asked turns) more
+  asked-join asked [] more = refl
+  asked-join asked (turn ∷ turns) more = asked-join (asked_since asked turn) turns more
+
+  asks-join : (most : Option ℕ) (accepted : ℕ) (asked : Bool) (turns more : List (LoopTurn E))
+      → AsksWhoComes most accepted asked turns
+      → AsksWhoComes most (accepted_after accepted turns) (asked_after asked turns) more
+      → AsksWhoComes most accepted asked (turns ++ more)
+  asks-join most accepted asked [] more first later = later
+  asks-join most accepted asked (turn ∷ turns) more (first, rest) later = (
+    first,
+    asks-join most (accepted + count_accepted (turn ∷ [])) (asked_since asked turn) turns
+        more rest later,
+  )
+
+  -- a long wait is a wait
+  long_waits : (turn : LoopTurn E) → is_wait turn ≡ false → is_long_wait turn ≡ true → ⊥
+  long_waits (Waits busy now) none long = true≢false none
+  long_waits (Accepts k listener) none long = true≢false (sym long)
+  long_waits AcceptFails none long = true≢false (sym long)
+  long_waits AcceptsNobody none long = true≢false (sym long)
+  long_waits HasNoSlot none long = true≢false (sym long)
+  long_waits (Calls k made) none long = true≢false (sym long)
+  long_waits CallFails none long = true≢false (sym long)
+  long_waits CallsNobody none long = true≢false (sym long)
+  long_waits (Steps k step) none long = true≢false (sym long)
+  long_waits (Closes k) none long = true≢false (sym long)
+
+  -- no wait is among turns without a wait
+  first_none : (turn : LoopTurn E) (turns : List (LoopTurn E)) → count_waits (turn ∷ turns) ≡ 0
+      → is_wait turn ≡ false
+  first_none turn turns none = no_first (is_wait turn) (count_waits turns)
+      (sym (sum_by-cons (λ t. cond (is_wait t) 1 0) turn turns) ∙ none)
+
+  rest_none : (turn : LoopTurn E) (turns : List (LoopTurn E)) → count_waits (turn ∷ turns) ≡ 0
+      → count_waits turns ≡ 0
+  rest_none turn turns none =
+      let all = sum_by-cons (λ t. cond (is_wait t) 1 0) turn turns in omega (arith, all, none)
+
+  asks-none : (most : Option ℕ) (accepted : ℕ) (asked : Bool) (turns : List (LoopTurn E))
+      → count_waits turns ≡ 0
+      → AsksWhoComes most accepted asked turns
+  asks-none most accepted asked [] none = tt
+  asks-none most accepted asked (turn ∷ turns) none = (
+    λ long. absurd (long_waits turn (first_none turn turns none) long),
+    asks-none most (accepted + count_accepted (turn ∷ [])) (asked_since asked turn) turns
+        (rest_none turn turns none),
+  )
+
+  asked-kept : (turns : List (LoopTurn E)) → count_waits turns ≡ 0 → asked_after true turns ≡ true
+  asked-kept [] none = refl
+  asked-kept (turn ∷ turns) none =
+      subst (λ b. asked_after b turns ≡ true) (sym (still_asked (is_wait turn) (has_asked turn)
+      (first_none turn turns none)))
+      (asked-kept turns (rest_none turn turns none))
+
+  asked-by : (turns : List (LoopTurn E)) (asked w a : Bool) → count_waits turns ≡ 0 → w ≡ false
+      → (0 < count_by has_asked turns → asked_after asked turns ≡ true)
+      → 0 < cond a 1 0 + count_by has_asked turns
+      → asked_after (if w then false else (if a then true else asked)) turns ≡ true
+  asked-by turns asked true a none e again some = absurd (true≢false e)
+  asked-by turns asked false true none e again some = asked-kept turns none
+  asked-by turns asked false false none e again some = again (omega (arith, some))
+
+  asked-once : (asked : Bool) (turns : List (LoopTurn E)) → count_waits turns ≡ 0
+      → 0 < count_by has_asked turns
+      → asked_after asked turns ≡ true
+  asked-once asked [] none some = absurd (omega (arith, some))
+  asked-once asked (turn ∷ turns) none some =
+      asked-by turns asked (is_wait turn) (has_asked turn) (rest_none turn turns none)
+      (first_none turn turns none)
+      (asked-once asked turns (rest_none turn turns none))
+      (subst (λ n. 0 < n) (sum_by-cons (λ t. cond (has_asked t) 1 0) turn turns) some)
+
+module _ {S H R W V E : Type 0} (source : Effects S R W) (input : Input R) (output : Output W)
+    (handler : Behavior H V E) (limits : Limits) where
+  -- a server so far: so many waits, so many accepted, and whether it is busy
+  pub record SoFar (waits accepted : ℕ) (busy : Bool) (old new : Loop S H R W V E) : Type 0 where
+    pub turns : List (LoopTurn E)
+    pub execution : AreTurns source input output handler limits old turns new
+    pub waited : count_waits turns ≡ waits
+    pub accepts : count_accepted turns ≡ accepted
+    pub asks : AsksWhoComes limits.connections 0 true turns
+    pub ready : (busy ≡ true) ⊎ ((asked_after true turns ≡ true) ⊎
+        (limits.connections ≡ Some accepted))
+
+  pub begun : (here : Loop S H R W V E) → SoFar 0 0 true here here
+  begun here = record {
+    turns = [];
+    execution = refl;
+    waited = refl;
+    accepts = refl;
+    asks = tt;
+    ready = inl refl;
+  }
+
+  joined : (a b c : Loop S H R W V E) (turns more : List (LoopTurn E))
+      → AreTurns source input output handler limits a turns b
+      → AreTurns source input output handler limits b more c → AreTurns source input output handler
+      limits a (turns ++ more) c
+  joined a b c [] more same later =
+      subst (λ (x : Loop S H R W V E). AreTurns source input output handler limits x more c) same
+      later
+  joined a b c (turn ∷ turns) more (x, one, rest) later = (
+    x,
+    one,
+    joined x b c turns more rest
+        later,
+  )
+
+  -- where all had come nobody more came
+  still_all : (most : Option ℕ) (before more : ℕ) → most ≡ Some before
+      → IfSome most (λ n. before ≤ n → before + more ≤ n)
+      → most ≡ Some (before + more)
+  still_all None before more all step = absurd (none-some before all)
+  still_all (Some n) before more all step =
+      let same : n ≡ before = same_Some n before all in
+      let fits = step (omega (arith, same)) in
+      ap (λ k. Some k) (omega (arith, fits, same))
+
+  -- one round more: it was waited, it was asked who comes, a call may have begun, and each had its turn
+  pub round_more : (waits before more : ℕ) (busy busy' : Bool) (now : ℕ)
+      (start old waited asked called new : Loop S H R W V E)
+      → SoFar waits before busy start old → IsWait source input output handler limits old busy now
+      waited
+      → HasAsked source input output handler limits before more waited asked
+      → TakesTurns source input output handler limits 0 0 asked called
+      → TakesTurns source input output handler limits 0 0 called new
+      → IfSome limits.connections (λ n. before ≤ n → before + more ≤ n)
+      → SoFar (waits + 1) (before + more) busy' start new
+  round_more waits before more busy busy' now start old waited asked called new far wait asks calls
+      turns step =
+      let tail : List (LoopTurn E) = asks.0 ++ (calls.0 ++ turns.0) in
+      let count_tail : count_waits tail ≡ 0 =
+      let one : count_waits tail ≡ count_waits asks.0 + count_waits (calls.0 ++ turns.0) =
+      sum_by-append _ asks.0 (calls.0 ++ turns.0) in
+      let two : count_waits (calls.0 ++ turns.0) ≡ count_waits calls.0 + count_waits turns.0 =
+      sum_by-append _ calls.0 turns.0 in
+      omega (arith, one, two, asks.2, calls.2, turns.2) in
+      let accepts_tail : count_accepted tail ≡ more =
+      let one : count_accepted tail ≡ count_accepted asks.0 + count_accepted (calls.0 ++ turns.0) =
+      sum_by-append _ asks.0 (calls.0 ++ turns.0) in
+      let two : count_accepted (calls.0 ++ turns.0) ≡ count_accepted calls.0 + count_accepted
+      turns.0 = sum_by-append _ calls.0 turns.0 in
+      omega (arith, one, two, asks.3, calls.3, turns.3) in
+      let round : List (LoopTurn E) = Waits busy now ∷ tail in
+      let accepted-so_far : accepted_after 0 far.turns ≡ before = omega
+      (arith, accepted-count 0 far.turns, far.accepts) in
+      record {
+        turns = far.turns ++ round;
+        execution = joined start old new far.turns round far.execution (
+          waited,
+          wait,
+          joined waited asked new asks.0 (calls.0 ++ turns.0) asks.1
+              (joined asked called new calls.0 turns.0 calls.1 turns.1),
+        );
+        waited =
+            let one : count_waits (far.turns ++ round) ≡ count_waits far.turns + count_waits round =
+            sum_by-append _ far.turns round in
+            let two : count_waits round ≡ 1 + count_waits tail = sum_by-cons _ (Waits busy now) tail
+            in
+            omega (arith, one, two, count_tail, far.waited);
+        accepts =
+            let one : count_accepted (far.turns ++ round) ≡ count_accepted far.turns +
+            count_accepted round = sum_by-append _ far.turns round in
+            let two : count_accepted round ≡ 0 + count_accepted tail = sum_by-cons _
+            (Waits busy now) tail in
+            omega (arith, one, two, accepts_tail, far.accepts);
+        asks = asks-join limits.connections 0 true far.turns round far.asks (
+          λ long. elim far.ready [
+            | inl working ↦ absurd (true≢false (sym long ∙ ap not working))
+            | inr known ↦ elim known [
+              | inl been ↦ inl been
+              | inr all ↦ inr (all ∙ ap (λ k. Some k) (sym accepted-so_far))
+            ]
+          ],
+          asks-none limits.connections (accepted_after 0 far.turns + count_accepted {E = E}
+              (Waits busy now ∷ [])) false tail count_tail,
+        );
+        ready = elim asks.4 [
+          | inl all ↦ inr (inr (still_all limits.connections before more all step))
+          | inr some ↦ inr (inl (asked-join true far.turns round ∙ asked-once false tail count_tail
+              (let one : count_by has_asked tail ≡ count_by has_asked asks.0 + count_by has_asked
+              (calls.0 ++ turns.0) = sum_by-append _ asks.0 (calls.0 ++ turns.0) in
+              omega (arith, one, some))))
+        ];
+      }

@@ -1,0 +1,33 @@
+use Rattle.std.proofs.Common.{arith}
+use Rattle.multiplex.specs.Turns.{state}
+use Rattle.multiplex.proofs.Counts.{none_more}
+use Rattle.multiplex.proofs.Turning.{no_slot, none}
+use Rattle.multiplex.proofs.serving.accept_next.Goals as goal
+
+pub returns-then-is_coming-clause-most : goal.returns-then-is_coming-clause-most
+returns-then-is_coming-clause-most g c = none_more c.args.round.limits.connections c.args.accepted
+
+pub returns-else-is_coming-clause-most : goal.returns-else-is_coming-clause-most
+returns-else-is_coming-clause-most g c = none_more c.args.round.limits.connections c.args.accepted
+
+pub returns-in-Some-clause-turns : goal.returns-in-Some-clause-turns
+returns-in-Some-clause-turns g c world = c.accept_at.ensures.turns world c.args.accepted
+
+pub returns-then-is_coming-clause-turns : goal.returns-then-is_coming-clause-turns
+returns-then-is_coming-clause-turns g c world =
+    let now = c.args.round.now in
+    no_slot g.S.Source.effects g.S.Reader.NonBlockingRead.input g.S.Writer.NonBlockingWrite.output
+    g.H.Handler.behavior c.args.round.limits c.args.accepted
+    (state c.args.source.now c.args.slots.now world now) (state c.args.source.now
+    c.make_place.new.slots world now)
+    (λ k below free. c.in-None.ensures.none k (omega arith) below free)
+    (c.make_place.ensures c.args.source.now world)
+
+pub returns-else-is_coming-clause-turns : goal.returns-else-is_coming-clause-turns
+returns-else-is_coming-clause-turns g c world =
+    let here = state c.args.source.now c.args.slots.now world c.args.round.now in
+    no_slot g.S.Source.effects g.S.Reader.NonBlockingRead.input g.S.Writer.NonBlockingWrite.output
+    g.H.Handler.behavior c.args.round.limits c.args.accepted here here
+    (λ k below free. c.in-None.ensures.none k (omega arith) below free)
+    (none g.S.Source.effects g.S.Reader.NonBlockingRead.input g.S.Writer.NonBlockingWrite.output
+    g.H.Handler.behavior c.args.round.limits here)

@@ -1,0 +1,97 @@
+use Rattle.std.proofs.Common.{refl, sym, ap, ◌∙◌, subst, arith, ◌≤◌}
+use Rattle.std.specs.Prelude.{Some, IfSome}
+use Rattle.std.proofs.lemmas.Bool.{true≢false}
+use Rattle.multiplex.specs.Turns.{state}
+use Rattle.multiplex.proofs.Counts.{none_yet, with_more}
+use Rattle.multiplex.proofs.Asking.{begun, round_more}
+use Rattle.multiplex.proofs.serving.serve.Goals as goal
+
+pub loop-init : goal.loop-init
+loop-init g c = record {
+  far = λ first. (
+    first,
+    begun g.S.Source.effects g.S.Reader.NonBlockingRead.input g.S.Writer.NonBlockingWrite.output
+        g.H.Handler.behavior c.args.limits
+        (state c.args.source.now c.args.slots.now c.args.world.now first),
+  );
+  rest = λ quiet. absurd (true≢false quiet);
+  most = none_yet c.args.limits.connections;
+  each = omega arith;
+}
+
+pub returns-then-is_done : goal.returns-then-is_done
+returns-then-is_done g c first =
+    let (last, far) = c.loop.invariant.far first in (
+      last,
+      record {
+        turns = far.turns;
+        execution = far.execution;
+        asks = far.asks;
+        most = subst (λ n. IfSome c.args.limits.connections (λ most. n ≤ most)) (sym far.accepts)
+            c.loop.invariant.most;
+        ended = λ done.
+            let (all, free) = c.if-is_done.ensures refl in
+            (all ∙ ap (λ n. Some n) (sym far.accepts), free);
+        spent = λ undone. absurd (true≢false undone);
+      },
+    )
+
+pub overflow_add-accepted : goal.overflow_add-accepted
+overflow_add-accepted g c =
+    omega (
+      arith,
+      c.loop.invariant.each,
+      c.loop-test.true,
+      c.accept_next-accepted.ensures.one,
+      c.rounds-end.type_inv,
+    )
+
+pub loop-preserved : goal.loop-preserved
+loop-preserved g c = record {
+  far = λ first.
+      let (last, before) = c.loop.invariant.far first in
+      let now = c.wait-now.result in
+      let world = c.loop.world in (
+        now,
+        round_more g.S.Source.effects g.S.Reader.NonBlockingRead.input
+            g.S.Writer.NonBlockingWrite.output g.H.Handler.behavior c.args.limits
+            c.loop.counter c.loop.accepted c.accept_next-accepted.result c.loop.busy
+            c.serve_round-busy.result now
+            (state c.args.source.now c.args.slots.now c.args.world.now first)
+            (state c.loop.source c.loop.slots world last) (state c.wait-now.new.self c.loop.slots
+            world now)
+            (state c.accept_next-accepted.new.source c.accept_next-accepted.new.slots world now)
+            (state c.call_next.new.source c.call_next.new.slots c.call_next.new.world now)
+            (state c.serve_round-busy.new.source c.serve_round-busy.new.slots
+            c.serve_round-busy.new.world now)
+            before (record {
+              rest = c.loop.invariant.rest;
+              waited = c.wait-now.ensures;
+              others =
+                  refl;
+            })
+            (c.accept_next-accepted.ensures.turns world) c.call_next.ensures
+            c.serve_round-busy.ensures.turns
+            c.accept_next-accepted.ensures.most,
+      );
+  rest = λ quiet. c.serve_round-busy.ensures.rest quiet;
+  most = with_more c.args.limits.connections c.loop.accepted c.accept_next-accepted.result
+      c.loop.invariant.most
+      c.accept_next-accepted.ensures.most;
+  each = omega (arith, c.loop.invariant.each, c.accept_next-accepted.ensures.one);
+}
+
+pub returns : goal.returns
+returns g c first =
+    let (last, far) = c.loop.invariant.far first in (
+      last,
+      record {
+        turns = far.turns;
+        execution = far.execution;
+        asks = far.asks;
+        most = subst (λ n. IfSome c.args.limits.connections (λ most. n ≤ most)) (sym far.accepts)
+            c.loop.invariant.most;
+        ended = λ done. absurd (true≢false (sym done));
+        spent = λ undone. far.waited ∙ omega (arith, c.loop.auto.counter-end, c.loop-test.false);
+      },
+    )
