@@ -1,5 +1,0 @@
-use Rattle.std.proofs.Common.{Ok}
-use Rattle.ua_server.proofs.program.serve_by.Goals as goal
-
-pub returns-in-Ok-open_archive-clause-serves : goal.returns-in-Ok-open_archive-clause-serves
-returns-in-Ok-open_archive-clause-serves g c = (Ok c.in-Ok.settings, c.in-Ok.ensures, (Ok c.in-Ok-open_archive.archive, c.in-Ok-open_archive.ensures, (c.serve_at.new.replica.archive, c.serve_at.ensures.listens)))
