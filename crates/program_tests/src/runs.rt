@@ -1,13 +1,16 @@
 //! Command lines, settings files and what runs print.
 
+ghost use Rattle.ua_server.specs.Host.{unknown_machine};
+
 use archive::{ListArchive, StoreFault};
-use server_rows::ends::Narrow;
-use server_rows::network::{Client, Machine};
+use server_rows::ends::{Narrow, Slow};
+use server_rows::network::{Client, Clients};
 use stamp::ReplicaNo;
 use std::alloc::Global;
+use std::net::SocketAddr;
 use ua_server::{
-    Asked, ConstantClock, Counted, Line, LineFault, ProgramFault, ServeFault, SettingsFiles,
-    Stores, read_line, report, run,
+    Asked, ConstantClock, Counted, Host, Line, LineFault, Listener, ProgramFault, ServeFault,
+    read_line, report, run,
 };
 use uuid::Uuid;
 
@@ -535,40 +538,6 @@ static FILES: [(&str, &str); 7] = [
     ),
 ];
 
-/// The files above.
-#[derive(Drop)]
-struct Kept(Global);
-
-impl SettingsFiles for Kept {
-    ghost gave = { λ old path text new. Unit {0} };
-
-    fn text(&mut self, path: &str) -> Option<String> {
-        let (_, text) = FILES.iter().find(|(name, _)| *name == path)?;
-        String::from_str(self.0, text).ok()
-    }
-}
-
-/// Stores in memory: each path but one opens an archive that holds nothing.
-#[derive(Drop)]
-struct Memories(Global);
-
-impl Stores for Memories {
-    type Kept = ListArchive;
-
-    ghost opened = { λ old path id number opening new. Unit {0} };
-
-    fn open(&mut self, path: &str, id: Uuid, number: ReplicaNo) -> Result<ListArchive, StoreFault> {
-        if path == "other.db" {
-            return Err(StoreFault::WrongArchive);
-        }
-        Ok(ListArchive::new(self.0, id, number))
-    }
-
-    fn in_memory(&self, id: Uuid, number: ReplicaNo) -> Result<ListArchive, StoreFault> {
-        Ok(ListArchive::new(self.0, id, number))
-    }
-}
-
 /// Over the network come a client that ends well, one that takes no answer, and then nobody.
 static CALLERS: [Option<Client<'static>>; 2] = [
     Some(Client {
@@ -583,11 +552,88 @@ static CALLERS: [Option<Client<'static>>; 2] = [
     }),
 ];
 
-/// They come to this machine.
-fn machine(alloc: Global) -> Machine<'static> {
-    Machine {
-        alloc,
-        clients: &CALLERS,
+/// What replica 2 answers, which holds nothing.
+const QUIET: &[u8] = b"RXDF\x1f\0\0\0\x02\0\0\0\0\0\0\0\0\0\0\0\0\0\0\0\0\x02\0\0\0\0\0";
+
+/// A peer that holds nothing.
+static QUIET_PEER: [Option<Client<'static>>; 1] = [Some(Client {
+    bytes: QUIET,
+    breaks: false,
+    room: 1000,
+})];
+
+/// A peer that ends each exchange by a number of its own.
+static REFUSING_PEER: [Option<Client<'static>>; 1] = [Some(Client {
+    bytes: b"RXEF\x0c\0\0\0\x15\xcd\x5b\x07",
+    breaks: false,
+    room: 1000,
+})];
+
+/// A machine in memory, with the files above, that can be listened at on port 4840, and whom the callers reach there. Each path but
+/// one opens an archive that holds nothing.
+#[derive(Drop)]
+struct Machine(Global);
+
+impl Host for Machine {
+    type Archive = ListArchive;
+
+    type Listener = Clients<'static>;
+
+    type Reader = Slow<'static>;
+
+    type Writer = Narrow;
+
+    ghost means = { unknown_machine };
+
+    fn read(&mut self, path: &str) -> Option<String> {
+        let (_, text) = FILES.iter().find(|(name, _)| *name == path)?;
+        String::from_str(self.0, text).ok()
+    }
+
+    fn open_file(
+        &mut self,
+        path: &str,
+        id: Uuid,
+        number: ReplicaNo,
+    ) -> Result<ListArchive, StoreFault> {
+        if path == "other.db" {
+            return Err(StoreFault::WrongArchive);
+        }
+        Ok(ListArchive::new(self.0, id, number))
+    }
+
+    fn open_in_memory(&self, id: Uuid, number: ReplicaNo) -> Result<ListArchive, StoreFault> {
+        Ok(ListArchive::new(self.0, id, number))
+    }
+
+    fn close(&mut self, archive: ListArchive) {
+        drop(archive);
+    }
+
+    fn listen(&mut self, address: SocketAddr) -> Option<Clients<'static>> {
+        if address.port() == 4840 {
+            Some(Clients::new(self.0, &CALLERS))
+        } else {
+            None
+        }
+    }
+
+    /// The first of the clients is the peer at port 4840; the one at port 4842 holds nothing, and that at 4843
+    /// refuses.
+    fn call(&mut self, address: SocketAddr) -> Option<(Slow<'static>, Narrow)> {
+        match address.port() {
+            4840 => Clients::new(self.0, &CALLERS).accept(),
+            4842 => Clients::new(self.0, &QUIET_PEER).accept(),
+            4843 => Clients::new(self.0, &REFUSING_PEER).accept(),
+            _ => None,
+        }
+    }
+
+    fn part(&mut self, reader: Counted<Slow<'static>>, writer: Counted<Narrow>)
+        ensures { Unit {0} }
+    {
+        drop(reader);
+        drop(writer);
     }
 }
 
@@ -610,13 +656,11 @@ fn is_run(
     let ending = run(
         alloc,
         words,
-        &mut Kept(alloc),
-        &mut Memories(alloc),
-        &mut machine(alloc),
+        &mut Machine(alloc),
+        &mut ConstantClock(116_444_736_000_000_000),
         &mut reader,
         &mut writer,
         &mut errors,
-        &mut ConstantClock(116_444_736_000_000_000),
     );
     report(ending, &mut errors) == status
         && writer.into_inner().bytes.starts_with(printed.as_bytes())

@@ -3,5 +3,6 @@ pub mod Either
 pub mod Hexed
 pub mod Single
 pub mod Network
+pub mod Host
 pub mod Dumping
 pub mod Program

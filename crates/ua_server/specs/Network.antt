@@ -1,13 +1,10 @@
 -- Connections that come over a network, one after the other.
-use Rattle.std.specs.Prelude.{◌≡◌, ◌⊎◌, ℕ, ℤ, zero, suc, List, Option, None, Some, Result, Ok, Err}
-use Rattle.std.specs.Net.Grammar.{IsSocketText}
-use Rattle.std.specs.declared.net.socket_addr.SocketAddr.{SocketAddr}
+use Rattle.std.specs.Prelude.{◌≡◌, ℕ, ℤ, zero, suc, List, Option, None, Some, Ok, Err}
 use Rattle.archive.specs.Store.{Store}
 use Rattle.ua_settings.specs.Settings.{SettingsValues}
 use Rattle.counted_io.specs.declared.fault.ServeFault.{ServeFault}
 use Rattle.counted_io.specs.declared.fault.ServeFault.TheVariants.{Read, Write}
-use Rattle.ua_server.specs.declared.program.ProgramFault.{ProgramFault}
-use Rattle.ua_server.specs.declared.program.ProgramFault.TheVariants.{Address, Connection}
+use Rattle.ua_server.specs.declared.program.ProgramFault.TheVariants.{Connection}
 use Rattle.ua_server.specs.Either.{ConnectionEnding, ServesEither}
 use Rattle.ua_connection.specs.Environments.{Environment}
 use Rattle.counted_io.specs.Tally.{Tally, HasCounted}
@@ -33,10 +30,6 @@ calls_of comes closed unread written =
 -- how a clock goes from one state to another and gives readings
 abbrev pub Readings : Type 0 → Type 1
 Readings C = C → List ℤ → C → Type 0
-
--- between two states of a network it was asked for a listener at an address, and gave this
-abbrev pub Listening : Type 0 → Type 0 → Type 1
-Listening N L = N → SocketAddr → Option L → N → Type 0
 
 -- what is known to stand in what a writer writes to; None where nothing is
 abbrev pub Known : Type 0 → Type 0
@@ -98,44 +91,3 @@ ServesEach {L} {R} {W} {A} {C} {E} wires gave held told settings (suc more) old 
     (middle : Surroundings L A C) × (soon : Tally E) × (ending : ConnectionEnding)
     × Connects wires gave held settings old middle ending × LogsEnd told ending before soon
     × ServesEach wires gave held told settings more middle soon new after
-
--- the text is no address, or the network gave nothing at it
-abbrev pub IsUnheard : {N L : Type 0} → (SocketAddr → Option L → N → Type 0) → List ℕ → N → N
-    → Type 0
-IsUnheard had text old new =
-    (((address : SocketAddr) → IsSocketText text address → ⊥) × (new ≡ old))
-    ⊎ ((address : SocketAddr) × IsSocketText text address × had address None new)
-
--- what is around connections that this listener gives
-abbrev pub from_listener : {N L A C : Type 0} → L → Surroundings N A C → Surroundings L A C
-from_listener listener around =
-    record { source = listener; archive = around.archive; clock = around.clock }
-
--- so many connections were served that came to the address of the settings
-abbrev pub ListensAt : {N L R W A C E : Type 0} → NetworkCalls L R W → Readings C → (A → Store)
-    → Listening N L → Known E → SettingsValues → ℕ → (old : Surroundings N A C) → (before : Tally E)
-    → (new : Surroundings N A C) → (after : Tally E) → Type 0
-ListensAt {N} {L} wires gave held listened told settings count old before new after =
-    (address : SocketAddr) × IsSocketText settings.listen address
-    × ((first : L) × (last : L) × listened old.source address (Some first) new.source
-    × ServesEach wires gave held told settings count (from_listener first old) before
-    (from_listener last new) after)
-
--- nothing is had at the address; the archive, the clock and standard error stay
-abbrev pub CannotListen : {N L A C E : Type 0} → Listening N L → SettingsValues
-    → (old : Surroundings N A C) → (before : Tally E) → (new : Surroundings N A C)
-    → (after : Tally E) → Type 0
-CannotListen listened settings old before new after =
-    IsUnheard (listened old.source) settings.listen old.source new.source
-    × (new.archive ≡ old.archive) × (new.clock ≡ old.clock) × (after ≡ before)
-
--- so many connections were served that came to the address of the settings; or the address is
--- refused; no other fault ends it
-abbrev pub Listens : {N L R W A C E : Type 0} → NetworkCalls L R W → Readings C → (A → Store)
-    → Listening N L → Known E → SettingsValues → ℕ → (old : Surroundings N A C) → (before : Tally E)
-    → (new : Surroundings N A C) → (after : Tally E) → Result (Unit {0}) ProgramFault → Type 0
-Listens wires gave held listened told settings count old before new after (Ok done) =
-    ListensAt wires gave held listened told settings count old before new after
-Listens wires gave held listened told settings count old before new after (Err Address) =
-    CannotListen listened settings old before new after
-Listens wires gave held listened told settings count old before new after (Err fault) = ⊥

@@ -1,5 +1,5 @@
 -- What a run of the program does.
-use Rattle.std.specs.Prelude.{◌≡◌, ℕ, ℤ, List, [], Option, None, Some, IfSome, option_copied, Result, Ok, Err, IfOk, MatchResult, Bool, true, ◌⊎◌}
+use Rattle.std.specs.Prelude.{◌≡◌, ℕ, ℤ, List, [], Option, None, Some, IfSome, option_copied, Result, Ok, Err, IfOk, Bool, true, ◌⊎◌}
 use Rattle.std.specs.Result.{result_map_both}
 use Rattle.std.specs.Io.KnownBytes.{Appends}
 use Rattle.std.specs.declared.net.socket_addr.SocketAddr.{SocketAddr}
@@ -8,12 +8,10 @@ use Rattle.toml.specs.Data.{Members}
 use Rattle.toml.specs.Parse.{parse_document}
 use Rattle.counted_io.specs.declared.fault.ServeFault.TheVariants.{Write, OutOfMemory}
 use Rattle.ua_server.specs.declared.hexed.HexFault.{HexFault}
-use Rattle.ua_server.specs.declared.hexed.HexFault.TheVariants as hexed
 use Rattle.ua_server.specs.declared.program.ProgramFault.{ProgramFault}
-use Rattle.ua_server.specs.declared.program.ProgramFault.TheVariants.{Line, File, Settings, BadHex, Address, Connection}
+use Rattle.ua_server.specs.declared.program.ProgramFault.TheVariants.{Line, File, Settings, Address, Connection}
 use Rattle.ua_server.specs.declared.program.ProgramFault.TheVariants as program
 use Rattle.ua_server.specs.declared.dumps.DumpFault.{DumpFault}
-use Rattle.ua_server.specs.declared.dumps.DumpFault.TheVariants as dump
 use Rattle.counted_io.specs.Bytes.{AppendsPart}
 use Rattle.counted_io.specs.Tally.{Tally}
 use Rattle.ua_settings.specs.declared.fault.SettingsFault.{SettingsFault}
@@ -34,26 +32,16 @@ use Rattle.ua_peers.specs.declared.calling.Synced.{Synced}
 use Rattle.ua_peers.specs.declared.calling.SyncFault.{SyncFault}
 use Rattle.ua_peers.specs.declared.calling.SyncFault.TheVariants as sync
 use Rattle.std.specs.Net.Grammar.{IsSocketText}
-use Rattle.ua_server.specs.Network.{NetworkCalls, Counts, IsUnheard, Listens, Surroundings, Readings, Listening, Known}
-use Rattle.clap.specs.Words.{Row, Text}
+use Rattle.ua_server.specs.Network.{Counts, ServesEach, Surroundings, Readings, Known}
+use Rattle.ua_server.specs.Host.{Machine, KnownMachine}
+use Rattle.clap.specs.Words.{Row, Text, subcommand_of}
+use Rattle.clap.specs.Takes.{takes}
+use Rattle.clap.specs.Faults.{fault_of as fault_kinds}
 use Rattle.clap.specs.declared.error.ErrorKind.{ErrorKind}
 use Rattle.command_line.specs.declared.line.Line.{Line as CommandLine}
 use Rattle.command_line.specs.declared.line.Line.TheVariants.{Answer, Serve, Dump, Sync}
 use Rattle.command_line.specs.declared.line.LineFault.TheVariants.{Words, OutOfMemory as NoMemory}
-use Rattle.command_line.specs.Line.{AsksForText, IsLine, MayAskForText}
-use Rattle.command_line.specs.declared.line.LineFault.{LineFault}
-
--- ---- the archive of a program
-
--- the archive of the settings, or why it can't be opened: that of their file, or one in memory that
--- holds nothing, and then no file was opened
-abbrev pub OpensArchive : {K : Type 0}
-    → (opened : List ℕ → List ℕ → ℕ → Result K StoreFault → Type 0) → (untouched : Type 0)
-    → (K → Store) → SettingsValues → Option (List ℕ) → Result K StoreFault → Type 0
-OpensArchive opened untouched held settings None opening =
-    untouched × IfOk opening (λ first. HoldsNothing settings.archive settings.replica (held first))
-OpensArchive opened untouched held settings (Some path) opening =
-    opened path settings.archive settings.replica opening
+use Rattle.command_line.specs.Line.{AsksForText, IsLine, MayAskForText, uahist}
 
 -- ---- settings
 
@@ -82,60 +70,77 @@ abbrev pub IsBare : Result SettingsValues ProgramFault → Type 0
 IsBare result =
     elim result [ Ok settings ↦ settings ≡ bare | Err (Line NoMemory) ↦ Unit {0} | Err fault ↦ ⊥ ]
 
--- The settings of a server that is given this path, by what was read at it. Without a path they are
--- those without a file, and no file was asked for. A file that can't be read is the fault File.
-abbrev pub SettingsAt : (List ℕ → Option (List ℕ) → Type 0) → (unasked : Type 0) → Option (List ℕ)
-    → Result SettingsValues ProgramFault → Type 0
-SettingsAt reads unasked None result = IsBare result × unasked
-SettingsAt reads unasked (Some path) result =
-    (text : Option (List ℕ)) × reads path text
+-- The settings of a server that is given this path. Without a path they are those without a file,
+-- and no file is read. A file that can't be read is the fault File.
+abbrev pub SettingsAt : {H A L R W : Type 0} → Machine H A L R W → Option (List ℕ)
+    → Result SettingsValues ProgramFault → (old new : H) → Type 0
+SettingsAt machine None result old new = IsBare result × (new ≡ old)
+SettingsAt machine (Some path) result old new =
+    (text : Option (List ℕ)) × machine.reads old path text new
     × elim text [ None ↦ result ≡ Err File | Some known ↦ IsSetIn known result ]
 
--- ---- a command
+-- the archive of the settings, or why it can't be opened: that of their file, or one in memory that
+-- holds nothing, and then no file is opened
+abbrev pub OpensArchive : {H A L R W : Type 0} → Machine H A L R W → (A → Store) → SettingsValues
+    → Option (List ℕ) → Result A StoreFault → (old new : H) → Type 0
+OpensArchive machine held settings None opening old new =
+    IfOk opening (λ first. HoldsNothing settings.archive settings.replica (held first))
+    × (new ≡ old)
+OpensArchive machine held settings (Some path) opening old new =
+    machine.opens old path settings.archive settings.replica opening new
 
--- the machine that a program runs on. reads: the text at a path; opened: the archive at a path;
--- held: what an archive holds; unasked, untouched: no text was asked for, no archive opened
-pub record Machine (K : Type 0) : Type 1 where
-  pub reads : List ℕ → Option (List ℕ) → Type 0
-  pub unasked : Type 0
-  pub opened : List ℕ → List ℕ → ℕ → Result K StoreFault → Type 0
-  pub untouched : Type 0
-  pub held : K → Store
-
--- the machine around a run: what its files and its stores do between these states
-abbrev pub machine_around : {F D K : Type 0} → (F → List ℕ → Option (List ℕ) → F → Type 0)
-    → (D → List ℕ → List ℕ → ℕ → Result K StoreFault → D → Type 0) → (K → Store)
-    → (files left : F) → (stores kept : D) → Machine K
-machine_around gave opened held files left stores kept = record {
-  reads = λ path text. gave files path text left;
-  unasked = left ≡ files;
-  opened = λ path id number opening. opened stores path id number opening kept;
-  untouched = kept ≡ stores;
-  held = held;
-}
-
--- calls of peers over a network
-abbrev pub peers_of : {N R W : Type 0} → (N → SocketAddr → Option (R × W) → N → Type 0)
-    → (N → Tally R → Tally W → N → Type 0) → (R → Option (List ℕ)) → (W → Option (List ℕ))
-    → SocketAddr → NetworkCalls N R W
-peers_of called parted unread written address = record {
-  comes = λ old came new. called old address came new;
-  closed = parted;
-  unread = unread;
-  written = written;
-}
-
--- what is done by the settings of the file at a path, over their archive; or nothing else is, where
--- they or their archive are refused
-abbrev pub WithSettings : {K : Type 0} → Machine K → Option (List ℕ) → (SettingsValues → K → Type 0)
-    → (ProgramFault → Type 0) → Type 0
-WithSettings {K} machine path does refused = (settings : Result SettingsValues ProgramFault)
-    × SettingsAt machine.reads machine.unasked path settings × elim settings [
-      | Ok known ↦ (opening : Result K StoreFault)
-          × OpensArchive machine.opened machine.untouched machine.held known known.store opening
-          × MatchResult opening (does known) (λ fault. refused (program.Store fault))
-      | Err fault ↦ machine.untouched × refused fault
+-- the settings that a path gives, and their archive; or why they or it are refused
+abbrev pub OpensBy : {H A L R W : Type 0} → Machine H A L R W → (A → Store) → Option (List ℕ)
+    → Result (SettingsValues × A) ProgramFault → (old new : H) → Type 0
+OpensBy {H} {A} machine held path result old new =
+    (settings : Result SettingsValues ProgramFault) × (between : H)
+    × SettingsAt machine path settings old between × elim settings [
+      | Ok known ↦ (opening : Result A StoreFault)
+          × OpensArchive machine held known known.store opening between new
+          × (result ≡ result_map_both (λ archive. (known, archive)) program.Store opening)
+      | Err fault ↦ (result ≡ Err fault) × (new ≡ between)
     ]
+
+-- ---- the network
+
+-- the text is no address, and nothing was asked for; or nothing was had at it
+abbrev pub IsUnheard : {H T : Type 0} → (SocketAddr → Option T → H → Type 0) → List ℕ
+    → (old new : H) → Type 0
+IsUnheard had text old new =
+    (((address : SocketAddr) → IsSocketText text address → ⊥) × (new ≡ old))
+    ⊎ ((address : SocketAddr) × IsSocketText text address × had address None new)
+
+-- what connections are served over that come to an address: the machine, the archive, the clock,
+-- and standard error
+abbrev pub Serving : (H A C E : Type 0) → Type 0
+Serving H A C E = record { host : H; archive : A; clock : C; errors : Tally E }
+
+-- what is around connections that this listener gives
+abbrev pub from_listener : {H L A C E : Type 0} → L → Serving H A C E → Surroundings L A C
+from_listener listener around =
+    record { source = listener; archive = around.archive; clock = around.clock }
+
+-- so many connections were served that came to the address of the settings
+abbrev pub ListensAt : {C E : Type 0} → (known : KnownMachine) → Readings C → Known E
+    → SettingsValues → ℕ → (old new : Serving known.Host known.Archive C E) → Type 0
+ListensAt known gave told settings count old new =
+    (address : SocketAddr) × IsSocketText settings.listen address
+    × ((first : known.Listener) × (last : known.Listener)
+    × known.machine.listens old.host address (Some first) new.host
+    × ServesEach known.clients gave known.held told settings count (from_listener first old)
+    old.errors (from_listener last new) new.errors)
+
+-- so many connections were served that came to the address of the settings; or nothing is had
+-- there, and the archive, the clock and standard error stay; no other fault ends it
+abbrev pub Listens : {C E : Type 0} → (known : KnownMachine) → Readings C → Known E
+    → SettingsValues → ℕ → (old new : Serving known.Host known.Archive C E)
+    → Result (Unit {0}) ProgramFault → Type 0
+Listens known gave told settings count old new (Ok done) =
+    ListensAt known gave told settings count old new
+Listens known gave told settings count old new (Err Address) =
+    IsUnheard (known.machine.listens old.host) settings.listen old.host new.host
+    × (new ≡ record old { host = new.host })
+Listens known gave told settings count old new (Err fault) = ⊥
 
 -- of a dialog that came to its end the line was printed, a first part of it where the writer
 -- failed, nothing where memory for it was wanting; of another one nothing was printed, and its
@@ -149,94 +154,86 @@ PrintsSynced old written (Ok synced) (Err fault) =
     (fault ≡ Connection OutOfMemory) × (written ≡ old)
 PrintsSynced old written (Err cause) result = (result ≡ Err (sync_fault cause)) × (written ≡ old)
 
--- the dialog of a call went so, over what its reader and its writer had and then have
-abbrev pub SyncsBetween : {T N R W : Type 0} → NetworkCalls N R W → (T → Store) → (first last : T)
-    → (reader read : R) → (writer wrote : W) → Result Synced SyncFault → Type 0
-SyncsBetween call held first last reader read writer wrote synced =
-    Syncs (held first) (held last) (call.unread reader) (call.unread read) (call.written writer)
-    (call.written wrote) synced
+-- what a peer is called over: the machine, the archive, and what is written to the output
+abbrev pub Calling : (H A : Type 0) → Type 0
+Calling H A = record { host : H; archive : A; written : Option (List ℕ) }
 
--- a peer was called over a connection that was had, as the initiator of a dialog, and what came of
--- it is printed, or its fault told
-abbrev pub SyncsOver : {T N R W : Type 0} → NetworkCalls N R W → (T → Store) → (first last : T)
-    → (network after : N) → (old written : Option (List ℕ)) → Result (Unit {0}) ProgramFault
-    → Type 0
-SyncsOver {T} {N} {R} {W} call held first last network after old written result =
-    (reader : R) × (writer : W) × (between : N) × call.comes network (Some (reader, writer)) between
-    × (synced : Result Synced SyncFault) × PrintsSynced old written synced result
-    × Counts (λ fault. synced ≡ Err (sync.Connection fault))
-    (λ read wrote. call.closed between read wrote after
-    × SyncsBetween call held first last reader read.inner writer wrote.inner synced)
+-- a dialog was had over a connection, which was given back
+abbrev pub SyncsOver : (known : KnownMachine) → known.Reader → known.Writer
+    → (old new : Calling known.Host known.Archive) → Result Synced SyncFault → Type 0
+SyncsOver known reader writer old new synced =
+    Counts (λ fault. synced ≡ Err (sync.Connection fault))
+    (λ read wrote. known.machine.parts old.host read wrote new.host
+    × Syncs (known.held old.archive) (known.held new.archive) (known.unread reader)
+    (known.unread read.inner) (known.written writer) (known.written wrote.inner) synced)
+
+-- the peer at an address was called, as the initiator of a dialog, and what came of it is printed,
+-- or its fault told
+abbrev pub CallsAt : (known : KnownMachine) → SocketAddr
+    → (old new : Calling known.Host known.Archive) → Result (Unit {0}) ProgramFault → Type 0
+CallsAt known address old new result =
+    (reader : known.Reader) × (writer : known.Writer) × (between : known.Host)
+    × known.machine.calls old.host address (Some (reader, writer)) between
+    × (synced : Result Synced SyncFault) × PrintsSynced old.written new.written synced result
+    × SyncsOver known reader writer (record old { host = between }) new synced
 
 -- The peer at an address was called; or nothing is had there, or the text is no address, and the
 -- archive and the output stay.
-abbrev pub CallsPeer : {T N R W : Type 0} → (SocketAddr → NetworkCalls N R W) → (T → Store) → List ℕ
-    → (first last : T) → (network after : N) → (old written : Option (List ℕ))
-    → Result (Unit {0}) ProgramFault → Type 0
-CallsPeer calls held text first last network after old written result =
-    (IsUnheard (λ address. (calls address).comes network) text network after
-    × (result ≡ Err Address) × (last ≡ first) × (written ≡ old))
-    ⊎ ((address : SocketAddr) × IsSocketText text address
-    × SyncsOver (calls address) held first last network after old written result)
+abbrev pub CallsPeer : (known : KnownMachine) → List ℕ
+    → (old new : Calling known.Host known.Archive) → Result (Unit {0}) ProgramFault → Type 0
+CallsPeer known text old new result =
+    (IsUnheard (known.machine.calls old.host) text old.host new.host × (result ≡ Err Address)
+    × (new ≡ record old { host = new.host }))
+    ⊎ ((address : SocketAddr) × IsSocketText text address × CallsAt known address old new result)
+
+-- ---- what each command does over the archive of its settings; what it doesn't name stays as it
+-- was
 
 -- what stands around a run: what is unread of the input and written to the output, as far as that
--- is known, the network, the clock, and standard error
-abbrev pub Host : Type 0 → Type 0 → Type 0 → Type 0
-Host N C E =
+-- is known, the machine, the clock, and standard error
+abbrev pub Scene : (H C E : Type 0) → Type 0
+Scene H C E =
     record {
       unread : Option (List ℕ);
       written : Option (List ℕ);
-      network : N;
+      host : H;
       clock : C;
       errors : Tally E;
     }
 
 -- the record of these five
-abbrev pub host_of : {N C E : Type 0} → (unread written : Option (List ℕ)) → N → C → Tally E
-    → Host N C E
-host_of unread written network clock errors = record {
+abbrev pub scene_of : {H C E : Type 0} → (unread written : Option (List ℕ)) → H → C → Tally E
+    → Scene H C E
+scene_of unread written host clock errors = record {
   unread = unread;
   written = written;
-  network = network;
+  host = host;
   clock = clock;
   errors = errors;
 }
 
--- what is around the connections of a run, over an archive
-abbrev pub around : {K N C E : Type 0} → Host N C E → K → Surroundings N K C
-around host archive = record { source = host.network; archive = archive; clock = host.clock }
-
--- ---- what each command does over the archive of its settings; what it doesn't name stays as it
--- was
-
--- the input was answered on the output
-abbrev pub AnswersInput : {N C E : Type 0} → SettingsValues → (first last : Store) → Bool → Option ℤ
-    → (old new : Host N C E) → Environment → Result (Unit {0}) HexFault → Type 0
-AnswersInput settings first last hex now old new used answered =
-    AnswersAt settings first last hex now old.unread new.unread old.written new.written used
-    answered
-
 -- `answer`: the input is answered on the output
-abbrev pub DoesAnswering : {K N C E : Type 0} → Machine K → Readings C → SettingsValues → Bool
-    → Option ℤ → (first last : K) → (old new : Host N C E) → Result (Unit {0}) ProgramFault → Type 0
-DoesAnswering machine gave settings hex now first last old new result =
+abbrev pub DoesAnswering : {H C E : Type 0} → Readings C → SettingsValues → Bool → Option ℤ
+    → (first last : Store) → (old new : Scene H C E) → Result (Unit {0}) ProgramFault → Type 0
+DoesAnswering gave settings hex now first last old new result =
     (new ≡ record old { unread = new.unread; written = new.written; clock = new.clock })
-    × ((used : Environment) × (answered : Result (Unit {0}) HexFault)
-    × gave old.clock used.readings new.clock
-    × AnswersInput settings (machine.held first) (machine.held last) hex now old new used answered
+    × ((used : Environment) × gave old.clock used.readings new.clock
+    × (answered : Result (Unit {0}) HexFault) × AnswersAt settings first last hex now old.unread
+    new.unread old.written new.written used answered
     × (result ≡ result_map_both (λ done. done) fault_of answered))
 
 -- `serve`: connections are served that come to the address of the settings
-abbrev pub DoesServing : {K N L R W C E : Type 0} → Machine K → NetworkCalls L R W → Readings C
-    → Listening N L → Known E → SettingsValues → ℕ → (first last : K) → (old new : Host N C E)
+abbrev pub DoesServing : {C E : Type 0} → (known : KnownMachine) → Readings C → Known E
+    → SettingsValues → ℕ → (first last : known.Archive) → (old new : Scene known.Host C E)
     → Result (Unit {0}) ProgramFault → Type 0
-DoesServing machine wires gave listened told settings count first last old new result =
-    (new ≡ record old { network = new.network; clock = new.clock; errors = new.errors })
-    × Listens wires gave machine.held listened told settings count (around old first) old.errors
-    (around new last) new.errors result
+DoesServing known gave told settings count first last old new result =
+    (new ≡ record old { host = new.host; clock = new.clock; errors = new.errors })
+    × Listens known gave told settings count
+    (record { host = old.host; archive = first; clock = old.clock; errors = old.errors })
+    (record { host = new.host; archive = last; clock = new.clock; errors = new.errors }) result
 
 -- `dump`: the archive is printed, or why it can't be
-abbrev pub DoesDumping : {N C E : Type 0} → (first last : Store) → (old new : Host N C E)
+abbrev pub DoesDumping : {H C E : Type 0} → (first last : Store) → (old new : Scene H C E)
     → Result (Unit {0}) ProgramFault → Type 0
 DoesDumping first last old new result =
     (new ≡ record old { written = new.written })
@@ -244,12 +241,13 @@ DoesDumping first last old new result =
     × (result ≡ result_map_both (λ done. done) dump_fault dumped))
 
 -- `sync`: a peer is called
-abbrev pub DoesSyncing : {K N C E P Q : Type 0} → Machine K → (SocketAddr → NetworkCalls N P Q)
-    → List ℕ → (first last : K) → (old new : Host N C E) → Result (Unit {0}) ProgramFault → Type 0
-DoesSyncing machine calls peer first last old new result =
-    (new ≡ record old { network = new.network; written = new.written })
-    × CallsPeer calls machine.held peer first last old.network new.network old.written new.written
-    result
+abbrev pub DoesSyncing : {C E : Type 0} → (known : KnownMachine) → List ℕ
+    → (first last : known.Archive) → (old new : Scene known.Host C E)
+    → Result (Unit {0}) ProgramFault → Type 0
+DoesSyncing known peer first last old new result =
+    (new ≡ record old { host = new.host; written = new.written })
+    × CallsPeer known peer (record { host = old.host; archive = first; written = old.written })
+    (record { host = new.host; archive = last; written = new.written }) result
 
 -- the path of a command's settings
 abbrev pub settings_path : CommandLine → Option (List ℕ)
@@ -262,78 +260,38 @@ settings_path line =
     ]
 
 -- a command is done over the archive of its settings
-abbrev pub DoesCommand : {K N L R W C E P Q : Type 0} → Machine K
-    → (SocketAddr → NetworkCalls N P Q)
-    → NetworkCalls L R W → Readings C → Listening N L → Known E → CommandLine → SettingsValues
-    → (first last : K) → (old new : Host N C E) → Result (Unit {0}) ProgramFault → Type 0
-DoesCommand machine calls wires gave listened told line settings first last old new result =
+abbrev pub DoesCommand : {C E : Type 0} → (known : KnownMachine) → Readings C → Known E
+    → CommandLine → SettingsValues → (first last : known.Archive)
+    → (old new : Scene known.Host C E) → Result (Unit {0}) ProgramFault → Type 0
+DoesCommand known gave told line settings first last old new result =
     elim line [
-      | Answer path hex now ↦ DoesAnswering machine gave settings hex now first last old new result
-      | Serve path count ↦
-          DoesServing machine wires gave listened told settings count first last old new result
-      | Dump path ↦ DoesDumping (machine.held first) (machine.held last) old new result
-      | Sync path peer ↦ DoesSyncing machine calls peer.now first last old new result
+      | Answer path hex now ↦
+          DoesAnswering gave settings hex now (known.held first) (known.held last) old new result
+      | Serve path count ↦ DoesServing known gave told settings count first last old new result
+      | Dump path ↦ DoesDumping (known.held first) (known.held last) old new result
+      | Sync path peer ↦ DoesSyncing known peer.now first last old new result
     ]
 
--- a command is done; or nothing else is, where its settings or their archive are refused
-abbrev pub DoesLine : {K N L R W C E P Q : Type 0} → Machine K → (SocketAddr → NetworkCalls N P Q)
-    → NetworkCalls L R W → Readings C → Listening N L → Known E → CommandLine
-    → (old new : Host N C E) → Result (Unit {0}) ProgramFault → Type 0
-DoesLine {K} machine calls wires gave listened told line old new result =
-    WithSettings machine (settings_path line)
-    (λ settings first. (last : K)
-    × DoesCommand machine calls wires gave listened told line settings first last old new result)
-    (λ fault. (result ≡ Err fault) × (new ≡ old))
-
--- ---- the same of a command by itself, for the functions that do one
-
--- the input is answered, or nothing is done
-abbrev pub AnswersBy : {K C : Type 0} → Machine K → Readings C → Option (List ℕ) → Bool → Option ℤ
-    → (input left old written : Option (List ℕ)) → (clock later : C)
+-- a command is done over an archive, which is closed then
+abbrev pub DoesAndCloses : {C E : Type 0} → (known : KnownMachine) → Readings C → Known E
+    → CommandLine → SettingsValues → (first : known.Archive) → (old new : Scene known.Host C E)
     → Result (Unit {0}) ProgramFault → Type 0
-AnswersBy {K} machine gave path hex now input left old written clock later result =
-    WithSettings machine path
-    (λ settings first. (last : K)
-    × ((used : Environment) × (answered : Result (Unit {0}) HexFault)
-    × gave clock used.readings later
-    × AnswersAt settings (machine.held first)
-    (machine.held last) hex now input left old written used answered
-    × (result ≡ result_map_both (λ done. done) fault_of answered)))
-    (λ fault. (result ≡ Err fault) × (left ≡ input) × (written ≡ old) × (later ≡ clock))
+DoesAndCloses known gave told line settings first old new result =
+    (last : known.Archive) × (done : known.Host)
+    × DoesCommand known gave told line settings first last old (record new { host = done }) result
+    × known.machine.closes done last new.host
 
--- connections are served, or nothing is done
-abbrev pub ServesBy : {K N L R W C E : Type 0} → Machine K → NetworkCalls L R W → Readings C
-    → Listening N L → Known E → List ℕ → ℕ → (network after : N) → (clock later : C)
-    → (before errors : Tally E) → Result (Unit {0}) ProgramFault → Type 0
-ServesBy
-    {K} machine wires gave listened told path count network after clock later before errors result =
-    WithSettings machine (Some path)
-    (λ settings first. (last : K)
-    × Listens wires gave machine.held listened told settings count
-    (record { source = network; archive = first; clock = clock }) before
-    (record { source = after; archive = last; clock = later }) errors result)
-    (λ fault. (result ≡ Err fault) × (after ≡ network) × (later ≡ clock) × (errors ≡ before))
-
--- the archive is dumped, or nothing is written
-abbrev pub DumpsBy : {K : Type 0} → Machine K → List ℕ → (old written : Option (List ℕ))
-    → Result (Unit {0}) ProgramFault → Type 0
-DumpsBy {K} machine path old written result =
-    WithSettings machine (Some path)
-    (λ settings first. (last : K)
-    × ((dumped : Result (Unit {0}) DumpFault)
-    × Dumps (machine.held first) (machine.held last) old written dumped
-    × (result ≡ result_map_both (λ done. done) dump_fault dumped)))
-    (λ fault. (result ≡ Err fault) × (written ≡ old))
-
--- a peer is called, or nothing is done
-abbrev pub SyncsBy : {K N R W : Type 0} → Machine K → (SocketAddr → NetworkCalls N R W) → List ℕ
-    → List ℕ → (network after : N) → (old written : Option (List ℕ))
-    → Result (Unit {0}) ProgramFault → Type 0
-SyncsBy {K} machine calls path peer network after old written result =
-    WithSettings machine (Some path)
-    (λ settings first. (last : K)
-    × CallsPeer calls machine.held peer first last network after old written result)
-    (λ fault. (result ≡ Err fault) × (after ≡ network) × (written ≡ old))
+-- a command is done over the archive of its settings; or nothing else is, where they or their
+-- archive are refused
+abbrev pub DoesLine : {C E : Type 0} → (known : KnownMachine) → Readings C → Known E → CommandLine
+    → (old new : Scene known.Host C E) → Result (Unit {0}) ProgramFault → Type 0
+DoesLine known gave told line old new result =
+    (opening : Result (SettingsValues × known.Archive) ProgramFault) × (opened : known.Host)
+    × OpensBy known.machine known.held (settings_path line) opening old.host opened × elim opening [
+      | Ok (settings, first) ↦ DoesAndCloses known gave told line settings first
+          (record old { host = opened }) new result
+      | Err fault ↦ (result ≡ Err fault) × (new ≡ record old { host = opened })
+    ]
 
 -- ---- a run
 
@@ -344,40 +302,45 @@ PrintsText old written (Err fault) =
     (fault ≡ Connection Write) × ((text : List ℕ) × AppendsPart old written text)
 
 -- a text was printed, and nothing else was done
-abbrev pub Shows : {K N C E : Type 0} → Machine K → Host N C E → Host N C E
-    → Result (Unit {0}) ProgramFault → Type 0
-Shows machine old new result =
-    (new ≡ record old { written = new.written }) × machine.unasked × machine.untouched
-    × PrintsText old.written new.written result
+abbrev pub Shows : {H C E : Type 0} → (old new : Scene H C E) → Result (Unit {0}) ProgramFault
+    → Type 0
+Shows old new result =
+    (new ≡ record old { written = new.written }) × PrintsText old.written new.written result
+
+-- what clap finds in a command line: its faults, whether it is taken, and its matches
+abbrev pub Findings : Type 0
+Findings =
+    record { faults : List ErrorKind; taken : Bool; matches : Option (Text × List Row) }
+
+-- what it finds in these words
+abbrev pub findings_in : List Text → Findings
+findings_in words = record {
+  faults = fault_kinds uahist words;
+  taken = takes uahist words;
+  matches = subcommand_of uahist words;
+}
 
 -- No help and no version is asked for, and clap refuses the line, or its matches give no command.
-abbrev pub IsMistaken : List ErrorKind → Bool → Option (Text × List Row) → Type 0
-IsMistaken faults taken matches =
-    (taken ≡ true → (line : CommandLine) → IsLine matches line → ⊥) × (AsksForText faults → ⊥)
+abbrev pub IsMistaken : Findings → Type 0
+IsMistaken found =
+    (found.taken ≡ true → (line : CommandLine) → IsLine found.matches line → ⊥)
+    × (AsksForText found.faults → ⊥)
 
--- a refused line does nothing: no file is asked for or opened
-abbrev pub RefusesLine : {K N C E : Type 0} → List ErrorKind → Bool → Option (Text × List Row)
-    → Machine K → LineFault → (old new : Host N C E) → Type 0
-RefusesLine faults taken matches machine fault old new =
-    (fault ≡ Words → IsMistaken faults taken matches) × (new ≡ old) × machine.unasked
-    × machine.untouched
+-- clap finds no fault, and the line that the matches give is done
+abbrev pub DoesFound : {C E : Type 0} → Findings → (known : KnownMachine) → Readings C → Known E
+    → (old new : Scene known.Host C E) → Result (Unit {0}) ProgramFault → Type 0
+DoesFound found known gave told old new result =
+    (found.faults ≡ [])
+    × ((line : CommandLine) × IsLine found.matches line
+    × DoesLine known gave told line old new result)
 
--- the line that the matches give is done
-abbrev pub DoesMatches : {K N L R W C E P Q : Type 0} → Option (Text × List Row) → Machine K
-    → (SocketAddr → NetworkCalls N P Q) → NetworkCalls L R W → Readings C → Listening N L → Known E
-    → (old new : Host N C E) → Result (Unit {0}) ProgramFault → Type 0
-DoesMatches matches machine calls wires gave listened told old new result =
-    (line : CommandLine) × IsLine matches line
-    × DoesLine machine calls wires gave listened told line old new result
-
--- A run by the faults that clap finds in a command line, by whether it takes it, and by its
--- matches. A run that isn't refused does the line, or, only where help or the version may be asked
--- for, prints some text. A refused line (for its words, or for want of memory) does nothing.
-abbrev pub Runs : {K N L R W C E P Q : Type 0} → List ErrorKind → Bool → Option (Text × List Row)
-    → Machine K → (SocketAddr → NetworkCalls N P Q) → NetworkCalls L R W → Readings C
-    → Listening N L → Known E → (old new : Host N C E) → Result (Unit {0}) ProgramFault → Type 0
-Runs faults taken matches machine calls wires gave listened told old new (Err (Line fault)) =
-    RefusesLine faults taken matches machine fault old new
-Runs faults taken matches machine calls wires gave listened told old new result =
-    ((faults ≡ []) × DoesMatches matches machine calls wires gave listened told old new result)
-    ⊎ (MayAskForText faults × Shows machine old new result)
+-- A run by what clap finds in its words. One that isn't refused does the line that the matches
+-- give, or, only where help or the version may be asked for, prints some text. A refused line (for
+-- its words, or for want of memory) does nothing.
+abbrev pub Runs : {C E : Type 0} → Findings → (known : KnownMachine) → Readings C → Known E
+    → (old new : Scene known.Host C E) → Result (Unit {0}) ProgramFault → Type 0
+Runs found known gave told old new (Err (Line fault)) =
+    (fault ≡ Words → IsMistaken found) × (new ≡ old)
+Runs found known gave told old new result =
+    DoesFound found known gave told old new result
+    ⊎ (MayAskForText found.faults × Shows old new result)

@@ -3,10 +3,12 @@
 ghost use Rattle.std.specs.Prelude.{◌≡◌, Some, IfOk, IfErr};
 ghost use Rattle.std.specs.Net.Grammar.{IsSocketText};
 ghost use Rattle.std.specs.declared.net.socket_addr.SocketAddr.{SocketAddr};
-ghost use Rattle.ua_server.specs.Network.{Connects, ServesEach, IsUnheard, Listens, LogsEnd, calls_of, surroundings_of};
+ghost use Rattle.ua_server.specs.Network.{Connects, ServesEach, LogsEnd, calls_of, surroundings_of};
+ghost use Rattle.ua_server.specs.Host.{known_machine};
+ghost use Rattle.ua_server.specs.Program.{IsUnheard, Listens};
 
 use crate::either::{Served, serve};
-use crate::network::{Listener, Network};
+use crate::host::{Host, Listener};
 use crate::program::{ProgramFault, report};
 use archive::Archive;
 use counted_io::{Counted, ServeFault};
@@ -80,45 +82,50 @@ pub fn serve_connections<A: Archive, L: Listener, C: Clock, W: Write>(
 }
 
 /// A listener at the address that the text gives.
-fn listen_at<N: Network>(text: &str, network: &mut N) -> Result<N::Listener, ProgramFault>
+fn listen_at<H: Host>(text: &str, host: &mut H) -> Result<H::Listener, ProgramFault>
     ensures ok { IfOk result
         (λ listener. (address : SocketAddr) × IsSocketText text.now address
-        × N.listened network.old address (Some listener) network.new) }
+        × H.means.listens host.old address (Some listener) host.new) }
     ensures refused { IfErr result
         (λ fault. (fault ≡ ProgramFault.Address)
-        × IsUnheard (N.listened network.old) text.now network.old network.new) }
+        × IsUnheard (H.means.listens host.old) text.now host.old host.new) }
 {
     let Ok(address) = text.parse::<SocketAddr>() else {
         return Err(ProgramFault::Address);
     };
-    match network.listen(address) {
+    match host.listen(address) {
         Some(listener) => Ok(listener),
         None => Err(ProgramFault::Address),
     }
 }
 
-/// Serves so many connections at the address of the settings.
-pub(crate) fn serve_at<A: Archive, N: Network, C: Clock, W: Write>(
-    server: &mut Server<A>,
+/// Serves so many connections at the address of a server's settings.
+pub(crate) fn serve_at<H: Host, C: Clock, W: Write>(
+    server: &mut Server<H::Archive>,
     connections: u32,
-    network: &mut N,
+    host: &mut H,
     clock: &mut C,
     errors: &mut Counted<W>,
 ) -> Result<(), ProgramFault>
     ensures listens { Listens
-        (calls_of N.Listener.accepted N.Listener.closed N.Listener.Reader.remaining
-        N.Listener.Writer.contents) C.gave A.state
-        N.listened W.contents server.old.settings connections
-        (record
-        { source = network.old; archive = server.old.replica.archive; clock = clock.old })
-        errors.old
-        (surroundings_of network.new server.new.replica.archive clock.new) errors.new result }
+        (known_machine H.means H.Archive.state H.Listener.accepted H.Listener.closed
+        H.Listener.Reader.remaining H.Listener.Writer.contents H.Reader.remaining H.Writer.contents)
+        C.gave W.contents server.old.settings connections
+        (record {
+          host = host.old;
+          archive = server.old.replica.archive;
+          clock = clock.old;
+          errors = errors.old;
+        })
+        (record {
+          host = host.new;
+          archive = server.new.replica.archive;
+          clock = clock.new;
+          errors = errors.new;
+        }) result }
     ensures address { IfErr result (λ fault. fault ≡ ProgramFault.Address) }
 {
-    let mut listener = match listen_at(server.settings.listen(), network) {
-        Ok(listener) => listener,
-        Err(fault) => return Err(fault),
-    };
+    let mut listener = listen_at(server.settings.listen(), host)?;
     serve_connections(server, &mut listener, connections, clock, errors);
     Ok(())
 }

@@ -1,25 +1,16 @@
 //! Settings files.
 
-ghost use Rattle.std.specs.Prelude.{◌≡◌, ℕ, List, Option, IfSome, option_map, option_copied, string_bytes};
+ghost use Rattle.std.specs.Prelude.{IfSome, option_copied};
 ghost use Rattle.toml.specs.Parse.{parse_document};
 ghost use Rattle.ua_server.specs.Program.{IsSetIn, SettingsAt, TellsPlace, IsBare, IsFaultPlace};
 
+use crate::host::Host;
 use crate::program::ProgramFault;
 use command_line::LineFault;
 use std::alloc::Global;
 use std::fmt::InlineText;
 use ua_binary::Text;
 use ua_settings::{Place, Settings, SettingsFault};
-
-/// What the texts of settings files are read from.
-pub trait SettingsFiles {
-    /// Between these two states the file at a path was asked for its text; none where it can't be read.
-    ghost gave: { Self → List ℕ → Option (List ℕ) → Self → Type 0 };
-
-    /// The text of the file at a path; none where it can't be read as UTF-8.
-    fn text(&mut self, path: &str) -> Option<String>
-        ensures { gave self.old path.now (option_map string_bytes result) self.new };
-}
 
 /// The most bytes that tell where settings are refused.
 const MOST_PLACE: usize = 180;
@@ -28,27 +19,17 @@ const MOST_PLACE: usize = 180;
 fn bare_settings(alloc: Global) -> Result<Settings, ProgramFault>
     ensures { IsBare result }
 {
-    match Settings::bare(alloc) {
-        Ok(settings) => Ok(settings),
-        Err(_) => Err(ProgramFault::Line(LineFault::OutOfMemory)),
-    }
+    Settings::bare(alloc).map_err(|_| ProgramFault::Line(LineFault::OutOfMemory))
 }
 
 /// Where a text is refused, in at most 180 bytes; none where memory is wanting.
 fn place_in(alloc: Global, text: &str) -> Option<Text>
     ensures { IfSome result (TellsPlace (parse_document text.now)) }
 {
-    let Ok(place) = Place::of(alloc, text) else {
-        return None;
-    };
-    let Ok(whole) = place.text(alloc) else {
-        return None;
-    };
+    let place = Place::of(alloc, text).ok()?;
+    let whole = place.text(alloc).ok()?;
     let told = InlineText::<MOST_PLACE>::new().and_str(whole.as_str(), MOST_PLACE);
-    match Text::from_str(alloc, told.as_str()) {
-        Ok(told) => Some(told),
-        Err(_) => None,
-    }
+    Text::from_str(alloc, told.as_str()).ok()
 }
 
 /// Where a text is refused by this fault, in at most 180 bytes; none where memory is wanting.
@@ -76,18 +57,17 @@ fn settings_in(alloc: Global, text: &str) -> Result<Settings, ProgramFault>
 }
 
 /// The settings of the file at a path; without a path those without a file.
-pub(crate) fn settings_at<F: SettingsFiles>(
+pub(crate) fn settings_at<H: Host>(
     alloc: Global,
     path: Option<&str>,
-    files: &mut F,
+    host: &mut H,
 ) -> Result<Settings, ProgramFault>
-    ensures { SettingsAt (λ path text. F.gave files.old path text files.new) (files.new ≡ files.old)
-        (option_copied path.entry) result }
+    ensures { SettingsAt H.means (option_copied path.entry) result host.old host.new }
 {
     let Some(path) = path else {
         return bare_settings(alloc);
     };
-    match files.text(path) {
+    match host.read(path) {
         None => Err(ProgramFault::File),
         Some(text) => settings_in(alloc, text.as_str()),
     }

@@ -6,25 +6,22 @@ mod dumps;
 mod either;
 mod files;
 mod hexed;
+mod host;
 mod laws;
-mod network;
 mod program;
 mod single;
-mod stores;
 
 pub use command_line::{Asked, Line, LineFault, read_line};
 pub use connections::serve_connections;
 pub use counted_io::{Counted, ServeFault};
 pub use dumps::{DumpFault, dump};
 pub use either::{Served, serve};
-pub use files::SettingsFiles;
 pub use hexed::{HexFault, answer_hex};
 pub use historian::Server;
+pub use host::{Host, Listener};
 pub use laws::connections_are_updates;
-pub use network::{Listener, Network};
 pub use program::{ProgramFault, report, run};
 pub use single::answer_at;
-pub use stores::Stores;
 pub use ua_connection::{
     Clock, ConstantClock, MOST_CHUNKS, SystemClock, answers_go_item_by_item, chunks_are_counted,
     connections_are_answered_chunk_by_chunk,

@@ -1,7 +1,6 @@
 //! The program, over any reader and writers.
 
-ghost use Rattle.ua_server.specs.Network.{calls_of};
-ghost use Rattle.std.specs.Prelude.{◌≡◌, ◌≤◌, ℕ, ℤ, List, [], ◌∷◌, ◌++◌, IfOk, IfErr, OnOk, OnErr, IsErrOf, map, codes, option_copied, string_bytes, None, length};
+ghost use Rattle.std.specs.Prelude.{◌≡◌, ◌≤◌, IfOk, IfErr, OnOk, OnErr, IsErrOf, map, option_copied, string_bytes, None, length};
 ghost use Rattle.std.specs.Fmt.InlineText.{inline_text};
 ghost use Rattle.std.specs.Result.{result_map_both};
 ghost use Rattle.std.specs.Io.KnownBytes.{Appends};
@@ -9,24 +8,20 @@ ghost use Rattle.counted_io.specs.Bytes.{counted, AppendsPart};
 ghost use Rattle.ua_connection.specs.Environments.{Environment};
 ghost use Rattle.ua_server.specs.Single.{AnswersAt};
 ghost use Rattle.ua_server.specs.Telling.{exit_status, LogsLine, fault_text, numbered, told_line, error_lines, synced_line, fault_of, dump_fault, sync_fault, place_line};
-ghost use Rattle.ua_server.specs.Program.{OpensArchive, PrintsSynced, PrintsText, CallsPeer, DoesLine, Runs, AnswersBy, ServesBy, DumpsBy, SyncsBy, machine_around, peers_of, host_of};
+ghost use Rattle.ua_server.specs.Host.{known_machine};
+ghost use Rattle.ua_server.specs.Program.{OpensArchive, OpensBy, PrintsSynced, PrintsText, CallsPeer, DoesCommand, DoesLine, Runs, findings_in, scene_of, settings_path};
 ghost use Rattle.ua_server.specs.Dumping.{Dumps};
-ghost use Rattle.clap.specs.Words.{subcommand_of};
-ghost use Rattle.clap.specs.Takes.{takes};
-ghost use Rattle.clap.specs.Faults.{fault_of as fault_kinds};
-ghost use Rattle.command_line.specs.Line.{uahist};
 
 use crate::connections::serve_at;
 use crate::dumps::{DumpFault, dump};
-use crate::files::{SettingsFiles, settings_at};
+use crate::files::settings_at;
 use crate::hexed::HexFault;
-use crate::network::Network;
+use crate::host::Host;
 use crate::single::answer_at;
-use crate::stores::Stores;
 use archive::{Archive, StoreFault};
 use command_line::{Asked, Line, LineFault, read_line};
 use counted_io::{Counted, ServeFault};
-use exchange::{ExchangeFault, Replica};
+use exchange::ExchangeFault;
 use historian::Server;
 use itoa::Buffer;
 use std::alloc::{AllocError, Global};
@@ -154,25 +149,40 @@ fn fault_of(fault: HexFault) -> ProgramFault
 }
 
 /// Opens the archive of the settings: that of their file, or one in memory that holds nothing.
-fn open_archive<D: Stores>(settings: &Settings, stores: &mut D) -> Result<D::Kept, StoreFault>
-    ensures { OpensArchive
-        (λ path id number opening. D.opened stores.old path id number opening stores.new)
-        (stores.new ≡ stores.old) D.Kept.state settings.now settings.now.store result }
+fn open_archive<H: Host>(settings: &Settings, host: &mut H) -> Result<H::Archive, StoreFault>
+    ensures { OpensArchive H.means H.Archive.state settings.now settings.now.store result
+        host.old host.new }
 {
     match settings.store() {
-        None => stores.in_memory(settings.archive(), settings.replica()),
-        Some(path) => stores.open(path, settings.archive(), settings.replica()),
+        None => host.open_in_memory(settings.archive(), settings.replica()),
+        Some(path) => host.open_file(path, settings.archive(), settings.replica()),
     }
 }
 
+/// The server of the settings of the file at a path, where there is one, over the archive that they name.
+fn open_server<H: Host>(
+    alloc: Global,
+    path: Option<&str>,
+    host: &mut H,
+) -> Result<Server<H::Archive>, ProgramFault>
+    ensures opens { OpensBy H.means H.Archive.state (option_copied path.entry)
+        (result_map_both (λ server. (server.settings, server.replica.archive)) (λ fault. fault)
+        result) host.old host.new }
+    ensures connection { (fault : ServeFault) → IsErrOf result (ProgramFault.Connection fault) → ⊥ }
+{
+    let settings = settings_at(alloc, path, host)?;
+    let archive = open_archive(&settings, host).map_err(ProgramFault::Store)?;
+    Ok(Server::new(alloc, settings, archive))
+}
+
 /// Answers one connection, as the program tells it.
-fn answer_over<A: Archive, R: Read, W: Write, C: Clock>(
+fn answer_over<A: Archive, C: Clock, R: Read, W: Write>(
     server: &mut Server<A>,
     hex: bool,
     now: Option<i64>,
+    clock: &mut C,
     input: &mut Counted<R>,
     output: &mut Counted<W>,
-    clock: &mut C,
 ) -> Result<(), ProgramFault>
     ensures read { IsErrOf result (ProgramFault.Connection ServeFault.Read)
         → input.new.faults ≡ counted input.old.faults }
@@ -180,129 +190,38 @@ fn answer_over<A: Archive, R: Read, W: Write, C: Clock>(
         → output.new.faults ≡ counted output.old.faults }
     ensures does { (used : Environment) × C.gave clock.old used.readings clock.new × (answered : _)
         × AnswersAt server.old.settings (A.state server.old.replica.archive)
-        (A.state server.new.replica.archive) hex now (R.remaining input.old.inner) (R.remaining input.new.inner) (W.contents output.old.inner)
-        (W.contents output.new.inner) used answered
-        × (result ≡ result_map_both (λ done. done) fault_of answered) }
+        (A.state server.new.replica.archive) hex now (R.remaining input.old.inner)
+        (R.remaining input.new.inner) (W.contents output.old.inner) (W.contents output.new.inner)
+        used answered × (result ≡ result_map_both (λ done. done) fault_of answered) }
 {
-    match answer_at(server, hex, now, input, output, clock) {
-        Ok(()) => Ok(()),
-        Err(fault) => Err(fault_of(fault)),
-    }
+    answer_at(server, hex, now, input, output, clock).map_err(fault_of)
 }
 
-/// Answers one connection by the settings of the file at a path, where there is one.
-fn answer_by<F: SettingsFiles, D: Stores, R: Read, W: Write, C: Clock>(
-    alloc: Global,
-    path: Option<&str>,
-    hex: bool,
-    now: Option<i64>,
-    files: &mut F,
-    stores: &mut D,
-    input: &mut Counted<R>,
-    output: &mut Counted<W>,
-    clock: &mut C,
-) -> Result<(), ProgramFault>
-    ensures read { IsErrOf result (ProgramFault.Connection ServeFault.Read)
-        → input.new.faults ≡ counted input.old.faults }
-    ensures write { IsErrOf result (ProgramFault.Connection ServeFault.Write)
-        → output.new.faults ≡ counted output.old.faults }
-    ensures does { AnswersBy
-        (machine_around F.gave D.opened D.Kept.state files.old files.new stores.old stores.new)
-        C.gave (option_copied path.entry) hex now (R.remaining input.old.inner)
-        (R.remaining input.new.inner) (W.contents output.old.inner)
-        (W.contents output.new.inner) clock.old clock.new result }
+/// What the fault of a dump is called by the program.
+fn dump_fault(fault: DumpFault) -> ProgramFault
+    ensures { result ≡ dump_fault fault }
 {
-    let settings = match settings_at(alloc, path, files) {
-        Ok(settings) => settings,
-        Err(fault) => return Err(fault),
-    };
-    match open_archive(&settings, stores) {
-        Ok(archive) => {
-            let mut server = Server::new(alloc, settings, archive);
-            answer_over(&mut server, hex, now, input, output, clock)
-        }
-        Err(fault) => Err(ProgramFault::Store(fault)),
-    }
-}
-
-/// Serves so many connections by the settings of the file at a path.
-fn serve_by<F: SettingsFiles, D: Stores, N: Network, C: Clock, E: Write>(
-    alloc: Global,
-    path: &str,
-    connections: u32,
-    files: &mut F,
-    stores: &mut D,
-    network: &mut N,
-    clock: &mut C,
-    errors: &mut Counted<E>,
-) -> Result<(), ProgramFault>
-    ensures serves { ServesBy
-        (machine_around F.gave D.opened D.Kept.state files.old files.new stores.old stores.new)
-        (calls_of N.Listener.accepted N.Listener.closed N.Listener.Reader.remaining
-        N.Listener.Writer.contents) C.gave
-        N.listened E.contents path.now connections network.old network.new clock.old clock.new
-        errors.old errors.new result }
-    ensures connection { (fault : ServeFault) → IsErrOf result (ProgramFault.Connection fault) → ⊥ }
-{
-    let settings = match settings_at(alloc, Some(path), files) {
-        Ok(settings) => settings,
-        Err(fault) => return Err(fault),
-    };
-    match open_archive(&settings, stores) {
-        Ok(archive) => {
-            let mut server = Server::new(alloc, settings, archive);
-            serve_at(&mut server, connections, network, clock, errors)
-        }
-        Err(fault) => Err(ProgramFault::Store(fault)),
+    match fault {
+        DumpFault::Store(fault) => ProgramFault::Store(fault),
+        DumpFault::Write => ProgramFault::Connection(ServeFault::Write),
+        DumpFault::OutOfMemory => ProgramFault::Connection(ServeFault::OutOfMemory),
     }
 }
 
 /// Dumps an archive, as the program tells it.
 fn dump_over<A: Archive, W: Write>(
-    alloc: Global,
-    archive: &mut A,
+    server: &mut Server<A>,
     output: &mut Counted<W>,
 ) -> Result<(), ProgramFault>
     ensures read { IsErrOf result (ProgramFault.Connection ServeFault.Read) → ⊥ }
     ensures write { IsErrOf result (ProgramFault.Connection ServeFault.Write)
         → output.new.faults ≡ counted output.old.faults }
     ensures dumps { (dumped : _)
-        × Dumps (A.state archive.old) (A.state archive.new) (W.contents output.old.inner)
-        (W.contents output.new.inner) dumped
+        × Dumps (A.state server.old.replica.archive) (A.state server.new.replica.archive)
+        (W.contents output.old.inner) (W.contents output.new.inner) dumped
         × (result ≡ result_map_both (λ done. done) dump_fault dumped) }
 {
-    match dump(alloc, archive, output) {
-        Ok(()) => Ok(()),
-        Err(DumpFault::Store(fault)) => Err(ProgramFault::Store(fault)),
-        Err(DumpFault::Write) => Err(ProgramFault::Connection(ServeFault::Write)),
-        Err(DumpFault::OutOfMemory) => Err(ProgramFault::Connection(ServeFault::OutOfMemory)),
-    }
-}
-
-/// Dumps the archive of the settings of the file at a path.
-fn dump_by<F: SettingsFiles, D: Stores, W: Write>(
-    alloc: Global,
-    path: &str,
-    files: &mut F,
-    stores: &mut D,
-    output: &mut Counted<W>,
-) -> Result<(), ProgramFault>
-    ensures read { IsErrOf result (ProgramFault.Connection ServeFault.Read) → ⊥ }
-    ensures write { IsErrOf result (ProgramFault.Connection ServeFault.Write)
-        → output.new.faults ≡ counted output.old.faults }
-    ensures dumps { DumpsBy
-        (machine_around F.gave D.opened D.Kept.state files.old files.new stores.old
-        stores.new) path.now
-        (W.contents output.old.inner) (W.contents output.new.inner) result }
-{
-    let settings = match settings_at(alloc, Some(path), files) {
-        Ok(settings) => settings,
-        Err(fault) => return Err(fault),
-    };
-    match open_archive(&settings, stores) {
-        Ok(mut archive) => dump_over(alloc, &mut archive, output),
-        Err(fault) => Err(ProgramFault::Store(fault)),
-    }
+    dump(server.alloc, &mut server.replica.archive, output).map_err(dump_fault)
 }
 
 /// What the fault of a dialog is called by the program.
@@ -339,14 +258,12 @@ fn print_synced<W: Write>(
     ensures write { IsErrOf result (ProgramFault.Connection ServeFault.Write)
         → output.new.faults ≡ counted output.old.faults }
 {
-    let line = match synced_line(alloc, synced) {
-        Ok(line) => line,
-        Err(_) => return Err(ProgramFault::Connection(ServeFault::OutOfMemory)),
-    };
-    match output.send(line.as_bytes()) {
-        Ok(()) => Ok(()),
-        Err(_) => Err(ProgramFault::Connection(ServeFault::Write)),
-    }
+    let line = synced_line(alloc, synced).map_err(|_| ProgramFault::Connection(
+        ServeFault::OutOfMemory,
+    ))?;
+    output
+        .send(line.as_bytes())
+        .map_err(|_| ProgramFault::Connection(ServeFault::Write))
 }
 
 /// Prints the line of a dialog that came to its end; of another one its fault is told.
@@ -361,121 +278,118 @@ fn report_synced<W: Write>(
     ensures write { IsErrOf result (ProgramFault.Connection ServeFault.Write)
         → output.new.faults ≡ counted output.old.faults }
 {
-    match ending {
-        Ok(synced) => print_synced(alloc, synced, output),
-        Err(fault) => Err(sync_fault(fault)),
-    }
+    print_synced(alloc, ending.map_err(sync_fault)?, output)
 }
 
 /// Calls the peer at an address, exchanges records with it, and prints how many were moved.
-fn sync_over<A: Archive + Drop, N: Network, W: Write>(
-    alloc: Global,
-    archive: A,
+fn sync_over<H: Host, W: Write>(
+    server: &mut Server<H::Archive>,
     peer: &str,
-    network: &mut N,
+    host: &mut H,
     output: &mut Counted<W>,
 ) -> Result<(), ProgramFault>
     ensures read { IsErrOf result (ProgramFault.Connection ServeFault.Read) → ⊥ }
     ensures write { IsErrOf result (ProgramFault.Connection ServeFault.Write)
         → output.new.faults ≡ counted output.old.faults }
-    ensures calls { (last : _)
-        × CallsPeer
-        (peers_of N.called N.parted N.Reader.remaining N.Writer.contents) A.state peer.now archive
-        last
-        network.old network.new (W.contents output.old.inner) (W.contents output.new.inner) result }
+    ensures calls { CallsPeer
+        (known_machine H.means H.Archive.state H.Listener.accepted H.Listener.closed
+        H.Listener.Reader.remaining H.Listener.Writer.contents H.Reader.remaining H.Writer.contents)
+        peer.now
+        (record {
+          host = host.old;
+          archive = server.old.replica.archive;
+          written = W.contents output.old.inner;
+        })
+        (record {
+          host = host.new;
+          archive = server.new.replica.archive;
+          written = W.contents output.new.inner;
+        }) result }
 {
     let Ok(address) = peer.parse::<SocketAddr>() else {
         return Err(ProgramFault::Address);
     };
-    let Some((reader, writer)) = network.call(address) else {
+    let Some((reader, writer)) = host.call(address) else {
         return Err(ProgramFault::Address);
     };
     let mut reader = Counted::new(reader);
     let mut writer = Counted::new(writer);
-    let mut replica = Replica { archive };
-    let ending = sync(alloc, &mut replica, &mut reader, &mut writer);
-    network.part(reader, writer);
-    report_synced(alloc, ending, output)
+    let ending = sync(server.alloc, &mut server.replica, &mut reader, &mut writer);
+    host.part(reader, writer);
+    report_synced(server.alloc, ending, output)
 }
 
-/// Calls the peer at an address by the settings of the file at a path.
-fn sync_by<F: SettingsFiles, D: Stores, N: Network, W: Write>(
-    alloc: Global,
-    path: &str,
-    peer: &str,
-    files: &mut F,
-    stores: &mut D,
-    network: &mut N,
-    output: &mut Counted<W>,
-) -> Result<(), ProgramFault>
-    ensures read { IsErrOf result (ProgramFault.Connection ServeFault.Read) → ⊥ }
-    ensures write { IsErrOf result (ProgramFault.Connection ServeFault.Write)
-        → output.new.faults ≡ counted output.old.faults }
-    ensures syncs { SyncsBy
-        (machine_around F.gave D.opened D.Kept.state files.old files.new stores.old stores.new)
-        (peers_of N.called N.parted N.Reader.remaining N.Writer.contents) path.now peer.now
-        network.old
-        network.new (W.contents output.old.inner) (W.contents output.new.inner) result }
+/// The path of a command's settings.
+fn settings_path<'a>(line: &Line<'a>) -> Option<&'a str>
+    ensures { option_copied result ≡ settings_path line.now }
 {
-    let settings = match settings_at(alloc, Some(path), files) {
-        Ok(settings) => settings,
-        Err(fault) => return Err(fault),
-    };
-    match open_archive(&settings, stores) {
-        Ok(archive) => sync_over(alloc, archive, peer, network, output),
-        Err(fault) => Err(ProgramFault::Store(fault)),
+    match *line {
+        Line::Answer { settings, .. } => settings,
+        Line::Serve { settings, .. } => Some(settings),
+        Line::Dump { settings } => Some(settings),
+        Line::Sync { settings, .. } => Some(settings),
     }
 }
 
-/// Does what a line says.
-fn do_line<F: SettingsFiles, D: Stores, N: Network, R: Read, W: Write, E: Write, C: Clock>(
-    alloc: Global,
+/// Does what a line says over the archive of its settings.
+fn do_command<H: Host, C: Clock, R: Read, W: Write, E: Write>(
+    server: &mut Server<H::Archive>,
     line: Line<'_>,
-    files: &mut F,
-    stores: &mut D,
-    network: &mut N,
+    host: &mut H,
+    clock: &mut C,
     input: &mut Counted<R>,
     output: &mut Counted<W>,
     errors: &mut Counted<E>,
+) -> Result<(), ProgramFault>
+    ensures read { IsErrOf result (ProgramFault.Connection ServeFault.Read)
+        → input.new.faults ≡ counted input.old.faults }
+    ensures write { IsErrOf result (ProgramFault.Connection ServeFault.Write)
+        → output.new.faults ≡ counted output.old.faults }
+    ensures does { DoesCommand
+        (known_machine H.means H.Archive.state H.Listener.accepted H.Listener.closed
+        H.Listener.Reader.remaining H.Listener.Writer.contents H.Reader.remaining H.Writer.contents)
+        C.gave E.contents line.entry server.old.settings server.old.replica.archive
+        server.new.replica.archive
+        (scene_of (R.remaining input.old.inner) (W.contents output.old.inner) host.old clock.old
+        errors.old)
+        (scene_of (R.remaining input.new.inner) (W.contents output.new.inner) host.new clock.new
+        errors.new) result }
+{
+    match line {
+        Line::Answer { hex, now, .. } => answer_over(server, hex, now, clock, input, output),
+        Line::Serve { connections, .. } => serve_at(server, connections, host, clock, errors),
+        Line::Dump { .. } => dump_over(server, output),
+        Line::Sync { peer, .. } => sync_over(server, peer, host, output),
+    }
+}
+
+/// Does what a line says: over the archive of its settings, which is closed then.
+fn do_line<H: Host, C: Clock, R: Read, W: Write, E: Write>(
+    alloc: Global,
+    line: Line<'_>,
+    host: &mut H,
     clock: &mut C,
+    input: &mut Counted<R>,
+    output: &mut Counted<W>,
+    errors: &mut Counted<E>,
 ) -> Result<(), ProgramFault>
     ensures read { IsErrOf result (ProgramFault.Connection ServeFault.Read)
         → input.new.faults ≡ counted input.old.faults }
     ensures write { IsErrOf result (ProgramFault.Connection ServeFault.Write)
         → output.new.faults ≡ counted output.old.faults }
     ensures does { DoesLine
-        (machine_around F.gave D.opened D.Kept.state files.old files.new stores.old stores.new)
-        (peers_of N.called N.parted N.Reader.remaining N.Writer.contents)
-        (calls_of N.Listener.accepted N.Listener.closed N.Listener.Reader.remaining
-        N.Listener.Writer.contents) C.gave
-        N.listened E.contents line.entry
-        (host_of (R.remaining input.old.inner)
-        (W.contents output.old.inner) network.old clock.old errors.old)
-        (host_of (R.remaining input.new.inner)
-        (W.contents output.new.inner) network.new clock.new errors.new) result }
+        (known_machine H.means H.Archive.state H.Listener.accepted H.Listener.closed
+        H.Listener.Reader.remaining H.Listener.Writer.contents H.Reader.remaining H.Writer.contents)
+        C.gave E.contents line.entry
+        (scene_of (R.remaining input.old.inner) (W.contents output.old.inner) host.old clock.old
+        errors.old)
+        (scene_of (R.remaining input.new.inner) (W.contents output.new.inner) host.new clock.new
+        errors.new) result }
 {
-    match line {
-        Line::Answer { settings, hex, now } => answer_by(
-            alloc, settings, hex, now, files, stores, input, output, clock,
-        ),
-        Line::Serve {
-            settings,
-            connections,
-        } => serve_by(
-            alloc,
-            settings,
-            connections,
-            files,
-            stores,
-            network,
-            clock,
-            errors,
-        ),
-        Line::Dump { settings } => dump_by(alloc, settings, files, stores, output),
-        Line::Sync { settings, peer } => {
-            sync_by(alloc, settings, peer, files, stores, network, output)
-        }
-    }
+    let mut server = open_server(alloc, settings_path(&line), host)?;
+    let ending = do_command(&mut server, line, host, clock, input, output, errors);
+    host.close(server.replica.archive);
+    ending
 }
 
 /// Prints the text of help, or of the version.
@@ -485,10 +399,9 @@ fn print_text<W: Write>(text: &[u8], output: &mut Counted<W>) -> Result<(), Prog
     ensures write { IsErrOf result (ProgramFault.Connection ServeFault.Write)
         → output.new.faults ≡ counted output.old.faults }
 {
-    match output.send(text) {
-        Ok(()) => Ok(()),
-        Err(_) => Err(ProgramFault::Connection(ServeFault::Write)),
-    }
+    output
+        .send(text)
+        .map_err(|_| ProgramFault::Connection(ServeFault::Write))
 }
 
 /// Does what a command line asks for. Where that names a file of settings, it is read first, and then the store that they
@@ -503,47 +416,30 @@ fn print_text<W: Write>(text: &[u8], output: &mut Counted<W>) -> Result<(), Prog
 /// `Call` where its connection met a fault, `Exchange` where the exchange met one here, and `Peer` where the peer ended it
 /// by a number; what went out before it stands, and what was learned.
 #[tactic(auto, using(crate::proofs::Printing::lines))]
-pub fn run<
-    S: AsStr,
-    F: SettingsFiles,
-    D: Stores,
-    N: Network,
-    R: Read,
-    W: Write,
-    E: Write,
-    C: Clock,
->(
+pub fn run<S: AsStr, H: Host, C: Clock, R: Read, W: Write, E: Write>(
     alloc: Global,
     words: &[S],
-    files: &mut F,
-    stores: &mut D,
-    network: &mut N,
+    host: &mut H,
+    clock: &mut C,
     input: &mut Counted<R>,
     output: &mut Counted<W>,
     errors: &mut Counted<E>,
-    clock: &mut C,
 ) -> Result<(), ProgramFault>
     ensures read { IsErrOf result (ProgramFault.Connection ServeFault.Read)
         → input.new.faults ≡ counted input.old.faults }
     ensures write { IsErrOf result (ProgramFault.Connection ServeFault.Write)
         → output.new.faults ≡ counted output.old.faults }
-    ensures runs { Runs (fault_kinds uahist (map S.text words.now))
-        (takes uahist (map S.text words.now))
-        (subcommand_of uahist (map S.text words.now))
-        (machine_around F.gave D.opened D.Kept.state files.old files.new stores.old stores.new)
-        (peers_of N.called N.parted N.Reader.remaining N.Writer.contents)
-        (calls_of N.Listener.accepted N.Listener.closed N.Listener.Reader.remaining
-        N.Listener.Writer.contents) C.gave
-        N.listened E.contents
-        (host_of (R.remaining input.old.inner)
-        (W.contents output.old.inner) network.old clock.old errors.old)
-        (host_of (R.remaining input.new.inner)
-        (W.contents output.new.inner) network.new clock.new errors.new) result }
+    ensures runs { Runs (findings_in (map S.text words.now))
+        (known_machine H.means H.Archive.state H.Listener.accepted H.Listener.closed
+        H.Listener.Reader.remaining H.Listener.Writer.contents H.Reader.remaining H.Writer.contents)
+        C.gave E.contents
+        (scene_of (R.remaining input.old.inner) (W.contents output.old.inner) host.old clock.old
+        errors.old)
+        (scene_of (R.remaining input.new.inner) (W.contents output.new.inner) host.new clock.new
+        errors.new) result }
 {
     match read_line(alloc, words) {
-        Ok(Asked::Work(line)) => do_line(
-            alloc, line, files, stores, network, input, output, errors, clock,
-        ),
+        Ok(Asked::Work(line)) => do_line(alloc, line, host, clock, input, output, errors),
         Ok(Asked::Text(text)) => print_text(text.as_bytes(), output),
         Err(fault) => Err(ProgramFault::Line(fault)),
     }

@@ -1,15 +1,22 @@
-//! Connections that come over a network.
+//! The machine around a run: its files, its stores, and its network.
 
-ghost use Rattle.std.specs.Prelude.{List, Option};
-ghost use Rattle.std.specs.declared.net.socket_addr.SocketAddr.{SocketAddr};
+ghost use Rattle.std.specs.Prelude.{Option, IfOk, option_map, string_bytes};
 ghost use Rattle.counted_io.specs.Tally.{Tally};
+ghost use Rattle.archive.specs.Beginning.{HoldsNothing};
+ghost use Rattle.ua_server.specs.Host.{Machine};
 
+use archive::{Archive, StoreFault};
 use counted_io::Counted;
+use stamp::ReplicaNo;
 use std::io::{Read, Write};
 use std::net::SocketAddr;
+use uuid::Uuid;
 
-/// What a program listens on, and calls its peers over.
-pub trait Network {
+/// What a run asks of the machine that it runs on.
+pub trait Host {
+    /// What it keeps an archive in.
+    type Archive: Archive + Drop;
+
     /// What gives the connections to an address.
     type Listener: Listener + Drop;
 
@@ -19,27 +26,41 @@ pub trait Network {
     /// What a peer that was called reads.
     type Writer: Write + Drop;
 
-    /// Between these two states it was asked for a listener at an address, and gave this; none where the address can't be
-    /// listened at.
-    ghost listened: { Self → SocketAddr → Option Self.Listener → Self → Type 0 };
+    /// What it does in each of the calls below.
+    ghost means: { Machine Self Self.Archive Self.Listener Self.Reader Self.Writer };
 
-    /// Between these two states a peer was called at an address, and this connection came of it, if one did.
-    ghost called: { Self → SocketAddr → Option (Self.Reader × Self.Writer) → Self → Type 0 };
+    /// The text of the file at a path; none where it can't be read as UTF-8.
+    fn read(&mut self, path: &str) -> Option<String>
+        ensures { means.reads self.old path.now (option_map string_bytes result) self.new };
 
-    /// Between these two states a connection with a peer was given back.
-    ghost parted: { Self → Tally Self.Reader → Tally Self.Writer → Self → Type 0 };
+    /// The archive of this id and replica that the file at a path holds.
+    fn open_file(
+        &mut self,
+        path: &str,
+        id: Uuid,
+        number: ReplicaNo,
+    ) -> Result<Self::Archive, StoreFault>
+        ensures { means.opens self.old path.now id number result self.new };
+
+    /// An archive of this id and replica in memory, which holds nothing. No file is opened.
+    fn open_in_memory(&self, id: Uuid, number: ReplicaNo) -> Result<Self::Archive, StoreFault>
+        ensures { IfOk result (λ first. HoldsNothing id number (Self.Archive.state first)) };
+
+    /// Closes an archive.
+    fn close(&mut self, archive: Self::Archive)
+        ensures { means.closes self.old archive self.new };
 
     /// A listener at the address; none where it can't be listened at.
     fn listen(&mut self, address: SocketAddr) -> Option<Self::Listener>
-        ensures { listened self.old address result self.new };
+        ensures { means.listens self.old address result self.new };
 
     /// A connection with the peer at the address; none where it can't be had.
     fn call(&mut self, address: SocketAddr) -> Option<(Self::Reader, Self::Writer)>
-        ensures { called self.old address result self.new };
+        ensures { means.calls self.old address result self.new };
 
     /// Takes back a connection with a peer that is over.
     fn part(&mut self, reader: Counted<Self::Reader>, writer: Counted<Self::Writer>)
-        ensures { parted self.old reader writer self.new };
+        ensures { means.parts self.old reader writer self.new };
 }
 
 /// What gives connections, one after the other, and takes each back when it is over.
