@@ -1,0 +1,6 @@
+pub mod Stepping
+pub mod Places
+pub mod Turning
+pub mod Counts
+pub mod OwnSteps
+pub mod Finding

@@ -1,0 +1,151 @@
+-- What is in a slot, and how many bytes wait in all of them, which the contracts of `turns` and `serving` need.
+use Rattle.std.proofs.Common.{◌≡◌, ℕ, zero, suc, ◌+◌, ◌-◌, ◌<◌, ◌≤◌, Bool, true, false, take, List, [], ◌∷◌, length, get_or, refl, sym, ◌∙◌, ap, subst, arith}
+use Rattle.std.specs.Prelude.{Option, None, Some, slice_get, slice_set, sum_by, nat_lt}
+use Rattle.std.proofs.lemmas.Option.{slice_get-get_or, get_or_from_slice_get, same_Some, none-some}
+use Rattle.std.proofs.lemmas.List.{set-get_or, take_all}
+use Rattle.std.proofs.lemmas.List.Sums.{sum_by-cons, sum_by_more, sum_by_more_le}
+use Rattle.std.proofs.lemmas.Bool.{le-ltb, lt-ltb, ltb-true}
+use Rattle.multiplex.specs.Behavior.{Behavior}
+use Rattle.multiplex.specs.Slots.{Slot, IsQuiet, IsQuietAt, IsAtRest, IsAtRestAt, MayClose, waiting_in, all_waiting, has_room}
+
+-- what an index found is there
+pub there : {X : Type 0} (xs : List X) (i : ℕ) (x y : X) → i < length xs → get_or xs i x ≡ y
+    → slice_get xs i ≡ Some y
+there xs i x y within is = slice_get-get_or xs i x within ∙ ap (λ z. Some z) is
+
+-- what is there, written again, changes nothing
+pub set_same : {X : Type 0} (xs : List X) (i : ℕ) (x : X) → slice_get xs i ≡ Some x
+    → slice_set xs i x ≡ xs
+set_same xs i x got = ap (λ y. slice_set xs i y) (sym (get_or_from_slice_get xs i x x got))
+    ∙ set-get_or xs i x
+
+pub get-set_same : {X : Type 0} (xs : List X) (i : ℕ) (v x : X) → slice_get xs i ≡ Some x
+    → slice_get (slice_set xs i v) i ≡ Some v
+get-set_same [] i v x e = absurd (none-some _ e)
+get-set_same (y ∷ ys) zero v x e = refl
+get-set_same (y ∷ ys) (suc i) v x e = get-set_same ys i v x e
+
+pub get-set_other : {X : Type 0} (xs : List X) (i j : ℕ) (v : X) → (j ≡ i → ⊥)
+    → slice_get (slice_set xs i v) j ≡ slice_get xs j
+get-set_other [] i j v other = refl
+get-set_other (y ∷ ys) zero zero v other = absurd (other refl)
+get-set_other (y ∷ ys) zero (suc j) v other = refl
+get-set_other (y ∷ ys) (suc i) zero v other = refl
+get-set_other (y ∷ ys) (suc i) (suc j) v other = get-set_other ys i j v (λ p. other (ap suc p))
+
+pub set-set : {X : Type 0} (xs : List X) (i : ℕ) (v w : X) → slice_set (slice_set xs i v) i w ≡
+    slice_set xs i w
+set-set [] i v w = refl
+set-set (y ∷ ys) zero v w = refl
+set-set (y ∷ ys) (suc i) v w = ap (λ l. y ∷ l) (set-set ys i v w)
+
+-- the sum of what waits, once another connection is in a slot
+pub all-set : {H R W E : Type 0} (slots : List (Option (Slot H R W E))) (i : ℕ)
+    (old new : Option (Slot H R W E))
+    → slice_get slots i ≡ Some old → all_waiting (slice_set slots i new) + waiting_in old ≡
+    all_waiting slots + waiting_in new
+all-set [] i old new got = absurd (none-some _ got)
+all-set (y ∷ ys) zero old new got =
+    let same : waiting_in y ≡ waiting_in old = ap waiting_in (same_Some y old got) in
+    let before : all_waiting (y ∷ ys) ≡ waiting_in y + all_waiting ys = sum_by-cons waiting_in y ys
+    in
+    let behind : all_waiting (new ∷ ys) ≡ waiting_in new + all_waiting ys = sum_by-cons waiting_in
+    new ys in
+    omega (arith, same, before, behind)
+all-set (y ∷ ys) (suc i) old new got =
+    let rest = all-set ys i old new got in
+    let before : all_waiting (y ∷ ys) ≡ waiting_in y + all_waiting ys = sum_by-cons waiting_in y ys
+    in
+    let behind : all_waiting (y ∷ slice_set ys i new) ≡ waiting_in y + all_waiting
+    (slice_set ys i new) =
+    sum_by-cons waiting_in y (slice_set ys i new) in
+    omega (arith, rest, before, behind)
+
+-- the first slots already have all that there is room for
+pub no_room : {H R W E : Type 0} (slots : List (Option (Slot H R W E))) (most left i w : ℕ)
+    (slot : Option (Slot H R W E))
+    → sum_by waiting_in (take i slots) + left ≡ most → i < length slots → slot ≡ get_or slots i slot
+    → w ≡ waiting_in slot → left ≤ w → false ≡ has_room most slots
+no_room slots most left i w slot so_far within is waits full =
+    let same : waiting_in slot ≡ waiting_in (get_or slots i slot) = ap waiting_in is in
+    let all = sum_by_more_le waiting_in slots i slot within in
+    let above : most ≤ all_waiting slots = omega (arith, so_far, same, all, waits, full) in
+    sym (le-ltb (all_waiting slots) most above)
+
+pub room_more : {H R W E : Type 0} (slots : List (Option (Slot H R W E))) (most left i w : ℕ)
+    (slot : Option (Slot H R W E))
+    → sum_by waiting_in (take i slots) + left ≡ most → i < length slots → slot ≡ get_or slots i slot
+    → w ≡ waiting_in slot → w < left → sum_by waiting_in (take (i + 1) slots) + (left - w) ≡ most
+room_more slots most left i w slot so_far within is waits room =
+    let same : waiting_in slot ≡ waiting_in (get_or slots i slot) = ap waiting_in is in
+    let more = sum_by_more waiting_in slots i slot within in
+    omega (arith, so_far, same, more, waits, room)
+
+pub room_end : {H R W E : Type 0} (slots : List (Option (Slot H R W E))) (most left i : ℕ)
+    → sum_by waiting_in (take i slots) + left ≡ most → length slots ≤ i
+    → nat_lt 0 left ≡ has_room most slots
+room_end slots most zero i so_far end =
+    let all : sum_by waiting_in (take i slots) ≡ all_waiting slots = ap (λ l. sum_by waiting_in l)
+    (take_all i slots end) in
+    sym (le-ltb (all_waiting slots) most (omega (arith, so_far, all)))
+room_end slots most (suc left) i so_far end =
+    let all : sum_by waiting_in (take i slots) ≡ all_waiting slots = ap (λ l. sum_by waiting_in l)
+    (take_all i slots end) in
+    lt-ltb 0 (suc left) (omega arith) ∙ sym (lt-ltb (all_waiting slots) most
+    (omega (arith, so_far, all)))
+
+-- what waits where all was written of the connection of a slot
+pub less-empty : {H R W E : Type 0} (slots : List (Option (Slot H R W E))) (most i : ℕ)
+    (old new : Slot H R W E)
+    → slice_get slots i ≡ Some (Some old) → new.waiting ≡ [] → has_room most slots ≡ true
+    → has_room most (slice_set slots i (Some new)) ≡ true
+less-empty slots most i old new got none room =
+    let sums = all-set slots i (Some old) (Some new) got in
+    let nothing : waiting_in (Some new) ≡ 0 = ap (λ l. length l) none in
+    let below : all_waiting slots < most = ltb-true (all_waiting slots) most room in
+    lt-ltb (all_waiting (slice_set slots i (Some new))) most (omega (arith, sums, nothing, below))
+
+-- what waits is the same where it is the same in a slot that changed
+pub all-kept : {H R W E : Type 0} (slots : List (Option (Slot H R W E))) (i : ℕ)
+    (old new : Slot H R W E)
+    → slice_get slots i ≡ Some (Some old) → new.waiting ≡ old.waiting
+    → all_waiting (slice_set slots i (Some new)) ≡ all_waiting slots
+all-kept slots i old new got same =
+    let sums = all-set slots i (Some old) (Some new) got in
+    let waits : waiting_in (Some new) ≡ waiting_in (Some old) = ap (λ l. length l) same in
+    omega (arith, sums, waits)
+
+-- what is quiet in a slot that changed
+pub rests-set : {H R W V E : Type 0} (handler : Behavior H V E) (room : Bool)
+    (slots : List (Option (Slot H R W E))) (k : ℕ)
+    (old new : Slot H R W E) → slice_get slots k ≡ Some (Some old) → IsQuiet handler room new
+    → IsQuietAt handler room (slice_set slots k (Some new)) k
+rests-set {H} {R} {W} {V} {E} handler room slots k old new got rest slot found =
+    subst (λ (s : Slot H R W E). IsQuiet handler room s)
+    (same_Some new slot (same_Some (Some new) (Some slot) (sym
+    (get-set_same slots k (Some new) (Some old) got) ∙ found))) rest
+
+-- nothing is to be done in a slot that is free
+pub rests-free : {H R W V E : Type 0} (handler : Behavior H V E) (room : Bool)
+    (slots : List (Option (Slot H R W E))) (k : ℕ)
+    (old left : Option (Slot H R W E)) → slice_get slots k ≡ Some old → left ≡ None
+    → IsQuietAt handler room (slice_set slots k left) k
+rests-free handler room slots k old left got none slot found =
+    absurd (none-some slot (sym none ∙ same_Some left (Some slot)
+    (sym (get-set_same slots k left old got) ∙ found)))
+
+-- what is at rest in a slot stays so where nothing changed there
+pub rests-kept : {H R W V E : Type 0} (handler : Behavior H V E) (room room' : Bool)
+    (old new : List (Option (Slot H R W E))) (k : ℕ)
+    → slice_get new k ≡ slice_get old k → room ≡ room' → IsAtRestAt handler room old k
+    → IsAtRestAt handler room' new k
+rests-kept handler room room' old new k same judged rest slot found =
+    subst (λ b. IsAtRest handler b slot) judged (rest slot (sym same ∙ found))
+
+-- a quiet connection that may not be closed is at rest
+pub rests-open : {H R W V E : Type 0} (handler : Behavior H V E) (room : Bool)
+    (slots : List (Option (Slot H R W E))) (k : ℕ)
+    → IsQuietAt handler room slots k
+    → ((slot : Slot H R W E) → slice_get slots k ≡ Some (Some slot) → MayClose slot → ⊥)
+    → IsAtRestAt handler room slots k
+rests-open handler room slots k quiet still slot found = (quiet slot found, still slot found)

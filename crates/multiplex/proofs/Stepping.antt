@@ -1,0 +1,229 @@
+-- The steps of one connection, which the contracts of `slot` need.
+use Rattle.std.proofs.Common.{nat_eq, arith, ◌≡◌, ℕ, ◌+◌, ◌-◌, ◌≤◌, List, [], ◌∷◌, ◌++◌, length, take, drop, refl, sym, ◌∙◌, subst, ap, Bool, true, false}
+use Rattle.std.specs.Prelude.{Option, None, Some}
+use Rattle.std.specs.Option.{option_map}
+use Rattle.std.proofs.lemmas.List.{append_cancel_left, append-nil, drop-append-le, take-append-drop, drop-drop, length-drop}
+use Rattle.std.proofs.Math.Seq.{take-length}
+use Rattle.std.proofs.Math.ListN.{drop_of_length-le}
+use Rattle.std.proofs.lemmas.Bool.{eqb-true, eq-eqb}
+use Rattle.std.specs.Io.KnownBytes.{Appends, Consumes, Keeps}
+use Rattle.multiplex.specs.declared.handler.SlotEnd.{SlotEnd}
+use Rattle.multiplex.specs.declared.handler.SlotEnd.TheVariants.{Finished}
+use Rattle.multiplex.specs.Input.{Input}
+use Rattle.multiplex.specs.Output.{Output}
+use Rattle.multiplex.specs.Behavior.{Behavior}
+use Rattle.multiplex.specs.Slots.{Slot, IsResponsive}
+use Rattle.multiplex.specs.Steps.{Step, Receives, Answers, Lacks, Writes, Stops, FindsEmpty, FindsFull, Wakes, IsAllowed, IsStep, MayStop, AreSteps, TakesSteps}
+
+-- what waits behind an answer, where nothing waited before
+grown : (sent : ℕ) (out out' made : List ℕ) → sent ≤ length out → drop sent out ≡ []
+    → out' ≡ out ++ made → drop sent out' ≡ made
+grown sent out out' made within none is =
+    ap (λ l. drop sent l) is ∙ (drop-append-le sent out made within ∙ ap (λ l. l ++ made) none)
+
+-- nothing was made where nothing was appended
+nothing_made : (out out' made : List ℕ) → out' ≡ out ++ made → out' ≡ out → made ≡ []
+nothing_made out out' made grows same =
+    append_cancel_left out made [] (sym grows ∙ (same ∙ sym (append-nil out)))
+
+-- what stands first of what waits, and the rest
+pub first_of : (sent n : ℕ) (out : List ℕ)
+    → drop sent out ≡ take n (take (length out - sent) (drop sent out)) ++ drop (sent + n) out
+first_of sent n out =
+    let all : take (length out - sent) (drop sent out) ≡ drop sent out =
+    subst (λ k. take k (drop sent out) ≡ drop sent out) (length-drop sent out)
+    (take-length (drop sent out)) in
+    subst (λ l. drop sent out ≡ take n l ++ drop (sent + n) out) (sym all)
+    (sym (take-append-drop n (drop sent out)) ∙ ap (λ l. take n (drop sent out) ++ l)
+    (drop-drop n sent out))
+
+module _ {H R W V E : Type 0} (input : Input R) (output : Output W) (handler : Behavior H V E) where
+  abbrev Takes : Bool → ℕ → V → Slot H R W E → V → Slot H R W E → Type 0
+  Takes room now v old w new = TakesSteps input output handler room now v old w new
+
+  one : (room : Bool) (now : ℕ) (v w : V) (old new : Slot H R W E) (step : Step E)
+      → IsAllowed room ⊥ step
+      → IsStep input output handler now v old step w new → Takes room now v old w new
+  one room now v w old new step allowed is = (step ∷ [], (w, new, allowed, is, (refl, refl)))
+
+  pub none : (room : Bool) (now : ℕ) (v : V) (slot : Slot H R W E) → Takes room now v slot v slot
+  none room now v slot = ([], (refl, refl))
+
+  join : (room : Bool) (now : ℕ) (u v w : V) (a b c : Slot H R W E) (steps more : List (Step E))
+      → AreSteps input output handler room now u a steps v b → AreSteps input output handler room
+      now v b more w c
+      → AreSteps input output handler room now u a (steps ++ more) w c
+  join room now u v w a b c [] more first later =
+      subst (λ s. AreSteps input output handler room now u s more w c) first.1
+      (subst (λ x. AreSteps input output handler room now x b more w c) first.0 later)
+  join room now u v w a b c (step ∷ steps) more (x, s, allowed, is, rest) later =
+      (x, s, allowed, is, join room now x v w s b c steps more rest later)
+
+  -- some steps, and then some more
+  pub more : (room : Bool) (now : ℕ) (u v w : V) (a b c : Slot H R W E)
+      → Takes room now u a v b → Takes room now v b w c → Takes room now u a w c
+  more room now u v w a b c first later =
+      (first.0 ++ later.0, join room now u v w a b c first.0 later.0 first.1 later.1)
+
+  pub received : (room : Bool) (now : ℕ) (v : V) (old slot : Slot H R W E) (h : H) (r : R)
+      (bytes made : List ℕ)
+      (end : Option E) (ending : Option (SlotEnd E)) (sent : ℕ) (out out' : List ℕ)
+      → old ≡ slot → IsResponsive slot → handler.needs_more slot.handler
+      → Consumes (input.unread old.reader) (input.unread r) bytes
+      → handler.receives old.handler bytes made end h
+      → ending ≡ option_map Finished end → old.waiting ≡ drop sent out → sent ≤ length out
+      → out' ≡ out ++ made
+      → Takes room now v slot v (record old {
+        handler = h;
+        reader = r;
+        waiting = drop sent out';
+        ending = ending;
+        active = now;
+      })
+  received room now v old slot h r bytes made end ending sent out out' is responsive lacks consumes
+      receives ended waits within grows =
+      let ready : IsResponsive old = subst (λ s. IsResponsive s) (sym is) responsive in
+      let all : drop sent out' ≡ made = grown sent out out' made within (sym waits ∙ ready.1) grows
+      in
+      let new : List ℕ → Option (SlotEnd E) → Slot H R W E =
+      λ waiting e. record old {
+        handler = h;
+        reader = r;
+        waiting = waiting;
+        ending = e;
+        active = now;
+      } in
+      subst (λ s. Takes room now v s v (new (drop sent out') ending)) is
+      (subst (λ x. Takes room now v old v (new x ending)) (sym all)
+      (subst (λ e. Takes room now v old v (new made e)) (sym ended)
+      (one room now v v old (new made (option_map Finished end)) (Receives bytes made end) tt (
+        refl,
+        record {
+          responsive = ready;
+          lacks = subst (λ (s : Slot H R W E). handler.needs_more s.handler) (sym is) lacks;
+          consumes = consumes;
+          receives = receives;
+          others = refl;
+        },
+      ))))
+
+  pub answered : (now : ℕ) (v w : V) (old slot : Slot H R W E) (h : H) (made : List ℕ)
+      (end : Option E) (ending : Option (SlotEnd E)) (sent : ℕ) (out out' : List ℕ)
+      → old ≡ slot → IsResponsive slot → handler.answers v old.handler made end w h
+      → (old.ending ≡ None → ending ≡ option_map Finished end)
+      → old.waiting ≡ drop sent out → sent ≤ length out → out' ≡ out ++ made
+      → Takes true now v slot w (record old {
+        handler = h;
+        waiting = drop sent out';
+        ending =
+            ending;
+        heard = now;
+      })
+  answered now v w old slot h made end ending sent out out' is responsive answers ended waits within
+      grows =
+      let ready : IsResponsive old = subst (λ s. IsResponsive s) (sym is) responsive in
+      let all : drop sent out' ≡ made = grown sent out out' made within (sym waits ∙ ready.1) grows
+      in
+      let new : List ℕ → Option (SlotEnd E) → Slot H R W E =
+      λ waiting e. record old { handler = h; waiting = waiting; ending = e; heard = now } in
+      subst (λ s. Takes true now v s w (new (drop sent out') ending)) is
+      (subst (λ x. Takes true now v old w (new x ending)) (sym all)
+      (subst (λ e. Takes true now v old w (new made e)) (sym (ended ready.0))
+      (one true now v w old (new made (option_map Finished end)) (Answers made end) refl
+      (record { responsive = ready; answers = answers; others = refl }))))
+
+  pub lacked : (room : Bool) (now : ℕ) (v w : V) (old slot : Slot H R W E) (h : H) (made : List ℕ)
+      (sent : ℕ)
+      (out out' : List ℕ) → old ≡ slot → handler.answers v old.handler made None w h
+      → handler.needs_more h
+      → old.waiting ≡ drop sent out → out' ≡ out ++ made → out' ≡ out
+      → Takes room now v slot w (record old { handler = h; waiting = drop sent out' })
+  lacked room now v w old slot h made sent out out' is answers lacks waits grows same =
+      let as_before : drop sent out' ≡ old.waiting = ap (λ l. drop sent l) same ∙ sym waits in
+      let quiet : handler.answers v old.handler [] None w h =
+      subst (λ m. handler.answers v old.handler m None w h) (nothing_made out out' made grows same)
+      answers in
+      let new : List ℕ → Slot H R W E = λ waiting. record old { handler = h; waiting = waiting } in
+      subst (λ s. Takes room now v s w (new (drop sent out'))) is
+      (subst (λ x. Takes room now v old w (new x)) (sym as_before)
+      (one room now v w old (new old.waiting) Lacks tt (record
+      { answers = quiet; lacks = lacks; others = refl })))
+
+  pub wrote : (room : Bool) (now : ℕ) (v : V) (old slot : Slot H R W E) (later : W)
+      (bytes rest : List ℕ)
+      → old ≡ slot → old.waiting ≡ bytes ++ rest → Appends (output.written old.writer)
+      (output.written later) bytes
+      → Takes room now v slot v (record old { writer = later; waiting = rest; active = now })
+  wrote room now v old slot later bytes rest is first appends =
+      let new : Slot H R W E = record old { writer = later; waiting = rest; active = now } in
+      subst (λ s. Takes room now v s v new) is
+      (one room now v v old new (Writes bytes) tt (
+        refl,
+        record
+            { first = first; appends = appends; others = refl },
+      ))
+
+  pub found_full : (room : Bool) (now : ℕ) (v : V) (old slot : Slot H R W E) (later : W)
+      → old ≡ slot
+      → Keeps (output.written old.writer) (output.written later) → output.is_full later
+      → Takes room now v slot v (record old { writer = later; writable = false })
+  found_full room now v old slot later is keeps full =
+      let new : Slot H R W E = record old { writer = later; writable = false } in
+      subst (λ s. Takes room now v s v new) is
+      (one room now v v old new FindsFull tt (
+        refl,
+        record {
+          written = keeps;
+          full = full;
+          others =
+              refl;
+        },
+      ))
+
+  pub found_empty : (room : Bool) (now : ℕ) (v : V) (old slot : Slot H R W E) (later : R)
+      → old ≡ slot
+      → Keeps (input.unread old.reader) (input.unread later) → input.is_empty later
+      → Takes room now v slot v (record old { reader = later; readable = false })
+  found_empty room now v old slot later is keeps empty =
+      let new : Slot H R W E = record old { reader = later; readable = false } in
+      subst (λ s. Takes room now v s v new) is
+      (one room now v v old new FindsEmpty tt (
+        refl,
+        record {
+          unread = keeps;
+          empty = empty;
+          others
+              = refl;
+        },
+      ))
+
+  pub woke : (room : Bool) (now : ℕ) (v : V) (old slot : Slot H R W E) → old ≡ slot
+      → Takes room now v slot v (record old { readable = true; writable = true })
+  woke room now v old slot is =
+      let new : Slot H R W E = record old { readable = true; writable = true } in
+      subst (λ s. Takes room now v s v new) is (one room now v v old new Wakes tt (refl, refl))
+
+  pub stopped : (room : Bool) (now : ℕ) (v : V) (old slot : Slot H R W E) (r : R) (w : W)
+      (ending : SlotEnd E)
+      → old ≡ slot → Keeps (input.unread old.reader) (input.unread r)
+      → Keeps (output.written old.writer) (output.written w)
+      → IsAllowed room ⊥ (Stops ending)
+      → MayStop input output handler now old ending (record old
+      { reader = r; writer = w; ending = Some ending })
+      → Takes room now v slot v (record old { reader = r; writer = w; ending = Some ending })
+  stopped room now v old slot r w ending is unread written allowed may =
+      let new : Slot H R W E = record old { reader = r; writer = w; ending = Some ending } in
+      subst (λ s. Takes room now v s v new) is
+      (one room now v v old new (Stops ending) allowed
+      (refl, record { unread = unread; written = written; may = may; others = refl }))
+
+-- all was written just where nothing is left
+pub written_all : (sent long : ℕ) (out waiting : List ℕ) → drop sent out ≡ waiting
+    → sent ≤ length out → long ≡ length out
+    → (nat_eq sent long ≡ true → waiting ≡ []) × (waiting ≡ [] → nat_eq sent long ≡ true)
+written_all sent long out waiting is within all = (
+  λ same. sym is ∙ drop_of_length-le out (omega (arith, all, eqb-true sent long same)),
+  λ none.
+      let left : length out - sent ≡ 0 = sym (length-drop sent out) ∙ ap length (is ∙ none) in
+      eq-eqb sent long (omega (arith, left, within, all)),
+)

@@ -1,0 +1,340 @@
+-- Executions of turns, which the contracts of `turns` and `serving` need.
+use Rattle.std.proofs.Common.{◌≡◌, ℕ, ◌+◌, ◌<◌, ◌≤◌, Bool, false, List, [], ◌∷◌, ◌++◌, refl, sym, ◌∙◌, subst, ap, arith}
+use Rattle.std.specs.Prelude.{Option, None, Some, slice_get, slice_set}
+use Rattle.std.proofs.KnownBytes.{Keeps-refl}
+use Rattle.std.proofs.lemmas.Option.{same_Some}
+use Rattle.std.proofs.lemmas.List.Sums.{sum_by-append}
+use Rattle.multiplex.specs.declared.handler.SlotEnd.TheVariants.{Finished, EndOfInput, Broken, IdleTimeout, Displaced}
+use Rattle.multiplex.specs.declared.source.Arrival.{Arrival}
+use Rattle.multiplex.specs.declared.source.Arrival.TheVariants.{Nobody, Failed, Connection}
+use Rattle.multiplex.specs.declared.limits.Limits.{Limits}
+use Rattle.multiplex.specs.Effects.{Effects}
+use Rattle.multiplex.specs.Input.{Input}
+use Rattle.multiplex.specs.Output.{Output}
+use Rattle.multiplex.specs.Behavior.{Behavior}
+use Rattle.multiplex.specs.Slots.{Slot, first_slot, has_room, IsAtRestAt, IsLongestUnheard, MayClose}
+use Rattle.multiplex.specs.Steps.{Step, Receives, Answers, Lacks, Writes, Stops, FindsEmpty, FindsFull, Wakes, IsAllowed, IsStep, AreSteps}
+use Rattle.multiplex.specs.Turns.{Loop, state, LoopTurn, Waits, Accepts, AcceptFails, AcceptsNobody, Calls, CallFails, CallsNobody, Steps, Closes, count_waits, count_accepted, IsLoopTurn, AreTurns, TakesTurns}
+use Rattle.multiplex.specs.Serving.{HasCalled}
+use Rattle.multiplex.proofs.Places.{set_same, get-set_same, set-set, less-empty}
+
+module _ {S H R W V E : Type 0} (source : Effects S R W) (input : Input R) (output : Output W)
+    (handler : Behavior H V E) (limits : Limits) where
+  abbrev Goes : ℕ → ℕ → Loop S H R W V E → Loop S H R W V E → Type 0
+  Goes waits accepted old new = TakesTurns source input output handler limits waits accepted old new
+
+  join : (a b c : Loop S H R W V E) (turns more : List (LoopTurn E))
+      → AreTurns source input output handler limits a turns b
+      → AreTurns source input output handler limits b more c → AreTurns source input output handler
+      limits a (turns ++ more) c
+  join a b c [] more same later =
+      subst (λ (x : Loop S H R W V E). AreTurns source input output handler limits x more c) same
+      later
+  join a b c (turn ∷ turns) more (x, one, rest) later = (x, one, join x b c turns more rest later)
+
+  pub none : (here : Loop S H R W V E) → Goes 0 0 here here
+  none here = ([], refl, refl, refl)
+
+  pub one : (turn : LoopTurn E) (old new : Loop S H R W V E) → IsLoopTurn source input output
+      handler limits old turn new
+      → Goes (count_waits (turn ∷ [])) (count_accepted (turn ∷ [])) old new
+  one turn old new is = (turn ∷ [], (new, is, refl), refl, refl)
+
+  -- some turns, and then some more
+  pub more : (m n p q : ℕ) (a b c : Loop S H R W V E) → Goes m n a b → Goes p q b c
+      → Goes (m + p) (n + q) a c
+  more m n p q a b c (turns, first, waits, accepts) (others, later, waits', accepts') =
+      let all_waits : count_waits (turns ++ others) ≡ count_waits turns + count_waits others =
+      sum_by-append _ turns others in
+      let all_accepts : count_accepted (turns ++ others) ≡ count_accepted turns + count_accepted
+      others =
+      sum_by-append _ turns others in (
+        turns ++ others,
+        join a b c turns others first later,
+        omega (arith, waits, waits', all_waits),
+        omega (arith, accepts, accepts', all_accepts),
+      )
+
+  -- nothing happened in a slot
+  pub unchanged : (source' : S) (slots : List (Option (Slot H R W E))) (v : V) (now k : ℕ)
+      (slot : Option (Slot H R W E))
+      → slice_get slots k ≡ Some slot → Goes 0 0 (state source' slots v now)
+      (state source' (slice_set slots k slot) v now)
+  unchanged source' slots v now k slot got =
+      subst (λ l. Goes 0 0 (state source' slots v now) (state source' l v now))
+      (sym (set_same slots k slot got))
+      (none (state source' slots v now))
+
+  -- a free slot stays free
+  pub free_still : (source' : S) (slots : List (Option (Slot H R W E))) (v : V) (now k : ℕ)
+      (left : Option (Slot H R W E))
+      → slice_get slots k ≡ Some None → left ≡ None → Goes 0 0 (state source' slots v now)
+      (state source' (slice_set slots k left) v now)
+  free_still source' slots v now k left got none' =
+      subst (λ l. Goes 0 0 (state source' slots v now) (state source' (slice_set slots k l) v now))
+      (sym none')
+      (unchanged source' slots v now k None got)
+
+  -- a step is allowed where it is allowed in the same slots with less to be written
+  still_allowed : (slots : List (Option (Slot H R W E))) (k now : ℕ) (v w : V)
+      (first old new : Slot H R W E)
+      (step : Step E) (has_to : Type 0)
+      → slice_get slots k ≡ Some (Some first) → IsAllowed (has_room limits.waiting_bytes slots) ⊥
+      step
+      → IsStep input output handler now v old step w new
+      → IsAllowed (has_room limits.waiting_bytes (slice_set slots k (Some old))) has_to step
+  still_allowed slots k now v w first old new (Receives bytes made end) has_to got allowed is = tt
+  still_allowed slots k now v w first old new (Answers made end) has_to got allowed is =
+      less-empty slots limits.waiting_bytes k first old got is.responsive.1 allowed
+  still_allowed slots k now v w first old new Lacks has_to got allowed is = tt
+  still_allowed slots k now v w first old new (Writes bytes) has_to got allowed is = tt
+  still_allowed slots k now v w first old new (Stops (Finished end)) has_to got allowed is = tt
+  still_allowed slots k now v w first old new (Stops EndOfInput) has_to got allowed is = tt
+  still_allowed slots k now v w first old new (Stops Broken) has_to got allowed is = tt
+  still_allowed slots k now v w first old new (Stops IdleTimeout) has_to got allowed is = tt
+  still_allowed slots k now v w first old new (Stops Displaced) has_to got allowed is = absurd
+      allowed
+  still_allowed slots k now v w first old new FindsEmpty has_to got allowed is = tt
+  still_allowed slots k now v w first old new FindsFull has_to got allowed is = tt
+  still_allowed slots k now v w first old new Wakes has_to got allowed is = tt
+
+  -- some steps at the connection of a slot, from another state of it than the slots that judge the room
+  steps_from : (source' : S) (slots : List (Option (Slot H R W E))) (v w : V) (now k : ℕ)
+      (first old new : Slot H R W E)
+      (steps : List (Step E)) → slice_get slots k ≡ Some (Some first)
+      → AreSteps input output handler (has_room limits.waiting_bytes slots) now v old steps w new
+      → Goes 0 0 (state source' (slice_set slots k (Some old)) v now)
+      (state source' (slice_set slots k (Some new)) w now)
+  steps_from source' slots v w now k first old new [] got is =
+      subst (λ u. Goes 0 0 (state source' (slice_set slots k (Some old)) v now)
+      (state source' (slice_set slots k (Some new)) u now)) (sym is.0)
+      (subst (λ (s : Slot H R W E). Goes 0 0 (state source' (slice_set slots k (Some old)) v now)
+      (state source' (slice_set slots k (Some s)) v now)) (sym is.1)
+      (none (state source' (slice_set slots k (Some old)) v now)))
+  steps_from source' slots v w now k first old new (step ∷ steps) got (u, middle, allowed, is, rest)
+      =
+      let before : List (Option (Slot H R W E)) = slice_set slots k (Some old) in
+      let there : slice_get before k ≡ Some (Some old) = get-set_same slots k (Some old)
+      (Some first) got in
+      let did : Goes 0 0 (state source' before v now) (state source'
+      (slice_set before k (Some middle)) u now) =
+      one (Steps k step) (state source' before v now) (state source'
+      (slice_set before k (Some middle)) u now) (record {
+        before = old;
+        behind = middle;
+        there = there;
+        allowed = still_allowed slots k now v u first old middle step _ got allowed is;
+        step_is = is;
+        others = refl;
+      }) in
+      let here : Goes 0 0 (state source' before v now) (state source'
+      (slice_set slots k (Some middle)) u now) =
+      subst (λ l. Goes 0 0 (state source' before v now) (state source' l u now))
+      (set-set slots k (Some old) (Some middle)) did in
+      more 0 0 0 0 (state source' before v now) (state source' (slice_set slots k (Some middle)) u
+      now)
+      (state source' (slice_set slots k (Some new)) w now) here
+      (steps_from source' slots u w now k first middle new steps got rest)
+
+  -- some steps at the connection of a slot
+  pub steps_at : (source' : S) (slots : List (Option (Slot H R W E))) (v w : V) (now k : ℕ)
+      (room : Bool) (old new : Slot H R W E)
+      (steps : List (Step E)) → slice_get slots k ≡ Some (Some old)
+      → room ≡ has_room limits.waiting_bytes slots
+      → AreSteps input output handler room now v old steps w new
+      → Goes 0 0 (state source' slots v now) (state source' (slice_set slots k (Some new)) w now)
+  steps_at source' slots v w now k room old new steps got judged is =
+      subst (λ l. Goes 0 0 (state source' l v now) (state source' (slice_set slots k (Some new)) w
+      now)) (set_same slots k (Some old) got)
+      (steps_from source' slots v w now k old old new steps got
+      (subst (λ b. AreSteps input output handler b now v old steps w new) judged is))
+
+  -- the connection of a slot was closed
+  pub closed : (old new : S) (slots : List (Option (Slot H R W E))) (v : V) (now k : ℕ)
+      (slot : Slot H R W E)
+      (left : Option (Slot H R W E)) (ends : R × W) → slice_get slots k ≡ Some (Some slot)
+      → ((s : Slot H R W E) × (slice_get slots k ≡ Some (Some s)) × MayClose s)
+      → ends ≡ (slot.reader, slot.writer)
+      → source.closed old ends.0 ends.1 new → left ≡ None
+      → Goes 0 0 (state old slots v now) (state new (slice_set slots k left) v now)
+  closed old new slots v now k slot left ends got (s, found, may) is gave empty =
+      let same : s ≡ slot = same_Some s slot (same_Some (Some s) (Some slot) (sym found ∙ got)) in
+      subst (λ l. Goes 0 0 (state old slots v now) (state new (slice_set slots k l) v now))
+      (sym empty)
+      (one (Closes k) (state old slots v now) (state new (slice_set slots k None) v now) (record {
+        slot = slot;
+        there = got;
+        may = subst (λ (x : Slot H R W E). MayClose x) same may;
+        closed = subst (λ (p : R × W). source.closed old p.0 p.1 new) is gave;
+        others = refl;
+      }))
+
+  -- a connection came to a listener
+  pub accepted : (old new : S) (slots : List (Option (Slot H R W E))) (v : V) (now k listener : ℕ)
+      (came : Arrival R W)
+      (reader : R) (writer : W) (first : H) (out : List ℕ) (slot : Slot H R W E)
+      → slice_get slots k ≡ Some None → k < limits.accept_slots
+      → came ≡ Connection listener reader writer
+      → source.accepted old came new → handler.begins listener first → out ≡ []
+      → slot ≡ first_slot first reader writer out now
+      → Goes 0 1 (state old slots v now) (state new (slice_set slots k (Some slot)) v now)
+  accepted old new slots v now k listener came reader writer first out slot free within is accepts
+      begins empty made =
+      let begun : slot ≡ first_slot first reader writer [] now = made
+      ∙ ap (λ l. first_slot first reader writer l now) empty in
+      subst (λ (s : Slot H R W E). Goes 0 1 (state old slots v now)
+      (state new (slice_set slots k (Some s)) v now)) (sym begun)
+      (one (Accepts k listener) (state old slots v now)
+      (state new (slice_set slots k (Some (first_slot first reader writer [] now))) v now) (record {
+        reader = reader;
+        writer = writer;
+        first = first;
+        within = within;
+        free = free;
+        accepted = subst (λ (a : Arrival R W). source.accepted old a new) is accepts;
+        begins = begins;
+        others = refl;
+      }))
+
+  -- one came and failed
+  pub accept_failed : (old new : S) (slots : List (Option (Slot H R W E))) (v : V) (now : ℕ)
+      (came : Arrival R W)
+      → came ≡ Failed → source.accepted old came new → Goes 0 1 (state old slots v now)
+      (state new slots v now)
+  accept_failed old new slots v now came is accepts =
+      one AcceptFails (state old slots v now) (state new slots v now)
+      (subst (λ (a : Arrival R W). source.accepted old a new) is accepts, refl)
+
+  -- nobody came
+  pub nobody_came : (old new : S) (slots : List (Option (Slot H R W E))) (v : V) (now : ℕ)
+      (came : Arrival R W)
+      → came ≡ Nobody → source.accepted old came new → Goes 0 0 (state old slots v now)
+      (state new slots v now)
+  nobody_came old new slots v now came is accepts =
+      one AcceptsNobody (state old slots v now) (state new slots v now)
+      (subst (λ (a : Arrival R W). source.accepted old a new) is accepts, refl)
+
+  -- no call was due
+  pub none_due : (old new : S) (slots : List (Option (Slot H R W E))) (v : V) (now : ℕ)
+      → source.called old None new
+      → Goes 0 0 (state old slots v now) (state new slots v now)
+  none_due old new slots v now called = one CallsNobody (state old slots v now)
+      (state new slots v now) (called, refl)
+
+  -- a call was due, and couldn't begin
+  pub call_failed : (old between new : S) (slots : List (Option (Slot H R W E))) (v w : V) (now : ℕ)
+      (reader : R) (writer : W)
+      (made : List ℕ) → source.called old (Some (reader, writer)) between
+      → handler.calls v made None w
+      → source.closed between reader writer new → Goes 0 0 (state old slots v now)
+      (state new slots w now)
+  call_failed old between new slots v w now reader writer made called calls closes =
+      one CallFails (state old slots v now) (state new slots w now) (record {
+        reader = reader;
+        writer = writer;
+        between = between;
+        made = made;
+        called = called;
+        calls = calls;
+        closed = closes;
+        others = refl;
+      })
+
+  -- a call began in a free slot
+  pub call_began : (old new : S) (slots : List (Option (Slot H R W E))) (v w : V) (now k : ℕ)
+      (begun : Option (Slot H R W E)) (slot : Slot H R W E) → slice_get slots k ≡ Some None
+      → limits.accept_slots ≤ k
+      → begun ≡ Some slot → HasCalled source input output handler limits now old v begun new w
+      → Goes 0 0 (state old slots v now) (state new (slice_set slots k (Some slot)) w now)
+  call_began old new slots v w now k begun slot free behind is did =
+      let (reader, writer, first, made, called, calls, made_so) =
+      subst (λ b. HasCalled source input output handler limits now old v b new w) is did in
+      subst (λ (s : Slot H R W E). Goes 0 0 (state old slots v now)
+      (state new (slice_set slots k (Some s)) w now)) (sym made_so)
+      (one (Calls k made) (state old slots v now)
+      (state new (slice_set slots k (Some (first_slot first reader writer made now))) w now)
+      (record {
+        reader = reader;
+        writer = writer;
+        first = first;
+        behind = behind;
+        free = free;
+        called = called;
+        calls = calls;
+        others = refl;
+      }))
+
+  -- it was waited
+  pub waited : (old new : S) (slots : List (Option (Slot H R W E))) (v : V) (busy : Bool)
+      (first now : ℕ)
+      → (busy ≡ false → (k : ℕ) → IsAtRestAt handler (has_room limits.waiting_bytes slots) slots k)
+      → source.waited old busy now new → Goes 1 0 (state old slots v first) (state new slots v now)
+  waited old new slots v busy first now rest waits =
+      one (Waits busy now) (state old slots v first) (state new slots v now)
+      (record { rest = rest; waited = waits; others = refl })
+
+  -- one round of a server: it was waited, somebody may have come, a call may have begun, and each had its turn
+  pub round_more : (waits accepted more_accepted : ℕ) (s s1 s2 s3 s4 : S)
+      (l l2 l3 l4 l0 : List (Option (Slot H R W E))) (v0 v v3 v4 : V)
+      (s0 : S) (first last now : ℕ)
+      → Goes waits accepted (state s0 l0 v0 first) (state s l v last)
+      → Goes 1 0 (state s l v last) (state s1 l v now)
+      → Goes 0 more_accepted (state s1 l v now) (state s2 l2 v now)
+      → Goes 0 0 (state s2 l2 v now) (state s3 l3 v3 now)
+      → Goes 0 0 (state s3 l3 v3 now) (state s4 l4 v4 now)
+      → Goes (waits + 1) (accepted + more_accepted) (state s0 l0 v0 first) (state s4 l4 v4 now)
+  round_more waits accepted more_accepted s s1 s2 s3 s4 l l2 l3 l4 l0 v0 v v3 v4 s0 first last now
+      before wait accept call round =
+      let calls_and_turns : Goes (0 + 0) (0 + 0) (state s2 l2 v now) (state s4 l4 v4 now) =
+      more 0 0 0 0 (state s2 l2 v now) (state s3 l3 v3 now) (state s4 l4 v4 now) call round in
+      let from_accept : Goes (0 + (0 + 0)) (more_accepted + (0 + 0)) (state s1 l v now)
+      (state s4 l4 v4 now) =
+      more 0 more_accepted (0 + 0) (0 + 0) (state s1 l v now) (state s2 l2 v now)
+      (state s4 l4 v4 now) accept calls_and_turns in
+      let from_wait : Goes (1 + (0 + (0 + 0))) (0 + (more_accepted + (0 + 0))) (state s l v last)
+      (state s4 l4 v4 now) =
+      more 1 0 (0 + (0 + 0)) (more_accepted + (0 + 0)) (state s l v last) (state s1 l v now)
+      (state s4 l4 v4 now) wait from_accept in
+      let all : Goes (waits + 1) (accepted + (0 + (more_accepted + (0 + 0)))) (state s0 l0 v0 first)
+      (state s4 l4 v4 now) =
+      more waits accepted (1 + (0 + (0 + 0))) (0 + (more_accepted + (0 + 0))) (state s0 l0 v0 first)
+      (state s l v last) (state s4 l4 v4 now) before from_wait in
+      let count : accepted + (0 + (more_accepted + (0 + 0))) ≡ accepted + more_accepted = omega
+      arith in
+      subst (λ n. Goes (waits + 1) n (state s0 l0 v0 first) (state s4 l4 v4 now)) count all
+
+  -- a connection makes place for the next one
+  pub displaced : (source' : S) (slots : List (Option (Slot H R W E))) (v : V) (now k : ℕ)
+      (old slot new : Slot H R W E)
+      → slice_get slots k ≡ Some (Some old) → slice_get slots k ≡ Some (Some slot)
+      → IsLongestUnheard handler now limits.accept_slots slots k slot
+      → new ≡ record old { ending = Some Displaced }
+      → Goes 0 0 (state source' slots v now) (state source' (slice_set slots k (Some new)) v now)
+  displaced source' slots v now k old slot new got found longest ended =
+      let same : slot ≡ old = same_Some slot old (same_Some (Some slot) (Some old)
+      (sym found ∙ got)) in
+      let last : IsLongestUnheard handler now limits.accept_slots slots k old =
+      subst (λ (s : Slot H R W E). IsLongestUnheard handler now limits.accept_slots slots k s) same
+      longest in
+      let end : Slot H R W E = record old { ending = Some Displaced } in
+      subst (λ (s : Slot H R W E). Goes 0 0 (state source' slots v now)
+      (state source' (slice_set slots k (Some s)) v now))
+      (sym ended)
+      (one (Steps k (Stops Displaced)) (state source' slots v now)
+      (state source' (slice_set slots k (Some end)) v now)
+      (record {
+        before = old;
+        behind = end;
+        there = got;
+        allowed = last;
+        step_is = (
+          refl,
+          record {
+            unread = Keeps-refl (input.unread old.reader);
+            written = Keeps-refl (output.written old.writer);
+            may = last.unheard;
+            others = refl;
+          },
+        );
+        others = refl;
+      }))

@@ -1,0 +1,58 @@
+use Rattle.std.specs.Prelude.{Some, nat_lt}
+use Rattle.std.proofs.Common.{refl, sym, ap, ◌∙◌, ℕ, arith, subst, inl, inr}
+use Rattle.std.proofs.lemmas.Bool.Decides.{eqb_tells}
+use Rattle.std.proofs.lemmas.Option.{slice_get_within}
+use Rattle.multiplex.specs.Slots.{IsAtRestAt, has_room}
+use Rattle.multiplex.specs.Turns.{state}
+use Rattle.multiplex.proofs.Places.{rests-kept}
+use Rattle.multiplex.proofs.Turning.{none, more}
+use Rattle.multiplex.proofs.turns.serve_round.Goals as goal
+
+pub loop-place-init : goal.loop-place-init
+loop-place-init g c = record {
+  turns = none g.S.Source.effects g.S.Reader.NonBlockingRead.input
+      g.S.Writer.NonBlockingWrite.output g.H.Handler.behavior c.args.round.limits
+      (state c.args.source.now c.args.slots.now c.args.world.now c.args.round.now);
+  places = refl;
+  rest = λ quiet k below. absurd (omega (arith, below));
+}
+
+pub loop-place-preserved : goal.loop-place-preserved
+loop-place-preserved g c = record {
+  turns = more g.S.Source.effects g.S.Reader.NonBlockingRead.input
+      g.S.Writer.NonBlockingWrite.output g.H.Handler.behavior c.args.round.limits 0 0 0 0
+      (state c.args.source.now c.args.slots.now c.args.world.now c.args.round.now)
+      (state c.loop-place.source c.loop-place.slots c.loop-place.world c.args.round.now)
+      (state c.turn_at-here.new.source c.turn_at-here.new.slots c.turn_at-here.new.world
+      c.args.round.now)
+      c.loop-place.invariant.turns c.turn_at-here.ensures.turns;
+  places = c.turn_at-here.ensures.length ∙ c.loop-place.invariant.places;
+  rest = λ quiet k below.
+      let both = c.either-busy.ensures quiet in
+      let most = c.args.round.limits.waiting_bytes in
+      elim (eqb_tells k c.loop-place.place) [
+        | inl same ↦
+            subst (λ i. IsAtRestAt g.H.Handler.behavior (has_room most c.turn_at-here.new.slots)
+            c.turn_at-here.new.slots i)
+            (sym same.1) (c.turn_at-here.ensures.rest both.1)
+        | inr other ↦
+            rests-kept g.H.Handler.behavior (has_room most c.loop-place.slots)
+            (has_room most c.turn_at-here.new.slots)
+            c.loop-place.slots c.turn_at-here.new.slots k (c.turn_at-here.ensures.others k other.1)
+            (sym (ap (λ (n : ℕ). nat_lt n most) (c.turn_at-here.ensures.same both.1)))
+            (c.loop-place.invariant.rest both.0 k (omega (arith, below, other.1)))
+      ];
+}
+
+pub returns-clause-turns : goal.returns-clause-turns
+returns-clause-turns g c = c.loop-place.invariant.turns
+
+pub returns-clause-rest : goal.returns-clause-rest
+returns-clause-rest g c quiet k slot got =
+    let within = slice_get_within c.loop-place.slots k (Some slot) got in
+    c.loop-place.invariant.rest quiet k (omega (
+      arith,
+      within,
+      c.loop-place.auto.slots,
+      c.loop-place-test.false,
+    )) slot got

@@ -1,0 +1,10 @@
+pub mod Input
+pub mod Output
+pub mod Behavior
+pub mod Progress
+pub mod Effects
+pub mod Slots
+pub mod Steps
+pub mod Turns
+pub mod Serving
+pub mod Alone

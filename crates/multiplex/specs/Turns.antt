@@ -1,0 +1,151 @@
+-- The event loop: what one turn of it is, and an execution of turns.
+use Rattle.std.specs.Prelude.{◌≡◌, ℕ, ◌≤◌, ◌<◌, Bool, true, false, List, [], ◌∷◌, count_by, slice_get, slice_set, Option, None, Some}
+use Rattle.multiplex.specs.declared.source.Arrival.TheVariants.{Nobody, Failed, Connection}
+use Rattle.multiplex.specs.declared.limits.Limits.{Limits}
+use Rattle.multiplex.specs.Effects.{Effects}
+use Rattle.multiplex.specs.Input.{Input}
+use Rattle.multiplex.specs.Output.{Output}
+use Rattle.multiplex.specs.Behavior.{Behavior}
+use Rattle.multiplex.specs.Slots.{Slot, first_slot, has_room, IsAtRestAt, IsLongestUnheard, MayClose}
+use Rattle.multiplex.specs.Steps.{Step, IsAllowed, IsStep}
+
+-- what connections come from, their slots, of which some are free, the world, and the time
+pub record Loop (S H R W V E : Type 0) : Type 0 where
+  pub source : S
+  pub slots : List (Option (Slot H R W E))
+  pub world : V
+  pub now : ℕ
+
+-- the loop in this state
+abbrev pub state : {S H R W V E : Type 0} → S → List (Option (Slot H R W E)) → V → ℕ
+    → Loop S H R W V E
+state source slots world now =
+    record { source = source; slots = slots; world = world; now = now }
+
+-- what may happen in one turn
+pub data LoopTurn (E : Type 0) : Type 0 where
+  -- it was waited, and this is the time then
+  Waits : (busy : Bool) → (now : ℕ) → LoopTurn E
+  -- a connection came to this listener, and got this slot
+  Accepts : (slot listener : ℕ) → LoopTurn E
+  -- a connection came and failed; nobody came
+  AcceptFails AcceptsNobody : LoopTurn E
+  -- a call began, and got this slot
+  Calls : (slot : ℕ) → (made : List ℕ) → LoopTurn E
+  -- a call was due, and couldn't begin; none was due
+  CallFails CallsNobody : LoopTurn E
+  -- this happened at the connection of a slot
+  Steps : (slot : ℕ) → Step E → LoopTurn E
+  -- the connection of a slot was closed
+  Closes : (slot : ℕ) → LoopTurn E
+
+-- how many times it was waited
+abbrev pub count_waits : {E : Type 0} → List (LoopTurn E) → ℕ
+count_waits turns = count_by (λ turn. elim turn [ Waits busy now ↦ true | _ ↦ false ]) turns
+
+-- how many connections were accepted, those that failed too
+abbrev pub count_accepted : {E : Type 0} → List (LoopTurn E) → ℕ
+count_accepted turns = count_by (λ turn. elim turn [
+  | Accepts slot listener ↦ true
+  | AcceptFails ↦ true
+  | _ ↦ false
+]) turns
+
+module _ {S H R W V E : Type 0} (source : Effects S R W) (input : Input R) (output : Output W)
+    (handler : Behavior H V E) (limits : Limits) where
+  -- it was waited; where nothing was to be done at once, each connection was at rest
+  pub record IsWait (old : Loop S H R W V E) (busy : Bool) (now : ℕ)
+      (new : Loop S H R W V E) : Type 0 where
+    pub rest : busy ≡ false → (k : ℕ)
+        → IsAtRestAt handler (has_room limits.waiting_bytes old.slots) old.slots k
+    pub waited : source.waited old.source busy now new.source
+    pub others : new ≡ record old { source = new.source; now = now }
+
+  -- a connection came, and got a free slot of those for accepted ones
+  pub record IsAccept (old : Loop S H R W V E) (k listener : ℕ)
+      (new : Loop S H R W V E) : Type 0 where
+    pub reader : R
+    pub writer : W
+    pub first : H
+    pub within : k < limits.accept_slots
+    pub free : slice_get old.slots k ≡ Some None
+    pub accepted : source.accepted old.source (Connection listener reader writer) new.source
+    pub begins : handler.begins listener first
+    pub others : new ≡ record old {
+      source = new.source;
+      slots = slice_set old.slots k (Some (first_slot first reader writer [] old.now));
+    }
+
+  -- a call began, and got a free slot behind those for accepted ones
+  pub record IsCall (old : Loop S H R W V E) (k : ℕ) (made : List ℕ)
+      (new : Loop S H R W V E) : Type 0 where
+    pub reader : R
+    pub writer : W
+    pub first : H
+    pub behind : limits.accept_slots ≤ k
+    pub free : slice_get old.slots k ≡ Some None
+    pub called : source.called old.source (Some (reader, writer)) new.source
+    pub calls : handler.calls old.world made (Some first) new.world
+    pub others : new ≡ record old {
+      source = new.source;
+      world = new.world;
+      slots = slice_set old.slots k (Some (first_slot first reader writer made old.now));
+    }
+
+  -- a call was due, and couldn't begin: its connection was given back
+  pub record IsFailedCall (old new : Loop S H R W V E) : Type 0 where
+    pub reader : R
+    pub writer : W
+    pub between : S
+    pub made : List ℕ
+    pub called : source.called old.source (Some (reader, writer)) between
+    pub calls : handler.calls old.world made None new.world
+    pub closed : source.closed between reader writer new.source
+    pub others : new ≡ record old { source = new.source; world = new.world }
+
+  -- this happened at the connection of a slot; it is answered only where there is room, and makes
+  -- place only where all slots for accepted ones are taken and it is unheard for longest
+  pub record IsStepAt (old : Loop S H R W V E) (k : ℕ) (step : Step E)
+      (new : Loop S H R W V E) : Type 0 where
+    pub before : Slot H R W E
+    pub behind : Slot H R W E
+    pub there : slice_get old.slots k ≡ Some (Some before)
+    pub allowed : IsAllowed (has_room limits.waiting_bytes old.slots)
+        (IsLongestUnheard handler old.now limits.accept_slots old.slots k before) step
+    pub step_is : IsStep input output handler old.now old.world before step new.world behind
+    pub others : new ≡ record old { slots = slice_set old.slots k (Some behind); world = new.world }
+
+  -- the connection of a slot was given back, which is free then
+  pub record IsClose (old : Loop S H R W V E) (k : ℕ) (new : Loop S H R W V E) : Type 0 where
+    pub slot : Slot H R W E
+    pub there : slice_get old.slots k ≡ Some (Some slot)
+    pub may : MayClose slot
+    pub closed : source.closed old.source slot.reader slot.writer new.source
+    pub others : new ≡ record old { source = new.source; slots = slice_set old.slots k None }
+
+  -- what happened in one turn
+  abbrev pub IsLoopTurn : Loop S H R W V E → LoopTurn E → Loop S H R W V E → Type 0
+  IsLoopTurn old (Waits busy now) new = IsWait old busy now new
+  IsLoopTurn old (Accepts k listener) new = IsAccept old k listener new
+  IsLoopTurn old AcceptFails new =
+      source.accepted old.source Failed new.source × (new ≡ record old { source = new.source })
+  IsLoopTurn old AcceptsNobody new =
+      source.accepted old.source Nobody new.source × (new ≡ record old { source = new.source })
+  IsLoopTurn old (Calls k made) new = IsCall old k made new
+  IsLoopTurn old CallFails new = IsFailedCall old new
+  IsLoopTurn old CallsNobody new =
+      source.called old.source None new.source × (new ≡ record old { source = new.source })
+  IsLoopTurn old (Steps k step) new = IsStepAt old k step new
+  IsLoopTurn old (Closes k) new = IsClose old k new
+
+  -- an execution: one turn after the other
+  abbrev pub AreTurns : Loop S H R W V E → List (LoopTurn E) → Loop S H R W V E → Type 0
+  AreTurns old [] new = new ≡ old
+  AreTurns old (turn ∷ turns) new =
+      (middle : Loop S H R W V E) × IsLoopTurn old turn middle × AreTurns middle turns new
+
+  -- some turns, or none, with so many waits, in which so many connections were accepted
+  abbrev pub TakesTurns : (waits accepted : ℕ) → Loop S H R W V E → Loop S H R W V E → Type 0
+  TakesTurns waits accepted old new =
+      (turns : List (LoopTurn E)) × AreTurns old turns new × (count_waits turns ≡ waits)
+      × (count_accepted turns ≡ accepted)

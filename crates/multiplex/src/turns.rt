@@ -1,0 +1,154 @@
+//! One turn of each connection.
+
+ghost use Rattle.std.specs.Prelude.{◌≡◌, ◌≢◌, ◌<◌, ◌≤◌, ℕ, length, IsTrue, true, false, slice_get, Some, None};
+ghost use Rattle.multiplex.specs.Slots.{MayClose, has_room, IsQuietAt, IsAtRestAt, waiting_in, all_waiting};
+ghost use Rattle.multiplex.specs.Turns.{TakesTurns, state};
+
+use crate::handler::Handler;
+use crate::limits::Round;
+use crate::slot::{Slot, either};
+use crate::source::Source;
+
+/// How many bytes wait to be written in a slot.
+fn waiting_in<H, R, W, E>(slot: &Option<Slot<H, R, W, E>>) -> usize
+    ensures { result ≡ waiting_in slot.now }
+{
+    match slot {
+        Some(slot) => slot.waiting(),
+        None => 0,
+    }
+}
+
+/// Whether fewer bytes than `most` wait to be written at all connections together.
+fn has_room<H, R, W, E>(slots: &[Option<Slot<H, R, W, E>>], most: usize) -> bool
+    ensures { result ≡ has_room most slots.now }
+{
+    let mut left = most;
+    for slot in slots {
+        let waiting = waiting_in(slot);
+        if left <= waiting {
+            return false;
+        }
+        left -= waiting;
+    }
+    0 < left
+}
+
+/// The turn of the connection in a slot, if one is there. Whether more may be done there at once; else it is at rest.
+fn visit_at<S: Source, H: Handler>(
+    ready: bool,
+    world: &mut H::World,
+    slots: &mut [Option<Slot<H, S::Reader, S::Writer, H::End>>],
+    place: usize,
+    round: Round,
+) -> bool
+    requires { place < length slots.old }
+    ensures turns { (source : S)
+        → TakesTurns S.effects S.Reader.input S.Writer.output H.behavior round.limits 0 0
+        (state source slots.old world.old round.now) (state source slots.new world.new round.now) }
+    ensures length { length slots.new ≡ length slots.old }
+    ensures others { (k : ℕ) → k ≢ place → slice_get slots.new k ≡ slice_get slots.old k }
+    ensures same { result ≡ false → all_waiting slots.new ≡ all_waiting slots.old }
+    ensures rest { result ≡ false
+        → IsQuietAt H.behavior (has_room round.limits.waiting_bytes slots.new) slots.new place }
+{
+    let room = has_room(slots, round.limits.waiting_bytes);
+    match &mut slots[place] {
+        Some(slot) => slot.visit(ready, room, world, round.now),
+        None => false,
+    }
+}
+
+/// Whether the connection in a slot may be closed.
+fn may_close_at<H, R, W, E>(slots: &[Option<Slot<H, R, W, E>>], place: usize) -> bool
+    requires { place < length slots.now }
+    ensures may { IsTrue result
+        → (slot : _) × (slice_get slots.now place ≡ Some (Some slot)) × MayClose slot }
+    ensures other { result ≡ false → (slot : _)
+        → slice_get slots.now place ≡ Some (Some slot) → MayClose slot → ⊥ }
+{
+    match &slots[place] {
+        Some(slot) => slot.may_close(),
+        None => false,
+    }
+}
+
+/// Gives back the connection in a slot, where it is over and all was written that can be. Whether it was.
+fn close_at<S: Source, H: Handler>(
+    source: &mut S,
+    slots: &mut [Option<Slot<H, S::Reader, S::Writer, H::End>>],
+    place: usize,
+    round: Round,
+) -> bool
+    requires { place < length slots.old }
+    ensures turns { (world : H.World)
+        → TakesTurns S.effects S.Reader.input S.Writer.output H.behavior round.limits 0 0
+        (state source.old slots.old world round.now) (state source.new slots.new world round.now) }
+    ensures length { length slots.new ≡ length slots.old }
+    ensures others { (k : ℕ) → k ≢ place → slice_get slots.new k ≡ slice_get slots.old k }
+    ensures same { result ≡ false → slots.new ≡ slots.old }
+    ensures other { result ≡ false → (slot : _)
+        → slice_get slots.old place ≡ Some (Some slot) → MayClose slot → ⊥ }
+{
+    if !may_close_at(slots, place) {
+        return false;
+    }
+    match slots[place].take() {
+        Some(slot) => {
+            let (reader, writer) = slot.into_ends();
+            source.close(place, reader, writer);
+            true
+        }
+        None => true,
+    }
+}
+
+/// The turn of a slot. Whether more may be done at once; else the connection there, if one is, is at rest.
+fn turn_at<S: Source, H: Handler>(
+    source: &mut S,
+    world: &mut H::World,
+    slots: &mut [Option<Slot<H, S::Reader, S::Writer, H::End>>],
+    place: usize,
+    round: Round,
+) -> bool
+    requires { place < length slots.old }
+    ensures turns { TakesTurns S.effects S.Reader.input S.Writer.output H.behavior round.limits 0 0
+        (state source.old slots.old world.old round.now)
+        (state source.new slots.new world.new round.now) }
+    ensures length { length slots.new ≡ length slots.old }
+    ensures others { (k : ℕ) → k ≢ place → slice_get slots.new k ≡ slice_get slots.old k }
+    ensures same { result ≡ false → all_waiting slots.new ≡ all_waiting slots.old }
+    ensures rest { result ≡ false
+        → IsAtRestAt H.behavior (has_room round.limits.waiting_bytes slots.new) slots.new place }
+{
+    let ready = source.is_ready(place);
+    let busy = visit_at::<S, H>(ready, world, slots, place, round);
+    let closed = close_at::<S, H>(source, slots, place, round);
+    either(busy, closed)
+}
+
+/// A turn of each slot; the longest time that one took is kept in `longest_turn`. Whether more may be done at once; else
+/// each connection is at rest.
+pub(crate) fn serve_round<S: Source, H: Handler>(
+    source: &mut S,
+    world: &mut H::World,
+    slots: &mut [Option<Slot<H, S::Reader, S::Writer, H::End>>],
+    round: Round,
+    longest_turn: &mut u64,
+) -> bool
+    ensures turns { TakesTurns S.effects S.Reader.input S.Writer.output H.behavior round.limits 0 0
+        (state source.old slots.old world.old round.now)
+        (state source.new slots.new world.new round.now) }
+    ensures length { length slots.new ≡ length slots.old }
+    ensures rest { result ≡ false → (k : ℕ)
+        → IsAtRestAt H.behavior (has_room round.limits.waiting_bytes slots.new) slots.new k }
+{
+    let mut busy = false;
+    for place in 0..slots.len() {
+        let begun = source.clock();
+        let here = turn_at::<S, H>(source, world, slots, place, round);
+        *longest_turn = source.clock().saturating_sub(begun).max(*longest_turn);
+        busy = either(busy, here);
+    }
+    busy
+}

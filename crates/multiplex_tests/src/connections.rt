@@ -1,0 +1,449 @@
+//! Clients of a script, and what each of them reads.
+
+use crate::scripts::{Client, PLAIN, Played, play};
+use multiplex::Limits;
+use std::alloc::{AllocError, Global};
+use std::test::Fail;
+
+/// Three connections at once, as many as are to come, and room for all answers.
+const WIDE: Limits = Limits {
+    connections: None,
+    accept_slots: 3,
+    waiting_bytes: 1000,
+    rounds: 200,
+};
+
+/// Whether the connection of a client was closed and had read this.
+fn has_read(played: &Played, number: usize, text: &[u8]) -> bool {
+    for (other, _, read) in played.closed.iter() {
+        if *other == number {
+            return read.as_slice() == text;
+        }
+    }
+    false
+}
+
+/// Whether so many clients are served, and each reads its text, while the others read theirs.
+fn each_reads(alloc: Global, clients: &[Client], texts: &[&[u8]]) -> Result<bool, AllocError> {
+    let connections = Some(clients.len() as u64);
+    let played = play(
+        alloc,
+        clients,
+        Limits {
+            connections,
+            ..WIDE
+        },
+        4,
+        0,
+        1,
+    )?;
+    for (number, text) in texts.iter().enumerate() {
+        if !has_read(&played, number, text) {
+            return Ok(false);
+        }
+    }
+    Ok(played.report.is_done)
+}
+
+/// Three clients that read and write at these paces.
+fn at_paces(one: usize, two: usize, three: usize) -> [Client; 3] {
+    [
+        Client {
+            text: b"a\nbb\n\n",
+            each: 2,
+            pace: one,
+            hears: three,
+            ends: false,
+            ..PLAIN
+        },
+        Client {
+            text: b"ccc\nd\ne",
+            each: 3,
+            pace: two,
+            hears: one,
+            ..PLAIN
+        },
+        Client {
+            text: b"\nnot read",
+            pace: three,
+            hears: two,
+            ..PLAIN
+        },
+    ]
+}
+
+#[test]
+fn messages_come_in_all_orders(rt: HostRuntime) -> Result<(), Fail> {
+    for one in 1..5 {
+        for two in 1..5 {
+            for three in 1..5 {
+                let texts: [&[u8]; 3] = [b"a\nbb\n\n", b"ccc\nd\n", b"\n"];
+                assert!(rt; each_reads(rt.alloc(), &at_paces(one, two, three), &texts)?);
+            }
+        }
+    }
+    Ok(())
+}
+
+#[test]
+fn reads_and_writes_are_of_any_length(rt: HostRuntime) -> Result<(), Fail> {
+    for each in 1..10 {
+        for pace in 1..4 {
+            let client = Client {
+                text: b"abc\nd\n\n",
+                each,
+                pace,
+                hears: pace,
+                ends: false,
+                ..PLAIN
+            };
+            assert!(rt; each_reads(rt.alloc(), &[client], &[b"abc\nd\n\n"])?);
+        }
+    }
+    Ok(())
+}
+
+/// How many bytes of `ab\nc\n` are whole lines, where so many of them come.
+static WHOLE: [usize; 8] = [0, 0, 0, 3, 3, 5, 5, 5];
+
+#[test]
+fn a_connection_breaks_at_each_byte(rt: HostRuntime) -> Result<(), Fail> {
+    for (bytes, whole) in WHOLE.iter().enumerate() {
+        let text: &[u8] = b"ab\nc\n";
+        let reads = Client {
+            text: b"ab\nc\n",
+            reads: bytes,
+            ..PLAIN
+        };
+        let writes = Client {
+            text: b"ab\nc\n",
+            writes: bytes,
+            ..PLAIN
+        };
+        let other = Client {
+            text: b"other\n",
+            each: 1,
+            ..PLAIN
+        };
+        let texts: [&[u8]; 3] = [&text[..*whole], &text[..bytes.min(5)], b"other\n"];
+        assert!(rt; each_reads(rt.alloc(), &[reads, writes, other], &texts)?);
+    }
+    Ok(())
+}
+
+/// A script, its limits, and what comes of it: whether it is done, what each client that was closed had read in which
+/// slot, in the order of closing, and what the world is then.
+struct Row {
+    clients: &'static [Client],
+    limits: Limits,
+    calls: usize,
+    tick: u64,
+    is_done: bool,
+    closed: &'static [(usize, usize, &'static [u8])],
+    world: &'static [u8],
+}
+
+static ROWS: [Row; 14] = [
+    // one message of each client in a round
+    Row {
+        clients: &[
+            Client {
+                text: b"a\nb\n\n",
+                ..PLAIN
+            },
+            Client {
+                text: b"c\nd\n\n",
+                ..PLAIN
+            },
+        ],
+        limits: Limits {
+            connections: Some(2),
+            ..WIDE
+        },
+        calls: 0,
+        tick: 1,
+        is_done: true,
+        closed: &[(0, 0, b"a\nb\n\n"), (1, 1, b"c\nd\n\n")],
+        world: b"0a0b0c0\n0d0\n",
+    },
+    // the listener that each came to
+    Row {
+        clients: &[
+            Client {
+                text: b"a\n",
+                listener: 1,
+                ..PLAIN
+            },
+            Client {
+                text: b"b\n",
+                ..PLAIN
+            },
+        ],
+        limits: Limits {
+            connections: Some(2),
+            ..WIDE
+        },
+        calls: 0,
+        tick: 1,
+        is_done: true,
+        closed: &[(0, 0, b"a\n"), (1, 1, b"b\n")],
+        world: b"1a0b",
+    },
+    // no more than so many are accepted, and one that failed counts
+    Row {
+        clients: &[
+            Client {
+                fails: true,
+                ..PLAIN
+            },
+            Client {
+                text: b"b\n",
+                ..PLAIN
+            },
+            Client {
+                text: b"c\n",
+                ..PLAIN
+            },
+        ],
+        limits: Limits {
+            connections: Some(2),
+            ..WIDE
+        },
+        calls: 0,
+        tick: 1,
+        is_done: true,
+        closed: &[(1, 0, b"b\n")],
+        world: b"0b",
+    },
+    // none at all
+    Row {
+        clients: &[Client {
+            text: b"a\n",
+            ..PLAIN
+        }],
+        limits: Limits {
+            connections: Some(0),
+            ..WIDE
+        },
+        calls: 1,
+        tick: 1,
+        is_done: true,
+        closed: &[],
+        world: b"",
+    },
+    // one more than come: it isn't done
+    Row {
+        clients: &[Client {
+            text: b"a\n",
+            ..PLAIN
+        }],
+        limits: Limits {
+            connections: Some(2),
+            ..WIDE
+        },
+        calls: 0,
+        tick: 1,
+        is_done: false,
+        closed: &[(0, 0, b"a\n")],
+        world: b"0a",
+    },
+    // one slot for all, one after the other
+    Row {
+        clients: &[
+            Client {
+                text: b"a\n",
+                ..PLAIN
+            },
+            Client {
+                text: b"b\n",
+                ..PLAIN
+            },
+        ],
+        limits: Limits {
+            connections: Some(2),
+            accept_slots: 1,
+            ..WIDE
+        },
+        calls: 0,
+        tick: 1,
+        is_done: true,
+        closed: &[(0, 0, b"a\n"), (1, 0, b"b\n")],
+        world: b"0a0b",
+    },
+    // calls have slots of their own, and don't count
+    Row {
+        clients: &[Client {
+            text: b"a\n",
+            comes: 5,
+            ..PLAIN
+        }],
+        limits: Limits {
+            connections: Some(1),
+            ..WIDE
+        },
+        calls: 2,
+        tick: 1,
+        is_done: true,
+        closed: &[(100, 3, b"call"), (100, 3, b"call"), (0, 0, b"a\n")],
+        world: b"0a",
+    },
+    // silence: it ends at 120,000 milliseconds
+    Row {
+        clients: &[Client {
+            text: b"a",
+            ends: false,
+            ..PLAIN
+        }],
+        limits: Limits { rounds: 13, ..WIDE },
+        calls: 0,
+        tick: 10_000,
+        is_done: false,
+        closed: &[],
+        world: b"",
+    },
+    Row {
+        clients: &[Client {
+            text: b"a",
+            ends: false,
+            ..PLAIN
+        }],
+        limits: Limits { rounds: 14, ..WIDE },
+        calls: 0,
+        tick: 10_000,
+        is_done: false,
+        closed: &[(0, 0, b"")],
+        world: b"",
+    },
+    // a client that doesn't read its answer isn't answered again
+    Row {
+        clients: &[Client {
+            text: b"a\nb\n",
+            hears: 0,
+            ends: false,
+            ..PLAIN
+        }],
+        limits: Limits {
+            connections: Some(1),
+            ..WIDE
+        },
+        calls: 0,
+        tick: 10_000,
+        is_done: true,
+        closed: &[(0, 0, b"")],
+        world: b"0a",
+    },
+    // where nothing may wait nobody is answered
+    Row {
+        clients: &[Client {
+            text: b"a\n",
+            ..PLAIN
+        }],
+        limits: Limits {
+            waiting_bytes: 0,
+            rounds: 20,
+            ..WIDE
+        },
+        calls: 0,
+        tick: 1,
+        is_done: false,
+        closed: &[],
+        world: b"",
+    },
+    // where too much waits nobody is answered, till it is given up
+    Row {
+        clients: &[
+            Client {
+                text: b"a\n",
+                hears: 0,
+                ends: false,
+                ..PLAIN
+            },
+            Client {
+                text: b"b\n\n",
+                comes: 10,
+                ..PLAIN
+            },
+        ],
+        limits: Limits {
+            connections: Some(2),
+            waiting_bytes: 2,
+            ..WIDE
+        },
+        calls: 0,
+        tick: 10_000,
+        is_done: true,
+        closed: &[(0, 0, b""), (1, 1, b"b\n\n")],
+        world: b"0a0b0\n",
+    },
+    // one that says nothing makes place for the next one, after 10,000 milliseconds
+    Row {
+        clients: &[
+            Client {
+                text: b"a",
+                ends: false,
+                ..PLAIN
+            },
+            Client {
+                text: b"b\n\n",
+                ..PLAIN
+            },
+        ],
+        limits: Limits {
+            connections: Some(2),
+            accept_slots: 1,
+            ..WIDE
+        },
+        calls: 0,
+        tick: 1000,
+        is_done: true,
+        closed: &[(0, 0, b""), (1, 0, b"b\n\n")],
+        world: b"0b0\n",
+    },
+    // one that is established doesn't
+    Row {
+        clients: &[
+            Client {
+                text: b"!\n",
+                ends: false,
+                ..PLAIN
+            },
+            Client {
+                text: b"b\n\n",
+                ..PLAIN
+            },
+        ],
+        limits: Limits {
+            connections: Some(2),
+            accept_slots: 1,
+            rounds: 50,
+            ..WIDE
+        },
+        calls: 0,
+        tick: 1000,
+        is_done: false,
+        closed: &[],
+        world: b"0!",
+    },
+];
+
+/// Whether a script comes to what its row says.
+fn is_as_said(alloc: Global, row: &Row) -> Result<bool, AllocError> {
+    let played = play(alloc, row.clients, row.limits, 4, row.calls, row.tick)?;
+    if played.closed.len() != row.closed.len() {
+        return Ok(false);
+    }
+    for ((number, slot, text), want) in played.closed.iter().zip(row.closed.iter()) {
+        if *number != want.0 || *slot != want.1 || text.as_slice() != want.2 {
+            return Ok(false);
+        }
+    }
+    Ok(played.report.is_done == row.is_done && played.world.as_slice() == row.world)
+}
+
+#[test]
+fn scripts_come_to_what_is_said(rt: HostRuntime) -> Result<(), Fail> {
+    for (number, row) in ROWS.iter().enumerate() {
+        assert!(rt; is_as_said(rt.alloc(), row)?, "{number}");
+    }
+    Ok(())
+}
