@@ -1,7 +1,8 @@
 //! A connection, one item after the other.
 
-ghost use Rattle.std.specs.Prelude.{◌≡◌, ◌≤◌, ◌++◌, OnOk, OnErr};
+ghost use Rattle.std.specs.Prelude.{◌≡◌, ◌≤◌, ◌++◌, Ok, OnOk, OnErr, nat_le};
 ghost use Rattle.ua_connection.specs.Environments.{Environment};
+ghost use Rattle.ua_connection.specs.declared.turn.Step.TheVariants.{NeedsInput};
 ghost use Rattle.ua_connection.specs.Turns.{ConnectionState, new_link, NeedsBytes, IsSmall, IsOwn, IsNextCurrent, AdvancesInto, LeavesIntake, Shortens, IsCounted, ending_of, client_after, link_of};
 
 use crate::client::ClientChannel;
@@ -67,6 +68,7 @@ fn take_next<A: Archive, C: Clock>(
         result }
     ensures few { IsCounted client.old.taken result }
     ensures leaves { LeavesIntake result intake.old intake.new }
+    ensures nothing { result ≡ Ok NeedsInput → out.new.items ≡ out.old.items }
 {
     match intake.next_chunk() {
         Ok(None) => Ok(Step::NeedsInput),
@@ -103,6 +105,13 @@ impl Connection {
         }
     }
 
+    /// Whether its channel is open: a chunk behind its Hello was taken.
+    pub fn is_opened(&self) -> bool
+        ensures { result ≡ nat_le 2 self.now.client.taken }
+    {
+        self.client.taken >= 2
+    }
+
     /// Answers the chunk that stands first in the bytes that wait, if it is whole, or the fault that stands in its place: the
     /// answer is appended to `out`. What it tells is in the archive then.
     ///
@@ -122,6 +131,7 @@ impl Connection {
         ensures own { IsOwn (NeedsBytes self.new) 65536 result }
         ensures small { IsSmall self.new }
         ensures shorter { Shortens result self.old self.new }
+        ensures nothing { result ≡ Ok NeedsInput → out.new.items ≡ out.old.items }
     {
         let turn = take_next(server, &mut self.intake, &mut self.client, clock, out);
         match turn {
