@@ -3,4 +3,5 @@ pub mod Receiving
 pub mod Answering
 pub mod Moves
 pub mod Conversing
+pub mod Growing
 pub mod Adding

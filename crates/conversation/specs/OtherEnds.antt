@@ -39,7 +39,9 @@ abbrev pub with_bytes : OtherEnd → List ℕ → OtherEnd
 with_bytes other bytes = elim other [
   | Unknown letters ↦ known_by (letters ++ bytes)
   | Client link ↦ Client (record link { waiting = link.waiting ++ bytes })
-  | Peer peer ↦ Peer (peer_at peer.dialog (peer.frames.waiting ++ bytes))
+  | Peer peer ↦ Peer (record peer {
+    frames = record peer.frames { waiting = peer.frames.waiting ++ bytes };
+  })
   | Over ↦ Over
 ]
 
