@@ -1,0 +1,83 @@
+-- What stands first on a connection, and what it is answered.
+use Rattle.std.specs.Prelude.{◌≡◌, ◌⊎◌, ℕ, ℤ, ◌+◌, ◌≤◌, List, [], Option, None, Some, Result, Ok, Err}
+use Rattle.std.specs.Option.{option_map}
+use Rattle.std.specs.Result.{result_map_both}
+use Rattle.archive.specs.Store.{Store}
+use Rattle.exchange.specs.Dialogs.{DialogState}
+use Rattle.exchange.specs.Frames.{frame_header}
+use Rattle.ua_settings.specs.Settings.{SettingsValues}
+use Rattle.counted_io.specs.declared.fault.ServeFault.{ServeFault}
+use Rattle.counted_io.specs.declared.fault.ServeFault.TheVariants.{OutOfMemory}
+use Rattle.ua_connection.specs.Environments.{Environment}
+use Rattle.ua_connection.specs.Client.{Ending as ClientEnding}
+use Rattle.ua_connection.specs.Turns.{ConnectionState, Advances, NeedsBytes}
+use Rattle.ua_peers.specs.Peers.{Talks}
+use Rattle.ua_peers.specs.declared.peers.PeerEnded.{PeerEnded}
+use Rattle.conversation.specs.declared.ended.Ended.TheVariants as ended
+use Rattle.conversation.specs.declared.other_end.PeerDialog.{PeerDialog}
+use Rattle.conversation.specs.declared.other_end.OtherEnd.{OtherEnd}
+use Rattle.conversation.specs.declared.other_end.OtherEnd.TheVariants.{Unknown, Client, Peer, Over}
+use Rattle.conversation.specs.declared.world.World.{World}
+use Rattle.conversation.specs.OtherEnds.{Ending, peer_at, unless_over}
+
+-- nothing whole stands first
+abbrev pub NeedsMore : OtherEnd → Type 0
+NeedsMore other = elim other [
+  | Client link ↦ NeedsBytes link
+  | Peer peer ↦ frame_header peer.frames.waiting ≡ Ok None
+  | _ ↦ Unit {0}
+]
+
+-- how a client's connection ended, as that of any connection
+abbrev pub client_ending : Option ClientEnding → Option Ending
+client_ending = option_map (result_map_both ended.Client (λ fault. fault))
+
+-- how a peer's dialog ended, as the end of any connection
+abbrev pub peer_ending : Option (Result PeerEnded ServeFault) → Option Ending
+peer_ending = option_map (result_map_both ended.Peer (λ fault. fault))
+
+-- what stood first on a client's connection was answered, by one step over an archive
+pub record AnswersClient (settings : SettingsValues) (old new : Store)
+    (gave : List ℤ → Type 0) (link : ConnectionState) (made : List ℕ) (ending : Option Ending)
+    (next : OtherEnd) : Type 0 where
+  pub used : Environment
+  pub ends : Option ClientEnding
+  pub later : ConnectionState
+  pub clock : gave used.readings
+  pub advances : Advances settings old new link used made ends later
+  pub ended_so : ending ≡ client_ending ends
+  pub leaves : next ≡ unless_over ending (Client later)
+
+-- what was said to a peer is written and its dialog goes on or ends; or memory for that is wanting
+abbrev pub Tells : List ℕ → Option (Result PeerEnded ServeFault) → (made : List ℕ) → Option Ending
+    → Type 0
+Tells said ends made ending =
+    ((made ≡ said) × (ending ≡ peer_ending ends))
+    ⊎ ((made ≡ []) × (ending ≡ Some (Err OutOfMemory)))
+
+-- the frame that stood first in a peer's dialog, if it was whole, was answered over an archive
+pub record AnswersPeer (old new : Store) (peer : PeerDialog) (made : List ℕ)
+    (ending : Option Ending) (next : OtherEnd) : Type 0 where
+  pub said : List ℕ
+  pub rest : List ℕ
+  pub ends : Option (Result PeerEnded ServeFault)
+  pub last : DialogState
+  pub talks : Talks peer.dialog old new peer.frames.waiting said rest ends last
+  pub one : ends ≡ None → last.taken ≤ peer.dialog.taken + 1
+  pub tells : Tells said ends made ending
+  pub leaves : next ≡ unless_over ending (Peer (peer_at last rest))
+
+-- what stood first was answered over a world, if it was whole; what the server is set to stays
+abbrev pub Answers : {A C : Type 0} → (A → Store) → (C → List ℤ → C → Type 0) → World A C
+    → OtherEnd → (made : List ℕ) → Option Ending → World A C → OtherEnd → Type 0
+Answers state gave v (Client link) made ending w next =
+    (w.server.settings ≡ v.server.settings)
+    × AnswersClient v.server.settings (state v.server.replica.archive)
+    (state w.server.replica.archive) (λ readings. gave v.clock readings w.clock) link made ending
+    next
+Answers state gave v (Peer peer) made ending w next =
+    (w.server.settings ≡ v.server.settings) × (w.clock ≡ v.clock)
+    × AnswersPeer (state v.server.replica.archive) (state w.server.replica.archive) peer made
+    ending next
+Answers state gave v other made ending w next =
+    (made ≡ []) × (ending ≡ None) × (w ≡ v) × (next ≡ other)

@@ -1,0 +1,106 @@
+-- Lemmas: by an answer what is held only grows. A trait's law may name only what stands here.
+use Rattle.std.proofs.Common.{◌≡◌, ◌⊎◌, ℕ, List, [], ◌∷◌, ◌++◌, take, Option, Result, refl, sym, ◌∙◌, subst, inl, inr, false}
+use Rattle.records.specs.Lists.{Has}
+use Rattle.records.specs.Contents.{Content, IsWithin, put}
+use Rattle.records.proofs.PutLemmas.{has-put}
+use Rattle.records.proofs.PartLemmas.{batch_above}
+use Rattle.records.specs.declared.record.Record.{Record}
+use Rattle.archive.specs.Growth.{GrowsBy}
+use Rattle.archive.specs.Store.{Store, StepResult, IsLeft}
+use Rattle.archive.specs.Steps.{Transitions}
+use Rattle.archive.proofs.Calls.{passes-none, passes-then}
+use Rattle.exchange.specs.Named.{Party}
+use Rattle.exchange.specs.Dialogs.{DialogState, received, records_read, learned_at, party_of}
+use Rattle.exchange.proofs.HandleLemmas.{unbroken_before}
+use Rattle.exchange.proofs.LeftLemmas.{answered_left}
+use Rattle.counted_io.specs.declared.fault.ServeFault.{ServeFault}
+use Rattle.ua_peers.specs.declared.peers.PeerEnded.{PeerEnded}
+use Rattle.ua_peers.specs.Peers.{Taken, Side, side_of, side_after, after_all, IsLeftBy, Talks}
+use Rattle.conversation.specs.Moves.{OnlyGrows}
+
+-- the same content in other words
+within_same : (R S T : Content) → IsWithin R S → S ≡ T → IsWithin R T
+within_same R S T first e r h = subst (λ (Q : Content). Has Q r) e (first r h)
+
+-- updates
+updates_within : (rs : List Record) (own : ℕ) (R S : Content) → GrowsBy rs own R S → IsWithin R S
+updates_within [] own R S e r h = subst (λ (Q : Content). Has Q r) (sym e) h
+updates_within (x ∷ rs) own R S g r h =
+    updates_within rs own (put x R) S g.1 r (has-put x R r (inr h))
+
+-- one frame
+frame_within : (p : Party) (side : Side) (t : Taken)
+    → IsWithin side.content (side_after p side t).content
+frame_within p side t =
+    let state = side.standing.state in
+    let read = received p side.standing t.frame.kind t.frame.body in
+    let learned = take (learned_at p state side.content t.way read) (records_read read) in
+    within_same side.content _ _ (batch_above side.content learned)
+    (sym (answered_left p state side.content t.way read))
+
+-- some frames
+frames_within : (p : Party) (taken : List Taken) (side : Side)
+    → IsWithin side.content (after_all p side taken).content
+frames_within p [] side r h = h
+frames_within p (t ∷ later) side r h =
+    frames_within p later (side_after p side t) r (frame_within p side t r h)
+
+-- what a crash leaves of some frames
+left_within : (p : Party) (taken : List Taken) (side : Side) (left : Content)
+    → IsLeftBy p side taken left → IsWithin side.content left
+left_within p [] side left e r h = subst (λ (Q : Content). Has Q r) (sym e) h
+left_within p (t ∷ []) side left so r h =
+    within_same side.content _ left (batch_above side.content _) (sym so.3) r h
+left_within p (t ∷ u ∷ later) side left so r h =
+    left_within p (u ∷ later) (side_after p side t) left so r (frame_within p side t r h)
+
+-- no answer
+pub grows_none : (a : Store) → OnlyGrows a a
+grows_none a =
+    record { faults = []; passes = passes-none a; grows = λ honest S left. (S, left, λ r h. h) }
+
+-- some answers, and then others
+pub grows_more : (a b c : Store) → OnlyGrows a b → OnlyGrows b c → OnlyGrows a c
+grows_more a b c first later = record {
+  faults = first.faults ++ later.faults;
+  passes = passes-then a b c first.faults later.faults first.passes later.passes;
+  grows = λ honest T left.
+      let (S, between, more) = later.grows honest T left in
+      let (R, before, less) = first.grows (later.passes.honest honest) S between in
+      (R, before, λ r h. more r (less r h));
+}
+
+-- a client's step
+pub transitions_grow : (a b : Store) (used : List StepResult)
+    (To : List StepResult → Content → Content → Type 0) → Transitions a b used To → OnlyGrows a b
+transitions_grow a b used To t = record {
+  faults = _;
+  passes = t.passes;
+  grows = λ honest S left.
+      let (marks, found, R, before, so, grown) = t.acts honest S left in
+      (R, before, updates_within grown.0 a.own R S grown.1);
+}
+
+-- a peer's frames
+pub talks_grow : (a b : Store) (start last : DialogState) (came out rest : List ℕ)
+    (ending : Option (Result PeerEnded ServeFault)) → Talks start a b came out rest ending last
+    → OnlyGrows a b
+talks_grow a b start last came out rest ending talks =
+    record { faults = _; passes = talks.passes; grows = by }
+  where
+    by : b.honest → (S : Content) → IsLeft b S → (R : Content) × IsLeft a R × IsWithin R S
+    by honest S (inl held) =
+        let now = talks.content honest a.content (λ u. refl) held.0 in
+        let grown = frames_within (party_of a) talks.taken (side_of start a.content) in (
+          a.content,
+          inl (unbroken_before a b _ talks.passes held.0, refl),
+          within_same a.content _ S grown (sym now ∙ held.1),
+        )
+    by honest S (inr found) = elim (talks.crash honest a.content (λ u. refl) S found) [
+      | inl before ↦ (S, inr before.0, λ r h. h)
+      | inr more ↦ (
+        a.content,
+        inl (more.0, refl),
+        left_within (party_of a) talks.taken (side_of start a.content) S more.1,
+      )
+    ]

@@ -1,0 +1,65 @@
+-- Who is at the other end of a connection, by what came.
+use Rattle.std.specs.Prelude.{◌≡◌, ℕ, ◌<◌, nat_lt, nat_le, Bool, true, false, ◌||◌, List, [], ◌++◌, length, codes, Option, None, Some, Result, if◌then◌else◌}
+use Rattle.exchange.specs.Frames.{begins}
+use Rattle.exchange.specs.Dialogs.{DialogState}
+use Rattle.counted_io.specs.declared.fault.ServeFault.{ServeFault}
+use Rattle.ua_connection.specs.Client.{new_client}
+use Rattle.ua_peers.specs.Peers.{responding}
+use Rattle.ua_peers.specs.Talking.{IsReady}
+use Rattle.conversation.specs.declared.ended.Ended.{Ended}
+use Rattle.conversation.specs.declared.other_end.PeerDialog.{PeerDialog}
+use Rattle.conversation.specs.declared.other_end.OtherEnd.{OtherEnd}
+use Rattle.conversation.specs.declared.other_end.OtherEnd.TheVariants.{Unknown, Client, Peer, Over}
+
+-- how a connection ended, or the fault that ended it
+abbrev pub Ending : Type 0
+Ending = Result Ended ServeFault
+
+-- a peer's connection begins with the letters of a frame that asks or brings
+abbrev pub is_peers : List ℕ → Bool
+is_peers came = begins came (codes "RXV") || begins came (codes "RXD")
+
+-- a dialog that stands so, of which these bytes weren't taken yet; it is heard once a frame was
+abbrev pub peer_at : DialogState → List ℕ → PeerDialog
+peer_at dialog waiting = record {
+  dialog = dialog;
+  frames = record { waiting = waiting; failed = false };
+  is_heard = nat_lt 0 dialog.taken;
+}
+
+-- who is at the other end where these are the first bytes: three of them tell
+abbrev pub known_by : List ℕ → OtherEnd
+known_by came =
+    if nat_lt (length came) 3 then Unknown came
+    else if is_peers came then Peer (peer_at responding came)
+    else Client (record { client = new_client; waiting = came })
+
+-- the other end, once it brought these bytes more
+abbrev pub with_bytes : OtherEnd → List ℕ → OtherEnd
+with_bytes other bytes = elim other [
+  | Unknown letters ↦ known_by (letters ++ bytes)
+  | Client link ↦ Client (record link { waiting = link.waiting ++ bytes })
+  | Peer peer ↦ Peer (record peer {
+    frames = record peer.frames { waiting = peer.frames.waiting ++ bytes };
+  })
+  | Over ↦ Over
+]
+
+-- the other end behind an answer, which may have ended the connection
+abbrev pub unless_over : Option Ending → OtherEnd → OtherEnd
+unless_over ending other = elim ending [ None ↦ other | Some end ↦ Over ]
+
+-- its channel is open, or a whole frame of it came
+abbrev pub is_established : OtherEnd → Bool
+is_established other = elim other [
+  | Client link ↦ nat_le 2 link.client.taken
+  | Peer peer ↦ peer.is_heard
+  | _ ↦ false
+]
+
+-- a peer's dialog takes frames, and no fault stopped it
+abbrev pub IsSound : OtherEnd → Type 0
+IsSound other = elim other [
+  | Peer peer ↦ IsReady peer.dialog × (peer ≡ peer_at peer.dialog peer.frames.waiting)
+  | _ ↦ Unit {0}
+]

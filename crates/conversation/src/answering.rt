@@ -1,0 +1,208 @@
+//! What stands first in what came, and its answer.
+
+ghost use Rattle.std.specs.Prelude.{◌≡◌, ◌++◌, ◌+◌, ◌≤◌, List, ℕ, [], true, false, nat_le, Some, None, Ok};
+ghost use Rattle.multiplex.specs.Progress.{end_in};
+ghost use Rattle.multiplex.specs.declared.handler.Progress.TheVariants.{NeedsMore as Lacks};
+ghost use Rattle.exchange.specs.Frames.{frame_header};
+ghost use Rattle.exchange.specs.Dialogs.{DialogState};
+ghost use Rattle.ua_connection.specs.Turns.{NeedsBytes, ending_of};
+ghost use Rattle.ua_connection.specs.declared.turn.Step.TheVariants.{NeedsInput};
+ghost use Rattle.ua_peers.specs.Talking.{ending_of as peer_ending_of, IsReady};
+ghost use Rattle.ua_peers.specs.Peers.{Talks};
+ghost use Rattle.conversation.specs.OtherEnds.{peer_at, unless_over, is_established, IsSound};
+ghost use Rattle.conversation.specs.Answering.{NeedsMore, client_ending, peer_ending, AnswersClient, AnswersPeer, Answers};
+ghost use Rattle.conversation.specs.declared.other_end.OtherEnd.TheVariants.{Client, Peer};
+
+use crate::ended::Ended;
+use crate::other_end::{OtherEnd, PeerDialog};
+use crate::world::World;
+use archive::Archive;
+use counted_io::ServeFault;
+use exchange::{ExchangeFault, State};
+use historian::Server;
+use multiplex::Progress;
+use ua_connection::{Clock, Connection, Step};
+use ua_peers::{PeerEnded, take_first};
+
+/// What a step of a client's connection is to it.
+fn client_progress(step: Result<Step, ServeFault>) -> Progress<Result<Ended, ServeFault>>
+    ensures ends { end_in result ≡ client_ending (ending_of step) }
+    ensures lacks { result ≡ Lacks → step ≡ Ok NeedsInput }
+{
+    match step {
+        Ok(Step::NeedsInput) => Progress::NeedsMore,
+        Ok(Step::Acknowledged(_)) => Progress::Answered,
+        Ok(Step::Continues) => Progress::Answered,
+        Ok(Step::Ended(served)) => Progress::Ended(Ok(Ended::Client(served))),
+        Err(fault) => Progress::Ended(Err(fault)),
+    }
+}
+
+/// Answers the chunk that stands first on a client's connection, if it is whole.
+fn answer_client<A: Archive, C: Clock>(
+    world: &mut World<A, C>,
+    connection: &mut Connection,
+    out: &mut Vec<u8>,
+) -> Progress<Result<Ended, ServeFault>>
+    ensures answers { (made : List ℕ) × (out.new.items ≡ out.old.items ++ made)
+        × AnswersClient world.old.server.settings
+        (A.state world.old.server.replica.archive) (A.state world.new.server.replica.archive)
+        (λ readings. C.gave world.old.clock readings world.new.clock) connection.old made
+        (end_in result) (unless_over (end_in result) (Client connection.new)) }
+    ensures settings { world.new.server.settings ≡ world.old.server.settings }
+    ensures lacks { result ≡ Lacks
+        → (out.new.items ≡ out.old.items) × NeedsBytes connection.new }
+{
+    let step = connection.advance(&mut world.server, &mut world.clock, out);
+    client_progress(step)
+}
+
+/// What a frame comes to is to a peer's connection, where the peer ended the dialog by this number, if it did. A fault of
+/// which nothing is said couldn't be told for want of memory.
+fn peer_progress(
+    first: Option<Result<State, ExchangeFault>>,
+    code: Option<u32>,
+    silent: bool,
+) -> Progress<Result<Ended, ServeFault>>
+    ensures ends { end_in result ≡ peer_ending (peer_ending_of code silent first) }
+    ensures lacks { result ≡ Lacks → first ≡ None }
+{
+    match first {
+        None => Progress::NeedsMore,
+        Some(Ok(State::Done)) => Progress::Ended(Ok(Ended::Peer(PeerEnded::Done))),
+        Some(Ok(State::Failed)) => {
+            Progress::Ended(Ok(Ended::Peer(PeerEnded::Refused(code.unwrap_or(0)))))
+        }
+        Some(Ok(State::Pulling | State::Pushing | State::Serving)) => Progress::Answered,
+        Some(Err(fault)) => {
+            if silent {
+                Progress::Ended(Err(ServeFault::OutOfMemory))
+            } else {
+                Progress::Ended(Ok(Ended::Peer(PeerEnded::Failed(fault))))
+            }
+        }
+    }
+}
+
+/// Takes the frame that stands first in a peer's dialog, if it is whole. What is said to it is appended to `said`, which is
+/// empty.
+fn take_frame<A: Archive>(
+    server: &mut Server<A>,
+    peer: &mut PeerDialog,
+    said: &mut Vec<u8>,
+) -> Progress<Result<Ended, ServeFault>>
+    requires sound { IsSound (Peer peer.old) }
+    requires empty { said.old.items ≡ [] }
+    ensures talks { (ends : _) × (end_in result ≡ peer_ending ends)
+        × Talks peer.old.dialog (A.state server.old.replica.archive)
+        (A.state server.new.replica.archive) peer.old.frames.waiting said.new.items
+        peer.new.frames.waiting ends peer.new.dialog }
+    ensures settings { server.new.settings ≡ server.old.settings }
+    ensures goes { end_in result ≡ None
+        → IsSound (Peer peer.new) × (peer.new.dialog.taken ≤ peer.old.dialog.taken + 1) }
+    ensures lacks { result ≡ Lacks
+        → (said.new.items ≡ []) × (frame_header peer.new.frames.waiting ≡ Ok None) }
+{
+    let first = take_first(
+        server.alloc,
+        &mut server.replica,
+        &mut peer.dialog,
+        &mut peer.frames,
+        said,
+    );
+    if first.is_some() {
+        peer.is_heard = true;
+    }
+    peer_progress(first, peer.dialog.peer_code(), said.as_slice().is_empty())
+}
+
+/// Appends bytes. Whether memory for them was there; else all stays.
+fn append(bytes: Vec<u8>, out: &mut Vec<u8>) -> bool
+    ensures appended { result ≡ true → out.new.items ≡ out.old.items ++ bytes.items }
+    ensures starved { result ≡ false → out.new.items ≡ out.old.items }
+{
+    if out.is_empty() {
+        *out = bytes;
+        return true;
+    }
+    match out.extend_from_slice(bytes.as_slice()) {
+        Ok(()) => true,
+        Err(_) => false,
+    }
+}
+
+/// Answers the frame that stands first in a peer's dialog, if it is whole.
+fn answer_peer<A: Archive>(
+    server: &mut Server<A>,
+    peer: &mut PeerDialog,
+    out: &mut Vec<u8>,
+) -> Progress<Result<Ended, ServeFault>>
+    requires { IsSound (Peer peer.old) }
+    ensures answers { (made : List ℕ) × (out.new.items ≡ out.old.items ++ made)
+        × AnswersPeer (A.state server.old.replica.archive) (A.state server.new.replica.archive)
+        peer.old made (end_in result) (unless_over (end_in result) (Peer peer.new)) }
+    ensures settings { server.new.settings ≡ server.old.settings }
+    ensures sound { end_in result ≡ None → IsSound (Peer peer.new) }
+    ensures lacks { result ≡ Lacks
+        → (out.new.items ≡ out.old.items) × (frame_header peer.new.frames.waiting ≡ Ok None) }
+{
+    let mut said = Vec::new(server.alloc);
+    let progress = take_frame(server, peer, &mut said);
+    if append(said, out) {
+        progress
+    } else {
+        Progress::Ended(Err(ServeFault::OutOfMemory))
+    }
+}
+
+/// Leaves the other end of a connection that ended.
+fn leave_at_end(
+    other: &mut OtherEnd,
+    progress: Progress<Result<Ended, ServeFault>>,
+) -> Progress<Result<Ended, ServeFault>>
+    ensures same { result ≡ progress }
+    ensures left { other.new ≡ unless_over (end_in progress) other.old }
+{
+    match progress {
+        Progress::Ended(_) => *other = OtherEnd::Over,
+        Progress::NeedsMore => {}
+        Progress::Answered => {}
+    }
+    progress
+}
+
+/// Answers what stands first in what the other end brought, if it is whole.
+pub(crate) fn answer_first<A: Archive, C: Clock>(
+    world: &mut World<A, C>,
+    other: &mut OtherEnd,
+    out: &mut Vec<u8>,
+) -> Progress<Result<Ended, ServeFault>>
+    requires { IsSound other.old }
+    ensures answers { (made : List ℕ) × (out.new.items ≡ out.old.items ++ made)
+        × Answers A.state C.gave world.old other.old made (end_in result) world.new other.new }
+    ensures sound { IsSound other.new }
+    ensures lacks { result ≡ Lacks → (out.new.items ≡ out.old.items) × NeedsMore other.new }
+{
+    match other {
+        OtherEnd::Client(connection) => {
+            let progress = answer_client(world, connection, out);
+            leave_at_end(other, progress)
+        }
+        OtherEnd::Peer(peer) => {
+            let progress = answer_peer(&mut world.server, peer, out);
+            leave_at_end(other, progress)
+        }
+        OtherEnd::Unknown(_) | OtherEnd::Over => Progress::NeedsMore,
+    }
+}
+
+/// Whether the other end is a client whose channel is open, or a peer of whom a whole frame came.
+pub(crate) fn is_established(other: &OtherEnd) -> bool
+    ensures { result ≡ is_established other.now }
+{
+    match other {
+        OtherEnd::Client(connection) => connection.is_opened(),
+        OtherEnd::Peer(peer) => peer.is_heard,
+        OtherEnd::Unknown(_) | OtherEnd::Over => false,
+    }
+}

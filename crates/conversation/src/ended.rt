@@ -1,0 +1,13 @@
+//! How a connection ends.
+
+use ua_connection::Served;
+use ua_peers::PeerEnded;
+
+/// How a connection ended that met no fault.
+#[derive(Clone, Copy, Debug, PartialEq, Eq)]
+pub enum Ended {
+    /// A client's.
+    Client(Served),
+    /// A peer's.
+    Peer(PeerEnded),
+}

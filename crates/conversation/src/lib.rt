@@ -1,0 +1,13 @@
+//! What is said on one connection of a server of histories, a client's or a peer's, message by message.
+#![tactic(auto)]
+
+mod answering;
+mod conversation;
+mod ended;
+mod other_end;
+mod receiving;
+mod world;
+
+pub use conversation::Conversation;
+pub use ended::Ended;
+pub use world::World;
